@@ -1,0 +1,3 @@
+pub mod PolynomialLemmas
+pub mod RemainderLemmas
+pub mod Table

@@ -1,0 +1,133 @@
+-- Commands as bytes (ECSS-E-ST-50-52C, write command format, read command format and
+-- read-modify-write command format). Fields of several bytes have the most significant byte first.
+use Rattle.std.specs.Prelude.{◌≡◌, ◌≤◌, ℕ, ◌+◌, ◌-◌, Bool, ◌==◌, not, nat_lt, if◌then◌else◌, List, [], ◌∷◌, ◌++◌, length, take, drop, slice_index, Option, None, Some}
+use Rattle.byteorder.specs.Endian.{big_bytes, big_number}
+use Rattle.rcrc.specs.Crc.{crc_of}
+use Rattle.spw.specs.declared.packets.End.{End}
+use Rattle.rmap.specs.declared.kind.Kind.{Kind}
+use Rattle.rmap.specs.declared.discard.Discard.{Discard}
+use Rattle.rmap.specs.declared.discard.Discard.TheVariants.{Short, Protocol, Reply, HeaderCrc}
+use Rattle.rmap.specs.Instruction.{packet_type, kind_of, has_write_bit, has_verify_bit, has_reply_bit, has_increment_bit, reply_address_length}
+
+-- the parts of a command in the order of its bytes, and how its packet ended
+pub record Parts : Type 0 where
+  -- target logical address, protocol identifier, instruction, key
+  pub front : List ℕ
+  -- the reply address
+  pub path : List ℕ
+  -- initiator logical address, transaction identifier, extended address, address, data length, header CRC
+  pub tail : List ℕ
+  -- what follows the header: data and data CRC, where the command has them
+  pub body : List ℕ
+  pub end : End
+
+-- the target logical address field, byte 0
+abbrev pub target_of : Parts → ℕ
+target_of c = slice_index c.front 0
+
+-- the protocol identifier field, byte 1
+abbrev pub protocol_of : Parts → ℕ
+protocol_of c = slice_index c.front 1
+
+-- the instruction field, byte 2
+abbrev pub instruction_of : Parts → ℕ
+instruction_of c = slice_index c.front 2
+
+-- the key field, byte 3
+abbrev pub key_of : Parts → ℕ
+key_of c = slice_index c.front 3
+
+-- the initiator logical address field, the first byte behind the reply address
+abbrev pub initiator_of : Parts → ℕ
+initiator_of c = slice_index c.tail 0
+
+-- the transaction identifier field, two bytes
+abbrev pub transaction_of : Parts → ℕ
+transaction_of c = big_number 2 (drop 1 c.tail)
+
+-- the extended address field, one byte
+abbrev pub extended_of : Parts → ℕ
+extended_of c = slice_index c.tail 3
+
+-- the address field, four bytes
+abbrev pub address_of : Parts → ℕ
+address_of c = big_number 4 (drop 4 c.tail)
+
+-- the data length field, three bytes
+abbrev pub length_of : Parts → ℕ
+length_of c = big_number 3 (drop 8 c.tail)
+
+-- the header CRC field, the last byte of the header
+abbrev pub header_crc_of : Parts → ℕ
+header_crc_of c = slice_index c.tail 11
+
+-- what the command asks for
+abbrev pub command_kind : Parts → Kind
+command_kind c = kind_of (instruction_of c)
+
+-- whether the instruction has the write bit
+abbrev pub writes : Parts → Bool
+writes c = has_write_bit (instruction_of c)
+
+-- whether the instruction has the verify bit
+abbrev pub verifies : Parts → Bool
+verifies c = has_verify_bit (instruction_of c)
+
+-- whether the instruction has the reply bit
+abbrev pub wants_reply : Parts → Bool
+wants_reply c = has_reply_bit (instruction_of c)
+
+-- whether the instruction has the increment bit
+abbrev pub increments : Parts → Bool
+increments c = has_increment_bit (instruction_of c)
+
+-- the bytes of the command
+abbrev pub bytes_of : Parts → List ℕ
+bytes_of c = c.front ++ c.path ++ c.tail ++ c.body
+
+-- the header without its CRC
+abbrev pub header_of : Parts → List ℕ
+header_of c = c.front ++ c.path ++ take 11 c.tail
+
+-- a header of RMAP: each part has its length, the protocol is 1, it is no reply, and its CRC is right
+pub record IsHeader (c : Parts) : Type 0 where
+  pub front : length c.front ≡ 4
+  pub path : length c.path ≡ reply_address_length (instruction_of c)
+  pub tail : length c.tail ≡ 12
+  pub protocol : protocol_of c ≡ 1
+  pub no_reply : 1 ≤ packet_type (instruction_of c)
+  pub crc : header_crc_of c ≡ crc_of (header_of c)
+
+-- the bytes are the command: its header, then any body
+pub record IsCommand (bytes : List ℕ) (c : Parts) : Type 0 where
+  pub header : IsHeader c
+  pub parts : bytes ≡ bytes_of c
+
+-- how many bytes the header has, as the instruction in the third byte announces them
+abbrev pub header_length : List ℕ → ℕ
+header_length bytes = 16 + reply_address_length (slice_index bytes 2)
+
+-- whether the last byte of the header is the CRC of those before it
+abbrev pub has_header_crc : List ℕ → Bool
+has_header_crc bytes =
+    slice_index bytes (header_length bytes - 1) == crc_of (take (header_length bytes - 1) bytes)
+
+-- why bytes are no command: the first case that holds
+abbrev pub discard_of : List ℕ → Option Discard
+discard_of bytes =
+    if nat_lt (length bytes) 3 then Some Short
+    else if not (slice_index bytes 1 == 1) then Some Protocol
+    else if packet_type (slice_index bytes 2) == 0 then Some Reply
+    else if nat_lt (length bytes) (header_length bytes) then Some Short
+    else if not (has_header_crc bytes) then Some HeaderCrc
+    else None
+
+-- the four fields in front of the reply address
+abbrev pub front_fields : Parts → List ℕ
+front_fields c = target_of c ∷ protocol_of c ∷ instruction_of c ∷ key_of c ∷ []
+
+-- the fields behind the reply address, each with its most significant byte first
+abbrev pub tail_fields : Parts → List ℕ
+tail_fields c =
+    initiator_of c ∷ [] ++ big_bytes 2 (transaction_of c) ++ extended_of c ∷ []
+    ++ big_bytes 4 (address_of c) ++ big_bytes 3 (length_of c) ++ header_crc_of c ∷ []

@@ -1,0 +1,215 @@
+//! A command, as a view of a packet's bytes.
+
+ghost use Rattle.std.specs.Prelude.{◌≡◌, length, MatchResult, IfOk, None, Some};
+ghost use Rattle.rcrc.specs.Polynomial.{IsRemainder};
+ghost use Rattle.rmap.specs.Command.{Parts, IsCommand, IsHeader, discard_of, header_of, header_crc_of, target_of, instruction_of, key_of, initiator_of, transaction_of, extended_of, address_of, length_of, command_kind, writes, verifies, wants_reply, increments, header_length};
+
+use crate::discard::Discard;
+use crate::kind::Kind;
+use byteorder::{BigEndian, ByteOrder};
+use rcrc::crc;
+use spw::{End, Packet};
+use std::marker::Model;
+
+/// The protocol identifier of RMAP (ECSS-E-ST-50-52C, protocol identifier field).
+const RMAP: u8 = 0x01;
+
+/// A command with a right header, lent from the bytes of its packet (ECSS-E-ST-50-52C, write command
+/// format, read command format, read-modify-write command format). Nothing is said yet of its body.
+#[derive(Debug, Drop)]
+pub struct Command<'a> {
+    front: &'a [u8; 4],
+    path: &'a [u8],
+    tail: &'a [u8; 12],
+    body: &'a [u8],
+    end: End,
+}
+
+impl<'a> Model for Command<'a> {
+    ghost use Rattle.rcrc.specs.Polynomial.{IsRemainder};
+    ghost use Rattle.rmap.specs.Command.{Parts, IsHeader};
+
+    ghost Value = { Parts };
+
+    ghost view = { λ c. record { front = c.front.now; path = c.path.now; tail = c.tail.now; body = c.body.now; end = c.end } };
+
+    ghost invariant = { λ c. IsHeader (record { front = c.front.now; path = c.path.now; tail = c.tail.now; body = c.body.now; end = c.end }) };
+}
+
+impl<'a> Command<'a> {
+    /// The command that the packet's bytes are, or why they are none: fewer bytes than the header
+    /// has (`Short`), another protocol identifier than 1 (`Protocol`), packet type 00 (`Reply`), or a
+    /// wrong header CRC (`HeaderCrc`), tested in the order Short for the first three bytes, Protocol,
+    /// Reply, Short for the whole header, HeaderCrc. How the packet ended plays no part here.
+    ///
+    /// Any command that stands to the bytes, with the packet's end, is the one that is given.
+    pub fn view(packet: &'a Packet) -> Result<Command<'a>, Discard>
+        ensures command { MatchResult result (λ c. IsCommand packet.now.bytes c) (λ d. discard_of packet.now.bytes ≡ Some d) }
+        ensures end { MatchResult result (λ c. c.end ≡ packet.now.end) (λ _. Unit {0}) }
+        ensures crc { IfOk result (λ c. IsRemainder (header_of c) (header_crc_of c)) }
+        ensures kept { IfOk result (λ _. discard_of packet.now.bytes ≡ None) }
+        ensures only { (c : Parts) → IsCommand packet.now.bytes c → c.end ≡ packet.now.end → result ≡ Ok c }
+    {
+        let bytes = packet.bytes();
+        let [_, protocol, instruction, ..] = bytes else {
+            return Err(Discard::Short);
+        };
+        if *protocol != RMAP {
+            return Err(Discard::Protocol);
+        }
+        if *instruction / 64 == 0 {
+            return Err(Discard::Reply);
+        }
+        let address = 4 * usize::from(*instruction % 4);
+        let (front, rest) = bytes.split_first_chunk::<4>().ok_or(Discard::Short)?;
+        if rest.len() < address {
+            return Err(Discard::Short);
+        }
+        let (path, rest) = rest.split_at(address);
+        let (tail, body) = rest.split_first_chunk::<12>().ok_or(Discard::Short)?;
+        if tail[11] != crc(&bytes[..15 + address]) {
+            return Err(Discard::HeaderCrc);
+        }
+        Ok(Command {
+            front,
+            path,
+            tail,
+            body,
+            end: packet.end(),
+        })
+    }
+
+    /// The first four bytes: target logical address, protocol identifier, instruction, key.
+    pub fn front(&self) -> &'a [u8; 4]
+        ensures value { result.now ≡ self.now.front }
+        ensures len { length result.now ≡ 4 }
+    {
+        self.front
+    }
+
+    /// The whole reply address: 0, 4, 8 or 12 bytes (ECSS-E-ST-50-52C, reply address field).
+    pub fn reply_path(&self) -> &'a [u8]
+        ensures value { result.now ≡ self.now.path }
+        ensures header { IsHeader self.now }
+    {
+        self.path
+    }
+
+    /// The last twelve bytes of the header: initiator logical address to header CRC.
+    pub fn tail(&self) -> &'a [u8; 12]
+        ensures value { result.now ≡ self.now.tail }
+        ensures len { length result.now ≡ 12 }
+    {
+        self.tail
+    }
+
+    /// What follows the header: data and data CRC, where the command has them.
+    pub fn body(&self) -> &'a [u8]
+        ensures { result.now ≡ self.now.body }
+    {
+        self.body
+    }
+
+    /// How the packet ended.
+    pub fn end(&self) -> End
+        ensures { result ≡ self.now.end }
+    {
+        self.end
+    }
+
+    /// The target logical address (ECSS-E-ST-50-52C, target logical address field).
+    pub fn target(&self) -> u8
+        ensures { result ≡ target_of self.now }
+    {
+        self.front[0]
+    }
+
+    /// The instruction byte (ECSS-E-ST-50-52C, instruction field).
+    pub fn instruction(&self) -> u8
+        ensures { result ≡ instruction_of self.now }
+    {
+        self.front[2]
+    }
+
+    /// The key (ECSS-E-ST-50-52C, key field).
+    pub fn key(&self) -> u8
+        ensures { result ≡ key_of self.now }
+    {
+        self.front[3]
+    }
+
+    /// The initiator logical address (ECSS-E-ST-50-52C, initiator logical address field).
+    pub fn initiator(&self) -> u8
+        ensures { result ≡ initiator_of self.now }
+    {
+        self.tail[0]
+    }
+
+    /// The transaction identifier, most significant byte first (ECSS-E-ST-50-52C, transaction
+    /// identifier field).
+    pub fn transaction(&self) -> u16
+        ensures { result ≡ transaction_of self.now }
+    {
+        let tail = self.tail;
+        BigEndian::read_u16(&tail[1..])
+    }
+
+    /// The extended address (ECSS-E-ST-50-52C, extended address field).
+    pub fn extended(&self) -> u8
+        ensures { result ≡ extended_of self.now }
+    {
+        self.tail[3]
+    }
+
+    /// The address, most significant byte first (ECSS-E-ST-50-52C, address field).
+    pub fn address(&self) -> u32
+        ensures { result ≡ address_of self.now }
+    {
+        let tail = self.tail;
+        BigEndian::read_u32(&tail[4..])
+    }
+
+    /// The data length, in bytes, below 2²⁴, most significant byte first (ECSS-E-ST-50-52C, data
+    /// length field).
+    pub fn length(&self) -> u32
+        ensures value { result ≡ length_of self.now }
+    {
+        let tail = self.tail;
+        BigEndian::read_u24(&tail[8..])
+    }
+
+    /// What the command asks for; a reserved packet type is `Unused`.
+    pub fn kind(&self) -> Kind
+        ensures { result ≡ command_kind self.now }
+    {
+        Kind::of_instruction(self.instruction())
+    }
+
+    /// Bit 5: a reply has the form of a write reply.
+    pub fn writes(&self) -> bool
+        ensures { result ≡ writes self.now }
+    {
+        self.instruction() >> 5 & 1 == 1
+    }
+
+    /// Bit 4: the data is to be checked before memory changes.
+    pub fn verifies(&self) -> bool
+        ensures { result ≡ verifies self.now }
+    {
+        self.instruction() >> 4 & 1 == 1
+    }
+
+    /// Bit 3: a reply is to be sent.
+    pub fn wants_reply(&self) -> bool
+        ensures { result ≡ wants_reply self.now }
+    {
+        self.instruction() >> 3 & 1 == 1
+    }
+
+    /// Bit 2: each byte has the next address; else all have the one address.
+    pub fn increments(&self) -> bool
+        ensures { result ≡ increments self.now }
+    {
+        self.instruction() >> 2 & 1 == 1
+    }
+}

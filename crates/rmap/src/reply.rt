@@ -1,0 +1,177 @@
+//! Replies, and the buffer that holds one.
+
+ghost use Rattle.std.specs.Prelude.{◌≡◌, ◌≢◌, ◌≤◌, ◌<◌, ◌+◌, ◌-◌, List, [], ◌∷◌, ◌++◌, length, IsTrue};
+ghost use Rattle.byteorder.specs.Endian.{big_bytes};
+ghost use Rattle.rmap.specs.declared.status.Status.TheVariants.{Success};
+ghost use Rattle.rcrc.specs.Crc.{crc_of};
+ghost use Rattle.rcrc.specs.Polynomial.{IsRemainder};
+ghost use Rattle.rmap.specs.Command.{wants_reply};
+ghost use Rattle.rmap.specs.Reply.{HasRemainders, reply_of, reply_header, reply_path_of, read_fields, with_crc, without_leading_zeros, reply_instruction};
+
+use crate::command::Command;
+use crate::status::Status;
+use byteorder::{BigEndian, ByteOrder};
+use rcrc::crc;
+use std::marker::Model;
+
+/// The most bytes that a reply has: a path of 12, a header of 12 and 4,096 of data with their CRC.
+pub const MAX_REPLY: usize = 4121;
+
+/// The protocol identifier of RMAP (ECSS-E-ST-50-52C, protocol identifier field).
+const RMAP: u8 = 0x01;
+
+/// Room for one reply.
+#[derive(Debug, Drop)]
+pub struct ReplyBuf {
+    bytes: [u8; MAX_REPLY],
+    length: usize,
+}
+
+impl Model for ReplyBuf {
+    ghost use Rattle.std.specs.Prelude.{◌≡◌, ◌≤◌, List, ℕ, take};
+    ghost use Rattle.std.specs.Prelude.{length as list_length};
+
+    ghost Value = { List ℕ };
+
+    ghost view = { λ b. take b.length b.bytes };
+
+    ghost invariant = { λ b. (b.length ≤ 4121) × (list_length b.bytes ≡ 4121) };
+}
+
+impl ReplyBuf {
+    /// An empty buffer.
+    pub fn new() -> ReplyBuf
+        ensures { result ≡ [] }
+    {
+        ReplyBuf {
+            bytes: [0; MAX_REPLY],
+            length: 0,
+        }
+    }
+
+    /// The bytes of the reply; none where no reply is due.
+    pub fn bytes(&self) -> &[u8]
+        ensures value { result.now ≡ self.now }
+        ensures bound { length result.now ≤ MAX_REPLY }
+    {
+        let bytes: &[u8] = &self.bytes;
+        &bytes[..self.length]
+    }
+
+    /// Forgets the reply.
+    pub fn clear(&mut self)
+        ensures { self.new ≡ [] }
+    {
+        self.length = 0;
+    }
+
+    fn extend(&mut self, bytes: &[u8])
+        requires { length self.old + length bytes.now ≤ MAX_REPLY }
+        ensures { self.new ≡ self.old ++ bytes.now }
+    {
+        let end = self.length + bytes.len();
+        self.bytes[self.length..end].copy_from_slice(bytes);
+        self.length = end;
+    }
+
+    fn push(&mut self, byte: u8)
+        requires { length self.old < MAX_REPLY }
+        ensures { self.new ≡ self.old ++ byte ∷ [] }
+    {
+        self.bytes[self.length] = byte;
+        self.length += 1;
+    }
+
+    /// Adds the header of a reply without its CRC, for `bytes` as its data.
+    fn push_header(&mut self, command: &Command, status: Status, bytes: &[u8])
+        requires room { length self.old ≤ 12 }
+        requires few { length bytes.now ≤ 4096 }
+        ensures { self.new ≡ self.old ++ reply_header command.now status bytes.now }
+    {
+        self.push(command.initiator());
+        self.push(RMAP);
+        self.push(command.instruction() % 64);
+        self.push(status.code());
+        self.push(command.target());
+        let mut transaction = [0; 2];
+        BigEndian::write_u16(&mut transaction, command.transaction());
+        self.extend(&transaction);
+        if !command.writes() {
+            let mut count = [0; 3];
+            BigEndian::write_u24(&mut count, bytes.len() as u32);
+            self.push(0);
+            self.extend(&count);
+        }
+    }
+
+    /// Adds the header of a reply, for `bytes` as its data, and the CRC of the header.
+    fn push_checked_header(&mut self, command: &Command, status: Status, bytes: &[u8])
+        requires room { length self.old ≤ 12 }
+        requires few { length bytes.now ≤ 4096 }
+        ensures value { self.new ≡ self.old ++ with_crc (reply_header command.now status bytes.now) }
+        ensures remainder { IsRemainder (reply_header command.now status bytes.now) (crc_of (reply_header command.now status bytes.now)) }
+    {
+        let start = self.bytes().len();
+        self.push_header(command, status, bytes);
+        let header_crc = crc(&self.bytes()[start..]);
+        self.push(header_crc);
+    }
+
+    /// Adds some bytes and their CRC.
+    fn push_checked(&mut self, bytes: &[u8])
+        requires { length self.old + length bytes.now < MAX_REPLY }
+        ensures value { self.new ≡ self.old ++ with_crc bytes.now }
+        ensures remainder { IsRemainder bytes.now (crc_of bytes.now) }
+    {
+        self.extend(bytes);
+        self.push(crc(bytes));
+    }
+}
+
+/// What stands behind the leading zeros.
+fn without_leading_zeros(address: &[u8]) -> &[u8]
+    ensures value { result.now ≡ without_leading_zeros address.now }
+    ensures bound { length result.now ≤ length address.now }
+{
+    let mut path = address;
+    while let [0, rest @ ..] = path {
+        path = rest;
+    }
+    path
+}
+
+/// The reply path that a reply address stands for: without its leading zeros, or one zero where it
+/// has nothing else (ECSS-E-ST-50-52C, reply address field).
+fn reply_path(address: &[u8]) -> &[u8]
+    ensures value { result.now ≡ reply_path_of address.now }
+    ensures bound { length result.now ≤ length address.now }
+{
+    let path = without_leading_zeros(address);
+    if path.is_empty() {
+        &address[..address.len().min(1)]
+    } else {
+        path
+    }
+}
+
+/// Leaves in `reply` the reply to `command` with that status and those bytes of data, at most 4,096,
+/// and none where the status is not success (ECSS-E-ST-50-52C, write reply format, read reply format,
+/// read-modify-write reply format). It has write form where the instruction has bit 5, else read form.
+/// Without the reply bit the buffer is left empty. What it held before plays no part.
+pub fn put_reply(reply: &mut ReplyBuf, command: &Command, status: Status, bytes: &[u8])
+    requires few { length bytes.now ≤ 4096 }
+    requires none_at_error { status ≢ Success → bytes.now ≡ [] }
+    ensures value { reply.new ≡ reply_of command.now status bytes.now }
+    ensures remainders { IsTrue (wants_reply command.now) → HasRemainders command.now bytes.now reply.new }
+    ensures short { length reply.new ≤ MAX_REPLY }
+{
+    reply.clear();
+    if !command.wants_reply() {
+        return;
+    }
+    reply.extend(reply_path(command.reply_path()));
+    reply.push_checked_header(command, status, bytes);
+    if !command.writes() {
+        reply.push_checked(bytes);
+    }
+}

@@ -1,0 +1,61 @@
+//! What a node has under its addresses.
+
+ghost use Rattle.std.specs.Prelude.{◌≡◌, ◌≤◌, length, slice_get};
+
+use std::marker::Model;
+
+/// The most banks that a node has.
+const MAX_BANKS: usize = 8;
+
+/// The logical address of a node, and the base and the size in bytes of each of its banks. Every
+/// node has the boot window beside them.
+#[derive(Debug, Drop)]
+pub struct Windows {
+    node_address: u8,
+    count: usize,
+    banks: [(u32, u32); MAX_BANKS],
+}
+
+impl Model for Windows {
+    ghost use Rattle.std.specs.Prelude.{◌≡◌, ◌≤◌, take, length};
+    ghost use Rattle.rmap.specs.Ranges.{Ranges};
+
+    ghost Value = { Ranges };
+
+    ghost view = { λ w. record { node_address = w.node_address; banks = take w.count w.banks } };
+
+    ghost invariant = { λ w. (w.count ≤ 8) × (length w.banks ≡ 8) };
+}
+
+impl Windows {
+    /// The windows of a node with that logical address and those banks, each a base and a size in
+    /// bytes, at most eight. The extended address of a bank is its place in the list, from 0 on.
+    pub fn new(node_address: u8, banks: &[(u32, u32)]) -> Windows
+        requires { length banks.now ≤ 8 }
+        ensures node { result.node_address ≡ node_address }
+        ensures banks { result.banks ≡ banks.now }
+    {
+        let mut all = [(0, 0); MAX_BANKS];
+        all[..banks.len()].copy_from_slice(banks);
+        Windows {
+            node_address,
+            count: banks.len(),
+            banks: all,
+        }
+    }
+
+    /// The node's logical address.
+    pub fn node_address(&self) -> u8
+        ensures { result ≡ self.now.node_address }
+    {
+        self.node_address
+    }
+
+    /// The base and the size in bytes of the bank of that number, if there is one.
+    pub fn bank(&self, number: u8) -> Option<(u32, u32)>
+        ensures { result ≡ slice_get self.now.banks number }
+    {
+        let banks: &[(u32, u32)] = &self.banks;
+        banks[..self.count].get(usize::from(number)).copied()
+    }
+}

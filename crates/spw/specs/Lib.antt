@@ -1,0 +1,3 @@
+pub mod Cargo
+pub mod Fault
+pub mod Line

@@ -1,0 +1,12 @@
+//! SpaceWire packets, and the lines of text that write them.
+#![tactic(auto)]
+
+mod faults;
+mod lines;
+mod packets;
+#[cfg(test)]
+mod tests;
+
+pub use crate::faults::LineFault;
+pub use crate::lines::{line_is_unambiguous, read_line};
+pub use crate::packets::{End, MAX_PACKET, Packet};
