@@ -1,0 +1,180 @@
+-- What loads give and stores leave fits what is known of it.
+use Rattle.std.proofs.Common.{◌≡◌, ◌≢◌, ℕ, zero, suc, ◌+◌, ◌-◌, ◌*◌, ◌/◌, ◌%◌, ◌^◌, ◌<◌, ◌≤◌, ℤ, pos, negsuc, ◌+ℤ◌, ◌-ℤ◌, ◌≤ℤ◌, Bool, true, false, ◌&&◌, ◌||◌, ◌==◌, nat_lt, nat_le, if◌then◌else◌, refl, sym, ◌∙◌, ap, subst, arith, cond, ◌⊎◌, inl, inr, Option, Some, None, Result, Ok, Err, List, length, slice_get, All}
+use Rattle.std.proofs.lemmas.Int.{ints}
+use Rattle.std.proofs.lemmas.Bool.Decides.{nat_tests}
+use Rattle.std.proofs.Common.{[], ◌∷◌, lit<}
+use Rattle.std.proofs.Math.Nat.{pow-succ'}
+use Rattle.std.proofs.lemmas.Bool.{leb-true, leb-false, cases_lt}
+use Rattle.std.specs.Int.{w8, w16, w32, cast_signed}
+use Rattle.bpf_insn.specs.declared.memory.LoadSize.{LoadSize}
+use Rattle.bpf_insn.specs.declared.memory.LoadSize.TheVariants.{LoadByte, LoadHalf, LoadWord, LoadDouble, SignedByte, SignedHalf, SignedWord}
+use Rattle.machine.specs.declared.regions.Region.{Region}
+use Rattle.machine.specs.declared.regions.Region.TheVariants.{Front, Tail, Stack}
+use Rattle.machine.specs.declared.values.Value.{Value}
+use Rattle.machine.specs.declared.values.Value.TheVariants.{Unset as Nothing, Num as Number, Ptr as Pointer, Map as MapOf}
+use Rattle.machine.specs.Words.{word, residue}
+use Rattle.machine.specs.Memory.{Header, IsHeader, region_size, from_start, place_within, place_of, byte_of, byte_below, little, byte_after, load_bytes, loaded}
+use Rattle.machine.specs.State.{State}
+use Rattle.machine.specs.Step.{load_value, bytes_at, loads}
+use Rattle.absdom_num.specs.declared.ranges.Range.{Range}
+use Rattle.absdom_num.specs.Ranges.{IsIn}
+use Rattle.absdom.specs.declared.cause.Cause.{Cause}
+use Rattle.absdom.specs.declared.cause.Cause.TheVariants.{OutOfRegion, UnsetStack}
+use Rattle.absdom.specs.declared.kinds.AbsKind.{AbsKind}
+use Rattle.absdom.specs.declared.kinds.AbsKind.TheVariants.{Unset, Num, Ptr, Map}
+use Rattle.absdom.specs.Knowledge.{Knowledge, kind_at}
+use Rattle.absdom.specs.Marks.{mark_at, all_marked, marked}
+use Rattle.absdom.specs.Effect.{both_places, access_places, is_set, loaded_range, read_kind, load_kind}
+use Rattle.absdom.specs.Fits.{IsAmong, FitsKind, IsByte, Fits}
+use Rattle.absdom.proofs.FitsAlu.{FitsResult}
+
+-- a place between two others, with room for its bytes
+pub record IsBetween (size bytes first last place : ℕ) : Type 0 where
+  pub above : first ≤ place
+  pub below : place ≤ last
+  pub room : place + bytes ≤ size
+
+-- where both ends have a place, what is between has one between them
+abbrev pub HasPlace : (size bytes : ℕ) → Option (ℕ × ℕ) → Option ℕ → Type 0
+HasPlace size bytes None place = Unit {0}
+HasPlace size bytes (Some places) None = ⊥
+HasPlace size bytes (Some places) (Some place) = IsBetween size bytes places.0 places.1 place
+
+by_tests : (size bytes i j k : ℕ) → i ≤ k → k ≤ j → (s t u : Bool) → nat_le (i + bytes) size ≡ s → nat_le (j + bytes) size ≡ t → nat_le (k + bytes) size ≡ u → HasPlace size bytes (both_places (if s then Some i else None) (if t then Some j else None)) (if u then Some k else None)
+by_tests size bytes i j k g h false t u e f d = tt
+by_tests size bytes i j k g h true false u e f d = tt
+by_tests size bytes i j k g h true true true e f d =
+    record { above = g; below = h; room = leb-true (k + bytes) size d }
+by_tests size bytes i j k g h true true false e f d =
+    let fits : j + bytes ≤ size = leb-true (j + bytes) size f in
+    let over : size < k + bytes = leb-false (k + bytes) size d in
+    absurd (omega arith)
+
+pub within_between : (size bytes : ℕ) (x y z : ℤ) → x ≤ℤ z → z ≤ℤ y → HasPlace size bytes (both_places (place_within size bytes x) (place_within size bytes y)) (place_within size bytes z)
+within_between size bytes (negsuc i) y z g h = tt
+within_between size bytes (pos i) (negsuc j) (pos k) g h = absurd (omega (arith, ints))
+within_between size bytes (pos i) (negsuc j) (negsuc k) g h = absurd (omega (arith, ints))
+within_between size bytes (pos i) (pos j) (negsuc k) g h = absurd (omega (arith, ints))
+within_between size bytes (pos i) (pos j) (pos k) g h =
+    by_tests size bytes i j k (omega (arith, ints)) (omega (arith, ints)) (nat_le (i + bytes) size) (nat_le (j + bytes) size) (nat_le (k + bytes) size) refl refl refl
+
+pub place_between : (region : Region) (bytes : ℕ) (o : ℤ × ℤ) (offset z : ℤ) → IsAmong z o → HasPlace (region_size region) bytes (access_places region bytes o offset) (place_of region bytes (z +ℤ offset))
+place_between Front bytes o offset z h =
+    within_between 4 bytes (o.0 +ℤ offset) (o.1 +ℤ offset) (z +ℤ offset) (omega (arith, ints, h.above)) (omega (arith, ints, h.below))
+place_between Tail bytes o offset z h =
+    within_between 12 bytes (o.0 +ℤ offset) (o.1 +ℤ offset) (z +ℤ offset) (omega (arith, ints, h.above)) (omega (arith, ints, h.below))
+place_between Stack bytes o offset z h =
+    within_between 512 bytes ((o.0 +ℤ offset) +ℤ pos 512) ((o.1 +ℤ offset) +ℤ pos 512) ((z +ℤ offset) +ℤ pos 512) (omega (arith, ints, h.above)) (omega (arith, ints, h.below))
+
+-- ---- bytes
+
+-- a number of so many bytes
+abbrev pub IsNumber : (limit : ℕ) → Option ℕ → Type 0
+IsNumber limit None = ⊥
+IsNumber limit (Some n) = n < limit
+
+below_fits : (n : ℕ) (byte rest : Option ℕ) → IsByte byte → IsNumber (256 ^ n) rest → IsNumber (256 ^ (suc n)) (byte_below byte rest)
+below_fits n None rest g h = absurd g
+below_fits n (Some b) None g h = absurd h
+below_fits n (Some b) (Some r) g h = let e : 256 ^ (suc n) ≡ 256 * 256 ^ n = pow-succ' 256 n in rw e (omega arith)
+
+pub little_fits : (byte : ℕ → Option ℕ) (n place : ℕ) → ((k : ℕ) → k < n → IsByte (byte (place + k))) → IsNumber (256 ^ n) (little byte n place)
+unfolding little
+little_fits byte zero place h = lit< tt
+little_fits byte (suc n) place h =
+    below_fits n (byte place) (little byte n (suc place))
+    (let P : ℕ → Type 0 = λ p. IsByte (byte p) in subst P (omega arith) (h 0 (omega arith)))
+    (little_fits byte n (suc place) (λ k l. let P : ℕ → Type 0 = λ p. IsByte (byte p) in let e : place + suc k ≡ suc place + k = omega arith in subst P e (h (suc k) (omega arith))))
+
+-- a byte of a list of bytes
+pub byte_in : (bytes : List ℕ) (place : ℕ) → All (λ b. b < 256) bytes → place < length bytes → IsByte (slice_get bytes place)
+byte_in [] place all h = absurd (omega arith)
+byte_in (b ∷ bytes) zero all h = all 0 0 (omega arith)
+byte_in (b ∷ bytes) (suc place) all h = byte_in bytes place (λ k d l. all (suc k) d (omega arith)) (omega arith)
+
+both_left : (x y : Bool) → (x && y) ≡ true → x ≡ true
+both_left true y e = refl
+both_left false y e = e
+
+both_right : (x y : Bool) → (x && y) ≡ true → y ≡ true
+both_right true y e = e
+both_right false y e = cc
+
+-- of bytes that are all marked each is
+pub marked_bytes : (marks : List Bool) (first n : ℕ) → all_marked marks first n ≡ true → (k : ℕ) → k < n → mark_at marks (first + k) ≡ true
+unfolding all_marked
+marked_bytes marks first zero e k h = absurd (omega arith)
+marked_bytes marks first (suc n) e k h =
+    elim (cases_lt k n) [
+      | inl l ↦ marked_bytes marks first n (both_left (all_marked marks first n) (mark_at marks (first + n)) e) k l
+      | inr l ↦
+          let d : k ≡ n = omega arith in
+          let P : ℕ → Type 0 = λ p. mark_at marks (first + p) ≡ true in
+          subst P (sym d) (both_right (all_marked marks first n) (mark_at marks (first + n)) e)
+    ]
+
+-- ---- loads
+
+-- a word is below 2^64
+pub word_below : (z : ℤ) → word z < 2 ^ 64
+word_below (pos n) = omega arith
+word_below (negsuc n) = omega arith
+
+-- what the bytes of a load give is in its range
+pub loaded_fits : (size : LoadSize) (n : ℕ) → n < 256 ^ (load_bytes size) → IsIn (loaded size n) (loaded_range size)
+loaded_fits LoadByte n h = record { above = omega arith; below = omega arith; word = omega arith }
+loaded_fits LoadHalf n h = record { above = omega arith; below = omega arith; word = omega arith }
+loaded_fits LoadWord n h = record { above = omega arith; below = omega arith; word = omega arith }
+loaded_fits LoadDouble n h = record { above = omega arith; below = omega arith; word = omega arith }
+loaded_fits SignedByte n h =
+    let b : word (cast_signed w8 n) < 2 ^ 64 = word_below (cast_signed w8 n) in
+    record { above = omega arith; below = omega arith; word = b }
+loaded_fits SignedHalf n h =
+    let b : word (cast_signed w16 n) < 2 ^ 64 = word_below (cast_signed w16 n) in
+    record { above = omega arith; below = omega arith; word = b }
+loaded_fits SignedWord n h =
+    let b : word (cast_signed w32 n) < 2 ^ 64 = word_below (cast_signed w32 n) in
+    record { above = omega arith; below = omega arith; word = b }
+
+pub value_fits : (size : LoadSize) (o : Option ℕ) → IsNumber (256 ^ (load_bytes size)) o → FitsResult (load_value size o) (Ok (Num (loaded_range size)))
+value_fits size None h = absurd h
+value_fits size (Some n) h = loaded_fits size n h
+
+-- the bytes that a load reads are set: those of the header always, those of the stack where they are marked
+pub bytes_set : (header : Header) (s : State) (a : Knowledge) (region : Region) (bytes first last place : ℕ) → IsHeader header → Fits s a → is_set region a.marks bytes (first, last) ≡ true → IsBetween (region_size region) bytes first last place → (k : ℕ) → k < bytes → IsByte (byte_of header s.stack region (place + k))
+bytes_set header s a Front bytes first last place known fits e between k h =
+    byte_in header.front (place + k) known.front_bytes (omega (arith, known.front, between.room))
+bytes_set header s a Tail bytes first last place known fits e between k h =
+    byte_in header.tail (place + k) known.tail_bytes (omega (arith, known.tail, between.room))
+bytes_set header s a Stack bytes first last place known fits e between k h =
+    let d : first + (place + k - first) ≡ place + k = omega (arith, between.above) in
+    let m : mark_at a.marks (first + (place + k - first)) ≡ true
+    = marked_bytes a.marks first (last + bytes - first) e (place + k - first) (omega (arith, between.above, between.below)) in
+    let P : ℕ → Type 0 = λ p. IsByte (s.stack p) in
+    subst P d (fits.bytes (first + (place + k - first)) m)
+
+-- by whether all of them are set
+read_by_test : (header : Header) (s : State) (a : Knowledge) (size : LoadSize) (region : Region) (first last place : ℕ) → IsHeader header → Fits s a → IsBetween (region_size region) (load_bytes size) first last place → (t : Bool) → is_set region a.marks (load_bytes size) (first, last) ≡ t → FitsResult (load_value size (little (byte_of header s.stack region) (load_bytes size) place)) (if t then Ok (Num (loaded_range size)) else Err UnsetStack)
+read_by_test header s a size region first last place known fits between false e = tt
+read_by_test header s a size region first last place known fits between true e =
+    value_fits size (little (byte_of header s.stack region) (load_bytes size) place)
+    (little_fits (byte_of header s.stack region) (load_bytes size) place (bytes_set header s a region (load_bytes size) first last place known fits e between))
+
+read_fits : (header : Header) (s : State) (a : Knowledge) (size : LoadSize) (region : Region) (places : Option (ℕ × ℕ)) (place : Option ℕ) → IsHeader header → Fits s a → HasPlace (region_size region) (load_bytes size) places place → FitsResult (load_value size (bytes_at header s.stack region (load_bytes size) place)) (read_kind a size region places)
+read_fits header s a size region None place known fits h = tt
+read_fits header s a size region (Some places) None known fits h = absurd h
+read_fits header s a size region (Some places) (Some place) known fits h =
+    read_by_test header s a size region places.0 places.1 place known fits h (is_set region a.marks (load_bytes size) places) refl
+
+-- a load through a pointer
+pub load_fits : (header : Header) (s : State) (a : Knowledge) (size : LoadSize) (u : Value) (p : AbsKind) (offset : ℤ) → IsHeader header → Fits s a → FitsKind u p → FitsResult (loads header s size u offset) (load_kind a size p offset)
+load_fits header s a size u Unset offset known fits g = tt
+load_fits header s a size u (Num n) offset known fits g = tt
+load_fits header s a size u (Map i) offset known fits g = tt
+load_fits header s a size Nothing (Ptr t o) offset known fits g = absurd g
+load_fits header s a size (Number n) (Ptr t o) offset known fits g = absurd g
+load_fits header s a size (MapOf i) (Ptr t o) offset known fits g = absurd g
+load_fits header s a size (Pointer r z) (Ptr t o) offset known fits g =
+    let P : Region → Type 0 = λ x. FitsResult (loads header s size (Pointer r z) offset) (load_kind a size (Ptr x o) offset) in
+    subst P g.0
+    (read_fits header s a size r (access_places r (load_bytes size) o offset) (place_of r (load_bytes size) (z +ℤ offset)) known fits (place_between r (load_bytes size) o offset z g.1))

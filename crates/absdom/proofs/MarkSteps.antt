@@ -1,0 +1,37 @@
+-- One more byte: what is tested of it, and its mark.
+use Rattle.std.proofs.Common.{◌≡◌, ◌≢◌, ℕ, zero, suc, ◌+◌, ◌-◌, ◌<◌, ◌≤◌, Bool, true, false, ◌&&◌, List, length, get_or, set, refl, ap, sym, ◌∙◌, arith, length-set, get_or-set_same, get_or-set_other}
+use Rattle.std.proofs.Common.{replicate, inl, inr}
+use Rattle.std.proofs.lemmas.Bool.{cases_lt}
+use Rattle.std.proofs.lemmas.List.{get_or_past, get_or-replicate, length-replicate}
+use Rattle.absdom.specs.Marks.{mark_at, all_marked, marked}
+
+pub all_marked-more : (marks : List Bool) (first place : ℕ) → first ≤ place → all_marked marks first (place + 1 - first) ≡ (all_marked marks first (place - first) && mark_at marks place)
+unfolding all_marked
+all_marked-more marks first place h =
+    let e : place + 1 - first ≡ suc (place - first) = omega arith in
+    let f : first + (place - first) ≡ place = omega arith in
+    ap (all_marked marks first) e ∙ ap (λ p. all_marked marks first (place - first) && mark_at marks p) f
+
+pub marked-more : (marks : List Bool) (first place : ℕ) → first ≤ place → marked marks first (place + 1 - first) ≡ set (marked marks first (place - first)) place true
+unfolding marked
+marked-more marks first place h =
+    let e : place + 1 - first ≡ suc (place - first) = omega arith in
+    let f : first + (place - first) ≡ place = omega arith in
+    ap (marked marks first) e ∙ ap (λ p. set (marked marks first (place - first)) p true) f
+
+pub all_marked-none : (marks : List Bool) (first n : ℕ) → n ≡ 0 → all_marked marks first n ≡ true
+unfolding all_marked
+all_marked-none marks first n e = ap (all_marked marks first) e
+
+pub marked-none : (marks : List Bool) (first n : ℕ) → n ≡ 0 → marked marks first n ≡ marks
+unfolding marked
+marked-none marks first n e = ap (marked marks first) e
+
+pub length-marked : (marks : List Bool) (first n : ℕ) → length (marked marks first n) ≡ length marks
+unfolding marked
+length-marked marks first zero = refl
+length-marked marks first (suc n) = length-set (marked marks first n) (first + n) true ∙ length-marked marks first n
+
+pub get_or-unmarked : (n place : ℕ) → get_or (replicate n false) place false ≡ false
+get_or-unmarked n place =
+    elim (cases_lt place n) [ inl h ↦ get_or-replicate n place false false h | inr h ↦ get_or_past (replicate n false) place false (rw (length-replicate n false) h) ]

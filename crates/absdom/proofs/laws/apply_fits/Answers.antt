@@ -1,0 +1,6 @@
+use Rattle.absdom.proofs.FitsState as states
+use Rattle.absdom.proofs.laws.apply_fits.Goals as goal
+
+pub returns : goal.returns
+returns c =
+    states.apply_fits c.results_fit.ensures.alu c.results_fit.ensures.negate c.results_fit.ensures.move_signed c.results_fit.ensures.byte_swap

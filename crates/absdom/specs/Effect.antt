@@ -1,0 +1,219 @@
+-- What an instruction does to what is known, or why it is refused (a choice of this project). Operands are
+-- tested first, the destination before the source, and of each whether it is set and then its kind.
+use Rattle.std.specs.Prelude.{ℕ, ◌+◌, ◌-◌, ◌^◌, ◌≤◌, Bool, true, ◌||◌, ◌==◌, nat_lt, nat_le, if◌then◌else◌, ℤ, pos, negsuc, ◌+ℤ◌, ◌-ℤ◌, List, Option, Some, None, Result, Ok, Err}
+use Rattle.bpf_insn.specs.declared.operation.Width.{Width}
+use Rattle.bpf_insn.specs.declared.operation.Width.TheVariants.{W32, W64}
+use Rattle.bpf_insn.specs.declared.operation.AluOp.{AluOp}
+use Rattle.bpf_insn.specs.declared.operation.AluOp.TheVariants.{Add, Sub, Mul, Div, SignedDiv, Or, And, Lsh, Rsh, Mod, SignedMod, Xor, Mov, Arsh}
+use Rattle.bpf_insn.specs.declared.operation.Operand.{Operand}
+use Rattle.bpf_insn.specs.declared.operation.Operand.TheVariants.{FromRegister, Immediate}
+use Rattle.bpf_insn.specs.declared.memory.Size.{Size}
+use Rattle.bpf_insn.specs.declared.memory.LoadSize.{LoadSize}
+use Rattle.bpf_insn.specs.declared.memory.LoadSize.TheVariants.{LoadByte, LoadHalf, LoadWord, LoadDouble, SignedByte, SignedHalf, SignedWord}
+use Rattle.bpf_insn.specs.declared.insn.Insn.{Insn}
+use Rattle.bpf_insn.specs.declared.insn.Insn.TheVariants.{Alu, Negate, MoveSigned, ByteSwap, Load, Store, Jump, Goto, Wide, LoadMap, LoadAddress, Call, Exit}
+use Rattle.machine.specs.declared.regions.Region.{Region}
+use Rattle.machine.specs.declared.regions.Region.TheVariants.{Front, Tail, Stack}
+use Rattle.machine.specs.Words.{word, signed}
+use Rattle.machine.specs.Memory.{place_of, size_bytes, load_bytes}
+use Rattle.absdom_num.specs.declared.ranges.Range.{Range}
+use Rattle.absdom_num.specs.Tables.{whole, only, alu_range, negated_range, extended_range, swapped_range}
+use Rattle.absdom.specs.declared.cause.Cause.{Cause}
+use Rattle.absdom.specs.declared.cause.Cause.TheVariants.{UnsetOperand, KindMismatch, OutOfRegion, UnsetStack, HeaderWrite, PointerRange}
+use Rattle.absdom.specs.declared.kinds.AbsKind.{AbsKind}
+use Rattle.absdom.specs.declared.kinds.AbsKind.TheVariants.{Unset, Num, Ptr, Map}
+use Rattle.absdom.specs.Offsets.{offsets_within}
+use Rattle.absdom.specs.Kinds.{number_of}
+use Rattle.absdom.specs.Knowledge.{Knowledge, kind_at, with_kind, with_marks}
+use Rattle.absdom.specs.Marks.{all_marked, marked}
+
+-- a register's kind, or the number of an immediate
+abbrev pub operand_kind : Knowledge → Operand → AbsKind
+operand_kind a (FromRegister register) = kind_at a register
+operand_kind a (Immediate value) = Num (only (word value))
+
+-- ---- arithmetic (RFC 9669, section 4.1)
+
+-- an operation on two numbers
+abbrev pub computed : AluOp → Width → Result Range Cause → Result Range Cause → Result AbsKind Cause
+computed op width (Err cause) b = Err cause
+computed op width (Ok a) (Err cause) = Err cause
+computed op width (Ok a) (Ok b) = Ok (Num (alu_range op width a b))
+
+-- an operation on one number
+abbrev pub computed_alone : (Range → Range) → Result Range Cause → Result AbsKind Cause
+computed_alone f (Err cause) = Err cause
+computed_alone f (Ok a) = Ok (Num (f a))
+
+-- MOV: in ALU64 it copies pointers and maps too
+abbrev pub copied_kind : Width → AbsKind → Result AbsKind Cause
+copied_kind width Unset = Err UnsetOperand
+copied_kind width (Num a) = Ok (Num (alu_range Mov width a a))
+copied_kind W32 (Ptr region offsets) = Err KindMismatch
+copied_kind W64 (Ptr region offsets) = Ok (Ptr region offsets)
+copied_kind W32 (Map index) = Err KindMismatch
+copied_kind W64 (Map index) = Ok (Map index)
+
+-- the ends of a range whose numbers have one sign where they are read as signed
+abbrev pub signed_ends : Range → Option (ℤ × ℤ)
+signed_ends a =
+    if nat_lt a.1 (2 ^ 63) || nat_le (2 ^ 63) a.0 then Some (signed W64 a.0, signed W64 a.1) else None
+
+-- a pointer that was moved, within the limits of its offsets
+abbrev pub moved_to : Region → Option (ℤ × ℤ) → Result AbsKind Cause
+moved_to region None = Err PointerRange
+moved_to region (Some offsets) = Ok (Ptr region offsets)
+
+-- the offsets after so much was added
+abbrev pub offsets_up : ℤ × ℤ → Option (ℤ × ℤ) → Option (ℤ × ℤ)
+offsets_up offsets None = None
+offsets_up offsets (Some n) = offsets_within (offsets.0 +ℤ n.0) (offsets.1 +ℤ n.1)
+
+-- the offsets after so much was subtracted
+abbrev pub offsets_down : ℤ × ℤ → Option (ℤ × ℤ) → Option (ℤ × ℤ)
+offsets_down offsets None = None
+offsets_down offsets (Some n) = offsets_within (offsets.0 -ℤ n.1) (offsets.1 -ℤ n.0)
+
+-- a pointer plus a number
+abbrev pub pointer_up : Region → ℤ × ℤ → Result Range Cause → Result AbsKind Cause
+pointer_up region offsets (Err cause) = Err cause
+pointer_up region offsets (Ok n) = moved_to region (offsets_up offsets (signed_ends n))
+
+-- a pointer minus a number
+abbrev pub pointer_down : Region → ℤ × ℤ → Result Range Cause → Result AbsKind Cause
+pointer_down region offsets (Err cause) = Err cause
+pointer_down region offsets (Ok n) = moved_to region (offsets_down offsets (signed_ends n))
+
+-- ADD: in ALU64 it moves a pointer
+abbrev pub sum_kind : Width → AbsKind → AbsKind → Result AbsKind Cause
+sum_kind W32 a b = computed Add W32 (number_of a) (number_of b)
+sum_kind W64 Unset b = Err UnsetOperand
+sum_kind W64 (Num a) b = computed Add W64 (Ok a) (number_of b)
+sum_kind W64 (Ptr region offsets) b = pointer_up region offsets (number_of b)
+sum_kind W64 (Map index) b = Err KindMismatch
+
+-- SUB: likewise
+abbrev pub difference_kind : Width → AbsKind → AbsKind → Result AbsKind Cause
+difference_kind W32 a b = computed Sub W32 (number_of a) (number_of b)
+difference_kind W64 Unset b = Err UnsetOperand
+difference_kind W64 (Num a) b = computed Sub W64 (Ok a) (number_of b)
+difference_kind W64 (Ptr region offsets) b = pointer_down region offsets (number_of b)
+difference_kind W64 (Map index) b = Err KindMismatch
+
+-- what an operation on a destination and a source gives
+abbrev pub alu_kind : AluOp → Width → AbsKind → AbsKind → Result AbsKind Cause
+alu_kind Add width a b = sum_kind width a b
+alu_kind Sub width a b = difference_kind width a b
+alu_kind Mul width a b = computed Mul width (number_of a) (number_of b)
+alu_kind Div width a b = computed Div width (number_of a) (number_of b)
+alu_kind SignedDiv width a b = computed SignedDiv width (number_of a) (number_of b)
+alu_kind Or width a b = computed Or width (number_of a) (number_of b)
+alu_kind And width a b = computed And width (number_of a) (number_of b)
+alu_kind Lsh width a b = computed Lsh width (number_of a) (number_of b)
+alu_kind Rsh width a b = computed Rsh width (number_of a) (number_of b)
+alu_kind Mod width a b = computed Mod width (number_of a) (number_of b)
+alu_kind SignedMod width a b = computed SignedMod width (number_of a) (number_of b)
+alu_kind Xor width a b = computed Xor width (number_of a) (number_of b)
+alu_kind Mov width a b = copied_kind width b
+alu_kind Arsh width a b = computed Arsh width (number_of a) (number_of b)
+
+-- ---- loads and stores (RFC 9669, section 5)
+
+-- two places, where there are both
+abbrev pub both_places : Option ℕ → Option ℕ → Option (ℕ × ℕ)
+both_places None b = None
+both_places (Some a) None = None
+both_places (Some a) (Some b) = Some (a, b)
+
+-- the first place of an access of so many bytes, at the least offset and at the greatest; none where one of
+-- the two is not wholly inside the region
+abbrev pub access_places : Region → (bytes : ℕ) → ℤ × ℤ → (offset : ℤ) → Option (ℕ × ℕ)
+access_places region bytes offsets offset =
+    both_places (place_of region bytes (offsets.0 +ℤ offset)) (place_of region bytes (offsets.1 +ℤ offset))
+
+-- the bytes at both places lie in 512
+pub record AreInside (bytes : ℕ) (places : ℕ × ℕ) : Type 0 where
+  pub first : places.0 + bytes ≤ 512
+  pub last : places.1 + bytes ≤ 512
+
+-- whether all bytes of an access are set; those of the header always are
+abbrev pub is_set : Region → List Bool → (bytes : ℕ) → ℕ × ℕ → Bool
+is_set Front marks bytes places = true
+is_set Tail marks bytes places = true
+is_set Stack marks bytes places = all_marked marks places.0 (places.1 + bytes - places.0)
+
+-- what a load gives: a number of so many bytes, or any word where the sign is extended
+abbrev pub loaded_range : LoadSize → Range
+loaded_range LoadByte = (0, 2 ^ 8 - 1)
+loaded_range LoadHalf = (0, 2 ^ 16 - 1)
+loaded_range LoadWord = (0, 2 ^ 32 - 1)
+loaded_range LoadDouble = (0, 2 ^ 64 - 1)
+loaded_range SignedByte = (0, 2 ^ 64 - 1)
+loaded_range SignedHalf = (0, 2 ^ 64 - 1)
+loaded_range SignedWord = (0, 2 ^ 64 - 1)
+
+-- a load at these places
+abbrev pub read_kind : Knowledge → LoadSize → Region → Option (ℕ × ℕ) → Result AbsKind Cause
+read_kind a size region None = Err OutOfRegion
+read_kind a size region (Some places) =
+    if is_set region a.marks (load_bytes size) places then Ok (Num (loaded_range size)) else Err UnsetStack
+
+-- a load through a pointer
+abbrev pub load_kind : Knowledge → LoadSize → (base : AbsKind) → (offset : ℤ) → Result AbsKind Cause
+load_kind a size Unset offset = Err UnsetOperand
+load_kind a size (Num n) offset = Err KindMismatch
+load_kind a size (Ptr region offsets) offset =
+    read_kind a size region (access_places region (load_bytes size) offsets offset)
+load_kind a size (Map index) offset = Err KindMismatch
+
+-- a store of so many bytes sets them where it has one place, and no byte else
+abbrev pub wrote : Knowledge → (bytes : ℕ) → ℕ × ℕ → Knowledge
+wrote a bytes places = if places.0 == places.1 then with_marks a (marked a.marks places.0 bytes) else a
+
+-- a store at these places
+abbrev pub wrote_at : Knowledge → (bytes : ℕ) → Option (ℕ × ℕ) → Result Knowledge Cause
+wrote_at a bytes None = Err OutOfRegion
+wrote_at a bytes (Some places) = Ok (wrote a bytes places)
+
+-- a store to a region: the header is read-only
+abbrev pub wrote_to : Knowledge → (bytes : ℕ) → Region → ℤ × ℤ → (offset : ℤ) → Result Knowledge Cause
+wrote_to a bytes Front offsets offset = Err HeaderWrite
+wrote_to a bytes Tail offsets offset = Err HeaderWrite
+wrote_to a bytes Stack offsets offset = wrote_at a bytes (access_places Stack bytes offsets offset)
+
+-- a store of a number through a pointer
+abbrev pub stored : Knowledge → (bytes : ℕ) → (base : AbsKind) → (offset : ℤ) → Result Range Cause → Result Knowledge Cause
+stored a bytes Unset offset value = Err UnsetOperand
+stored a bytes (Num n) offset value = Err KindMismatch
+stored a bytes (Ptr region offsets) offset (Err cause) = Err cause
+stored a bytes (Ptr region offsets) offset (Ok value) = wrote_to a bytes region offsets offset
+stored a bytes (Map index) offset value = Err KindMismatch
+
+-- ---- instructions
+
+-- the register is written
+abbrev pub written : Knowledge → (register : ℕ) → Result AbsKind Cause → Result Knowledge Cause
+written a register (Err cause) = Err cause
+written a register (Ok kind) = Ok (with_kind a register kind)
+
+-- a map by its index; of an index that no map has nothing is known
+abbrev pub map_kind : ℤ → AbsKind
+map_kind (pos index) = if nat_lt index 256 then Map index else Unset
+map_kind (negsuc n) = Unset
+
+-- what an instruction does that goes on to the next one. All others leave what is known as it is.
+abbrev pub applied : Knowledge → Insn → Result Knowledge Cause
+applied a (Alu op width dst src) = written a dst (alu_kind op width (kind_at a dst) (operand_kind a src))
+applied a (Negate width dst) = written a dst (computed_alone (negated_range width) (number_of (kind_at a dst)))
+applied a (MoveSigned extension dst src) = written a dst (computed_alone (extended_range extension) (number_of (kind_at a src)))
+applied a (ByteSwap swap bits dst) = written a dst (computed_alone (swapped_range swap bits) (number_of (kind_at a dst)))
+applied a (Load size dst base offset) = written a dst (load_kind a size (kind_at a base) offset)
+applied a (Store size base offset src) =
+    stored a (size_bytes size) (kind_at a base) offset (number_of (operand_kind a src))
+applied a (Jump condition width dst src offset) = Ok a
+applied a (Goto distance) = Ok a
+applied a (Wide dst value) = Ok (with_kind a dst (Num (only value)))
+applied a (LoadMap dst index) = Ok (with_kind a dst (map_kind index))
+applied a (LoadAddress dst address) = Ok a
+applied a (Call callee number) = Ok a
+applied a Exit = Ok a

@@ -1,0 +1,79 @@
+-- Which states of the machine are as a state of the verifier says (a choice of this project).
+use Rattle.std.specs.Prelude.{◌≡◌, ◌≢◌, ℕ, ◌+◌, ◌^◌, ◌<◌, ℤ, pos, negsuc, ◌≤ℤ◌, true, Option, Some, None, Result, Ok, Err}
+use Rattle.bpf_insn.specs.declared.insn.Insn.{Insn}
+use Rattle.bpf_insn.specs.declared.insn.Insn.TheVariants.{Alu, Negate, MoveSigned, ByteSwap, Load, Store, Jump, Goto, Wide, LoadMap, LoadAddress, Call, Exit}
+use Rattle.machine.specs.declared.values.Value.{Value}
+use Rattle.machine.specs.declared.values.Value.TheVariants.{Unset as Nothing, Num as Number, Ptr as Pointer, Map as MapOf}
+use Rattle.machine.specs.State.{State}
+use Rattle.machine.specs.Step.{Outcome, Next, Ask, Verdict, Trap}
+use Rattle.absdom_num.specs.Ranges.{IsIn}
+use Rattle.absdom.specs.declared.cause.Cause.{Cause}
+use Rattle.absdom.specs.declared.kinds.AbsKind.{AbsKind}
+use Rattle.absdom.specs.declared.kinds.AbsKind.TheVariants.{Unset, Num, Ptr, Map}
+use Rattle.absdom.specs.Knowledge.{Knowledge, kind_at}
+use Rattle.absdom.specs.Marks.{mark_at}
+
+-- an offset is one of these
+pub record IsAmong (z : ℤ) (offsets : ℤ × ℤ) : Type 0 where
+  pub above : offsets.0 ≤ℤ z
+  pub below : z ≤ℤ offsets.1
+
+-- the value is of the kind: a number in its range, a pointer into its region at one of its offsets, its map;
+-- every value is of the kind Unset
+abbrev pub FitsKind : Value → AbsKind → Type 0
+FitsKind value Unset = Unit {0}
+FitsKind Nothing (Num range) = ⊥
+FitsKind (Number n) (Num range) = IsIn n range
+FitsKind (Pointer region z) (Num range) = ⊥
+FitsKind (MapOf index) (Num range) = ⊥
+FitsKind Nothing (Ptr region offsets) = ⊥
+FitsKind (Number n) (Ptr region offsets) = ⊥
+FitsKind (Pointer own z) (Ptr region offsets) = (own ≡ region) × IsAmong z offsets
+FitsKind (MapOf index) (Ptr region offsets) = ⊥
+FitsKind Nothing (Map index) = ⊥
+FitsKind (Number n) (Map index) = ⊥
+FitsKind (Pointer region z) (Map index) = ⊥
+FitsKind (MapOf own) (Map index) = own ≡ index
+
+-- a place of memory that is set, to a byte
+abbrev pub IsByte : Option ℕ → Type 0
+IsByte None = ⊥
+IsByte (Some byte) = byte < 256
+
+-- each register is of its kind, and each byte that is marked is set
+pub record Fits (s : State) (a : Knowledge) : Type 0 where
+  pub registers : (register : ℕ) → FitsKind (s.registers register) (kind_at a register)
+  pub bytes : (place : ℕ) → mark_at a.marks place ≡ true → IsByte (s.stack place)
+
+-- the machine goes on at that slot, in a state that fits: it neither traps nor ends
+abbrev pub GoesOn : Outcome → (slot : ℕ) → Knowledge → Type 0
+GoesOn (Next t) slot a = (t.slot ≡ slot) × Fits t a
+GoesOn (Ask helper map key on) slot a = ⊥
+GoesOn (Verdict n) slot a = ⊥
+GoesOn Trap slot a = ⊥
+
+-- where an instruction is not refused, the machine goes on in a state that fits
+abbrev pub IsSound : Outcome → (slot : ℕ) → Result Knowledge Cause → Type 0
+IsSound outcome slot (Err cause) = Unit {0}
+IsSound outcome slot (Ok a) = GoesOn outcome slot a
+
+-- an index of a map: not negative
+abbrev pub IsIndex : ℤ → Type 0
+IsIndex (pos index) = Unit {0}
+IsIndex (negsuc n) = ⊥
+
+-- an instruction that goes on to the next one, and leaves the frame pointer
+abbrev pub GoesStraight : Insn → Type 0
+GoesStraight (Alu op width dst src) = dst ≢ 10
+GoesStraight (Negate width dst) = dst ≢ 10
+GoesStraight (MoveSigned extension dst src) = dst ≢ 10
+GoesStraight (ByteSwap swap bits dst) = dst ≢ 10
+GoesStraight (Load size dst base offset) = dst ≢ 10
+GoesStraight (Store size base offset src) = Unit {0}
+GoesStraight (Jump condition width dst src offset) = ⊥
+GoesStraight (Goto distance) = ⊥
+GoesStraight (Wide dst value) = (dst ≢ 10) × (value < 2 ^ 64)
+GoesStraight (LoadMap dst index) = (dst ≢ 10) × IsIndex index
+GoesStraight (LoadAddress dst address) = ⊥
+GoesStraight (Call callee number) = ⊥
+GoesStraight Exit = ⊥

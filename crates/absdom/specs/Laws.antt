@@ -1,0 +1,47 @@
+-- What holds of the states of the verifier.
+use Rattle.std.specs.Prelude.{◌≡◌, ℕ, ◌+◌, ◌<◌, ◌^◌}
+use Rattle.bpf_insn.specs.declared.insn.Insn.{Insn}
+use Rattle.bpf_insn.specs.Spelling.{slots_of}
+use Rattle.machine.specs.Memory.{Header, IsHeader}
+use Rattle.machine.specs.State.{State, entry_state}
+use Rattle.machine.specs.Step.{perform, answered}
+use Rattle.absdom.specs.Knowledge.{Knowledge, IsBelow, IsJoin, IsEntry, AreAlike, after_call}
+use Rattle.absdom.specs.Effect.{applied}
+use Rattle.absdom.specs.Fits.{Fits, IsSound, GoesStraight}
+
+-- whatever fits the first fits the second, where the first is below it
+abbrev pub BelowFits : Type 0
+BelowFits = (s : State) (a b : Knowledge) → IsBelow a b → Fits s a → Fits s b
+
+abbrev pub BelowIsReflexive : Type 0
+BelowIsReflexive = (a : Knowledge) → IsBelow a a
+
+abbrev pub BelowIsTransitive : Type 0
+BelowIsTransitive = (a b c : Knowledge) → IsBelow a b → IsBelow b c → IsBelow a c
+
+-- a joint state is above both
+abbrev pub JoinIsAbove : Type 0
+JoinIsAbove = (a b joint : Knowledge) → IsJoin a b joint → IsBelow a joint × IsBelow b joint
+
+-- and below every state that is above both
+abbrev pub JoinIsLeast : Type 0
+JoinIsLeast = (a b joint c : Knowledge) → IsJoin a b joint → IsBelow a c → IsBelow b c → IsBelow joint c
+
+-- two states that are below each other have the same kinds and marks
+abbrev pub BelowIsAntisymmetric : Type 0
+BelowIsAntisymmetric = (a b : Knowledge) → IsBelow a b → IsBelow b a → AreAlike a b
+
+-- the state of the machine at entry fits the entry state
+abbrev pub EntryFits : Type 0
+EntryFits = (a : Knowledge) (port : ℕ) → IsEntry a → port < 32 → Fits (entry_state port) a
+
+-- whatever a helper answers, the state after its call fits
+abbrev pub CallFits : Type 0
+CallFits = (s : State) (a : Knowledge) (answer : ℕ) → answer < 2 ^ 64 → Fits s a → Fits (answered s answer) (after_call a)
+
+-- where an instruction is not refused, the machine goes on to the next one in a state that fits the result,
+-- from every state that fits
+abbrev pub ApplyFits : Type 0
+ApplyFits =
+    (header : Header) (s : State) (a : Knowledge) (insn : Insn) → IsHeader header → GoesStraight insn → Fits s a
+    → IsSound (perform header s insn) (s.slot + slots_of insn) (applied a insn)

@@ -1,0 +1,9 @@
+pub mod Codes
+pub mod Kinds
+pub mod Knowledge
+pub mod Marks
+pub mod Offsets
+pub mod Effect
+pub mod Edges
+pub mod Fits
+pub mod Laws

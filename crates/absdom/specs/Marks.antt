@@ -1,0 +1,16 @@
+-- Which bytes of the stack are set: a mark for each place (a choice of this project).
+use Rattle.std.specs.Prelude.{◌≡◌, ℕ, zero, suc, ◌+◌, Bool, true, false, ◌&&◌, List, length, slice_index_or, slice_set}
+
+-- whether the byte at a place is known to be set
+abbrev pub mark_at : List Bool → ℕ → Bool
+mark_at marks place = slice_index_or marks place false
+
+-- whether so many bytes from a place on are known to be set
+unfoldable pub all_marked : List Bool → (first count : ℕ) → Bool
+all_marked marks first zero = true
+all_marked marks first (suc count) = all_marked marks first count && mark_at marks (first + count)
+
+-- the marks after so many bytes were written from a place on
+unfoldable pub marked : List Bool → (first bytes : ℕ) → List Bool
+marked marks first zero = marks
+marked marks first (suc bytes) = slice_set (marked marks first bytes) (first + bytes) true

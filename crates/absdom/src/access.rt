@@ -1,0 +1,237 @@
+//! Loads and stores through a pointer (RFC 9669, section 5).
+
+ghost use Rattle.std.specs.Prelude.{◌≡◌, ◌+◌, ◌-◌, ◌^◌, ◌<◌, ◌≤◌, ◌≤ℤ◌, ◌+ℤ◌, pos, negsuc, IfSome, Some};
+ghost use Rattle.machine.specs.Memory.{place_within, place_of, size_bytes, load_bytes};
+ghost use Rattle.absdom.specs.Offsets.{IsOffset};
+ghost use Rattle.absdom.specs.Kinds.{number_of};
+ghost use Rattle.absdom.specs.Effect.{access_places, is_set, loaded_range, read_kind, load_kind, wrote, wrote_at, wrote_to, stored, AreInside};
+
+use crate::cause::Cause;
+use crate::kinds::AbsKind;
+use crate::offsets::Offsets;
+use crate::state::State;
+use absdom_num::Range;
+use bpf_insn::{LoadSize, Size};
+use machine::Region;
+
+/// How many bytes a store writes.
+fn size_bytes(size: Size) -> usize
+    ensures value { result ≡ size_bytes size }
+    ensures bound { result ≤ 8 }
+{
+    match size {
+        Size::Byte => 1,
+        Size::Half => 2,
+        Size::Word => 4,
+        Size::Double => 8,
+    }
+}
+
+/// How many bytes a load reads.
+fn load_bytes(size: LoadSize) -> usize
+    ensures value { result ≡ load_bytes size }
+    ensures bound { result ≤ 8 }
+{
+    match size {
+        LoadSize::LoadByte => 1,
+        LoadSize::LoadHalf => 2,
+        LoadSize::LoadWord => 4,
+        LoadSize::LoadDouble => 8,
+        LoadSize::SignedByte => 1,
+        LoadSize::SignedHalf => 2,
+        LoadSize::SignedWord => 4,
+    }
+}
+
+/// The place of the first of so many bytes, where all of them lie in memory of that size.
+fn place_within(size: usize, bytes: usize, place: i32) -> Option<usize>
+    requires size { size ≤ 512 }
+    requires bytes { bytes ≤ 8 }
+    ensures value { result ≡ place_within size bytes place }
+    ensures bound { IfSome result (λ first. first + bytes ≤ size) }
+{
+    if place < 0 {
+        return None;
+    }
+    let place = place.cast_unsigned() as usize;
+    if place + bytes <= size {
+        Some(place)
+    } else {
+        None
+    }
+}
+
+/// An offset of the stack, counted from its first byte.
+fn from_bottom(offset: i32) -> i32
+    requires low { negsuc 100000 ≤ℤ offset }
+    requires high { offset ≤ℤ pos 100000 }
+    ensures { result ≡ offset +ℤ pos 512 }
+{
+    offset + 512
+}
+
+/// The place in the region of an access of so many bytes, where it is wholly inside.
+fn place(region: Region, bytes: usize, offset: i32) -> Option<usize>
+    requires low { negsuc 100000 ≤ℤ offset }
+    requires high { offset ≤ℤ pos 100000 }
+    requires bytes { bytes ≤ 8 }
+    ensures value { result ≡ place_of region bytes offset }
+    ensures bound { IfSome result (λ first. first + bytes ≤ 512) }
+{
+    match region {
+        Region::Front => place_within(4, bytes, offset),
+        Region::Tail => place_within(12, bytes, offset),
+        Region::Stack => place_within(512, bytes, from_bottom(offset)),
+    }
+}
+
+/// The sum of a pointer's offset and an instruction's.
+fn offset_sum(start: i32, offset: i16) -> i32
+    requires { IsOffset start }
+    ensures value { result ≡ start +ℤ offset }
+    ensures low { negsuc 100000 ≤ℤ result }
+    ensures high { result ≤ℤ pos 100000 }
+{
+    start + i32::from(offset)
+}
+
+/// The first place of an access of so many bytes, at the least offset and at the greatest. `None` where
+/// one of the two is not wholly inside the region.
+fn access(region: Region, bytes: usize, offsets: Offsets, offset: i16) -> Option<(usize, usize)>
+    requires { bytes ≤ 8 }
+    ensures value { result ≡ access_places region bytes offsets offset }
+    ensures inside { IfSome result (λ places. AreInside bytes places) }
+{
+    let lowest = place(region, bytes, offset_sum(offsets.low(), offset))?;
+    let highest = place(region, bytes, offset_sum(offsets.high(), offset))?;
+    Some((lowest, highest))
+}
+
+/// Whether all bytes of an access are set; those of the header always are.
+fn is_set(state: &State, region: Region, bytes: usize, lowest: usize, highest: usize) -> bool
+    requires { AreInside bytes (lowest, highest) }
+    ensures { result ≡ is_set region state.now.marks bytes (lowest, highest) }
+{
+    match region {
+        Region::Front => true,
+        Region::Tail => true,
+        Region::Stack => state.are_set(lowest, highest + bytes),
+    }
+}
+
+/// What a load gives.
+fn loaded_range(size: LoadSize) -> Range
+    ensures { result ≡ loaded_range size }
+{
+    match size {
+        LoadSize::LoadByte => Range::new(0, u64::from(u8::MAX)),
+        LoadSize::LoadHalf => Range::new(0, u64::from(u16::MAX)),
+        LoadSize::LoadWord => Range::new(0, u64::from(u32::MAX)),
+        LoadSize::LoadDouble => Range::whole(),
+        LoadSize::SignedByte => Range::whole(),
+        LoadSize::SignedHalf => Range::whole(),
+        LoadSize::SignedWord => Range::whole(),
+    }
+}
+
+/// A load from a region at one of these offsets.
+fn read(
+    state: &State,
+    size: LoadSize,
+    region: Region,
+    offsets: Offsets,
+    offset: i16,
+) -> Result<AbsKind, Cause>
+    ensures { result ≡ read_kind state.now size region (access_places region (load_bytes size) offsets offset) }
+{
+    let bytes = load_bytes(size);
+    match access(region, bytes, offsets, offset) {
+        Some((lowest, highest)) => {
+            if is_set(state, region, bytes, lowest, highest) {
+                Ok(AbsKind::Num(loaded_range(size)))
+            } else {
+                Err(Cause::UnsetStack)
+            }
+        }
+        None => Err(Cause::OutOfRegion),
+    }
+}
+
+/// A load through a pointer.
+pub(crate) fn load(
+    state: &State,
+    size: LoadSize,
+    base: &AbsKind,
+    offset: i16,
+) -> Result<AbsKind, Cause>
+    ensures { result ≡ load_kind state.now size base.now offset }
+{
+    match base {
+        AbsKind::Unset => Err(Cause::UnsetOperand),
+        AbsKind::Num(_) => Err(Cause::KindMismatch),
+        AbsKind::Ptr(region, offsets) => read(state, size, *region, *offsets, offset),
+        AbsKind::Map(_) => Err(Cause::KindMismatch),
+    }
+}
+
+/// A store to the stack at one of these offsets: it sets its bytes where there is one offset alone.
+fn write(state: &State, bytes: usize, offsets: Offsets, offset: i16) -> Result<State, Cause>
+    requires { bytes ≤ 8 }
+    ensures { result ≡ wrote_at state.now bytes (access_places Region.Stack bytes offsets offset) }
+{
+    match access(Region::Stack, bytes, offsets, offset) {
+        Some((lowest, highest)) => {
+            if lowest == highest {
+                Ok(state.with_bytes(lowest, lowest + bytes))
+            } else {
+                Ok(*state)
+            }
+        }
+        None => Err(Cause::OutOfRegion),
+    }
+}
+
+/// A store through a pointer of a value that is this one.
+pub(crate) fn store(
+    state: &State,
+    size: Size,
+    base: &AbsKind,
+    offset: i16,
+    value: &AbsKind,
+) -> Result<State, Cause>
+    ensures { result ≡ stored state.now (size_bytes size) base.now offset (number_of value.now) }
+{
+    match base {
+        AbsKind::Unset => Err(Cause::UnsetOperand),
+        AbsKind::Num(_) => Err(Cause::KindMismatch),
+        AbsKind::Ptr(region, offsets) => store_to(
+            state,
+            size_bytes(size),
+            *region,
+            *offsets,
+            offset,
+            value,
+        ),
+        AbsKind::Map(_) => Err(Cause::KindMismatch),
+    }
+}
+
+/// A store to a region: the header is read-only.
+fn store_to(
+    state: &State,
+    bytes: usize,
+    region: Region,
+    offsets: Offsets,
+    offset: i16,
+    value: &AbsKind,
+) -> Result<State, Cause>
+    requires { bytes ≤ 8 }
+    ensures { result ≡ stored state.now bytes (AbsKind.Ptr region offsets) offset (number_of value.now) }
+{
+    let _ = value.number()?;
+    match region {
+        Region::Front => Err(Cause::HeaderWrite),
+        Region::Tail => Err(Cause::HeaderWrite),
+        Region::Stack => write(state, bytes, offsets, offset),
+    }
+}

@@ -1,0 +1,42 @@
+//! Laws about states. Each function does nothing: its contract is the law.
+
+ghost use Rattle.absdom.specs.Laws.{BelowFits, BelowIsReflexive, BelowIsTransitive, BelowIsAntisymmetric, EntryFits, CallFits, JoinIsAbove, JoinIsLeast, ApplyFits};
+
+/// A law and no work: whatever fits a state fits every state above it, and the order is one.
+pub fn order_of_states()
+    ensures fits { BelowFits }
+    ensures reflexive { BelowIsReflexive }
+    ensures transitive { BelowIsTransitive }
+    ensures antisymmetric { BelowIsAntisymmetric }
+{}
+
+/// A law and no work: from every state of the machine that fits what is known, an instruction that
+/// [`apply`] does not refuse goes on, in a state that fits what `apply` gives.
+///
+/// [`apply`]: crate::apply
+pub fn apply_fits()
+    ensures { ApplyFits }
+{
+    absdom_num::results_fit();
+}
+
+/// A law and no work: the machine's state at entry fits [`State::entry`].
+///
+/// [`State::entry`]: crate::State::entry
+pub fn entry_fits()
+    ensures { EntryFits }
+{}
+
+/// A law and no work: whatever a helper answers, the machine's state after the call fits
+/// [`State::after_call`] of a state that fitted before.
+///
+/// [`State::after_call`]: crate::State::after_call
+pub fn after_call_fits()
+    ensures { CallFits }
+{}
+
+/// A law and no work: a joint state is above both, and below every state that is above both.
+pub fn join_is_least()
+    ensures above { JoinIsAbove }
+    ensures least { JoinIsLeast }
+{}

@@ -1,0 +1,87 @@
+//! The offsets that a pointer may have.
+
+ghost use Rattle.std.specs.Prelude.{◌≡◌, ◌↔◌, IsTrue, pos};
+ghost use Rattle.absdom.specs.Offsets.{joined_offsets, AreAmong, offsets_within, IsOffset};
+
+use std::marker::Model;
+
+/// The greatest distance of a pointer from the start of its region.
+const LIMIT: i32 = 65_536;
+
+/// The least and the greatest offset of a pointer, in bytes from where its region begins (from the end of
+/// the stack), each within -65,536 to 65,536.
+#[derive(Clone, Copy, Debug, PartialEq, Eq)]
+pub struct Offsets {
+    low: i32,
+    high: i32,
+}
+
+impl Model for Offsets {
+    ghost use Rattle.std.specs.Prelude.{ℤ};
+    ghost use Rattle.absdom.specs.Offsets.{IsOffset};
+
+    ghost Value = { ℤ × ℤ };
+
+    ghost view = { λ o. (o.low, o.high) };
+
+    ghost invariant = { λ o. IsOffset o.low × IsOffset o.high };
+
+    ghost inverse = { λ d. record { low = d.0; high = d.1 } };
+}
+
+impl Offsets {
+    /// The start of a region alone.
+    pub fn zero() -> Offsets
+        ensures { result ≡ (pos 0, pos 0) }
+    {
+        Offsets { low: 0, high: 0 }
+    }
+
+    /// The offsets from `low` to `high`. `None` where one of them is outside -65,536 to 65,536.
+    pub fn within(low: i128, high: i128) -> Option<Offsets>
+        ensures { result ≡ offsets_within low high }
+    {
+        let limit = i128::from(LIMIT);
+        if -limit <= low && low <= limit && -limit <= high && high <= limit {
+            Some(Offsets {
+                low: low as i32,
+                high: high as i32,
+            })
+        } else {
+            None
+        }
+    }
+
+    /// The least offset.
+    pub fn low(self) -> i32
+        ensures value { result ≡ self.0 }
+        ensures within { IsOffset result }
+    {
+        self.low
+    }
+
+    /// The greatest offset.
+    pub fn high(self) -> i32
+        ensures value { result ≡ self.1 }
+        ensures within { IsOffset result }
+    {
+        self.high
+    }
+
+    /// The least offsets that hold both.
+    pub fn join(self, other: Offsets) -> Offsets
+        ensures { result ≡ joined_offsets self other }
+    {
+        Offsets {
+            low: self.low.min(other.low),
+            high: self.high.max(other.high),
+        }
+    }
+
+    /// Whether these offsets are among the others.
+    pub fn leq(self, other: Offsets) -> bool
+        ensures { IsTrue result ↔ AreAmong self other }
+    {
+        other.low <= self.low && self.high <= other.high
+    }
+}

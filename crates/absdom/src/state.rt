@@ -1,0 +1,170 @@
+//! What is known at a slot.
+
+ghost use Rattle.std.specs.Prelude.{◌≡◌, ◌<◌, ◌≤◌, ◌-◌, ℕ, ◌↔◌, IsTrue, false, length};
+ghost use Rattle.absdom.specs.Kinds.{joined, IsKindBelow};
+ghost use Rattle.absdom.specs.Knowledge.{IsKnowledge, IsBelow, IsJoin, IsEntry, kind_at, kind_in, with_kind, with_marks, after_call, entry_kinds, AreJoined, AreBelow};
+ghost use Rattle.absdom.specs.Marks.{mark_at, all_marked, marked};
+
+use crate::kinds::AbsKind;
+use crate::marks::Marks;
+use crate::offsets::Offsets;
+use absdom_num::Range;
+use bpf_insn::Register;
+use machine::Region;
+use std::marker::Model;
+
+/// How many registers the machine has: r0 to r10.
+const REGISTERS: usize = 11;
+
+/// What is known at a slot: the kind of each register, and which bytes of the stack are set.
+#[derive(Clone, Copy, Debug, PartialEq, Eq)]
+pub struct State {
+    kinds: [AbsKind; REGISTERS],
+    marks: Marks,
+}
+
+impl Model for State {
+    ghost use Rattle.std.specs.Prelude.{◌≡◌, length};
+    ghost use Rattle.absdom.specs.Knowledge.{Knowledge};
+
+    ghost Value = { Knowledge };
+
+    ghost view = { λ s. record { kinds = s.kinds; marks = s.marks } };
+
+    ghost invariant = { λ s. (length s.kinds ≡ 11) × (length s.marks ≡ 512) };
+
+    ghost inverse = { λ k. record { kinds = k.kinds; marks = k.marks } };
+}
+
+impl State {
+    /// What the calling rules say at entry: r1 points to the front of the header, r2 to its tail, r10 to
+    /// the end of the stack, r3 is a port, 0 to 31. All else is unset.
+    pub fn entry() -> State
+        ensures entry { IsEntry result }
+        ensures known { IsKnowledge result }
+    {
+        State {
+            kinds: kinds_at_entry(),
+            marks: Marks::none(),
+        }
+    }
+
+    /// What is known of a register.
+    pub fn kind(&self, register: Register) -> AbsKind
+        ensures { result ≡ kind_at self.now register }
+    {
+        self.kinds[usize::from(register.number())]
+    }
+
+    /// The state after the register was written.
+    pub fn with(&self, register: Register, kind: AbsKind) -> State
+        ensures { result ≡ with_kind self.now register kind }
+    {
+        let mut state = *self;
+        state.kinds[usize::from(register.number())] = kind;
+        state
+    }
+
+    /// The least state above both: register by register, and a byte is set where it is in both.
+    pub fn join(&self, other: &State) -> State
+        ensures joint { IsJoin self.now other.now result }
+        ensures known { IsKnowledge result }
+    {
+        State {
+            kinds: join_kinds(&self.kinds, &other.kinds),
+            marks: self.marks.join(&other.marks),
+        }
+    }
+
+    /// Whether this state says all that the other says.
+    pub fn leq(&self, other: &State) -> bool
+        ensures { IsTrue result ↔ IsBelow self.now other.now }
+    {
+        are_below(&self.kinds, &other.kinds) && self.marks.leq(&other.marks)
+    }
+
+    /// The state after a helper was called: r0 is any number, r1 to r5 are unset (RFC 9669, section 2).
+    pub fn after_call(&self) -> State
+        ensures { result ≡ after_call self.now }
+    {
+        let mut state = *self;
+        state.kinds[0] = AbsKind::Num(Range::whole());
+        state.kinds[1] = AbsKind::Unset;
+        state.kinds[2] = AbsKind::Unset;
+        state.kinds[3] = AbsKind::Unset;
+        state.kinds[4] = AbsKind::Unset;
+        state.kinds[5] = AbsKind::Unset;
+        state
+    }
+
+    /// Whether the bytes of the stack from place `first` to before `end` are set.
+    pub(crate) fn are_set(&self, first: usize, end: usize) -> bool
+        requires { end ≤ 512 }
+        ensures { result ≡ all_marked self.now.marks first (end - first) }
+    {
+        self.marks.are_set(first, end)
+    }
+
+    /// The state after the bytes of the stack from place `first` to before `end` were written.
+    pub(crate) fn with_bytes(&self, first: usize, end: usize) -> State
+        requires order { first ≤ end }
+        requires inside { end ≤ 512 }
+        ensures { result ≡ with_marks self.now (marked self.now.marks first (end - first)) }
+    {
+        let mut state = *self;
+        state.marks.mark(first, end);
+        state
+    }
+}
+
+/// The kinds of the registers at entry.
+fn kinds_at_entry() -> [AbsKind; REGISTERS]
+    ensures { result ≡ entry_kinds }
+{
+    [
+        AbsKind::Unset,
+        AbsKind::Ptr(Region::Front, Offsets::zero()),
+        AbsKind::Ptr(Region::Tail, Offsets::zero()),
+        AbsKind::Num(Range::new(0, 31)),
+        AbsKind::Unset,
+        AbsKind::Unset,
+        AbsKind::Unset,
+        AbsKind::Unset,
+        AbsKind::Unset,
+        AbsKind::Unset,
+        AbsKind::Ptr(Region::Stack, Offsets::zero()),
+    ]
+}
+
+/// The kind of a register.
+fn kind_of(kinds: &[AbsKind; REGISTERS], register: usize) -> AbsKind
+    requires { register < 11 }
+    ensures { result ≡ kind_in kinds.now register }
+{
+    kinds[register]
+}
+
+/// Register by register the least kind above both.
+fn join_kinds(a: &[AbsKind; REGISTERS], b: &[AbsKind; REGISTERS]) -> [AbsKind; REGISTERS]
+    ensures kinds { AreJoined a.now b.now result }
+    ensures size { length result ≡ 11 }
+{
+    let mut joint = [AbsKind::Unset; REGISTERS];
+    for register in 0..REGISTERS {
+        let kind = kind_of(a, register).join(&kind_of(b, register));
+        joint[register] = kind;
+    }
+    joint
+}
+
+/// Whether each kind is below the other's of the same register.
+fn are_below(a: &[AbsKind; REGISTERS], b: &[AbsKind; REGISTERS]) -> bool
+    ensures { IsTrue result ↔ AreBelow a.now b.now }
+{
+    for register in 0..REGISTERS {
+        if !a[register].leq(&b[register]) {
+            return false;
+        }
+    }
+    true
+}

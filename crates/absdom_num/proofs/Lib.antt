@@ -1,0 +1,11 @@
+pub mod Shifts
+pub mod Ones
+pub mod Cases
+pub mod Quotients
+pub mod Bounds
+pub mod Fits
+pub mod Unary
+pub mod Refining
+pub mod Order
+pub mod Growing
+pub mod Tightening

@@ -1,0 +1,111 @@
+-- Laws of the tables
+use Rattle.std.specs.Prelude.{◌≡◌, ℕ, ◌-◌, ◌^◌, ◌<◌, ◌≤◌, Bool, true, false, Option, Some, None}
+use Rattle.bpf_insn.specs.declared.operation.Width.{Width}
+use Rattle.bpf_insn.specs.declared.operation.AluOp.{AluOp}
+use Rattle.bpf_insn.specs.declared.operation.Condition.{Condition}
+use Rattle.bpf_insn.specs.declared.operation.Extension.{Extension}
+use Rattle.bpf_insn.specs.declared.operation.Swap.{Swap}
+use Rattle.bpf_insn.specs.declared.operation.SwapBits.{SwapBits}
+use Rattle.machine.specs.Words.{alu_words, negated, extended, swapped, holds_words}
+use Rattle.absdom_num.specs.declared.ranges.Range.{Range}
+use Rattle.absdom_num.specs.declared.refinement.Operands.{Operands}
+use Rattle.absdom_num.specs.declared.refinement.Edges.{Edges}
+use Rattle.absdom_num.specs.Ranges.{IsRange, IsIn, IsWithin, joined}
+use Rattle.absdom_num.specs.Tables.{ones_over, alu_range, negated_range, extended_range, swapped_range}
+use Rattle.absdom_num.specs.Refinement.{refined}
+
+-- every result of numbers in the operands' ranges lies in the result's range
+abbrev pub AluFits : Type 0
+AluFits =
+    (op : AluOp) (width : Width) (a b : Range) (n m : ℕ) → IsIn n a → IsIn m b
+    → IsIn (alu_words op width n m) (alu_range op width a b)
+
+abbrev pub NegateFits : Type 0
+NegateFits =
+    (width : Width) (a : Range) (n : ℕ) → IsIn n a → IsIn (negated width n) (negated_range width a)
+
+abbrev pub MoveSignedFits : Type 0
+MoveSignedFits =
+    (extension : Extension) (a : Range) (n : ℕ) → IsIn n a
+    → IsIn (extended extension n) (extended_range extension a)
+
+abbrev pub ByteSwapFits : Type 0
+ByteSwapFits =
+    (swap : Swap) (bits : SwapBits) (a : Range) (n : ℕ) → IsIn n a
+    → IsIn (swapped swap bits n) (swapped_range swap bits a)
+
+-- the edge that is followed where a comparison is true or false
+abbrev pub followed : Bool → Edges → Option Operands
+followed true edges = edges.taken
+followed false edges = edges.not_taken
+
+-- the numbers lie in an edge's ranges. None do where the edge is not followed
+abbrev pub AreIn : ℕ → ℕ → Option Operands → Type 0
+AreIn n m None = ⊥
+AreIn n m (Some operands) = IsIn n operands.dst × IsIn m operands.src
+
+-- numbers in the operands' ranges lie in the ranges of the edge that they take
+abbrev pub RefineFits : Type 0
+RefineFits =
+    (condition : Condition) (width : Width) (a b : Range) (n m : ℕ) → IsIn n a → IsIn m b
+    → AreIn n m (followed (holds_words condition width n m) (refined condition width a b))
+
+-- larger operands give results that are at least as large
+abbrev pub AluGrows : Type 0
+AluGrows =
+    (op : AluOp) (width : Width) (a b c d : Range) → IsRange a → IsRange b → IsWithin a c → IsWithin b d
+    → IsWithin (alu_range op width a b) (alu_range op width c d)
+
+abbrev pub NegateGrows : Type 0
+NegateGrows =
+    (width : Width) (a c : Range) → IsRange a → IsWithin a c
+    → IsWithin (negated_range width a) (negated_range width c)
+
+abbrev pub MoveSignedGrows : Type 0
+MoveSignedGrows =
+    (extension : Extension) (a c : Range) → IsRange a → IsWithin a c
+    → IsWithin (extended_range extension a) (extended_range extension c)
+
+abbrev pub ByteSwapGrows : Type 0
+ByteSwapGrows =
+    (swap : Swap) (bits : SwapBits) (a c : Range) → IsRange a → IsWithin a c
+    → IsWithin (swapped_range swap bits a) (swapped_range swap bits c)
+
+-- what one edge leads to, the other does too, with ranges at least as large
+abbrev pub IsBelow : Option Operands → Option Operands → Type 0
+IsBelow None other = Unit {0}
+IsBelow (Some operands) None = ⊥
+IsBelow (Some operands) (Some other) = IsWithin operands.dst other.dst × IsWithin operands.src other.src
+
+pub record AreBelow (edges others : Edges) : Type 0 where
+  pub taken : IsBelow edges.taken others.taken
+  pub not_taken : IsBelow edges.not_taken others.not_taken
+
+abbrev pub RefineGrows : Type 0
+RefineGrows =
+    (condition : Condition) (width : Width) (a b c d : Range) → IsRange a → IsRange b → IsWithin a c → IsWithin b d
+    → AreBelow (refined condition width a b) (refined condition width c d)
+
+-- containment is an order
+abbrev pub IsOrder : Type 0
+IsOrder =
+    ((a : Range) → IsWithin a a)
+    × ((a b c : Range) → IsWithin a b → IsWithin b c → IsWithin a c)
+    × ((a b : Range) → IsWithin a b → IsWithin b a → a ≡ b)
+
+-- what a range holds, each larger one does
+abbrev pub IsSound : Type 0
+IsSound = (a b : Range) (n : ℕ) → IsWithin a b → IsIn n a → IsIn n b
+
+-- the join is the least range above both
+abbrev pub IsJoin : Type 0
+IsJoin =
+    (a b c : Range) → IsWithin a (joined a b) × IsWithin b (joined a b)
+    × (IsWithin a c → IsWithin b c → IsWithin (joined a b) c)
+
+-- the bound of OR and XOR is of the form 2^k - 1, at least the number, and no such number is less
+abbrev pub IsLeastOnes : Type 0
+IsLeastOnes =
+    (n : ℕ) → n < 2 ^ 64
+    → ((k : ℕ) × (ones_over n ≡ 2 ^ k - 1)) × (n ≤ ones_over n)
+    × ((k : ℕ) → n ≤ 2 ^ k - 1 → ones_over n ≤ 2 ^ k - 1)

@@ -1,0 +1,6 @@
+pub mod Reading
+pub mod Effect
+pub mod Answer
+pub mod Records
+pub mod Codes
+pub mod Limits

@@ -1,0 +1,104 @@
+-- What a bank, its journal and its shares are to those who read them.
+use Rattle.std.specs.Prelude.{◌≡◌, ◌≤◌, ℕ, ◌+◌, ◌-◌, ◌^◌, Bool, ◌==◌, ◌&&◌, nat_lt, List, length, slice_index, fold, None, true, replicate, Option, if◌then◌else◌, nat_le, slice_get}
+use Rattle.spw.specs.Cargo.{Cargo}
+use Rattle.rmap.specs.declared.places.Place.{Place}
+use Rattle.rmap.specs.declared.status.Status.{Status}
+use Rattle.rmap.specs.Ranges.{lies_inside}
+use Rattle.bank.specs.Reading.{command_of, IsAdmitted}
+use Rattle.bank.specs.Effect.{Memory}
+use Rattle.bank.specs.Answer.{effect_at, is_success}
+use Rattle.rmap.specs.Checks.{body_line}
+
+-- a judged command: its packet, where its bytes lie, and who judged what
+pub record Judgement : Type 0 where
+  pub packet : Cargo
+  pub place : Place
+  pub port : ℕ
+  pub generation : ℕ
+  pub verdict : ℕ
+
+-- one line of a journal: the command of that number of a port at this bank, and how it ended
+pub record Logged : Type 0 where
+  pub port : ℕ
+  pub number : ℕ
+  pub packet : Cargo
+  pub generation : ℕ
+  pub verdict : ℕ
+  pub status : Status
+
+-- a port, and the number of its next command at a bank
+pub record Turn : Type 0 where
+  pub port : ℕ
+  pub number : ℕ
+
+-- a journal: its entries, oldest first, and how many it has room for
+pub record Log : Type 0 where
+  pub entries : List Logged
+  pub room : ℕ
+
+-- a bank: the address of its first byte, its bytes and those that its journal begins with, the
+-- journal, and for each port the number of its next command
+pub record Contents : Type 0 where
+  pub first : ℕ
+  pub bytes : List ℕ
+  pub base : List ℕ
+  pub journal : Log
+  pub counts : List ℕ
+
+-- memory after an entry: the command's effect where it was executed
+abbrev pub redone : Memory → Logged → Memory
+redone m entry = (effect_at entry.status m (command_of entry.packet)).memory
+
+-- memory after the entries of a journal, in order
+abbrev pub replay : Memory → List Logged → Memory
+replay base entries = fold redone base entries
+
+-- the memory of a bank
+abbrev pub memory_of : Contents → Memory
+memory_of b = record { first = b.first; bytes = b.bytes }
+
+-- the byte at an address, of the bytes from the first address on
+abbrev pub byte_in : (first : ℕ) → List ℕ → (address : ℕ) → Option ℕ
+byte_in first bytes address = if nat_le first address then slice_get bytes (address - first) else None
+
+-- the journal has room for an entry, and the port's next number has a successor
+abbrev pub has_room : Contents → ℕ → Bool
+has_room b port = nat_lt (length b.journal.entries) b.journal.room && nat_lt (slice_index b.counts port) (2 ^ 64 - 1)
+
+-- the share's number is the bank's count of its port
+abbrev pub is_next : Contents → Turn → Bool
+is_next b share = nat_lt share.port (length b.counts) && share.number == slice_index b.counts share.port
+
+-- the share is the command's port's with the bank's count of that port, and the command's bytes lie
+-- in this bank
+abbrev pub fits : Contents → Turn → Judgement → Bool
+fits b share judged =
+    share.port == judged.port && is_next b share
+    && lies_inside b.first (length b.bytes) (command_of judged.packet)
+
+-- at success the packet is a command of a used kind, and no check of its header or its body holds
+abbrev pub IsExecutable : Status → Cargo → Type 0
+IsExecutable status p = is_success status ≡ true → IsAdmitted p × (body_line (command_of p) ≡ None)
+
+-- a bank has between 1 and 1,048,576 bytes below 2^32 and between 1 and 32 ports
+pub record IsBank (b : Contents) : Type 0 where
+  pub some : 1 ≤ length b.bytes
+  pub few : length b.bytes ≤ 1048576
+  pub below : b.first + length b.bytes ≤ 2 ^ 32
+  pub base : length b.base ≡ length b.bytes
+  pub ports : 1 ≤ length b.counts
+  pub few_ports : length b.counts ≤ 32
+
+-- the share of a port that has sent a bank no command
+abbrev pub first_share : ℕ → Turn
+first_share port = record { port = port; number = 0 }
+
+-- a bank of zeros, to which no command was applied
+abbrev pub fresh_bank : (base size : ℕ) → Log → ℕ → Contents
+fresh_bank base size journal ports = record {
+    first = base;
+    bytes = replicate size 0;
+    base = replicate size 0;
+    journal = journal;
+    counts = replicate ports 0
+  }

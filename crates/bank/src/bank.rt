@@ -1,0 +1,246 @@
+//! Banks of memory.
+
+ghost use Rattle.std.specs.Prelude.{◌≡◌, ◌≤◌, ◌<◌, ◌+◌, ◌-◌, ◌^◌, ◌⊎◌, ◌↔◌, [], ◌∷◌, ◌++◌, length, true, Some, None, IfOk, IsErrOf, slice_index, map, false};
+ghost use Rattle.rmap.specs.Ranges.{lies_inside};
+ghost use Rattle.bank.specs.Reading.{command_of};
+ghost use Rattle.bank.specs.Answer.{judged_line, status_of};
+ghost use Rattle.std.specs.List.{range_with_len};
+ghost use Rattle.bank.specs.Limits.{is_range, is_bank};
+ghost use Rattle.bank.specs.Records.{first_share, fresh_bank, byte_in, fits, is_next, has_room, IsExecutable};
+
+use crate::effect::execute;
+use crate::entry::Entry;
+use crate::faults::BankFault;
+use crate::journal::Journal;
+use crate::judged::Judged;
+use crate::share::Share;
+use rmap::{Command, ReplyBuf, Status, body_fault, put_reply};
+use std::alloc::{AllocError, Global};
+use std::marker::Model;
+
+/// The most bytes that a bank has.
+const MAX_SIZE: u32 = 1_048_576;
+
+/// The most ports that share a bank.
+const MAX_PORTS: u8 = 32;
+
+/// How a judged command ended at a bank.
+#[derive(Clone, Copy, Debug, PartialEq, Eq)]
+pub struct Applied {
+    /// The status of the command, and of its reply where it wants one.
+    pub status: Status,
+    /// The number of the entry that the command left in the journal, or `None` where it left none.
+    pub number: Option<u64>,
+}
+
+/// A bank of memory, with the journal of the commands that were applied to it.
+#[derive(Debug, Drop)]
+pub struct Bank {
+    first: u32,
+    bytes: Vec<u8>,
+    base: Vec<u8>,
+    journal: Journal,
+    counts: Vec<u64>,
+}
+
+impl Model for Bank {
+    ghost use Rattle.bank.specs.Records.{Contents, IsBank};
+
+    ghost Value = { Contents };
+
+    ghost view = { λ b. record { first = b.first; bytes = b.bytes.items; base = b.base.items; journal = b.journal; counts = b.counts.items } };
+
+    ghost invariant = { λ b. IsBank (record { first = b.first; bytes = b.bytes.items; base = b.base.items; journal = b.journal; counts = b.counts.items }) };
+}
+
+/// Whether a bank may have that many bytes from that address on.
+fn is_range(base: u32, size: u32) -> bool
+    ensures { result ≡ is_range base size }
+{
+    let end = u64::from(base) + u64::from(size);
+    1 <= size && size <= MAX_SIZE && end <= 1 << 32
+}
+
+/// The share of each port, in order.
+fn shares(alloc: Global, ports: u8) -> Result<Vec<Share>, AllocError>
+    ensures { IfOk result (λ shares. shares.items ≡ map first_share (range_with_len 0 ports)) }
+{
+    let mut shares = Vec::with_capacity(alloc, usize::from(ports))?;
+    for port in 0..ports {
+        shares.push(Share::first(port))?;
+    }
+    Ok(shares)
+}
+
+/// What stops a judged command before memory is touched: a verdict other than yes, then a fault of
+/// the body.
+fn judged_fault(command: &Command, verdict: u64) -> Option<Status>
+    ensures { result ≡ judged_line command.now verdict }
+{
+    match verdict {
+        0 => body_fault(command),
+        3 => Some(Status::InvalidKey),
+        12 => Some(Status::InvalidLogicalAddress),
+        _ => Some(Status::NotAuthorised),
+    }
+}
+
+impl Bank {
+    /// A bank of `size` zero bytes from the address `base` on, and a share of it for each port, in
+    /// order. `Size` for no bytes or more than 1,048,576, for bytes past the last address, for no
+    /// ports or more than 32, and for a journal that is not empty; `Memory` where memory was refused.
+    pub fn new(
+        alloc: Global,
+        base: u32,
+        size: u32,
+        journal: Journal,
+        ports: u8,
+    ) -> Result<(Bank, Vec<Share>), BankFault>
+        ensures bank { IfOk result (λ made. made.0 ≡ fresh_bank base size journal ports) }
+        ensures shares { IfOk result (λ made. made.1.items ≡ map first_share (range_with_len 0 ports)) }
+        ensures size { IsErrOf result BankFault.Size ↔ (is_bank base size journal ports ≡ false) }
+    {
+        if !is_range(base, size)
+            || ports == 0
+            || ports > MAX_PORTS
+            || !journal.entries().is_empty()
+        {
+            return Err(BankFault::Size);
+        }
+        let shares = shares(alloc, ports)?;
+        let bank = Bank {
+            first: base,
+            bytes: vec![in alloc; 0; size as usize]?,
+            base: vec![in alloc; 0; size as usize]?,
+            journal,
+            counts: vec![in alloc; 0; usize::from(ports)]?,
+        };
+        Ok((bank, shares))
+    }
+
+    /// The byte at an address, or `None` outside the bank.
+    pub fn memory(&self, address: u32) -> Option<u8>
+        ensures { result ≡ byte_in self.now.first self.now.bytes address }
+    {
+        let offset = address.checked_sub(self.first)?;
+        self.bytes.get(offset as usize).copied()
+    }
+
+    /// The byte at an address before the first entry of the journal, or `None` outside the bank.
+    pub fn base(&self, address: u32) -> Option<u8>
+        ensures { result ≡ byte_in self.now.first self.now.base address }
+    {
+        let offset = address.checked_sub(self.first)?;
+        self.base.get(offset as usize).copied()
+    }
+
+    /// The entries of the journal, oldest first.
+    pub fn entries(&self) -> &[Entry]
+        ensures { result.now ≡ self.now.journal.entries }
+    {
+        self.journal.entries()
+    }
+
+    /// How many ports share the bank.
+    pub fn ports(&self) -> u8
+        ensures value { result ≡ length self.now.counts }
+        ensures few { result ≤ 32 }
+    {
+        self.counts.len() as u8
+    }
+
+    /// How many commands of the port were recorded: the number of its next one.
+    pub fn count(&self, port: u8) -> u64
+        requires { port < length self.now.counts }
+        ensures { result ≡ slice_index self.now.counts port }
+    {
+        self.counts[usize::from(port)]
+    }
+
+    /// Whether the command may be applied with that share: the share is the command's port's, its
+    /// number is the bank's count of that port, and the command's bytes lie in this bank.
+    pub fn fits(&self, share: &Share, judged: &Judged) -> bool
+        ensures { result ≡ fits self.now share.now judged.now }
+    {
+        share.port() == judged.port() && self.is_next(share) && self.holds(&judged.command())
+    }
+
+    /// Whether the share's number is the bank's count of its port.
+    fn is_next(&self, share: &Share) -> bool
+        ensures { result ≡ is_next self.now share.now }
+    {
+        let port = usize::from(share.port());
+        port < self.counts.len() && share.number() == self.counts[port]
+    }
+
+    /// Whether the command's bytes lie in this bank.
+    fn holds(&self, command: &Command) -> bool
+        ensures { result ≡ lies_inside self.now.first (length self.now.bytes) command.now }
+    {
+        let address = u64::from(command.address());
+        let base = u64::from(self.first);
+        let end = base + self.bytes.len() as u64;
+        base <= address
+            && address < end
+            && (!command.increments() || address + u64::from(command.length()) <= end)
+    }
+
+    /// Whether the journal has room for another entry of the port.
+    fn has_room(&self, port: u8) -> bool
+        requires { port < length self.now.counts }
+        ensures { result ≡ has_room self.now port }
+    {
+        !self.journal.is_full() && self.counts[usize::from(port)] < u64::MAX
+    }
+
+    /// Executes a judged command, if its verdict is yes, its body is right and there is room, and
+    /// leaves the reply. While there is room each command leaves an entry, whatever its status.
+    pub fn apply(&mut self, share: &mut Share, judged: Judged, reply: &mut ReplyBuf) -> Applied
+        requires { fits self.old share.old judged ≡ true }
+    {
+        let room = self.has_room(judged.port());
+        let status = answer(&mut self.bytes, self.first, room, &judged, reply);
+        if !room {
+            drop(judged.into_packet());
+            return Applied {
+                status,
+                number: None,
+            };
+        }
+        let number = share.number();
+        share.advance();
+        self.counts[usize::from(judged.port())] += 1;
+        self.journal.push(Entry::new(number, judged, status));
+        Applied {
+            status,
+            number: Some(number),
+        }
+    }
+}
+
+/// Does what a judged command asks for, if it may be done, and leaves the reply.
+fn answer(
+    memory: &mut Vec<u8>,
+    first: u32,
+    room: bool,
+    judged: &Judged,
+    reply: &mut ReplyBuf,
+) -> Status
+    requires { lies_inside first (length memory.old.items) (command_of judged.now.packet) ≡ true }
+    ensures length { length memory.new.items ≡ length memory.old.items }
+    ensures status { result ≡ status_of room (command_of judged.now.packet) judged.now.verdict }
+    ensures executed { IsExecutable result judged.now.packet }
+{
+    let command = judged.command();
+    match judged_fault(&command, judged.verdict()) {
+        None if room => {
+            execute(memory, first, &command, reply);
+            Status::Success
+        }
+        fault => {
+            let status = fault.unwrap_or(Status::GeneralError);
+            put_reply(reply, &command, status, &[]);
+            status
+        }
+    }
+}

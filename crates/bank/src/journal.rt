@@ -1,0 +1,68 @@
+//! The journal of a bank.
+
+ghost use Rattle.std.specs.Prelude.{◌≡◌, ◌≤◌, ◌<◌, ◌⊎◌, ◌↔◌, [], ◌∷◌, ◌++◌, length, nat_le, IfOk, IsErrOf};
+
+use crate::entry::Entry;
+use crate::faults::BankFault;
+use std::alloc::Global;
+use std::marker::Model;
+
+/// The most entries that a journal has room for.
+const MAX_ROOM: u32 = 65_536;
+
+/// The entries of a bank's judged commands, oldest first. Its room is taken once, when it is made.
+#[derive(Debug, Drop)]
+pub struct Journal {
+    entries: Vec<Entry>,
+    room: u32,
+}
+
+impl Model for Journal {
+    ghost use Rattle.std.specs.Prelude.{◌≡◌, ◌≤◌, vec_len, vec_capacity};
+    ghost use Rattle.bank.specs.Records.{Log};
+
+    ghost Value = { Log };
+
+    ghost view = { λ j. record { entries = j.entries.items; room = j.room } };
+
+    ghost invariant = { λ j. (vec_len j.entries ≤ j.room) × (j.room ≤ vec_capacity j.entries) × (j.room ≤ 65536) };
+}
+
+impl Journal {
+    /// An empty journal with room for that many entries. `Size` for a room of 0 or over 65,536,
+    /// `Memory` where memory was refused.
+    pub fn new(alloc: Global, room: u32) -> Result<Journal, BankFault>
+        ensures ok { IfOk result (λ j. j ≡ record { entries = []; room = room }) }
+        ensures size { IsErrOf result BankFault.Size ↔ ((room ≡ 0) ⊎ (65536 < room)) }
+    {
+        if room == 0 || room > MAX_ROOM {
+            return Err(BankFault::Size);
+        }
+        Ok(Journal {
+            entries: Vec::with_capacity(alloc, room as usize)?,
+            room,
+        })
+    }
+
+    /// The entries, oldest first.
+    pub fn entries(&self) -> &[Entry]
+        ensures { result.now ≡ self.now.entries }
+    {
+        self.entries.as_slice()
+    }
+
+    /// Whether there is room for no more entries.
+    pub fn is_full(&self) -> bool
+        ensures { result ≡ nat_le self.now.room (length self.now.entries) }
+    {
+        self.entries.len() >= self.room as usize
+    }
+
+    /// Puts an entry at the end.
+    pub(crate) fn push(&mut self, entry: Entry)
+        requires { length self.old.entries < self.old.room }
+        ensures { self.new ≡ record self.old { entries = self.old.entries ++ entry ∷ [] } }
+    {
+        self.entries.push_reserved(entry);
+    }
+}

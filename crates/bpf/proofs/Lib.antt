@@ -1,0 +1,7 @@
+pub mod LoopList
+pub mod Front
+pub mod Spelled
+pub mod Whole
+pub mod Again
+pub mod WholeAgain
+pub mod Weighed

@@ -1,0 +1,81 @@
+-- A whole image is read as the program that it spells.
+use Rattle.std.proofs.Common.{◌≡◌, ℕ, ◌+◌, ◌*◌, ◌/◌, ◌%◌, ◌≤◌, ◌<◌, Bool, true, false, List, [], ◌++◌, Option, Ok, refl, sym, ap, ◌∙◌, append_assoc, arith, length, nat_lt, nat_le, subst, if◌then◌else◌, length-append}
+use Rattle.std.proofs.lemmas.Bool.Decides.{nat_tests}
+use Rattle.std.proofs.lemmas.Nat.{from_le_bytes-to_le_bytes_4}
+use Rattle.std.specs.List.{flat_map}
+use Rattle.bpf_insn.specs.declared.insn.Insn.{Insn}
+use Rattle.bpf.specs.declared.loops.Loop.{Loop}
+use Rattle.bpf.specs.Program.{Program, program, IsProgram, IsSlotCount, IsBudget, header_bytes, loop_bytes, slot_bytes, image_bytes}
+use Rattle.bpf.specs.Reading.{is_count, is_budget, header_reading, counts_reading, image_reading}
+use Rattle.bpf.proofs.Whole.{Cut, is_read}
+use Rattle.bpf.proofs.Again.{IsRead, slots_again, slots_length, loops_again, loops_length, half_again, drop_front, take_front}
+
+word_again : (n : ℕ) → n < 4294967296 → n % 256 + n / 256 % 256 * 256 + n / 65536 % 256 * 65536 + n / 16777216 % 256 * 16777216 ≡ n
+word_again n h = from_le_bytes-to_le_bytes_4 n h
+
+if_true : {X : Type 0} (b : Bool) (x y : X) → b ≡ true → (if b then x else y) ≡ x
+if_true true x y h = refl
+if_true false x y h = cc
+
+if_false : {X : Type 0} (b : Bool) (x y : X) → b ≡ false → (if b then x else y) ≡ y
+if_false true x y h = cc
+if_false false x y h = refl
+
+count_again : (loops slots : ℕ) → loops ≤ 8 → IsSlotCount slots → is_count loops slots 0 ≡ true
+count_again loops slots few many =
+    let a : nat_le loops 8 ≡ true = grind (arith, nat_tests) in
+    let b : nat_le 1 slots ≡ true = grind (arith, nat_tests, many.0) in
+    let c : nat_le slots 512 ≡ true = grind (arith, nat_tests, many.1) in
+    rw (a, b, c) refl
+
+budget_again : (budget : ℕ) → IsBudget budget → is_budget budget ≡ true
+budget_again budget h =
+    let a : nat_le 1 budget ≡ true = grind (arith, nat_tests, h.0) in
+    let b : nat_le budget 65536 ≡ true = grind (arith, nat_tests, h.1) in
+    rw (a, b) refl
+
+counts_again : (loops slots budget : ℕ) (rest : List ℕ) → loops ≤ 8 → IsSlotCount slots → IsBudget budget → counts_reading (header_bytes 1 loops slots budget ++ rest) ≡ Ok (record { loops = loops; slots = slots; budget = budget })
+unfolding counts_reading
+counts_again loops slots budget rest few many limit =
+    let s = half_again slots (omega (arith, many.1)) in
+    let b = word_again budget (omega (arith, limit.1)) in
+    rw (s, b) (if_true _ _ _ (count_again loops slots few many) ∙ if_true _ _ _ (budget_again budget limit))
+
+header_again : (loops slots budget : ℕ) (rest : List ℕ) → loops ≤ 8 → IsSlotCount slots → IsBudget budget → header_reading (header_bytes 1 loops slots budget ++ rest) ≡ Ok (record { loops = loops; slots = slots; budget = budget })
+unfolding header_reading
+header_again loops slots budget rest few many limit =
+    let size : length (header_bytes 1 loops slots budget ++ rest) ≡ 16 + length rest = length-append (header_bytes 1 loops slots budget) rest in
+    let a : nat_lt 4 (length (header_bytes 1 loops slots budget ++ rest)) ≡ true = grind (arith, nat_tests) in
+    let b : nat_lt (length (header_bytes 1 loops slots budget ++ rest)) 16 ≡ false = grind (arith, nat_tests) in
+    rw a (rw b (counts_again loops slots budget rest few many limit))
+
+cut_again : (budget : ℕ) (loops : List Loop) (slots : List (Option Insn)) → IsProgram (program budget loops slots) → Cut (image_bytes (program budget loops slots)) (record { loops = length loops; slots = length slots; budget = budget }) (header_bytes 1 (length loops) (length slots) budget ++ flat_map loop_bytes loops) (flat_map loop_bytes loops) (flat_map slot_bytes slots) (16 + 8 * length loops)
+unfolding image_bytes
+cut_again budget loops slots is =
+    let head = header_bytes 1 (length loops) (length slots) budget in
+    let size : length (head ++ flat_map loop_bytes loops) ≡ 16 + 8 * length loops = length-append head (flat_map loop_bytes loops) ∙ ap (λ (n : ℕ). 16 + n) (loops_length loops) in
+    let code : length (flat_map slot_bytes slots) ≡ 8 * length slots = slots_length slots false [] refl is.code in
+    record {
+      header = sym (ap header_reading (append_assoc head (flat_map loop_bytes loops) (flat_map slot_bytes slots)) ∙ header_again (length loops) (length slots) budget (flat_map loop_bytes loops ++ flat_map slot_bytes slots) is.few_loops is.slots is.budget);
+      len = omega (arith, length-append (head ++ flat_map loop_bytes loops) (flat_map slot_bytes slots), size, code);
+      at_code = refl;
+      is_front = sym (take_front (head ++ flat_map loop_bytes loops) (flat_map slot_bytes slots) (16 + 8 * length loops) size);
+      is_middle = sym (drop_front head (flat_map loop_bytes loops) 16 refl);
+      is_tail = sym (drop_front (head ++ flat_map loop_bytes loops) (flat_map slot_bytes slots) (16 + 8 * length loops) size);
+    }
+
+program_again : IsRead → (budget : ℕ) (loops : List Loop) (slots : List (Option Insn)) → IsProgram (program budget loops slots) → image_reading (image_bytes (program budget loops slots)) ≡ Ok (program budget loops slots)
+program_again law budget loops slots is =
+    is_read _ _ _ _ _ _ loops slots (cut_again budget loops slots is)
+    (loops_again (length slots) 0 loops is.loops is.slots.1)
+    (slots_again law slots 0 false [] refl is.code)
+
+-- the program is in version 1
+in_version : (p : Program) → p.version ≡ 1 → p ≡ program p.budget p.loops p.slots
+in_version p h = ap (λ (v : ℕ). let q : Program = record { version = v; budget = p.budget; loops = p.loops; slots = p.slots } in q) h
+
+pub image_again : IsRead → (p : Program) → IsProgram p → image_reading (image_bytes p) ≡ Ok p
+image_again law p is =
+    let same = in_version p is.version in
+    let again = program_again law p.budget p.loops p.slots (subst IsProgram same is) in
+    ap (λ (q : Program). image_reading (image_bytes q)) same ∙ again ∙ ap (λ (q : Program). Ok q) (sym same)

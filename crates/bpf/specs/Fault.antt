@@ -1,0 +1,24 @@
+-- The numbers of the faults of an image.
+use Rattle.std.specs.Prelude.{ℕ}
+use Rattle.bpf.specs.declared.fault.ImageFault.{ImageFault}
+use Rattle.bpf.specs.declared.fault.ImageFault.TheVariants.{Magic, Version, Length, Count, Budget, BadLoop, BadSlot, Memory}
+
+abbrev pub image_fault_code : ImageFault → ℕ
+image_fault_code Magic = 1
+image_fault_code Version = 2
+image_fault_code Length = 3
+image_fault_code Count = 4
+image_fault_code Budget = 5
+image_fault_code BadLoop = 6
+image_fault_code (BadSlot slot fault) = 7
+image_fault_code Memory = 8
+
+abbrev pub image_fault_slot : ImageFault → ℕ
+image_fault_slot Magic = 0
+image_fault_slot Version = 0
+image_fault_slot Length = 0
+image_fault_slot Count = 0
+image_fault_slot Budget = 0
+image_fault_slot BadLoop = 0
+image_fault_slot (BadSlot slot fault) = slot
+image_fault_slot Memory = 0

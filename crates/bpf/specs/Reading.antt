@@ -1,0 +1,135 @@
+-- How an image is read, from its first byte to its last, with the first fault that is met.
+use Rattle.std.specs.Prelude.{◌≡◌, ℕ, zero, suc, ◌+◌, ◌*◌, Bool, true, false, ◌&&◌, ◌==◌, nat_eq, nat_lt, nat_le, if◌then◌else◌, List, [], ◌∷◌, ◌++◌, length, take, drop, slice_index, Option, Some, None, is_some, Result, Ok, Err}
+use Rattle.std.specs.List.{starts_with}
+use Rattle.bpf_insn.specs.declared.insn.Insn.{Insn}
+use Rattle.bpf_insn.specs.declared.decoding.BadInsn.{BadInsn}
+use Rattle.bpf_insn.specs.Spelling.{second_immediate, Spells}
+use Rattle.bpf_insn.specs.Reading.{reading}
+use Rattle.bpf.specs.declared.header.Header.{Header}
+use Rattle.bpf.specs.declared.loops.Loop.{Loop}
+use Rattle.bpf.specs.declared.fault.ImageFault.{ImageFault}
+use Rattle.bpf.specs.declared.fault.ImageFault.TheVariants as faults
+use Rattle.bpf.specs.Program.{Program, program}
+
+infixl 10 ◌>>=◌
+abbrev pub ◌>>=◌ : {A B : Type 0} → Result A ImageFault → (A → Result B ImageFault) → Result B ImageFault
+(Ok x) >>= f = f x
+(Err e) >>= f = Err e
+
+-- what a function returned, seen by view, is what reading gives, unless memory was refused
+abbrev pub Fails : {Y : Type 0} → ImageFault → Result Y ImageFault → Type 0
+Fails faults.Memory read = Unit {0}
+Fails faults.Magic read = read ≡ Err faults.Magic
+Fails faults.Version read = read ≡ Err faults.Version
+Fails faults.Length read = read ≡ Err faults.Length
+Fails faults.Count read = read ≡ Err faults.Count
+Fails faults.Budget read = read ≡ Err faults.Budget
+Fails faults.BadLoop read = read ≡ Err faults.BadLoop
+Fails (faults.BadSlot slot fault) read = read ≡ Err (faults.BadSlot slot fault)
+
+abbrev pub Gives : {X Y : Type 0} → (X → Y) → Result X ImageFault → Result Y ImageFault → Type 0
+Gives view (Ok x) read = read ≡ Ok (view x)
+Gives view (Err e) read = Fails e read
+
+-- the number in two bytes, the lowest first
+abbrev pub half_at : ℕ → List ℕ → ℕ
+half_at place bytes = slice_index bytes place + slice_index bytes (place + 1) * 256
+
+-- the number in four bytes, the lowest first
+abbrev pub word_at : ℕ → List ℕ → ℕ
+word_at place bytes =
+    slice_index bytes place + slice_index bytes (place + 1) * 256 + slice_index bytes (place + 2) * 65536 + slice_index bytes (place + 3) * 16777216
+
+-- "BPFA"
+abbrev pub magic : List ℕ
+magic = 66 ∷ 80 ∷ 70 ∷ 65 ∷ []
+
+abbrev pub is_count : (loops slots reserved : ℕ) → Bool
+is_count loops slots reserved = nat_le loops 8 && nat_le 1 slots && nat_le slots 512 && reserved == 0
+
+abbrev pub is_budget : ℕ → Bool
+is_budget budget = nat_le 1 budget && nat_le budget 65536
+
+-- the counts and the budget
+unfoldable pub counts_reading : List ℕ → Result Header ImageFault
+counts_reading bytes =
+    if is_count (slice_index bytes 5) (half_at 6 bytes) (word_at 12 bytes)
+    then (if is_budget (word_at 8 bytes)
+    then Ok (record { loops = slice_index bytes 5; slots = half_at 6 bytes; budget = word_at 8 bytes })
+    else Err faults.Budget)
+    else Err faults.Count
+
+unfoldable pub header_reading : List ℕ → Result Header ImageFault
+header_reading bytes =
+    if starts_with nat_eq bytes magic
+    then (if nat_lt 4 (length bytes) && slice_index bytes 4 == 1
+    then (if nat_lt (length bytes) 16 then Err faults.Length else counts_reading bytes)
+    else Err faults.Version)
+    else Err faults.Magic
+
+-- whether these are the fields of a loop whose head may follow
+abbrev pub is_loop : (slots least head back bound number zero : ℕ) → Bool
+is_loop slots least head back bound number last =
+    nat_le least head && nat_lt head back && nat_lt back slots && nat_le 1 bound && nat_le bound 4096 && nat_le number 9 && last == 0
+
+unfoldable pub loop_reading : (slots least : ℕ) → List ℕ → Result Loop ImageFault
+loop_reading slots least bytes =
+    if is_loop slots least (half_at 0 bytes) (half_at 2 bytes) (half_at 4 bytes) (slice_index bytes 6) (slice_index bytes 7)
+    then Ok (record { head = half_at 0 bytes; back = half_at 2 bytes; bound = half_at 4 bytes; register = slice_index bytes 6 })
+    else Err faults.BadLoop
+
+unfoldable pub loops_reading : (slots count least : ℕ) → List ℕ → Result (List Loop) ImageFault
+loops_reading slots zero least bytes = Ok []
+loops_reading slots (suc n) least bytes =
+    loop_reading slots least bytes >>= (λ l.
+    loops_reading slots n (l.head + 1) (drop 8 bytes) >>= (λ ls.
+    Ok (l ∷ ls)))
+
+-- the next slot, where it is there
+abbrev pub slot_in : List ℕ → Option (List ℕ)
+slot_in bytes = if nat_lt (length bytes) 8 then None else Some (take 8 bytes)
+
+abbrev pub found_at : ℕ → Result Insn BadInsn → Result (Option Insn) ImageFault
+found_at slot (Ok insn) = Ok (Some insn)
+found_at slot (Err fault) = Err (faults.BadSlot slot fault)
+
+-- a slot, where it is known whether it is the second of an instruction
+unfoldable pub slot_reading : (slot : ℕ) (second : Bool) → List ℕ → Result (Option Insn) ImageFault
+slot_reading slot true bytes = Ok None
+slot_reading slot false bytes = found_at slot (reading (take 8 bytes) (slot_in (drop 8 bytes)))
+
+-- whether an instruction of two slots begins there
+abbrev pub begins_two : Option Insn → Bool
+begins_two None = false
+begins_two (Some insn) = is_some (second_immediate insn)
+
+-- what the bytes at a slot spell
+abbrev pub IsSlot : (second : Bool) → List ℕ → Option Insn → Type 0
+IsSlot true bytes None = Unit {0}
+IsSlot true bytes (Some insn) = ⊥
+IsSlot false bytes None = ⊥
+IsSlot false bytes (Some insn) = Spells (take 8 bytes) (slot_in (drop 8 bytes)) insn
+
+-- a slot that was read was appended, and it is known whether an instruction of two begins there
+pub record PushesSlot (old new : List (Option Insn)) (slot : ℕ) (second : Bool) (bytes : List ℕ) (two : Bool) : Type 0 where
+  pub found : Option Insn
+  pub read : slot_reading slot second bytes ≡ Ok found
+  pub appended : new ≡ old ++ found ∷ []
+  pub next : two ≡ begins_two found
+  pub spelled : IsSlot second bytes found
+
+unfoldable pub slots_reading : (count slot : ℕ) (second : Bool) → List ℕ → Result (List (Option Insn)) ImageFault
+slots_reading zero slot second bytes = Ok []
+slots_reading (suc n) slot second bytes =
+    slot_reading slot second bytes >>= (λ x.
+    slots_reading n (slot + 1) (begins_two x) (drop 8 bytes) >>= (λ xs.
+    Ok (x ∷ xs)))
+
+unfoldable pub image_reading : List ℕ → Result Program ImageFault
+image_reading bytes =
+    header_reading bytes >>= (λ h.
+    if length bytes == 16 + 8 * h.loops + 8 * h.slots
+    then (loops_reading h.slots h.loops 0 (drop 16 (take (16 + 8 * h.loops) bytes)) >>= (λ loops.
+    slots_reading h.slots 0 false (drop (16 + 8 * h.loops) bytes) >>= (λ slots.
+    Ok (program h.budget loops slots))))
+    else Err faults.Length)

@@ -1,0 +1,86 @@
+//! The first 16 bytes of an image.
+
+ghost use Rattle.std.specs.Prelude.{◌≡◌, ◌≤◌, ◌==◌, ◌&&◌, nat_lt, slice_index, length, take, drop, IfOk};
+ghost use Rattle.bpf.specs.Program.{IsBudget, IsSlotCount, header_bytes};
+ghost use Rattle.bpf.specs.Reading.{counts_reading, header_reading, is_budget, is_count};
+
+use crate::fault::ImageFault;
+
+const MAGIC: [u8; 4] = *b"BPFA";
+
+const VERSION: u8 = 1;
+/// The most loops of an image.
+const MAX_LOOPS: u8 = 8;
+/// The most slots of an image.
+const MAX_SLOTS: u16 = 512;
+/// The greatest budget of an image.
+const MAX_BUDGET: u32 = 65_536;
+
+/// What the first 16 bytes declare.
+#[derive(Clone, Copy)]
+pub struct Header {
+    pub loops: u8,
+    pub slots: u16,
+    pub budget: u32,
+}
+
+/// The header of an image.
+#[tactic(auto, unfolding(crate::specs::Reading::header_reading))]
+pub fn read_header(bytes: &[u8]) -> Result<Header, ImageFault>
+    ensures value { result ≡ header_reading bytes.now }
+    ensures limits { IfOk result (λ h. (h.loops ≤ 8) × IsSlotCount h.slots × IsBudget h.budget) }
+    ensures spelled { IfOk result (λ h. take 16 bytes.now ≡ header_bytes 1 h.loops h.slots h.budget) }
+{
+    if !bytes.starts_with(&MAGIC) {
+        return Err(ImageFault::Magic);
+    }
+    if !has_version(bytes) {
+        return Err(ImageFault::Version);
+    }
+    if bytes.len() < 16 {
+        return Err(ImageFault::Length);
+    }
+    read_counts(bytes)
+}
+
+fn has_version(bytes: &[u8]) -> bool
+    ensures { result ≡ (nat_lt 4 (length bytes.now) && slice_index bytes.now 4 == 1) }
+{
+    bytes.len() > 4 && bytes[4] == VERSION
+}
+
+#[tactic(auto, unfolding(crate::specs::Reading::counts_reading))]
+fn read_counts(bytes: &[u8]) -> Result<Header, ImageFault>
+    requires { 16 ≤ length bytes.now }
+    ensures value { result ≡ counts_reading bytes.now }
+    ensures limits { IfOk result (λ h. (h.loops ≤ 8) × IsSlotCount h.slots × IsBudget h.budget) }
+    ensures spelled { IfOk result (λ h. drop 5 (take 16 bytes.now) ≡ drop 5 (header_bytes 1 h.loops h.slots h.budget)) }
+{
+    let loops = bytes[5];
+    let slots = u16::from_le_bytes([bytes[6], bytes[7]]);
+    let budget = u32::from_le_bytes([bytes[8], bytes[9], bytes[10], bytes[11]]);
+    let reserved = u32::from_le_bytes([bytes[12], bytes[13], bytes[14], bytes[15]]);
+    if !is_count(loops, slots, reserved) {
+        return Err(ImageFault::Count);
+    }
+    if !is_budget(budget) {
+        return Err(ImageFault::Budget);
+    }
+    Ok(Header {
+        loops,
+        slots,
+        budget,
+    })
+}
+
+fn is_count(loops: u8, slots: u16, reserved: u32) -> bool
+    ensures { result ≡ is_count loops slots reserved }
+{
+    loops <= MAX_LOOPS && 1 <= slots && slots <= MAX_SLOTS && reserved == 0
+}
+
+fn is_budget(budget: u32) -> bool
+    ensures { result ≡ is_budget budget }
+{
+    1 <= budget && budget <= MAX_BUDGET
+}

@@ -1,0 +1,129 @@
+//! An image.
+
+ghost use Rattle.std.specs.Prelude.{◌≡◌, ◌≤◌, length, IfOk, slice_index_or, None};
+ghost use Rattle.bpf.specs.Program.{IsProgram, image_bytes};
+ghost use Rattle.bpf.specs.Weight.{saturated, weight_of};
+ghost use Rattle.bpf.specs.Reading.{Gives, image_reading};
+
+use crate::fault::ImageFault;
+use crate::header::read_header;
+use crate::loops::{Loop, read_loops};
+use crate::slots::read_slots;
+use crate::weighing::weight;
+use bpf_insn::Insn;
+use std::alloc::{AllocError, Global};
+use std::marker::Model;
+
+/// A program as it is loaded: its budget, its loops and its slots. All limits of the format hold.
+#[derive(Debug, Drop)]
+pub struct Image {
+    budget: u32,
+    loops: Vec<Loop>,
+    slots: Vec<Option<Insn>>,
+}
+
+impl Model for Image {
+    ghost use Rattle.bpf.specs.Program.{Program, IsProgram, program};
+
+    ghost Value = { Program };
+
+    ghost view = { λ i. program i.budget i.loops.items i.slots.items };
+
+    ghost invariant = { λ i. IsProgram (program i.budget i.loops.items i.slots.items) };
+}
+
+impl Image {
+    /// The image that the bytes spell.
+    ///
+    /// # Errors
+    ///
+    /// The first fault in the order of `ImageFault`, or `Memory`.
+    pub fn read(alloc: Global, bytes: &[u8]) -> Result<Image, ImageFault>
+        // What is read is spelled so.
+        ensures found { IfOk result (λ image. IsProgram image × (bytes.now ≡ image_bytes image)) }
+
+        // The first fault, or the image, unless memory is refused.
+        ensures exact { Gives (λ image. image) result (image_reading bytes.now) }
+    {
+        let header = read_header(bytes)?;
+        let code = 16 + 8 * usize::from(header.loops);
+        if bytes.len() != code + 8 * usize::from(header.slots) {
+            return Err(ImageFault::Length);
+        }
+        let (front, slot_bytes) = bytes.split_at(code);
+        let (_, loop_bytes) = front.split_at(16);
+        let loops = read_loops(alloc, loop_bytes, header.loops, header.slots)?;
+        let slots = read_slots(alloc, slot_bytes, header.slots)?;
+        Ok(Image {
+            budget: header.budget,
+            loops,
+            slots,
+        })
+    }
+
+    /// An equal image.
+    pub fn copy(&self) -> Result<Image, AllocError>
+        ensures { IfOk result (λ image. image ≡ self.now) }
+    {
+        let loops = self.loops.clone()?;
+        let slots = self.slots.clone()?;
+        Ok(Image {
+            budget: self.budget,
+            loops,
+            slots,
+        })
+    }
+
+    /// The version of the format: 1.
+    pub fn version(&self) -> u8
+        ensures { result ≡ self.now.version }
+    {
+        let _ = &self.budget;
+        1
+    }
+
+    /// How many slots the image has, 1 to 512.
+    pub fn slots(&self) -> u16
+        ensures value { result ≡ length self.now.slots }
+        ensures program { IsProgram self.now }
+    {
+        self.slots.len() as u16
+    }
+
+    /// How many instructions a run may take, 1 to 65,536.
+    pub fn budget(&self) -> u32
+        ensures value { result ≡ self.now.budget }
+        ensures program { IsProgram self.now }
+    {
+        self.budget
+    }
+
+    /// The loops, at most 8, by rising head.
+    pub fn loops(&self) -> &[Loop]
+        ensures value { result.now ≡ self.now.loops }
+        ensures program { IsProgram self.now }
+    {
+        &self.loops
+    }
+
+    /// The instruction that begins at the slot. `None` at the second slot of an instruction, and past
+    /// the end.
+    pub fn insn(&self, slot: u16) -> Option<Insn>
+        ensures value { result ≡ slice_index_or self.now.slots slot None }
+        ensures program { IsProgram self.now }
+    {
+        match self.slots.get(usize::from(slot)) {
+            Some(insn) => *insn,
+            None => None,
+        }
+    }
+
+    /// The weight: the sum over the instructions, one of two slots once, of the product of the bounds
+    /// of the loops that hold it. A sum above 2^64 - 1 gives that number. No run of an accepted image
+    /// takes more instructions.
+    pub fn weight(&self) -> u64
+        ensures { result ≡ saturated (weight_of self.now) }
+    {
+        weight(&self.loops, &self.slots)
+    }
+}

@@ -1,0 +1,22 @@
+//! Images of BPF programs: a budget, loops with their bounds, and the slots of the instructions.
+//!
+//! An [`Image`] is read from bytes by [`Image::read`] and keeps all limits of the format. Numbers of
+//! several bytes are little-endian throughout.
+#![tactic(auto)]
+
+mod fault;
+mod header;
+mod image;
+mod laws;
+mod loops;
+mod slots;
+mod weighing;
+
+pub use bpf_insn;
+pub use fault::ImageFault;
+pub use image::Image;
+pub use laws::image_laws;
+pub use loops::Loop;
+
+#[cfg(test)]
+mod tests;

@@ -1,0 +1,54 @@
+//! How many instructions a run of an image may take.
+
+ghost use Rattle.std.specs.Prelude.{◌≡◌, ◌≤◌, length};
+ghost use Rattle.bpf.specs.Weight.{part_of, passes_of, saturated, times_at, weight_from};
+
+use crate::loops::Loop;
+use bpf_insn::Insn;
+
+/// The sum over the instructions of the product of the bounds of the loops that hold it, or
+/// 2^64 - 1 where that is above.
+pub fn weight(loops: &[Loop], slots: &[Option<Insn>]) -> u64
+    requires { length slots.now ≤ 512 }
+    ensures { result ≡ saturated (weight_from loops.now 0 slots.now) }
+{
+    let mut weight = 0u64;
+    let mut slot = 0u16;
+    for insn in slots {
+        weight = weight.saturating_add(part(loops, slot, insn));
+        slot += 1;
+    }
+    weight
+}
+
+/// That product for an instruction at the slot, and nothing for a second slot.
+fn part(loops: &[Loop], slot: u16, insn: &Option<Insn>) -> u64
+    ensures { result ≡ saturated (part_of loops.now slot insn.now) }
+{
+    match insn {
+        Some(_) => times(loops, slot),
+        None => 0,
+    }
+}
+
+/// The product of the bounds of the loops that hold the slot, or 2^64 - 1 where it is above.
+fn times(loops: &[Loop], slot: u16) -> u64
+    ensures { result ≡ saturated (times_at loops.now slot) }
+{
+    let mut times = 1u64;
+    for found in loops {
+        times = times.saturating_mul(passes(found, slot));
+    }
+    times
+}
+
+/// The loop's bound, where it holds the slot, else 1.
+fn passes(found: &Loop, slot: u16) -> u64
+    ensures { result ≡ passes_of found.now slot }
+{
+    if found.head <= slot && slot <= found.back {
+        u64::from(found.bound)
+    } else {
+        1
+    }
+}

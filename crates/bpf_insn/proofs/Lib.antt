@@ -1,0 +1,6 @@
+pub mod SlotBytes
+pub mod Spelled
+pub mod Meant
+pub mod Fit
+pub mod Explained
+pub mod Apart

@@ -1,0 +1,6 @@
+use Rattle.bpf_insn.proofs.Spelled.{reading-spelled}
+use Rattle.bpf_insn.proofs.Apart.{one_meaning, apart}
+use Rattle.bpf_insn.proofs.laws.spelling_laws.Goals as goal
+
+pub returns : goal.returns
+returns c = record { read = reading-spelled; one_meaning = one_meaning; apart = apart }

@@ -1,0 +1,5 @@
+pub mod Codes
+pub mod Kinds
+pub mod Spelling
+pub mod Faults
+pub mod Reading

@@ -1,0 +1,375 @@
+//! From bytes to an instruction.
+
+ghost use Rattle.std.specs.Prelude.{◌≡◌, ◌≤◌, ◌<◌, ◌^◌, true, Ok, IfOk, IfErr};
+ghost use Rattle.std.specs.Option.{option_copied, option_map};
+ghost use Rattle.bpf_insn.specs.declared.insn.Insn.{Insn};
+ghost use Rattle.bpf_insn.specs.Faults.{bad_insn_code, IsFault};
+ghost use Rattle.bpf_insn.specs.Spelling.{IsInsn, IsOperand, Spells, bytes_of};
+ghost use Rattle.bpf_insn.specs.Reading.{arithmetic_of, branch_of, byte_swap_of, call_of, fields_in, has_fields, joined, jump_of, load_of, meant_of, move_of, names_register, negation_of, operand_of, pair_of, reading, reading_of, register_of, same_second, store_of, two_operands_of, wide_of};
+
+use crate::encoding::{first_fields, second_immediate};
+use crate::fields::Fields;
+use crate::insn::{Address, Callee, Distance, Insn};
+use crate::memory::{LoadSize, Size};
+use crate::operation::{AluOp, Condition, Extension, Operand, Swap, SwapBits, Width};
+use crate::register::Register;
+use thiserror::Error;
+
+/// Why bytes spell no instruction: the first fault in this order, but for `Half`, which comes before
+/// `Unused`.
+#[derive(Clone, Copy, Debug, PartialEq, Eq, Error)]
+pub enum BadInsn {
+    /// No instruction has the opcode.
+    #[error("no instruction has the opcode")]
+    Opcode,
+    /// A register's number is over 10.
+    #[error("a register's number is over 10")]
+    Register,
+    /// A field that the instruction does not use is not zero, or a field that selects among
+    /// instructions selects none.
+    #[error("an unused field is not zero")]
+    Unused,
+    /// The second slot of an instruction of two is missing.
+    #[error("the second slot is missing")]
+    Half,
+}
+
+impl BadInsn {
+    /// The number of the fault: 1 to 4.
+    pub fn code(self) -> u8
+        ensures { result ≡ bad_insn_code self }
+    {
+        match self {
+            BadInsn::Opcode => 1,
+            BadInsn::Register => 2,
+            BadInsn::Unused => 3,
+            BadInsn::Half => 4,
+        }
+    }
+}
+
+/// The instruction that the bytes spell, where `next` holds the bytes of the next slot. That is not
+/// read where the instruction has one slot.
+///
+/// # Errors
+///
+/// The first fault of `Opcode`, `Register`, `Half` and `Unused`.
+#[tactic(auto, unfolding(crate::specs::Reading::reading))]
+pub fn decode(bytes: &[u8; 8], next: Option<&[u8; 8]>) -> Result<Insn, BadInsn>
+    // What is decoded is spelled so, and what is spelled so is decoded.
+    ensures found { IfOk result (Spells bytes.now (option_copied next.entry)) }
+    ensures only { (insn : Insn) → Spells bytes.now (option_copied next.entry) insn → result ≡ Ok insn }
+
+    // An error is the first fault.
+    ensures fault { IfErr result (IsFault bytes.now (option_copied next.entry)) }
+
+    ensures exact { result ≡ reading bytes.now (option_copied next.entry) }
+{
+    let fields = Fields::read(bytes);
+    let next = read_next(next);
+    checked(&fields, next)
+}
+
+/// The instruction that has these fields.
+#[tactic(auto, unfolding(crate::specs::Reading::reading_of))]
+fn checked(fields: &Fields, next: Option<Fields>) -> Result<Insn, BadInsn>
+    ensures value { result ≡ reading_of fields.now next }
+    ensures insn { IfOk result IsInsn }
+    ensures own { IfOk result (λ insn. has_fields insn fields.now next ≡ true) }
+{
+    let insn = meant(fields, next)?;
+    if has_fields(&insn, fields, next) {
+        Ok(insn)
+    } else {
+        Err(BadInsn::Unused)
+    }
+}
+
+/// The fields of the next slot, where there is one.
+fn read_next(next: Option<&[u8; 8]>) -> Option<Fields>
+    ensures value { result ≡ option_map fields_in (option_copied next.entry) }
+    ensures bytes { option_map bytes_of result ≡ option_copied next.entry }
+{
+    match next {
+        None => None,
+        Some(bytes) => Some(Fields::read(bytes)),
+    }
+}
+
+/// Whether these are the instruction's fields, unused ones too.
+fn has_fields(insn: &Insn, fields: &Fields, next: Option<Fields>) -> bool
+    ensures { result ≡ has_fields insn.now fields.now next }
+{
+    first_fields(insn) == *fields && has_second(second_immediate(insn), next)
+}
+
+/// Whether the second slot, where one is wanted, holds nothing but the immediate.
+fn has_second(immediate: Option<i32>, next: Option<Fields>) -> bool
+    ensures { result ≡ same_second immediate next }
+{
+    match immediate {
+        None => true,
+        Some(immediate) => match next {
+            None => false,
+            Some(second) => second == Fields::new(0, 0, 0, 0, immediate),
+        },
+    }
+}
+
+/// The instruction that the used fields mean, whatever the unused ones hold.
+#[tactic(auto, unfolding(crate::specs::Reading::meant_of))]
+fn meant(fields: &Fields, next: Option<Fields>) -> Result<Insn, BadInsn>
+    ensures value { result ≡ meant_of fields.now next }
+    ensures insn { IfOk result IsInsn }
+{
+    match fields.opcode % 8 {
+        0 => wide(fields, next),
+        1 => load(fields),
+        2 => store(fields, false),
+        3 => store(fields, true),
+        4 => arithmetic(fields, Width::W32),
+        5 => jump(fields, Width::W64),
+        6 => jump(fields, Width::W32),
+        _ => arithmetic(fields, Width::W64),
+    }
+}
+
+/// Whether the source bit of arithmetic and jumps says that the source is a register.
+fn names_register(fields: &Fields) -> bool
+    ensures { result ≡ names_register fields.now }
+{
+    fields.opcode / 8 % 2 == 1
+}
+
+fn register(number: u8) -> Result<Register, BadInsn>
+    ensures value { result ≡ register_of number }
+    ensures bound { IfOk result (λ number. number ≤ 10) }
+{
+    match Register::new(number) {
+        Some(register) => Ok(register),
+        None => Err(BadInsn::Register),
+    }
+}
+
+fn operand(fields: &Fields, from_register: bool) -> Result<Operand, BadInsn>
+    ensures value { result ≡ operand_of fields.now from_register }
+    ensures operand { IfOk result IsOperand }
+{
+    if from_register {
+        Ok(Operand::FromRegister(register(fields.src)?))
+    } else {
+        Ok(Operand::Immediate(fields.immediate))
+    }
+}
+
+#[tactic(auto, unfolding(crate::specs::Reading::arithmetic_of))]
+fn arithmetic(fields: &Fields, width: Width) -> Result<Insn, BadInsn>
+    ensures value { result ≡ arithmetic_of fields.now width }
+    ensures insn { IfOk result IsInsn }
+{
+    match fields.opcode / 16 {
+        8 => negation(fields, width),
+        11 => move_of(fields, width),
+        13 => byte_swap(fields, width),
+        code => two_operands(fields, width, code),
+    }
+}
+
+#[tactic(auto, unfolding(crate::specs::Reading::negation_of))]
+fn negation(fields: &Fields, width: Width) -> Result<Insn, BadInsn>
+    ensures value { result ≡ negation_of fields.now width }
+    ensures insn { IfOk result IsInsn }
+{
+    if names_register(fields) {
+        return Err(BadInsn::Opcode);
+    }
+    let dst = register(fields.dst)?;
+    Ok(Insn::Negate { width, dst })
+}
+
+#[tactic(auto, unfolding(crate::specs::Reading::byte_swap_of))]
+fn byte_swap(fields: &Fields, width: Width) -> Result<Insn, BadInsn>
+    ensures value { result ≡ byte_swap_of fields.now width }
+    ensures insn { IfOk result IsInsn }
+{
+    let swap = Swap::from_parts(width, names_register(fields)).ok_or(BadInsn::Opcode)?;
+    let dst = register(fields.dst)?;
+    let bits = SwapBits::from_bits(fields.immediate).ok_or(BadInsn::Unused)?;
+    Ok(Insn::ByteSwap { swap, bits, dst })
+}
+
+#[tactic(auto, unfolding(crate::specs::Reading::two_operands_of))]
+fn two_operands(fields: &Fields, width: Width, code: u8) -> Result<Insn, BadInsn>
+    ensures value { result ≡ two_operands_of fields.now width code }
+    ensures insn { IfOk result IsInsn }
+{
+    let op = AluOp::from_code(code, fields.offset == 1).ok_or(BadInsn::Opcode)?;
+    let dst = register(fields.dst)?;
+    let src = operand(fields, names_register(fields))?;
+    Ok(Insn::Alu {
+        op,
+        width,
+        dst,
+        src,
+    })
+}
+
+/// A move, of a register's low bits where the offset says how many.
+#[tactic(auto, unfolding(crate::specs::Reading::move_of))]
+fn move_of(fields: &Fields, width: Width) -> Result<Insn, BadInsn>
+    ensures value { result ≡ move_of fields.now width }
+    ensures insn { IfOk result IsInsn }
+{
+    let dst = register(fields.dst)?;
+    if !names_register(fields) {
+        let src = Operand::Immediate(fields.immediate);
+        return Ok(Insn::Alu {
+            op: AluOp::Mov,
+            width,
+            dst,
+            src,
+        });
+    }
+    let src = register(fields.src)?;
+    match Extension::from_bits(width, fields.offset) {
+        Some(extension) => Ok(Insn::MoveSigned {
+            extension,
+            dst,
+            src,
+        }),
+        None => {
+            let src = Operand::FromRegister(src);
+            Ok(Insn::Alu {
+                op: AluOp::Mov,
+                width,
+                dst,
+                src,
+            })
+        }
+    }
+}
+
+#[tactic(auto, unfolding(crate::specs::Reading::jump_of))]
+fn jump(fields: &Fields, width: Width) -> Result<Insn, BadInsn>
+    ensures value { result ≡ jump_of fields.now width }
+    ensures insn { IfOk result IsInsn }
+{
+    match fields.opcode {
+        0x05 => Ok(Insn::Goto {
+            distance: Distance::Short(fields.offset),
+        }),
+        0x06 => Ok(Insn::Goto {
+            distance: Distance::Long(fields.immediate),
+        }),
+        0x85 => call(fields),
+        0x95 => Ok(Insn::Exit),
+        _ => branch(fields, width),
+    }
+}
+
+/// A conditional jump.
+#[tactic(auto, unfolding(crate::specs::Reading::branch_of))]
+fn branch(fields: &Fields, width: Width) -> Result<Insn, BadInsn>
+    ensures value { result ≡ branch_of fields.now width }
+    ensures insn { IfOk result IsInsn }
+{
+    let condition = Condition::from_code(fields.opcode / 16).ok_or(BadInsn::Opcode)?;
+    let dst = register(fields.dst)?;
+    let src = operand(fields, names_register(fields))?;
+    Ok(Insn::Jump {
+        condition,
+        width,
+        dst,
+        src,
+        offset: fields.offset,
+    })
+}
+
+#[tactic(auto, unfolding(crate::specs::Reading::call_of))]
+fn call(fields: &Fields) -> Result<Insn, BadInsn>
+    ensures value { result ≡ call_of fields.now }
+    ensures insn { IfOk result IsInsn }
+{
+    let callee = Callee::from_code(fields.src).ok_or(BadInsn::Unused)?;
+    Ok(Insn::Call {
+        callee,
+        number: fields.immediate,
+    })
+}
+
+#[tactic(auto, unfolding(crate::specs::Reading::load_of))]
+fn load(fields: &Fields) -> Result<Insn, BadInsn>
+    ensures value { result ≡ load_of fields.now }
+    ensures insn { IfOk result IsInsn }
+{
+    let size = LoadSize::from_code(fields.opcode - fields.opcode % 8).ok_or(BadInsn::Opcode)?;
+    let dst = register(fields.dst)?;
+    let base = register(fields.src)?;
+    Ok(Insn::Load {
+        size,
+        dst,
+        base,
+        offset: fields.offset,
+    })
+}
+
+#[tactic(auto, unfolding(crate::specs::Reading::store_of))]
+fn store(fields: &Fields, from_register: bool) -> Result<Insn, BadInsn>
+    ensures value { result ≡ store_of fields.now from_register }
+    ensures insn { IfOk result IsInsn }
+{
+    let size = Size::from_code(fields.opcode - fields.opcode % 8).ok_or(BadInsn::Opcode)?;
+    let base = register(fields.dst)?;
+    let src = operand(fields, from_register)?;
+    Ok(Insn::Store {
+        size,
+        base,
+        offset: fields.offset,
+        src,
+    })
+}
+
+#[tactic(auto, unfolding(crate::specs::Reading::wide_of))]
+fn wide(fields: &Fields, next: Option<Fields>) -> Result<Insn, BadInsn>
+    ensures value { result ≡ wide_of fields.now next }
+    ensures insn { IfOk result IsInsn }
+{
+    if fields.opcode != 0x18 {
+        return Err(BadInsn::Opcode);
+    }
+    let dst = register(fields.dst)?;
+    let second = next.ok_or(BadInsn::Half)?;
+    pair(fields, dst, &second)
+}
+
+/// An instruction of two slots, by its subtype.
+#[tactic(auto, unfolding(crate::specs::Reading::pair_of))]
+fn pair(fields: &Fields, dst: Register, second: &Fields) -> Result<Insn, BadInsn>
+    ensures value { result ≡ pair_of fields.now dst second.now }
+    ensures insn { IfOk result IsInsn }
+{
+    match fields.src {
+        0 => Ok(Insn::Wide {
+            dst,
+            value: joined(fields.immediate, second.immediate),
+        }),
+        5 => Ok(Insn::LoadMap {
+            dst,
+            index: fields.immediate,
+        }),
+        subtype => {
+            let address = Address::from_parts(subtype, fields.immediate, second.immediate).ok_or(
+                BadInsn::Unused,
+            )?;
+            Ok(Insn::LoadAddress { dst, address })
+        }
+    }
+}
+
+/// The constant of two halves.
+fn joined(low: i32, high: i32) -> u64
+    ensures value { result ≡ joined low high }
+    ensures bound { result < 2 ^ 64 }
+{
+    u64::from(low.cast_unsigned()) + u64::from(high.cast_unsigned()) * 0x1_0000_0000
+}

@@ -1,0 +1,206 @@
+//! From an instruction to its bytes.
+
+ghost use Rattle.std.specs.Prelude.{◌≡◌, ◌<◌, ◌*◌, ◌+◌, ◌/◌, ◌%◌, ◌^◌};
+ghost use Rattle.std.specs.Int.{w32, cast_signed};
+ghost use Rattle.bpf_insn.specs.Codes.{store_class};
+ghost use Rattle.bpf_insn.specs.Spelling.{RegistersFit, first_bytes, first_fields, second_bytes, second_immediate};
+
+use crate::fields::Fields;
+use crate::insn::{Distance, Insn};
+use crate::memory::{LoadSize, Size};
+use crate::operation::{AluOp, Condition, Extension, Operand, Swap, SwapBits, Width};
+use crate::register::Register;
+
+const EXIT: u8 = 0x95;
+
+const CALL: u8 = 0x85;
+
+const GOTO_SHORT: u8 = 0x05;
+
+const GOTO_LONG: u8 = 0x06;
+
+const LOAD_WIDE: u8 = 0x18;
+/// The subtype of a map by its index.
+const MAP_BY_INDEX: u8 = 5;
+
+/// The bytes that spell the instruction: the first slot, and the second of an instruction that has
+/// two (RFC 9669, section 3).
+pub fn encode(insn: &Insn) -> ([u8; 8], Option<[u8; 8]>)
+    ensures first { result.0 ≡ first_bytes insn.now }
+    ensures second { result.1 ≡ second_bytes insn.now }
+{
+    (first_fields(insn).bytes(), second_bytes(insn))
+}
+
+/// The bytes of the second slot, where the instruction has one.
+fn second_bytes(insn: &Insn) -> Option<[u8; 8]>
+    ensures { result ≡ second_bytes insn.now }
+{
+    match second_immediate(insn) {
+        None => None,
+        Some(immediate) => Some(Fields::new(0, 0, 0, 0, immediate).bytes()),
+    }
+}
+
+/// The fields of the first slot.
+pub fn first_fields(insn: &Insn) -> Fields
+    ensures value { result ≡ first_fields insn.now }
+    ensures registers { RegistersFit result }
+{
+    match *insn {
+        Insn::Alu {
+            op,
+            width,
+            dst,
+            src,
+        } => alu_fields(op, width, dst, src),
+        Insn::Negate { width, dst } => {
+            Fields::new(width.arithmetic_class() + 0x80, dst.number(), 0, 0, 0)
+        }
+        Insn::MoveSigned {
+            extension,
+            dst,
+            src,
+        } => move_fields(extension, dst, src),
+        Insn::ByteSwap { swap, bits, dst } => swap_fields(swap, bits, dst),
+        Insn::Load {
+            size,
+            dst,
+            base,
+            offset,
+        } => { Fields::new(1 + size.code(), dst.number(), base.number(), offset, 0) }
+        Insn::Store {
+            size,
+            base,
+            offset,
+            src,
+        } => store_fields(size, base, offset, src),
+        Insn::Jump {
+            condition,
+            width,
+            dst,
+            src,
+            offset,
+        } => { jump_fields(condition, width, dst, src, offset) }
+        Insn::Goto {
+            distance: Distance::Short(offset),
+        } => { Fields::new(GOTO_SHORT, 0, 0, offset, 0) }
+        Insn::Goto {
+            distance: Distance::Long(slots),
+        } => Fields::new(GOTO_LONG, 0, 0, 0, slots),
+        Insn::Wide { dst, value } => Fields::new(LOAD_WIDE, dst.number(), 0, 0, low_half(value)),
+        Insn::LoadMap { dst, index } => {
+            Fields::new(LOAD_WIDE, dst.number(), MAP_BY_INDEX, 0, index)
+        }
+        Insn::LoadAddress { dst, address } => {
+            Fields::new(
+                LOAD_WIDE,
+                dst.number(),
+                address.subtype(),
+                0,
+                address.first(),
+            )
+        }
+        Insn::Call { callee, number } => Fields::new(CALL, 0, callee.code(), 0, number),
+        Insn::Exit => Fields::new(EXIT, 0, 0, 0, 0),
+    }
+}
+
+/// The immediate of the second slot, where the instruction has one.
+pub fn second_immediate(insn: &Insn) -> Option<i32>
+    ensures { result ≡ second_immediate insn.now }
+{
+    match *insn {
+        Insn::Wide { value, .. } => Some(high_half(value)),
+        Insn::LoadMap { .. } => Some(0),
+        Insn::LoadAddress { address, .. } => Some(address.second()),
+        _ => None,
+    }
+}
+
+fn alu_fields(op: AluOp, width: Width, dst: Register, src: Operand) -> Fields
+    ensures value { result ≡ first_fields (Insn.Alu op width dst src) }
+    ensures registers { RegistersFit result }
+{
+    let opcode = width.arithmetic_class() + src.source_bit() + op.code() * 16;
+    Fields::new(
+        opcode,
+        dst.number(),
+        src.source_field(),
+        op.offset(),
+        src.immediate_field(),
+    )
+}
+
+fn move_fields(extension: Extension, dst: Register, src: Register) -> Fields
+    ensures value { result ≡ first_fields (Insn.MoveSigned extension dst src) }
+    ensures registers { RegistersFit result }
+{
+    let opcode = extension.width().arithmetic_class() + 0xb8;
+    Fields::new(opcode, dst.number(), src.number(), extension.bits(), 0)
+}
+
+fn swap_fields(swap: Swap, bits: SwapBits, dst: Register) -> Fields
+    ensures value { result ≡ first_fields (Insn.ByteSwap swap bits dst) }
+    ensures registers { RegistersFit result }
+{
+    let opcode = swap.width().arithmetic_class() + swap.source_bit() + 0xd0;
+    Fields::new(opcode, dst.number(), 0, 0, bits.bits())
+}
+
+fn store_fields(size: Size, base: Register, offset: i16, src: Operand) -> Fields
+    ensures value { result ≡ first_fields (Insn.Store size base offset src) }
+    ensures registers { RegistersFit result }
+{
+    let opcode = store_class(&src) + size.code();
+    Fields::new(
+        opcode,
+        base.number(),
+        src.source_field(),
+        offset,
+        src.immediate_field(),
+    )
+}
+
+fn jump_fields(
+    condition: Condition,
+    width: Width,
+    dst: Register,
+    src: Operand,
+    offset: i16,
+) -> Fields
+    ensures value { result ≡ first_fields (Insn.Jump condition width dst src offset) }
+    ensures registers { RegistersFit result }
+{
+    let opcode = width.jump_class() + src.source_bit() + condition.code() * 16;
+    Fields::new(
+        opcode,
+        dst.number(),
+        src.source_field(),
+        offset,
+        src.immediate_field(),
+    )
+}
+
+/// The class of a store: ST of an immediate, STX of a register.
+fn store_class(src: &Operand) -> u8
+    ensures value { result ≡ store_class src.now }
+    ensures small { result < 8 }
+{
+    match src {
+        Operand::FromRegister(_) => 3,
+        Operand::Immediate(_) => 2,
+    }
+}
+
+fn low_half(value: u64) -> i32
+    ensures { result ≡ cast_signed w32 (value % 2 ^ 32) }
+{
+    ((value % 0x1_0000_0000) as u32).cast_signed()
+}
+
+fn high_half(value: u64) -> i32
+    ensures { result ≡ cast_signed w32 (value / 2 ^ 32) }
+{
+    ((value / 0x1_0000_0000) as u32).cast_signed()
+}

@@ -1,0 +1,18 @@
+//! Laws of the spelling of instructions.
+
+ghost use Rattle.std.specs.Prelude.{◌≡◌, ℕ, List, ◌++◌, Option, Ok};
+ghost use Rattle.bpf_insn.specs.declared.insn.Insn.{Insn};
+ghost use Rattle.bpf_insn.specs.Spelling.{IsInsn, Spells, spelling};
+ghost use Rattle.bpf_insn.specs.Reading.{reading};
+
+/// What holds of all spellings: it does nothing, and its contract is the laws.
+pub fn spelling_laws()
+    // What is spelled so is read so.
+    ensures read { (bytes : List ℕ) (next : Option (List ℕ)) (insn : Insn) → Spells bytes next insn → reading bytes next ≡ Ok insn }
+
+    // No bytes spell two instructions.
+    ensures one_meaning { (bytes : List ℕ) (next : Option (List ℕ)) (a b : Insn) → Spells bytes next a → Spells bytes next b → a ≡ b }
+
+    // No spelling begins another.
+    ensures apart { (a b : Insn) (after more : List ℕ) → IsInsn a → IsInsn b → spelling a ++ after ≡ spelling b ++ more → a ≡ b }
+{}

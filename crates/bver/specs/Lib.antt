@@ -1,0 +1,5 @@
+pub mod Sizes
+pub mod Padding
+pub mod Verdict
+pub mod Justified
+pub mod Effect

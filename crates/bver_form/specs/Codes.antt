@@ -1,0 +1,23 @@
+-- The numbers of the refusals.
+use Rattle.std.specs.Prelude.{ℕ}
+use Rattle.bver_form.specs.declared.refusal.Refusal.{Refusal}
+use Rattle.bver_form.specs.declared.refusal.Refusal.TheVariants.{Target, BackJump, LoopShape, LoopEntry, Unset, KindMismatch, OutOfRegion, UnsetStack, HeaderWrite, FrameWrite, PointerRange, MapKey, Helper, FallOff, Budget, Unsupported, Memory}
+
+abbrev pub refusal_code : Refusal → ℕ
+refusal_code Target = 1
+refusal_code BackJump = 2
+refusal_code LoopShape = 3
+refusal_code LoopEntry = 4
+refusal_code Unset = 5
+refusal_code KindMismatch = 6
+refusal_code OutOfRegion = 7
+refusal_code UnsetStack = 8
+refusal_code HeaderWrite = 9
+refusal_code FrameWrite = 10
+refusal_code PointerRange = 11
+refusal_code MapKey = 12
+refusal_code Helper = 13
+refusal_code FallOff = 14
+refusal_code Budget = 15
+refusal_code Unsupported = 16
+refusal_code Memory = 17

@@ -1,0 +1,10 @@
+pub mod Words
+pub mod Memory
+pub mod State
+pub mod Near
+pub mod Bytes
+pub mod Step
+pub mod Effects
+pub mod Standing
+pub mod Runs
+pub mod Endings

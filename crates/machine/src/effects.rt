@@ -1,0 +1,361 @@
+//! What each instruction does, found before it is done (RFC 9669, sections 4 and 5).
+
+ghost use Rattle.std.specs.Prelude.{◌≡◌, ◌^◌, ◌<◌, ◌≤◌, ◌+◌, ◌<ℤ◌, pos, slice_index, slice_index_or, if◌then◌else◌, nat_lt};
+ghost use Rattle.machine.specs.Bytes.{header_in};
+ghost use Rattle.machine.specs.Near.{IsNear, AreNear};
+ghost use Rattle.machine.specs.Effects.{state_in, outcome_of, IsPlaced, asks_with, calls_with, perform_with};
+ghost use Rattle.machine.specs.Step.{operand, writes, lands, jumps, compares, loads, stores, map_at, is_map, exits, distance_of};
+
+use crate::arithmetic::{alu, byte_swap, move_signed, negate, number};
+use crate::memory::{Memory, load_bytes, loaded, place_of, read, size_bytes};
+use crate::regions::Region;
+use crate::values::Value;
+use crate::words::{holds_words, word};
+use bpf_insn::{Callee, Condition, Distance, Insn, LoadSize, Operand, Register, Size, Width};
+
+/// What an instruction does.
+#[derive(Clone, Copy)]
+pub enum Effect {
+    /// The register is written, and the next instruction is so many slots further.
+    Write {
+        register: Register,
+        value: Value,
+        slots: u32,
+    },
+    /// So many low bytes of the number go to the stack from the place on.
+    Put {
+        place: usize,
+        bytes: usize,
+        number: u64,
+    },
+    /// The next instruction is at the slot.
+    Go(u32),
+    /// The helper asks the map for the key.
+    Ask {
+        helper: u8,
+        map: u32,
+        key: u16,
+    },
+    /// The program ends with a verdict.
+    End(u64),
+    /// A trap.
+    Stop,
+}
+
+/// What an instruction sees: its own slot, the registers and the memory.
+#[derive(Clone, Copy)]
+pub struct Frame<'a> {
+    pub slot: u32,
+    pub registers: &'a [Value; 11],
+    pub memory: Memory<'a>,
+}
+
+/// What the register of this number holds.
+fn value_at(frame: Frame<'_>, number: u8) -> Value
+    requires { number ≤ 10 }
+    ensures { result ≡ slice_index_or frame.entry.registers.now number Value.Unset }
+{
+    let registers: &[Value; 11] = frame.registers;
+    registers[usize::from(number)]
+}
+
+/// What the register of an instruction holds.
+fn value_of(frame: Frame<'_>, register: Register) -> Value
+    ensures { result ≡ slice_index_or frame.entry.registers.now register Value.Unset }
+{
+    value_at(frame, register.number())
+}
+
+/// A register's value, or the immediate.
+fn operand(frame: Frame<'_>, src: &Operand) -> Value
+    ensures { result ≡ operand (state_in frame.entry) src.now }
+{
+    match src {
+        Operand::FromRegister(register) => value_of(frame, *register),
+        Operand::Immediate(value) => Value::Num(word(i64::from(*value))),
+    }
+}
+
+/// The register is written, unless there is no value, or the register is r10.
+fn write(frame: Frame<'_>, register: Register, value: Option<Value>, slots: u32) -> Effect
+    requires { slots ≤ 2 }
+    ensures outcome { outcome_of (state_in frame.entry) result ≡ writes (state_in frame.entry) (frame.entry.slot + slots) register value }
+    ensures placed { IsPlaced result }
+{
+    match value {
+        None => Effect::Stop,
+        Some(value) => {
+            if register.number() == 10 {
+                Effect::Stop
+            } else {
+                Effect::Write {
+                    register,
+                    value,
+                    slots,
+                }
+            }
+        }
+    }
+}
+
+/// The next instruction is at the target, unless that is before the code.
+fn land(frame: Frame<'_>, target: i64) -> Effect
+    requires { target <ℤ pos (2 ^ 32) }
+    ensures outcome { outcome_of (state_in frame.entry) result ≡ lands (state_in frame.entry) target }
+    ensures placed { IsPlaced result }
+{
+    if target < 0 {
+        Effect::Stop
+    } else {
+        Effect::Go(target as u32)
+    }
+}
+
+/// A jump by so many slots from the next one.
+fn jump(frame: Frame<'_>, offset: i32) -> Effect
+    requires { frame.slot < 512 }
+    ensures outcome { outcome_of (state_in frame.entry) result ≡ jumps (state_in frame.entry) offset }
+    ensures placed { IsPlaced result }
+{
+    land(frame, i64::from(frame.slot) + 1 + i64::from(offset))
+}
+
+/// A jump where the condition holds of two numbers.
+fn compare(
+    frame: Frame<'_>,
+    condition: Condition,
+    width: Width,
+    offset: i16,
+    a: Value,
+    b: Value,
+) -> Effect
+    requires { frame.slot < 512 }
+    ensures outcome { outcome_of (state_in frame.entry) result ≡ compares condition width (state_in frame.entry) offset a b }
+    ensures placed { IsPlaced result }
+{
+    match a {
+        Value::Num(a) => match b {
+            Value::Num(b) => {
+                if holds_words(condition, width, a, b) {
+                    jump(frame, i32::from(offset))
+                } else {
+                    Effect::Go(frame.slot + 1)
+                }
+            }
+            Value::Unset | Value::Ptr { .. } | Value::Map(_) => Effect::Stop,
+        },
+        Value::Unset | Value::Ptr { .. } | Value::Map(_) => Effect::Stop,
+    }
+}
+
+/// A load through a pointer. `None` is a trap.
+fn load(frame: Frame<'_>, size: LoadSize, base: Value, offset: i16) -> Option<Value>
+    requires { IsNear (2 ^ 126) base }
+    ensures { result ≡ loads (header_in frame.entry.memory) (state_in frame.entry) size base offset }
+{
+    match base {
+        Value::Ptr {
+            region,
+            offset: start,
+        } => match read(
+            frame.memory,
+            region,
+            load_bytes(size),
+            start + i128::from(offset),
+        ) {
+            Some(number) => Some(Value::Num(loaded(size, number))),
+            None => None,
+        },
+        Value::Unset | Value::Num(_) | Value::Map(_) => None,
+    }
+}
+
+/// A store of a number through a pointer into the stack.
+fn store(frame: Frame<'_>, size: Size, base: Value, offset: i16, value: Value) -> Effect
+    requires { IsNear (2 ^ 126) base }
+    ensures outcome { outcome_of (state_in frame.entry) result ≡ stores (state_in frame.entry) size base offset value }
+    ensures placed { IsPlaced result }
+{
+    match base {
+        Value::Ptr {
+            region: Region::Stack,
+            offset: start,
+        } => {
+            let bytes = size_bytes(size);
+            match place_of(Region::Stack, bytes, start + i128::from(offset)) {
+                Some(place) => match number(value) {
+                    Some(number) => Effect::Put {
+                        place,
+                        bytes,
+                        number,
+                    },
+                    None => Effect::Stop,
+                },
+                None => Effect::Stop,
+            }
+        }
+        _ => Effect::Stop,
+    }
+}
+
+/// A map by its index, where there is one.
+fn map_at(sizes: &[u16], index: i32) -> Option<Value>
+    ensures { result ≡ (if is_map sizes.now index then map_at index else None) }
+{
+    if index >= 0 && (index as usize) < sizes.len() {
+        Some(Value::Map(index as u32))
+    } else {
+        None
+    }
+}
+
+/// The key, where the map has it.
+fn key_in(sizes: &[u16], map: u32, key: u64) -> Option<u16>
+    ensures { result ≡ (if nat_lt key (slice_index sizes.now map) then Some key else None) }
+{
+    match sizes.get(map as usize) {
+        Some(size) => {
+            if key < u64::from(*size) {
+                Some(key as u16)
+            } else {
+                None
+            }
+        }
+        None => None,
+    }
+}
+
+/// The question of a helper: r1 is a map, r2 a key below its size.
+fn ask(frame: Frame<'_>, sizes: &[u16], helper: u8) -> Effect
+    ensures outcome { outcome_of (state_in frame.entry) result ≡ asks_with sizes.now (state_in frame.entry) helper }
+    ensures placed { IsPlaced result }
+{
+    match value_at(frame, 1) {
+        Value::Map(map) => match value_at(frame, 2) {
+            Value::Num(key) => match key_in(sizes, map, key) {
+                Some(key) => Effect::Ask { helper, map, key },
+                None => Effect::Stop,
+            },
+            Value::Unset | Value::Ptr { .. } | Value::Map(_) => Effect::Stop,
+        },
+        Value::Unset | Value::Num(_) | Value::Ptr { .. } => Effect::Stop,
+    }
+}
+
+/// A call.
+fn call(frame: Frame<'_>, sizes: &[u16], callee: Callee, number: i32) -> Effect
+    ensures outcome { outcome_of (state_in frame.entry) result ≡ calls_with sizes.now (state_in frame.entry) callee number }
+    ensures placed { IsPlaced result }
+{
+    match callee {
+        Callee::Helper => match number {
+            1 => ask(frame, sizes, 1),
+            2 => ask(frame, sizes, 2),
+            _ => Effect::Stop,
+        },
+        Callee::Local | Callee::ByTypeId => Effect::Stop,
+    }
+}
+
+/// EXIT: r0 is the verdict.
+fn exit(frame: Frame<'_>) -> Effect
+    ensures outcome { outcome_of (state_in frame.entry) result ≡ exits (slice_index_or frame.entry.registers.now 0 Value.Unset) }
+    ensures placed { IsPlaced result }
+{
+    match value_at(frame, 0) {
+        Value::Num(verdict) => Effect::End(verdict),
+        Value::Unset | Value::Ptr { .. } | Value::Map(_) => Effect::Stop,
+    }
+}
+
+/// The distance of an unconditional jump.
+fn distance_of(distance: Distance) -> i32
+    ensures { result ≡ distance_of distance }
+{
+    match distance {
+        Distance::Short(offset) => i32::from(offset),
+        Distance::Long(immediate) => immediate,
+    }
+}
+
+/// What an instruction does, with maps of these sizes.
+pub fn perform(frame: Frame<'_>, sizes: &[u16], insn: &Insn) -> Effect
+    requires inside { frame.slot < 512 }
+    requires near { AreNear (2 ^ 126) frame.registers.now }
+    ensures outcome { outcome_of (state_in frame.entry) result ≡ perform_with sizes.now (header_in frame.entry.memory) (state_in frame.entry) insn.now }
+    ensures placed { IsPlaced result }
+{
+    match *insn {
+        Insn::Alu {
+            op,
+            width,
+            dst,
+            src,
+        } => {
+            write(
+                frame,
+                dst,
+                alu(op, width, value_of(frame, dst), operand(frame, &src)),
+                1,
+            )
+        }
+        Insn::Negate { width, dst } => write(frame, dst, negate(width, value_of(frame, dst)), 1),
+        Insn::MoveSigned {
+            extension,
+            dst,
+            src,
+        } => { write(frame, dst, move_signed(extension, value_of(frame, src)), 1) }
+        Insn::ByteSwap { swap, bits, dst } => {
+            write(frame, dst, byte_swap(swap, bits, value_of(frame, dst)), 1)
+        }
+        Insn::Load {
+            size,
+            dst,
+            base,
+            offset,
+        } => {
+            write(
+                frame,
+                dst,
+                load(frame, size, value_of(frame, base), offset),
+                1,
+            )
+        }
+        Insn::Store {
+            size,
+            base,
+            offset,
+            src,
+        } => {
+            store(
+                frame,
+                size,
+                value_of(frame, base),
+                offset,
+                operand(frame, &src),
+            )
+        }
+        Insn::Jump {
+            condition,
+            width,
+            dst,
+            src,
+            offset,
+        } => {
+            compare(
+                frame,
+                condition,
+                width,
+                offset,
+                value_of(frame, dst),
+                operand(frame, &src),
+            )
+        }
+        Insn::Goto { distance } => jump(frame, distance_of(distance)),
+        Insn::Wide { dst, value } => write(frame, dst, Some(Value::Num(value)), 2),
+        Insn::LoadMap { dst, index } => write(frame, dst, map_at(sizes, index), 2),
+        Insn::LoadAddress { .. } => Effect::Stop,
+        Insn::Call { callee, number } => call(frame, sizes, callee, number),
+        Insn::Exit => exit(frame),
+    }
+}

@@ -1,0 +1,6 @@
+//! Outside values: programs and corner operands.
+
+use super::*;
+
+mod corners;
+mod programs;

@@ -1,0 +1,16 @@
+//! What a register holds.
+
+use crate::regions::Region;
+
+/// What a register holds. A number knows that it is one, and a pointer knows its region.
+#[derive(Clone, Copy, Debug, PartialEq, Eq)]
+pub enum Value {
+    /// Nothing that an instruction may read.
+    Unset,
+    /// A number below 2^64.
+    Num(u64),
+    /// A pointer: any whole offset, of which only those inside the region can be read or written.
+    Ptr { region: Region, offset: i128 },
+    /// A map, by its index.
+    Map(u32),
+}

@@ -1,0 +1,6 @@
+use Rattle.std.proofs.Common.{◌≡◌, ◌<◌, ◌≤◌, ℕ, [], length, get_or}
+use Rattle.target.specs.Making.{AreHands}
+use Rattle.target.proofs.node.empty_hands.Given as goal
+
+abbrev pub invariant-loop-port : goal.invariant-loop-port
+invariant-loop-port l = AreHands 0 l._port l.hands.items

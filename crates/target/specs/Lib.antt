@@ -1,0 +1,5 @@
+pub mod Codes
+pub mod Passes
+pub mod Steps
+pub mod Making
+pub mod Decisions

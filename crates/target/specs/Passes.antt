@@ -1,0 +1,19 @@
+-- What a node and a port's pass are to those who read them.
+use Rattle.std.specs.Prelude.{◌≡◌, ◌<◌, ◌≤◌, ℕ, List, length}
+use Rattle.bver.specs.Justified.{Judge}
+use Rattle.rmap.specs.Ranges.{Ranges}
+use Rattle.bank.specs.Records.{Turn}
+
+-- what a port has of its node: the node's windows, the program that judges with its generation, and
+-- a share of each bank
+pub record Holder : Type 0 where
+  pub port : ℕ
+  pub windows : Ranges
+  pub program : Judge
+  pub generation : ℕ
+  pub shares : List Turn
+
+-- a port's number is below 32, and it has a share of each bank of its node
+pub record IsHolder (p : Holder) : Type 0 where
+  pub port : p.port < 32
+  pub shares : length p.shares ≡ length p.windows.banks

@@ -1,0 +1,60 @@
+//! What a port has of its node.
+
+ghost use Rattle.std.specs.Prelude.{◌≡◌, ◌<◌, length, slice_get, Some};
+ghost use Rattle.target.specs.Passes.{IsHolder};
+
+use bank::Share;
+use bver::Accepted;
+use rmap::Windows;
+use std::marker::Model;
+
+/// The bytes of a program's stack.
+pub(crate) const STACK: usize = 512;
+
+/// What one port has of its node: the windows, the program that judges its commands, a share of each
+/// bank, and the stack of the program. Only [`Node::new`](crate::Node::new) makes passes.
+#[derive(Debug, Drop)]
+pub struct Pass {
+    pub(crate) port: u8,
+    pub(crate) windows: Windows,
+    pub(crate) program: Accepted,
+    pub(crate) generation: u32,
+    pub(crate) shares: Vec<Share>,
+    pub(crate) stack: [u8; STACK],
+}
+
+impl Model for Pass {
+    ghost use Rattle.target.specs.Passes.{Holder, IsHolder};
+
+    ghost Value = { Holder };
+
+    ghost view = { λ p. record { port = p.port; windows = p.windows; program = p.program; generation = p.generation; shares = p.shares.items } };
+
+    ghost invariant = { λ p. IsHolder (record { port = p.port; windows = p.windows; program = p.program; generation = p.generation; shares = p.shares.items }) };
+}
+
+impl Pass {
+    /// The port's number.
+    pub fn port(&self) -> u8
+        ensures value { result ≡ self.now.port }
+        ensures few { result < 32 }
+    {
+        self.port
+    }
+
+    /// How many banks the node has.
+    pub fn banks(&self) -> usize
+        ensures value { result ≡ length self.now.shares }
+        ensures holder { IsHolder self.now }
+    {
+        self.shares.len()
+    }
+
+    /// The port's share of the bank of that number.
+    pub fn share(&self, k: u8) -> &Share
+        requires { k < length self.now.shares }
+        ensures { slice_get self.now.shares k ≡ Some result.now }
+    {
+        &self.shares[usize::from(k)]
+    }
+}

@@ -1,0 +1,43 @@
+//! The whole way of a packet.
+
+ghost use Rattle.std.specs.Prelude.{◌≡◌, length};
+
+use crate::finishing::finish;
+use crate::judging::{Step, judge};
+use crate::node::Node;
+use crate::pass::Pass;
+use bank::Applied;
+use rmap::{Discard, Place, ReplyBuf, Status};
+use spw::Packet;
+
+/// What became of a packet.
+#[derive(Clone, Copy, Debug, PartialEq, Eq)]
+pub enum Served {
+    /// It is no command, and gets no reply.
+    Discarded(Discard),
+    /// A check of its header holds.
+    Answered(Status),
+    /// The node has nothing that serves it.
+    Unread,
+    /// It was judged, and applied to its bank.
+    Done(Applied),
+}
+
+/// Serves one packet that came in at the pass's port: judges it, and applies the verdict to the bank
+/// that it names. `reply` holds the reply that is due then, if any.
+pub fn serve_packet(node: &mut Node, pass: &mut Pass, packet: Packet, reply: &mut ReplyBuf) -> Served
+    requires { length pass.old.shares ≡ length node.old }
+{
+    let _banks = pass.banks();
+    match judge(pass, packet, reply) {
+        Step::Discarded(discard, _packet) => Served::Discarded(discard),
+        Step::Answered(status, _packet) => Served::Answered(status),
+        Step::Unread(_packet) => Served::Unread,
+        Step::Judged(judged) => {
+            let Place::Bank(k) = judged.place() else {
+                unreachable!()
+            };
+            Served::Done(finish(pass, node.bank_mut(k), judged, reply))
+        }
+    }
+}
