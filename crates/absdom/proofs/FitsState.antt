@@ -36,6 +36,12 @@ use Rattle.absdom.proofs.FitsMemory.{IsBetween, HasPlace, place_between, word_be
 
 -- ---- registers
 
+-- the kind at a register that was written, or nothing where there is no such register
+pub at_place : (kinds : List AbsKind) (r : ℕ) (v : Value) (k : AbsKind) → FitsKind v k → FitsKind v (kind_in (set kinds r k) r)
+at_place [] r v k f = tt
+at_place (x ∷ kinds) zero v k f = f
+at_place (x ∷ kinds) (suc r) v k f = at_place kinds r v k f
+
 -- the kind at a register after that one or another was written
 kind_after_by_place : (regs : ℕ → Value) (kinds : List AbsKind) (r : ℕ) (v : Value) (k : AbsKind) → FitsKind v k → ((q : ℕ) → FitsKind (regs q) (kind_in kinds q)) → (q : ℕ) (t : Bool) → (q == r) ≡ t → FitsKind (if t then v else regs q) (kind_in (set kinds r k) q)
 kind_after_by_place regs kinds r v k f g q false e =
@@ -44,11 +50,6 @@ kind_after_by_place regs kinds r v k f g q true e =
     let eq : q ≡ r = grind (arith, nat_tests) in
     let P : ℕ → Type 0 = λ x. FitsKind v (kind_in (set kinds r k) x) in
     subst P (sym eq) (at_place kinds r v k f)
-  where
-    at_place : (kinds : List AbsKind) (r : ℕ) (v : Value) (k : AbsKind) → FitsKind v k → FitsKind v (kind_in (set kinds r k) r)
-    at_place [] r v k f = tt
-    at_place (x ∷ kinds) zero v k f = f
-    at_place (x ∷ kinds) (suc r) v k f = at_place kinds r v k f
 
 pub fits_after : (s : State) (a : Knowledge) (next r : ℕ) (v : Value) (k : AbsKind) → FitsKind v k → Fits s a → Fits (state next (register_after s.registers r v) s.stack) (with_kind a r k)
 fits_after s a next r v k f fits =

@@ -6,3 +6,4 @@ pub mod FitsMemory
 pub mod FitsState
 pub mod JoinOrder
 pub mod FitsEntry
+pub mod FitsEdges

@@ -1,15 +1,16 @@
 -- Which states of the machine are as a state of the verifier says (a choice of this project).
-use Rattle.std.specs.Prelude.{◌≡◌, ◌≢◌, ℕ, ◌+◌, ◌^◌, ◌<◌, ℤ, pos, negsuc, ◌≤ℤ◌, true, Option, Some, None, Result, Ok, Err}
+use Rattle.std.specs.Prelude.{◌≡◌, ◌≢◌, ℕ, ◌+◌, ◌^◌, ◌<◌, ℤ, pos, negsuc, ◌≤ℤ◌, Bool, true, false, Option, Some, None, Result, Ok, Err}
 use Rattle.bpf_insn.specs.declared.insn.Insn.{Insn}
 use Rattle.bpf_insn.specs.declared.insn.Insn.TheVariants.{Alu, Negate, MoveSigned, ByteSwap, Load, Store, Jump, Goto, Wide, LoadMap, LoadAddress, Call, Exit}
 use Rattle.machine.specs.declared.values.Value.{Value}
 use Rattle.machine.specs.declared.values.Value.TheVariants.{Unset as Nothing, Num as Number, Ptr as Pointer, Map as MapOf}
 use Rattle.machine.specs.State.{State}
-use Rattle.machine.specs.Step.{Outcome, Next, Ask, Verdict, Trap}
+use Rattle.machine.specs.Step.{Outcome, Next, Ask, Verdict, Trap, branches}
 use Rattle.absdom_num.specs.Ranges.{IsIn}
 use Rattle.absdom.specs.declared.cause.Cause.{Cause}
 use Rattle.absdom.specs.declared.kinds.AbsKind.{AbsKind}
 use Rattle.absdom.specs.declared.kinds.AbsKind.TheVariants.{Unset, Num, Ptr, Map}
+use Rattle.absdom.specs.declared.refining.Edges.{Edges}
 use Rattle.absdom.specs.Knowledge.{Knowledge, kind_at}
 use Rattle.absdom.specs.Marks.{mark_at}
 
@@ -56,6 +57,22 @@ GoesOn Trap slot a = ⊥
 abbrev pub IsSound : Outcome → (slot : ℕ) → Result Knowledge Cause → Type 0
 IsSound outcome slot (Err cause) = Unit {0}
 IsSound outcome slot (Ok a) = GoesOn outcome slot a
+
+-- the state fits what is known on an edge; none does where the edge is not followed
+abbrev pub FitsEdge : State → Option Knowledge → Type 0
+FitsEdge s None = ⊥
+FitsEdge s (Some a) = Fits s a
+
+-- the edge that is followed where a comparison is true or false
+abbrev pub edge_where : Bool → Edges → Option Knowledge
+edge_where true edges = edges.taken
+edge_where false edges = edges.not_taken
+
+-- where a comparison is not refused, it is true or false, and the state fits the edge that it takes
+abbrev pub TakesEdge : State → (offset : ℤ) → Outcome → Result Edges Cause → Type 0
+TakesEdge s offset outcome (Err cause) = Unit {0}
+TakesEdge s offset outcome (Ok edges) =
+    (holds : Bool) × (outcome ≡ branches s offset holds) × FitsEdge s (edge_where holds edges)
 
 -- an index of a map: not negative
 abbrev pub IsIndex : ℤ → Type 0

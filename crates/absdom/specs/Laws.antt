@@ -1,13 +1,18 @@
 -- What holds of the states of the verifier.
-use Rattle.std.specs.Prelude.{◌≡◌, ℕ, ◌+◌, ◌<◌, ◌^◌}
+use Rattle.std.specs.Prelude.{◌≡◌, ℕ, ◌+◌, ◌<◌, ◌^◌, ℤ}
+use Rattle.bpf_insn.specs.declared.operation.Width.{Width}
+use Rattle.bpf_insn.specs.declared.operation.Condition.{Condition}
+use Rattle.bpf_insn.specs.declared.operation.Operand.{Operand}
 use Rattle.bpf_insn.specs.declared.insn.Insn.{Insn}
+use Rattle.bpf_insn.specs.declared.insn.Insn.TheVariants.{Jump}
 use Rattle.bpf_insn.specs.Spelling.{slots_of}
 use Rattle.machine.specs.Memory.{Header, IsHeader}
 use Rattle.machine.specs.State.{State, entry_state}
 use Rattle.machine.specs.Step.{perform, answered}
 use Rattle.absdom.specs.Knowledge.{Knowledge, IsBelow, IsJoin, IsEntry, AreAlike, after_call}
 use Rattle.absdom.specs.Effect.{applied}
-use Rattle.absdom.specs.Fits.{Fits, IsSound, GoesStraight}
+use Rattle.absdom.specs.Edges.{refined_edges}
+use Rattle.absdom.specs.Fits.{Fits, IsSound, GoesStraight, TakesEdge}
 
 -- whatever fits the first fits the second, where the first is below it
 abbrev pub BelowFits : Type 0
@@ -45,3 +50,9 @@ abbrev pub ApplyFits : Type 0
 ApplyFits =
     (header : Header) (s : State) (a : Knowledge) (insn : Insn) → IsHeader header → GoesStraight insn → Fits s a
     → IsSound (perform header s insn) (s.slot + slots_of insn) (applied a insn)
+
+-- where a comparison is not refused, every state that fits fits the edge that it takes
+abbrev pub RefineFits : Type 0
+RefineFits =
+    (header : Header) (s : State) (a : Knowledge) (condition : Condition) (width : Width) (dst : ℕ) (src : Operand) (offset : ℤ)
+    → Fits s a → TakesEdge s offset (perform header s (Jump condition width dst src offset)) (refined_edges a condition width dst src)

@@ -1,6 +1,6 @@
 //! Laws about states. Each function does nothing: its contract is the law.
 
-ghost use Rattle.absdom.specs.Laws.{BelowFits, BelowIsReflexive, BelowIsTransitive, BelowIsAntisymmetric, EntryFits, CallFits, JoinIsAbove, JoinIsLeast, ApplyFits};
+ghost use Rattle.absdom.specs.Laws.{BelowFits, BelowIsReflexive, BelowIsTransitive, BelowIsAntisymmetric, EntryFits, CallFits, JoinIsAbove, JoinIsLeast, ApplyFits, RefineFits};
 
 /// A law and no work: whatever fits a state fits every state above it, and the order is one.
 pub fn order_of_states()
@@ -40,3 +40,13 @@ pub fn join_is_least()
     ensures above { JoinIsAbove }
     ensures least { JoinIsLeast }
 {}
+
+/// A law and no work: from every state of the machine that fits what is known, a comparison that
+/// [`refine`] does not refuse takes an edge that is followed, and the state fits what is known on it.
+///
+/// [`refine`]: crate::refine
+pub fn refine_fits()
+    ensures { RefineFits }
+{
+    absdom_num::edges_fit();
+}

@@ -22,7 +22,9 @@ mod state;
 pub use applying::apply;
 pub use cause::Cause;
 pub use kinds::AbsKind;
-pub use laws::{after_call_fits, apply_fits, entry_fits, join_is_least, order_of_states};
+pub use laws::{
+    after_call_fits, apply_fits, entry_fits, join_is_least, order_of_states, refine_fits,
+};
 pub use machine::Region;
 pub use offsets::Offsets;
 pub use refining::{Edges, refine};

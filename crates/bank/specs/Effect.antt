@@ -1,6 +1,6 @@
 -- What a command does to memory, and the data of its reply (ECSS-E-ST-50-52C, 5.3.3 write, 5.4.3
 -- read, 5.5.3 read-modify-write).
-use Rattle.std.specs.Prelude.{ℕ, ◌+◌, ◌-◌, ◌/◌, ◌==◌, ◌&&◌, nat_le, nat_lt, if◌then◌else◌, List, [], map, length, slice_index, bit_and, bit_or}
+use Rattle.std.specs.Prelude.{◌≡◌, ◌≤◌, ◌<◌, true, ℕ, ◌+◌, ◌-◌, ◌/◌, ◌==◌, ◌&&◌, nat_le, nat_lt, if◌then◌else◌, List, [], map, length, slice_index, bit_and, bit_or}
 use Rattle.std.specs.Int.{bit_not, w8}
 use Rattle.std.specs.List.{range_with_len}
 use Rattle.rmap.specs.declared.kind.Kind.{Kind}
@@ -45,11 +45,14 @@ written m c bytes = record {
 abbrev pub masked : (byte mask old : ℕ) → ℕ
 masked byte mask old = bit_or (bit_and byte mask) (bit_and old (bit_not w8 mask))
 
--- what a read-modify-write writes: its first n bytes are data, the next n the mask
+-- byte i of what a read-modify-write of n bytes writes: its first n bytes are data, the next n the mask
+abbrev pub modified_byte : Memory → Parts → ℕ → ℕ → ℕ
+modified_byte m c n i =
+    masked (slice_index c.body i) (slice_index c.body (n + i)) (byte_at m (address_of_byte c i))
+
+-- what a read-modify-write of n bytes writes
 abbrev pub modified : Memory → Parts → ℕ → List ℕ
-modified m c n =
-    map (λ i. masked (slice_index c.body i) (slice_index c.body (n + i)) (byte_at m (address_of_byte c i)))
-    (range_with_len 0 n)
+modified m c n = map (modified_byte m c n) (range_with_len 0 n)
 
 -- memory after a command, and the data that its reply carries
 pub record Effect : Type 0 where
@@ -66,3 +69,9 @@ effect_of Unused m c = record { memory = m; reply = [] }
 -- from before it
 abbrev pub effect : Memory → Parts → Effect
 effect m c = effect_of (command_kind c) m c
+
+-- n bytes of the command's data lie in memory of that size from that address on
+pub record IsWithin (first size : ℕ) (c : Parts) (n : ℕ) : Type 0 where
+  pub above : first ≤ address_of c
+  pub below : address_of c < first + size
+  pub all : increments c ≡ true → address_of c + n ≤ first + size

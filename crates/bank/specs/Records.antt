@@ -1,12 +1,13 @@
 -- What a bank, its journal and its shares are to those who read them.
-use Rattle.std.specs.Prelude.{◌≡◌, ◌≤◌, ℕ, ◌+◌, ◌-◌, ◌^◌, Bool, ◌==◌, ◌&&◌, nat_lt, List, length, slice_index, fold, None, true, replicate, Option, if◌then◌else◌, nat_le, slice_get}
+use Rattle.std.specs.Prelude.{◌≡◌, ◌≤◌, ℕ, ◌+◌, ◌-◌, ◌^◌, Bool, ◌==◌, ◌&&◌, nat_lt, List, length, slice_index, fold, None, true, replicate, Option, if◌then◌else◌, nat_le, slice_get, ◌<◌, ◌∷◌, ◌++◌, [], map, filter, slice_set, Some}
 use Rattle.spw.specs.Cargo.{Cargo}
 use Rattle.rmap.specs.declared.places.Place.{Place}
 use Rattle.rmap.specs.declared.status.Status.{Status}
 use Rattle.rmap.specs.Ranges.{lies_inside}
 use Rattle.bank.specs.Reading.{command_of, IsAdmitted}
 use Rattle.bank.specs.Effect.{Memory}
-use Rattle.bank.specs.Answer.{effect_at, is_success}
+use Rattle.std.specs.List.{range_with_len}
+use Rattle.bank.specs.Answer.{Answer, answer, effect_at, is_success}
 use Rattle.rmap.specs.Checks.{body_line}
 
 -- a judged command: its packet, where its bytes lie, and who judged what
@@ -61,6 +62,14 @@ memory_of b = record { first = b.first; bytes = b.bytes }
 abbrev pub byte_in : (first : ℕ) → List ℕ → (address : ℕ) → Option ℕ
 byte_in first bytes address = if nat_le first address then slice_get bytes (address - first) else None
 
+-- what the journal of a bank begins with
+abbrev pub base_of : Contents → Memory
+base_of b = record { first = b.first; bytes = b.base }
+
+-- the numbers of a port's entries, in order
+abbrev pub numbers_of : ℕ → List Logged → List ℕ
+numbers_of port entries = map (λ (e : Logged). e.number) (filter (λ (e : Logged). e.port == port) entries)
+
 -- the journal has room for an entry, and the port's next number has a successor
 abbrev pub has_room : Contents → ℕ → Bool
 has_room b port = nat_lt (length b.journal.entries) b.journal.room && nat_lt (slice_index b.counts port) (2 ^ 64 - 1)
@@ -80,7 +89,8 @@ fits b share judged =
 abbrev pub IsExecutable : Status → Cargo → Type 0
 IsExecutable status p = is_success status ≡ true → IsAdmitted p × (body_line (command_of p) ≡ None)
 
--- a bank has between 1 and 1,048,576 bytes below 2^32 and between 1 and 32 ports
+-- a bank has between 1 and 1,048,576 bytes below 2^32 and between 1 and 32 ports. Its memory is the
+-- replay of its journal, in which the numbers of each port are 0, 1, 2 and so on
 pub record IsBank (b : Contents) : Type 0 where
   pub some : 1 ≤ length b.bytes
   pub few : length b.bytes ≤ 1048576
@@ -88,6 +98,8 @@ pub record IsBank (b : Contents) : Type 0 where
   pub base : length b.base ≡ length b.bytes
   pub ports : 1 ≤ length b.counts
   pub few_ports : length b.counts ≤ 32
+  pub replayed : memory_of b ≡ replay (base_of b) b.journal.entries
+  pub numbered : (port : ℕ) → port < length b.counts → numbers_of port b.journal.entries ≡ range_with_len 0 (slice_index b.counts port)
 
 -- the share of a port that has sent a bank no command
 abbrev pub first_share : ℕ → Turn
@@ -102,3 +114,41 @@ fresh_bank base size journal ports = record {
     journal = journal;
     counts = replicate ports 0
   }
+
+-- what a judged command is answered at a bank
+abbrev pub answer_of : Contents → Judgement → Answer
+answer_of b judged = answer (memory_of b) (has_room b judged.port) (command_of judged.packet) judged.verdict
+
+-- the entry of a judged command that ended with that status
+abbrev pub logged : Turn → Judgement → Status → Logged
+logged share judged status = record {
+    port = judged.port;
+    number = share.number;
+    packet = judged.packet;
+    generation = judged.generation;
+    verdict = judged.verdict;
+    status = status
+  }
+
+-- a bank with the answer's memory, the command's entry behind the others, and the port's next number
+abbrev pub recorded : Contents → Turn → Judgement → Answer → Contents
+recorded b share judged a = record {
+    first = b.first;
+    bytes = a.memory.bytes;
+    base = b.base;
+    journal = record { entries = b.journal.entries ++ logged share judged a.status ∷ []; room = b.journal.room };
+    counts = slice_set b.counts judged.port (share.number + 1)
+  }
+
+-- a bank after a judged command: as it was where there is no room
+abbrev pub applied : Contents → Turn → Judgement → Contents
+applied b share judged = if has_room b judged.port then recorded b share judged (answer_of b judged) else b
+
+-- the number of the entry that a judged command leaves
+abbrev pub number_left : Contents → Turn → Judgement → Option ℕ
+number_left b share judged = if has_room b judged.port then Some share.number else None
+
+-- a share after a judged command
+abbrev pub next_share : Contents → Turn → Judgement → Turn
+next_share b share judged =
+    if has_room b judged.port then record { port = share.port; number = share.number + 1 } else share

@@ -3,10 +3,12 @@
 ghost use Rattle.std.specs.Prelude.{◌≡◌, ◌≤◌, ◌<◌, ◌+◌, ◌-◌, ◌^◌, ◌⊎◌, ◌↔◌, [], ◌∷◌, ◌++◌, length, true, Some, None, IfOk, IsErrOf, slice_index, map, false};
 ghost use Rattle.rmap.specs.Ranges.{lies_inside};
 ghost use Rattle.bank.specs.Reading.{command_of};
-ghost use Rattle.bank.specs.Answer.{judged_line, status_of};
+ghost use Rattle.rmap.specs.Reply.{reply_of};
+ghost use Rattle.bank.specs.Effect.{Memory};
+ghost use Rattle.bank.specs.Answer.{judged_line, status_of, effect_at};
 ghost use Rattle.std.specs.List.{range_with_len};
 ghost use Rattle.bank.specs.Limits.{is_range, is_bank};
-ghost use Rattle.bank.specs.Records.{first_share, fresh_bank, byte_in, fits, is_next, has_room, IsExecutable};
+ghost use Rattle.bank.specs.Records.{first_share, fresh_bank, byte_in, fits, is_next, has_room, IsBank, IsExecutable, memory_of, answer_of, applied, number_left, next_share};
 
 use crate::effect::execute;
 use crate::entry::Entry;
@@ -141,6 +143,16 @@ impl Bank {
         self.journal.entries()
     }
 
+    /// The address of the first byte, and how many bytes the bank has. Memory is the replay of the
+    /// journal on the bytes that it began with.
+    pub fn range(&self) -> (u32, u32)
+        ensures first { result.0 ≡ self.now.first }
+        ensures size { result.1 ≡ length self.now.bytes }
+        ensures bank { IsBank self.now }
+    {
+        (self.first, self.bytes.len() as u32)
+    }
+
     /// How many ports share the bank.
     pub fn ports(&self) -> u8
         ensures value { result ≡ length self.now.counts }
@@ -197,6 +209,15 @@ impl Bank {
     /// leaves the reply. While there is room each command leaves an entry, whatever its status.
     pub fn apply(&mut self, share: &mut Share, judged: Judged, reply: &mut ReplyBuf) -> Applied
         requires { fits self.old share.old judged ≡ true }
+
+        ensures status { result.status ≡ (answer_of self.old judged).status }
+        ensures memory { memory_of self.new ≡ (answer_of self.old judged).memory }
+        ensures reply { reply.new ≡ (answer_of self.old judged).reply }
+
+        // Where there is room it leaves one entry, the others stay, and bank and share count it.
+        ensures number { result.number ≡ number_left self.old share.old judged }
+        ensures bank { self.new ≡ applied self.old share.old judged }
+        ensures share { share.new ≡ next_share self.old share.old judged }
     {
         let room = self.has_room(judged.port());
         let status = answer(&mut self.bytes, self.first, room, &judged, reply);
@@ -209,7 +230,7 @@ impl Bank {
         }
         let number = share.number();
         share.advance();
-        self.counts[usize::from(judged.port())] += 1;
+        self.counts[usize::from(judged.port())] = number + 1;
         self.journal.push(Entry::new(number, judged, status));
         Applied {
             status,
@@ -227,8 +248,9 @@ fn answer(
     reply: &mut ReplyBuf,
 ) -> Status
     requires { lies_inside first (length memory.old.items) (command_of judged.now.packet) ≡ true }
-    ensures length { length memory.new.items ≡ length memory.old.items }
     ensures status { result ≡ status_of room (command_of judged.now.packet) judged.now.verdict }
+    ensures memory { record { first = first; bytes = memory.new.items } ≡ (effect_at result (record { first = first; bytes = memory.old.items }) (command_of judged.now.packet)).memory }
+    ensures reply { reply.new ≡ reply_of (command_of judged.now.packet) result (effect_at result (record { first = first; bytes = memory.old.items }) (command_of judged.now.packet)).reply }
     ensures executed { IsExecutable result judged.now.packet }
 {
     let command = judged.command();

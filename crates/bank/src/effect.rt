@@ -1,10 +1,12 @@
 //! What commands do to the bytes of a bank.
 
-ghost use Rattle.std.specs.Prelude.{◌≡◌, ◌≤◌, ◌<◌, ◌+◌, ◌*◌, length, true, None};
-ghost use Rattle.rmap.specs.Command.{increments, length_of, address_of, command_kind};
+ghost use Rattle.std.specs.Prelude.{◌≡◌, ◌≤◌, ◌<◌, ◌+◌, length, take, true, None};
+ghost use Rattle.rmap.specs.declared.status.Status.TheVariants.{Success as Succeeds};
 ghost use Rattle.rmap.specs.Ranges.{lies_inside};
 ghost use Rattle.rmap.specs.Checks.{body_line};
+ghost use Rattle.rmap.specs.Reply.{reply_of};
 ghost use Rattle.bank.specs.Reading.{IsAdmissible};
+ghost use Rattle.bank.specs.Effect.{IsWithin, effect, bytes_read, written, modified};
 
 use rmap::{Command, Kind, ReplyBuf, Status, put_reply};
 
@@ -14,51 +16,47 @@ const MAX_DATA: usize = 4096;
 /// The most bytes that a read-modify-write changes.
 const MAX_MODIFIED: usize = 4;
 
-/// Replies with `count` bytes of memory: those from `offset` on, or the one there again and again.
-fn reply_read(reply: &mut ReplyBuf, command: &Command, memory: &[u8], offset: usize, count: usize)
-    requires inside { offset < length memory.now }
+/// Replies with `count` bytes of the memory that begins at the address `first`: those from the
+/// command's address on, or the one there again and again.
+fn reply_read(reply: &mut ReplyBuf, command: &Command, memory: &[u8], first: u32, count: usize)
     requires few { count ≤ 4096 }
-    requires fits { increments command.now ≡ true → offset + count ≤ length memory.now }
+    requires within { IsWithin first (length memory.now) command.now count }
+    ensures { reply.new ≡ reply_of command.now Succeeds (bytes_read (record { first = first; bytes = memory.now }) command.now count) }
 {
+    let offset = (command.address() - first) as usize;
     if command.increments() {
-        put_reply(
-            reply,
-            command,
-            Status::Success,
-            &memory[offset..offset + count],
-        );
+        put_reply(reply, command, Status::Success, &memory[offset..offset + count]);
     } else {
         let repeated: [u8; MAX_DATA] = [memory[offset]; MAX_DATA];
         put_reply(reply, command, Status::Success, &repeated[..count]);
     }
 }
 
-/// Puts bytes into memory: each at the next address from `offset` on, or all at that one.
-fn store(memory: &mut [u8], offset: usize, increments: bool, bytes: &[u8])
-    requires inside { offset < length memory.old }
-    requires fits { increments ≡ true → offset + length bytes.now ≤ length memory.old }
+/// Puts bytes into the memory that begins at the address `first`: each at the next address from the
+/// command's on, or all at that one.
+fn store(memory: &mut [u8], first: u32, command: &Command, bytes: &[u8])
+    requires within { IsWithin first (length memory.old) command.now (length bytes.now) }
+    ensures { memory.new ≡ (written (record { first = first; bytes = memory.old }) command.now bytes.now).bytes }
 {
-    if increments {
+    let offset = (command.address() - first) as usize;
+    if command.increments() {
         memory[offset..offset + bytes.len()].copy_from_slice(bytes);
     } else if let Some(last) = bytes.last() {
         memory[offset] = *last;
     }
 }
 
-/// What a read-modify-write writes: of each byte the bits of the data where the mask has ones, else
-/// those of memory. Data and mask are the two halves of the body's first bytes.
-fn modified(
-    memory: &[u8],
-    offset: usize,
-    increments: bool,
-    body: &[u8],
-    half: usize,
-) -> [u8; MAX_MODIFIED]
-    requires inside { offset < length memory.now }
-    requires fits { increments ≡ true → offset + half ≤ length memory.now }
+/// What a read-modify-write of `half` bytes writes: of each byte the bits of the data where the mask
+/// has ones, else those of memory. Data and mask are the halves of the data in the body.
+fn modified(memory: &[u8], first: u32, command: &Command, half: usize) -> [u8; MAX_MODIFIED]
     requires few { half ≤ 4 }
-    requires body { half + half ≤ length body.now }
+    requires body { half + half ≤ length command.now.body }
+    requires within { IsWithin first (length memory.now) command.now half }
+    ensures { take half result ≡ modified (record { first = first; bytes = memory.now }) command.now half }
 {
+    let offset = (command.address() - first) as usize;
+    let increments = command.increments();
+    let body = command.body();
     let mut bytes = [0; MAX_MODIFIED];
     for i in 0..half {
         let old = memory[if increments { offset + i } else { offset }];
@@ -69,26 +67,25 @@ fn modified(
 }
 
 /// Executes the command on the memory that begins at the address `first`, and replies with success.
-pub(crate) fn execute(memory: &mut Vec<u8>, first: u32, command: &Command, reply: &mut ReplyBuf)
+pub(crate) fn execute(memory: &mut [u8], first: u32, command: &Command, reply: &mut ReplyBuf)
     requires admitted { IsAdmissible command.now }
     requires body { body_line command.now ≡ None }
-    requires inside { lies_inside first (length memory.old.items) command.now ≡ true }
-    ensures length { length memory.new.items ≡ length memory.old.items }
+    requires inside { lies_inside first (length memory.old) command.now ≡ true }
+    ensures memory { record { first = first; bytes = memory.new } ≡ (effect (record { first = first; bytes = memory.old }) command.now).memory }
+    ensures reply { reply.new ≡ reply_of command.now Succeeds (effect (record { first = first; bytes = memory.old }) command.now).reply }
 {
-    let offset = (command.address() - first) as usize;
     let length = command.length() as usize;
-    let increments = command.increments();
     match command.kind() {
-        Kind::Read => reply_read(reply, command, memory, offset, length),
+        Kind::Read => reply_read(reply, command, memory, first, length),
         Kind::Write => {
-            store(memory, offset, increments, &command.body()[..length]);
+            store(memory, first, command, &command.body()[..length]);
             put_reply(reply, command, Status::Success, &[]);
         }
         Kind::Rmw => {
             let half = length / 2;
-            reply_read(reply, command, memory, offset, half);
-            let bytes = modified(memory, offset, increments, command.body(), half);
-            store(memory, offset, increments, &bytes[..half]);
+            reply_read(reply, command, memory, first, half);
+            let bytes = modified(memory, first, command, half);
+            store(memory, first, command, &bytes[..half]);
         }
         Kind::Unused => unreachable!(),
     }

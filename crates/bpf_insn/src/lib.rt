@@ -11,6 +11,7 @@ mod insn;
 mod laws;
 mod memory;
 mod operation;
+mod printing;
 mod register;
 
 pub use decoding::{BadInsn, decode};
@@ -19,11 +20,8 @@ pub use insn::{Address, Callee, Distance, Insn};
 pub use laws::spelling_laws;
 pub use memory::{LoadSize, Size};
 pub use operation::{AluOp, Condition, Extension, Operand, Swap, SwapBits, Width};
+pub use printing::text;
 pub use register::Register;
 
 #[cfg(test)]
-mod more_vectors;
-#[cfg(test)]
 mod tests;
-#[cfg(test)]
-mod vectors;

@@ -1,8 +1,7 @@
-//! Byte strings of an independent assembler, and the faults.
+//! Opcodes, faults and registers. The program `vectors` compares whole instructions with an
+//! independent assembler.
 
 use super::*;
-use crate::{more_vectors, vectors};
-use std::process::Abort;
 
 /// The first bytes of the table of opcodes (RFC 9669, appendix A), rising.
 const OPCODES: [u8; 117] = [
@@ -15,47 +14,6 @@ const OPCODES: [u8; 117] = [
     0xb6, 0xb7, 0xbc, 0xbd, 0xbe, 0xbf, 0xc4, 0xc5, 0xc6, 0xc7, 0xcc, 0xcd, 0xce, 0xcf, 0xd4, 0xd5,
     0xd6, 0xd7, 0xdc, 0xdd, 0xde,
 ];
-
-fn round_trip(rt: &impl Abort, slots: &[u64]) {
-    for slot in slots {
-        let bytes = slot.to_be_bytes();
-        match decode(&bytes, None) {
-            Ok(insn) => {
-                let (first, second) = encode(&insn);
-                assert!(rt; first == bytes, "of {slot:x}");
-                assert!(rt; second.is_none(), "of {slot:x}");
-            }
-            Err(_) => assert!(rt; false, "at {slot:x}"),
-        }
-    }
-}
-
-#[test]
-fn assembled_slots_are_decoded_and_encoded(rt: HostRuntime) {
-    round_trip(&rt, &vectors::SLOTS_0);
-    round_trip(&rt, &vectors::SLOTS_1);
-    round_trip(&rt, &vectors::SLOTS_2);
-    round_trip(&rt, &more_vectors::SLOTS_3);
-    round_trip(&rt, &more_vectors::SLOTS_4);
-    round_trip(&rt, &more_vectors::SLOTS_5);
-}
-
-#[test]
-fn assembled_pairs_are_decoded_and_encoded(rt: HostRuntime) {
-    for (first, second) in &more_vectors::PAIRS {
-        let bytes = first.to_be_bytes();
-        let next = second.to_be_bytes();
-        match decode(&bytes, Some(&next)) {
-            Ok(insn) => {
-                assert_eq!(rt; insn.slots(), 2);
-                let (one, two) = encode(&insn);
-                assert!(rt; one == bytes, "of {first:x}");
-                assert!(rt; two == Some(next), "of {first:x}");
-            }
-            Err(_) => assert!(rt; false, "at {first:x}"),
-        }
-    }
-}
 
 #[test]
 fn every_opcode_is_in_the_table_or_a_fault(rt: HostRuntime) {

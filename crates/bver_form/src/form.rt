@@ -15,7 +15,12 @@ fn check_insn(insn: &Insn) -> Result<(), Refusal>
     ensures { OnOk result (IsSupported (Some insn.now)) }
 {
     match insn {
-        Insn::Alu { op: AluOp::Mov, width: Width::W64, dst, src: Operand::Immediate(_) } => {
+        Insn::Alu {
+            op: AluOp::Mov,
+            width: Width::W64,
+            dst,
+            src: Operand::Immediate(_),
+        } => {
             if dst.number() == FRAME {
                 return Err(Refusal::FrameWrite);
             }
@@ -53,7 +58,10 @@ fn check_end(image: &Image) -> Result<(), Refused>
     let slot = image.slots() - 1;
     match image.insn(slot) {
         Some(Insn::Exit) => Ok(()),
-        _ => Err(Refused { code: Refusal::FallOff, slot }),
+        _ => Err(Refused {
+            code: Refusal::FallOff,
+            slot,
+        }),
     }
 }
 
@@ -62,7 +70,10 @@ fn check_budget(image: &Image) -> Result<(), Refused>
     ensures { OnOk result (length image.now.slots ≤ image.now.budget) }
 {
     if u32::from(image.slots()) > image.budget() {
-        return Err(Refused { code: Refusal::Budget, slot: 0 });
+        return Err(Refused {
+            code: Refusal::Budget,
+            slot: 0,
+        });
     }
     Ok(())
 }

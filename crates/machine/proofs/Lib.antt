@@ -2,3 +2,5 @@ mod LittleEndian
 mod Functions
 mod Nearness
 mod Walking
+mod Agreement
+mod Results

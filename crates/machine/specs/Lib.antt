@@ -8,3 +8,4 @@ pub mod Effects
 pub mod Standing
 pub mod Runs
 pub mod Endings
+pub mod Laws

@@ -9,6 +9,7 @@ mod arithmetic;
 mod calls;
 mod effects;
 mod endings;
+mod laws;
 mod machines;
 mod memory;
 mod regions;
@@ -18,6 +19,7 @@ mod words;
 
 pub use calls::Call;
 pub use endings::{Ending, run};
+pub use laws::{results_fit, runs_agree, sizes_only_trap, steps_leave};
 pub use machines::Machine;
 pub use regions::Region;
 pub use turns::Turn;

@@ -18,7 +18,7 @@ pub struct Memory<'a> {
 }
 
 impl Region {
-    /// How many bytes the region has.
+    /// How many bytes the region has: 4, 12 or 512.
     pub fn size(self) -> usize
         ensures { result ≡ region_size self }
     {

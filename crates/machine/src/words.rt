@@ -43,7 +43,8 @@ fn wrapped(width: Width, z: i64) -> u64
     low(width, z.cast_unsigned())
 }
 
-/// A sign-extended immediate, as a word.
+/// A signed number as a word: an immediate is sign-extended to 64 bits (RFC 9669, section 4.1; for ST a
+/// choice of this project).
 pub fn word(z: i64) -> u64
     ensures { result ≡ word z }
 {
@@ -114,21 +115,25 @@ fn alu_low(op: AluOp, width: Width, a: u64, b: u64) -> u64
     }
 }
 
-/// The operations on two words.
+/// An operation on two words (RFC 9669, section 4.1). At 32 bits it reads the low halves, and the upper
+/// half of the result is zero. Arithmetic wraps, a shift's count is masked to the width, division by
+/// zero gives 0, modulo by zero leaves `a`, signed division truncates toward zero, and the least number
+/// divided by -1 is itself.
 pub fn alu_words(op: AluOp, width: Width, a: u64, b: u64) -> u64
     ensures { result ≡ alu_words op width a b }
 {
     alu_low(op, width, low(width, a), low(width, b))
 }
 
-/// NEG.
+/// NEG of a word (RFC 9669, section 4.1), which wraps. At 32 bits the upper half of the result is zero.
 pub fn negated(width: Width, n: u64) -> u64
     ensures { result ≡ negated width n }
 {
     low(width, 0u64.wrapping_sub(low(width, n)))
 }
 
-/// MOVSX: the low bits, sign-extended.
+/// MOVSX of a word (RFC 9669, section 4.1): its low 8, 16 or 32 bits, sign-extended to 32 or 64 bits. At
+/// 32 bits the upper half of the result is zero.
 pub fn extended(extension: Extension, n: u64) -> u64
     ensures { result ≡ extended extension n }
 {
@@ -166,7 +171,8 @@ fn reversed(bits: SwapBits, n: u64) -> u64
     }
 }
 
-/// END: reads the whole operand in both classes.
+/// END of a word (RFC 9669, section 4.2), on a little-endian machine. In both classes the whole word is
+/// read, and the width alone decides; the bits above it are zero.
 pub fn swapped(swap: Swap, bits: SwapBits, n: u64) -> u64
     ensures { result ≡ swapped swap bits n }
 {
@@ -197,7 +203,7 @@ fn holds_low(condition: Condition, width: Width, a: u64, b: u64) -> bool
     }
 }
 
-/// The conditions on two words.
+/// A condition of two words (RFC 9669, section 4.3). At 32 bits it compares the low halves.
 pub fn holds_words(condition: Condition, width: Width, a: u64, b: u64) -> bool
     ensures { result ≡ holds_words condition width a b }
 {

@@ -1,0 +1,30 @@
+-- What the jobs print.
+use Rattle.std.specs.Prelude.{ℕ, List, [], ◌∷◌, ◌++◌, codes, decimal}
+use Rattle.hex.specs.Hex.{encode_upper}
+use Rattle.rmap.specs.Codes.{discard_code}
+use Rattle.rmap.specs.declared.discard.Discard.{Discard}
+use Rattle.bpf.specs.Fault.{image_fault_code, image_fault_slot}
+use Rattle.bver_form.specs.Codes.{refusal_code}
+use Rattle.commands.specs.declared.faults.Fault.{Fault}
+use Rattle.commands.specs.declared.faults.Fault.TheVariants.{CannotRead, NoMemory, BadImage, Unfit, BadLine}
+
+-- the line of a packet that is discarded
+abbrev pub discard_line : ℕ → Discard → List ℕ
+discard_line port discard = decimal port ++ codes " discard " ++ decimal (discard_code discard) ++ 10 ∷ []
+
+-- the line of a packet with this reply, which is empty where none is due
+abbrev pub reply_line : ℕ → List ℕ → List ℕ
+reply_line port [] = decimal port ++ codes " -" ++ 10 ∷ []
+reply_line port (byte ∷ bytes) =
+    decimal port ++ codes " " ++ encode_upper (byte ∷ bytes) ++ codes " EOP" ++ 10 ∷ []
+
+-- the text of what ends a job
+abbrev pub fault_text : Fault → List ℕ
+fault_text (CannotRead name) = codes "cannot read " ++ name.now
+fault_text NoMemory = codes "no memory"
+fault_text (BadImage fault) =
+    codes "image fault " ++ decimal (image_fault_code fault) ++ codes " slot " ++ decimal (image_fault_slot fault)
+fault_text (Unfit refused) =
+    codes "refused V" ++ decimal (refusal_code refused.code) ++ codes " slot " ++ decimal refused.slot
+fault_text (BadLine number code) =
+    codes "line " ++ decimal number ++ codes " fault " ++ decimal code

@@ -1,0 +1,103 @@
+//! What ends a job before its end.
+
+ghost use Rattle.std.specs.Prelude.{◌≡◌, Some};
+ghost use Rattle.commands.specs.Printed.{fault_text};
+ghost use Rattle.commands.specs.declared.faults.Fault.TheVariants.{BadImage, BadLine, Unfit, NoMemory};
+ghost use Rattle.spw.specs.Fault.{code_of};
+
+use bpf::ImageFault;
+use bver::Refused;
+use spw::LineFault;
+use std::alloc::AllocError;
+use std::fmt;
+
+/// What ends a job before its end. It is the last line that the job prints.
+#[derive(Debug, Drop)]
+pub enum Fault<'a> {
+    /// The file of this name cannot be read, or is no text where it has to be one.
+    CannotRead(&'a str),
+    /// Memory was refused where that has no number of its own.
+    NoMemory,
+    /// The bytes of an image are none.
+    BadImage(ImageFault),
+    /// The verifier refuses an image.
+    Unfit(Refused),
+    /// A packet line is bad.
+    BadLine {
+        /// The number of the line, from 1.
+        number: usize,
+        /// The number of its fault.
+        code: u8,
+    },
+}
+
+/// The number of the fault of a packet line whose port does not exist.
+const NO_SUCH_PORT: u8 = 6;
+
+impl Fault<'_> {
+    /// The packet line of this number does not read, by this fault.
+    pub fn unread(number: usize, fault: LineFault) -> Self
+        ensures { result ≡ BadLine number (code_of fault) }
+    {
+        Fault::BadLine {
+            number,
+            code: fault.code(),
+        }
+    }
+
+    /// The packet line of this number has a port that does not exist.
+    pub fn no_port(number: usize) -> Self
+        ensures { result ≡ BadLine number NO_SUCH_PORT }
+    {
+        Fault::BadLine {
+            number,
+            code: NO_SUCH_PORT,
+        }
+    }
+}
+
+impl From<ImageFault> for Fault<'_> {
+    ghost from_gives = { λ fault given. given ≡ BadImage fault };
+
+    fn from(fault: ImageFault) -> Self {
+        Fault::BadImage(fault)
+    }
+}
+
+impl From<Refused> for Fault<'_> {
+    ghost from_gives = { λ refused given. given ≡ Unfit refused };
+
+    fn from(refused: Refused) -> Self {
+        Fault::Unfit(refused)
+    }
+}
+
+impl From<AllocError> for Fault<'_> {
+    ghost from_gives = { λ _ given. given ≡ NoMemory };
+
+    fn from(_refused: AllocError) -> Self {
+        Fault::NoMemory
+    }
+}
+
+impl fmt::Display for Fault<'_> {
+    ghost output = { λ fault. Some (fault_text fault) };
+
+    fn fmt<W: fmt::Write>(&self, f: &mut fmt::Formatter<W>) -> fmt::Result {
+        match self {
+            Fault::CannotRead(name) => write!(f, "cannot read {name}"),
+            Fault::NoMemory => write!(f, "no memory"),
+            Fault::BadImage(fault) => {
+                let code = fault.code();
+                let slot = fault.slot();
+                write!(f, "image fault {code} slot {slot}")
+            }
+            Fault::Unfit(refused) => {
+                let code = refused.code.code();
+                let slot = refused.slot;
+                write!(f, "refused V{code} slot {slot}")
+            }
+            Fault::BadLine { number, code } => write!(f, "line {number} fault {code}"),
+        }
+    }
+}
