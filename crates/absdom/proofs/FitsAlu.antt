@@ -1,5 +1,5 @@
 -- What arithmetic gives fits what is known of it.
-use Rattle.std.proofs.Common.{◌≡◌, ◌≢◌, ℕ, zero, suc, ◌+◌, ◌-◌, ◌*◌, ◌/◌, ◌%◌, ◌^◌, ◌<◌, ◌≤◌, ℤ, pos, negsuc, ◌+ℤ◌, ◌-ℤ◌, ◌≤ℤ◌, Bool, true, false, ◌&&◌, ◌||◌, ◌==◌, nat_lt, nat_le, if◌then◌else◌, refl, sym, ◌∙◌, ap, subst, arith, cond, ◌⊎◌, inl, inr, Option, Some, None, Result, Ok, Err, List, length}
+use Rattle.std.proofs.Common.{◌≡◌, ℕ, suc, ◌-◌, ◌^◌, ◌<◌, ◌≤◌, ℤ, negsuc, ◌+ℤ◌, ◌-ℤ◌, ◌≤ℤ◌, Bool, true, false, ◌&&◌, ◌||◌, nat_lt, nat_le, if◌then◌else◌, refl, sym, subst, arith, ◌⊎◌, inl, inr, Option, Some, None, Result, Ok, Err}
 use Rattle.std.proofs.lemmas.Int.{ints}
 use Rattle.std.proofs.lemmas.Bool.Decides.{nat_tests}
 use Rattle.bpf_insn.specs.declared.operation.Width.{Width}
@@ -7,23 +7,19 @@ use Rattle.bpf_insn.specs.declared.operation.Width.TheVariants.{W32, W64}
 use Rattle.bpf_insn.specs.declared.operation.AluOp.{AluOp}
 use Rattle.bpf_insn.specs.declared.operation.AluOp.TheVariants.{Add, Sub, Mul, Div, SignedDiv, Or, And, Lsh, Rsh, Mod, SignedMod, Xor, Mov, Arsh}
 use Rattle.machine.specs.declared.regions.Region.{Region}
-use Rattle.machine.specs.declared.regions.Region.TheVariants.{Front, Tail, Stack}
 use Rattle.machine.specs.declared.values.Value.{Value}
 use Rattle.machine.specs.declared.values.Value.TheVariants.{Unset as Nothing, Num as Number, Ptr as Pointer, Map as MapOf}
-use Rattle.machine.specs.Words.{signed, low, word, alu_words}
-use Rattle.machine.specs.State.{State, state, register_after}
+use Rattle.machine.specs.Words.{signed, low}
 use Rattle.machine.specs.Step.{alu, copied, on_number}
 use Rattle.absdom_num.specs.declared.ranges.Range.{Range}
 use Rattle.absdom_num.specs.Ranges.{IsIn}
-use Rattle.absdom_num.specs.Tables.{alu_range}
 use Rattle.absdom_num.specs.Laws.{AluFits}
 use Rattle.absdom.specs.declared.cause.Cause.{Cause}
 use Rattle.absdom.specs.declared.kinds.AbsKind.{AbsKind}
 use Rattle.absdom.specs.declared.kinds.AbsKind.TheVariants.{Unset, Num, Ptr, Map}
 use Rattle.absdom.specs.Offsets.{offsets_within, is_offset}
 use Rattle.absdom.specs.Kinds.{number_of}
-use Rattle.absdom.specs.Knowledge.{Knowledge, kind_at, with_kind}
-use Rattle.absdom.specs.Effect.{computed, computed_alone, copied_kind, signed_ends, moved_to, offsets_up, offsets_down, pointer_up, pointer_down, sum_kind, difference_kind, alu_kind}
+use Rattle.absdom.specs.Effect.{computed, computed_alone, copied_kind, signed_ends, moved_to, offsets_up, offsets_down, sum_kind, difference_kind, alu_kind}
 use Rattle.absdom.specs.Fits.{IsAmong, FitsKind}
 
 -- where an operation is not refused, the machine gives a value that fits

@@ -1,5 +1,5 @@
 -- The state of the machine fits the edge that a comparison takes.
-use Rattle.std.proofs.Common.{◌≡◌, ◌≢◌, ℕ, zero, suc, ◌%◌, ◌^◌, ◌<◌, ◌≤◌, ℤ, Bool, true, false, ◌==◌, if◌then◌else◌, refl, sym, ◌∙◌, ap, subst, arith, Option, Some, None, Result, Ok, Err, List, set, get_or-set_other}
+use Rattle.std.proofs.Common.{◌≡◌, ◌≢◌, ℕ, ◌^◌, ◌<◌, ℤ, Bool, true, false, ◌==◌, if◌then◌else◌, refl, sym, ◌∙◌, ap, subst, arith, Option, Some, None, Result, Ok, Err, List, set, get_or-set_other}
 use Rattle.std.proofs.lemmas.Bool.Decides.{nat_tests}
 use Rattle.bpf_insn.specs.declared.operation.Width.{Width}
 use Rattle.bpf_insn.specs.declared.operation.Width.TheVariants.{W32, W64}
@@ -20,10 +20,9 @@ use Rattle.absdom_num.specs.Laws.{AreIn, followed, RefineFits as RangesFit}
 use Rattle.absdom.specs.declared.cause.Cause.{Cause}
 use Rattle.absdom.specs.declared.kinds.AbsKind.{AbsKind}
 use Rattle.absdom.specs.declared.kinds.AbsKind.TheVariants.{Unset, Num, Ptr, Map}
-use Rattle.absdom.specs.declared.refining.Edges.{Edges}
 use Rattle.absdom.specs.Kinds.{number_of}
 use Rattle.absdom.specs.Knowledge.{Knowledge, kind_in, kind_at, with_kind}
-use Rattle.absdom.specs.Edges.{compared, with_source, on_edge, on_edges, unrefined, is_itself, edges_of, compared_edges, refined_edges}
+use Rattle.absdom.specs.Edges.{compared, with_source, on_edge, on_edges, unrefined, is_itself, edges_of, compared_edges}
 use Rattle.absdom.specs.Fits.{FitsKind, Fits, FitsEdge, edge_where, TakesEdge}
 use Rattle.absdom.specs.Laws.{RefineFits}
 use Rattle.absdom.proofs.FitsMemory.{word_below}

@@ -1,19 +1,16 @@
 -- The states at entry and after a call.
-use Rattle.std.proofs.Common.{◌≡◌, ℕ, zero, suc, ◌+◌, ◌^◌, ◌<◌, ◌≤◌, ℤ, pos, Bool, true, false, ◌==◌, if◌then◌else◌, refl, sym, ◌∙◌, ap, subst, arith, Option, Some, None, List, [], ◌∷◌, lit<}
+use Rattle.std.proofs.Common.{◌≡◌, ℕ, zero, suc, ◌+◌, ◌^◌, ◌<◌, ◌≤◌, pos, true, false, ◌==◌, refl, sym, ◌∙◌, subst, arith, List}
 use Rattle.std.proofs.lemmas.Int.{ints}
 use Rattle.std.proofs.lemmas.Bool.Decides.{nat_tests}
 use Rattle.bpf_insn.specs.declared.operation.Width.TheVariants.{W64}
 use Rattle.machine.specs.declared.values.Value.{Value}
-use Rattle.machine.specs.declared.values.Value.TheVariants.{Unset as Nothing, Num as Number, Ptr as Pointer, Map as MapOf}
-use Rattle.machine.specs.State.{State, state, entry_state, entry_register, register_after, register_after_call}
-use Rattle.machine.specs.Step.{answered}
-use Rattle.absdom_num.specs.Ranges.{IsIn}
+use Rattle.machine.specs.declared.values.Value.TheVariants.{Unset as Nothing, Num as Number}
+use Rattle.machine.specs.State.{State, state, entry_register, register_after, register_after_call}
 use Rattle.absdom_num.specs.Tables.{whole}
 use Rattle.absdom.specs.declared.kinds.AbsKind.{AbsKind}
-use Rattle.absdom.specs.declared.kinds.AbsKind.TheVariants.{Unset, Num, Ptr, Map}
-use Rattle.absdom.specs.Knowledge.{Knowledge, IsEntry, entry_kinds, kind_in, kind_at, with_kind, after_call}
-use Rattle.absdom.specs.Marks.{mark_at}
-use Rattle.absdom.specs.Fits.{IsAmong, FitsKind, IsByte, Fits}
+use Rattle.absdom.specs.declared.kinds.AbsKind.TheVariants.{Unset, Num}
+use Rattle.absdom.specs.Knowledge.{Knowledge, entry_kinds, kind_in, kind_at, after_call}
+use Rattle.absdom.specs.Fits.{IsAmong, FitsKind, Fits}
 use Rattle.absdom.specs.Laws.{EntryFits, CallFits}
 use Rattle.absdom.proofs.FitsState.{fits_after}
 

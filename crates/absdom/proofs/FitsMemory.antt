@@ -1,7 +1,6 @@
 -- What loads give and stores leave fits what is known of it.
-use Rattle.std.proofs.Common.{◌≡◌, ◌≢◌, ℕ, zero, suc, ◌+◌, ◌-◌, ◌*◌, ◌/◌, ◌%◌, ◌^◌, ◌<◌, ◌≤◌, ℤ, pos, negsuc, ◌+ℤ◌, ◌-ℤ◌, ◌≤ℤ◌, Bool, true, false, ◌&&◌, ◌||◌, ◌==◌, nat_lt, nat_le, if◌then◌else◌, refl, sym, ◌∙◌, ap, subst, arith, cond, ◌⊎◌, inl, inr, Option, Some, None, Result, Ok, Err, List, length, slice_get, All}
+use Rattle.std.proofs.Common.{◌≡◌, ℕ, zero, suc, ◌+◌, ◌-◌, ◌*◌, ◌^◌, ◌<◌, ◌≤◌, ℤ, pos, negsuc, ◌+ℤ◌, ◌≤ℤ◌, Bool, true, false, ◌&&◌, nat_le, if◌then◌else◌, refl, sym, subst, arith, inl, inr, Option, Some, None, Ok, Err, List, length, slice_get, All}
 use Rattle.std.proofs.lemmas.Int.{ints}
-use Rattle.std.proofs.lemmas.Bool.Decides.{nat_tests}
 use Rattle.std.proofs.Common.{[], ◌∷◌, lit<}
 use Rattle.std.proofs.Math.Nat.{pow-succ'}
 use Rattle.std.proofs.lemmas.Bool.{leb-true, leb-false, cases_lt}
@@ -12,18 +11,16 @@ use Rattle.machine.specs.declared.regions.Region.{Region}
 use Rattle.machine.specs.declared.regions.Region.TheVariants.{Front, Tail, Stack}
 use Rattle.machine.specs.declared.values.Value.{Value}
 use Rattle.machine.specs.declared.values.Value.TheVariants.{Unset as Nothing, Num as Number, Ptr as Pointer, Map as MapOf}
-use Rattle.machine.specs.Words.{word, residue}
-use Rattle.machine.specs.Memory.{Header, IsHeader, region_size, from_start, place_within, place_of, byte_of, byte_below, little, byte_after, load_bytes, loaded}
+use Rattle.machine.specs.Words.{word}
+use Rattle.machine.specs.Memory.{Header, IsHeader, region_size, place_within, place_of, byte_of, byte_below, little, load_bytes, loaded}
 use Rattle.machine.specs.State.{State}
 use Rattle.machine.specs.Step.{load_value, bytes_at, loads}
-use Rattle.absdom_num.specs.declared.ranges.Range.{Range}
 use Rattle.absdom_num.specs.Ranges.{IsIn}
-use Rattle.absdom.specs.declared.cause.Cause.{Cause}
-use Rattle.absdom.specs.declared.cause.Cause.TheVariants.{OutOfRegion, UnsetStack}
+use Rattle.absdom.specs.declared.cause.Cause.TheVariants.{UnsetStack}
 use Rattle.absdom.specs.declared.kinds.AbsKind.{AbsKind}
 use Rattle.absdom.specs.declared.kinds.AbsKind.TheVariants.{Unset, Num, Ptr, Map}
-use Rattle.absdom.specs.Knowledge.{Knowledge, kind_at}
-use Rattle.absdom.specs.Marks.{mark_at, all_marked, marked}
+use Rattle.absdom.specs.Knowledge.{Knowledge}
+use Rattle.absdom.specs.Marks.{mark_at, all_marked}
 use Rattle.absdom.specs.Effect.{both_places, access_places, is_set, loaded_range, read_kind, load_kind}
 use Rattle.absdom.specs.Fits.{IsAmong, FitsKind, IsByte, Fits}
 use Rattle.absdom.proofs.FitsAlu.{FitsResult}

@@ -1,25 +1,19 @@
 -- After an instruction that is not refused the machine is in a state that fits what is known.
-use Rattle.std.proofs.Common.{◌≡◌, ◌≢◌, ℕ, zero, suc, ◌+◌, ◌-◌, ◌*◌, ◌/◌, ◌%◌, ◌^◌, ◌<◌, ◌≤◌, ℤ, pos, negsuc, ◌+ℤ◌, ◌-ℤ◌, ◌≤ℤ◌, Bool, true, false, ◌&&◌, ◌||◌, ◌==◌, nat_lt, nat_le, if◌then◌else◌, refl, sym, ◌∙◌, ap, subst, arith, cond, ◌⊎◌, inl, inr, Option, Some, None, Result, Ok, Err, List, [], ◌∷◌, length, get_or, set, get_or-set_same, get_or-set_other}
-use Rattle.std.proofs.lemmas.Int.{ints}
-use Rattle.std.proofs.lemmas.Bool.{leb-true, leb-false, le-leb, cases_lt}
+use Rattle.std.proofs.Common.{◌≡◌, ◌≢◌, ℕ, zero, suc, ◌+◌, ◌-◌, ◌/◌, ◌%◌, ◌^◌, ◌<◌, ◌≤◌, ℤ, pos, negsuc, ◌+ℤ◌, Bool, true, false, ◌&&◌, ◌==◌, nat_lt, nat_le, if◌then◌else◌, refl, sym, ◌∙◌, subst, arith, ◌⊎◌, inl, inr, Option, Some, None, Result, Ok, Err, List, [], ◌∷◌, set, get_or-set_other}
+use Rattle.std.proofs.lemmas.Bool.{le-leb}
 use Rattle.std.proofs.lemmas.Bool.Decides.{nat_tests}
-use Rattle.std.proofs.lemmas.List.{get_or_past}
 use Rattle.bpf_insn.specs.declared.operation.Operand.{Operand}
 use Rattle.bpf_insn.specs.declared.operation.Operand.TheVariants.{FromRegister, Immediate}
 use Rattle.bpf_insn.specs.declared.memory.Size.{Size}
-use Rattle.bpf_insn.specs.declared.insn.Insn.{Insn}
 use Rattle.bpf_insn.specs.declared.insn.Insn.TheVariants.{Alu, Negate, MoveSigned, ByteSwap, Load, Store, Jump, Goto, Wide, LoadMap, LoadAddress, Call, Exit}
-use Rattle.bpf_insn.specs.Spelling.{slots_of}
 use Rattle.machine.specs.declared.regions.Region.{Region}
 use Rattle.machine.specs.declared.regions.Region.TheVariants.{Front, Tail, Stack}
 use Rattle.machine.specs.declared.values.Value.{Value}
 use Rattle.machine.specs.declared.values.Value.TheVariants.{Unset as Nothing, Num as Number, Ptr as Pointer, Map as MapOf}
-use Rattle.machine.specs.Words.{word, negated, extended, swapped}
-use Rattle.machine.specs.Memory.{Header, IsHeader, region_size, place_of, byte_after, size_bytes}
+use Rattle.machine.specs.Words.{negated, extended, swapped}
+use Rattle.machine.specs.Memory.{place_of, byte_after, size_bytes}
 use Rattle.machine.specs.State.{State, state, register_after}
-use Rattle.machine.specs.Step.{Outcome, Next, Trap, operand, alu, on_number, loads, writes, puts, stores, perform, map_at}
-use Rattle.absdom_num.specs.declared.ranges.Range.{Range}
-use Rattle.absdom_num.specs.Ranges.{IsIn}
+use Rattle.machine.specs.Step.{Next, Trap, operand, alu, on_number, loads, writes, puts, stores, map_at}
 use Rattle.absdom_num.specs.Tables.{only, negated_range, extended_range, swapped_range}
 use Rattle.absdom_num.specs.Laws.{AluFits, NegateFits, MoveSignedFits, ByteSwapFits}
 use Rattle.absdom.specs.declared.cause.Cause.{Cause}
@@ -28,8 +22,8 @@ use Rattle.absdom.specs.declared.kinds.AbsKind.TheVariants.{Unset, Num, Ptr, Map
 use Rattle.absdom.specs.Kinds.{number_of}
 use Rattle.absdom.specs.Knowledge.{Knowledge, kind_in, kind_at, with_kind, with_marks}
 use Rattle.absdom.specs.Marks.{mark_at, marked}
-use Rattle.absdom.specs.Effect.{operand_kind, alu_kind, computed_alone, load_kind, access_places, wrote, wrote_at, wrote_to, stored, written, map_kind, applied}
-use Rattle.absdom.specs.Fits.{IsAmong, FitsKind, IsByte, Fits, GoesOn, IsSound, IsIndex, GoesStraight}
+use Rattle.absdom.specs.Effect.{operand_kind, alu_kind, computed_alone, load_kind, access_places, wrote_at, stored, written, map_kind}
+use Rattle.absdom.specs.Fits.{FitsKind, IsByte, Fits, GoesOn, IsSound, IsIndex}
 use Rattle.absdom.specs.Laws.{ApplyFits}
 use Rattle.absdom.proofs.FitsAlu.{FitsResult, alu_fits, computed_alone_fits}
 use Rattle.absdom.proofs.FitsMemory.{IsBetween, HasPlace, place_between, word_below, load_fits}
@@ -86,7 +80,7 @@ byte_written stack bytes start n place g h =
     rw (e, f) (omega arith)
 
 -- a new mark is one of the bytes that were written
-mark_is_new : (marks : List Bool) (first bytes place : ℕ) → mark_at (marked marks first bytes) place ≡ true → (mark_at marks place ≡ true) ⊎ ((first ≤ place) × (place < first + bytes))
+pub mark_is_new : (marks : List Bool) (first bytes place : ℕ) → mark_at (marked marks first bytes) place ≡ true → (mark_at marks place ≡ true) ⊎ ((first ≤ place) × (place < first + bytes))
 unfolding marked
 mark_is_new marks first zero place e = inl e
 mark_is_new marks first (suc bytes) place e =

@@ -1,6 +1,5 @@
 -- A joint state is the least that is above both.
-use Rattle.std.proofs.Common.{◌≡◌, ℕ, ◌≤◌, min, max, ℤ, ◌≤ℤ◌, Bool, true, false, ◌&&◌, ◌==◌, if◌then◌else◌, refl, sym, ◌∙◌, ap, subst, arith}
-use Rattle.std.specs.Int.{int_min, int_max}
+use Rattle.std.proofs.Common.{◌≡◌, ℕ, ℤ, Bool, true, false, ◌&&◌, ◌==◌, if◌then◌else◌, refl, sym, ◌∙◌, subst, arith}
 use Rattle.std.proofs.lemmas.Int.{ints, clamps}
 use Rattle.std.proofs.lemmas.Bool.Decides.{nat_tests}
 use Rattle.machine.specs.declared.regions.Region.{Region}
@@ -9,10 +8,10 @@ use Rattle.absdom.specs.declared.kinds.AbsKind.{AbsKind}
 use Rattle.absdom.specs.declared.kinds.AbsKind.TheVariants.{Unset, Num, Ptr, Map}
 use Rattle.absdom.specs.Offsets.{joined_offsets, AreAmong}
 use Rattle.absdom.specs.Kinds.{same_region, joined, IsKindBelow}
-use Rattle.absdom.specs.Knowledge.{Knowledge, IsBelow, IsJoin, kind_at}
+use Rattle.absdom.specs.Knowledge.{IsBelow, kind_at}
 use Rattle.absdom.specs.Marks.{mark_at}
-use Rattle.absdom.specs.Laws.{JoinIsAbove, JoinIsLeast}
-use Rattle.absdom.proofs.Order.{region_from_test, same_region-refl, same_region-trans, kind_below-trans}
+use Rattle.absdom.specs.Laws.{JoinIsAbove, JoinIsLeast, JoinGrows}
+use Rattle.absdom.proofs.Order.{region_from_test, same_region-refl, below_is_transitive}
 
 range_left : (a b : ℕ × ℕ) → IsWithin a (joined_ranges a b)
 range_left a b = record { above = omega arith; below = omega arith }
@@ -176,3 +175,8 @@ join_is_least a b joint c j g h =
           subst P (sym (j.kinds k)) (kind_least (kind_at a k) (kind_at b k) (kind_at c k) (g.kinds k) (h.kinds k));
       marks = λ p m. mark_both (mark_at a.marks p) (mark_at b.marks p) (mark_at joint.marks p) (j.marks p) (g.marks p m) (h.marks p m);
     }
+
+pub join_grows : JoinGrows
+join_grows a b c d first second j k g h =
+    let above : IsBelow c second × IsBelow d second = join_is_above c d second k in
+    join_is_least a b first second j (below_is_transitive a c second g above.0) (below_is_transitive b d second h above.1)

@@ -7,3 +7,6 @@ pub mod FitsState
 pub mod JoinOrder
 pub mod FitsEntry
 pub mod FitsEdges
+pub mod GrowAlu
+pub mod GrowState
+pub mod GrowEdges

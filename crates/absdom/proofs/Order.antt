@@ -1,20 +1,16 @@
 -- The order of kinds, and of states.
-use Rattle.std.proofs.Common.{◌≡◌, ℕ, ℤ, pos, negsuc, ◌≤ℤ◌, Bool, true, false, ◌&&◌, refl, sym, ◌∙◌, ap, subst, arith, cond, ◌⊎◌, inl, inr}
-use Rattle.std.proofs.lemmas.Int.{ints, clamps}
-use Rattle.std.proofs.lemmas.Bool.Decides.{nat_tests}
+use Rattle.std.proofs.Common.{◌≡◌, ℕ, ℤ, ◌≤ℤ◌, Bool, true, false, refl, sym, ◌∙◌, ap, subst, arith}
+use Rattle.std.proofs.lemmas.Int.{ints}
 use Rattle.machine.specs.declared.regions.Region.{Region}
 use Rattle.machine.specs.declared.regions.Region.TheVariants.{Front, Tail, Stack}
 use Rattle.machine.specs.declared.values.Value.{Value}
 use Rattle.machine.specs.declared.values.Value.TheVariants.{Unset as Nothing, Num as Number, Ptr as Pointer, Map as MapOf}
-use Rattle.machine.specs.State.{State}
-use Rattle.absdom_num.specs.Ranges.{IsIn, IsWithin, joined as joined_ranges}
 use Rattle.absdom.specs.declared.kinds.AbsKind.{AbsKind}
 use Rattle.absdom.specs.declared.kinds.AbsKind.TheVariants.{Unset, Num, Ptr, Map}
-use Rattle.absdom.specs.Offsets.{joined_offsets, AreAmong}
-use Rattle.absdom.specs.Kinds.{same_region, joined, IsKindBelow}
-use Rattle.absdom.specs.Knowledge.{Knowledge, IsBelow, IsJoin, kind_at}
+use Rattle.absdom.specs.Kinds.{same_region, IsKindBelow}
+use Rattle.absdom.specs.Knowledge.{kind_at}
 use Rattle.absdom.specs.Marks.{mark_at}
-use Rattle.absdom.specs.Fits.{IsAmong, FitsKind, Fits}
+use Rattle.absdom.specs.Fits.{FitsKind}
 use Rattle.absdom.specs.Laws.{BelowFits, BelowIsReflexive, BelowIsTransitive, BelowIsAntisymmetric}
 
 pub region_from_test : (r s : Region) → same_region r s ≡ true → r ≡ s

@@ -7,7 +7,6 @@ use Rattle.bpf_insn.specs.declared.operation.AluOp.{AluOp}
 use Rattle.bpf_insn.specs.declared.operation.AluOp.TheVariants.{Add, Sub, Mul, Div, SignedDiv, Or, And, Lsh, Rsh, Mod, SignedMod, Xor, Mov, Arsh}
 use Rattle.bpf_insn.specs.declared.operation.Operand.{Operand}
 use Rattle.bpf_insn.specs.declared.operation.Operand.TheVariants.{FromRegister, Immediate}
-use Rattle.bpf_insn.specs.declared.memory.Size.{Size}
 use Rattle.bpf_insn.specs.declared.memory.LoadSize.{LoadSize}
 use Rattle.bpf_insn.specs.declared.memory.LoadSize.TheVariants.{LoadByte, LoadHalf, LoadWord, LoadDouble, SignedByte, SignedHalf, SignedWord}
 use Rattle.bpf_insn.specs.declared.insn.Insn.{Insn}
@@ -17,7 +16,7 @@ use Rattle.machine.specs.declared.regions.Region.TheVariants.{Front, Tail, Stack
 use Rattle.machine.specs.Words.{word, signed}
 use Rattle.machine.specs.Memory.{place_of, size_bytes, load_bytes}
 use Rattle.absdom_num.specs.declared.ranges.Range.{Range}
-use Rattle.absdom_num.specs.Tables.{whole, only, alu_range, negated_range, extended_range, swapped_range}
+use Rattle.absdom_num.specs.Tables.{only, alu_range, negated_range, extended_range, swapped_range}
 use Rattle.absdom.specs.declared.cause.Cause.{Cause}
 use Rattle.absdom.specs.declared.cause.Cause.TheVariants.{UnsetOperand, KindMismatch, OutOfRegion, UnsetStack, HeaderWrite, PointerRange}
 use Rattle.absdom.specs.declared.kinds.AbsKind.{AbsKind}

@@ -1,6 +1,6 @@
 -- What is known of a register (a choice of this project): its kinds, which of them says more, and the
 -- least kind above two.
-use Rattle.std.specs.Prelude.{◌≡◌, ℕ, ℤ, Bool, true, false, ◌==◌, if◌then◌else◌, Result, Ok, Err}
+use Rattle.std.specs.Prelude.{◌≡◌, ℕ, Bool, true, false, ◌==◌, if◌then◌else◌, Result, Ok, Err}
 use Rattle.machine.specs.declared.regions.Region.{Region}
 use Rattle.machine.specs.declared.regions.Region.TheVariants.{Front, Tail, Stack}
 use Rattle.absdom_num.specs.Ranges.{IsWithin, joined as joined_ranges}

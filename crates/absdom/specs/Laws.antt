@@ -1,5 +1,5 @@
 -- What holds of the states of the verifier.
-use Rattle.std.specs.Prelude.{◌≡◌, ℕ, ◌+◌, ◌<◌, ◌^◌, ℤ}
+use Rattle.std.specs.Prelude.{ℕ, ◌+◌, ◌<◌, ◌^◌, ℤ}
 use Rattle.bpf_insn.specs.declared.operation.Width.{Width}
 use Rattle.bpf_insn.specs.declared.operation.Condition.{Condition}
 use Rattle.bpf_insn.specs.declared.operation.Operand.{Operand}
@@ -12,6 +12,7 @@ use Rattle.machine.specs.Step.{perform, answered}
 use Rattle.absdom.specs.Knowledge.{Knowledge, IsBelow, IsJoin, IsEntry, AreAlike, after_call}
 use Rattle.absdom.specs.Effect.{applied}
 use Rattle.absdom.specs.Edges.{refined_edges}
+use Rattle.absdom.specs.Growth.{IsWhole, IsGrown, AreEdgesGrown}
 use Rattle.absdom.specs.Fits.{Fits, IsSound, GoesStraight, TakesEdge}
 
 -- whatever fits the first fits the second, where the first is below it
@@ -56,3 +57,19 @@ abbrev pub RefineFits : Type 0
 RefineFits =
     (header : Header) (s : State) (a : Knowledge) (condition : Condition) (width : Width) (dst : ℕ) (src : Operand) (offset : ℤ)
     → Fits s a → TakesEdge s offset (perform header s (Jump condition width dst src offset)) (refined_edges a condition width dst src)
+
+-- of a smaller state an instruction gives a smaller one, and it is not refused where that of the larger is not
+abbrev pub ApplyGrows : Type 0
+ApplyGrows =
+    (a b : Knowledge) (insn : Insn) → IsWhole a → IsWhole b → IsBelow a b → IsGrown (applied a insn) (applied b insn)
+
+-- and a comparison: an edge that is followed from the smaller is followed from the larger
+abbrev pub RefineGrows : Type 0
+RefineGrows =
+    (a b : Knowledge) (condition : Condition) (width : Width) (dst : ℕ) (src : Operand) → IsWhole a → IsWhole b → IsBelow a b
+    → AreEdgesGrown (refined_edges a condition width dst src) (refined_edges b condition width dst src)
+
+-- and a join
+abbrev pub JoinGrows : Type 0
+JoinGrows =
+    (a b c d first second : Knowledge) → IsJoin a b first → IsJoin c d second → IsBelow a c → IsBelow b d → IsBelow first second

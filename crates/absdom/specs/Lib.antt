@@ -7,3 +7,4 @@ pub mod Effect
 pub mod Edges
 pub mod Fits
 pub mod Laws
+pub mod Growth

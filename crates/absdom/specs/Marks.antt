@@ -1,5 +1,5 @@
 -- Which bytes of the stack are set: a mark for each place (a choice of this project).
-use Rattle.std.specs.Prelude.{◌≡◌, ℕ, zero, suc, ◌+◌, Bool, true, false, ◌&&◌, List, length, slice_index_or, slice_set}
+use Rattle.std.specs.Prelude.{ℕ, zero, suc, ◌+◌, Bool, true, false, ◌&&◌, List, slice_index_or, slice_set}
 
 -- whether the byte at a place is known to be set
 abbrev pub mark_at : List Bool → ℕ → Bool

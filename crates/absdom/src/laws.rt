@@ -1,6 +1,6 @@
 //! Laws about states. Each function does nothing: its contract is the law.
 
-ghost use Rattle.absdom.specs.Laws.{BelowFits, BelowIsReflexive, BelowIsTransitive, BelowIsAntisymmetric, EntryFits, CallFits, JoinIsAbove, JoinIsLeast, ApplyFits, RefineFits};
+ghost use Rattle.absdom.specs.Laws.{BelowFits, BelowIsReflexive, BelowIsTransitive, BelowIsAntisymmetric, EntryFits, CallFits, JoinIsAbove, JoinIsLeast, ApplyFits, RefineFits, ApplyGrows, RefineGrows, JoinGrows};
 
 /// A law and no work: whatever fits a state fits every state above it, and the order is one.
 pub fn order_of_states()
@@ -39,6 +39,7 @@ pub fn after_call_fits()
 pub fn join_is_least()
     ensures above { JoinIsAbove }
     ensures least { JoinIsLeast }
+    ensures grows { JoinGrows }
 {}
 
 /// A law and no work: from every state of the machine that fits what is known, a comparison that
@@ -49,4 +50,24 @@ pub fn refine_fits()
     ensures { RefineFits }
 {
     absdom_num::edges_fit();
+}
+
+/// A law and no work: of a smaller state [`apply`] gives a smaller one, and does not refuse where it does
+/// not at the larger.
+///
+/// [`apply`]: crate::apply
+pub fn apply_grows()
+    ensures { ApplyGrows }
+{
+    absdom_num::results_grow();
+}
+
+/// A law and no work: of a smaller state [`refine`] gives smaller edges, follows none that it does not follow
+/// from the larger, and does not refuse where it does not at the larger.
+///
+/// [`refine`]: crate::refine
+pub fn refine_grows()
+    ensures { RefineGrows }
+{
+    absdom_num::edges_grow();
 }

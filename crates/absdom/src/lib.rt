@@ -23,9 +23,13 @@ pub use applying::apply;
 pub use cause::Cause;
 pub use kinds::AbsKind;
 pub use laws::{
-    after_call_fits, apply_fits, entry_fits, join_is_least, order_of_states, refine_fits,
+    after_call_fits, apply_fits, apply_grows, entry_fits, join_is_least, order_of_states,
+    refine_fits,
 };
 pub use machine::Region;
 pub use offsets::Offsets;
 pub use refining::{Edges, refine};
 pub use state::State;
+
+#[cfg(test)]
+mod tests;

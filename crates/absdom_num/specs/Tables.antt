@@ -137,7 +137,8 @@ sign_bit ByteTo64 = 2 ^ 7
 sign_bit HalfTo64 = 2 ^ 15
 sign_bit WordTo64 = 2 ^ 31
 
--- MOVSX: what is not negative stays
+-- MOVSX: what is not negative stays. To cut the operand would change nothing, since these bounds are
+-- below 2^32.
 abbrev pub extended_range : Extension → Range → Range
 extended_range extension a =
     if is_single a then only (extended extension a.0)

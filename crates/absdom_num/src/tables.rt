@@ -106,11 +106,10 @@ fn product(width: Width, a: Range, b: Range) -> Range
 fn quotient(a: Range, b: Range) -> Range
     ensures { result ≡ quotient_range a b }
 {
-    if 1 <= b.low() {
-        Range::new(a.low() / b.high(), a.high() / b.low())
-    } else {
-        Range::new(0, a.high())
-    }
+    let Some(high) = a.high().checked_div(b.low()) else {
+        return Range::new(0, a.high());
+    };
+    Range::new(a.low() / b.high(), high)
 }
 
 /// MOD: a number below the divisor stays, and modulo by zero leaves the destination.

@@ -86,14 +86,14 @@ still_bank b share judged status bytes counts bank fit memory new =
       few_ports = omega (arith, bank.few_ports);
       replayed = memory ∙ replay_more (base_of b) (memory_of b) b.journal.entries entry bank.replayed;
       numbered = λ port below.
-        let within : port < length b.counts = omega arith in
-        elim (cases_eq judged.port port) [
-          inl same ↦
-            let count : get_or counts port 0 ≡ share.number + 1 = rw (new, ← same) (get_or-set_same b.counts judged.port (share.number + 1) 0 fitted.below) in
-            let numbers : numbers_of port b.journal.entries ≡ range_with_len 0 share.number = rw (fitted.number, same) (bank.numbered port within) in
-            numbers_of-same port b.journal.entries entry same ∙ rw (numbers, count) (range_more share.number)
-        | inr other ↦
-            let count : get_or counts port 0 ≡ get_or b.counts port 0 = rw new (get_or-set_other b.counts judged.port port (share.number + 1) 0 (λ e. other (sym e))) in
-            numbers_of-other port b.journal.entries entry other ∙ rw count (bank.numbered port within)
-        ];
+          let within : port < length b.counts = omega arith in
+          elim (cases_eq judged.port port) [
+            | inl same ↦
+                let count : get_or counts port 0 ≡ share.number + 1 = rw (new, ← same) (get_or-set_same b.counts judged.port (share.number + 1) 0 fitted.below) in
+                let numbers : numbers_of port b.journal.entries ≡ range_with_len 0 share.number = rw (fitted.number, same) (bank.numbered port within) in
+                numbers_of-same port b.journal.entries entry same ∙ rw (numbers, count) (range_more share.number)
+            | inr other ↦
+                let count : get_or counts port 0 ≡ get_or b.counts port 0 = rw new (get_or-set_other b.counts judged.port port (share.number + 1) 0 (λ e. other (sym e))) in
+                numbers_of-other port b.journal.entries entry other ∙ rw count (bank.numbered port within)
+          ];
     }

@@ -18,17 +18,17 @@ read_next m c n offset place within next =
     let above : m.first ≤ address_of c = within.above in
     let all : address_of c + n ≤ m.first + length m.bytes = within.all next in
     let long : length (take (offset + n - offset) (drop offset m.bytes)) ≡ n =
-      omega (arith, length-take (offset + n - offset) (drop offset m.bytes), length-drop offset m.bytes) in
+    omega (arith, length-take (offset + n - offset) (drop offset m.bytes), length-drop offset m.bytes) in
     fill_by_all _ (take (offset + n - offset) (drop offset m.bytes)) n 0 long (λ k below.
-      let same : offset + k ≡ address_of c + k - m.first = omega arith in
-      get_or-take (offset + n - offset) (drop offset m.bytes) k 0 (omega arith) ∙ get_or-drop offset m.bytes k 0 ∙ rw (next, same) refl)
+    let same : offset + k ≡ address_of c + k - m.first = omega arith in
+    get_or-take (offset + n - offset) (drop offset m.bytes) k 0 (omega arith) ∙ get_or-drop offset m.bytes k 0 ∙ rw (next, same) refl)
 
 -- without it the byte of the one address is read again and again
 pub read_again : (m : Memory) (c : Parts) (n size offset byte : ℕ) → address_of c - m.first ≡ offset → n ≤ size → byte ≡ get_or m.bytes offset 0 → increments c ≡ false → take n (replicate size byte) ≡ bytes_read m c n
 read_again m c n size offset byte place few value again =
     let long : length (take n (replicate size byte)) ≡ n = omega (arith, length-take n (replicate size byte), length-replicate size byte) in
     fill_by_all _ (take n (replicate size byte)) n 0 long (λ k below.
-      rw (take-replicate n size byte few, get_or-replicate n k byte 0 below, again, place) value)
+    rw (take-replicate n size byte few, get_or-replicate n k byte 0 below, again, place) value)
 
 -- the byte at an address after data was written, case by case
 after_inside : (m : Memory) (c : Parts) (bytes : List ℕ) (x : ℕ) → increments c ≡ true → address_of c ≤ x → x < address_of c + length bytes → byte_after m c bytes x ≡ get_or bytes (x - address_of c) 0
@@ -81,14 +81,14 @@ write_next m c bytes new offset place within next same =
     let list : put_mid offset k_of m.bytes new ≡ take offset m.bytes ++ (bytes ++ rest) = rw same refl in
     let long : length (take offset m.bytes ++ (bytes ++ rest)) ≡ length m.bytes = omega (arith, length-append (take offset m.bytes) (bytes ++ rest), length-append bytes rest) in
     list ∙ fill_by_all (λ k. byte_after m c bytes (m.first + k)) (take offset m.bytes ++ (bytes ++ rest)) (length m.bytes) 0 long (λ k below.
-      elim (cases_lt k offset) [
-        inl before ↦
+    elim (cases_lt k offset) [
+      | inl before ↦
           get_or_append_left (take offset m.bytes) (bytes ++ rest) 0 k (omega arith) ∙ get_or-take offset m.bytes k 0 before
           ∙ sym (after_below m c bytes (m.first + k) next (omega arith) ∙ byte_at-first m k)
       | inr behind ↦
           get_or-append_right (take offset m.bytes) (bytes ++ rest) offset k 0 front behind
           ∙ elim (cases_lt (k - offset) n) [
-              inl inside ↦
+            | inl inside ↦
                 let index : m.first + k - address_of c ≡ k - offset = omega arith in
                 get_or_append_left bytes rest 0 (k - offset) inside
                 ∙ sym (after_inside m c bytes (m.first + k) next (omega arith) (omega arith) ∙ rw index refl)
@@ -98,8 +98,8 @@ write_next m c bytes new offset place within next same =
                 ∙ get_or-drop k_of (drop offset m.bytes) (k - offset - n) 0 ∙ get_or-drop offset m.bytes (k_of + (k - offset - n)) 0
                 ∙ rw index refl
                 ∙ sym (after_above m c bytes (m.first + k) next (omega arith) (omega arith) ∙ byte_at-first m k)
-            ]
-      ])
+          ]
+    ])
 
 -- without it the last byte stays
 pub write_again : (m : Memory) (c : Parts) (bytes : List ℕ) (offset last : ℕ) → address_of c - m.first ≡ offset → IsWithin m.first (length m.bytes) c (length bytes) → increments c ≡ false → 0 < length bytes → last ≡ get_or bytes (length bytes - 1) 0 → set m.bytes offset last ≡ (written m c bytes).bytes
@@ -107,10 +107,10 @@ write_again m c bytes offset last place within again some value =
     let above : m.first ≤ address_of c = within.above in
     let below : address_of c < m.first + length m.bytes = within.below in
     fill_by_all (λ k. byte_after m c bytes (m.first + k)) (set m.bytes offset last) (length m.bytes) 0 (length-set m.bytes offset last) (λ k inside.
-      elim (cases_eq k offset) [
-        inl here ↦ rw here (get_or-set_same m.bytes offset last 0 (omega arith)) ∙ value ∙ sym (after_last m c bytes (m.first + k) again (omega arith) some)
+    elim (cases_eq k offset) [
+      | inl here ↦ rw here (get_or-set_same m.bytes offset last 0 (omega arith)) ∙ value ∙ sym (after_last m c bytes (m.first + k) again (omega arith) some)
       | inr other ↦ get_or-set_other m.bytes offset k last 0 other ∙ sym (after_other m c bytes (m.first + k) again (λ e. other (omega arith)) ∙ byte_at-first m k)
-      ])
+    ])
 
 -- no bytes change nothing
 pub write_none : (m : Memory) (c : Parts) (bytes : List ℕ) → increments c ≡ false → length bytes ≡ 0 → m.bytes ≡ (written m c bytes).bytes

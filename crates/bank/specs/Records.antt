@@ -108,12 +108,12 @@ first_share port = record { port = port; number = 0 }
 -- a bank of zeros, to which no command was applied
 abbrev pub fresh_bank : (base size : ℕ) → Log → ℕ → Contents
 fresh_bank base size journal ports = record {
-    first = base;
-    bytes = replicate size 0;
-    base = replicate size 0;
-    journal = journal;
-    counts = replicate ports 0
-  }
+  first = base;
+  bytes = replicate size 0;
+  base = replicate size 0;
+  journal = journal;
+  counts = replicate ports 0;
+}
 
 -- what a judged command is answered at a bank
 abbrev pub answer_of : Contents → Judgement → Answer
@@ -122,23 +122,23 @@ answer_of b judged = answer (memory_of b) (has_room b judged.port) (command_of j
 -- the entry of a judged command that ended with that status
 abbrev pub logged : Turn → Judgement → Status → Logged
 logged share judged status = record {
-    port = judged.port;
-    number = share.number;
-    packet = judged.packet;
-    generation = judged.generation;
-    verdict = judged.verdict;
-    status = status
-  }
+  port = judged.port;
+  number = share.number;
+  packet = judged.packet;
+  generation = judged.generation;
+  verdict = judged.verdict;
+  status = status;
+}
 
 -- a bank with the answer's memory, the command's entry behind the others, and the port's next number
 abbrev pub recorded : Contents → Turn → Judgement → Answer → Contents
 recorded b share judged a = record {
-    first = b.first;
-    bytes = a.memory.bytes;
-    base = b.base;
-    journal = record { entries = b.journal.entries ++ logged share judged a.status ∷ []; room = b.journal.room };
-    counts = slice_set b.counts judged.port (share.number + 1)
-  }
+  first = b.first;
+  bytes = a.memory.bytes;
+  base = b.base;
+  journal = record { entries = b.journal.entries ++ logged share judged a.status ∷ []; room = b.journal.room };
+  counts = slice_set b.counts judged.port (share.number + 1);
+}
 
 -- a bank after a judged command: as it was where there is no room
 abbrev pub applied : Contents → Turn → Judgement → Contents

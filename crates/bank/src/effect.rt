@@ -25,7 +25,12 @@ fn reply_read(reply: &mut ReplyBuf, command: &Command, memory: &[u8], first: u32
 {
     let offset = (command.address() - first) as usize;
     if command.increments() {
-        put_reply(reply, command, Status::Success, &memory[offset..offset + count]);
+        put_reply(
+            reply,
+            command,
+            Status::Success,
+            &memory[offset..offset + count],
+        );
     } else {
         let repeated: [u8; MAX_DATA] = [memory[offset]; MAX_DATA];
         put_reply(reply, command, Status::Success, &repeated[..count]);

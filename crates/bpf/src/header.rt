@@ -84,3 +84,16 @@ fn is_budget(budget: u32) -> bool
 {
     1 <= budget && budget <= MAX_BUDGET
 }
+
+/// The bytes of the header.
+pub fn header_bytes(header: &Header) -> [u8; 16]
+    ensures { result ≡ header_bytes 1 header.now.loops header.now.slots header.now.budget }
+{
+    let [m0, m1, m2, m3] = MAGIC;
+    let [s0, s1] = header.slots.to_le_bytes();
+    let [b0, b1, b2, b3] = header.budget.to_le_bytes();
+    let loops = header.loops;
+    [
+        m0, m1, m2, m3, VERSION, loops, s0, s1, b0, b1, b2, b3, 0, 0, 0, 0,
+    ]
+}

@@ -6,10 +6,11 @@ ghost use Rattle.bpf.specs.Weight.{saturated, weight_of};
 ghost use Rattle.bpf.specs.Reading.{Gives, image_reading};
 
 use crate::fault::ImageFault;
-use crate::header::read_header;
+use crate::header::{Header, header_bytes, read_header};
 use crate::loops::{Loop, read_loops};
 use crate::slots::read_slots;
 use crate::weighing::weight;
+use crate::writing::{write_loops, write_slots};
 use bpf_insn::Insn;
 use std::alloc::{AllocError, Global};
 use std::marker::Model;
@@ -72,6 +73,25 @@ impl Image {
             loops,
             slots,
         })
+    }
+
+    /// The bytes that spell the image: `read` gives an equal image from them, and from no others. Memory
+    /// is asked for once.
+    #[tactic(auto, unfolding(crate::specs::Program::image_bytes))]
+    pub fn write(&self) -> Result<Vec<u8>, AllocError>
+        ensures { IfOk result (λ bytes. bytes.items ≡ image_bytes self.now) }
+    {
+        let len = 16 + 8 * self.loops.len() + 8 * self.slots.len();
+        let mut bytes = Vec::with_capacity(*self.slots.allocator(), len)?;
+        let header = Header {
+            loops: self.loops.len() as u8,
+            slots: self.slots(),
+            budget: self.budget(),
+        };
+        bytes.extend_from_slice(&header_bytes(&header))?;
+        write_loops(&mut bytes, &self.loops)?;
+        write_slots(&mut bytes, &self.slots)?;
+        Ok(bytes)
     }
 
     /// The version of the format: 1.

@@ -11,6 +11,7 @@ mod laws;
 mod loops;
 mod slots;
 mod weighing;
+mod writing;
 
 pub use bpf_insn;
 pub use fault::ImageFault;

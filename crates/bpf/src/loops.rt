@@ -87,3 +87,13 @@ fn is_loop(slots: u16, least: u16, head: u16, back: u16, bound: u16, number: u8,
         && number <= 9
         && zero == 0
 }
+
+/// The bytes of the loop.
+pub fn loop_bytes(found: &Loop) -> [u8; 8]
+    ensures { result ≡ loop_bytes found.now }
+{
+    let [h0, h1] = found.head.to_le_bytes();
+    let [b0, b1] = found.back.to_le_bytes();
+    let [n0, n1] = found.bound.to_le_bytes();
+    [h0, h1, b0, b1, n0, n1, found.register.number(), 0]
+}

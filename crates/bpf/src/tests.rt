@@ -223,6 +223,22 @@ fn the_least_image_is_read(rt: HostRuntime) -> Result<(), Fail> {
     Ok(())
 }
 
+/// Whether the image that is read from the bytes is written as them.
+fn is_written_so(rt: HostRuntime, bytes: &[u8]) -> Result<bool, Fail> {
+    let written = Image::read(rt.alloc(), bytes)?.write()?;
+    Ok(written.as_slice() == bytes)
+}
+
+#[test]
+fn an_image_is_written_as_it_is_read(rt: HostRuntime) -> Result<(), Fail> {
+    assert!(rt; is_written_so(rt, &QUOTA)?, "an instruction of two slots");
+    assert!(rt; is_written_so(rt, &YES)?, "no loop");
+    assert!(rt; is_written_so(rt, &COUNTDOWN)?, "one loop");
+    assert!(rt; is_written_so(rt, &TWO_LOOPS)?, "two loops");
+    assert!(rt; is_written_so(rt, &DEEP)?, "eight loops");
+    Ok(())
+}
+
 #[test]
 fn a_weight_is_a_sum_of_products(rt: HostRuntime) -> Result<(), Fail> {
     assert_eq!(rt; Image::read(rt.alloc(), &QUOTA)?.weight(), 8);
@@ -239,6 +255,7 @@ fn refused_memory_is_told(rt: HostRuntime) -> Result<(), Fail> {
     match Image::read(rt.alloc(), &COUNTDOWN) {
         Ok(image) => {
             let _ = image.copy();
+            let _ = image.write();
         }
         Err(fault) => assert_eq!(rt; fault.code(), 8),
     }

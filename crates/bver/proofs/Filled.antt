@@ -9,8 +9,7 @@ pub is_filled : (sizes : List ℕ) → AreSizes sizes → IsPadded (length sizes
 is_filled sizes h =
     let zeros : List ℕ = replicate 8 0 in
     let rest = drop (length sizes) zeros in
-    let few = h.maps in
-    (
+    let few = h.maps in (
       record {
         few = h.maps;
         len = omega (arith, length-append sizes rest, length-drop (length sizes) zeros);

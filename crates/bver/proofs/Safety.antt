@@ -166,12 +166,12 @@ finds sizes s (Some (insns.Call callee number)) h = absurd h
 pub is_safe : (p : Program) (sizes : List ℕ) → IsJustified p → IsSafe p sizes
 is_safe p sizes h = record {
   ends = λ header port calls n s good low path.
-    let at = stands p header port calls n s h path in
-    let within = at.within in
-    let budget = h.formed.within_budget in
-    omega arith;
+      let at = stands p header port calls n s h path in
+      let within = at.within in
+      let budget = h.formed.within_budget in
+      omega arith;
   no_trap = λ header port calls n s good low path.
-    let at = stands p header port calls n s h path in
-    let supported : IsSupported (slot_at p s.slot) = subst (λ (k : ℕ). IsSupported (slot_at p k)) (sym at.slot) (h.formed.supported n at.within) in
-    rw (finds sizes s (slot_at p s.slot) supported) (no_trap_of p n (step p header s) (continues p header n s h at));
+      let at = stands p header port calls n s h path in
+      let supported : IsSupported (slot_at p s.slot) = subst (λ (k : ℕ). IsSupported (slot_at p k)) (sym at.slot) (h.formed.supported n at.within) in
+      rw (finds sizes s (slot_at p s.slot) supported) (no_trap_of p n (step p header s) (continues p header n s h at));
 }

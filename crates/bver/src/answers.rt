@@ -56,7 +56,10 @@ pub fn check_answer(image: &Image) -> Result<(), Refused>
             Effect::Sets => is_set = true,
             Effect::Leaves => {}
             Effect::Ends if is_set => return Ok(()),
-            Effect::Ends => return Err(Refused { code: Refusal::Unset, slot }),
+            Effect::Ends => return Err(Refused {
+                code: Refusal::Unset,
+                slot,
+            }),
         }
     }
     unreachable!()

@@ -82,7 +82,9 @@ impl MapSizes {
         ensures sizes { AreSizes self.now }
     {
         let cells: &[u16] = &self.cells;
-        cells[..usize::from(self.count)].get(usize::from(map)).copied()
+        cells[..usize::from(self.count)]
+            .get(usize::from(map))
+            .copied()
     }
 
     /// Whether the map exists and has the key.

@@ -15,7 +15,9 @@ const EXIT: [u8; 8] = [0x95, 0, 0, 0, 0, 0, 0, 0];
 fn image(rt: &impl Abort, alloc: Global, budget: u8, slots: &[[u8; 8]]) -> Image {
     let mut bytes = Vec::new(alloc);
     let count = slots.len().min(255) as u8;
-    let header = [0x42, 0x50, 0x46, 0x41, 1, 0, count, 0, budget, 0, 0, 0, 0, 0, 0, 0];
+    let header = [
+        0x42, 0x50, 0x46, 0x41, 1, 0, count, 0, budget, 0, 0, 0, 0, 0, 0, 0,
+    ];
     bytes.extend_from_slice(&header).expect(rt, "memory");
     for slot in slots {
         bytes.extend_from_slice(slot).expect(rt, "memory");
@@ -35,7 +37,10 @@ fn verified(rt: &impl Abort, alloc: Global, budget: u8, slots: &[[u8; 8]]) -> Op
 fn accepts_lines_of_moves_and_exits(rt: HostRuntime) {
     let alloc = rt.alloc();
     assert_eq!(rt; verified(&rt, alloc, 2, &[mov(0, 0), EXIT]), None);
-    assert_eq!(rt; verified(&rt, alloc, 4, &[mov(9, 1), mov(0, 3), mov(0, 5), EXIT]), None);
+    assert_eq!(rt;
+        verified(&rt, alloc, 4, &[mov(9, 1), mov(0, 3), mov(0, 5), EXIT]),
+        None
+    );
     assert_eq!(rt; verified(&rt, alloc, 3, &[mov(0, 0), EXIT, EXIT]), None);
 }
 
@@ -45,15 +50,51 @@ fn refuses_with_code_and_slot(rt: HostRuntime) {
     let add = [0x07, 0, 0, 0, 1, 0, 0, 0];
     let narrow = [0xb4, 0, 0, 0, 1, 0, 0, 0];
     let copied = [0xbf, 0x30, 0, 0, 0, 0, 0, 0];
-    assert_eq!(rt; verified(&rt, alloc, 1, &[EXIT]), Some((5, 0)), "an unset answer");
-    assert_eq!(rt; verified(&rt, alloc, 2, &[mov(1, 0), EXIT]), Some((5, 1)), "an unset answer");
-    assert_eq!(rt; verified(&rt, alloc, 3, &[mov(0, 0), mov(10, 1), EXIT]), Some((10, 1)), "the frame pointer");
-    assert_eq!(rt; verified(&rt, alloc, 3, &[mov(0, 0), EXIT, mov(0, 0)]), Some((14, 2)), "no exit at the end");
-    assert_eq!(rt; verified(&rt, alloc, 1, &[mov(0, 0), EXIT]), Some((15, 0)), "a budget of one");
-    assert_eq!(rt; verified(&rt, alloc, 3, &[mov(0, 0), add, EXIT]), Some((16, 1)), "an addition");
-    assert_eq!(rt; verified(&rt, alloc, 2, &[narrow, EXIT]), Some((16, 0)), "a move of 32 bits");
-    assert_eq!(rt; verified(&rt, alloc, 2, &[copied, EXIT]), Some((16, 0)), "a move from a register");
-    assert_eq!(rt; verified(&rt, alloc, 1, &[mov(10, 0), add]), Some((10, 0)), "the first of several");
+    assert_eq!(rt;
+        verified(&rt, alloc, 1, &[EXIT]),
+        Some((5, 0)),
+        "an unset answer"
+    );
+    assert_eq!(rt;
+        verified(&rt, alloc, 2, &[mov(1, 0), EXIT]),
+        Some((5, 1)),
+        "an unset answer"
+    );
+    assert_eq!(rt;
+        verified(&rt, alloc, 3, &[mov(0, 0), mov(10, 1), EXIT]),
+        Some((10, 1)),
+        "the frame pointer"
+    );
+    assert_eq!(rt;
+        verified(&rt, alloc, 3, &[mov(0, 0), EXIT, mov(0, 0)]),
+        Some((14, 2)),
+        "no exit at the end"
+    );
+    assert_eq!(rt;
+        verified(&rt, alloc, 1, &[mov(0, 0), EXIT]),
+        Some((15, 0)),
+        "a budget of one"
+    );
+    assert_eq!(rt;
+        verified(&rt, alloc, 3, &[mov(0, 0), add, EXIT]),
+        Some((16, 1)),
+        "an addition"
+    );
+    assert_eq!(rt;
+        verified(&rt, alloc, 2, &[narrow, EXIT]),
+        Some((16, 0)),
+        "a move of 32 bits"
+    );
+    assert_eq!(rt;
+        verified(&rt, alloc, 2, &[copied, EXIT]),
+        Some((16, 0)),
+        "a move from a register"
+    );
+    assert_eq!(rt;
+        verified(&rt, alloc, 1, &[mov(10, 0), add]),
+        Some((10, 0)),
+        "the first of several"
+    );
 }
 
 #[test]
@@ -73,7 +114,9 @@ fn sizes_are_counted(rt: HostRuntime) {
 fn accepted_tells_its_parts(rt: HostRuntime) -> Result<(), Fail> {
     let alloc = rt.alloc();
     let sizes = MapSizes::new(&[7]).expect(&rt, "one map");
-    let accepted = verify(alloc, image(&rt, alloc, 9, &[mov(0, 0), EXIT]), &sizes).expect(&rt, "accepted");
+    let accepted = verify(alloc, image(&rt, alloc, 9, &[mov(0, 0), EXIT]), &sizes).expect(
+        &rt, "accepted",
+    );
     let copy = accepted.copy()?;
     assert_eq!(rt; copy.budget(), 9);
     assert_eq!(rt; copy.image().slots(), 2);
@@ -86,11 +129,15 @@ fn accepted_tells_its_parts(rt: HostRuntime) -> Result<(), Fail> {
 fn copies_where_memory_may_be_refused(rt: HostRuntime) {
     let alloc = rt.alloc();
     let bytes = [
-        0x42, 0x50, 0x46, 0x41, 1, 0, 2, 0, 2, 0, 0, 0, 0, 0, 0, 0, 0xb7, 0, 0, 0, 0, 0, 0, 0, 0x95, 0, 0, 0, 0, 0, 0, 0,
+        0x42, 0x50, 0x46, 0x41, 1, 0, 2, 0, 2, 0, 0, 0, 0, 0, 0, 0, 0xb7, 0, 0, 0, 0, 0, 0, 0,
+        0x95, 0, 0, 0, 0, 0, 0, 0,
     ];
     let none = MapSizes::new(&[]).expect(&rt, "no maps");
     let read = Image::read(alloc, &bytes).or_else(|_| Image::read(alloc, &bytes));
     let accepted = verify(alloc, read.expect(&rt, "an image"), &none).expect(&rt, "accepted");
-    let copy = accepted.copy().or_else(|_| accepted.copy()).expect(&rt, "a copy");
+    let copy = accepted
+        .copy()
+        .or_else(|_| accepted.copy())
+        .expect(&rt, "a copy");
     assert_eq!(rt; copy.budget(), 2);
 }

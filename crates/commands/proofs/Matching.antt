@@ -1,17 +1,14 @@
 -- From what clap found to what the words name.
-use Rattle.std.proofs.Common.{◌≡◌, ◌⊎◌, inl, inr, ap, subst, List, [], Option, Some, true, refl, sym, Result, IfOk, IfErr}
-use Rattle.std.proofs.lemmas.Result.{IfErr-weaker}
-use Rattle.clap.specs.Walk.{Row, Text}
+use Rattle.std.proofs.Common.{◌≡◌, inl, inr, subst, List, [], true, refl}
+use Rattle.clap.specs.Walk.{Text}
 use Rattle.clap.specs.Simple.{is_simple}
 use Rattle.clap.specs.Faults.{fault_of, is_simple_and_free}
 use Rattle.clap.specs.Kinds.{HasKind, IsAmong, Kinds}
 use Rattle.clap.specs.Values.{kind_of}
 use Rattle.clap.proofs.OnLiterals.{clap_on_literals}
-use Rattle.clap.specs.declared.error.kind.ErrorKind.{ErrorKind}
 use Rattle.clap.specs.declared.error.kind.ErrorKind.TheVariants.{OutOfMemory}
 use Rattle.clap.specs.declared.error.Error.{Error}
-use Rattle.commands.specs.CommandLine.{rmapctl_app, found_in, Names, NamesNone, LacksJob, TellsRefusal}
-use Rattle.commands.specs.declared.jobs.Job.{Job}
+use Rattle.commands.specs.CommandLine.{rmapctl_app, found_in, NamesNone, LacksJob, TellsRefusal}
 use Rattle.commands.specs.declared.jobs.UsageFault.{UsageFault}
 use Rattle.commands.specs.declared.jobs.UsageFault.TheVariants.{Parse, BadOption, Memory}
 

@@ -56,12 +56,7 @@ impl Bench {
         if port != self.pass.port() || self.pass.banks() != self.node.banks() {
             return None;
         }
-        Some(serve_packet(
-            &mut self.node,
-            &mut self.pass,
-            packet,
-            &mut self.reply,
-        ))
+        Some(serve_packet(&mut self.node, &mut self.pass, packet, &mut self.reply))
     }
 
     /// The reply to the last packet that was served; no bytes where none is due.

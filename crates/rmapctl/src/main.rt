@@ -55,7 +55,11 @@ impl<R: rt::Files + Input> Files for Machine<'_, R> {
 }
 
 /// Does a job over this machine's files and standard output, and gives the exit status.
-fn do_job<R: rt::Files + Input + Print>(rt: &R, alloc: Global, job: &Job) -> Result<u8, WriteFault> {
+fn do_job<R: rt::Files + Input + Print>(
+    rt: &R,
+    alloc: Global,
+    job: &Job,
+) -> Result<u8, WriteFault> {
     let mut out = BufWriter::new(alloc, io::writer(rt))?;
     let status = perform(alloc, job, &mut Machine { rt }, &mut out)?;
     out.flush()?;

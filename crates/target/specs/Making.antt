@@ -33,12 +33,12 @@ bank_of ports bank = fresh_bank bank.base bank.size (record { entries = []; room
 -- what a port has of its node at first: the factory program, of generation 0
 abbrev pub first_pass : ℕ → List BankConfig → Judge → ℕ → Holder
 first_pass address banks program port = record {
-    port = port;
-    windows = windows_of address banks;
-    program = program;
-    generation = 0;
-    shares = replicate (length banks) (first_share port)
-  }
+  port = port;
+  windows = windows_of address banks;
+  program = program;
+  generation = 0;
+  shares = replicate (length banks) (first_share port);
+}
 
 -- whether a bank is within its limits
 abbrev pub is_within : BankConfig → Bool

@@ -14,6 +14,7 @@ use Rattle.rmap.specs.Checks.{header_line}
 use Rattle.rmap.specs.Reply.{reply_of}
 use Rattle.bank.specs.Reading.{command_of}
 use Rattle.bank.specs.Records.{Judgement}
+use Rattle.brun.specs.Running.{header, RunsWithin}
 use Rattle.target.specs.Passes.{Holder}
 use Rattle.target.specs.declared.judging.Step.{Step}
 use Rattle.target.specs.declared.judging.Step.TheVariants.{Discarded, Answered, Unread, Judged}
@@ -49,12 +50,18 @@ pub record IsStopped (p : Cargo) (w : Ranges) (status : Status) : Type 0 where
 abbrev pub IsBankBelow : Place → ℕ → Type 0
 IsBankBelow place n = (k : ℕ) × (place ≡ Bank k) × (k < n)
 
--- the command of the packet as it came, judged for that port
+-- the program of the port has a run within its budget on the packet's header that ends with that
+-- verdict
+abbrev pub IsVerdict : Holder → Cargo → ℕ → Type 0
+IsVerdict h p verdict = RunsWithin h.program.program (header (command_of p).front (command_of p).tail) h.port verdict
+
+-- the command of the packet as it came, judged for that port by its program
 pub record IsJudgedFor (holder : Holder) (p : Cargo) (j : Judgement) : Type 0 where
   pub packet : j.packet ≡ p
   pub place : place_of (command_of p) holder.windows ≡ Some j.place
   pub port : j.port ≡ holder.port
   pub generation : j.generation ≡ holder.generation
+  pub verdict : IsVerdict holder p j.verdict
 
 -- how far a packet comes by itself, and the reply that is due then
 abbrev pub IsStep : Step → Cargo → Holder → List ℕ → Type 0

@@ -1,13 +1,16 @@
 //! The first half of a packet's way: its verdict.
 
 ghost use Rattle.std.specs.Prelude.{◌≡◌, []};
+ghost use Rattle.brun.specs.Running.{header, RunsWithin};
 ghost use Rattle.target.specs.Steps.{is_served, IsStep};
 ghost use Rattle.target.specs.Decisions.{IsDecision};
 
 use crate::pass::Pass;
 use bank::{Judged, command_in};
 use brun::run;
-use rmap::{Command, Discard, Kind, Place, ReplyBuf, Status, Windows, header_fault, place, put_reply};
+use rmap::{
+    Command, Discard, Kind, Place, ReplyBuf, Status, Windows, header_fault, place, put_reply,
+};
 use spw::Packet;
 
 /// How far a packet came by itself. Each step but `Judged` hands the packet back as it came.
@@ -37,22 +40,28 @@ enum Decision {
 fn is_served(command: &Command, windows: &Windows) -> bool
     ensures { result ≡ is_served command.now windows.now }
 {
-    matches!(command.kind(), Kind::Read)
-        && matches!(place(command, windows), Some(Place::Bank(_)))
+    matches!(command.kind(), Kind::Read) && matches!(place(command, windows), Some(Place::Bank(_)))
 }
 
 /// The verdict of the port's program on the header of the command.
 fn verdict(pass: &mut Pass, command: &Command) -> u64
     ensures pass { pass.new ≡ pass.old }
+    ensures verdict { RunsWithin pass.old.program.program (header command.now.front command.now.tail) pass.old.port result }
 {
-    run(&pass.program, command.front(), command.tail(), pass.port, &mut pass.stack)
+    run(
+        &pass.program,
+        command.front(),
+        command.tail(),
+        pass.port,
+        &mut pass.stack,
+    )
 }
 
 /// What becomes of the packet.
 fn decide(pass: &mut Pass, packet: &Packet, reply: &mut ReplyBuf) -> Decision
     requires { reply.old ≡ [] }
     ensures pass { pass.new ≡ pass.old }
-    ensures decision { IsDecision result packet.now pass.old.windows reply.new }
+    ensures decision { IsDecision result packet.now pass.old reply.new }
 {
     let command = match command_in(packet) {
         Ok(command) => command,

@@ -109,11 +109,7 @@ fn bank_with_shares(
 }
 
 /// The banks, and in `hands` the shares of them.
-fn banks(
-    alloc: Global,
-    config: &NodeConfig,
-    hands: &mut Vec<Hand>,
-) -> Result<Vec<Bank>, NodeFault>
+fn banks(alloc: Global, config: &NodeConfig, hands: &mut Vec<Hand>) -> Result<Vec<Bank>, NodeFault>
     requires within { list_all is_within config.now.banks.now ≡ true }
     requires ports { is_ports config.now.ports ≡ true }
     requires hands { AreHands 0 config.now.ports hands.old.items }
@@ -171,6 +167,9 @@ fn passes(
 }
 
 impl Node {
+    ghost use Rattle.std.specs.Borrow.{sem};
+    ghost use Rattle.target.specs.Lending.{LendsBank};
+
     /// A node of zero bytes, and a pass for each port, in order. Each port has its own copy of the
     /// factory program, of generation 0. `Ports` and then `Banks` where a number is outside its
     /// limits; `Memory` where memory was refused.
@@ -215,6 +214,8 @@ impl Node {
     /// The bank of that number, to apply commands to.
     pub fn bank_mut(&mut self, k: u8) -> &mut Bank
         requires { k < length self.old }
+        ensures* writes_back { sem 𝓛 (LendsBank self.entry k result) }
+        ensures value { slice_get self.old k ≡ Some result.now }
     {
         &mut self.banks[usize::from(k)]
     }

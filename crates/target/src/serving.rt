@@ -1,6 +1,7 @@
 //! The whole way of a packet.
 
 ghost use Rattle.std.specs.Prelude.{◌≡◌, length};
+ghost use Rattle.target.specs.Serving.{IsServed};
 
 use crate::finishing::finish;
 use crate::judging::{Step, judge};
@@ -25,8 +26,16 @@ pub enum Served {
 
 /// Serves one packet that came in at the pass's port: judges it, and applies the verdict to the bank
 /// that it names. `reply` holds the reply that is due then, if any.
-pub fn serve_packet(node: &mut Node, pass: &mut Pass, packet: Packet, reply: &mut ReplyBuf) -> Served
+pub fn serve_packet(
+    node: &mut Node,
+    pass: &mut Pass,
+    packet: Packet,
+    reply: &mut ReplyBuf,
+) -> Served
     requires { length pass.old.shares ≡ length node.old }
+    ensures served { IsServed result packet node.old node.new pass.old pass.new reply.new }
+    ensures node { length node.new ≡ length node.old }
+    ensures pass { length pass.new.shares ≡ length pass.old.shares }
 {
     let _banks = pass.banks();
     match judge(pass, packet, reply) {

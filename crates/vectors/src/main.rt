@@ -13,7 +13,11 @@ fn is_spelling(insn: &Insn, bytes: &[u8]) -> bool {
     let (first, second) = encode(insn);
     match bytes.split_at_checked(8) {
         Some((front, rest)) => {
-            front == first.as_slice() && rest == second.as_ref().map_or(b"".as_slice(), |slot| slot.as_slice())
+            front == first.as_slice()
+                && rest
+                    == second
+                        .as_ref()
+                        .map_or(b"".as_slice(), |slot| slot.as_slice())
         }
         None => false,
     }

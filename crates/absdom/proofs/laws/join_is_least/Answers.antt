@@ -6,3 +6,6 @@ returns-clause-above c = joins.join_is_above
 
 pub returns-clause-least : goal.returns-clause-least
 returns-clause-least c = joins.join_is_least
+
+pub returns-clause-grows : goal.returns-clause-grows
+returns-clause-grows c = joins.join_grows

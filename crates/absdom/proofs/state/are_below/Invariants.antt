@@ -1,4 +1,4 @@
-use Rattle.std.proofs.Common.{◌≡◌, ℕ, ◌<◌, length}
+use Rattle.std.proofs.Common.{ℕ, ◌<◌}
 use Rattle.absdom.specs.Kinds.{IsKindBelow}
 use Rattle.absdom.specs.Knowledge.{kind_in}
 use Rattle.absdom.proofs.state.are_below.Given as goal

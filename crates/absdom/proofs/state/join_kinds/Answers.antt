@@ -1,4 +1,4 @@
-use Rattle.std.proofs.Common.{◌≡◌, ◌≢◌, ◌<◌, ◌∙◌, length, arith, length-set, get_or-set_other, get_or-set_same, below_more, rules}
+use Rattle.std.proofs.Common.{◌≢◌, ◌<◌, ◌∙◌, length, arith, length-set, get_or-set_other, get_or-set_same, below_more, rules}
 use Rattle.absdom.proofs.state.join_kinds.Goals as goal
 
 pub loop-register-preserved : goal.loop-register-preserved

@@ -9,4 +9,4 @@ returns c =
     let half = c.args.half in
     let long = length-take half c.loop-i.bytes in
     fill_by_all (modified_byte (record { first = c.args.first; bytes = c.args.memory.now }) c.args.command.now half) (take half c.loop-i.bytes) half 0 (omega (arith, long, c.loop-i.invariant.0, c.requires.few)) (λ k below.
-      get_or-take half c.loop-i.bytes k 0 below ∙ c.loop-i.invariant.1 k (omega (arith, c.loop-i-test.false, c.loop-i.auto.i-end)))
+    get_or-take half c.loop-i.bytes k 0 below ∙ c.loop-i.invariant.1 k (omega (arith, c.loop-i-test.false, c.loop-i.auto.i-end)))

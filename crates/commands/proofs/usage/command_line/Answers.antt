@@ -1,4 +1,4 @@
-use Rattle.std.proofs.Common.{rules, ap, ap₂, codes, true, ◌≡◌, ◌∙◌}
+use Rattle.std.proofs.Common.{ap, ap₂, codes, true, ◌≡◌, ◌∙◌}
 use Rattle.std.proofs.lemmas.Result.{IfOk-weaker}
 use Rattle.clap.specs.Simple.{App, Shape, app_of, app_of_fields, new_app, on_top, with_subcommand}
 use Rattle.commands.specs.CommandLine.{rmapctl_app}
@@ -17,12 +17,12 @@ pub returns : goal.returns
 unfolding rmapctl_app
 returns c =
     let about : app_of c.about.result ≡ new_app (codes "rmapctl") =
-        ap app_of_fields c.about.ensures ∙ ap app_of_fields c.in_ok-rmapctl.ensures.0 ∙ c.new.ensures.app in
+    ap app_of_fields c.about.ensures ∙ ap app_of_fields c.in_ok-rmapctl.ensures.0 ∙ c.new.ensures.app in
     let first : app_of c.no_binary_name.result ≡ on_top bare (app_of c.about.result) = ap app_of_fields c.no_binary_name.ensures in
     let second : app_of c.disable_help_subcommand.result ≡ on_top helpless (app_of c.no_binary_name.result) =
-        ap app_of_fields c.disable_help_subcommand.ensures in
+    ap app_of_fields c.disable_help_subcommand.ensures in
     let third : app_of c.subcommand_required.result ≡ on_top wanting (app_of c.disable_help_subcommand.result) =
-        ap app_of_fields c.subcommand_required.ensures in
+    ap app_of_fields c.subcommand_required.ensures in
     let top = third ∙ ap (on_top wanting) (second ∙ ap (on_top helpless) (first ∙ ap (on_top bare) about)) in
     IfOk-weaker c.subcommand.result _ _ (λ m h. h.shape c.in_ok-judge.ensures.local
     ∙ ap₂ with_subcommand top (ap (λ (a : App). a.top) c.in_ok-judge.ensures.shape)) c.subcommand.ensures

@@ -1,12 +1,10 @@
-use Rattle.std.proofs.Common.{◌≡◌, ◌∙◌, ap, sym, subst, rules, IfOk, IfErr, true}
-use Rattle.std.proofs.lemmas.Result.{IfOk-weaker, IfErr-weaker}
+use Rattle.std.proofs.Common.{◌≡◌, ◌∙◌, ap, subst, IfOk, IfErr}
+use Rattle.std.proofs.lemmas.Result.{IfErr-weaker}
 use Rattle.clap.specs.Walk.{texts}
-use Rattle.clap.specs.Simple.{app_of, is_simple, subcommand_of, subcommand_rows_of}
+use Rattle.clap.specs.Simple.{is_simple, subcommand_of, subcommand_rows_of}
 use Rattle.clap.specs.Faults.{fault_of, is_simple_and_free}
 use Rattle.clap.specs.Kinds.{HasKind}
-use Rattle.clap.specs.declared.error.Error.{Error}
-use Rattle.clap.specs.declared.parser.matches.ArgMatches.{ArgMatches}
-use Rattle.commands.specs.CommandLine.{rmapctl_app, found_in, Names, LacksJob}
+use Rattle.commands.specs.CommandLine.{found_in, Names, LacksJob}
 use Rattle.commands.proofs.Matching.{is_simple-rmapctl_app, is_free-rmapctl_app, lacks_job, refused_words}
 use Rattle.commands.proofs.usage.words.Goals as goal
 
@@ -15,7 +13,7 @@ returns-in-Ok-clause-ok c =
     let words = texts c.args.words.now in
     let app = c.in_ok-command.ensures in
     let found : subcommand_rows_of c.in-Ok.found ≡ found_in words =
-        (c.in-Ok.ensures.matches (ap is_simple app ∙ is_simple-rmapctl_app)).1 ∙ ap (λ a. subcommand_of a words) app in
+    (c.in-Ok.ensures.matches (ap is_simple app ∙ is_simple-rmapctl_app)).1 ∙ ap (λ a. subcommand_of a words) app in
     subst (λ f. IfOk c.job_of.result (Names f)) found c.job_of.ensures.ok
 
 pub returns-in-Ok-clause-err : goal.returns-in-Ok-clause-err
@@ -23,7 +21,7 @@ returns-in-Ok-clause-err c =
     let words = texts c.args.words.now in
     let app = c.in_ok-command.ensures in
     let found : subcommand_rows_of c.in-Ok.found ≡ found_in words =
-        (c.in-Ok.ensures.matches (ap is_simple app ∙ is_simple-rmapctl_app)).1 ∙ ap (λ a. subcommand_of a words) app in
+    (c.in-Ok.ensures.matches (ap is_simple app ∙ is_simple-rmapctl_app)).1 ∙ ap (λ a. subcommand_of a words) app in
     IfErr-weaker c.job_of.result _ _ (λ fault h. lacks_job words fault h)
     (subst (λ f. IfErr c.job_of.result (LacksJob f)) found c.job_of.ensures.err)
 

@@ -5,12 +5,12 @@ use Rattle.target.proofs.node.deal.Given as goal
 
 abbrev pub invariant-loop-share : goal.invariant-loop-share
 invariant-loop-share l = record {
-    count : length l.hands.items ≡ length l.initial.hands.items;
-    few : vec_len l.shares ≤ length l.initial.hands.items;
-    rest : l.shares.items ≡ take (vec_len l.shares) l.initial.shares.items;
-    below : (k : ℕ) → k < vec_len l.shares → get_or l.hands.items k [] ≡ get_or l.initial.hands.items k [];
-    above : (k : ℕ) → vec_len l.shares ≤ k → k < length l.initial.hands.items → get_or l.hands.items k [] ≡ get_or l.initial.hands.items k [] ++ get_or l.initial.shares.items k (first_share k) ∷ []
-  }
+  count : length l.hands.items ≡ length l.initial.hands.items;
+  few : vec_len l.shares ≤ length l.initial.hands.items;
+  rest : l.shares.items ≡ take (vec_len l.shares) l.initial.shares.items;
+  below : (k : ℕ) → k < vec_len l.shares → get_or l.hands.items k [] ≡ get_or l.initial.hands.items k [];
+  above : (k : ℕ) → vec_len l.shares ≤ k → k < length l.initial.hands.items → get_or l.hands.items k [] ≡ get_or l.initial.hands.items k [] ++ get_or l.initial.shares.items k (first_share k) ∷ [];
+}
 
 abbrev pub decreases-loop-share : goal.decreases-loop-share
 decreases-loop-share l = vec_len l.shares

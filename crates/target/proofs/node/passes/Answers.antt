@@ -17,7 +17,7 @@ pub invariant_of-pass : goal.invariant_of-pass
 invariant_of-pass c =
     let banks = c.args.config.now.banks.now in
     let shares : c.take.result.items ≡ replicate (length banks) (first_share c.loop-port.port) =
-      taken c.loop-port.hands.items (length banks) c.args.config.now.ports c.loop-port.port c.from.result c.take.result.items c.index_mut.result.now c.loop-port.invariant.count c.loop-port-test.true c.from.ensures c.take.ensures.shares c.index_mut.ensures.value c.loop-port.invariant.rest in
+    taken c.loop-port.hands.items (length banks) c.args.config.now.ports c.loop-port.port c.from.result c.take.result.items c.index_mut.result.now c.loop-port.invariant.count c.loop-port-test.true c.from.ensures c.take.ensures.shares c.index_mut.ensures.value c.loop-port.invariant.rest in
     record {
       port = omega (arith, c.requires.ports, c.loop-port-test.true);
       shares = rw (shares, c.windows.ensures, length-map banks range_of) (length-replicate (length banks) (first_share c.loop-port.port));
@@ -27,7 +27,7 @@ pub loop-port-preserved : goal.loop-port-preserved
 loop-port-preserved c =
     let banks = c.args.config.now.banks.now in
     let shares : c.take.result.items ≡ replicate (length banks) (first_share c.loop-port.port) =
-      taken c.loop-port.hands.items (length banks) c.args.config.now.ports c.loop-port.port c.from.result c.take.result.items c.index_mut.result.now c.loop-port.invariant.count c.loop-port-test.true c.from.ensures c.take.ensures.shares c.index_mut.ensures.value c.loop-port.invariant.rest in
+    taken c.loop-port.hands.items (length banks) c.args.config.now.ports c.loop-port.port c.from.result c.take.result.items c.index_mut.result.now c.loop-port.invariant.count c.loop-port-test.true c.from.ensures c.take.ensures.shares c.index_mut.ensures.value c.loop-port.invariant.rest in
     let more = map-range_with_len_more (first_pass c.args.config.now.address banks c.args.factory.now) 0 c.loop-port.port c.loop-port.port (omega arith) in
     record {
       count = search rules;

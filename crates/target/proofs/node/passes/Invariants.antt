@@ -7,7 +7,7 @@ use Rattle.target.proofs.node.passes.Given as goal
 
 abbrev pub invariant-loop-port : goal.invariant-loop-port
 invariant-loop-port l = record {
-    count : length l.hands.items ≡ l.config.ports;
-    passes : l.passes.items ≡ map (first_pass l.config.address l.config.banks.now l.factory) (range_with_len 0 l.port);
-    rest : (k : ℕ) → l.port ≤ k → k < l.config.ports → get_or l.hands.items k [] ≡ replicate (length l.config.banks.now) (first_share k)
-  }
+  count : length l.hands.items ≡ l.config.ports;
+  passes : l.passes.items ≡ map (first_pass l.config.address l.config.banks.now l.factory) (range_with_len 0 l.port);
+  rest : (k : ℕ) → l.port ≤ k → k < l.config.ports → get_or l.hands.items k [] ≡ replicate (length l.config.banks.now) (first_share k);
+}

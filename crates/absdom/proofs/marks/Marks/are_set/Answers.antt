@@ -1,5 +1,4 @@
-use Rattle.std.proofs.Common.{◌≡◌, ◌-◌, ◌≤◌, arith, sym, ap, ◌∙◌, rules}
-use Rattle.absdom.specs.Marks.{all_marked}
+use Rattle.std.proofs.Common.{◌≡◌, ◌-◌, arith, sym, rules}
 use Rattle.absdom.proofs.MarkSteps.{all_marked-more, all_marked-none}
 use Rattle.absdom.proofs.marks.Marks.are_set.Goals as goal
 

@@ -1,4 +1,4 @@
-use Rattle.std.proofs.Common.{◌≡◌, ◌-◌, ◌≤◌, arith, sym, ◌∙◌, ap, length, set, true}
+use Rattle.std.proofs.Common.{arith, sym, ◌∙◌, ap, length, set, true}
 use Rattle.absdom.proofs.MarkSteps.{marked-more, marked-none, length-marked}
 use Rattle.absdom.proofs.marks.Marks.mark.Goals as goal
 

@@ -1,4 +1,4 @@
-use Rattle.std.proofs.Common.{◌≡◌, ◌-◌, ◌≤◌}
+use Rattle.std.proofs.Common.{◌≡◌, ◌-◌}
 use Rattle.absdom.specs.Marks.{marked}
 use Rattle.absdom.proofs.marks.Marks.mark.Given as goal
 

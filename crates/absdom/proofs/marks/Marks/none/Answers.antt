@@ -1,4 +1,3 @@
-use Rattle.std.proofs.Common.{◌≡◌, ℕ, false, ◌<◌, ◌≤◌, ◌⊎◌, inl, inr, arith}
 use Rattle.absdom.proofs.MarkSteps.{get_or-unmarked}
 use Rattle.absdom.proofs.marks.Marks.none.Goals as goal
 

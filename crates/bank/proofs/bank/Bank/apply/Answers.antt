@@ -13,4 +13,4 @@ invariant_of-self-2 c =
     let port : c.from.result ≡ judged.port = c.from.ensures ∙ c.port-2.ensures in
     let counts = ap (λ (p : ℕ). set bank.counts p (share.number + 1)) port in
     rw (c.push.ensures, c.new.ensures, c.number-number.ensures)
-      (still_bank bank share judged c.answer-status.result c.answer-status.new.memory.items _ c.self.invariant fit c.answer-status.ensures.memory counts)
+    (still_bank bank share judged c.answer-status.result c.answer-status.new.memory.items _ c.self.invariant fit c.answer-status.ensures.memory counts)
