@@ -5,3 +5,4 @@ pub mod Whole
 pub mod Again
 pub mod WholeAgain
 pub mod Weighed
+pub mod Parted

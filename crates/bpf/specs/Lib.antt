@@ -1,4 +1,5 @@
 pub mod Fault
+pub mod Parts
 pub mod Program
 pub mod Reading
 pub mod Weight

@@ -10,9 +10,9 @@ const MAGIC: [u8; 4] = *b"BPFA";
 
 const VERSION: u8 = 1;
 /// The most loops of an image.
-const MAX_LOOPS: u8 = 8;
+const MAX_LOOPS: usize = 8;
 /// The most slots of an image.
-const MAX_SLOTS: u16 = 512;
+pub const MAX_SLOTS: usize = 512;
 /// The greatest budget of an image.
 const MAX_BUDGET: u32 = 65_536;
 
@@ -60,7 +60,7 @@ fn read_counts(bytes: &[u8]) -> Result<Header, ImageFault>
     let slots = u16::from_le_bytes([bytes[6], bytes[7]]);
     let budget = u32::from_le_bytes([bytes[8], bytes[9], bytes[10], bytes[11]]);
     let reserved = u32::from_le_bytes([bytes[12], bytes[13], bytes[14], bytes[15]]);
-    if !is_count(loops, slots, reserved) {
+    if !is_count(usize::from(loops), usize::from(slots), reserved) {
         return Err(ImageFault::Count);
     }
     if !is_budget(budget) {
@@ -73,13 +73,15 @@ fn read_counts(bytes: &[u8]) -> Result<Header, ImageFault>
     })
 }
 
-fn is_count(loops: u8, slots: u16, reserved: u32) -> bool
+/// Whether the counts and the reserved word are those of an image.
+pub fn is_count(loops: usize, slots: usize, reserved: u32) -> bool
     ensures { result ≡ is_count loops slots reserved }
 {
     loops <= MAX_LOOPS && 1 <= slots && slots <= MAX_SLOTS && reserved == 0
 }
 
-fn is_budget(budget: u32) -> bool
+/// Whether this is a budget of an image.
+pub fn is_budget(budget: u32) -> bool
     ensures { result ≡ is_budget budget }
 {
     1 <= budget && budget <= MAX_BUDGET

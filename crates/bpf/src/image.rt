@@ -1,6 +1,7 @@
 //! An image.
 
 ghost use Rattle.std.specs.Prelude.{◌≡◌, ◌≤◌, length, IfOk, slice_index_or, None};
+ghost use Rattle.bpf.specs.Parts.{parts_reading};
 ghost use Rattle.bpf.specs.Program.{IsProgram, image_bytes};
 ghost use Rattle.bpf.specs.Weight.{saturated, weight_of};
 ghost use Rattle.bpf.specs.Reading.{Gives, image_reading};
@@ -8,6 +9,7 @@ ghost use Rattle.bpf.specs.Reading.{Gives, image_reading};
 use crate::fault::ImageFault;
 use crate::header::{Header, header_bytes, read_header};
 use crate::loops::{Loop, read_loops};
+use crate::parts::{fault_of, place_insns};
 use crate::slots::read_slots;
 use crate::weighing::weight;
 use crate::writing::{write_loops, write_slots};
@@ -57,6 +59,35 @@ impl Image {
         let slots = read_slots(alloc, slot_bytes, header.slots)?;
         Ok(Image {
             budget: header.budget,
+            loops,
+            slots,
+        })
+    }
+
+    /// The image of these instructions, which take 1 to 512 slots, of at most 8 loops by rising head,
+    /// and of a budget of 1 to 65,536.
+    ///
+    /// # Errors
+    ///
+    /// `Count`, `Budget` or `BadLoop`, in this order, or `Memory`.
+    pub fn new(
+        alloc: Global,
+        insns: &[Insn],
+        loops: &[Loop],
+        budget: u32,
+    ) -> Result<Image, ImageFault>
+        ensures program { IfOk result IsProgram }
+
+        // The first fault, or the image, unless memory is refused.
+        ensures exact { Gives (λ image. image) result (parts_reading insns.now loops.now budget) }
+    {
+        if let Some(fault) = fault_of(insns, loops, budget) {
+            return Err(fault);
+        }
+        let slots = place_insns(alloc, insns)?;
+        let loops = Vec::from_slice(alloc, loops)?;
+        Ok(Image {
+            budget,
             loops,
             slots,
         })

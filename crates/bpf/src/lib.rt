@@ -9,6 +9,7 @@ mod header;
 mod image;
 mod laws;
 mod loops;
+mod parts;
 mod slots;
 mod weighing;
 mod writing;

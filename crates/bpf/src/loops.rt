@@ -76,7 +76,15 @@ fn read_loop(bytes: &[u8], slots: u16, least: u16) -> Result<Loop, ImageFault>
 }
 
 /// Whether these are the fields of a loop whose head is `least` or above.
-fn is_loop(slots: u16, least: u16, head: u16, back: u16, bound: u16, number: u8, zero: u8) -> bool
+pub fn is_loop(
+    slots: u16,
+    least: u16,
+    head: u16,
+    back: u16,
+    bound: u16,
+    number: u8,
+    zero: u8,
+) -> bool
     ensures { result ≡ is_loop slots least head back bound number zero }
 {
     least <= head

@@ -239,6 +239,113 @@ fn an_image_is_written_as_it_is_read(rt: HostRuntime) -> Result<(), Fail> {
     Ok(())
 }
 
+/// Whether the image of the instructions, loops and budget that the bytes spell is written as them.
+fn is_made_so(rt: HostRuntime, bytes: &[u8]) -> Result<bool, Fail> {
+    let image = Image::read(rt.alloc(), bytes)?;
+    let mut insns = Vec::new(rt.alloc());
+    for slot in 0..image.slots() {
+        if let Some(insn) = image.insn(slot) {
+            insns.push(insn)?;
+        }
+    }
+    let made = Image::new(rt.alloc(), &insns, image.loops(), image.budget())?;
+    Ok(made.write()?.as_slice() == bytes)
+}
+
+#[test]
+fn an_image_is_made_of_its_parts(rt: HostRuntime) -> Result<(), Fail> {
+    assert!(rt; is_made_so(rt, &QUOTA)?, "an instruction of two slots");
+    assert!(rt; is_made_so(rt, &YES)?, "no loop");
+    assert!(rt; is_made_so(rt, &COUNTDOWN)?, "one loop");
+    assert!(rt; is_made_so(rt, &TWO_LOOPS)?, "two loops");
+    assert!(rt; is_made_so(rt, &DEEP)?, "eight loops");
+    Ok(())
+}
+
+/// The number of the fault of these parts, 0 where they make an image.
+fn parts_fault(rt: HostRuntime, insns: &[Insn], loops: &[Loop], budget: u32) -> u8 {
+    match Image::new(rt.alloc(), insns, loops, budget) {
+        Ok(_) => 0,
+        Err(fault) => fault.code(),
+    }
+}
+
+const EXITS: [Insn; 513] = [Insn::Exit; 513];
+
+#[test]
+fn each_count_of_parts_is_tested(rt: HostRuntime) {
+    let Some(register) = Register::new(0) else {
+        return;
+    };
+    assert_eq!(rt; parts_fault(rt, &[], &[], 1), 4, "no slot");
+    assert_eq!(rt; parts_fault(rt, &EXITS[..512], &[], 1), 0);
+    assert_eq!(rt; parts_fault(rt, &EXITS, &[], 1), 4, "too many instructions");
+    let pairs = [Insn::Wide {
+        dst: register,
+        value: 7,
+    }; 257];
+    assert_eq!(rt; parts_fault(rt, &pairs[..256], &[], 1), 0);
+    assert_eq!(rt; parts_fault(rt, &pairs, &[], 1), 4, "too many slots");
+    let loops = [Loop {
+        head: 0,
+        back: 1,
+        bound: 1,
+        register,
+    }; 9];
+    assert_eq!(rt;
+        parts_fault(rt, &EXITS[..2], &loops, 0),
+        4,
+        "too many loops"
+    );
+    assert_eq!(rt;
+        parts_fault(rt, &EXITS[..2], &loops[..8], 0),
+        5,
+        "no budget"
+    );
+    assert_eq!(rt;
+        parts_fault(rt, &EXITS[..2], &loops[..8], 65_537),
+        5,
+        "too great a budget"
+    );
+    assert_eq!(rt;
+        parts_fault(rt, &EXITS[..2], &loops[..8], 65_536),
+        6,
+        "equal heads"
+    );
+    assert_eq!(rt; parts_fault(rt, &EXITS[..2], &loops[..1], 65_536), 0);
+}
+
+/// The head, the back, the bound and the register of a loop of an image of two slots, and the fault.
+const LOOPS: [(u16, u16, u16, u8, u8); 7] = [
+    (0, 1, 1, 9, 0),
+    (0, 1, 4_096, 0, 0),
+    (0, 0, 1, 0, 6),
+    (0, 2, 1, 0, 6),
+    (0, 1, 0, 0, 6),
+    (0, 1, 4_097, 0, 6),
+    (0, 1, 1, 10, 6),
+];
+
+#[test]
+fn each_field_of_a_loop_is_tested(rt: HostRuntime) {
+    for (head, back, bound, number, code) in &LOOPS {
+        let Some(register) = Register::new(*number) else {
+            return;
+        };
+        let found = Loop {
+            head: *head,
+            back: *back,
+            bound: *bound,
+            register,
+        };
+        assert_eq!(rt;
+            parts_fault(rt, &EXITS[..2], &[found], 1),
+            *code,
+            "at {back} {bound} {number}"
+        );
+    }
+}
+
 #[test]
 fn a_weight_is_a_sum_of_products(rt: HostRuntime) -> Result<(), Fail> {
     assert_eq!(rt; Image::read(rt.alloc(), &QUOTA)?.weight(), 8);
@@ -257,6 +364,10 @@ fn refused_memory_is_told(rt: HostRuntime) -> Result<(), Fail> {
             let _ = image.copy();
             let _ = image.write();
         }
+        Err(fault) => assert_eq!(rt; fault.code(), 8),
+    }
+    match Image::new(rt.alloc(), &EXITS[..2], &[], 1) {
+        Ok(image) => assert_eq!(rt; image.slots(), 2),
         Err(fault) => assert_eq!(rt; fault.code(), 8),
     }
     let image = Image::read(rt.alloc(), &COUNTDOWN)?;

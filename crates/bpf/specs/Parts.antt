@@ -1,0 +1,44 @@
+-- How an image is made of its parts, with the first fault that is met.
+use Rattle.std.specs.Prelude.{ℕ, ◌+◌, Bool, true, false, ◌&&◌, if◌then◌else◌, List, [], ◌∷◌, length, Option, Some, None, is_some, Result, Ok, Err}
+use Rattle.std.specs.List.{flat_map}
+use Rattle.bpf_insn.specs.declared.insn.Insn.{Insn}
+use Rattle.bpf_insn.specs.Spelling.{second_immediate}
+use Rattle.bpf.specs.declared.loops.Loop.{Loop}
+use Rattle.bpf.specs.declared.fault.ImageFault.{ImageFault}
+use Rattle.bpf.specs.declared.fault.ImageFault.TheVariants as faults
+use Rattle.bpf.specs.Program.{Program, program}
+use Rattle.bpf.specs.Reading.{is_budget, is_count, is_loop}
+
+-- a second slot, where there is one, has no instruction
+abbrev pub second_slots : Bool → List (Option Insn)
+second_slots true = None ∷ []
+second_slots false = []
+
+-- the one or two slots of an instruction
+abbrev pub placed : Insn → List (Option Insn)
+placed insn = Some insn ∷ second_slots (is_some (second_immediate insn))
+
+-- whether the heads of the loops rise strictly from `least`, and each is a loop of so many slots
+abbrev pub are_loops : (slots least : ℕ) → List Loop → Bool
+are_loops slots least [] = true
+are_loops slots least (l ∷ ls) =
+    is_loop slots least l.head l.back l.bound l.register 0 && are_loops slots (l.head + 1) ls
+
+-- what is wrong with the parts of an image of so many slots
+unfoldable pub parts_fault : (slots : ℕ) → List Loop → (budget : ℕ) → Option ImageFault
+parts_fault slots loops budget =
+    if is_count (length loops) slots 0
+    then (if is_budget budget
+    then (if are_loops slots 0 loops then None else Some faults.BadLoop)
+    else Some faults.Budget)
+    else Some faults.Count
+
+-- the program, unless something is wrong
+abbrev pub unless : Option ImageFault → Program → Result Program ImageFault
+unless None p = Ok p
+unless (Some fault) p = Err fault
+
+-- the program of these instructions, loops and budget, or the first fault
+abbrev pub parts_reading : List Insn → List Loop → ℕ → Result Program ImageFault
+parts_reading insns loops budget =
+    unless (parts_fault (length (flat_map placed insns)) loops budget) (program budget loops (flat_map placed insns))

@@ -1,0 +1,153 @@
+//! An image from its parts.
+
+ghost use Rattle.std.specs.Prelude.{◌≡◌, ◌≤◌, ◌++◌, false, IsTrue, length, is_some, FitsSigned, IfOk, OnOk};
+ghost use Rattle.std.specs.Int.{w32};
+ghost use Rattle.bpf_insn.specs.Codes.{address_first, address_second};
+ghost use Rattle.std.specs.List.{flat_map};
+ghost use Rattle.bpf_insn.specs.Spelling.{IsDistance, IsInsn, IsOperand, second_immediate};
+ghost use Rattle.bpf.specs.Program.{AreSlots, IsLoop};
+ghost use Rattle.bpf.specs.Reading.{is_loop};
+ghost use Rattle.bpf.specs.Parts.{are_loops, parts_fault, placed};
+
+use crate::fault::ImageFault;
+use crate::header::{MAX_SLOTS, is_budget, is_count};
+use crate::loops::{Loop, is_loop};
+use bpf_insn::{Address, Distance, Insn, Operand};
+use std::alloc::{AllocError, Global};
+
+/// Why these are no parts of an image, the first fault in the order of `ImageFault`.
+pub fn fault_of(insns: &[Insn], loops: &[Loop], budget: u32) -> Option<ImageFault>
+    ensures { result ≡ parts_fault (length (flat_map placed insns.now)) loops.now budget }
+{
+    // More instructions have more slots.
+    if insns.len() > MAX_SLOTS {
+        return Some(ImageFault::Count);
+    }
+    fault_in(count_slots(insns), loops, budget)
+}
+
+/// That of so many slots.
+#[tactic(auto, unfolding(crate::specs::Parts::parts_fault))]
+fn fault_in(slots: usize, loops: &[Loop], budget: u32) -> Option<ImageFault>
+    ensures { result ≡ parts_fault slots loops.now budget }
+{
+    if !is_count(loops.len(), slots, 0) {
+        return Some(ImageFault::Count);
+    }
+    if !is_budget(budget) {
+        return Some(ImageFault::Budget);
+    }
+    if !are_loops(slots as u16, loops) {
+        return Some(ImageFault::BadLoop);
+    }
+    None
+}
+
+/// How many slots the instructions take.
+fn count_slots(insns: &[Insn]) -> usize
+    requires { length insns.now ≤ 512 }
+    ensures { result ≡ length (flat_map placed insns.now) }
+{
+    let mut count = 0;
+    for insn in insns {
+        count += if has_second(insn) { 2 } else { 1 };
+    }
+    count
+}
+
+/// Whether the loops are in the limits of an image of so many slots, and their heads rise.
+fn are_loops(slots: u16, loops: &[Loop]) -> bool
+    ensures { result ≡ are_loops slots 0 loops.now }
+{
+    let mut least = 0;
+    for found in loops {
+        if !follows(slots, least, found) {
+            return false;
+        }
+        least = found.head + 1;
+    }
+    true
+}
+
+/// Whether this is a loop whose head is `least` or above.
+fn follows(slots: u16, least: u16, found: &Loop) -> bool
+    ensures value { result ≡ is_loop slots least found.now.head found.now.back found.now.bound found.now.register 0 }
+    ensures is_loop { IsTrue result → IsLoop slots found.now }
+{
+    let number = found.register.number();
+    is_loop(slots, least, found.head, found.back, found.bound, number, 0)
+}
+
+/// Each instruction at its first slot; a second slot has none.
+pub fn place_insns(alloc: Global, insns: &[Insn]) -> Result<Vec<Option<Insn>>, AllocError>
+    ensures placed { IfOk result (λ slots. slots.items ≡ flat_map placed insns.now) }
+    ensures code { IfOk result (λ slots. AreSlots false slots.items) }
+{
+    let mut slots = Vec::new(alloc);
+    for insn in insns {
+        place_insn(&mut slots, insn)?;
+    }
+    Ok(slots)
+}
+
+fn place_insn(slots: &mut Vec<Option<Insn>>, insn: &Insn) -> Result<(), AllocError>
+    ensures placed { OnOk result (slots.new.items ≡ slots.old.items ++ placed insn.now) }
+    ensures limits { IsInsn insn.now }
+{
+    keeps_limits(*insn);
+    slots.push(Some(*insn))?;
+    if has_second(insn) {
+        slots.push(None)?;
+    }
+    Ok(())
+}
+
+fn has_second(insn: &Insn) -> bool
+    ensures { result ≡ is_some (second_immediate insn.now) }
+{
+    insn.slots() == 2
+}
+
+/// An instruction keeps the limits of its fields: it does nothing, and its contract says so.
+fn keeps_limits(insn: Insn)
+    ensures { IsInsn insn }
+{
+    match insn {
+        Insn::Alu { src, .. } => operand_keeps_limits(src),
+        Insn::Store { src, .. } => operand_keeps_limits(src),
+        Insn::Jump { src, .. } => operand_keeps_limits(src),
+        Insn::Goto { distance } => distance_keeps_limits(distance),
+        Insn::LoadAddress { address, .. } => address_keeps_limits(address),
+        Insn::Negate { .. }
+        | Insn::MoveSigned { .. }
+        | Insn::ByteSwap { .. }
+        | Insn::Load { .. }
+        | Insn::Wide { .. }
+        | Insn::LoadMap { .. }
+        | Insn::Call { .. }
+        | Insn::Exit => {}
+    }
+}
+
+fn operand_keeps_limits(operand: Operand)
+    ensures { IsOperand operand }
+{
+    match operand {
+        Operand::FromRegister(_) | Operand::Immediate(_) => {}
+    }
+}
+
+fn distance_keeps_limits(distance: Distance)
+    ensures { IsDistance distance }
+{
+    match distance {
+        Distance::Short(_) | Distance::Long(_) => {}
+    }
+}
+
+fn address_keeps_limits(address: Address)
+    ensures first { FitsSigned w32 (address_first address) }
+    ensures second { FitsSigned w32 (address_second address) }
+{
+    let _ = (address.first(), address.second());
+}
