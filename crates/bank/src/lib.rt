@@ -20,3 +20,6 @@ pub use journal::Journal;
 pub use judged::Judged;
 pub use reading::command_in;
 pub use share::Share;
+
+#[cfg(test)]
+mod tests;
