@@ -20,3 +20,6 @@ pub use judging::{Step, judge};
 pub use node::Node;
 pub use pass::Pass;
 pub use serving::{Served, serve_packet};
+
+#[cfg(test)]
+mod tests;
