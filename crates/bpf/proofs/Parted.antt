@@ -1,16 +1,17 @@
 -- An image that is made of its parts.
-use Rattle.std.proofs.Common.{◌≡◌, ℕ, suc, ◌+◌, ◌≤◌, ◌<◌, Bool, true, false, ◌&&◌, if◌then◌else◌, List, [], ◌∷◌, ◌++◌, Option, Some, None, is_some, refl, sym, ap, ◌∙◌, subst, append_assoc, arith, drop, length, get_or, add-one, nat_le, nat_lt, length-append}
+use Rattle.std.proofs.Common.{◌≡◌, ℕ, suc, ◌+◌, ◌≤◌, ◌<◌, Bool, true, false, ◌&&◌, if◌then◌else◌, List, [], ◌∷◌, ◌++◌, Option, Some, None, Ok, Err, is_some, refl, sym, ap, ◌∙◌, subst, append_assoc, arith, drop, length, get_or, add-one, nat_le, nat_lt, length-append}
 use Rattle.std.proofs.lemmas.Bool.Decides.{nat_tests}
 use Rattle.std.proofs.Math.Seq.{drop-cons}
 use Rattle.std.specs.List.{flat_map}
 use Rattle.bpf_insn.specs.declared.insn.Insn.{Insn}
 use Rattle.bpf_insn.specs.Spelling.{IsInsn, second_immediate}
+use Rattle.bpf.specs.declared.header.Header.{Header}
 use Rattle.bpf.specs.declared.loops.Loop.{Loop}
 use Rattle.bpf.specs.declared.fault.ImageFault.{ImageFault}
 use Rattle.bpf.specs.declared.fault.ImageFault.TheVariants as faults
 use Rattle.bpf.specs.Program.{program, AreLoops, AreSlots, IsBudget, IsLoop, IsProgram, IsSlotCount}
 use Rattle.bpf.specs.Reading.{is_budget, is_count, is_loop}
-use Rattle.bpf.specs.Parts.{are_loops, parts_fault, placed, second_slots}
+use Rattle.bpf.specs.Parts.{are_loops, header_of, parts_fault, placed, second_slots, unless}
 
 -- ---- the slots
 
@@ -43,6 +44,11 @@ long (i ∷ is) =
 
 -- ---- the tests
 
+-- the header of these parts
+abbrev made : List Insn → List Loop → ℕ → Header
+made insns loops budget =
+    record { loops = length loops; slots = length (flat_map placed insns); budget = budget }
+
 if_false : (b : Bool) (x y : Option ImageFault) → b ≡ false → (if b then x else y) ≡ y
 if_false true x y h = cc
 if_false false x y h = refl
@@ -51,12 +57,21 @@ count_over : (a : Bool) (b c : Bool) → b ≡ false → (a && b && c) ≡ false
 count_over true b c h = rw h refl
 count_over false b c h = refl
 
-pub too_many : (insns : List Insn) (loops : List Loop) (budget : ℕ) → 512 < length insns → parts_fault (length (flat_map placed insns)) loops budget ≡ Some faults.Count
+pub too_many : (insns : List Insn) (loops : List Loop) (budget : ℕ) → 512 < length insns → header_of insns loops budget ≡ Err faults.Count
 unfolding parts_fault
 too_many insns loops budget h =
     let more : 512 < length (flat_map placed insns) = omega (arith, h, long insns) in
     let over : nat_le (length (flat_map placed insns)) 512 ≡ false = grind (arith, nat_tests) in
-    if_false (is_count (length loops) (length (flat_map placed insns)) 0) _ _ (count_over _ _ _ over)
+    ap (λ (f : Option ImageFault). unless f (made insns loops budget)) (if_false (is_count (length loops) (length (flat_map placed insns)) 0) _ _ (count_over _ _ _ over))
+
+-- the parts of a header have no fault
+no_fault : {X : Type 0} (f : Option ImageFault) (x y : X) → Ok x ≡ unless f y → f ≡ None
+no_fault None x y h = refl
+no_fault (Some e) x y h = cc
+
+header_made : (insns : List Insn) (loops : List Loop) (budget : ℕ) (h : Header) → Ok h ≡ header_of insns loops budget → parts_fault (length (flat_map placed insns)) loops budget ≡ None
+header_made insns loops budget h e =
+    no_fault (parts_fault (length (flat_map placed insns)) loops budget) h (made insns loops budget) e
 
 and_true : (a b : Bool) → (a && b) ≡ true → (a ≡ true) × (b ≡ true)
 and_true true b h = (refl, h)
@@ -110,6 +125,6 @@ kept budget loops slots h are =
     let counts = count_kept (length loops) (length slots) p.0 in
     record { version = refl; budget = budget_kept budget q.0; slots = counts.1; few_loops = counts.0; loops = loops_kept (length slots) 0 loops r.0; code = are }
 
-pub parts_kept : (budget : ℕ) (given loops : List Loop) (insns : List Insn) (slots : List (Option Insn)) → parts_fault (length (flat_map placed insns)) given budget ≡ None → loops ≡ given → slots ≡ flat_map placed insns → AreSlots false slots → IsProgram (program budget loops slots)
-parts_kept budget given loops insns slots h same is are =
-    kept budget loops slots (ap (λ (s : List (Option Insn)). parts_fault (length s) loops budget) is ∙ ap (λ (ls : List Loop). parts_fault (length (flat_map placed insns)) ls budget) same ∙ h) are
+pub parts_kept : (insns : List Insn) (given loops : List Loop) (budget : ℕ) (h : Header) (slots : List (Option Insn)) → Ok h ≡ header_of insns given budget → loops ≡ given → slots ≡ flat_map placed insns → AreSlots false slots → IsProgram (program budget loops slots)
+parts_kept insns given loops budget h slots made same is are =
+    kept budget loops slots (ap (λ (s : List (Option Insn)). parts_fault (length s) loops budget) is ∙ ap (λ (ls : List Loop). parts_fault (length (flat_map placed insns)) ls budget) same ∙ header_made insns given budget h made) are

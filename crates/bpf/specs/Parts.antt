@@ -3,6 +3,7 @@ use Rattle.std.specs.Prelude.{ℕ, ◌+◌, Bool, true, false, ◌&&◌, if◌th
 use Rattle.std.specs.List.{flat_map}
 use Rattle.bpf_insn.specs.declared.insn.Insn.{Insn}
 use Rattle.bpf_insn.specs.Spelling.{second_immediate}
+use Rattle.bpf.specs.declared.header.Header.{Header}
 use Rattle.bpf.specs.declared.loops.Loop.{Loop}
 use Rattle.bpf.specs.declared.fault.ImageFault.{ImageFault}
 use Rattle.bpf.specs.declared.fault.ImageFault.TheVariants as faults
@@ -33,10 +34,16 @@ parts_fault slots loops budget =
     else Some faults.Budget)
     else Some faults.Count
 
--- the program, unless something is wrong
-abbrev pub unless : Option ImageFault → Program → Result Program ImageFault
-unless None p = Ok p
-unless (Some fault) p = Err fault
+-- the thing, unless something is wrong
+abbrev pub unless : {X : Type 0} → Option ImageFault → X → Result X ImageFault
+unless None x = Ok x
+unless (Some fault) x = Err fault
+
+-- the header of these instructions, loops and budget, or the first fault
+abbrev pub header_of : List Insn → List Loop → ℕ → Result Header ImageFault
+header_of insns loops budget =
+    unless (parts_fault (length (flat_map placed insns)) loops budget)
+    (record { loops = length loops; slots = length (flat_map placed insns); budget = budget })
 
 -- the program of these instructions, loops and budget, or the first fault
 abbrev pub parts_reading : List Insn → List Loop → ℕ → Result Program ImageFault

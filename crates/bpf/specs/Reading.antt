@@ -50,14 +50,18 @@ is_count loops slots reserved = nat_le loops 8 && nat_le 1 slots && nat_le slots
 abbrev pub is_budget : ℕ → Bool
 is_budget budget = nat_le 1 budget && nat_le budget 65536
 
--- the counts and the budget
-unfoldable pub counts_reading : List ℕ → Result Header ImageFault
-counts_reading bytes =
-    if is_count (slice_index bytes 5) (half_at 6 bytes) (word_at 12 bytes)
-    then (if is_budget (word_at 8 bytes)
-    then Ok (record { loops = slice_index bytes 5; slots = half_at 6 bytes; budget = word_at 8 bytes })
+-- the header of these counts, this reserved word and this budget
+abbrev pub declared : (loops slots reserved budget : ℕ) → Result Header ImageFault
+declared loops slots reserved budget =
+    if is_count loops slots reserved
+    then (if is_budget budget
+    then Ok (record { loops = loops; slots = slots; budget = budget })
     else Err faults.Budget)
     else Err faults.Count
+
+-- the counts and the budget
+unfoldable pub counts_reading : List ℕ → Result Header ImageFault
+counts_reading bytes = declared (slice_index bytes 5) (half_at 6 bytes) (word_at 12 bytes) (word_at 8 bytes)
 
 unfoldable pub header_reading : List ℕ → Result Header ImageFault
 header_reading bytes =

@@ -2,13 +2,13 @@
 
 ghost use Rattle.std.specs.Prelude.{◌≡◌, ◌≤◌, ◌==◌, ◌&&◌, nat_lt, slice_index, length, take, drop, IfOk};
 ghost use Rattle.bpf.specs.Program.{IsBudget, IsSlotCount, header_bytes};
-ghost use Rattle.bpf.specs.Reading.{counts_reading, header_reading, is_budget, is_count};
+ghost use Rattle.bpf.specs.Reading.{counts_reading, declared, header_reading, is_budget, is_count};
 
 use crate::fault::ImageFault;
 
 const MAGIC: [u8; 4] = *b"BPFA";
-
-const VERSION: u8 = 1;
+/// The version of the format.
+pub const VERSION: u8 = 1;
 /// The most loops of an image.
 const MAX_LOOPS: usize = 8;
 /// The most slots of an image.
@@ -16,12 +16,33 @@ pub const MAX_SLOTS: usize = 512;
 /// The greatest budget of an image.
 const MAX_BUDGET: u32 = 65_536;
 
-/// What the first 16 bytes declare.
+/// What an image declares in its first 16 bytes, in the limits of the format.
 #[derive(Clone, Copy)]
 pub struct Header {
     pub loops: u8,
     pub slots: u16,
     pub budget: u32,
+}
+
+impl Header {
+    /// The header of these counts and this budget: a fault of the counts and the reserved word is told
+    /// before one of the budget.
+    pub fn new(loops: usize, slots: usize, reserved: u32, budget: u32) -> Result<Header, ImageFault>
+        ensures value { result ≡ declared loops slots reserved budget }
+        ensures limits { IfOk result (λ h. (h.loops ≤ 8) × IsSlotCount h.slots × IsBudget h.budget) }
+    {
+        if !is_count(loops, slots, reserved) {
+            return Err(ImageFault::Count);
+        }
+        if !is_budget(budget) {
+            return Err(ImageFault::Budget);
+        }
+        Ok(Header {
+            loops: loops as u8,
+            slots: slots as u16,
+            budget,
+        })
+    }
 }
 
 /// The header of an image.
@@ -60,28 +81,18 @@ fn read_counts(bytes: &[u8]) -> Result<Header, ImageFault>
     let slots = u16::from_le_bytes([bytes[6], bytes[7]]);
     let budget = u32::from_le_bytes([bytes[8], bytes[9], bytes[10], bytes[11]]);
     let reserved = u32::from_le_bytes([bytes[12], bytes[13], bytes[14], bytes[15]]);
-    if !is_count(usize::from(loops), usize::from(slots), reserved) {
-        return Err(ImageFault::Count);
-    }
-    if !is_budget(budget) {
-        return Err(ImageFault::Budget);
-    }
-    Ok(Header {
-        loops,
-        slots,
-        budget,
-    })
+    Header::new(usize::from(loops), usize::from(slots), reserved, budget)
 }
 
 /// Whether the counts and the reserved word are those of an image.
-pub fn is_count(loops: usize, slots: usize, reserved: u32) -> bool
+fn is_count(loops: usize, slots: usize, reserved: u32) -> bool
     ensures { result ≡ is_count loops slots reserved }
 {
     loops <= MAX_LOOPS && 1 <= slots && slots <= MAX_SLOTS && reserved == 0
 }
 
 /// Whether this is a budget of an image.
-pub fn is_budget(budget: u32) -> bool
+fn is_budget(budget: u32) -> bool
     ensures { result ≡ is_budget budget }
 {
     1 <= budget && budget <= MAX_BUDGET

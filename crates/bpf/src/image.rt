@@ -2,14 +2,14 @@
 
 ghost use Rattle.std.specs.Prelude.{◌≡◌, ◌≤◌, length, IfOk, slice_index_or, None};
 ghost use Rattle.bpf.specs.Parts.{parts_reading};
-ghost use Rattle.bpf.specs.Program.{IsProgram, image_bytes};
+ghost use Rattle.bpf.specs.Program.{IsProgram, image_bytes, program};
 ghost use Rattle.bpf.specs.Weight.{saturated, weight_of};
 ghost use Rattle.bpf.specs.Reading.{Gives, image_reading};
 
 use crate::fault::ImageFault;
-use crate::header::{Header, header_bytes, read_header};
+use crate::header::{Header, VERSION, header_bytes, read_header};
 use crate::loops::{Loop, read_loops};
-use crate::parts::{fault_of, place_insns};
+use crate::parts::{header_of, place_insns};
 use crate::slots::read_slots;
 use crate::weighing::weight;
 use crate::writing::{write_loops, write_slots};
@@ -57,11 +57,7 @@ impl Image {
         let (_, loop_bytes) = front.split_at(16);
         let loops = read_loops(alloc, loop_bytes, header.loops, header.slots)?;
         let slots = read_slots(alloc, slot_bytes, header.slots)?;
-        Ok(Image {
-            budget: header.budget,
-            loops,
-            slots,
-        })
+        Ok(Image::of_parts(header.budget, loops, slots))
     }
 
     /// The image of these instructions, which take 1 to 512 slots, of at most 8 loops by rising head,
@@ -81,16 +77,22 @@ impl Image {
         // The first fault, or the image, unless memory is refused.
         ensures exact { Gives (λ image. image) result (parts_reading insns.now loops.now budget) }
     {
-        if let Some(fault) = fault_of(insns, loops, budget) {
-            return Err(fault);
-        }
-        let slots = place_insns(alloc, insns)?;
+        let header = header_of(insns, loops, budget)?;
         let loops = Vec::from_slice(alloc, loops)?;
-        Ok(Image {
+        let slots = place_insns(alloc, insns, header.slots)?;
+        Ok(Image::of_parts(budget, loops, slots))
+    }
+
+    /// The image of these parts, which are in the limits of the format.
+    fn of_parts(budget: u32, loops: Vec<Loop>, slots: Vec<Option<Insn>>) -> Image
+        requires { IsProgram (program budget loops.items slots.items) }
+        ensures { result ≡ program budget loops.items slots.items }
+    {
+        Image {
             budget,
             loops,
             slots,
-        })
+        }
     }
 
     /// An equal image.
@@ -99,11 +101,7 @@ impl Image {
     {
         let loops = self.loops.clone()?;
         let slots = self.slots.clone()?;
-        Ok(Image {
-            budget: self.budget,
-            loops,
-            slots,
-        })
+        Ok(Image::of_parts(self.budget, loops, slots))
     }
 
     /// The bytes that spell the image: `read` gives an equal image from them, and from no others. Memory
@@ -129,8 +127,9 @@ impl Image {
     pub fn version(&self) -> u8
         ensures { result ≡ self.now.version }
     {
+        // A proof knows the limits of an image where it reads a field.
         let _ = &self.budget;
-        1
+        VERSION
     }
 
     /// How many slots the image has, 1 to 512.

@@ -37,7 +37,7 @@ pub fn read_loops(
     ensures length { IfOk result (λ loops. length loops.items ≡ count) }
     ensures spelled { IfOk result (λ loops. bytes.now ≡ flat_map loop_bytes loops.items) }
 {
-    let mut loops = Vec::new(alloc);
+    let mut loops = Vec::with_capacity(alloc, usize::from(count))?;
     let mut rest = bytes;
     let mut least = 0;
     for _ in 0..count {

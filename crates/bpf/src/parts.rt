@@ -7,40 +7,33 @@ ghost use Rattle.std.specs.List.{flat_map};
 ghost use Rattle.bpf_insn.specs.Spelling.{IsDistance, IsInsn, IsOperand, second_immediate};
 ghost use Rattle.bpf.specs.Program.{AreSlots, IsLoop};
 ghost use Rattle.bpf.specs.Reading.{is_loop};
-ghost use Rattle.bpf.specs.Parts.{are_loops, parts_fault, placed};
+ghost use Rattle.bpf.specs.Parts.{are_loops, header_of, placed};
 
 use crate::fault::ImageFault;
-use crate::header::{MAX_SLOTS, is_budget, is_count};
+use crate::header::{Header, MAX_SLOTS};
 use crate::loops::{Loop, is_loop};
 use bpf_insn::{Address, Distance, Insn, Operand};
 use std::alloc::{AllocError, Global};
 
-/// Why these are no parts of an image, the first fault in the order of `ImageFault`.
-pub fn fault_of(insns: &[Insn], loops: &[Loop], budget: u32) -> Option<ImageFault>
-    ensures { result ≡ parts_fault (length (flat_map placed insns.now)) loops.now budget }
+/// The header of the image of these parts.
+///
+/// # Errors
+///
+/// `Count`, `Budget` or `BadLoop`, the first of them.
+#[tactic(auto, unfolding(crate::specs::Parts::parts_fault))]
+pub fn header_of(insns: &[Insn], loops: &[Loop], budget: u32) -> Result<Header, ImageFault>
+    ensures { result ≡ header_of insns.now loops.now budget }
 {
     // More instructions have more slots.
     if insns.len() > MAX_SLOTS {
-        return Some(ImageFault::Count);
+        return Err(ImageFault::Count);
     }
-    fault_in(count_slots(insns), loops, budget)
-}
-
-/// That of so many slots.
-#[tactic(auto, unfolding(crate::specs::Parts::parts_fault))]
-fn fault_in(slots: usize, loops: &[Loop], budget: u32) -> Option<ImageFault>
-    ensures { result ≡ parts_fault slots loops.now budget }
-{
-    if !is_count(loops.len(), slots, 0) {
-        return Some(ImageFault::Count);
+    let header = Header::new(loops.len(), count_slots(insns), 0, budget)?;
+    if are_loops(header.slots, loops) {
+        Ok(header)
+    } else {
+        Err(ImageFault::BadLoop)
     }
-    if !is_budget(budget) {
-        return Some(ImageFault::Budget);
-    }
-    if !are_loops(slots as u16, loops) {
-        return Some(ImageFault::BadLoop);
-    }
-    None
 }
 
 /// How many slots the instructions take.
@@ -78,12 +71,17 @@ fn follows(slots: u16, least: u16, found: &Loop) -> bool
     is_loop(slots, least, found.head, found.back, found.bound, number, 0)
 }
 
-/// Each instruction at its first slot; a second slot has none.
-pub fn place_insns(alloc: Global, insns: &[Insn]) -> Result<Vec<Option<Insn>>, AllocError>
+/// Each instruction at its first slot; a second slot has none. Memory is asked for once, for `count`
+/// slots.
+pub fn place_insns(
+    alloc: Global,
+    insns: &[Insn],
+    count: u16,
+) -> Result<Vec<Option<Insn>>, AllocError>
     ensures placed { IfOk result (λ slots. slots.items ≡ flat_map placed insns.now) }
     ensures code { IfOk result (λ slots. AreSlots false slots.items) }
 {
-    let mut slots = Vec::new(alloc);
+    let mut slots = Vec::with_capacity(alloc, usize::from(count))?;
     for insn in insns {
         place_insn(&mut slots, insn)?;
     }

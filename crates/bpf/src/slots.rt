@@ -17,7 +17,7 @@ pub fn read_slots(alloc: Global, bytes: &[u8], count: u16) -> Result<Vec<Option<
     ensures length { IfOk result (λ slots. length slots.items ≡ count) }
     ensures spelled { IfOk result (λ slots. AreSlots false slots.items × (bytes.now ≡ flat_map slot_bytes slots.items)) }
 {
-    let mut slots = Vec::new(alloc);
+    let mut slots = Vec::with_capacity(alloc, usize::from(count))?;
     let mut rest = bytes;
     let mut second = false;
     for slot in 0..count {

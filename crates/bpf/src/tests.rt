@@ -2,6 +2,7 @@
 
 use super::*;
 use bpf_insn::{AluOp, Callee, Condition, Insn, Operand, Register, Width};
+use std::alloc::Global;
 use std::process::Abort;
 use std::test::Fail;
 
@@ -112,9 +113,44 @@ fn a_changed_byte_is_the_first_fault(rt: HostRuntime) {
     }
 }
 
+/// What each byte is replaced by.
+const REPLACEMENTS: [u8; 5] = [0x00, 0x01, 0x7f, 0x80, 0xff];
+
+/// How many of the 360 replaced bytes leave an image, and how many are each fault by its number, as an
+/// independent reader counts them.
+const REPLACED: [u16; 8] = [168, 20, 4, 6, 23, 9, 27, 103];
+
+/// The number of the fault, 0 where the bytes are an image, which is then written as the same bytes.
+fn written_back(rt: &impl Abort, alloc: Global, bytes: &[u8]) -> Result<u8, Fail> {
+    match Image::read(alloc, bytes) {
+        Ok(image) => {
+            assert!(rt; image.write()?.as_slice() == bytes);
+            Ok(0)
+        }
+        Err(fault) => Ok(fault.code()),
+    }
+}
+
+#[test]
+fn a_replaced_byte_is_written_back_or_a_fault(rt: HostRuntime) -> Result<(), Fail> {
+    let mut counts = [0u16; 8];
+    for place in 0..COUNTDOWN.len() {
+        for value in &REPLACEMENTS {
+            let mut bytes = COUNTDOWN;
+            bytes[place] = *value;
+            let code = written_back(&rt, rt.alloc(), &bytes)?;
+            if let Some(count) = counts.get_mut(usize::from(code)) {
+                *count = count.saturating_add(1);
+            }
+        }
+    }
+    assert!(rt; counts == REPLACED);
+    Ok(())
+}
+
 /// Of each beginning: the magic, the version, and then the length.
 #[test]
-fn each_beginning_is_a_fault(rt: HostRuntime) {
+fn each_beginning_is_a_fault(rt: HostRuntime) -> Result<(), Fail> {
     for len in 0..COUNTDOWN.len() {
         let code = if len < 4 {
             1
@@ -123,7 +159,26 @@ fn each_beginning_is_a_fault(rt: HostRuntime) {
         } else {
             3
         };
-        assert_eq!(rt; fault(rt, &COUNTDOWN[..len]), (code, 0), "at {len}");
+        assert_eq!(rt;
+            written_back(&rt, rt.alloc(), &COUNTDOWN[..len])?,
+            code,
+            "at {len}"
+        );
+    }
+    assert_eq!(rt; written_back(&rt, rt.alloc(), &COUNTDOWN)?, 0);
+    Ok(())
+}
+
+/// The declared size alone is tested, whatever follows it.
+#[test]
+fn a_size_out_of_range_is_a_count_fault(rt: HostRuntime) {
+    for size in &[0u16, 513, 65_535] {
+        let mut bytes = YES;
+        let [low, high] = size.to_le_bytes();
+        bytes[6] = low;
+        bytes[7] = high;
+        assert_eq!(rt; fault(rt, &bytes), (4, 0), "at {size}");
+        assert_eq!(rt; fault(rt, &bytes[..16]), (4, 0), "at {size}, and no slot");
     }
 }
 
@@ -175,7 +230,7 @@ fn tells_quota(rt: &impl Abort, image: &Image) {
     let src = Operand::Immediate(5);
     let jump = Insn::Jump {
         condition: Condition::Less,
-        width: Width::W64,
+        width: Width::Bits64,
         dst: r0,
         src,
         offset: 2,
@@ -184,7 +239,7 @@ fn tells_quota(rt: &impl Abort, image: &Image) {
     let src = Operand::Immediate(10);
     let answer = Insn::Alu {
         op: AluOp::Mov,
-        width: Width::W64,
+        width: Width::Bits64,
         dst: r0,
         src,
     };
@@ -356,23 +411,22 @@ fn a_weight_is_a_sum_of_products(rt: HostRuntime) -> Result<(), Fail> {
     Ok(())
 }
 
-/// A refused allocation is `Memory`, and the next call gives the image.
+/// The bytes of a copy of the image of `COUNTDOWN`, and of an image that is made of exits and its loops.
+fn made_twice(alloc: Global) -> Result<(Vec<u8>, Vec<u8>), ImageFault> {
+    let image = Image::read(alloc, &COUNTDOWN)?.copy()?;
+    let exits = Image::new(alloc, &EXITS[..6], image.loops(), image.budget())?;
+    Ok((image.write()?, exits.write()?))
+}
+
+/// A refused allocation is `Memory`, and the next calls give the images.
 #[test]
 fn refused_memory_is_told(rt: HostRuntime) -> Result<(), Fail> {
-    match Image::read(rt.alloc(), &COUNTDOWN) {
-        Ok(image) => {
-            let _ = image.copy();
-            let _ = image.write();
-        }
-        Err(fault) => assert_eq!(rt; fault.code(), 8),
+    if let Err(fault) = made_twice(rt.alloc()) {
+        assert_eq!(rt; fault.code(), 8);
     }
-    match Image::new(rt.alloc(), &EXITS[..2], &[], 1) {
-        Ok(image) => assert_eq!(rt; image.slots(), 2),
-        Err(fault) => assert_eq!(rt; fault.code(), 8),
-    }
-    let image = Image::read(rt.alloc(), &COUNTDOWN)?;
-    let copy = image.copy()?;
-    assert_eq!(rt; copy.slots(), 6);
-    assert_eq!(rt; copy.loops().len(), 1);
+    let (copied, exits) = made_twice(rt.alloc())?;
+    assert!(rt; copied.as_slice() == COUNTDOWN.as_slice());
+    assert!(rt; exits.as_slice().starts_with(&COUNTDOWN[..24]));
+    assert_eq!(rt; exits.len(), 72);
     Ok(())
 }

@@ -3,7 +3,7 @@ use Rattle.std.proofs.Common.{◌≡◌, ◌≢◌, ℕ, zero, suc, ◌/◌, ◌
 use Rattle.std.proofs.lemmas.Bool.Decides.{nat_tests}
 use Rattle.std.specs.Option.{ok_or, option_map}
 use Rattle.bpf_insn.specs.declared.operation.Width.{Width}
-use Rattle.bpf_insn.specs.declared.operation.Width.TheVariants.{W32, W64}
+use Rattle.bpf_insn.specs.declared.operation.Width.TheVariants.{Bits32, Bits64}
 use Rattle.bpf_insn.specs.declared.operation.AluOp.{AluOp}
 use Rattle.bpf_insn.specs.declared.operation.AluOp.TheVariants.{Add, Mov}
 use Rattle.bpf_insn.specs.declared.operation.Operand.{Operand}
@@ -63,10 +63,10 @@ src_read i d s next k uses h = by_test (nat_le s 10) refl
 
 explained_alu_k : (op : AluOp) (width : Width) (dst : ℕ) (value : ℤ) (d s : ℕ) (o m : ℤ) (next : Option Fields) → explains (Alu op width dst (Immediate value)) d s next (meant_of (fields (opcode_of (Alu op width dst (Immediate value))) d s o m) next) ≡ true
 unfolding meant_of arithmetic_of two_operands_of move_of
-explained_alu_k Add W32 dst value d s o m next = dst_read (Alu Add W32 dst (Immediate value)) d s next _ refl (λ p. rw p refl)
-explained_alu_k Add W64 dst value d s o m next = dst_read (Alu Add W64 dst (Immediate value)) d s next _ refl (λ p. rw p refl)
-explained_alu_k op W32 dst value d s o m next = dst_read (Alu op W32 dst (Immediate value)) d s next _ refl (λ p. rw p refl)
-explained_alu_k op W64 dst value d s o m next = dst_read (Alu op W64 dst (Immediate value)) d s next _ refl (λ p. rw p refl)
+explained_alu_k Add Bits32 dst value d s o m next = dst_read (Alu Add Bits32 dst (Immediate value)) d s next _ refl (λ p. rw p refl)
+explained_alu_k Add Bits64 dst value d s o m next = dst_read (Alu Add Bits64 dst (Immediate value)) d s next _ refl (λ p. rw p refl)
+explained_alu_k op Bits32 dst value d s o m next = dst_read (Alu op Bits32 dst (Immediate value)) d s next _ refl (λ p. rw p refl)
+explained_alu_k op Bits64 dst value d s o m next = dst_read (Alu op Bits64 dst (Immediate value)) d s next _ refl (λ p. rw p refl)
 
 operand_read : (i : Insn) (d s : ℕ) (next : Option Fields) (k : Operand → Result Insn BadInsn) → uses_src i ≡ true → (nat_le s 10 ≡ true → explains i d s next (k (FromRegister s)) ≡ true) → explains i d s next ((register_of s >>= (λ src. Ok (FromRegister src))) >>= k) ≡ true
 operand_read i d s next k uses h = by_test (nat_le s 10) refl
@@ -86,17 +86,17 @@ either i d s next false q r h k = k
 
 explained_alu_x : (op : AluOp) (width : Width) (dst src : ℕ) (d s : ℕ) (o m : ℤ) (next : Option Fields) → explains (Alu op width dst (FromRegister src)) d s next (meant_of (fields (opcode_of (Alu op width dst (FromRegister src))) d s o m) next) ≡ true
 unfolding meant_of arithmetic_of two_operands_of move_of
-explained_alu_x Mov W32 dst src d s o m next = dst_read (Alu Mov W32 dst (FromRegister src)) d s next _ refl (λ p. src_read (Alu Mov W32 dst (FromRegister src)) d s next _ refl (λ q. rw (p, q) refl))
-explained_alu_x Mov W64 dst src d s o m next = dst_read (Alu Mov W64 dst (FromRegister src)) d s next _ refl (λ p. src_read (Alu Mov W64 dst (FromRegister src)) d s next _ refl (λ q. rw (p, q) refl))
-explained_alu_x Add W32 dst src d s o m next = dst_read (Alu Add W32 dst (FromRegister src)) d s next _ refl (λ p. operand_read (Alu Add W32 dst (FromRegister src)) d s next _ refl (λ q. rw (p, q) refl))
-explained_alu_x Add W64 dst src d s o m next = dst_read (Alu Add W64 dst (FromRegister src)) d s next _ refl (λ p. operand_read (Alu Add W64 dst (FromRegister src)) d s next _ refl (λ q. rw (p, q) refl))
-explained_alu_x op W32 dst src d s o m next = dst_read (Alu op W32 dst (FromRegister src)) d s next _ refl (λ p. operand_read (Alu op W32 dst (FromRegister src)) d s next _ refl (λ q. rw (p, q) refl))
-explained_alu_x op W64 dst src d s o m next = dst_read (Alu op W64 dst (FromRegister src)) d s next _ refl (λ p. operand_read (Alu op W64 dst (FromRegister src)) d s next _ refl (λ q. rw (p, q) refl))
+explained_alu_x Mov Bits32 dst src d s o m next = dst_read (Alu Mov Bits32 dst (FromRegister src)) d s next _ refl (λ p. src_read (Alu Mov Bits32 dst (FromRegister src)) d s next _ refl (λ q. rw (p, q) refl))
+explained_alu_x Mov Bits64 dst src d s o m next = dst_read (Alu Mov Bits64 dst (FromRegister src)) d s next _ refl (λ p. src_read (Alu Mov Bits64 dst (FromRegister src)) d s next _ refl (λ q. rw (p, q) refl))
+explained_alu_x Add Bits32 dst src d s o m next = dst_read (Alu Add Bits32 dst (FromRegister src)) d s next _ refl (λ p. operand_read (Alu Add Bits32 dst (FromRegister src)) d s next _ refl (λ q. rw (p, q) refl))
+explained_alu_x Add Bits64 dst src d s o m next = dst_read (Alu Add Bits64 dst (FromRegister src)) d s next _ refl (λ p. operand_read (Alu Add Bits64 dst (FromRegister src)) d s next _ refl (λ q. rw (p, q) refl))
+explained_alu_x op Bits32 dst src d s o m next = dst_read (Alu op Bits32 dst (FromRegister src)) d s next _ refl (λ p. operand_read (Alu op Bits32 dst (FromRegister src)) d s next _ refl (λ q. rw (p, q) refl))
+explained_alu_x op Bits64 dst src d s o m next = dst_read (Alu op Bits64 dst (FromRegister src)) d s next _ refl (λ p. operand_read (Alu op Bits64 dst (FromRegister src)) d s next _ refl (λ q. rw (p, q) refl))
 
 explained_negate : (width : Width) (dst d s : ℕ) (o m : ℤ) (next : Option Fields) → explains (Negate width dst) d s next (meant_of (fields (opcode_of (Negate width dst)) d s o m) next) ≡ true
 unfolding meant_of arithmetic_of negation_of
-explained_negate W32 dst d s o m next = dst_read (Negate W32 dst) d s next _ refl (λ p. rw p refl)
-explained_negate W64 dst d s o m next = dst_read (Negate W64 dst) d s next _ refl (λ p. rw p refl)
+explained_negate Bits32 dst d s o m next = dst_read (Negate Bits32 dst) d s next _ refl (λ p. rw p refl)
+explained_negate Bits64 dst d s o m next = dst_read (Negate Bits64 dst) d s next _ refl (λ p. rw p refl)
 
 explained_move : (extension : Extension) (dst src d s : ℕ) (o m : ℤ) (next : Option Fields) → explains (MoveSigned extension dst src) d s next (meant_of (fields (opcode_of (MoveSigned extension dst src)) d s o m) next) ≡ true
 unfolding meant_of arithmetic_of move_of
@@ -126,17 +126,17 @@ explained_store_x e base src offset d s o m next = dst_read (Store e base offset
 
 explained_jump_k : (condition : Condition) (width : Width) (dst : ℕ) (value offset : ℤ) (d s : ℕ) (o m : ℤ) (next : Option Fields) → explains (Jump condition width dst (Immediate value) offset) d s next (meant_of (fields (opcode_of (Jump condition width dst (Immediate value) offset)) d s o m) next) ≡ true
 unfolding meant_of jump_of branch_of
-explained_jump_k Equal W32 dst value offset d s o m next = dst_read (Jump Equal W32 dst (Immediate value) offset) d s next _ refl (λ p. rw p refl)
-explained_jump_k Equal W64 dst value offset d s o m next = dst_read (Jump Equal W64 dst (Immediate value) offset) d s next _ refl (λ p. rw p refl)
-explained_jump_k e W32 dst value offset d s o m next = dst_read (Jump e W32 dst (Immediate value) offset) d s next _ refl (λ p. rw p refl)
-explained_jump_k e W64 dst value offset d s o m next = dst_read (Jump e W64 dst (Immediate value) offset) d s next _ refl (λ p. rw p refl)
+explained_jump_k Equal Bits32 dst value offset d s o m next = dst_read (Jump Equal Bits32 dst (Immediate value) offset) d s next _ refl (λ p. rw p refl)
+explained_jump_k Equal Bits64 dst value offset d s o m next = dst_read (Jump Equal Bits64 dst (Immediate value) offset) d s next _ refl (λ p. rw p refl)
+explained_jump_k e Bits32 dst value offset d s o m next = dst_read (Jump e Bits32 dst (Immediate value) offset) d s next _ refl (λ p. rw p refl)
+explained_jump_k e Bits64 dst value offset d s o m next = dst_read (Jump e Bits64 dst (Immediate value) offset) d s next _ refl (λ p. rw p refl)
 
 explained_jump_x : (condition : Condition) (width : Width) (dst src : ℕ) (offset : ℤ) (d s : ℕ) (o m : ℤ) (next : Option Fields) → explains (Jump condition width dst (FromRegister src) offset) d s next (meant_of (fields (opcode_of (Jump condition width dst (FromRegister src) offset)) d s o m) next) ≡ true
 unfolding meant_of jump_of branch_of
-explained_jump_x Equal W32 dst src offset d s o m next = dst_read (Jump Equal W32 dst (FromRegister src) offset) d s next _ refl (λ p. operand_read (Jump Equal W32 dst (FromRegister src) offset) d s next _ refl (λ q. rw (p, q) refl))
-explained_jump_x Equal W64 dst src offset d s o m next = dst_read (Jump Equal W64 dst (FromRegister src) offset) d s next _ refl (λ p. operand_read (Jump Equal W64 dst (FromRegister src) offset) d s next _ refl (λ q. rw (p, q) refl))
-explained_jump_x e W32 dst src offset d s o m next = dst_read (Jump e W32 dst (FromRegister src) offset) d s next _ refl (λ p. operand_read (Jump e W32 dst (FromRegister src) offset) d s next _ refl (λ q. rw (p, q) refl))
-explained_jump_x e W64 dst src offset d s o m next = dst_read (Jump e W64 dst (FromRegister src) offset) d s next _ refl (λ p. operand_read (Jump e W64 dst (FromRegister src) offset) d s next _ refl (λ q. rw (p, q) refl))
+explained_jump_x Equal Bits32 dst src offset d s o m next = dst_read (Jump Equal Bits32 dst (FromRegister src) offset) d s next _ refl (λ p. operand_read (Jump Equal Bits32 dst (FromRegister src) offset) d s next _ refl (λ q. rw (p, q) refl))
+explained_jump_x Equal Bits64 dst src offset d s o m next = dst_read (Jump Equal Bits64 dst (FromRegister src) offset) d s next _ refl (λ p. operand_read (Jump Equal Bits64 dst (FromRegister src) offset) d s next _ refl (λ q. rw (p, q) refl))
+explained_jump_x e Bits32 dst src offset d s o m next = dst_read (Jump e Bits32 dst (FromRegister src) offset) d s next _ refl (λ p. operand_read (Jump e Bits32 dst (FromRegister src) offset) d s next _ refl (λ q. rw (p, q) refl))
+explained_jump_x e Bits64 dst src offset d s o m next = dst_read (Jump e Bits64 dst (FromRegister src) offset) d s next _ refl (λ p. operand_read (Jump e Bits64 dst (FromRegister src) offset) d s next _ refl (λ q. rw (p, q) refl))
 
 explained_pair : (i : Insn) (d s : ℕ) (o m : ℤ) (next : Option Fields) (dst : ℕ) (g : Fields) → is_fine i d s next ≡ true → explains i d s next (pair_of (fields 0x18 d s o m) dst g) ≡ true
 unfolding pair_of
@@ -308,6 +308,6 @@ fault_of bytes next (Err e) value opcode only =
     (λ i s. let never : Err e ≡ Ok i = only i s in cc)
 
 -- the fault of bytes that are read as fields
-pub fault_explained : (bytes : List ℕ) (next : Option (List ℕ)) (f : Fields) (g : Option Fields) (r : Result Insn BadInsn) → r ≡ reading_of f g → f ≡ fields_in bytes → g ≡ option_map fields_in next → slice_index bytes 0 < 256 → ((i : Insn) → Spells bytes next i → r ≡ Ok i) → IfErr r (IsFault bytes next)
-fault_explained bytes next f g r value first second opcode only =
-    fault_of bytes next r (value ∙ ap (λ (x : Fields). reading_of x g) first ∙ ap (reading_of (fields_in bytes)) second) opcode only
+pub fault_explained : (bytes : List ℕ) (next : Option (List ℕ)) (f : Fields) (r : Result Insn BadInsn) → r ≡ reading_of f (option_map fields_in next) → f ≡ fields_in bytes → slice_index bytes 0 < 256 → ((i : Insn) → Spells bytes next i → r ≡ Ok i) → IfErr r (IsFault bytes next)
+fault_explained bytes next f r value first opcode only =
+    fault_of bytes next r (value ∙ ap (λ (x : Fields). reading_of x (option_map fields_in next)) first) opcode only

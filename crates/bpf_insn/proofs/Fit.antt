@@ -3,7 +3,7 @@ use Rattle.std.proofs.Common.{ℕ, ◌/◌, ◌%◌, ◌^◌, ◌<◌, ◌≤◌
 use Rattle.std.specs.Int.{w16, w32, cast_signed}
 use Rattle.std.proofs.Math.Facts.{sfits_lit, sfits_to_z, Fits-of_lt}
 use Rattle.bpf_insn.specs.declared.operation.Width.{Width}
-use Rattle.bpf_insn.specs.declared.operation.Width.TheVariants.{W32, W64}
+use Rattle.bpf_insn.specs.declared.operation.Width.TheVariants.{Bits32, Bits64}
 use Rattle.bpf_insn.specs.declared.operation.AluOp.{AluOp}
 use Rattle.bpf_insn.specs.declared.operation.AluOp.TheVariants.{Add}
 use Rattle.bpf_insn.specs.declared.operation.Operand.{Operand}
@@ -31,12 +31,12 @@ use Rattle.bpf_insn.specs.Codes.{arithmetic_class, jump_class, alu_code, alu_off
 use Rattle.bpf_insn.specs.Spelling.{first_fields, second_immediate, IsInsn, IsOperand, FieldsFit}
 
 arithmetic_class_small : (w : Width) → arithmetic_class w < 8
-arithmetic_class_small W32 = lit< tt
-arithmetic_class_small W64 = lit< tt
+arithmetic_class_small Bits32 = lit< tt
+arithmetic_class_small Bits64 = lit< tt
 
 jump_class_small : (w : Width) → jump_class w < 8
-jump_class_small W32 = lit< tt
-jump_class_small W64 = lit< tt
+jump_class_small Bits32 = lit< tt
+jump_class_small Bits64 = lit< tt
 
 alu_code_small : (op : AluOp) → alu_code op < 13
 alu_code_small Add = lit< tt

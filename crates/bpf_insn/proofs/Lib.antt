@@ -4,3 +4,4 @@ pub mod Meant
 pub mod Fit
 pub mod Explained
 pub mod Apart
+pub mod Zeros

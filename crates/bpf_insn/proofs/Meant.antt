@@ -4,7 +4,7 @@ use Rattle.std.proofs.lemmas.Bool.Decides.{nat_tests}
 use Rattle.std.specs.Int.{w32, cast_signed}
 use Rattle.std.proofs.lemmas.Int.{of_z-to_z}
 use Rattle.bpf_insn.specs.declared.operation.Width.{Width}
-use Rattle.bpf_insn.specs.declared.operation.Width.TheVariants.{W32, W64}
+use Rattle.bpf_insn.specs.declared.operation.Width.TheVariants.{Bits32, Bits64}
 use Rattle.bpf_insn.specs.declared.operation.AluOp.{AluOp}
 use Rattle.bpf_insn.specs.declared.operation.AluOp.TheVariants.{Add}
 use Rattle.bpf_insn.specs.declared.operation.Operand.TheVariants.{FromRegister, Immediate}
@@ -37,22 +37,22 @@ number_passes n h = grind (arith, nat_tests)
 
 alu_k : (op : AluOp) (width : Width) (dst : ℕ) (value : ℤ) (next : Option Fields) → nat_le dst 10 ≡ true → meant_of (first_fields (Alu op width dst (Immediate value))) next ≡ Ok (Alu op width dst (Immediate value))
 unfolding meant_of arithmetic_of two_operands_of move_of
-alu_k Add W32 dst value next p = rw p refl
-alu_k Add W64 dst value next p = rw p refl
-alu_k _ W32 dst value next p = rw p refl
-alu_k _ W64 dst value next p = rw p refl
+alu_k Add Bits32 dst value next p = rw p refl
+alu_k Add Bits64 dst value next p = rw p refl
+alu_k _ Bits32 dst value next p = rw p refl
+alu_k _ Bits64 dst value next p = rw p refl
 
 alu_x : (op : AluOp) (width : Width) (dst src : ℕ) (next : Option Fields) → nat_le dst 10 ≡ true → nat_le src 10 ≡ true → meant_of (first_fields (Alu op width dst (FromRegister src))) next ≡ Ok (Alu op width dst (FromRegister src))
 unfolding meant_of arithmetic_of two_operands_of move_of
-alu_x Add W32 dst src next p q = rw p (rw q refl)
-alu_x Add W64 dst src next p q = rw p (rw q refl)
-alu_x _ W32 dst src next p q = rw p (rw q refl)
-alu_x _ W64 dst src next p q = rw p (rw q refl)
+alu_x Add Bits32 dst src next p q = rw p (rw q refl)
+alu_x Add Bits64 dst src next p q = rw p (rw q refl)
+alu_x _ Bits32 dst src next p q = rw p (rw q refl)
+alu_x _ Bits64 dst src next p q = rw p (rw q refl)
 
 negated : (width : Width) (dst : ℕ) (next : Option Fields) → nat_le dst 10 ≡ true → meant_of (first_fields (Negate width dst)) next ≡ Ok (Negate width dst)
 unfolding meant_of arithmetic_of negation_of
-negated W32 dst next p = rw p refl
-negated W64 dst next p = rw p refl
+negated Bits32 dst next p = rw p refl
+negated Bits64 dst next p = rw p refl
 
 extended : (extension : Extension) (dst src : ℕ) (next : Option Fields) → nat_le dst 10 ≡ true → nat_le src 10 ≡ true → meant_of (first_fields (MoveSigned extension dst src)) next ≡ Ok (MoveSigned extension dst src)
 unfolding meant_of arithmetic_of move_of
@@ -88,17 +88,17 @@ stored_x _ base src offset next p q = rw p (rw q refl)
 
 jumped_k : (condition : Condition) (width : Width) (dst : ℕ) (value offset : ℤ) (next : Option Fields) → nat_le dst 10 ≡ true → meant_of (first_fields (Jump condition width dst (Immediate value) offset)) next ≡ Ok (Jump condition width dst (Immediate value) offset)
 unfolding meant_of jump_of branch_of
-jumped_k Equal W32 dst value offset next p = rw p refl
-jumped_k Equal W64 dst value offset next p = rw p refl
-jumped_k _ W32 dst value offset next p = rw p refl
-jumped_k _ W64 dst value offset next p = rw p refl
+jumped_k Equal Bits32 dst value offset next p = rw p refl
+jumped_k Equal Bits64 dst value offset next p = rw p refl
+jumped_k _ Bits32 dst value offset next p = rw p refl
+jumped_k _ Bits64 dst value offset next p = rw p refl
 
 jumped_x : (condition : Condition) (width : Width) (dst src : ℕ) (offset : ℤ) (next : Option Fields) → nat_le dst 10 ≡ true → nat_le src 10 ≡ true → meant_of (first_fields (Jump condition width dst (FromRegister src) offset)) next ≡ Ok (Jump condition width dst (FromRegister src) offset)
 unfolding meant_of jump_of branch_of
-jumped_x Equal W32 dst src offset next p q = rw p (rw q refl)
-jumped_x Equal W64 dst src offset next p q = rw p (rw q refl)
-jumped_x _ W32 dst src offset next p q = rw p (rw q refl)
-jumped_x _ W64 dst src offset next p q = rw p (rw q refl)
+jumped_x Equal Bits32 dst src offset next p q = rw p (rw q refl)
+jumped_x Equal Bits64 dst src offset next p q = rw p (rw q refl)
+jumped_x _ Bits32 dst src offset next p q = rw p (rw q refl)
+jumped_x _ Bits64 dst src offset next p q = rw p (rw q refl)
 
 halves : (value : ℕ) → value < 2 ^ 64 → joined (cast_signed w32 (value % 2 ^ 32)) (cast_signed w32 (value / 2 ^ 32)) ≡ value
 halves value h =

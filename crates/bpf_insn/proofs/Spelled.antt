@@ -1,5 +1,5 @@
 -- Between fields and bytes: what is read from bytes has them, and the bytes of an instruction are read as it.
-use Rattle.std.proofs.Common.{◌≡◌, ℕ, ℤ, pos, Bool, true, false, ◌&&◌, List, Option, Some, None, Result, Ok, Err, refl, sym, ap, ◌∙◌, arith, FitsSigned, IfSome, if◌then◌else◌, nat_eq, IfOk, lit<}
+use Rattle.std.proofs.Common.{◌≡◌, ℕ, ℤ, pos, Bool, true, false, ◌&&◌, List, Option, Some, None, Result, Ok, Err, refl, sym, ap, ◌∙◌, arith, FitsSigned, IfSome, if◌then◌else◌, nat_eq, IfOk, lit<, subst}
 use Rattle.std.proofs.lemmas.Bool.Decides.{nat_tests, Decides-int_eq}
 use Rattle.std.specs.Int.{w32}
 use Rattle.std.specs.Option.{option_map}
@@ -8,7 +8,7 @@ use Rattle.bpf_insn.specs.declared.fields.Fields.{Fields}
 use Rattle.bpf_insn.specs.declared.insn.Insn.{Insn}
 use Rattle.bpf_insn.specs.declared.decoding.BadInsn.{BadInsn}
 use Rattle.bpf_insn.specs.declared.decoding.BadInsn.TheVariants as faults
-use Rattle.bpf_insn.specs.Spelling.{fields, first_fields, second_immediate, second_fields, bytes_of, IsInsn, Spells}
+use Rattle.bpf_insn.specs.Spelling.{fields, first_fields, second_immediate, second_fields, bytes_of, HasSecond, HasSlots, IsInsn, Spells}
 use Rattle.bpf_insn.specs.Reading.{fields_in, same_fields, same_second, has_fields, reading_of, reading, meant_of}
 use Rattle.bpf_insn.proofs.SlotBytes.{fields_in-bytes_of}
 use Rattle.bpf_insn.proofs.Meant.{means}
@@ -35,34 +35,24 @@ nat_eq_refl m = grind (arith, nat_tests)
 parts_same : (o o' d d' s s' : ℕ) (a a' b b' : ℤ) → o ≡ o' → d ≡ d' → s ≡ s' → a ≡ a' → b ≡ b' → fields o d s a b ≡ fields o' d' s' a' b'
 parts_same o o' d d' s s' a a' b b' p q r t u = cc
 
-fields_same : (f g : Fields) → same_fields f g ≡ true → f ≡ g
+-- fields that the derived `==` finds equal
+fields_same : (f g : Fields) → (nat_eq f.opcode g.opcode && (nat_eq f.dst g.dst && (nat_eq f.src g.src && (int_eq f.offset g.offset && int_eq f.immediate g.immediate)))) ≡ true → f ≡ g
 fields_same f g h =
     let a = both _ _ h in
-    let b = both _ _ a.0 in
-    let c = both _ _ b.0 in
-    let d = both _ _ c.0 in
+    let b = both _ _ a.1 in
+    let c = both _ _ b.1 in
+    let d = both _ _ c.1 in
     parts_same f.opcode g.opcode f.dst g.dst f.src g.src f.offset g.offset f.immediate g.immediate
-    (numbers_same _ _ d.0) (numbers_same _ _ d.1) (numbers_same _ _ c.1) (ints_same _ _ b.1) (ints_same _ _ a.1)
+    (numbers_same _ _ a.0) (numbers_same _ _ b.0) (numbers_same _ _ c.0) (ints_same _ _ d.0) (ints_same _ _ d.1)
 
 same_fields-refl : (f : Fields) → same_fields f f ≡ true
 same_fields-refl f = rw (nat_eq_refl f.opcode) (rw (nat_eq_refl f.dst) (rw (nat_eq_refl f.src) (rw (int_eq_refl f.offset) (rw (int_eq_refl f.immediate) refl))))
 
 -- ---- what has the fields has the bytes
 
-second_spelled : (second : Option ℤ) (f : Option Fields) (next : Option (List ℕ)) → same_second second f ≡ true → option_map bytes_of f ≡ next → IfSome (option_map bytes_of (second_fields second)) (λ s. next ≡ Some s)
-second_spelled None f next h e = tt
-second_spelled (Some immediate) None next h e = cc
-second_spelled (Some immediate) (Some g) next h e =
-    sym e ∙ ap (λ (x : Fields). Some (bytes_of x)) (fields_same g (fields 0 0 0 (pos 0) immediate) h)
-
-pub has_fields-Spells : (i : Insn) (f : Fields) (g : Option Fields) (bytes : List ℕ) (next : Option (List ℕ)) → IsInsn i → has_fields i f g ≡ true → bytes_of f ≡ bytes → option_map bytes_of g ≡ next → Spells bytes next i
-has_fields-Spells i f g bytes next is_insn has first second =
-    let h = both _ _ has in
-    record {
-      is_insn = is_insn;
-      first = sym first ∙ ap bytes_of (sym (fields_same (first_fields i) f h.0));
-      second = second_spelled (second_immediate i) g next h.1 second;
-    }
+pub slots_same : (i : Insn) (f g : Fields) (immediate : Option ℤ) (next : Option (List ℕ)) → f ≡ first_fields i → immediate ≡ second_immediate i → (nat_eq f.opcode g.opcode && (nat_eq f.dst g.dst && (nat_eq f.src g.src && (int_eq f.offset g.offset && int_eq f.immediate g.immediate)))) ≡ true → HasSecond immediate next → HasSlots i g next
+slots_same i f g immediate next is_first is_second same second =
+    record { first = sym is_first ∙ fields_same f g same; second = subst (λ (z : Option ℤ). HasSecond z next) is_second second }
 
 -- ---- what an instruction spells is read as it
 
@@ -98,11 +88,12 @@ reading-spelled bytes next i s =
 
 -- ---- the clauses of `decode`
 
-pub only_spelled : (bytes : List ℕ) (next : Option (List ℕ)) (f : Fields) (g : Option Fields) (r : Result Insn BadInsn) (i : Insn) → r ≡ reading_of f g → f ≡ fields_in bytes → g ≡ option_map fields_in next → Spells bytes next i → r ≡ Ok i
+pub only_spelled : (bytes : List ℕ) (next : Option (List ℕ)) (f : Fields) (r : Result Insn BadInsn) (i : Insn) → r ≡ reading_of f (option_map fields_in next) → f ≡ fields_in bytes → Spells bytes next i → r ≡ Ok i
 unfolding reading
-only_spelled bytes next f g r i value first second s =
-    value ∙ ap (λ (x : Fields). reading_of x g) first ∙ ap (reading_of (fields_in bytes)) second ∙ reading-spelled bytes next i s
+only_spelled bytes next f r i value first s =
+    value ∙ ap (λ (x : Fields). reading_of x (option_map fields_in next)) first ∙ reading-spelled bytes next i s
 
-pub found_spelled : (bytes : List ℕ) (next : Option (List ℕ)) (f : Fields) (g : Option Fields) (r : Result Insn BadInsn) → IfOk r (λ i. IsInsn i) → IfOk r (λ i. has_fields i f g ≡ true) → bytes_of f ≡ bytes → option_map bytes_of g ≡ next → IfOk r (Spells bytes next)
-found_spelled bytes next f g (Ok i) is_insn has first second = has_fields-Spells i f g bytes next is_insn has first second
-found_spelled bytes next f g (Err e) is_insn has first second = tt
+pub found_spelled : (bytes : List ℕ) (next : Option (List ℕ)) (f : Fields) (r : Result Insn BadInsn) → IfOk r (λ i. IsInsn i) → IfOk r (λ i. HasSlots i f next) → bytes_of f ≡ bytes → IfOk r (Spells bytes next)
+found_spelled bytes next f (Ok i) is_insn has first =
+    record { is_insn = is_insn; first = sym first ∙ ap bytes_of (sym has.first); second = has.second }
+found_spelled bytes next f (Err e) is_insn has first = tt

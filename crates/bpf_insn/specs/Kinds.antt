@@ -1,7 +1,7 @@
 -- What a number of those tables stands for: the tables of `Codes`, read from right to left.
 use Rattle.std.specs.Prelude.{ℕ, ℤ, pos, negsuc, Bool, ◌==◌, if◌then◌else◌, Option, Some, None}
 use Rattle.bpf_insn.specs.declared.operation.Width.{Width}
-use Rattle.bpf_insn.specs.declared.operation.Width.TheVariants.{W32, W64}
+use Rattle.bpf_insn.specs.declared.operation.Width.TheVariants.{Bits32, Bits64}
 use Rattle.bpf_insn.specs.declared.operation.AluOp.{AluOp}
 use Rattle.bpf_insn.specs.declared.operation.AluOp.TheVariants.{Add, Sub, Mul, Div, SignedDiv, Or, And, Lsh, Rsh, Mod, SignedMod, Xor, Mov, Arsh}
 use Rattle.bpf_insn.specs.declared.operation.Extension.{Extension}
@@ -39,8 +39,8 @@ alu_of code signed =
     else None)))))))))))
 
 abbrev pub extension_from : Width → ℕ → Option Extension
-extension_from W32 n = if n == 8 then Some ByteTo32 else (if n == 16 then Some HalfTo32 else None)
-extension_from W64 n =
+extension_from Bits32 n = if n == 8 then Some ByteTo32 else (if n == 16 then Some HalfTo32 else None)
+extension_from Bits64 n =
     if n == 8 then Some ByteTo64 else (if n == 16 then Some HalfTo64 else (if n == 32 then Some WordTo64 else None))
 
 -- the extension of so many bits to a width
@@ -50,8 +50,8 @@ extension_of width (negsuc n) = None
 
 -- the byte order of a class and a source bit
 abbrev pub swap_of : Width → Bool → Option Swap
-swap_of W32 register = Some (if register then ToBig else ToLittle)
-swap_of W64 register = if register then None else Some Reverse
+swap_of Bits32 register = Some (if register then ToBig else ToLittle)
+swap_of Bits64 register = if register then None else Some Reverse
 
 -- the byte swap of so many bits
 abbrev pub swap_bits_of : ℤ → Option SwapBits

@@ -3,3 +3,4 @@ pub mod Kinds
 pub mod Spelling
 pub mod Faults
 pub mod Reading
+pub mod Text

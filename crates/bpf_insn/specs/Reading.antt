@@ -4,7 +4,7 @@ use Rattle.std.specs.Int.{w16, w32, cast_signed, cast_unsigned}
 use Rattle.std.specs.Option.{ok_or, option_map}
 use Rattle.std.specs.Ordering.{int_eq}
 use Rattle.bpf_insn.specs.declared.operation.Width.{Width}
-use Rattle.bpf_insn.specs.declared.operation.Width.TheVariants.{W32, W64}
+use Rattle.bpf_insn.specs.declared.operation.Width.TheVariants.{Bits32, Bits64}
 use Rattle.bpf_insn.specs.declared.operation.AluOp.TheVariants.{Mov}
 use Rattle.bpf_insn.specs.declared.operation.Operand.{Operand}
 use Rattle.bpf_insn.specs.declared.operation.Operand.TheVariants.{FromRegister, Immediate}
@@ -132,10 +132,10 @@ meant_of f next =
     else (if f.opcode % 8 == 1 then load_of f
     else (if f.opcode % 8 == 2 then store_of f false
     else (if f.opcode % 8 == 3 then store_of f true
-    else (if f.opcode % 8 == 4 then arithmetic_of f W32
-    else (if f.opcode % 8 == 5 then jump_of f W64
-    else (if f.opcode % 8 == 6 then jump_of f W32
-    else arithmetic_of f W64))))))
+    else (if f.opcode % 8 == 4 then arithmetic_of f Bits32
+    else (if f.opcode % 8 == 5 then jump_of f Bits64
+    else (if f.opcode % 8 == 6 then jump_of f Bits32
+    else arithmetic_of f Bits64))))))
 
 abbrev pub same_fields : Fields → Fields → Bool
 same_fields f g = f.opcode == g.opcode && f.dst == g.dst && f.src == g.src && int_eq f.offset g.offset && int_eq f.immediate g.immediate

@@ -1,10 +1,10 @@
 //! From bytes to an instruction.
 
-ghost use Rattle.std.specs.Prelude.{◌≡◌, ◌≤◌, ◌<◌, ◌^◌, true, Ok, IfOk, IfErr};
+ghost use Rattle.std.specs.Prelude.{◌≡◌, ◌≤◌, ◌<◌, ◌^◌, Ok, IfOk, IfErr, IsTrue};
 ghost use Rattle.std.specs.Option.{option_copied, option_map};
 ghost use Rattle.bpf_insn.specs.declared.insn.Insn.{Insn};
 ghost use Rattle.bpf_insn.specs.Faults.{bad_insn_code, IsFault};
-ghost use Rattle.bpf_insn.specs.Spelling.{IsInsn, IsOperand, Spells, bytes_of};
+ghost use Rattle.bpf_insn.specs.Spelling.{HasSecond, HasSlots, IsInsn, IsOperand, Spells};
 ghost use Rattle.bpf_insn.specs.Reading.{arithmetic_of, branch_of, byte_swap_of, call_of, fields_in, has_fields, joined, jump_of, load_of, meant_of, move_of, names_register, negation_of, operand_of, pair_of, reading, reading_of, register_of, same_second, store_of, two_operands_of, wide_of};
 
 use crate::encoding::{first_fields, second_immediate};
@@ -65,17 +65,15 @@ pub fn decode(bytes: &[u8; 8], next: Option<&[u8; 8]>) -> Result<Insn, BadInsn>
 
     ensures exact { result ≡ reading bytes.now (option_copied next.entry) }
 {
-    let fields = Fields::read(bytes);
-    let next = read_next(next);
-    checked(&fields, next)
+    checked(&Fields::read(bytes), next)
 }
 
-/// The instruction that has these fields.
+/// The instruction that has these fields, and in the next slot its own.
 #[tactic(auto, unfolding(crate::specs::Reading::reading_of))]
-fn checked(fields: &Fields, next: Option<Fields>) -> Result<Insn, BadInsn>
-    ensures value { result ≡ reading_of fields.now next }
+fn checked(fields: &Fields, next: Option<&[u8; 8]>) -> Result<Insn, BadInsn>
+    ensures value { result ≡ reading_of fields.now (option_map fields_in (option_copied next.entry)) }
     ensures insn { IfOk result IsInsn }
-    ensures own { IfOk result (λ insn. has_fields insn fields.now next ≡ true) }
+    ensures own { IfOk result (λ insn. HasSlots insn fields.now (option_copied next.entry)) }
 {
     let insn = meant(fields, next)?;
     if has_fields(&insn, fields, next) {
@@ -85,41 +83,32 @@ fn checked(fields: &Fields, next: Option<Fields>) -> Result<Insn, BadInsn>
     }
 }
 
-/// The fields of the next slot, where there is one.
-fn read_next(next: Option<&[u8; 8]>) -> Option<Fields>
-    ensures value { result ≡ option_map fields_in (option_copied next.entry) }
-    ensures bytes { option_map bytes_of result ≡ option_copied next.entry }
-{
-    match next {
-        None => None,
-        Some(bytes) => Some(Fields::read(bytes)),
-    }
-}
-
 /// Whether these are the instruction's fields, unused ones too.
-fn has_fields(insn: &Insn, fields: &Fields, next: Option<Fields>) -> bool
-    ensures { result ≡ has_fields insn.now fields.now next }
+fn has_fields(insn: &Insn, fields: &Fields, next: Option<&[u8; 8]>) -> bool
+    ensures value { result ≡ has_fields insn.now fields.now (option_map fields_in (option_copied next.entry)) }
+    ensures own { IsTrue result → HasSlots insn.now fields.now (option_copied next.entry) }
 {
     first_fields(insn) == *fields && has_second(second_immediate(insn), next)
 }
 
-/// Whether the second slot, where one is wanted, holds nothing but the immediate.
-fn has_second(immediate: Option<i32>, next: Option<Fields>) -> bool
-    ensures { result ≡ same_second immediate next }
+/// Whether the next slot, where a second one is wanted, holds nothing but the immediate.
+fn has_second(immediate: Option<i32>, next: Option<&[u8; 8]>) -> bool
+    ensures value { result ≡ same_second immediate (option_map fields_in (option_copied next.entry)) }
+    ensures own { IsTrue result → HasSecond immediate (option_copied next.entry) }
 {
     match immediate {
         None => true,
         Some(immediate) => match next {
             None => false,
-            Some(second) => second == Fields::new(0, 0, 0, 0, immediate),
+            Some(bytes) => Fields::read(bytes) == Fields::new(0, 0, 0, 0, immediate),
         },
     }
 }
 
 /// The instruction that the used fields mean, whatever the unused ones hold.
 #[tactic(auto, unfolding(crate::specs::Reading::meant_of))]
-fn meant(fields: &Fields, next: Option<Fields>) -> Result<Insn, BadInsn>
-    ensures value { result ≡ meant_of fields.now next }
+fn meant(fields: &Fields, next: Option<&[u8; 8]>) -> Result<Insn, BadInsn>
+    ensures value { result ≡ meant_of fields.now (option_map fields_in (option_copied next.entry)) }
     ensures insn { IfOk result IsInsn }
 {
     match fields.opcode % 8 {
@@ -127,10 +116,10 @@ fn meant(fields: &Fields, next: Option<Fields>) -> Result<Insn, BadInsn>
         1 => load(fields),
         2 => store(fields, false),
         3 => store(fields, true),
-        4 => arithmetic(fields, Width::W32),
-        5 => jump(fields, Width::W64),
-        6 => jump(fields, Width::W32),
-        _ => arithmetic(fields, Width::W64),
+        4 => arithmetic(fields, Width::Bits32),
+        5 => jump(fields, Width::Bits64),
+        6 => jump(fields, Width::Bits32),
+        _ => arithmetic(fields, Width::Bits64),
     }
 }
 
@@ -330,8 +319,8 @@ fn store(fields: &Fields, from_register: bool) -> Result<Insn, BadInsn>
 }
 
 #[tactic(auto, unfolding(crate::specs::Reading::wide_of))]
-fn wide(fields: &Fields, next: Option<Fields>) -> Result<Insn, BadInsn>
-    ensures value { result ≡ wide_of fields.now next }
+fn wide(fields: &Fields, next: Option<&[u8; 8]>) -> Result<Insn, BadInsn>
+    ensures value { result ≡ wide_of fields.now (option_map fields_in (option_copied next.entry)) }
     ensures insn { IfOk result IsInsn }
 {
     if fields.opcode != 0x18 {
@@ -339,7 +328,7 @@ fn wide(fields: &Fields, next: Option<Fields>) -> Result<Insn, BadInsn>
     }
     let dst = register(fields.dst)?;
     let second = next.ok_or(BadInsn::Half)?;
-    pair(fields, dst, &second)
+    pair(fields, dst, &Fields::read(second))
 }
 
 /// An instruction of two slots, by its subtype.

@@ -1,9 +1,9 @@
 //! From an instruction to its bytes.
 
-ghost use Rattle.std.specs.Prelude.{◌≡◌, ◌<◌, ◌*◌, ◌+◌, ◌/◌, ◌%◌, ◌^◌};
+ghost use Rattle.std.specs.Prelude.{◌≡◌, ◌<◌, ◌*◌, ◌+◌, ◌/◌, ◌%◌, ◌^◌, ℤ, pos};
 ghost use Rattle.std.specs.Int.{w32, cast_signed};
 ghost use Rattle.bpf_insn.specs.Codes.{store_class};
-ghost use Rattle.bpf_insn.specs.Spelling.{RegistersFit, first_bytes, first_fields, second_bytes, second_immediate};
+ghost use Rattle.bpf_insn.specs.Spelling.{RegistersFit, fields, first_bytes, first_fields, second_bytes, second_immediate};
 
 use crate::fields::Fields;
 use crate::insn::{Distance, Insn};
@@ -20,6 +20,8 @@ const GOTO_SHORT: u8 = 0x05;
 const GOTO_LONG: u8 = 0x06;
 
 const LOAD_WIDE: u8 = 0x18;
+/// The subtype of a 64-bit constant.
+const CONSTANT: u8 = 0;
 /// The subtype of a map by its index.
 const MAP_BY_INDEX: u8 = 5;
 
@@ -54,9 +56,7 @@ pub fn first_fields(insn: &Insn) -> Fields
             dst,
             src,
         } => alu_fields(op, width, dst, src),
-        Insn::Negate { width, dst } => {
-            Fields::new(width.arithmetic_class() + 0x80, dst.number(), 0, 0, 0)
-        }
+        Insn::Negate { width, dst } => negate_fields(width, dst),
         Insn::MoveSigned {
             extension,
             dst,
@@ -68,7 +68,7 @@ pub fn first_fields(insn: &Insn) -> Fields
             dst,
             base,
             offset,
-        } => { Fields::new(1 + size.code(), dst.number(), base.number(), offset, 0) }
+        } => load_fields(size, dst, base, offset),
         Insn::Store {
             size,
             base,
@@ -81,25 +81,12 @@ pub fn first_fields(insn: &Insn) -> Fields
             dst,
             src,
             offset,
-        } => { jump_fields(condition, width, dst, src, offset) }
-        Insn::Goto {
-            distance: Distance::Short(offset),
-        } => { Fields::new(GOTO_SHORT, 0, 0, offset, 0) }
-        Insn::Goto {
-            distance: Distance::Long(slots),
-        } => Fields::new(GOTO_LONG, 0, 0, 0, slots),
-        Insn::Wide { dst, value } => Fields::new(LOAD_WIDE, dst.number(), 0, 0, low_half(value)),
-        Insn::LoadMap { dst, index } => {
-            Fields::new(LOAD_WIDE, dst.number(), MAP_BY_INDEX, 0, index)
-        }
+        } => jump_fields(condition, width, dst, src, offset),
+        Insn::Goto { distance } => goto_fields(distance),
+        Insn::Wide { dst, value } => wide_fields(dst, CONSTANT, low_half(value)),
+        Insn::LoadMap { dst, index } => wide_fields(dst, MAP_BY_INDEX, index),
         Insn::LoadAddress { dst, address } => {
-            Fields::new(
-                LOAD_WIDE,
-                dst.number(),
-                address.subtype(),
-                0,
-                address.first(),
-            )
+            wide_fields(dst, address.subtype(), address.first())
         }
         Insn::Call { callee, number } => Fields::new(CALL, 0, callee.code(), 0, number),
         Insn::Exit => Fields::new(EXIT, 0, 0, 0, 0),
@@ -132,6 +119,13 @@ fn alu_fields(op: AluOp, width: Width, dst: Register, src: Operand) -> Fields
     )
 }
 
+fn negate_fields(width: Width, dst: Register) -> Fields
+    ensures value { result ≡ first_fields (Insn.Negate width dst) }
+    ensures registers { RegistersFit result }
+{
+    Fields::new(width.arithmetic_class() + 0x80, dst.number(), 0, 0, 0)
+}
+
 fn move_fields(extension: Extension, dst: Register, src: Register) -> Fields
     ensures value { result ≡ first_fields (Insn.MoveSigned extension dst src) }
     ensures registers { RegistersFit result }
@@ -146,6 +140,13 @@ fn swap_fields(swap: Swap, bits: SwapBits, dst: Register) -> Fields
 {
     let opcode = swap.width().arithmetic_class() + swap.source_bit() + 0xd0;
     Fields::new(opcode, dst.number(), 0, 0, bits.bits())
+}
+
+fn load_fields(size: LoadSize, dst: Register, base: Register, offset: i16) -> Fields
+    ensures value { result ≡ first_fields (Insn.Load size dst base offset) }
+    ensures registers { RegistersFit result }
+{
+    Fields::new(1 + size.code(), dst.number(), base.number(), offset, 0)
 }
 
 fn store_fields(size: Size, base: Register, offset: i16, src: Operand) -> Fields
@@ -180,6 +181,25 @@ fn jump_fields(
         offset,
         src.immediate_field(),
     )
+}
+
+fn goto_fields(distance: Distance) -> Fields
+    ensures value { result ≡ first_fields (Insn.Goto distance) }
+    ensures registers { RegistersFit result }
+{
+    match distance {
+        Distance::Short(offset) => Fields::new(GOTO_SHORT, 0, 0, offset, 0),
+        Distance::Long(slots) => Fields::new(GOTO_LONG, 0, 0, 0, slots),
+    }
+}
+
+/// The first slot of a two-slot load of this subtype.
+fn wide_fields(dst: Register, subtype: u8, first: i32) -> Fields
+    requires { subtype < 16 }
+    ensures value { result ≡ fields 0x18 dst subtype (pos 0) first }
+    ensures registers { RegistersFit result }
+{
+    Fields::new(LOAD_WIDE, dst.number(), subtype, 0, first)
 }
 
 /// The class of a store: ST of an immediate, STX of a register.

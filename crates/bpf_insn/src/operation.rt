@@ -11,8 +11,8 @@ use crate::register::Register;
 /// JMP32), at 64 bits the whole register counts (classes ALU64 and JMP).
 #[derive(Clone, Copy, Debug, PartialEq, Eq)]
 pub enum Width {
-    W32,
-    W64,
+    Bits32,
+    Bits64,
 }
 
 impl Width {
@@ -22,8 +22,8 @@ impl Width {
         ensures small { result < 8 }
     {
         match self {
-            Width::W32 => 4,
-            Width::W64 => 7,
+            Width::Bits32 => 4,
+            Width::Bits64 => 7,
         }
     }
 
@@ -33,8 +33,8 @@ impl Width {
         ensures small { result < 8 }
     {
         match self {
-            Width::W32 => 6,
-            Width::W64 => 5,
+            Width::Bits32 => 6,
+            Width::Bits64 => 5,
         }
     }
 }
@@ -170,8 +170,8 @@ impl Extension {
         ensures { result ≡ extension_width self }
     {
         match self {
-            Extension::ByteTo32 | Extension::HalfTo32 => Width::W32,
-            Extension::ByteTo64 | Extension::HalfTo64 | Extension::WordTo64 => Width::W64,
+            Extension::ByteTo32 | Extension::HalfTo32 => Width::Bits32,
+            Extension::ByteTo64 | Extension::HalfTo64 | Extension::WordTo64 => Width::Bits64,
         }
     }
 
@@ -191,12 +191,12 @@ impl Extension {
         ensures { result ≡ extension_of width bits }
     {
         match width {
-            Width::W32 => match bits {
+            Width::Bits32 => match bits {
                 8 => Some(Extension::ByteTo32),
                 16 => Some(Extension::HalfTo32),
                 _ => None,
             },
-            Width::W64 => match bits {
+            Width::Bits64 => match bits {
                 8 => Some(Extension::ByteTo64),
                 16 => Some(Extension::HalfTo64),
                 32 => Some(Extension::WordTo64),
@@ -223,8 +223,8 @@ impl Swap {
         ensures { result ≡ swap_width self }
     {
         match self {
-            Swap::ToLittle | Swap::ToBig => Width::W32,
-            Swap::Reverse => Width::W64,
+            Swap::ToLittle | Swap::ToBig => Width::Bits32,
+            Swap::Reverse => Width::Bits64,
         }
     }
 
@@ -244,12 +244,12 @@ impl Swap {
         ensures { result ≡ swap_of width register }
     {
         match width {
-            Width::W32 => Some(if register {
+            Width::Bits32 => Some(if register {
                 Swap::ToBig
             } else {
                 Swap::ToLittle
             }),
-            Width::W64 => { if register { None } else { Some(Swap::Reverse) } }
+            Width::Bits64 => { if register { None } else { Some(Swap::Reverse) } }
         }
     }
 }

@@ -1,5 +1,9 @@
 //! The text of an instruction, one line without its end.
 
+ghost use Rattle.std.specs.Prelude.{◌≡◌, Some, IfOk};
+ghost use Rattle.std.specs.String.{string_bytes};
+ghost use Rattle.bpf_insn.specs.Text.{alu_name, bits_text, callee_name, condition_name, extension_name, insn_text, load_suffix, operand_text, place_text, register_text, signed_text, store_prefix, store_suffix, swap_bits_name, swap_name, width_suffix};
+
 use crate::insn::{Address, Callee, Distance, Insn};
 use crate::memory::{LoadSize, Size};
 use crate::operation::{AluOp, Condition, Extension, Operand, Swap, SwapBits, Width};
@@ -8,6 +12,8 @@ use std::alloc::{AllocError, Global};
 use std::fmt;
 
 impl fmt::Display for Register {
+    ghost output = { λ register. Some (register_text register) };
+
     fn fmt<W: fmt::Write>(&self, f: &mut fmt::Formatter<W>) -> fmt::Result {
         let number = self.number();
         write!(f, "r{number}")
@@ -15,6 +21,8 @@ impl fmt::Display for Register {
 }
 
 impl fmt::Display for Operand {
+    ghost output = { λ operand. Some (operand_text operand) };
+
     fn fmt<W: fmt::Write>(&self, f: &mut fmt::Formatter<W>) -> fmt::Result {
         match self {
             Operand::FromRegister(register) => write!(f, "{register}"),
@@ -23,54 +31,105 @@ impl fmt::Display for Operand {
     }
 }
 
-impl fmt::Display for AluOp {
+/// A number that is printed with its sign.
+#[derive(Drop)]
+struct Signed(i32);
+
+impl fmt::Display for Signed {
+    ghost output = { λ signed. Some (signed_text signed.0) };
+
     fn fmt<W: fmt::Write>(&self, f: &mut fmt::Formatter<W>) -> fmt::Result {
-        f.write_str(match self {
-            AluOp::Add => "add",
-            AluOp::Sub => "sub",
-            AluOp::Mul => "mul",
-            AluOp::Div => "div",
-            AluOp::SignedDiv => "sdiv",
-            AluOp::Or => "or",
-            AluOp::And => "and",
-            AluOp::Lsh => "lsh",
-            AluOp::Rsh => "rsh",
-            AluOp::Mod => "mod",
-            AluOp::SignedMod => "smod",
-            AluOp::Xor => "xor",
-            AluOp::Mov => "mov",
-            AluOp::Arsh => "arsh",
-        })
+        let number = self.0;
+        if number < 0 {
+            write!(f, "{number}")
+        } else {
+            write!(f, "+{number}")
+        }
     }
 }
 
-impl fmt::Display for Condition {
+/// A constant that is printed as 16 hexadecimal digits.
+#[derive(Drop)]
+struct Bits(u64);
+
+impl fmt::Display for Bits {
+    ghost output = { λ bits. Some (bits_text bits.0) };
+
     fn fmt<W: fmt::Write>(&self, f: &mut fmt::Formatter<W>) -> fmt::Result {
-        f.write_str(match self {
-            Condition::Equal => "jeq",
-            Condition::Greater => "jgt",
-            Condition::GreaterEqual => "jge",
-            Condition::AnyBits => "jset",
-            Condition::NotEqual => "jne",
-            Condition::SignedGreater => "jsgt",
-            Condition::SignedGreaterEqual => "jsge",
-            Condition::Less => "jlt",
-            Condition::LessEqual => "jle",
-            Condition::SignedLess => "jslt",
-            Condition::SignedLessEqual => "jsle",
-        })
+        let value = self.0;
+        write!(f, "0x{value:016x}")
+    }
+}
+
+/// A place in memory.
+#[derive(Drop)]
+struct Place {
+    base: Register,
+    offset: i16,
+}
+
+impl fmt::Display for Place {
+    ghost output = { λ place. Some (place_text place.base place.offset) };
+
+    fn fmt<W: fmt::Write>(&self, f: &mut fmt::Formatter<W>) -> fmt::Result {
+        let base = self.base;
+        let offset = Signed(i32::from(self.offset));
+        write!(f, "[{base}{offset}]")
+    }
+}
+
+fn alu_name(op: AluOp) -> &'static str
+    ensures { result.now ≡ alu_name op }
+{
+    match op {
+        AluOp::Add => "add",
+        AluOp::Sub => "sub",
+        AluOp::Mul => "mul",
+        AluOp::Div => "div",
+        AluOp::SignedDiv => "sdiv",
+        AluOp::Or => "or",
+        AluOp::And => "and",
+        AluOp::Lsh => "lsh",
+        AluOp::Rsh => "rsh",
+        AluOp::Mod => "mod",
+        AluOp::SignedMod => "smod",
+        AluOp::Xor => "xor",
+        AluOp::Mov => "mov",
+        AluOp::Arsh => "arsh",
+    }
+}
+
+fn condition_name(condition: Condition) -> &'static str
+    ensures { result.now ≡ condition_name condition }
+{
+    match condition {
+        Condition::Equal => "jeq",
+        Condition::Greater => "jgt",
+        Condition::GreaterEqual => "jge",
+        Condition::AnyBits => "jset",
+        Condition::NotEqual => "jne",
+        Condition::SignedGreater => "jsgt",
+        Condition::SignedGreaterEqual => "jsge",
+        Condition::Less => "jlt",
+        Condition::LessEqual => "jle",
+        Condition::SignedLess => "jslt",
+        Condition::SignedLessEqual => "jsle",
     }
 }
 
 /// What is behind the name of an operation of 32 bits.
-fn suffix(width: Width) -> &'static str {
+fn suffix(width: Width) -> &'static str
+    ensures { result.now ≡ width_suffix width }
+{
     match width {
-        Width::W32 => "32",
-        Width::W64 => "",
+        Width::Bits32 => "32",
+        Width::Bits64 => "",
     }
 }
 
-fn extension_name(extension: Extension) -> &'static str {
+fn extension_name(extension: Extension) -> &'static str
+    ensures { result.now ≡ extension_name extension }
+{
     match extension {
         Extension::ByteTo32 => "mov32sx8",
         Extension::HalfTo32 => "mov32sx16",
@@ -80,7 +139,9 @@ fn extension_name(extension: Extension) -> &'static str {
     }
 }
 
-fn swap_name(swap: Swap) -> &'static str {
+fn swap_name(swap: Swap) -> &'static str
+    ensures { result.now ≡ swap_name swap }
+{
     match swap {
         Swap::ToLittle => "le",
         Swap::ToBig => "be",
@@ -88,15 +149,19 @@ fn swap_name(swap: Swap) -> &'static str {
     }
 }
 
-fn swap_bits(bits: SwapBits) -> u8 {
+fn swap_bits_name(bits: SwapBits) -> &'static str
+    ensures { result.now ≡ swap_bits_name bits }
+{
     match bits {
-        SwapBits::Swap16 => 16,
-        SwapBits::Swap32 => 32,
-        SwapBits::Swap64 => 64,
+        SwapBits::Swap16 => "16",
+        SwapBits::Swap32 => "32",
+        SwapBits::Swap64 => "64",
     }
 }
 
-fn load_suffix(size: LoadSize) -> &'static str {
+fn load_suffix(size: LoadSize) -> &'static str
+    ensures { result.now ≡ load_suffix size }
+{
     match size {
         LoadSize::LoadByte => "b",
         LoadSize::LoadHalf => "h",
@@ -108,7 +173,9 @@ fn load_suffix(size: LoadSize) -> &'static str {
     }
 }
 
-fn store_suffix(size: Size) -> &'static str {
+fn store_suffix(size: Size) -> &'static str
+    ensures { result.now ≡ store_suffix size }
+{
     match size {
         Size::Byte => "b",
         Size::Half => "h",
@@ -117,14 +184,18 @@ fn store_suffix(size: Size) -> &'static str {
     }
 }
 
-fn store_prefix(src: &Operand) -> &'static str {
+fn store_prefix(src: &Operand) -> &'static str
+    ensures { result.now ≡ store_prefix src.now }
+{
     match src {
         Operand::FromRegister(_) => "stx",
         Operand::Immediate(_) => "st",
     }
 }
 
-fn callee_name(callee: Callee) -> &'static str {
+fn callee_name(callee: Callee) -> &'static str
+    ensures { result.now ≡ callee_name callee }
+{
     match callee {
         Callee::Helper => "call",
         Callee::Local => "calllocal",
@@ -132,27 +203,10 @@ fn callee_name(callee: Callee) -> &'static str {
     }
 }
 
-/// A jump without a condition.
-fn write_goto<W: fmt::Write>(distance: &Distance, f: &mut fmt::Formatter<W>) -> fmt::Result {
-    match distance {
-        Distance::Short(offset) => write!(f, "ja {offset:+}"),
-        Distance::Long(offset) => write!(f, "ja32 {offset:+}"),
-    }
-}
-
-/// A two-slot load of another kind than a constant or a map's index.
-fn write_address<W: fmt::Write>(
-    dst: &Register,
-    address: &Address,
-    f: &mut fmt::Formatter<W>,
-) -> fmt::Result {
-    let subtype = address.subtype();
-    let first = address.first();
-    let second = address.second();
-    write!(f, "ldimm {subtype}, {dst}, {first}, {second}")
-}
-
 impl fmt::Display for Insn {
+    ghost output = { λ insn. Some (insn_text insn) };
+
+    #[tactic(auto, unfolding(crate::specs::Text::insn_text))]
     fn fmt<W: fmt::Write>(&self, f: &mut fmt::Formatter<W>) -> fmt::Result {
         match self {
             Insn::Alu {
@@ -160,37 +214,54 @@ impl fmt::Display for Insn {
                 width,
                 dst,
                 src,
-            } => write!(f, "{op}{} {dst}, {src}", suffix(*width)),
-            Insn::Negate { width, dst } => write!(f, "neg{} {dst}", suffix(*width)),
+            } => {
+                let name = alu_name(*op);
+                let suffix = suffix(*width);
+                write!(f, "{name}{suffix} {dst}, {src}")
+            }
+            Insn::Negate { width, dst } => {
+                let suffix = suffix(*width);
+                write!(f, "neg{suffix} {dst}")
+            }
             Insn::MoveSigned {
                 extension,
                 dst,
                 src,
-            } => write!(f, "{} {dst}, {src}", extension_name(*extension)),
-            Insn::ByteSwap { swap, bits, dst } => write!(
-                f,
-                "{}{} {dst}",
-                swap_name(*swap),
-                swap_bits(*bits)
-            ),
+            } => {
+                let name = extension_name(*extension);
+                write!(f, "{name} {dst}, {src}")
+            }
+            Insn::ByteSwap { swap, bits, dst } => {
+                let name = swap_name(*swap);
+                let bits = swap_bits_name(*bits);
+                write!(f, "{name}{bits} {dst}")
+            }
             Insn::Load {
                 size,
                 dst,
                 base,
                 offset,
-            } => { write!(f, "ldx{} {dst}, [{base}{offset:+}]", load_suffix(*size)) }
+            } => {
+                let suffix = load_suffix(*size);
+                let place = Place {
+                    base: *base,
+                    offset: *offset,
+                };
+                write!(f, "ldx{suffix} {dst}, {place}")
+            }
             Insn::Store {
                 size,
                 base,
                 offset,
                 src,
             } => {
-                write!(
-                    f,
-                    "{}{} [{base}{offset:+}], {src}",
-                    store_prefix(src),
-                    store_suffix(*size)
-                )
+                let prefix = store_prefix(src);
+                let suffix = store_suffix(*size);
+                let place = Place {
+                    base: *base,
+                    offset: *offset,
+                };
+                write!(f, "{prefix}{suffix} {place}, {src}")
             }
             Insn::Jump {
                 condition,
@@ -198,12 +269,37 @@ impl fmt::Display for Insn {
                 dst,
                 src,
                 offset,
-            } => { write!(f, "{condition}{} {dst}, {src}, {offset:+}", suffix(*width)) }
-            Insn::Goto { distance } => write_goto(distance, f),
-            Insn::Wide { dst, value } => write!(f, "lddw {dst}, 0x{value:016x}"),
+            } => {
+                let name = condition_name(*condition);
+                let suffix = suffix(*width);
+                let offset = Signed(i32::from(*offset));
+                write!(f, "{name}{suffix} {dst}, {src}, {offset}")
+            }
+            Insn::Goto { distance } => match distance {
+                Distance::Short(offset) => {
+                    let offset = Signed(i32::from(*offset));
+                    write!(f, "ja {offset}")
+                }
+                Distance::Long(offset) => {
+                    let offset = Signed(*offset);
+                    write!(f, "ja32 {offset}")
+                }
+            },
+            Insn::Wide { dst, value } => {
+                let bits = Bits(*value);
+                write!(f, "lddw {dst}, {bits}")
+            }
             Insn::LoadMap { dst, index } => write!(f, "ldmap {dst}, {index}"),
-            Insn::LoadAddress { dst, address } => write_address(dst, address, f),
-            Insn::Call { callee, number } => write!(f, "{} {number}", callee_name(*callee)),
+            Insn::LoadAddress { dst, address } => {
+                let subtype = address.subtype();
+                let first = address.first();
+                let second = address.second();
+                write!(f, "ldimm {subtype}, {dst}, {first}, {second}")
+            }
+            Insn::Call { callee, number } => {
+                let name = callee_name(*callee);
+                write!(f, "{name} {number}")
+            }
             Insn::Exit => write!(f, "exit"),
         }
     }
@@ -216,7 +312,9 @@ impl fmt::Display for Insn {
 /// # Errors
 ///
 /// `AllocError` where memory was refused.
-pub fn text(alloc: Global, insn: &Insn) -> Result<String, AllocError> {
+pub fn text(alloc: Global, insn: &Insn) -> Result<String, AllocError>
+    ensures { IfOk result (λ text. string_bytes text ≡ insn_text insn.now) }
+{
     format!(in alloc; "{insn}")
 }
 

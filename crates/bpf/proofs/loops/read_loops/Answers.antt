@@ -9,7 +9,7 @@ use Rattle.bpf.proofs.loops.read_loops.Goals as goal
 
 pub returns-in_err-found-clause-value : goal.returns-in_err-found-clause-value
 returns-in_err-found-clause-value c =
-    let p = err_from_is_err_and c.from_residual.result c.from_residual.ensures.1 in
+    let p = err_from_is_err_and c.from_residual-in_err-found.result c.from_residual-in_err-found.ensures.1 in
     let total = loops_reading c.args.slots c.args.count 0 c.args.bytes.now in
     rw (p.1, p.2) (is_failure c.in_err-found.field-0.0 total (loop_fails c.in_err-found.field-0.0 c.args.slots c.loop.loops.items c.args.count c.loop.counter c.loop.least c.loop.rest.now total c.loop-test.true c.in_err-found.ensures.value c.loop.invariant.reads))
 

@@ -7,7 +7,7 @@ use Rattle.bpf.proofs.slots.read_slots.Goals as goal
 
 pub returns-in_err-second-clause-value : goal.returns-in_err-second-clause-value
 returns-in_err-second-clause-value c =
-    let p = err_from_is_err_and c.from_residual.result c.from_residual.ensures.1 in
+    let p = err_from_is_err_and c.from_residual-in_err-second.result c.from_residual-in_err-second.ensures.1 in
     let total = slots_reading c.args.count 0 false c.args.bytes.now in
     rw (p.1, p.2) (slot_fails c.in_err-second.field-0.0 c.loop-slot.slots.items c.args.count c.loop-slot.slot c.loop-slot.second c.loop-slot.rest.now total c.loop-slot-test.true c.in_err-second.ensures.fails c.loop-slot.invariant.reads)
 

@@ -27,9 +27,9 @@ returns-in_err-slots-clause-exact c =
 pub returns-clause-found : goal.returns-clause-found
 returns-clause-found c =
     let cut : Cut c.args.bytes.now c.in_ok-header.header _ _ _ _ = record { header = c.in_ok-header.ensures.value; len = omega arith; at_code = omega arith; is_front = c.split_at.ensures.front; is_middle = c.split_at-2.ensures.back; is_tail = c.split_at.ensures.back } in
-    (search rules, is_spelled c.args.bytes.now c.in_ok-header.header _ _ _ _ c.in_ok-loops.loops.items c.in_ok-slots.slots.items cut c.in_ok-header.ensures.spelled c.in_ok-loops.ensures.length c.in_ok-slots.ensures.length c.in_ok-loops.ensures.spelled c.in_ok-slots.ensures.spelled.1)
+    rw c.of_parts.ensures (search rules, is_spelled c.args.bytes.now c.in_ok-header.header _ _ _ _ c.in_ok-loops.loops.items c.in_ok-slots.slots.items cut c.in_ok-header.ensures.spelled c.in_ok-loops.ensures.length c.in_ok-slots.ensures.length c.in_ok-loops.ensures.spelled c.in_ok-slots.ensures.spelled.1)
 
 pub returns-clause-exact : goal.returns-clause-exact
 returns-clause-exact c =
     let cut : Cut c.args.bytes.now c.in_ok-header.header _ _ _ _ = record { header = c.in_ok-header.ensures.value; len = omega arith; at_code = omega arith; is_front = c.split_at.ensures.front; is_middle = c.split_at-2.ensures.back; is_tail = c.split_at.ensures.back } in
-    is_read c.args.bytes.now c.in_ok-header.header _ _ _ _ c.in_ok-loops.loops.items c.in_ok-slots.slots.items cut c.in_ok-loops.ensures.value c.in_ok-slots.ensures.value
+    rw c.of_parts.ensures (is_read c.args.bytes.now c.in_ok-header.header _ _ _ _ c.in_ok-loops.loops.items c.in_ok-slots.slots.items cut c.in_ok-loops.ensures.value c.in_ok-slots.ensures.value)

@@ -1,0 +1,176 @@
+-- The text of an instruction: its name, and its operands with a comma and a space between them.
+use Rattle.std.specs.Prelude.{ℕ, suc, ◌-◌, false, ℤ, pos, negsuc, List, [], ◌∷◌, ◌++◌, length, replicate, codes, decimal}
+use Rattle.std.specs.Fmt.{digits, signed_decimal}
+use Rattle.bpf_insn.specs.declared.operation.Width.{Width}
+use Rattle.bpf_insn.specs.declared.operation.Width.TheVariants.{Bits32, Bits64}
+use Rattle.bpf_insn.specs.declared.operation.AluOp.{AluOp}
+use Rattle.bpf_insn.specs.declared.operation.AluOp.TheVariants.{Add, Sub, Mul, Div, SignedDiv, Or, And, Lsh, Rsh, Mod, SignedMod, Xor, Mov, Arsh}
+use Rattle.bpf_insn.specs.declared.operation.Operand.{Operand}
+use Rattle.bpf_insn.specs.declared.operation.Operand.TheVariants.{FromRegister, Immediate}
+use Rattle.bpf_insn.specs.declared.operation.Extension.{Extension}
+use Rattle.bpf_insn.specs.declared.operation.Extension.TheVariants.{ByteTo32, HalfTo32, ByteTo64, HalfTo64, WordTo64}
+use Rattle.bpf_insn.specs.declared.operation.Swap.{Swap}
+use Rattle.bpf_insn.specs.declared.operation.Swap.TheVariants.{ToLittle, ToBig, Reverse}
+use Rattle.bpf_insn.specs.declared.operation.SwapBits.{SwapBits}
+use Rattle.bpf_insn.specs.declared.operation.SwapBits.TheVariants.{Swap16, Swap32, Swap64}
+use Rattle.bpf_insn.specs.declared.operation.Condition.{Condition}
+use Rattle.bpf_insn.specs.declared.operation.Condition.TheVariants.{Equal, Greater, GreaterEqual, AnyBits, NotEqual, SignedGreater, SignedGreaterEqual, Less, LessEqual, SignedLess, SignedLessEqual}
+use Rattle.bpf_insn.specs.declared.memory.Size.{Size}
+use Rattle.bpf_insn.specs.declared.memory.Size.TheVariants.{Byte, Half, Word, Double}
+use Rattle.bpf_insn.specs.declared.memory.LoadSize.{LoadSize}
+use Rattle.bpf_insn.specs.declared.memory.LoadSize.TheVariants.{LoadByte, LoadHalf, LoadWord, LoadDouble, SignedByte, SignedHalf, SignedWord}
+use Rattle.bpf_insn.specs.declared.insn.Callee.{Callee}
+use Rattle.bpf_insn.specs.declared.insn.Callee.TheVariants.{Helper, Local, ByTypeId}
+use Rattle.bpf_insn.specs.declared.insn.Distance.TheVariants.{Short, Long}
+use Rattle.bpf_insn.specs.declared.insn.Insn.{Insn}
+use Rattle.bpf_insn.specs.declared.insn.Insn.TheVariants.{Alu, Negate, MoveSigned, ByteSwap, Load, Store, Jump, Goto, Wide, LoadMap, LoadAddress, Call, Exit}
+use Rattle.bpf_insn.specs.Codes.{address_subtype, address_first, address_second}
+
+-- ---- operands
+
+abbrev pub register_text : ℕ → List ℕ
+register_text number = codes "r" ++ decimal number
+
+-- a register, or a decimal number
+abbrev pub operand_text : Operand → List ℕ
+operand_text (FromRegister register) = register_text register
+operand_text (Immediate value) = signed_decimal value
+
+-- a decimal number with its sign, plus or minus
+abbrev pub signed_text : ℤ → List ℕ
+signed_text (pos n) = codes "+" ++ decimal n
+signed_text (negsuc n) = codes "-" ++ decimal (suc n)
+
+-- `0x` and 16 hexadecimal digits in lower case
+abbrev pub bits_text : ℕ → List ℕ
+bits_text value = codes "0x" ++ replicate (16 - length (digits 16 false value)) 48 ++ digits 16 false value
+
+-- a place in memory
+abbrev pub place_text : ℕ → ℤ → List ℕ
+place_text base offset = codes "[" ++ register_text base ++ signed_text offset ++ codes "]"
+
+-- ---- names
+
+-- an operation of 32 bits has the name of the one of 64 bits, and `32` behind it
+abbrev pub width_suffix : Width → List ℕ
+width_suffix Bits32 = codes "32"
+width_suffix Bits64 = []
+
+abbrev pub alu_name : AluOp → List ℕ
+alu_name Add = codes "add"
+alu_name Sub = codes "sub"
+alu_name Mul = codes "mul"
+alu_name Div = codes "div"
+alu_name SignedDiv = codes "sdiv"
+alu_name Or = codes "or"
+alu_name And = codes "and"
+alu_name Lsh = codes "lsh"
+alu_name Rsh = codes "rsh"
+alu_name Mod = codes "mod"
+alu_name SignedMod = codes "smod"
+alu_name Xor = codes "xor"
+alu_name Mov = codes "mov"
+alu_name Arsh = codes "arsh"
+
+abbrev pub condition_name : Condition → List ℕ
+condition_name Equal = codes "jeq"
+condition_name Greater = codes "jgt"
+condition_name GreaterEqual = codes "jge"
+condition_name AnyBits = codes "jset"
+condition_name NotEqual = codes "jne"
+condition_name SignedGreater = codes "jsgt"
+condition_name SignedGreaterEqual = codes "jsge"
+condition_name Less = codes "jlt"
+condition_name LessEqual = codes "jle"
+condition_name SignedLess = codes "jslt"
+condition_name SignedLessEqual = codes "jsle"
+
+abbrev pub extension_name : Extension → List ℕ
+extension_name ByteTo32 = codes "mov32sx8"
+extension_name HalfTo32 = codes "mov32sx16"
+extension_name ByteTo64 = codes "movsx8"
+extension_name HalfTo64 = codes "movsx16"
+extension_name WordTo64 = codes "movsx32"
+
+abbrev pub swap_name : Swap → List ℕ
+swap_name ToLittle = codes "le"
+swap_name ToBig = codes "be"
+swap_name Reverse = codes "swap"
+
+abbrev pub swap_bits_name : SwapBits → List ℕ
+swap_bits_name Swap16 = codes "16"
+swap_bits_name Swap32 = codes "32"
+swap_bits_name Swap64 = codes "64"
+
+abbrev pub load_suffix : LoadSize → List ℕ
+load_suffix LoadByte = codes "b"
+load_suffix LoadHalf = codes "h"
+load_suffix LoadWord = codes "w"
+load_suffix LoadDouble = codes "dw"
+load_suffix SignedByte = codes "sb"
+load_suffix SignedHalf = codes "sh"
+load_suffix SignedWord = codes "sw"
+
+abbrev pub store_suffix : Size → List ℕ
+store_suffix Byte = codes "b"
+store_suffix Half = codes "h"
+store_suffix Word = codes "w"
+store_suffix Double = codes "dw"
+
+abbrev pub store_prefix : Operand → List ℕ
+store_prefix (FromRegister register) = codes "stx"
+store_prefix (Immediate value) = codes "st"
+
+abbrev pub callee_name : Callee → List ℕ
+callee_name Helper = codes "call"
+callee_name Local = codes "calllocal"
+callee_name ByTypeId = codes "callbtf"
+
+-- the name of an instruction
+abbrev pub insn_name : Insn → List ℕ
+insn_name (Alu op width dst src) = alu_name op ++ width_suffix width
+insn_name (Negate width dst) = codes "neg" ++ width_suffix width
+insn_name (MoveSigned extension dst src) = extension_name extension
+insn_name (ByteSwap swap bits dst) = swap_name swap ++ swap_bits_name bits
+insn_name (Load size dst base offset) = codes "ldx" ++ load_suffix size
+insn_name (Store size base offset src) = store_prefix src ++ store_suffix size
+insn_name (Jump condition width dst src offset) = condition_name condition ++ width_suffix width
+insn_name (Goto (Short offset)) = codes "ja"
+insn_name (Goto (Long distance)) = codes "ja32"
+insn_name (Wide dst value) = codes "lddw"
+insn_name (LoadMap dst index) = codes "ldmap"
+insn_name (LoadAddress dst address) = codes "ldimm"
+insn_name (Call callee number) = callee_name callee
+insn_name Exit = codes "exit"
+
+-- the operands of an instruction, in the order of its text
+abbrev pub insn_operands : Insn → List (List ℕ)
+insn_operands (Alu op width dst src) = register_text dst ∷ operand_text src ∷ []
+insn_operands (Negate width dst) = register_text dst ∷ []
+insn_operands (MoveSigned extension dst src) = register_text dst ∷ register_text src ∷ []
+insn_operands (ByteSwap swap bits dst) = register_text dst ∷ []
+insn_operands (Load size dst base offset) = register_text dst ∷ place_text base offset ∷ []
+insn_operands (Store size base offset src) = place_text base offset ∷ operand_text src ∷ []
+insn_operands (Jump condition width dst src offset) = register_text dst ∷ operand_text src ∷ signed_text offset ∷ []
+insn_operands (Goto (Short offset)) = signed_text offset ∷ []
+insn_operands (Goto (Long distance)) = signed_text distance ∷ []
+insn_operands (Wide dst value) = register_text dst ∷ bits_text value ∷ []
+insn_operands (LoadMap dst index) = register_text dst ∷ signed_decimal index ∷ []
+insn_operands (LoadAddress dst address) =
+    decimal (address_subtype address) ∷ register_text dst ∷ signed_decimal (address_first address) ∷ signed_decimal (address_second address) ∷ []
+insn_operands (Call callee number) = signed_decimal number ∷ []
+insn_operands Exit = []
+
+-- operands with a comma and a space before each
+abbrev pub more_operands : List (List ℕ) → List ℕ
+more_operands [] = []
+more_operands (x ∷ xs) = codes ", " ++ x ++ more_operands xs
+
+-- a name and its operands
+abbrev pub written : List ℕ → List (List ℕ) → List ℕ
+written name [] = name
+written name (x ∷ xs) = name ++ codes " " ++ x ++ more_operands xs
+
+-- the text of an instruction
+unfoldable pub insn_text : Insn → List ℕ
+insn_text insn = written (insn_name insn) (insn_operands insn)
