@@ -5,41 +5,41 @@ use Rattle.std.specs.Int.{int_shr}
 use Rattle.std.proofs.lemmas.Nat.{and_le_l, or_lt, xor_lt}
 use Rattle.std.proofs.Math.Nat.{div-le_self, mod-le}
 use Rattle.bpf_insn.specs.declared.operation.Width.{Width}
-use Rattle.bpf_insn.specs.declared.operation.Width.TheVariants.{W32, W64}
+use Rattle.bpf_insn.specs.declared.operation.Width.TheVariants.{Bits32, Bits64}
 use Rattle.bpf_insn.specs.declared.operation.AluOp.{AluOp}
 use Rattle.bpf_insn.specs.declared.operation.AluOp.TheVariants.{Add, Sub, Mul, Div, SignedDiv, Or, And, Lsh, Rsh, Mod, SignedMod, Xor, Mov, Arsh}
 use Rattle.machine.specs.Words.{bits_of, modulus, low, signed, residue, wrapped, quotient, remainder, signed_quotient, signed_remainder, alu_low}
 use Rattle.absdom_num.proofs.Cases.{by_eq}
 
 pub modulus_pos : (width : Width) → 0 < modulus width
-modulus_pos W32 = omega arith
-modulus_pos W64 = omega arith
+modulus_pos Bits32 = omega arith
+modulus_pos Bits64 = omega arith
 
 pub modulus_most : (width : Width) → modulus width ≤ 2 ^ 64
-modulus_most W32 = omega arith
-modulus_most W64 = omega arith
+modulus_most Bits32 = omega arith
+modulus_most Bits64 = omega arith
 
 pub mod_once : (width : Width) (n : ℕ) → modulus width ≤ n → n < modulus width + modulus width → n % modulus width ≡ n - modulus width
-mod_once W32 n p q = omega arith
-mod_once W64 n p q = omega arith
+mod_once Bits32 n p q = omega arith
+mod_once Bits64 n p q = omega arith
 
 pub mod_small : (width : Width) (n : ℕ) → n % modulus width < modulus width
-mod_small W32 n = omega arith
-mod_small W64 n = omega arith
+mod_small Bits32 n = omega arith
+mod_small Bits64 n = omega arith
 
 pub residue_small : (width : Width) (z : ℤ) → residue (modulus width) z < modulus width
-residue_small W32 (pos n) = omega arith
-residue_small W32 (negsuc n) = omega arith
-residue_small W64 (pos n) = omega arith
-residue_small W64 (negsuc n) = omega arith
+residue_small Bits32 (pos n) = omega arith
+residue_small Bits32 (negsuc n) = omega arith
+residue_small Bits64 (pos n) = omega arith
+residue_small Bits64 (negsuc n) = omega arith
 
 or_small : (width : Width) (a b : ℕ) → a < modulus width → b < modulus width → bit_or a b < modulus width
-or_small W32 a b p q = or_lt 32 a b p q
-or_small W64 a b p q = or_lt 64 a b p q
+or_small Bits32 a b p q = or_lt 32 a b p q
+or_small Bits64 a b p q = or_lt 64 a b p q
 
 xor_small : (width : Width) (a b : ℕ) → a < modulus width → b < modulus width → bit_xor a b < modulus width
-xor_small W32 a b p q = xor_lt 32 a b p q
-xor_small W64 a b p q = xor_lt 64 a b p q
+xor_small Bits32 a b p q = xor_lt 32 a b p q
+xor_small Bits64 a b p q = xor_lt 64 a b p q
 
 quotient_small : (m a b : ℕ) → a < m → quotient a b < m
 quotient_small m a b p =
@@ -78,5 +78,5 @@ alu_low_small Mov width a b p q = q
 alu_low_small Arsh width a b p q = residue_small width (int_shr (signed width a) (b % bits_of width))
 
 pub low_small : (width : Width) (n : ℕ) → n < 2 ^ 64 → low width n < modulus width
-low_small W32 n p = omega arith
-low_small W64 n p = p
+low_small Bits32 n p = omega arith
+low_small Bits64 n p = p

@@ -7,7 +7,7 @@ use Rattle.std.proofs.lemmas.Bool.{cases_eq}
 use Rattle.std.proofs.lemmas.Nat.{and_le_l, and_le_r, le_or_l, le_or_r, or_lt, xor_lt, mul-le}
 use Rattle.std.proofs.Math.Nat.{div-le_self, mod-le, mod-lt, mod-eq_of_lt, mul-le-mul_right}
 use Rattle.bpf_insn.specs.declared.operation.Width.{Width}
-use Rattle.bpf_insn.specs.declared.operation.Width.TheVariants.{W32, W64}
+use Rattle.bpf_insn.specs.declared.operation.Width.TheVariants.{Bits32, Bits64}
 use Rattle.bpf_insn.specs.declared.operation.AluOp.{AluOp}
 use Rattle.bpf_insn.specs.declared.operation.AluOp.TheVariants.{Add, Sub, Mul, Div, SignedDiv, Or, And, Lsh, Rsh, Mod, SignedMod, Xor, Mov, Arsh}
 use Rattle.machine.specs.Words.{modulus, low, signed, wrapped, quotient, remainder, alu_low, alu_words}
@@ -31,8 +31,8 @@ pub record Holds (width : Width) (n : ℕ) (r : Range) : Type 0 where
   pub small : n < modulus width
 
 whole_fits : (width : Width) (k : ℕ) → k < modulus width → Between k (whole width)
-whole_fits W32 k p = record { above = omega arith; below = omega arith }
-whole_fits W64 k p = record { above = omega arith; below = omega arith }
+whole_fits Bits32 k p = record { above = omega arith; below = omega arith }
+whole_fits Bits64 k p = record { above = omega arith; below = omega arith }
 
 sum_fits : (width : Width) (a b : Range) (n m : ℕ) → Holds width n a → Holds width m b → Between ((n + m) % modulus width) (sum_range width a b)
 sum_fits width a b n m p q =
@@ -198,12 +198,12 @@ right_fits width a b n m p q =
     (λ s. record { above = omega arith; below = omega (arith, div-le_self n (2 ^ distance width m)) })
 
 pub signed_small : (width : Width) (n : ℕ) → n < half width → signed width n ≡ pos n
-signed_small W32 n h = to_z_pos w32 n h
-signed_small W64 n h = to_z_pos w64 n h
+signed_small Bits32 n h = to_z_pos w32 n h
+signed_small Bits64 n h = to_z_pos w64 n h
 
 pub half_less : (width : Width) → half width < modulus width
-half_less W32 = omega arith
-half_less W64 = omega arith
+half_less Bits32 = omega arith
+half_less Bits64 = omega arith
 
 -- a number that is not negative is shifted as it is
 shifted_small : (width : Width) (n d : ℕ) → n < half width → wrapped width (int_shr (signed width n) d) ≡ n / 2 ^ d
@@ -241,14 +241,14 @@ row_fits Mov width a b n m p q = between width m b q
 row_fits Arsh width a b n m p q = signed_right_fits width a b n m (between width n a p) (between width m b q)
 
 pub cut_fits : (width : Width) (a : Range) (n : ℕ) → IsIn n a → Holds width (low width n) (cut width a)
-cut_fits W64 a n p = record { above = p.above; below = p.below; small = p.word }
-cut_fits W32 a n p =
+cut_fits Bits64 a n p = record { above = p.above; below = p.below; small = p.word }
+cut_fits Bits32 a n p =
     by_lt
-    (λ t. Holds W32 (n % 2 ^ 32) (if t then a else if is_single a then only (a.0 % 2 ^ 32) else whole W32))
+    (λ t. Holds Bits32 (n % 2 ^ 32) (if t then a else if is_single a then only (a.0 % 2 ^ 32) else whole Bits32))
     a.1 (2 ^ 32)
     (λ h. record { above = omega arith; below = omega arith; small = omega arith })
     (λ h.
-    by_eq (λ t. Holds W32 (n % 2 ^ 32) (if t then only (a.0 % 2 ^ 32) else whole W32)) a.0 a.1
+    by_eq (λ t. Holds Bits32 (n % 2 ^ 32) (if t then only (a.0 % 2 ^ 32) else whole Bits32)) a.0 a.1
     (λ e. record { above = omega arith; below = omega arith; small = omega arith })
     (λ e. record { above = omega arith; below = omega arith; small = omega arith }))
 

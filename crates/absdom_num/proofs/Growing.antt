@@ -5,7 +5,7 @@ use Rattle.std.proofs.lemmas.Bool.{cases_eq}
 use Rattle.std.proofs.lemmas.Nat.{mul-le}
 use Rattle.std.proofs.Math.Nat.{div-le_self, mul-le-mul_right}
 use Rattle.bpf_insn.specs.declared.operation.Width.{Width}
-use Rattle.bpf_insn.specs.declared.operation.Width.TheVariants.{W32, W64}
+use Rattle.bpf_insn.specs.declared.operation.Width.TheVariants.{Bits32, Bits64}
 use Rattle.bpf_insn.specs.declared.operation.AluOp.{AluOp}
 use Rattle.bpf_insn.specs.declared.operation.AluOp.TheVariants.{Add, Sub, Mul, Div, SignedDiv, Or, And, Lsh, Rsh, Mod, SignedMod, Xor, Mov, Arsh}
 use Rattle.bpf_insn.specs.declared.operation.Extension.{Extension}
@@ -362,30 +362,30 @@ row_grows Mov width a b c d p q r s = s
 row_grows Arsh width a b c d p q r s = signed_right_grows width a b c d p q.in_order r s
 
 cut_proper : (width : Width) (a : Range) → IsRange a → Proper width (cut width a)
-cut_proper W64 a p = record { in_order = p.in_order; small = p.words }
-cut_proper W32 a p =
-    by_lt (λ t. Proper W32 (if t then a else if is_single a then only (a.0 % 2 ^ 32) else whole W32)) a.1 (2 ^ 32)
+cut_proper Bits64 a p = record { in_order = p.in_order; small = p.words }
+cut_proper Bits32 a p =
+    by_lt (λ t. Proper Bits32 (if t then a else if is_single a then only (a.0 % 2 ^ 32) else whole Bits32)) a.1 (2 ^ 32)
     (λ h. record { in_order = p.in_order; small = h })
     (λ h.
-    by_eq (λ t. Proper W32 (if t then only (a.0 % 2 ^ 32) else whole W32)) a.0 a.1
+    by_eq (λ t. Proper Bits32 (if t then only (a.0 % 2 ^ 32) else whole Bits32)) a.0 a.1
     (λ e. record { in_order = omega arith; small = omega arith })
     (λ e. record { in_order = omega arith; small = omega arith }))
 
 cut_grows : (width : Width) (a c : Range) → IsRange a → IsWithin a c → IsWithin (cut width a) (cut width c)
-cut_grows W64 a c p r = r
-cut_grows W32 a c p r =
+cut_grows Bits64 a c p r = r
+cut_grows Bits32 a c p r =
     ⊎_elim
-    (λ e. subst (λ x. IsWithin (cut W32 x) (cut W32 c)) (sym (only_within a c p.in_order e r)) (within_same (cut W32 c)))
+    (λ e. subst (λ x. IsWithin (cut Bits32 x) (cut Bits32 c)) (sym (only_within a c p.in_order e r)) (within_same (cut Bits32 c)))
     (λ e.
-    by_lt (λ t. IsWithin (cut W32 a) (if t then c else if is_single c then only (c.0 % 2 ^ 32) else whole W32)) c.1 (2 ^ 32)
+    by_lt (λ t. IsWithin (cut Bits32 a) (if t then c else if is_single c then only (c.0 % 2 ^ 32) else whole Bits32)) c.1 (2 ^ 32)
     (λ h.
-    by_lt (λ t. IsWithin (if t then a else if is_single a then only (a.0 % 2 ^ 32) else whole W32) c) a.1 (2 ^ 32)
+    by_lt (λ t. IsWithin (if t then a else if is_single a then only (a.0 % 2 ^ 32) else whole Bits32) c) a.1 (2 ^ 32)
     (λ g. r)
     (λ g. absurd (omega arith)))
     (λ h.
-    by_eq (λ t. IsWithin (cut W32 a) (if t then only (c.0 % 2 ^ 32) else whole W32)) c.0 c.1
+    by_eq (λ t. IsWithin (cut Bits32 a) (if t then only (c.0 % 2 ^ 32) else whole Bits32)) c.0 c.1
     (λ f. absurd (e f))
-    (λ f. in_whole W32 _ (cut_proper W32 a p).small)))
+    (λ f. in_whole Bits32 _ (cut_proper Bits32 a p).small)))
     (cases_eq c.0 c.1)
 
 only_in : (n : ℕ) (r : Range) → IsIn n r → IsWithin (only n) r

@@ -3,7 +3,7 @@ use Rattle.std.proofs.Common.{ℕ, ◌≡◌, ◌+◌, ◌-◌, ◌<◌, ◌≤�
 use Rattle.std.specs.Prelude.{◌==◌, nat_lt, nat_le, int_lt, int_le, if◌then◌else◌, bit_and}
 use Rattle.std.proofs.Math.Nat.{mod-eq_of_lt}
 use Rattle.bpf_insn.specs.declared.operation.Width.{Width}
-use Rattle.bpf_insn.specs.declared.operation.Width.TheVariants.{W32, W64}
+use Rattle.bpf_insn.specs.declared.operation.Width.TheVariants.{Bits32, Bits64}
 use Rattle.bpf_insn.specs.declared.operation.Condition.{Condition}
 use Rattle.bpf_insn.specs.declared.operation.Condition.TheVariants.{Equal, Greater, GreaterEqual, AnyBits, NotEqual, SignedGreater, SignedGreaterEqual, Less, LessEqual, SignedLess, SignedLessEqual}
 use Rattle.machine.specs.Words.{modulus, low, signed, holds_words}
@@ -89,8 +89,8 @@ compares SignedLess n m = nat_lt n m
 compares SignedLessEqual n m = nat_le n m
 
 low_same : (width : Width) (n : ℕ) → n < modulus width → low width n ≡ n
-low_same W32 n h = mod-eq_of_lt h
-low_same W64 n h = refl
+low_same Bits32 n h = mod-eq_of_lt h
+low_same Bits64 n h = refl
 
 below_half : (width : Width) (n : ℕ) → n < half width → low width n ≡ n
 below_half width n h = low_same width n (omega (arith, half_less width))

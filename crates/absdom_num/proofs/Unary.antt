@@ -4,7 +4,7 @@ use Rattle.std.specs.Prelude.{nat_lt, if◌then◌else◌}
 use Rattle.std.specs.Int.{w8, w16, w32, w64, cast_signed, swap_bytes}
 use Rattle.std.proofs.lemmas.Int.{to_z_pos}
 use Rattle.bpf_insn.specs.declared.operation.Width.{Width}
-use Rattle.bpf_insn.specs.declared.operation.Width.TheVariants.{W32, W64}
+use Rattle.bpf_insn.specs.declared.operation.Width.TheVariants.{Bits32, Bits64}
 use Rattle.bpf_insn.specs.declared.operation.Extension.{Extension}
 use Rattle.bpf_insn.specs.declared.operation.Extension.TheVariants.{ByteTo32, HalfTo32, ByteTo64, HalfTo64, WordTo64}
 use Rattle.bpf_insn.specs.declared.operation.Swap.{Swap}
@@ -34,11 +34,11 @@ negate_fits width a n p =
     (λ e. whole_fits width _ (mod_small width (modulus width - low width n)))
 
 extended_small : (extension : Extension) (n : ℕ) → extended extension n < modulus (extension_width extension)
-extended_small ByteTo32 n = residue_small W32 (cast_signed w8 (n % 2 ^ 8))
-extended_small HalfTo32 n = residue_small W32 (cast_signed w16 (n % 2 ^ 16))
-extended_small ByteTo64 n = residue_small W64 (cast_signed w8 (n % 2 ^ 8))
-extended_small HalfTo64 n = residue_small W64 (cast_signed w16 (n % 2 ^ 16))
-extended_small WordTo64 n = residue_small W64 (cast_signed w32 (n % 2 ^ 32))
+extended_small ByteTo32 n = residue_small Bits32 (cast_signed w8 (n % 2 ^ 8))
+extended_small HalfTo32 n = residue_small Bits32 (cast_signed w16 (n % 2 ^ 16))
+extended_small ByteTo64 n = residue_small Bits64 (cast_signed w8 (n % 2 ^ 8))
+extended_small HalfTo64 n = residue_small Bits64 (cast_signed w16 (n % 2 ^ 16))
+extended_small WordTo64 n = residue_small Bits64 (cast_signed w32 (n % 2 ^ 32))
 
 -- what is not negative stays
 extended_same : (extension : Extension) (n : ℕ) → n < sign_bit extension → extended extension n ≡ n

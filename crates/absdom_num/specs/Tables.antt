@@ -3,7 +3,7 @@
 use Rattle.std.specs.Prelude.{ℕ, ◌+◌, ◌-◌, ◌*◌, ◌/◌, ◌%◌, ◌^◌, Bool, ◌&&◌, ◌==◌, nat_lt, nat_le, if◌then◌else◌, min, max}
 use Rattle.std.specs.Int.{w64, leading_zeros}
 use Rattle.bpf_insn.specs.declared.operation.Width.{Width}
-use Rattle.bpf_insn.specs.declared.operation.Width.TheVariants.{W32, W64}
+use Rattle.bpf_insn.specs.declared.operation.Width.TheVariants.{Bits32, Bits64}
 use Rattle.bpf_insn.specs.declared.operation.AluOp.{AluOp}
 use Rattle.bpf_insn.specs.declared.operation.AluOp.TheVariants.{Add, Sub, Mul, Div, SignedDiv, Or, And, Lsh, Rsh, Mod, SignedMod, Xor, Mov, Arsh}
 use Rattle.bpf_insn.specs.declared.operation.Extension.{Extension}
@@ -28,16 +28,16 @@ whole width = (0, modulus width - 1)
 
 -- the first number of that width that is negative where it is read as signed
 abbrev pub half : Width → ℕ
-half W32 = 2 ^ 31
-half W64 = 2 ^ 63
+half Bits32 = 2 ^ 31
+half Bits64 = 2 ^ 63
 
 -- the part of an operand that an operation of that width reads (section 4.1)
 abbrev pub cut : Width → Range → Range
-cut W64 a = a
-cut W32 a =
+cut Bits64 a = a
+cut Bits32 a =
     if nat_lt a.1 (2 ^ 32) then a
     else if is_single a then only (a.0 % 2 ^ 32)
-    else whole W32
+    else whole Bits32
 
 -- ADD: the sums of the ends, where both wrap or none does
 abbrev pub sum_range : Width → Range → Range → Range

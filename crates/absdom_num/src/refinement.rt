@@ -153,12 +153,12 @@ fn greatest_refined(condition: Condition, width: Width) -> u64
         | Condition::SignedLessEqual
         | Condition::SignedGreater
         | Condition::SignedGreaterEqual => match width {
-            Width::W32 => (1 << 31) - 1,
-            Width::W64 => (1 << 63) - 1,
+            Width::Bits32 => (1 << 31) - 1,
+            Width::Bits64 => (1 << 63) - 1,
         },
         _ => match width {
-            Width::W32 => u64::from(u32::MAX),
-            Width::W64 => u64::MAX,
+            Width::Bits32 => u64::from(u32::MAX),
+            Width::Bits64 => u64::MAX,
         },
     }
 }

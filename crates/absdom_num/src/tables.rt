@@ -15,8 +15,8 @@ fn modulus(width: Width) -> u128
     ensures bound { result ≤ 2 ^ 64 }
 {
     match width {
-        Width::W32 => 1 << 32,
-        Width::W64 => 1 << 64,
+        Width::Bits32 => 1 << 32,
+        Width::Bits64 => 1 << 64,
     }
 }
 
@@ -25,8 +25,8 @@ fn whole(width: Width) -> Range
     ensures { result ≡ whole width }
 {
     match width {
-        Width::W32 => Range::new(0, u64::from(u32::MAX)),
-        Width::W64 => Range::whole(),
+        Width::Bits32 => Range::new(0, u64::from(u32::MAX)),
+        Width::Bits64 => Range::whole(),
     }
 }
 
@@ -36,21 +36,21 @@ fn cut(width: Width, a: Range) -> Range
     ensures bound { result.1 < modulus width }
 {
     match width {
-        Width::W64 => a,
-        Width::W32 => cut_to_32(a),
+        Width::Bits64 => a,
+        Width::Bits32 => cut_to_32(a),
     }
 }
 
 /// The low 32 bits of an operand.
 fn cut_to_32(a: Range) -> Range
-    ensures { result ≡ cut Width.W32 a }
+    ensures { result ≡ cut Width.Bits32 a }
 {
     if a.high() < 1 << 32 {
         a
     } else if let Some(n) = a.single_value() {
         Range::single(n % (1 << 32))
     } else {
-        whole(Width::W32)
+        whole(Width::Bits32)
     }
 }
 
@@ -159,8 +159,8 @@ fn distance(width: Width, n: u64) -> u64
     ensures bound { result < 64 }
 {
     match width {
-        Width::W32 => n % 32,
-        Width::W64 => n % 64,
+        Width::Bits32 => n % 32,
+        Width::Bits64 => n % 64,
     }
 }
 
@@ -199,8 +199,8 @@ fn half(width: Width) -> u64
     ensures { result ≡ half width }
 {
     match width {
-        Width::W32 => 1 << 31,
-        Width::W64 => 1 << 63,
+        Width::Bits32 => 1 << 31,
+        Width::Bits64 => 1 << 63,
     }
 }
 
@@ -277,8 +277,8 @@ fn extension_width(extension: Extension) -> Width
     ensures { result ≡ extension_width extension }
 {
     match extension {
-        Extension::ByteTo32 | Extension::HalfTo32 => Width::W32,
-        Extension::ByteTo64 | Extension::HalfTo64 | Extension::WordTo64 => Width::W64,
+        Extension::ByteTo32 | Extension::HalfTo32 => Width::Bits32,
+        Extension::ByteTo64 | Extension::HalfTo64 | Extension::WordTo64 => Width::Bits64,
     }
 }
 

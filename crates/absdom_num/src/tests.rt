@@ -17,124 +17,124 @@ fn range(ends: &Ends) -> Range {
 
 /// An operation, its operands, and the least range of its results.
 const RESULTS: &[(AluOp, Width, Ends, Ends, Ends)] = &[
-    (AluOp::Add, Width::W64, (1, 3), (10, 20), (11, 23)),
+    (AluOp::Add, Width::Bits64, (1, 3), (10, 20), (11, 23)),
     (
         AluOp::Add,
-        Width::W64,
+        Width::Bits64,
         (0xffff_ffff_ffff_fffd, 0xffff_ffff_ffff_ffff),
         (5, 9),
         (2, 8),
     ),
     (
         AluOp::Add,
-        Width::W64,
+        Width::Bits64,
         (0xffff_ffff_ffff_fffd, 0xffff_ffff_ffff_ffff),
         (1, 5),
         (0, 0xffff_ffff_ffff_ffff),
     ),
     (
         AluOp::Add,
-        Width::W32,
+        Width::Bits32,
         (0xffff_fffd, 0xffff_ffff),
         (5, 9),
         (2, 8),
     ),
     (
         AluOp::Add,
-        Width::W32,
+        Width::Bits32,
         (0xffff_fffd, 0xffff_ffff),
         (1, 5),
         (0, 0xffff_ffff),
     ),
-    (AluOp::Sub, Width::W64, (20, 30), (3, 5), (15, 27)),
+    (AluOp::Sub, Width::Bits64, (20, 30), (3, 5), (15, 27)),
     (
         AluOp::Sub,
-        Width::W64,
+        Width::Bits64,
         (3, 5),
         (6, 9),
         (0xffff_ffff_ffff_fffa, 0xffff_ffff_ffff_ffff),
     ),
     (
         AluOp::Sub,
-        Width::W32,
+        Width::Bits32,
         (3, 5),
         (6, 9),
         (0xffff_fffa, 0xffff_ffff),
     ),
     (
         AluOp::Sub,
-        Width::W64,
+        Width::Bits64,
         (3, 9),
         (5, 6),
         (0, 0xffff_ffff_ffff_ffff),
     ),
-    (AluOp::Mul, Width::W64, (3, 5), (7, 9), (21, 45)),
+    (AluOp::Mul, Width::Bits64, (3, 5), (7, 9), (21, 45)),
     (
         AluOp::Mul,
-        Width::W32,
+        Width::Bits32,
         (0xffff, 0x1_0000),
         (0xffff, 0xffff),
         (0xfffe_0001, 0xffff_0000),
     ),
-    (AluOp::Div, Width::W64, (20, 35), (2, 5), (4, 17)),
-    (AluOp::Div, Width::W64, (20, 35), (0, 3), (0, 35)),
-    (AluOp::Mod, Width::W64, (3, 5), (6, 9), (3, 5)),
-    (AluOp::Mod, Width::W64, (3, 40), (5, 9), (0, 8)),
-    (AluOp::Mod, Width::W64, (5, 9), (0, 3), (0, 9)),
-    (AluOp::And, Width::W64, (0, 12), (0, 9), (0, 9)),
-    (AluOp::Or, Width::W64, (0, 7), (2, 15), (2, 15)),
-    (AluOp::Xor, Width::W64, (0, 7), (0, 15), (0, 15)),
-    (AluOp::Lsh, Width::W64, (1, 3), (68, 68), (16, 48)),
-    (AluOp::Lsh, Width::W32, (1, 3), (36, 36), (16, 48)),
-    (AluOp::Rsh, Width::W64, (16, 40), (2, 2), (4, 10)),
-    (AluOp::Rsh, Width::W64, (5, 40), (0, 6), (0, 40)),
-    (AluOp::Arsh, Width::W64, (16, 40), (2, 2), (4, 10)),
-    (AluOp::Arsh, Width::W32, (16, 40), (33, 33), (8, 20)),
-    (AluOp::Mov, Width::W64, (1, 2), (5, 9), (5, 9)),
+    (AluOp::Div, Width::Bits64, (20, 35), (2, 5), (4, 17)),
+    (AluOp::Div, Width::Bits64, (20, 35), (0, 3), (0, 35)),
+    (AluOp::Mod, Width::Bits64, (3, 5), (6, 9), (3, 5)),
+    (AluOp::Mod, Width::Bits64, (3, 40), (5, 9), (0, 8)),
+    (AluOp::Mod, Width::Bits64, (5, 9), (0, 3), (0, 9)),
+    (AluOp::And, Width::Bits64, (0, 12), (0, 9), (0, 9)),
+    (AluOp::Or, Width::Bits64, (0, 7), (2, 15), (2, 15)),
+    (AluOp::Xor, Width::Bits64, (0, 7), (0, 15), (0, 15)),
+    (AluOp::Lsh, Width::Bits64, (1, 3), (68, 68), (16, 48)),
+    (AluOp::Lsh, Width::Bits32, (1, 3), (36, 36), (16, 48)),
+    (AluOp::Rsh, Width::Bits64, (16, 40), (2, 2), (4, 10)),
+    (AluOp::Rsh, Width::Bits64, (5, 40), (0, 6), (0, 40)),
+    (AluOp::Arsh, Width::Bits64, (16, 40), (2, 2), (4, 10)),
+    (AluOp::Arsh, Width::Bits32, (16, 40), (33, 33), (8, 20)),
+    (AluOp::Mov, Width::Bits64, (1, 2), (5, 9), (5, 9)),
     (
         AluOp::Add,
-        Width::W32,
+        Width::Bits32,
         (0x1_0000_0007, 0x1_0000_0007),
         (1, 3),
         (8, 10),
     ),
     (
         AluOp::Sub,
-        Width::W32,
+        Width::Bits32,
         (0x1_0000_0007, 0x1_0000_0007),
         (1, 3),
         (4, 6),
     ),
     (
         AluOp::SignedDiv,
-        Width::W64,
+        Width::Bits64,
         (0xffff_ffff_ffff_fff9, 0xffff_ffff_ffff_fff9),
         (2, 2),
         (0xffff_ffff_ffff_fffd, 0xffff_ffff_ffff_fffd),
     ),
     (
         AluOp::SignedMod,
-        Width::W64,
+        Width::Bits64,
         (0xffff_ffff_ffff_fff9, 0xffff_ffff_ffff_fff9),
         (3, 3),
         (0xffff_ffff_ffff_ffff, 0xffff_ffff_ffff_ffff),
     ),
     (
         AluOp::SignedDiv,
-        Width::W32,
+        Width::Bits32,
         (0x8000_0000, 0x8000_0000),
         (0xffff_ffff, 0xffff_ffff),
         (0x8000_0000, 0x8000_0000),
     ),
     (
         AluOp::Arsh,
-        Width::W64,
+        Width::Bits64,
         (0xffff_ffff_ffff_fff8, 0xffff_ffff_ffff_fff8),
         (1, 1),
         (0xffff_ffff_ffff_fffc, 0xffff_ffff_ffff_fffc),
     ),
-    (AluOp::Mod, Width::W64, (7, 7), (0, 0), (7, 7)),
-    (AluOp::Div, Width::W64, (7, 7), (0, 0), (0, 0)),
+    (AluOp::Mod, Width::Bits64, (7, 7), (0, 0), (7, 7)),
+    (AluOp::Div, Width::Bits64, (7, 7), (0, 0), (0, 0)),
 ];
 
 #[test]
@@ -149,58 +149,58 @@ fn least_ranges_of_results(rt: HostRuntime) {
 const LARGER: &[(AluOp, Width, Ends, Ends, Ends)] = &[
     (
         AluOp::Mul,
-        Width::W32,
+        Width::Bits32,
         (0xffff, 0x1_0000),
         (0x1_0000, 0x1_0001),
         (0, 0xffff_ffff),
     ),
-    (AluOp::Or, Width::W64, (4, 7), (8, 9), (8, 15)),
-    (AluOp::Xor, Width::W64, (4, 7), (8, 16), (0, 31)),
+    (AluOp::Or, Width::Bits64, (4, 7), (8, 9), (8, 15)),
+    (AluOp::Xor, Width::Bits64, (4, 7), (8, 16), (0, 31)),
     (
         AluOp::Or,
-        Width::W64,
+        Width::Bits64,
         (0, 0x8000_0000_0000_0000),
         (0, 0),
         (0, 0xffff_ffff_ffff_ffff),
     ),
     (
         AluOp::Lsh,
-        Width::W64,
+        Width::Bits64,
         (1, 3),
         (63, 63),
         (0, 0xffff_ffff_ffff_ffff),
     ),
     (
         AluOp::Lsh,
-        Width::W64,
+        Width::Bits64,
         (1, 3),
         (0, 1),
         (0, 0xffff_ffff_ffff_ffff),
     ),
     (
         AluOp::Arsh,
-        Width::W32,
+        Width::Bits32,
         (0x7fff_ffff, 0x8000_0000),
         (1, 1),
         (0, 0xffff_ffff),
     ),
     (
         AluOp::SignedDiv,
-        Width::W32,
+        Width::Bits32,
         (4, 6),
         (2, 2),
         (0, 0xffff_ffff),
     ),
     (
         AluOp::SignedMod,
-        Width::W64,
+        Width::Bits64,
         (4, 6),
         (2, 2),
         (0, 0xffff_ffff_ffff_ffff),
     ),
     (
         AluOp::Mov,
-        Width::W32,
+        Width::Bits32,
         (0, 0),
         (3, 0x1_0000_0000),
         (0, 0xffff_ffff),
@@ -220,14 +220,14 @@ fn operations_with_one_operand(rt: HostRuntime) {
     let small = range(&(3, 100));
     let whole32 = range(&(0, 0xffff_ffff));
     assert_eq!(rt;
-        negate(Width::W64, Range::single(5)),
+        negate(Width::Bits64, Range::single(5)),
         Range::single(0xffff_ffff_ffff_fffb)
     );
     assert_eq!(rt;
-        negate(Width::W32, Range::single(5)),
+        negate(Width::Bits32, Range::single(5)),
         Range::single(0xffff_fffb)
     );
-    assert_eq!(rt; negate(Width::W32, small), whole32);
+    assert_eq!(rt; negate(Width::Bits32, small), whole32);
     assert_eq!(rt; move_signed(Extension::ByteTo64, small), small);
     assert_eq!(rt; move_signed(Extension::ByteTo32, range(&(3, 128))), whole32);
     assert_eq!(rt;
@@ -267,7 +267,7 @@ fn operands(pair: &Pair) -> Option<Operands> {
 const EDGES: &[(Condition, Width, Ends, Ends, Pair, Pair)] = &[
     (
         Condition::Equal,
-        Width::W64,
+        Width::Bits64,
         (3, 9),
         (5, 12),
         Some(((5, 9), (5, 9))),
@@ -275,7 +275,7 @@ const EDGES: &[(Condition, Width, Ends, Ends, Pair, Pair)] = &[
     ),
     (
         Condition::Equal,
-        Width::W64,
+        Width::Bits64,
         (3, 5),
         (7, 9),
         None,
@@ -283,7 +283,7 @@ const EDGES: &[(Condition, Width, Ends, Ends, Pair, Pair)] = &[
     ),
     (
         Condition::NotEqual,
-        Width::W64,
+        Width::Bits64,
         (5, 9),
         (5, 5),
         Some(((6, 9), (5, 5))),
@@ -291,7 +291,7 @@ const EDGES: &[(Condition, Width, Ends, Ends, Pair, Pair)] = &[
     ),
     (
         Condition::NotEqual,
-        Width::W64,
+        Width::Bits64,
         (5, 9),
         (9, 9),
         Some(((5, 8), (9, 9))),
@@ -299,7 +299,7 @@ const EDGES: &[(Condition, Width, Ends, Ends, Pair, Pair)] = &[
     ),
     (
         Condition::NotEqual,
-        Width::W64,
+        Width::Bits64,
         (5, 5),
         (5, 9),
         Some(((5, 5), (6, 9))),
@@ -307,7 +307,7 @@ const EDGES: &[(Condition, Width, Ends, Ends, Pair, Pair)] = &[
     ),
     (
         Condition::NotEqual,
-        Width::W64,
+        Width::Bits64,
         (7, 7),
         (7, 7),
         None,
@@ -315,7 +315,7 @@ const EDGES: &[(Condition, Width, Ends, Ends, Pair, Pair)] = &[
     ),
     (
         Condition::Less,
-        Width::W64,
+        Width::Bits64,
         (3, 9),
         (2, 5),
         Some(((3, 4), (4, 5))),
@@ -323,7 +323,7 @@ const EDGES: &[(Condition, Width, Ends, Ends, Pair, Pair)] = &[
     ),
     (
         Condition::Less,
-        Width::W64,
+        Width::Bits64,
         (0, 9),
         (0, 0),
         None,
@@ -331,7 +331,7 @@ const EDGES: &[(Condition, Width, Ends, Ends, Pair, Pair)] = &[
     ),
     (
         Condition::LessEqual,
-        Width::W64,
+        Width::Bits64,
         (3, 9),
         (2, 5),
         Some(((3, 5), (3, 5))),
@@ -339,7 +339,7 @@ const EDGES: &[(Condition, Width, Ends, Ends, Pair, Pair)] = &[
     ),
     (
         Condition::Greater,
-        Width::W64,
+        Width::Bits64,
         (3, 9),
         (4, 12),
         Some(((5, 9), (4, 8))),
@@ -347,7 +347,7 @@ const EDGES: &[(Condition, Width, Ends, Ends, Pair, Pair)] = &[
     ),
     (
         Condition::GreaterEqual,
-        Width::W64,
+        Width::Bits64,
         (3, 9),
         (4, 12),
         Some(((4, 9), (4, 9))),
@@ -355,7 +355,7 @@ const EDGES: &[(Condition, Width, Ends, Ends, Pair, Pair)] = &[
     ),
     (
         Condition::SignedLess,
-        Width::W64,
+        Width::Bits64,
         (3, 9),
         (2, 5),
         Some(((3, 4), (4, 5))),
@@ -363,7 +363,7 @@ const EDGES: &[(Condition, Width, Ends, Ends, Pair, Pair)] = &[
     ),
     (
         Condition::SignedGreaterEqual,
-        Width::W32,
+        Width::Bits32,
         (3, 9),
         (4, 12),
         Some(((4, 9), (4, 9))),
@@ -371,7 +371,7 @@ const EDGES: &[(Condition, Width, Ends, Ends, Pair, Pair)] = &[
     ),
     (
         Condition::Less,
-        Width::W32,
+        Width::Bits32,
         (3, 9),
         (2, 5),
         Some(((3, 4), (4, 5))),
@@ -398,21 +398,21 @@ fn least_ranges_on_edges(rt: HostRuntime) {
 
 /// A comparison that tells nothing of its operands.
 const UNTOLD: &[(Condition, Width, Ends, Ends)] = &[
-    (Condition::AnyBits, Width::W64, (3, 9), (4, 4)),
+    (Condition::AnyBits, Width::Bits64, (3, 9), (4, 4)),
     (
         Condition::SignedLess,
-        Width::W64,
+        Width::Bits64,
         (3, 0x8000_0000_0000_0000),
         (5, 5),
     ),
     (
         Condition::SignedGreater,
-        Width::W32,
+        Width::Bits32,
         (3, 9),
         (5, 0x8000_0000),
     ),
-    (Condition::Equal, Width::W32, (3, 0x1_0000_0000), (5, 5)),
-    (Condition::NotEqual, Width::W64, (3, 9), (5, 5)),
+    (Condition::Equal, Width::Bits32, (3, 0x1_0000_0000), (5, 5)),
+    (Condition::NotEqual, Width::Bits64, (3, 9), (5, 5)),
 ];
 
 #[test]

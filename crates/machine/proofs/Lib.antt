@@ -4,3 +4,4 @@ mod Nearness
 mod Walking
 mod Agreement
 mod Results
+mod Fitting

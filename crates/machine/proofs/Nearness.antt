@@ -4,7 +4,7 @@ use Rattle.std.specs.Int.{cast_signed, w64}
 use Rattle.std.specs.Prelude.{unsigned_abs}
 use Rattle.std.proofs.lemmas.Int.{ints}
 use Rattle.bpf_insn.specs.declared.operation.Width.{Width}
-use Rattle.bpf_insn.specs.declared.operation.Width.TheVariants.{W32, W64}
+use Rattle.bpf_insn.specs.declared.operation.Width.TheVariants.{Bits32, Bits64}
 use Rattle.bpf_insn.specs.declared.operation.AluOp.{AluOp}
 use Rattle.bpf_insn.specs.declared.operation.AluOp.TheVariants.{Add, Sub, Mul, Div, SignedDiv, Or, And, Lsh, Rsh, Mod, SignedMod, Xor, Mov, Arsh}
 use Rattle.machine.specs.declared.regions.Region.{Region}
@@ -54,19 +54,19 @@ neg_size (negsuc n) = refl
 difference_near : (a b : ℤ) → unsigned_abs (a -ℤ b) ≤ unsigned_abs a + unsigned_abs b
 difference_near a b = omega (arith, sum_near a (neg_ℤ b), neg_size b)
 
-added : (offset : ℤ) (n limit : ℕ) → unsigned_abs offset ≤ limit → unsigned_abs (offset +ℤ signed W64 n) ≤ limit + 2 ^ 63
-added offset n limit h = omega (arith, sum_near offset (signed W64 n), cast_near n)
+added : (offset : ℤ) (n limit : ℕ) → unsigned_abs offset ≤ limit → unsigned_abs (offset +ℤ signed Bits64 n) ≤ limit + 2 ^ 63
+added offset n limit h = omega (arith, sum_near offset (signed Bits64 n), cast_near n)
 
-subtracted : (offset : ℤ) (n limit : ℕ) → unsigned_abs offset ≤ limit → unsigned_abs (offset -ℤ signed W64 n) ≤ limit + 2 ^ 63
-subtracted offset n limit h = omega (arith, difference_near offset (signed W64 n), cast_near n)
+subtracted : (offset : ℤ) (n limit : ℕ) → unsigned_abs offset ≤ limit → unsigned_abs (offset -ℤ signed Bits64 n) ≤ limit + 2 ^ 63
+subtracted offset n limit h = omega (arith, difference_near offset (signed Bits64 n), cast_near n)
 
 copied_near : (limit : ℕ) (width : Width) (v : Value) → IsNear limit v → IfSome (copied width v) (IsNear (limit + 2 ^ 63))
 copied_near limit width Unset h = tt
 copied_near limit width (Num n) h = tt
-copied_near limit W32 (Ptr region offset) h = tt
-copied_near limit W64 (Ptr region offset) h = omega arith
-copied_near limit W32 (Map index) h = tt
-copied_near limit W64 (Map index) h = tt
+copied_near limit Bits32 (Ptr region offset) h = tt
+copied_near limit Bits64 (Ptr region offset) h = omega arith
+copied_near limit Bits32 (Map index) h = tt
+copied_near limit Bits64 (Map index) h = tt
 
 copied_by_near : (limit : ℕ) (op : AluOp) (width : Width) (v : Value) → IsNear limit v → IfSome (copied_by op width v) (IsNear (limit + 2 ^ 63))
 copied_by_near limit Add width v h = tt
@@ -105,8 +105,8 @@ alu_near limit op width (Num a) (Num b) h k = tt
 alu_near limit op width (Num a) Unset h k = tt
 alu_near limit op width (Num a) (Ptr region offset) h k = copied_by_near limit op width (Ptr region offset) k
 alu_near limit op width (Num a) (Map index) h k = copied_by_near limit op width (Map index) tt
-alu_near limit op W64 (Ptr region offset) (Num n) h k = moved_by_near limit op region offset n h
-alu_near limit op W32 (Ptr region offset) (Num n) h k = copied_by_near limit op W32 (Num n) tt
+alu_near limit op Bits64 (Ptr region offset) (Num n) h k = moved_by_near limit op region offset n h
+alu_near limit op Bits32 (Ptr region offset) (Num n) h k = copied_by_near limit op Bits32 (Num n) tt
 alu_near limit op width (Ptr region offset) Unset h k = tt
 alu_near limit op width (Ptr region offset) (Ptr other at_offset) h k = copied_by_near limit op width (Ptr other at_offset) k
 alu_near limit op width (Ptr region offset) (Map index) h k = copied_by_near limit op width (Map index) tt

@@ -4,20 +4,20 @@ use Rattle.std.proofs.Math.Nat.{div-le_self, mod-le}
 use Rattle.std.proofs.lemmas.Nat.{mod_below, or_lt, xor_lt, and_le_l}
 use Rattle.std.specs.Int.Bits.{bit_and, bit_or, bit_xor}
 use Rattle.bpf_insn.specs.declared.operation.Width.{Width}
-use Rattle.bpf_insn.specs.declared.operation.Width.TheVariants.{W32, W64}
+use Rattle.bpf_insn.specs.declared.operation.Width.TheVariants.{Bits32, Bits64}
 use Rattle.bpf_insn.specs.declared.operation.AluOp.{AluOp}
 use Rattle.bpf_insn.specs.declared.operation.AluOp.TheVariants.{Add, Sub, Mul, Div, SignedDiv, Or, And, Lsh, Rsh, Mod, SignedMod, Xor, Mov, Arsh}
 use Rattle.machine.specs.Words.{bits_of, modulus, low, residue, alu_low, alu_words}
 
 modulus_positive : (width : Width) → 0 < modulus width
-modulus_positive W32 = lit< tt
-modulus_positive W64 = lit< tt
+modulus_positive Bits32 = lit< tt
+modulus_positive Bits64 = lit< tt
 
 low_small : (width : Width) (n : ℕ) → n < 2 ^ 64 → low width n < modulus width
-low_small W32 n h = mod_below n (2 ^ 32) (lit< tt)
-low_small W64 n h = h
+low_small Bits32 n h = mod_below n (2 ^ 32) (lit< tt)
+low_small Bits64 n h = h
 
-residue_small : (m : ℕ) (z : ℤ) → 0 < m → residue m z < m
+pub residue_small : (m : ℕ) (z : ℤ) → 0 < m → residue m z < m
 residue_small m (pos n) h = mod_below n m h
 residue_small m (negsuc n) h = omega arith
 
@@ -26,12 +26,12 @@ either_small true x y m h k = h
 either_small false x y m h k = k
 
 or_small : (width : Width) (a b : ℕ) → a < modulus width → b < modulus width → bit_or a b < modulus width
-or_small W32 a b h k = or_lt 32 a b h k
-or_small W64 a b h k = or_lt 64 a b h k
+or_small Bits32 a b h k = or_lt 32 a b h k
+or_small Bits64 a b h k = or_lt 64 a b h k
 
 xor_small : (width : Width) (a b : ℕ) → a < modulus width → b < modulus width → bit_xor a b < modulus width
-xor_small W32 a b h k = xor_lt 32 a b h k
-xor_small W64 a b h k = xor_lt 64 a b h k
+xor_small Bits32 a b h k = xor_lt 32 a b h k
+xor_small Bits64 a b h k = xor_lt 64 a b h k
 
 below : (x a m : ℕ) → x ≤ a → a < m → x < m
 below x a m h k = omega arith

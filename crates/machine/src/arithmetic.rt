@@ -28,8 +28,8 @@ fn copied(width: Width, value: Value) -> Option<Value>
         Value::Unset => None,
         Value::Num(n) => Some(Value::Num(low(width, n))),
         Value::Ptr { .. } | Value::Map(_) => match width {
-            Width::W32 => None,
-            Width::W64 => Some(value),
+            Width::Bits32 => None,
+            Width::Bits64 => Some(value),
         },
     }
 }
@@ -76,8 +76,8 @@ pub fn alu(op: AluOp, width: Width, dst: Value, src: Value) -> Option<Value>
         },
         Value::Ptr { region, offset } => match src {
             Value::Num(n) => match width {
-                Width::W32 => copied_by(op, width, src),
-                Width::W64 => moved_by(op, region, offset, n),
+                Width::Bits32 => copied_by(op, width, src),
+                Width::Bits64 => moved_by(op, region, offset, n),
             },
             Value::Unset | Value::Ptr { .. } | Value::Map(_) => copied_by(op, width, src),
         },

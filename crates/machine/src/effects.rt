@@ -268,8 +268,8 @@ fn exit(frame: Frame<'_>) -> Effect
     }
 }
 
-/// The distance of an unconditional jump.
-fn distance_of(distance: Distance) -> i32
+/// The distance of an unconditional jump, in slots from the next one.
+pub fn distance_of(distance: Distance) -> i32
     ensures { result ≡ distance_of distance }
 {
     match distance {

@@ -1,7 +1,7 @@
 //! Laws of the machine: what its definition comes to. These functions do nothing; their contracts are
 //! the laws.
 
-ghost use Rattle.machine.specs.Laws.{RunsAgree, SizesOnlyTrap, StepsLeave, ResultsFit};
+ghost use Rattle.machine.specs.Laws.{RunsAgree, SizesOnlyTrap, StepsLeave, ResultsFit, NumbersFit, VerdictsFit};
 
 /// A run has one verdict, and one number of steps, for a header, a port and a list of helper calls.
 pub fn runs_agree()
@@ -22,4 +22,11 @@ pub fn steps_leave()
 /// Of words, each operation gives a word, and at 32 bits one whose upper half is zero.
 pub fn results_fit()
     ensures { ResultsFit }
+{}
+
+/// On every path of a program each register that is a number is a word, and each byte of the stack that is
+/// set is a byte. So the verdict of a run is a word.
+pub fn numbers_fit()
+    ensures numbers { NumbersFit }
+    ensures verdicts { VerdictsFit }
 {}

@@ -18,9 +18,11 @@ mod values;
 mod words;
 
 pub use calls::Call;
+pub use effects::distance_of;
 pub use endings::{Ending, run};
-pub use laws::{results_fit, runs_agree, sizes_only_trap, steps_leave};
+pub use laws::{numbers_fit, results_fit, runs_agree, sizes_only_trap, steps_leave};
 pub use machines::Machine;
+pub use memory::{load_bytes, loaded, size_bytes};
 pub use regions::Region;
 pub use turns::Turn;
 pub use values::Value;

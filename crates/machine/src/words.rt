@@ -10,8 +10,8 @@ fn bits_of(width: Width) -> u64
     ensures { result ≡ bits_of width }
 {
     match width {
-        Width::W32 => 32,
-        Width::W64 => 64,
+        Width::Bits32 => 32,
+        Width::Bits64 => 64,
     }
 }
 
@@ -20,8 +20,8 @@ pub fn low(width: Width, n: u64) -> u64
     ensures { result ≡ low width n }
 {
     match width {
-        Width::W32 => n % (1 << 32),
-        Width::W64 => n,
+        Width::Bits32 => n % (1 << 32),
+        Width::Bits64 => n,
     }
 }
 
@@ -31,8 +31,8 @@ fn signed(width: Width, n: u64) -> i64
     ensures { result ≡ signed width n }
 {
     match width {
-        Width::W32 => i64::from((n as u32).cast_signed()),
-        Width::W64 => n.cast_signed(),
+        Width::Bits32 => i64::from((n as u32).cast_signed()),
+        Width::Bits64 => n.cast_signed(),
     }
 }
 
@@ -48,7 +48,7 @@ fn wrapped(width: Width, z: i64) -> u64
 pub fn word(z: i64) -> u64
     ensures { result ≡ word z }
 {
-    wrapped(Width::W64, z)
+    wrapped(Width::Bits64, z)
 }
 
 /// Division by zero gives 0.
@@ -138,9 +138,12 @@ pub fn extended(extension: Extension, n: u64) -> u64
     ensures { result ≡ extended extension n }
 {
     match extension {
-        Extension::ByteTo32 => wrapped(Width::W32, i64::from(((n % (1 << 8)) as u8).cast_signed())),
+        Extension::ByteTo32 => wrapped(
+            Width::Bits32,
+            i64::from(((n % (1 << 8)) as u8).cast_signed()),
+        ),
         Extension::HalfTo32 => wrapped(
-            Width::W32,
+            Width::Bits32,
             i64::from(((n % (1 << 16)) as u16).cast_signed()),
         ),
         Extension::ByteTo64 => word(i64::from(((n % (1 << 8)) as u8).cast_signed())),

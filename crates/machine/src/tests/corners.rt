@@ -268,38 +268,38 @@ ffffffffffffffff ffffffffffffffff ffffffffffffffff ffffffffffffffff ffffffffffff
 
 #[test]
 fn corners_at_32_bits(rt: HostRuntime) -> Result<(), Fail> {
-    check(&rt, AluOp::Add, Width::W32, ADD_32)?;
-    check(&rt, AluOp::Sub, Width::W32, SUB_32)?;
-    check(&rt, AluOp::Mul, Width::W32, MUL_32)?;
-    check(&rt, AluOp::Div, Width::W32, DIV_32)?;
-    check(&rt, AluOp::SignedDiv, Width::W32, SIGNED_DIV_32)?;
-    check(&rt, AluOp::Or, Width::W32, OR_32)?;
-    check(&rt, AluOp::And, Width::W32, AND_32)?;
-    check(&rt, AluOp::Lsh, Width::W32, LSH_32)?;
-    check(&rt, AluOp::Rsh, Width::W32, RSH_32)?;
-    check(&rt, AluOp::Mod, Width::W32, MOD_32)?;
-    check(&rt, AluOp::SignedMod, Width::W32, SIGNED_MOD_32)?;
-    check(&rt, AluOp::Xor, Width::W32, XOR_32)?;
-    check(&rt, AluOp::Mov, Width::W32, MOV_32)?;
-    check(&rt, AluOp::Arsh, Width::W32, ARSH_32)?;
+    check(&rt, AluOp::Add, Width::Bits32, ADD_32)?;
+    check(&rt, AluOp::Sub, Width::Bits32, SUB_32)?;
+    check(&rt, AluOp::Mul, Width::Bits32, MUL_32)?;
+    check(&rt, AluOp::Div, Width::Bits32, DIV_32)?;
+    check(&rt, AluOp::SignedDiv, Width::Bits32, SIGNED_DIV_32)?;
+    check(&rt, AluOp::Or, Width::Bits32, OR_32)?;
+    check(&rt, AluOp::And, Width::Bits32, AND_32)?;
+    check(&rt, AluOp::Lsh, Width::Bits32, LSH_32)?;
+    check(&rt, AluOp::Rsh, Width::Bits32, RSH_32)?;
+    check(&rt, AluOp::Mod, Width::Bits32, MOD_32)?;
+    check(&rt, AluOp::SignedMod, Width::Bits32, SIGNED_MOD_32)?;
+    check(&rt, AluOp::Xor, Width::Bits32, XOR_32)?;
+    check(&rt, AluOp::Mov, Width::Bits32, MOV_32)?;
+    check(&rt, AluOp::Arsh, Width::Bits32, ARSH_32)?;
     Ok(())
 }
 
 #[test]
 fn corners_at_64_bits(rt: HostRuntime) -> Result<(), Fail> {
-    check(&rt, AluOp::Add, Width::W64, ADD_64)?;
-    check(&rt, AluOp::Sub, Width::W64, SUB_64)?;
-    check(&rt, AluOp::Mul, Width::W64, MUL_64)?;
-    check(&rt, AluOp::Div, Width::W64, DIV_64)?;
-    check(&rt, AluOp::SignedDiv, Width::W64, SIGNED_DIV_64)?;
-    check(&rt, AluOp::Or, Width::W64, OR_64)?;
-    check(&rt, AluOp::And, Width::W64, AND_64)?;
-    check(&rt, AluOp::Lsh, Width::W64, LSH_64)?;
-    check(&rt, AluOp::Rsh, Width::W64, RSH_64)?;
-    check(&rt, AluOp::Mod, Width::W64, MOD_64)?;
-    check(&rt, AluOp::SignedMod, Width::W64, SIGNED_MOD_64)?;
-    check(&rt, AluOp::Xor, Width::W64, XOR_64)?;
-    check(&rt, AluOp::Mov, Width::W64, MOV_64)?;
-    check(&rt, AluOp::Arsh, Width::W64, ARSH_64)?;
+    check(&rt, AluOp::Add, Width::Bits64, ADD_64)?;
+    check(&rt, AluOp::Sub, Width::Bits64, SUB_64)?;
+    check(&rt, AluOp::Mul, Width::Bits64, MUL_64)?;
+    check(&rt, AluOp::Div, Width::Bits64, DIV_64)?;
+    check(&rt, AluOp::SignedDiv, Width::Bits64, SIGNED_DIV_64)?;
+    check(&rt, AluOp::Or, Width::Bits64, OR_64)?;
+    check(&rt, AluOp::And, Width::Bits64, AND_64)?;
+    check(&rt, AluOp::Lsh, Width::Bits64, LSH_64)?;
+    check(&rt, AluOp::Rsh, Width::Bits64, RSH_64)?;
+    check(&rt, AluOp::Mod, Width::Bits64, MOD_64)?;
+    check(&rt, AluOp::SignedMod, Width::Bits64, SIGNED_MOD_64)?;
+    check(&rt, AluOp::Xor, Width::Bits64, XOR_64)?;
+    check(&rt, AluOp::Mov, Width::Bits64, MOV_64)?;
+    check(&rt, AluOp::Arsh, Width::Bits64, ARSH_64)?;
     Ok(())
 }
