@@ -3,7 +3,7 @@ use Rattle.std.proofs.Common.{◌≡◌, ℕ, suc, ◌-◌, ◌^◌, ◌<◌, �
 use Rattle.std.proofs.lemmas.Int.{ints}
 use Rattle.std.proofs.lemmas.Bool.Decides.{nat_tests}
 use Rattle.bpf_insn.specs.declared.operation.Width.{Width}
-use Rattle.bpf_insn.specs.declared.operation.Width.TheVariants.{W32, W64}
+use Rattle.bpf_insn.specs.declared.operation.Width.TheVariants.{Bits32, Bits64}
 use Rattle.bpf_insn.specs.declared.operation.AluOp.{AluOp}
 use Rattle.bpf_insn.specs.declared.operation.AluOp.TheVariants.{Add, Sub, Mul, Div, SignedDiv, Or, And, Lsh, Rsh, Mod, SignedMod, Xor, Mov, Arsh}
 use Rattle.machine.specs.declared.regions.Region.{Region}
@@ -51,14 +51,14 @@ alu-Mov width (Number n) Nothing = refl
 alu-Mov width (Number n) (Number m) = refl
 alu-Mov width (Number n) (Pointer r z) = refl
 alu-Mov width (Number n) (MapOf i) = refl
-alu-Mov W32 (Pointer s x) Nothing = refl
-alu-Mov W32 (Pointer s x) (Number m) = refl
-alu-Mov W32 (Pointer s x) (Pointer r z) = refl
-alu-Mov W32 (Pointer s x) (MapOf i) = refl
-alu-Mov W64 (Pointer s x) Nothing = refl
-alu-Mov W64 (Pointer s x) (Number m) = refl
-alu-Mov W64 (Pointer s x) (Pointer r z) = refl
-alu-Mov W64 (Pointer s x) (MapOf i) = refl
+alu-Mov Bits32 (Pointer s x) Nothing = refl
+alu-Mov Bits32 (Pointer s x) (Number m) = refl
+alu-Mov Bits32 (Pointer s x) (Pointer r z) = refl
+alu-Mov Bits32 (Pointer s x) (MapOf i) = refl
+alu-Mov Bits64 (Pointer s x) Nothing = refl
+alu-Mov Bits64 (Pointer s x) (Number m) = refl
+alu-Mov Bits64 (Pointer s x) (Pointer r z) = refl
+alu-Mov Bits64 (Pointer s x) (MapOf i) = refl
 
 pub copied_fits : AluFits → (width : Width) (v : Value) (q : AbsKind) → FitsKind v q → FitsResult (copied width v) (copied_kind width q)
 copied_fits fits width v Unset h = tt
@@ -66,16 +66,16 @@ copied_fits fits width Nothing (Num a) h = absurd h
 copied_fits fits width (Number n) (Num a) h = fits Mov width a a n n h h
 copied_fits fits width (Pointer r z) (Num a) h = absurd h
 copied_fits fits width (MapOf i) (Num a) h = absurd h
-copied_fits fits W32 v (Ptr s o) h = tt
-copied_fits fits W64 Nothing (Ptr s o) h = absurd h
-copied_fits fits W64 (Number n) (Ptr s o) h = absurd h
-copied_fits fits W64 (Pointer r z) (Ptr s o) h = h
-copied_fits fits W64 (MapOf i) (Ptr s o) h = absurd h
-copied_fits fits W32 v (Map j) h = tt
-copied_fits fits W64 Nothing (Map j) h = absurd h
-copied_fits fits W64 (Number n) (Map j) h = absurd h
-copied_fits fits W64 (Pointer r z) (Map j) h = absurd h
-copied_fits fits W64 (MapOf i) (Map j) h = h
+copied_fits fits Bits32 v (Ptr s o) h = tt
+copied_fits fits Bits64 Nothing (Ptr s o) h = absurd h
+copied_fits fits Bits64 (Number n) (Ptr s o) h = absurd h
+copied_fits fits Bits64 (Pointer r z) (Ptr s o) h = h
+copied_fits fits Bits64 (MapOf i) (Ptr s o) h = absurd h
+copied_fits fits Bits32 v (Map j) h = tt
+copied_fits fits Bits64 Nothing (Map j) h = absurd h
+copied_fits fits Bits64 (Number n) (Map j) h = absurd h
+copied_fits fits Bits64 (Pointer r z) (Map j) h = absurd h
+copied_fits fits Bits64 (MapOf i) (Map j) h = h
 
 -- the sign of all numbers in a range is known
 abbrev pub HasSign : Range → Type 0
@@ -85,19 +85,19 @@ pub sign_known : (b : Range) → (nat_lt b.1 (2 ^ 63) || nat_le (2 ^ 63) b.0) �
 sign_known b e = grind (arith, nat_tests)
 
 -- a word with its highest bit set, read as signed
-pub negative_is : (n : ℕ) → 2 ^ 63 ≤ n → signed W64 n ≡ negsuc (2 ^ 64 - suc n)
+pub negative_is : (n : ℕ) → 2 ^ 63 ≤ n → signed Bits64 n ≡ negsuc (2 ^ 64 - suc n)
 negative_is n h = let e : nat_lt n (2 ^ 63) ≡ false = grind (arith, nat_tests) in rw e refl
 
-pub negatives_rise : (a b : ℕ) → a ≤ b → 2 ^ 63 ≤ a → signed W64 a ≤ℤ signed W64 b
+pub negatives_rise : (a b : ℕ) → a ≤ b → 2 ^ 63 ≤ a → signed Bits64 a ≤ℤ signed Bits64 b
 negatives_rise a b h k =
     let m : 2 ^ 63 ≤ b = omega arith in
     rw (negative_is a k, negative_is b m) (omega (arith, ints))
 
-pub signed_above : (b : Range) (m : ℕ) → HasSign b → IsIn m b → signed W64 b.0 ≤ℤ signed W64 m
+pub signed_above : (b : Range) (m : ℕ) → HasSign b → IsIn m b → signed Bits64 b.0 ≤ℤ signed Bits64 m
 signed_above b m (inl s) h = omega (arith, ints)
 signed_above b m (inr s) h = negatives_rise b.0 m h.above s
 
-pub signed_below : (b : Range) (m : ℕ) → HasSign b → IsIn m b → signed W64 m ≤ℤ signed W64 b.1
+pub signed_below : (b : Range) (m : ℕ) → HasSign b → IsIn m b → signed Bits64 m ≤ℤ signed Bits64 b.1
 signed_below b m (inl s) h = omega (arith, ints)
 signed_below b m (inr s) h = negatives_rise m b.1 h.below (omega (arith, h.above))
 
@@ -116,60 +116,60 @@ pub difference_order : (a b c d : ℤ) → a ≤ℤ b → c ≤ℤ d → (a -ℤ
 difference_order a b c d g h = omega (arith, ints)
 
 -- a pointer that was moved up by a number of known sign; where the sign is unknown, it is refused
-up_by_test : (r s : Region) (z : ℤ) (o : ℤ × ℤ) (m : ℕ) (b : Range) → r ≡ s → IsAmong z o → IsIn m b → (t : Bool) → (nat_lt b.1 (2 ^ 63) || nat_le (2 ^ 63) b.0) ≡ t → FitsResult (Some (Pointer r (z +ℤ signed W64 m))) (moved_to s (offsets_up o (if t then Some (signed W64 b.0, signed W64 b.1) else None)))
+up_by_test : (r s : Region) (z : ℤ) (o : ℤ × ℤ) (m : ℕ) (b : Range) → r ≡ s → IsAmong z o → IsIn m b → (t : Bool) → (nat_lt b.1 (2 ^ 63) || nat_le (2 ^ 63) b.0) ≡ t → FitsResult (Some (Pointer r (z +ℤ signed Bits64 m))) (moved_to s (offsets_up o (if t then Some (signed Bits64 b.0, signed Bits64 b.1) else None)))
 up_by_test r s z o m b e h i false t = tt
 up_by_test r s z o m b e h i true t =
     let k : HasSign b = sign_known b t in
-    let above : signed W64 b.0 ≤ℤ signed W64 m = signed_above b m k i in
-    let below : signed W64 m ≤ℤ signed W64 b.1 = signed_below b m k i in
-    moved_fits r s (z +ℤ signed W64 m) (o.0 +ℤ signed W64 b.0) (o.1 +ℤ signed W64 b.1) e (sum_order o.0 z _ _ h.above above) (sum_order z o.1 _ _ h.below below)
+    let above : signed Bits64 b.0 ≤ℤ signed Bits64 m = signed_above b m k i in
+    let below : signed Bits64 m ≤ℤ signed Bits64 b.1 = signed_below b m k i in
+    moved_fits r s (z +ℤ signed Bits64 m) (o.0 +ℤ signed Bits64 b.0) (o.1 +ℤ signed Bits64 b.1) e (sum_order o.0 z _ _ h.above above) (sum_order z o.1 _ _ h.below below)
 
-pub up_fits : (r s : Region) (z : ℤ) (o : ℤ × ℤ) (m : ℕ) (b : Range) → r ≡ s → IsAmong z o → IsIn m b → FitsResult (Some (Pointer r (z +ℤ signed W64 m))) (moved_to s (offsets_up o (signed_ends b)))
+pub up_fits : (r s : Region) (z : ℤ) (o : ℤ × ℤ) (m : ℕ) (b : Range) → r ≡ s → IsAmong z o → IsIn m b → FitsResult (Some (Pointer r (z +ℤ signed Bits64 m))) (moved_to s (offsets_up o (signed_ends b)))
 up_fits r s z o m b e h i = up_by_test r s z o m b e h i (nat_lt b.1 (2 ^ 63) || nat_le (2 ^ 63) b.0) refl
 
 -- and down
-down_by_test : (r s : Region) (z : ℤ) (o : ℤ × ℤ) (m : ℕ) (b : Range) → r ≡ s → IsAmong z o → IsIn m b → (t : Bool) → (nat_lt b.1 (2 ^ 63) || nat_le (2 ^ 63) b.0) ≡ t → FitsResult (Some (Pointer r (z -ℤ signed W64 m))) (moved_to s (offsets_down o (if t then Some (signed W64 b.0, signed W64 b.1) else None)))
+down_by_test : (r s : Region) (z : ℤ) (o : ℤ × ℤ) (m : ℕ) (b : Range) → r ≡ s → IsAmong z o → IsIn m b → (t : Bool) → (nat_lt b.1 (2 ^ 63) || nat_le (2 ^ 63) b.0) ≡ t → FitsResult (Some (Pointer r (z -ℤ signed Bits64 m))) (moved_to s (offsets_down o (if t then Some (signed Bits64 b.0, signed Bits64 b.1) else None)))
 down_by_test r s z o m b e h i false t = tt
 down_by_test r s z o m b e h i true t =
     let k : HasSign b = sign_known b t in
-    let above : signed W64 b.0 ≤ℤ signed W64 m = signed_above b m k i in
-    let below : signed W64 m ≤ℤ signed W64 b.1 = signed_below b m k i in
-    moved_fits r s (z -ℤ signed W64 m) (o.0 -ℤ signed W64 b.1) (o.1 -ℤ signed W64 b.0) e (difference_order o.0 z _ _ h.above below) (difference_order z o.1 _ _ h.below above)
+    let above : signed Bits64 b.0 ≤ℤ signed Bits64 m = signed_above b m k i in
+    let below : signed Bits64 m ≤ℤ signed Bits64 b.1 = signed_below b m k i in
+    moved_fits r s (z -ℤ signed Bits64 m) (o.0 -ℤ signed Bits64 b.1) (o.1 -ℤ signed Bits64 b.0) e (difference_order o.0 z _ _ h.above below) (difference_order z o.1 _ _ h.below above)
 
-pub down_fits : (r s : Region) (z : ℤ) (o : ℤ × ℤ) (m : ℕ) (b : Range) → r ≡ s → IsAmong z o → IsIn m b → FitsResult (Some (Pointer r (z -ℤ signed W64 m))) (moved_to s (offsets_down o (signed_ends b)))
+pub down_fits : (r s : Region) (z : ℤ) (o : ℤ × ℤ) (m : ℕ) (b : Range) → r ≡ s → IsAmong z o → IsIn m b → FitsResult (Some (Pointer r (z -ℤ signed Bits64 m))) (moved_to s (offsets_down o (signed_ends b)))
 down_fits r s z o m b e h i = down_by_test r s z o m b e h i (nat_lt b.1 (2 ^ 63) || nat_le (2 ^ 63) b.0) refl
 
 pub sum_fits : AluFits → (width : Width) (u v : Value) (p q : AbsKind) → FitsKind u p → FitsKind v q → FitsResult (alu Add width u v) (sum_kind width p q)
-sum_fits fits W32 u v p q g h = computed_fits fits Add W32 u v p q g h
-sum_fits fits W64 u v Unset q g h = tt
-sum_fits fits W64 u v (Num a) q g h = computed_fits fits Add W64 u v (Num a) q g h
-sum_fits fits W64 u v (Map i) q g h = tt
-sum_fits fits W64 u v (Ptr s o) Unset g h = tt
-sum_fits fits W64 u v (Ptr s o) (Ptr t x) g h = tt
-sum_fits fits W64 u v (Ptr s o) (Map i) g h = tt
-sum_fits fits W64 Nothing v (Ptr s o) (Num b) g h = absurd g
-sum_fits fits W64 (Number n) v (Ptr s o) (Num b) g h = absurd g
-sum_fits fits W64 (MapOf i) v (Ptr s o) (Num b) g h = absurd g
-sum_fits fits W64 (Pointer r z) Nothing (Ptr s o) (Num b) g h = absurd h
-sum_fits fits W64 (Pointer r z) (Pointer t x) (Ptr s o) (Num b) g h = absurd h
-sum_fits fits W64 (Pointer r z) (MapOf i) (Ptr s o) (Num b) g h = absurd h
-sum_fits fits W64 (Pointer r z) (Number m) (Ptr s o) (Num b) g h = up_fits r s z o m b g.0 g.1 h
+sum_fits fits Bits32 u v p q g h = computed_fits fits Add Bits32 u v p q g h
+sum_fits fits Bits64 u v Unset q g h = tt
+sum_fits fits Bits64 u v (Num a) q g h = computed_fits fits Add Bits64 u v (Num a) q g h
+sum_fits fits Bits64 u v (Map i) q g h = tt
+sum_fits fits Bits64 u v (Ptr s o) Unset g h = tt
+sum_fits fits Bits64 u v (Ptr s o) (Ptr t x) g h = tt
+sum_fits fits Bits64 u v (Ptr s o) (Map i) g h = tt
+sum_fits fits Bits64 Nothing v (Ptr s o) (Num b) g h = absurd g
+sum_fits fits Bits64 (Number n) v (Ptr s o) (Num b) g h = absurd g
+sum_fits fits Bits64 (MapOf i) v (Ptr s o) (Num b) g h = absurd g
+sum_fits fits Bits64 (Pointer r z) Nothing (Ptr s o) (Num b) g h = absurd h
+sum_fits fits Bits64 (Pointer r z) (Pointer t x) (Ptr s o) (Num b) g h = absurd h
+sum_fits fits Bits64 (Pointer r z) (MapOf i) (Ptr s o) (Num b) g h = absurd h
+sum_fits fits Bits64 (Pointer r z) (Number m) (Ptr s o) (Num b) g h = up_fits r s z o m b g.0 g.1 h
 
 pub difference_fits : AluFits → (width : Width) (u v : Value) (p q : AbsKind) → FitsKind u p → FitsKind v q → FitsResult (alu Sub width u v) (difference_kind width p q)
-difference_fits fits W32 u v p q g h = computed_fits fits Sub W32 u v p q g h
-difference_fits fits W64 u v Unset q g h = tt
-difference_fits fits W64 u v (Num a) q g h = computed_fits fits Sub W64 u v (Num a) q g h
-difference_fits fits W64 u v (Map i) q g h = tt
-difference_fits fits W64 u v (Ptr s o) Unset g h = tt
-difference_fits fits W64 u v (Ptr s o) (Ptr t x) g h = tt
-difference_fits fits W64 u v (Ptr s o) (Map i) g h = tt
-difference_fits fits W64 Nothing v (Ptr s o) (Num b) g h = absurd g
-difference_fits fits W64 (Number n) v (Ptr s o) (Num b) g h = absurd g
-difference_fits fits W64 (MapOf i) v (Ptr s o) (Num b) g h = absurd g
-difference_fits fits W64 (Pointer r z) Nothing (Ptr s o) (Num b) g h = absurd h
-difference_fits fits W64 (Pointer r z) (Pointer t x) (Ptr s o) (Num b) g h = absurd h
-difference_fits fits W64 (Pointer r z) (MapOf i) (Ptr s o) (Num b) g h = absurd h
-difference_fits fits W64 (Pointer r z) (Number m) (Ptr s o) (Num b) g h = down_fits r s z o m b g.0 g.1 h
+difference_fits fits Bits32 u v p q g h = computed_fits fits Sub Bits32 u v p q g h
+difference_fits fits Bits64 u v Unset q g h = tt
+difference_fits fits Bits64 u v (Num a) q g h = computed_fits fits Sub Bits64 u v (Num a) q g h
+difference_fits fits Bits64 u v (Map i) q g h = tt
+difference_fits fits Bits64 u v (Ptr s o) Unset g h = tt
+difference_fits fits Bits64 u v (Ptr s o) (Ptr t x) g h = tt
+difference_fits fits Bits64 u v (Ptr s o) (Map i) g h = tt
+difference_fits fits Bits64 Nothing v (Ptr s o) (Num b) g h = absurd g
+difference_fits fits Bits64 (Number n) v (Ptr s o) (Num b) g h = absurd g
+difference_fits fits Bits64 (MapOf i) v (Ptr s o) (Num b) g h = absurd g
+difference_fits fits Bits64 (Pointer r z) Nothing (Ptr s o) (Num b) g h = absurd h
+difference_fits fits Bits64 (Pointer r z) (Pointer t x) (Ptr s o) (Num b) g h = absurd h
+difference_fits fits Bits64 (Pointer r z) (MapOf i) (Ptr s o) (Num b) g h = absurd h
+difference_fits fits Bits64 (Pointer r z) (Number m) (Ptr s o) (Num b) g h = down_fits r s z o m b g.0 g.1 h
 
 pub alu_fits : AluFits → (op : AluOp) (width : Width) (u v : Value) (p q : AbsKind) → FitsKind u p → FitsKind v q → FitsResult (alu op width u v) (alu_kind op width p q)
 alu_fits fits Add width u v p q g h = sum_fits fits width u v p q g h

@@ -2,7 +2,7 @@
 use Rattle.std.proofs.Common.{◌≡◌, ◌≢◌, ℕ, ◌^◌, ◌<◌, ℤ, Bool, true, false, ◌==◌, if◌then◌else◌, refl, sym, ◌∙◌, ap, subst, arith, Option, Some, None, Result, Ok, Err, List, set, get_or-set_other}
 use Rattle.std.proofs.lemmas.Bool.Decides.{nat_tests}
 use Rattle.bpf_insn.specs.declared.operation.Width.{Width}
-use Rattle.bpf_insn.specs.declared.operation.Width.TheVariants.{W32, W64}
+use Rattle.bpf_insn.specs.declared.operation.Width.TheVariants.{Bits32, Bits64}
 use Rattle.bpf_insn.specs.declared.operation.Condition.{Condition}
 use Rattle.bpf_insn.specs.declared.operation.Operand.{Operand}
 use Rattle.bpf_insn.specs.declared.operation.Operand.TheVariants.{FromRegister, Immediate}
@@ -52,12 +52,12 @@ HasSource s width src (Err cause) = Unit {0}
 HasSource s width src (Ok range) = (m : ℕ) × SourceIs s width src m × IsIn m range
 
 low_below : (width : Width) (n : ℕ) → n < 2 ^ 64 → low width n < 2 ^ 64
-low_below W32 n h = omega arith
-low_below W64 n h = h
+low_below Bits32 n h = omega arith
+low_below Bits64 n h = h
 
 low-low : (width : Width) (n : ℕ) → low width (low width n) ≡ low width n
-low-low W32 n = omega arith
-low-low W64 n = refl
+low-low Bits32 n = omega arith
+low-low Bits64 n = refl
 
 source_of_number : (s : State) (width : Width) (r : ℕ) (result : Result Range Cause) → HasNumber (s.registers r) result → HasSource s width (FromRegister r) result
 source_of_number s width r (Err cause) h = tt

@@ -2,7 +2,7 @@
 use Rattle.std.proofs.Common.{◌≡◌, ℕ, zero, suc, ◌+◌, ◌^◌, ◌<◌, ◌≤◌, pos, true, false, ◌==◌, refl, sym, ◌∙◌, subst, arith, List}
 use Rattle.std.proofs.lemmas.Int.{ints}
 use Rattle.std.proofs.lemmas.Bool.Decides.{nat_tests}
-use Rattle.bpf_insn.specs.declared.operation.Width.TheVariants.{W64}
+use Rattle.bpf_insn.specs.declared.operation.Width.TheVariants.{Bits64}
 use Rattle.machine.specs.declared.values.Value.{Value}
 use Rattle.machine.specs.declared.values.Value.TheVariants.{Unset as Nothing, Num as Number}
 use Rattle.machine.specs.State.{State, state, entry_register, register_after, register_after_call}
@@ -67,12 +67,12 @@ same_after_call r answer (suc (suc (suc (suc (suc (suc k)))))) = same_above r an
 called_fits : (s : State) (a : Knowledge) (answer : ℕ) → answer < 2 ^ 64 → Fits s a → Fits (state (s.slot + 1) (one_by_one s.registers answer) s.stack) (after_call a)
 unfolding one_by_one
 called_fits s a answer h fits =
-    let w : FitsKind (Number answer) (Num (whole W64)) = record { above = omega arith; below = omega arith; word = h } in
+    let w : FitsKind (Number answer) (Num (whole Bits64)) = record { above = omega arith; below = omega arith; word = h } in
     fits_after _ _ (s.slot + 1) 5 Nothing Unset tt
     (fits_after _ _ (s.slot + 1) 4 Nothing Unset tt
     (fits_after _ _ (s.slot + 1) 3 Nothing Unset tt
     (fits_after _ _ (s.slot + 1) 2 Nothing Unset tt
-    (fits_after _ _ (s.slot + 1) 1 Nothing Unset tt (fits_after s a (s.slot + 1) 0 (Number answer) (Num (whole W64)) w fits)))))
+    (fits_after _ _ (s.slot + 1) 1 Nothing Unset tt (fits_after s a (s.slot + 1) 0 (Number answer) (Num (whole Bits64)) w fits)))))
 
 pub after_call_fits : CallFits
 after_call_fits s a answer h fits =

@@ -3,7 +3,7 @@ use Rattle.std.proofs.Common.{◌≡◌, ℕ, ◌^◌, ◌<◌, ◌≤◌, ℤ, 
 use Rattle.std.proofs.lemmas.Int.{ints}
 use Rattle.std.proofs.lemmas.Bool.Decides.{nat_tests}
 use Rattle.bpf_insn.specs.declared.operation.Width.{Width}
-use Rattle.bpf_insn.specs.declared.operation.Width.TheVariants.{W32, W64}
+use Rattle.bpf_insn.specs.declared.operation.Width.TheVariants.{Bits32, Bits64}
 use Rattle.bpf_insn.specs.declared.operation.AluOp.{AluOp}
 use Rattle.bpf_insn.specs.declared.operation.AluOp.TheVariants.{Add, Sub, Mul, Div, SignedDiv, Or, And, Lsh, Rsh, Mod, SignedMod, Xor, Mov, Arsh}
 use Rattle.machine.specs.declared.regions.Region.{Region}
@@ -56,16 +56,16 @@ copied_grows grows width Unset (Num c) a g = absurd g
 copied_grows grows width (Num x) (Num c) a g = grows Mov width x x c c a a g g
 copied_grows grows width (Ptr r o) (Num c) a g = absurd g
 copied_grows grows width (Map i) (Num c) a g = absurd g
-copied_grows grows W32 q (Ptr s o) a g = tt
-copied_grows grows W64 Unset (Ptr s o) a g = absurd g
-copied_grows grows W64 (Num x) (Ptr s o) a g = absurd g
-copied_grows grows W64 (Ptr r x) (Ptr s o) a g = g
-copied_grows grows W64 (Map i) (Ptr s o) a g = absurd g
-copied_grows grows W32 q (Map j) a g = tt
-copied_grows grows W64 Unset (Map j) a g = absurd g
-copied_grows grows W64 (Num x) (Map j) a g = absurd g
-copied_grows grows W64 (Ptr r x) (Map j) a g = absurd g
-copied_grows grows W64 (Map i) (Map j) a g = g
+copied_grows grows Bits32 q (Ptr s o) a g = tt
+copied_grows grows Bits64 Unset (Ptr s o) a g = absurd g
+copied_grows grows Bits64 (Num x) (Ptr s o) a g = absurd g
+copied_grows grows Bits64 (Ptr r x) (Ptr s o) a g = g
+copied_grows grows Bits64 (Map i) (Ptr s o) a g = absurd g
+copied_grows grows Bits32 q (Map j) a g = tt
+copied_grows grows Bits64 Unset (Map j) a g = absurd g
+copied_grows grows Bits64 (Num x) (Map j) a g = absurd g
+copied_grows grows Bits64 (Ptr r x) (Map j) a g = absurd g
+copied_grows grows Bits64 (Map i) (Map j) a g = g
 
 -- ---- pointers
 
@@ -84,7 +84,7 @@ moved_grows r s low high low' high' e order above below true f =
     rw (first, last) (e, record { above = above; below = below })
 
 -- a number of the greater range between its ends, read as signed
-rises : (a b : ℕ) (c : Range) → HasSign c → c.0 ≤ a → a ≤ b → b ≤ c.1 → signed W64 a ≤ℤ signed W64 b
+rises : (a b : ℕ) (c : Range) → HasSign c → c.0 ≤ a → a ≤ b → b ≤ c.1 → signed Bits64 a ≤ℤ signed Bits64 b
 rises a b c (inl s) g h k = omega (arith, ints)
 rises a b c (inr s) g h k = negatives_rise a b h (omega arith)
 
@@ -92,68 +92,68 @@ sign_test : (b c : Range) → HasSign c → IsRange b → IsWithin b c → (nat_
 sign_test b c (inl s) p w = let k : b.1 < 2 ^ 63 = omega (arith, w.below) in grind (arith, nat_tests)
 sign_test b c (inr s) p w = let k : 2 ^ 63 ≤ b.0 = omega (arith, w.above) in grind (arith, nat_tests)
 
-up_grows_by : (r s : Region) (o x : ℤ × ℤ) (b c : Range) → same_region r s ≡ true → AreAmong o x → o.0 ≤ℤ o.1 → IsRange b → IsWithin b c → (t : Bool) → (nat_lt c.1 (2 ^ 63) || nat_le (2 ^ 63) c.0) ≡ t → IsKindGrown (moved_to r (offsets_up o (signed_ends b))) (moved_to s (offsets_up x (if t then Some (signed W64 c.0, signed W64 c.1) else None)))
+up_grows_by : (r s : Region) (o x : ℤ × ℤ) (b c : Range) → same_region r s ≡ true → AreAmong o x → o.0 ≤ℤ o.1 → IsRange b → IsWithin b c → (t : Bool) → (nat_lt c.1 (2 ^ 63) || nat_le (2 ^ 63) c.0) ≡ t → IsKindGrown (moved_to r (offsets_up o (signed_ends b))) (moved_to s (offsets_up x (if t then Some (signed Bits64 c.0, signed Bits64 c.1) else None)))
 up_grows_by r s o x b c e g p q w false f = tt
 up_grows_by r s o x b c e g p q w true f =
     let k : HasSign c = sign_known c f in
     let test : (nat_lt b.1 (2 ^ 63) || nat_le (2 ^ 63) b.0) ≡ true = sign_test b c k q w in
-    let low : signed W64 c.0 ≤ℤ signed W64 b.0 = rises c.0 b.0 c k (omega arith) w.above (omega (arith, q.in_order, w.below)) in
-    let mid : signed W64 b.0 ≤ℤ signed W64 b.1 = rises b.0 b.1 c k w.above q.in_order w.below in
-    let high : signed W64 b.1 ≤ℤ signed W64 c.1 = rises b.1 c.1 c k (omega (arith, q.in_order, w.above)) w.below (omega arith) in
-    let P : Bool → Type 0 = λ t. IsKindGrown (moved_to r (offsets_up o (if t then Some (signed W64 b.0, signed W64 b.1) else None))) (moved_to s (offsets_up x (Some (signed W64 c.0, signed W64 c.1)))) in
+    let low : signed Bits64 c.0 ≤ℤ signed Bits64 b.0 = rises c.0 b.0 c k (omega arith) w.above (omega (arith, q.in_order, w.below)) in
+    let mid : signed Bits64 b.0 ≤ℤ signed Bits64 b.1 = rises b.0 b.1 c k w.above q.in_order w.below in
+    let high : signed Bits64 b.1 ≤ℤ signed Bits64 c.1 = rises b.1 c.1 c k (omega (arith, q.in_order, w.above)) w.below (omega arith) in
+    let P : Bool → Type 0 = λ t. IsKindGrown (moved_to r (offsets_up o (if t then Some (signed Bits64 b.0, signed Bits64 b.1) else None))) (moved_to s (offsets_up x (Some (signed Bits64 c.0, signed Bits64 c.1)))) in
     subst P (sym test)
-    (moved_grows r s (o.0 +ℤ signed W64 b.0) (o.1 +ℤ signed W64 b.1) (x.0 +ℤ signed W64 c.0) (x.1 +ℤ signed W64 c.1) e (sum_order o.0 o.1 _ _ p mid) (sum_order x.0 o.0 _ _ g.above low) (sum_order o.1 x.1 _ _ g.below high) (is_offset (x.0 +ℤ signed W64 c.0) && is_offset (x.1 +ℤ signed W64 c.1)) refl)
+    (moved_grows r s (o.0 +ℤ signed Bits64 b.0) (o.1 +ℤ signed Bits64 b.1) (x.0 +ℤ signed Bits64 c.0) (x.1 +ℤ signed Bits64 c.1) e (sum_order o.0 o.1 _ _ p mid) (sum_order x.0 o.0 _ _ g.above low) (sum_order o.1 x.1 _ _ g.below high) (is_offset (x.0 +ℤ signed Bits64 c.0) && is_offset (x.1 +ℤ signed Bits64 c.1)) refl)
 
-down_grows_by : (r s : Region) (o x : ℤ × ℤ) (b c : Range) → same_region r s ≡ true → AreAmong o x → o.0 ≤ℤ o.1 → IsRange b → IsWithin b c → (t : Bool) → (nat_lt c.1 (2 ^ 63) || nat_le (2 ^ 63) c.0) ≡ t → IsKindGrown (moved_to r (offsets_down o (signed_ends b))) (moved_to s (offsets_down x (if t then Some (signed W64 c.0, signed W64 c.1) else None)))
+down_grows_by : (r s : Region) (o x : ℤ × ℤ) (b c : Range) → same_region r s ≡ true → AreAmong o x → o.0 ≤ℤ o.1 → IsRange b → IsWithin b c → (t : Bool) → (nat_lt c.1 (2 ^ 63) || nat_le (2 ^ 63) c.0) ≡ t → IsKindGrown (moved_to r (offsets_down o (signed_ends b))) (moved_to s (offsets_down x (if t then Some (signed Bits64 c.0, signed Bits64 c.1) else None)))
 down_grows_by r s o x b c e g p q w false f = tt
 down_grows_by r s o x b c e g p q w true f =
     let k : HasSign c = sign_known c f in
     let test : (nat_lt b.1 (2 ^ 63) || nat_le (2 ^ 63) b.0) ≡ true = sign_test b c k q w in
-    let low : signed W64 c.0 ≤ℤ signed W64 b.0 = rises c.0 b.0 c k (omega arith) w.above (omega (arith, q.in_order, w.below)) in
-    let mid : signed W64 b.0 ≤ℤ signed W64 b.1 = rises b.0 b.1 c k w.above q.in_order w.below in
-    let high : signed W64 b.1 ≤ℤ signed W64 c.1 = rises b.1 c.1 c k (omega (arith, q.in_order, w.above)) w.below (omega arith) in
-    let P : Bool → Type 0 = λ t. IsKindGrown (moved_to r (offsets_down o (if t then Some (signed W64 b.0, signed W64 b.1) else None))) (moved_to s (offsets_down x (Some (signed W64 c.0, signed W64 c.1)))) in
+    let low : signed Bits64 c.0 ≤ℤ signed Bits64 b.0 = rises c.0 b.0 c k (omega arith) w.above (omega (arith, q.in_order, w.below)) in
+    let mid : signed Bits64 b.0 ≤ℤ signed Bits64 b.1 = rises b.0 b.1 c k w.above q.in_order w.below in
+    let high : signed Bits64 b.1 ≤ℤ signed Bits64 c.1 = rises b.1 c.1 c k (omega (arith, q.in_order, w.above)) w.below (omega arith) in
+    let P : Bool → Type 0 = λ t. IsKindGrown (moved_to r (offsets_down o (if t then Some (signed Bits64 b.0, signed Bits64 b.1) else None))) (moved_to s (offsets_down x (Some (signed Bits64 c.0, signed Bits64 c.1)))) in
     subst P (sym test)
-    (moved_grows r s (o.0 -ℤ signed W64 b.1) (o.1 -ℤ signed W64 b.0) (x.0 -ℤ signed W64 c.1) (x.1 -ℤ signed W64 c.0) e (difference_order o.0 o.1 _ _ p mid) (difference_order x.0 o.0 _ _ g.above high) (difference_order o.1 x.1 _ _ g.below low) (is_offset (x.0 -ℤ signed W64 c.1) && is_offset (x.1 -ℤ signed W64 c.0)) refl)
+    (moved_grows r s (o.0 -ℤ signed Bits64 b.1) (o.1 -ℤ signed Bits64 b.0) (x.0 -ℤ signed Bits64 c.1) (x.1 -ℤ signed Bits64 c.0) e (difference_order o.0 o.1 _ _ p mid) (difference_order x.0 o.0 _ _ g.above high) (difference_order o.1 x.1 _ _ g.below low) (is_offset (x.0 -ℤ signed Bits64 c.1) && is_offset (x.1 -ℤ signed Bits64 c.0)) refl)
 
 sum_grows : AluGrows → (width : Width) (p q p' q' : AbsKind) → IsProper p → IsProper q → IsKindBelow p p' → IsKindBelow q q' → IsKindGrown (sum_kind width p q) (sum_kind width p' q')
-sum_grows grows W32 p q p' q' a b g h = computed_grows grows Add W32 p q p' q' a b g h
-sum_grows grows W64 p q Unset q' a b g h = tt
-sum_grows grows W64 Unset q (Num c) q' a b g h = absurd g
-sum_grows grows W64 (Num x) q (Num c) q' a b g h = computed_grows grows Add W64 (Num x) q (Num c) q' a b g h
-sum_grows grows W64 (Ptr r o) q (Num c) q' a b g h = absurd g
-sum_grows grows W64 (Map i) q (Num c) q' a b g h = absurd g
-sum_grows grows W64 p q (Map j) q' a b g h = tt
-sum_grows grows W64 p q (Ptr s x) Unset a b g h = tt
-sum_grows grows W64 p q (Ptr s x) (Ptr t y) a b g h = tt
-sum_grows grows W64 p q (Ptr s x) (Map j) a b g h = tt
-sum_grows grows W64 Unset q (Ptr s x) (Num d) a b g h = absurd g
-sum_grows grows W64 (Num n) q (Ptr s x) (Num d) a b g h = absurd g
-sum_grows grows W64 (Map i) q (Ptr s x) (Num d) a b g h = absurd g
-sum_grows grows W64 (Ptr r o) Unset (Ptr s x) (Num d) a b g h = absurd h
-sum_grows grows W64 (Ptr r o) (Ptr t y) (Ptr s x) (Num d) a b g h = absurd h
-sum_grows grows W64 (Ptr r o) (Map i) (Ptr s x) (Num d) a b g h = absurd h
-sum_grows grows W64 (Ptr r o) (Num n) (Ptr s x) (Num d) a b g h =
+sum_grows grows Bits32 p q p' q' a b g h = computed_grows grows Add Bits32 p q p' q' a b g h
+sum_grows grows Bits64 p q Unset q' a b g h = tt
+sum_grows grows Bits64 Unset q (Num c) q' a b g h = absurd g
+sum_grows grows Bits64 (Num x) q (Num c) q' a b g h = computed_grows grows Add Bits64 (Num x) q (Num c) q' a b g h
+sum_grows grows Bits64 (Ptr r o) q (Num c) q' a b g h = absurd g
+sum_grows grows Bits64 (Map i) q (Num c) q' a b g h = absurd g
+sum_grows grows Bits64 p q (Map j) q' a b g h = tt
+sum_grows grows Bits64 p q (Ptr s x) Unset a b g h = tt
+sum_grows grows Bits64 p q (Ptr s x) (Ptr t y) a b g h = tt
+sum_grows grows Bits64 p q (Ptr s x) (Map j) a b g h = tt
+sum_grows grows Bits64 Unset q (Ptr s x) (Num d) a b g h = absurd g
+sum_grows grows Bits64 (Num n) q (Ptr s x) (Num d) a b g h = absurd g
+sum_grows grows Bits64 (Map i) q (Ptr s x) (Num d) a b g h = absurd g
+sum_grows grows Bits64 (Ptr r o) Unset (Ptr s x) (Num d) a b g h = absurd h
+sum_grows grows Bits64 (Ptr r o) (Ptr t y) (Ptr s x) (Num d) a b g h = absurd h
+sum_grows grows Bits64 (Ptr r o) (Map i) (Ptr s x) (Num d) a b g h = absurd h
+sum_grows grows Bits64 (Ptr r o) (Num n) (Ptr s x) (Num d) a b g h =
     up_grows_by r s o x n d g.0 g.1 a b h (nat_lt d.1 (2 ^ 63) || nat_le (2 ^ 63) d.0) refl
 
 difference_grows : AluGrows → (width : Width) (p q p' q' : AbsKind) → IsProper p → IsProper q → IsKindBelow p p' → IsKindBelow q q' → IsKindGrown (difference_kind width p q) (difference_kind width p' q')
-difference_grows grows W32 p q p' q' a b g h = computed_grows grows Sub W32 p q p' q' a b g h
-difference_grows grows W64 p q Unset q' a b g h = tt
-difference_grows grows W64 Unset q (Num c) q' a b g h = absurd g
-difference_grows grows W64 (Num x) q (Num c) q' a b g h = computed_grows grows Sub W64 (Num x) q (Num c) q' a b g h
-difference_grows grows W64 (Ptr r o) q (Num c) q' a b g h = absurd g
-difference_grows grows W64 (Map i) q (Num c) q' a b g h = absurd g
-difference_grows grows W64 p q (Map j) q' a b g h = tt
-difference_grows grows W64 p q (Ptr s x) Unset a b g h = tt
-difference_grows grows W64 p q (Ptr s x) (Ptr t y) a b g h = tt
-difference_grows grows W64 p q (Ptr s x) (Map j) a b g h = tt
-difference_grows grows W64 Unset q (Ptr s x) (Num d) a b g h = absurd g
-difference_grows grows W64 (Num n) q (Ptr s x) (Num d) a b g h = absurd g
-difference_grows grows W64 (Map i) q (Ptr s x) (Num d) a b g h = absurd g
-difference_grows grows W64 (Ptr r o) Unset (Ptr s x) (Num d) a b g h = absurd h
-difference_grows grows W64 (Ptr r o) (Ptr t y) (Ptr s x) (Num d) a b g h = absurd h
-difference_grows grows W64 (Ptr r o) (Map i) (Ptr s x) (Num d) a b g h = absurd h
-difference_grows grows W64 (Ptr r o) (Num n) (Ptr s x) (Num d) a b g h =
+difference_grows grows Bits32 p q p' q' a b g h = computed_grows grows Sub Bits32 p q p' q' a b g h
+difference_grows grows Bits64 p q Unset q' a b g h = tt
+difference_grows grows Bits64 Unset q (Num c) q' a b g h = absurd g
+difference_grows grows Bits64 (Num x) q (Num c) q' a b g h = computed_grows grows Sub Bits64 (Num x) q (Num c) q' a b g h
+difference_grows grows Bits64 (Ptr r o) q (Num c) q' a b g h = absurd g
+difference_grows grows Bits64 (Map i) q (Num c) q' a b g h = absurd g
+difference_grows grows Bits64 p q (Map j) q' a b g h = tt
+difference_grows grows Bits64 p q (Ptr s x) Unset a b g h = tt
+difference_grows grows Bits64 p q (Ptr s x) (Ptr t y) a b g h = tt
+difference_grows grows Bits64 p q (Ptr s x) (Map j) a b g h = tt
+difference_grows grows Bits64 Unset q (Ptr s x) (Num d) a b g h = absurd g
+difference_grows grows Bits64 (Num n) q (Ptr s x) (Num d) a b g h = absurd g
+difference_grows grows Bits64 (Map i) q (Ptr s x) (Num d) a b g h = absurd g
+difference_grows grows Bits64 (Ptr r o) Unset (Ptr s x) (Num d) a b g h = absurd h
+difference_grows grows Bits64 (Ptr r o) (Ptr t y) (Ptr s x) (Num d) a b g h = absurd h
+difference_grows grows Bits64 (Ptr r o) (Map i) (Ptr s x) (Num d) a b g h = absurd h
+difference_grows grows Bits64 (Ptr r o) (Num n) (Ptr s x) (Num d) a b g h =
     down_grows_by r s o x n d g.0 g.1 a b h (nat_lt d.1 (2 ^ 63) || nat_le (2 ^ 63) d.0) refl
 
 pub alu_grows : AluGrows → (op : AluOp) (width : Width) (p q p' q' : AbsKind) → IsProper p → IsProper q → IsKindBelow p p' → IsKindBelow q q' → IsKindGrown (alu_kind op width p q) (alu_kind op width p' q')

@@ -1,7 +1,7 @@
 -- Larger states give larger edges.
 use Rattle.std.proofs.Common.{◌≡◌, ℕ, ◌^◌, ◌<◌, true, false, if◌then◌else◌, sym, ◌∙◌, arith, Option, Some, None, Result, Ok, Err, length, length-set}
 use Rattle.bpf_insn.specs.declared.operation.Width.{Width}
-use Rattle.bpf_insn.specs.declared.operation.Width.TheVariants.{W32, W64}
+use Rattle.bpf_insn.specs.declared.operation.Width.TheVariants.{Bits32, Bits64}
 use Rattle.bpf_insn.specs.declared.operation.Condition.{Condition}
 use Rattle.bpf_insn.specs.declared.operation.Operand.{Operand}
 use Rattle.bpf_insn.specs.declared.operation.Operand.TheVariants.{FromRegister, Immediate}
@@ -38,8 +38,8 @@ number_grows (Ptr r o) (Num c) a h = absurd h
 number_grows (Map i) (Num c) a h = absurd h
 
 low_below : (width : Width) (n : ℕ) → n < 2 ^ 64 → low width n < 2 ^ 64
-low_below W32 n h = omega arith
-low_below W64 n h = h
+low_below Bits32 n h = omega arith
+low_below Bits64 n h = h
 
 source_grows : (width : Width) (a b : Knowledge) (src : Operand) → IsWhole a → IsBelow a b → IsRangeGrown (compared width a src) (compared width b src)
 source_grows width a b (FromRegister r) p below = number_grows (kind_at a r) (kind_at b r) (p.kinds r) (below.kinds r)

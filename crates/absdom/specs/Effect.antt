@@ -2,7 +2,7 @@
 -- tested first, the destination before the source, and of each whether it is set and then its kind.
 use Rattle.std.specs.Prelude.{ℕ, ◌+◌, ◌-◌, ◌^◌, ◌≤◌, Bool, true, ◌||◌, ◌==◌, nat_lt, nat_le, if◌then◌else◌, ℤ, pos, negsuc, ◌+ℤ◌, ◌-ℤ◌, List, Option, Some, None, Result, Ok, Err}
 use Rattle.bpf_insn.specs.declared.operation.Width.{Width}
-use Rattle.bpf_insn.specs.declared.operation.Width.TheVariants.{W32, W64}
+use Rattle.bpf_insn.specs.declared.operation.Width.TheVariants.{Bits32, Bits64}
 use Rattle.bpf_insn.specs.declared.operation.AluOp.{AluOp}
 use Rattle.bpf_insn.specs.declared.operation.AluOp.TheVariants.{Add, Sub, Mul, Div, SignedDiv, Or, And, Lsh, Rsh, Mod, SignedMod, Xor, Mov, Arsh}
 use Rattle.bpf_insn.specs.declared.operation.Operand.{Operand}
@@ -48,15 +48,15 @@ computed_alone f (Ok a) = Ok (Num (f a))
 abbrev pub copied_kind : Width → AbsKind → Result AbsKind Cause
 copied_kind width Unset = Err UnsetOperand
 copied_kind width (Num a) = Ok (Num (alu_range Mov width a a))
-copied_kind W32 (Ptr region offsets) = Err KindMismatch
-copied_kind W64 (Ptr region offsets) = Ok (Ptr region offsets)
-copied_kind W32 (Map index) = Err KindMismatch
-copied_kind W64 (Map index) = Ok (Map index)
+copied_kind Bits32 (Ptr region offsets) = Err KindMismatch
+copied_kind Bits64 (Ptr region offsets) = Ok (Ptr region offsets)
+copied_kind Bits32 (Map index) = Err KindMismatch
+copied_kind Bits64 (Map index) = Ok (Map index)
 
 -- the ends of a range whose numbers have one sign where they are read as signed
 abbrev pub signed_ends : Range → Option (ℤ × ℤ)
 signed_ends a =
-    if nat_lt a.1 (2 ^ 63) || nat_le (2 ^ 63) a.0 then Some (signed W64 a.0, signed W64 a.1) else None
+    if nat_lt a.1 (2 ^ 63) || nat_le (2 ^ 63) a.0 then Some (signed Bits64 a.0, signed Bits64 a.1) else None
 
 -- a pointer that was moved, within the limits of its offsets
 abbrev pub moved_to : Region → Option (ℤ × ℤ) → Result AbsKind Cause
@@ -85,19 +85,19 @@ pointer_down region offsets (Ok n) = moved_to region (offsets_down offsets (sign
 
 -- ADD: in ALU64 it moves a pointer
 abbrev pub sum_kind : Width → AbsKind → AbsKind → Result AbsKind Cause
-sum_kind W32 a b = computed Add W32 (number_of a) (number_of b)
-sum_kind W64 Unset b = Err UnsetOperand
-sum_kind W64 (Num a) b = computed Add W64 (Ok a) (number_of b)
-sum_kind W64 (Ptr region offsets) b = pointer_up region offsets (number_of b)
-sum_kind W64 (Map index) b = Err KindMismatch
+sum_kind Bits32 a b = computed Add Bits32 (number_of a) (number_of b)
+sum_kind Bits64 Unset b = Err UnsetOperand
+sum_kind Bits64 (Num a) b = computed Add Bits64 (Ok a) (number_of b)
+sum_kind Bits64 (Ptr region offsets) b = pointer_up region offsets (number_of b)
+sum_kind Bits64 (Map index) b = Err KindMismatch
 
 -- SUB: likewise
 abbrev pub difference_kind : Width → AbsKind → AbsKind → Result AbsKind Cause
-difference_kind W32 a b = computed Sub W32 (number_of a) (number_of b)
-difference_kind W64 Unset b = Err UnsetOperand
-difference_kind W64 (Num a) b = computed Sub W64 (Ok a) (number_of b)
-difference_kind W64 (Ptr region offsets) b = pointer_down region offsets (number_of b)
-difference_kind W64 (Map index) b = Err KindMismatch
+difference_kind Bits32 a b = computed Sub Bits32 (number_of a) (number_of b)
+difference_kind Bits64 Unset b = Err UnsetOperand
+difference_kind Bits64 (Num a) b = computed Sub Bits64 (Ok a) (number_of b)
+difference_kind Bits64 (Ptr region offsets) b = pointer_down region offsets (number_of b)
+difference_kind Bits64 (Map index) b = Err KindMismatch
 
 -- what an operation on a destination and a source gives
 abbrev pub alu_kind : AluOp → Width → AbsKind → AbsKind → Result AbsKind Cause

@@ -1,7 +1,7 @@
 -- What is known at a slot: of each register and of each byte of the stack (a choice of this project).
 use Rattle.std.specs.Prelude.{◌≡◌, ℕ, Bool, true, false, ◌&&◌, List, [], ◌∷◌, length, pos, slice_index_or, slice_set}
 use Rattle.machine.specs.declared.regions.Region.TheVariants.{Front, Tail, Stack}
-use Rattle.bpf_insn.specs.declared.operation.Width.TheVariants.{W64}
+use Rattle.bpf_insn.specs.declared.operation.Width.TheVariants.{Bits64}
 use Rattle.absdom_num.specs.Tables.{whole}
 use Rattle.absdom.specs.declared.kinds.AbsKind.{AbsKind}
 use Rattle.absdom.specs.declared.kinds.AbsKind.TheVariants.{Unset, Num, Ptr}
@@ -37,7 +37,7 @@ with_marks a marks = record { kinds = a.kinds; marks = marks }
 -- after a helper's call: r0 is any number, r1 to r5 are unset (RFC 9669, section 2)
 abbrev pub after_call : Knowledge → Knowledge
 after_call a =
-    with_kind (with_kind (with_kind (with_kind (with_kind (with_kind a 0 (Num (whole W64))) 1 Unset) 2 Unset) 3 Unset) 4 Unset) 5 Unset
+    with_kind (with_kind (with_kind (with_kind (with_kind (with_kind a 0 (Num (whole Bits64))) 1 Unset) 2 Unset) 3 Unset) 4 Unset) 5 Unset
 
 -- the kinds of r0 to r10 at entry, by the calling rules (a choice of this project)
 abbrev pub entry_kinds : List AbsKind

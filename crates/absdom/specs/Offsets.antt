@@ -11,6 +11,12 @@ pub record IsOffset (z : ℤ) : Type 0 where
 abbrev pub is_offset : ℤ → Bool
 is_offset z = int_le (negsuc 65535) z && int_le z (pos 65536)
 
+-- a least and a greatest offset
+pub record AreOffsets (low high : ℤ) : Type 0 where
+  pub least : IsOffset low
+  pub greatest : IsOffset high
+  pub in_order : low ≤ℤ high
+
 -- both ends, where they are within the limits
 abbrev pub offsets_within : ℤ → ℤ → Option (ℤ × ℤ)
 offsets_within low high = if is_offset low && is_offset high then Some (low, high) else None

@@ -30,19 +30,20 @@ fn copy(width: Width, source: &AbsKind) -> Result<AbsKind, Cause>
         AbsKind::Unset => Err(Cause::UnsetOperand),
         AbsKind::Num(a) => Ok(AbsKind::Num(absdom_num::alu(AluOp::Mov, width, *a, *a))),
         AbsKind::Ptr(region, offsets) => match width {
-            Width::W32 => Err(Cause::KindMismatch),
-            Width::W64 => Ok(AbsKind::Ptr(*region, *offsets)),
+            Width::Bits32 => Err(Cause::KindMismatch),
+            Width::Bits64 => Ok(AbsKind::Ptr(*region, *offsets)),
         },
         AbsKind::Map(index) => match width {
-            Width::W32 => Err(Cause::KindMismatch),
-            Width::W64 => Ok(AbsKind::Map(*index)),
+            Width::Bits32 => Err(Cause::KindMismatch),
+            Width::Bits64 => Ok(AbsKind::Map(*index)),
         },
     }
 }
 
 /// The ends of a range whose numbers have one sign where they are read as signed.
 fn signed(range: Range) -> Option<(i64, i64)>
-    ensures { result ≡ signed_ends range }
+    ensures value { result ≡ signed_ends range }
+    ensures ordered { IfSome result (λ ends. ends.0 ≤ℤ ends.1) }
 {
     let (low, high) = (range.low(), range.high());
     if high < 1 << 63 || low >= 1 << 63 {
@@ -68,6 +69,7 @@ fn difference(offset: i32, number: i64) -> i128
 
 /// The offsets after a number from `least` to `greatest` was added.
 fn up(offsets: Offsets, least: i64, greatest: i64) -> Option<Offsets>
+    requires { least ≤ℤ greatest }
     ensures { result ≡ offsets_up offsets (Some (least, greatest)) }
 {
     let low = sum(offsets.low(), least);
@@ -77,6 +79,7 @@ fn up(offsets: Offsets, least: i64, greatest: i64) -> Option<Offsets>
 
 /// The offsets after a number from `least` to `greatest` was subtracted.
 fn down(offsets: Offsets, least: i64, greatest: i64) -> Option<Offsets>
+    requires { least ≤ℤ greatest }
     ensures { result ≡ offsets_down offsets (Some (least, greatest)) }
 {
     let low = difference(offsets.low(), greatest);
@@ -117,10 +120,10 @@ fn add(width: Width, a: &AbsKind, b: &AbsKind) -> Result<AbsKind, Cause>
     ensures { result ≡ sum_kind width a.now b.now }
 {
     match width {
-        Width::W32 => compute(AluOp::Add, Width::W32, a, b),
-        Width::W64 => match a {
+        Width::Bits32 => compute(AluOp::Add, Width::Bits32, a, b),
+        Width::Bits64 => match a {
             AbsKind::Ptr(region, offsets) => add_to(*region, *offsets, b),
-            _ => compute(AluOp::Add, Width::W64, a, b),
+            _ => compute(AluOp::Add, Width::Bits64, a, b),
         },
     }
 }
@@ -130,10 +133,10 @@ fn subtract(width: Width, a: &AbsKind, b: &AbsKind) -> Result<AbsKind, Cause>
     ensures { result ≡ difference_kind width a.now b.now }
 {
     match width {
-        Width::W32 => compute(AluOp::Sub, Width::W32, a, b),
-        Width::W64 => match a {
+        Width::Bits32 => compute(AluOp::Sub, Width::Bits32, a, b),
+        Width::Bits64 => match a {
             AbsKind::Ptr(region, offsets) => take_from(*region, *offsets, b),
-            _ => compute(AluOp::Sub, Width::W64, a, b),
+            _ => compute(AluOp::Sub, Width::Bits64, a, b),
         },
     }
 }

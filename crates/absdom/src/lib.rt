@@ -24,7 +24,7 @@ pub use cause::Cause;
 pub use kinds::AbsKind;
 pub use laws::{
     after_call_fits, apply_fits, apply_grows, entry_fits, join_is_least, order_of_states,
-    refine_fits,
+    refine_fits, refine_grows,
 };
 pub use machine::Region;
 pub use offsets::Offsets;

@@ -1,6 +1,6 @@
 //! The offsets that a pointer may have.
 
-ghost use Rattle.std.specs.Prelude.{◌≡◌, ◌↔◌, IsTrue, pos};
+ghost use Rattle.std.specs.Prelude.{◌≡◌, ◌↔◌, ◌≤ℤ◌, IsTrue, pos};
 ghost use Rattle.absdom.specs.Offsets.{joined_offsets, AreAmong, offsets_within, IsOffset};
 
 use std::marker::Model;
@@ -9,7 +9,7 @@ use std::marker::Model;
 const LIMIT: i32 = 65_536;
 
 /// The least and the greatest offset of a pointer, in bytes from where its region begins (from the end of
-/// the stack), each within -65,536 to 65,536.
+/// the stack), in order, each within -65,536 to 65,536.
 #[derive(Clone, Copy, Debug, PartialEq, Eq)]
 pub struct Offsets {
     low: i32,
@@ -18,13 +18,13 @@ pub struct Offsets {
 
 impl Model for Offsets {
     ghost use Rattle.std.specs.Prelude.{ℤ};
-    ghost use Rattle.absdom.specs.Offsets.{IsOffset};
+    ghost use Rattle.absdom.specs.Offsets.{AreOffsets};
 
     ghost Value = { ℤ × ℤ };
 
     ghost view = { λ o. (o.low, o.high) };
 
-    ghost invariant = { λ o. IsOffset o.low × IsOffset o.high };
+    ghost invariant = { λ o. AreOffsets o.low o.high };
 
     ghost inverse = { λ d. record { low = d.0; high = d.1 } };
 }
@@ -37,8 +37,10 @@ impl Offsets {
         Offsets { low: 0, high: 0 }
     }
 
-    /// The offsets from `low` to `high`. `None` where one of them is outside -65,536 to 65,536.
+    /// The offsets from `low` to `high`, which the caller has compared. `None` where one of them is outside
+    /// -65,536 to 65,536.
     pub fn within(low: i128, high: i128) -> Option<Offsets>
+        requires { low ≤ℤ high }
         ensures { result ≡ offsets_within low high }
     {
         let limit = i128::from(LIMIT);
@@ -56,6 +58,7 @@ impl Offsets {
     pub fn low(self) -> i32
         ensures value { result ≡ self.0 }
         ensures within { IsOffset result }
+        ensures ordered { self.0 ≤ℤ self.1 }
     {
         self.low
     }
@@ -64,6 +67,7 @@ impl Offsets {
     pub fn high(self) -> i32
         ensures value { result ≡ self.1 }
         ensures within { IsOffset result }
+        ensures ordered { self.0 ≤ℤ self.1 }
     {
         self.high
     }

@@ -25,8 +25,8 @@ fn immediate(width: Width, value: i32) -> u64
 {
     let value = machine::word(i64::from(value));
     match width {
-        Width::W32 => value % (1 << 32),
-        Width::W64 => value,
+        Width::Bits32 => value % (1 << 32),
+        Width::Bits64 => value,
     }
 }
 

@@ -4,6 +4,7 @@ ghost use Rattle.std.specs.Prelude.{◌≡◌, ◌<◌, ◌≤◌, ◌-◌, ℕ,
 ghost use Rattle.absdom.specs.Kinds.{joined, IsKindBelow};
 ghost use Rattle.absdom.specs.Knowledge.{IsKnowledge, IsBelow, IsJoin, IsEntry, kind_at, kind_in, with_kind, with_marks, after_call, entry_kinds, AreJoined, AreBelow};
 ghost use Rattle.absdom.specs.Marks.{mark_at, all_marked, marked};
+ghost use Rattle.absdom.specs.Growth.{IsWhole};
 
 use crate::kinds::AbsKind;
 use crate::marks::Marks;
@@ -24,14 +25,15 @@ pub struct State {
 }
 
 impl Model for State {
-    ghost use Rattle.std.specs.Prelude.{◌≡◌, length};
     ghost use Rattle.absdom.specs.Knowledge.{Knowledge};
 
     ghost Value = { Knowledge };
 
+    ghost use Rattle.absdom.specs.Growth.{IsWhole};
+
     ghost view = { λ s. record { kinds = s.kinds; marks = s.marks } };
 
-    ghost invariant = { λ s. (length s.kinds ≡ 11) × (length s.marks ≡ 512) };
+    ghost invariant = { λ s. IsWhole (record { kinds = s.kinds; marks = s.marks }) };
 
     ghost inverse = { λ k. record { kinds = k.kinds; marks = k.marks } };
 }
@@ -42,11 +44,20 @@ impl State {
     pub fn entry() -> State
         ensures entry { IsEntry result }
         ensures known { IsKnowledge result }
+        ensures whole { IsWhole result }
     {
         State {
             kinds: kinds_at_entry(),
             marks: Marks::none(),
         }
+    }
+
+    /// A law and no work: each state is of eleven registers, whose ranges and offsets stand in order, and of 512
+    /// bytes. So the laws by which larger states give more hold of every two states.
+    pub fn stands_whole(&self)
+        ensures { IsWhole self.now }
+    {
+        let _ = &self.kinds;
     }
 
     /// What is known of a register.
@@ -69,6 +80,7 @@ impl State {
     pub fn join(&self, other: &State) -> State
         ensures joint { IsJoin self.now other.now result }
         ensures known { IsKnowledge result }
+        ensures whole { IsWhole result }
     {
         State {
             kinds: join_kinds(&self.kinds, &other.kinds),

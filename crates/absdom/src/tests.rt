@@ -12,7 +12,7 @@ fn register(number: u8) -> Result<Register, &'static str> {
 fn add(dst: Register, value: i32) -> Insn {
     Insn::Alu {
         op: AluOp::Add,
-        width: Width::W64,
+        width: Width::Bits64,
         dst,
         src: Operand::Immediate(value),
     }
@@ -61,7 +61,7 @@ fn each_refusal_has_its_cause(rt: HostRuntime) -> Result<(), Fail> {
     let entry = State::entry();
     let (r1, r4, r10) = (register(1)?, register(4)?, register(10)?);
     let negate = Insn::Negate {
-        width: Width::W64,
+        width: Width::Bits64,
         dst: r1,
     };
     assert_eq!(rt; apply(&entry, &add(r4, 1)).err(), Some(Cause::UnsetOperand));
@@ -110,7 +110,7 @@ fn a_comparison_moves_the_ends(rt: HostRuntime) -> Result<(), Fail> {
     let edges = refine(
         &State::entry(),
         Condition::Less,
-        Width::W64,
+        Width::Bits64,
         r3,
         &Operand::Immediate(5),
     )?;
