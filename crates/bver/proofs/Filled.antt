@@ -1,5 +1,5 @@
 -- Sizes that are written to the front of an array of zeros.
-use Rattle.std.proofs.Common.{◌≡◌, ℕ, ◌+◌, ◌-◌, ◌≤◌, ◌++◌, List, length, take, drop, refl, sym, ap, ◌∙◌, arith}
+use Rattle.std.proofs.Common.{ℕ, ◌++◌, List, length, take, drop, refl, ◌∙◌, arith}
 use Rattle.std.specs.Prelude.{replicate}
 use Rattle.std.proofs.lemmas.List.{drop-replicate, drop_at, take_at, length-append, length-drop}
 use Rattle.bver.specs.Padding.{IsPadded}

@@ -1,3 +1,7 @@
 pub mod Filled
-pub mod Line
+pub mod Counting
+pub mod Covering
+pub mod Slots
+pub mod Visiting
 pub mod Safety
+pub mod Regions

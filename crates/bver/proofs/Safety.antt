@@ -1,177 +1,225 @@
--- A line of moves and exits is safe: its paths go forward slot by slot, and r0 is set at the exit.
-use Rattle.std.proofs.Common.{◌≡◌, ◌≢◌, ℕ, zero, suc, ◌+◌, ◌-◌, ◌<◌, ◌≤◌, Bool, true, false, cond, eqb, List, [], ◌∷◌, ◌++◌, length, drop, Option, None, Some, refl, sym, ap, subst, ◌∙◌, ◌⊎◌, inl, inr, arith, add-one, below_more}
-use Rattle.std.specs.Prelude.{IsSome, ℤ}
-use Rattle.std.proofs.lemmas.Bool.{ne_eqb, cases_lt}
-use Rattle.std.proofs.Math.Seq.{drop-cons}
-use Rattle.bpf.specs.Program.{Program, IsProgram}
+-- A justified program is safe: every path stands at a slot with a state that fits what is known there,
+-- and at most as many steps were taken as instructions begin before the slot.
+use Rattle.std.proofs.Common.{◌≡◌, ◌≢◌, ℕ, ◌+◌, ◌<◌, ◌≤◌, ℤ, pos, negsuc, Bool, true, false, List, [], Option, None, Some, Result, Ok, Err, refl, sym, subst, arith, add-one}
+use Rattle.std.specs.Prelude.{IsTrue, if◌then◌else◌}
+use Rattle.bpf.specs.Program.{Program}
+use Rattle.bpf.specs.Weight.{weight_from}
+use Rattle.bpf_insn.specs.declared.insn.Distance.TheVariants.{Short, Long}
 use Rattle.bpf_insn.specs.declared.insn.Insn.{Insn}
 use Rattle.bpf_insn.specs.declared.insn.Insn.TheVariants.{Alu, Negate, MoveSigned, ByteSwap, Load, Store, Jump, Goto, Wide, LoadMap, LoadAddress, Exit}
 use Rattle.bpf_insn.specs.declared.insn.Insn.TheVariants as insns
-use Rattle.bpf_insn.specs.declared.operation.AluOp.{AluOp}
-use Rattle.bpf_insn.specs.declared.operation.AluOp.TheVariants.{Add, Sub, Mul, Div, SignedDiv, Or, And, Lsh, Rsh, Mod, SignedMod, Xor, Mov, Arsh}
-use Rattle.bpf_insn.specs.declared.operation.Width.{Width}
-use Rattle.bpf_insn.specs.declared.operation.Width.TheVariants.{W32, W64}
-use Rattle.bpf_insn.specs.declared.operation.Operand.{Operand}
-use Rattle.bpf_insn.specs.declared.operation.Operand.TheVariants.{FromRegister, Immediate}
+use Rattle.bpf_insn.specs.Spelling.{IsInsn, second_immediate, slots_in, slots_of}
 use Rattle.machine.specs.declared.calls.Call.{Call}
 use Rattle.machine.specs.declared.values.Value.{Value}
-use Rattle.machine.specs.declared.values.Value.TheVariants.{Unset, Num, Ptr, Map}
-use Rattle.machine.specs.Words.{word}
+use Rattle.machine.specs.declared.values.Value.TheVariants.{Unset as Nothing, Num as Number, Ptr as Pointer, Map as MapOf}
 use Rattle.machine.specs.Memory.{Header, IsHeader}
-use Rattle.machine.specs.State.{State, state, register_after, entry_state}
-use Rattle.machine.specs.Step.{Outcome, Next, Ask, Verdict, Trap, step, step_with, perform_at, finds_maps, alu, writes, exits}
+use Rattle.machine.specs.State.{State, state, entry_state}
+use Rattle.machine.specs.Step.{Outcome, Next, Ask, Verdict, Trap, step, perform, perform_at, insn_at, finds_maps, is_map, exits, lands, branches}
 use Rattle.machine.specs.Runs.{Path, entry, moves, answered, IsSafe}
-use Rattle.bver_form.specs.Form.{IsFormed, IsSupported, IsMove, slot_at}
-use Rattle.bver.specs.Verdict.{answer_from, moved, value_of}
-use Rattle.bver.specs.Justified.{verdict_of, IsJustified}
-use Rattle.bver.proofs.Line.{rest_is, bool_tells}
+use Rattle.absdom.specs.declared.cause.Cause.{Cause}
+use Rattle.absdom.specs.declared.kinds.AbsKind.{AbsKind}
+use Rattle.absdom.specs.declared.kinds.AbsKind.TheVariants.{Unset, Num, Ptr, Map}
+use Rattle.absdom.specs.declared.refining.Edges.{Edges}
+use Rattle.absdom.specs.Knowledge.{Knowledge, kind_at}
+use Rattle.absdom.specs.Effect.{applied}
+use Rattle.absdom.specs.Fits.{Fits, FitsKind, FitsEdge, IsSound, IsIndex, GoesStraight, TakesEdge, edge_where}
+use Rattle.absdom.specs.Laws.{BelowFits, EntryFits, ApplyFits, RefineFits}
+use Rattle.bver_form.specs.Form.{IsFormed, IsAllowed, IsAfter, slot_at, target}
+use Rattle.bver.specs.Justified.{IsCovered, IsCoveredIfAny, IsResultCovered, AreEdgesCovered, IsNumber, Proceeds, IsPermitted, IsPermittedAt, IsJustified, known_at}
+use Rattle.bver.proofs.Counting.{firsts, firsts_grow, firsts_weigh}
+use Rattle.bver.proofs.Slots.{insn_in}
 
-none_is_not : IsSome {T = ℕ} None → ⊥
-none_is_not e = cc
+-- the laws of what is known
+pub record Laws : Type 0 where
+  pub below : BelowFits
+  pub entry : EntryFits
+  pub apply : ApplyFits
+  pub refine : RefineFits
 
--- where a path of n steps stands, and what r0 is worth
-pub record Stands (p : Program) (n : ℕ) (s : State) : Type 0 where
-  pub slot : s.slot ≡ n
-  pub within : n < length p.slots
-  pub answer : Option ℕ
-  pub rest : answer_from (drop n p.slots) answer ≡ verdict_of p
-  pub holds : (v : ℕ) → answer ≡ Some v → s.registers 0 ≡ Num v
+-- where a path of n steps stands
+pub record Stands (p : Program) (table : ℕ → Option Knowledge) (n : ℕ) (s : State) : Type 0 where
+  pub known : Knowledge
+  pub is : table s.slot ≡ Some known
+  pub fits : Fits s known
+  pub steps : n ≤ firsts p.slots s.slot
 
--- what a step may give there
-abbrev pub Continues : Program → ℕ → Outcome → Type 0
-Continues p n (Next t) = Stands p (n + 1) t
-Continues p n (Ask helper map key on) = ⊥
-Continues p n (Verdict v) = verdict_of p ≡ Some v
-Continues p n Trap = ⊥
+-- what the n-th step may give there
+abbrev pub Continues : Program → (ℕ → Option Knowledge) → ℕ → Outcome → Type 0
+Continues p table n (Next t) = Stands p table n t
+Continues p table n (Ask helper map key on) = ⊥
+Continues p table n (Verdict v) = Unit {0}
+Continues p table n Trap = ⊥
 
--- a 64-bit move of a number gives the number, whatever was there
-move_gives : (x : Value) (b : ℕ) → alu Mov W64 x (Num b) ≡ Some (Num b)
-move_gives Unset b = refl
-move_gives (Num a) b = refl
-move_gives (Ptr region offset) b = refl
-move_gives (Map index) b = refl
+-- a state that fits what is covered at its slot stands there
+stands_by : BelowFits → (p : Program) (table : ℕ → Option Knowledge) (n : ℕ) (t : State) (a : Knowledge) (o : Option Knowledge) → table t.slot ≡ o → Fits t a → IsCovered a o → n ≤ firsts p.slots t.slot → Stands p table n t
+stands_by below p table n t a None is fits covered steps = absurd covered
+stands_by below p table n t a (Some b) is fits covered steps = record { known = b; is = is; fits = below t a b covered fits; steps = steps }
 
--- the step of a move
-step_move : (s : State) (dst b : ℕ) → dst ≢ 10 → writes s (s.slot + 1) dst (alu Mov W64 (s.registers dst) (Num b)) ≡ Next (state (s.slot + 1) (register_after s.registers dst (Num b)) s.stack)
-step_move s dst b free = rw (move_gives (s.registers dst) b, ne_eqb dst 10 free) refl
+arrives : BelowFits → (p : Program) (table : ℕ → Option Knowledge) (n : ℕ) (t : State) (a : Knowledge) → Fits t a → IsCovered a (table t.slot) → n ≤ firsts p.slots t.slot → Stands p table n t
+arrives below p table n t a fits covered steps = stands_by below p table n t a (table t.slot) refl fits covered steps
 
--- the last slot is an exit, so a slot with another instruction is not the last
-not_last : (p : Program) (n : ℕ) (insn : Insn) → IsFormed p → n < length p.slots → slot_at p n ≡ Some insn → (Some insn ≡ Some Exit → ⊥) → n + 1 < length p.slots
-not_last p n insn form within is no_exit =
-    elim (cases_lt (n + 1) (length p.slots)) [
-      | inl lt ↦ lt
-      | inr le ↦ let last : n ≡ length p.slots - 1 = omega arith in absurd (no_exit (sym is ∙ ap (slot_at p) last ∙ form.ends))
-    ]
+-- ---- from a slot where an instruction begins
 
--- r0 after a move is worth what the line says
-holds_moved : (registers : ℕ → Value) (dst : ℕ) (value : ℤ) (answer : Option ℕ) → ((v : ℕ) → answer ≡ Some v → registers 0 ≡ Num v) → (v : ℕ) → moved dst (Immediate value) answer ≡ Some v → register_after registers dst (Num (word value)) 0 ≡ Num v
-holds_moved registers zero value answer holds v e = cc
-holds_moved registers (suc dst) value answer holds v e =
-    let other : eqb (suc dst) 0 ≡ false = ne_eqb (suc dst) 0 (λ h. absurd (omega arith)) in
-    let same : eqb 0 (suc dst) ≡ false = ne_eqb 0 (suc dst) (λ h. absurd (omega arith)) in
-    rw same (holds v (rw other at e))
+pub record From (p : Program) (n : ℕ) (s : State) (insn : Insn) : Type 0 where
+  pub is : slot_at p s.slot ≡ Some insn
+  pub steps : n ≤ firsts p.slots s.slot
 
--- r0 at an exit is the verdict
-exit_at : (p : Program) (n : ℕ) (s : State) (answer : Option ℕ) → answer ≡ verdict_of p → IsSome (verdict_of p) → ((v : ℕ) → answer ≡ Some v → s.registers 0 ≡ Num v) → Continues p n (exits (s.registers 0))
-exit_at p n s None e some holds = absurd (none_is_not (rw (← e) at some))
-exit_at p n s (Some v) e some holds = rw (holds v refl) (sym e)
+more_steps : (p : Program) (n : ℕ) (s : State) (insn : Insn) (later : ℕ) → From p n s insn → s.slot < later → n + 1 ≤ firsts p.slots later
+more_steps p n s insn later at after =
+    let steps = at.steps in omega (arith, firsts_grow p.slots s.slot later insn after at.is)
 
-continues_at : (p : Program) (header : Header) (n : ℕ) (s : State) (o : Option Insn) → IsJustified p → Stands p n s → slot_at p n ≡ o → IsSupported o → Continues p n (perform_at header s o)
-continues_at p header n s None h at is supported = absurd supported
-continues_at p header n s (Some (Alu Mov W64 dst (Immediate value))) h at is supported =
-    let b = word value in
-    let next : Stands p (n + 1) (state (s.slot + 1) (register_after s.registers dst (Num b)) s.stack) = record {
-      slot = ap (λ (k : ℕ). k + 1) at.slot;
-      within = not_last p n (Alu Mov W64 dst (Immediate value)) h.formed at.within is (λ e. absurd cc);
-      answer = moved dst (Immediate value) at.answer;
-      rest = ap (λ (l : List (Option Insn)). answer_from l at.answer) (sym (rest_is p n (Some (Alu Mov W64 dst (Immediate value))) at.within is)) ∙ at.rest;
-      holds = holds_moved s.registers dst value at.answer at.holds;
-    } in
-    subst (λ (o : Outcome). Continues p n o) (sym (step_move s dst b supported)) next
-continues_at p header n s (Some Exit) h at is supported =
-    exit_at p n s at.answer (ap (λ (l : List (Option Insn)). answer_from l at.answer) (sym (rest_is p n (Some Exit) at.within is)) ∙ at.rest) h.answers at.holds
-continues_at p header n s (Some (Alu Mov W64 dst (FromRegister src))) h at is supported = absurd supported
-continues_at p header n s (Some (Alu Mov W32 dst src)) h at is supported = absurd supported
-continues_at p header n s (Some (Alu Add width dst src)) h at is supported = absurd supported
-continues_at p header n s (Some (Alu Sub width dst src)) h at is supported = absurd supported
-continues_at p header n s (Some (Alu Mul width dst src)) h at is supported = absurd supported
-continues_at p header n s (Some (Alu Div width dst src)) h at is supported = absurd supported
-continues_at p header n s (Some (Alu SignedDiv width dst src)) h at is supported = absurd supported
-continues_at p header n s (Some (Alu Or width dst src)) h at is supported = absurd supported
-continues_at p header n s (Some (Alu And width dst src)) h at is supported = absurd supported
-continues_at p header n s (Some (Alu Lsh width dst src)) h at is supported = absurd supported
-continues_at p header n s (Some (Alu Rsh width dst src)) h at is supported = absurd supported
-continues_at p header n s (Some (Alu Mod width dst src)) h at is supported = absurd supported
-continues_at p header n s (Some (Alu SignedMod width dst src)) h at is supported = absurd supported
-continues_at p header n s (Some (Alu Xor width dst src)) h at is supported = absurd supported
-continues_at p header n s (Some (Alu Arsh width dst src)) h at is supported = absurd supported
-continues_at p header n s (Some (Negate width dst)) h at is supported = absurd supported
-continues_at p header n s (Some (MoveSigned extension dst src)) h at is supported = absurd supported
-continues_at p header n s (Some (ByteSwap swap bits dst)) h at is supported = absurd supported
-continues_at p header n s (Some (Load size dst base offset)) h at is supported = absurd supported
-continues_at p header n s (Some (Store size base offset src)) h at is supported = absurd supported
-continues_at p header n s (Some (Jump condition width dst src offset)) h at is supported = absurd supported
-continues_at p header n s (Some (Goto distance)) h at is supported = absurd supported
-continues_at p header n s (Some (Wide dst value)) h at is supported = absurd supported
-continues_at p header n s (Some (LoadMap dst index)) h at is supported = absurd supported
-continues_at p header n s (Some (LoadAddress dst address)) h at is supported = absurd supported
-continues_at p header n s (Some (insns.Call callee number)) h at is supported = absurd supported
+-- on to a later slot
+goes_on : BelowFits → (p : Program) (table : ℕ → Option Knowledge) (n : ℕ) (s : State) (insn : Insn) (later : ℕ) (o : Outcome) (r : Result Knowledge Cause) → From p n s insn → s.slot < later → IsSound o later r → IsResultCovered r (table later) → Continues p table (n + 1) o
+goes_on below p table n s insn later o (Err cause) at after sound covered = absurd covered
+goes_on below p table n s insn later (Next t) (Ok a) at after sound covered =
+    arrives below p table (n + 1) t a sound.1
+    (subst (λ (k : ℕ). IsCovered a (table k)) (sym sound.0) covered)
+    (more_steps p n s insn t.slot at (rw sound.0 after))
+goes_on below p table n s insn later (Ask helper map key on) (Ok a) at after sound covered = absurd sound
+goes_on below p table n s insn later (Verdict v) (Ok a) at after sound covered = absurd sound
+goes_on below p table n s insn later Trap (Ok a) at after sound covered = absurd sound
 
--- the step of a path that stands
-continues : (p : Program) (header : Header) (n : ℕ) (s : State) → IsJustified p → Stands p n s → Continues p n (step p header s)
-continues p header n s h at =
-    let here : slot_at p s.slot ≡ slot_at p n = ap (slot_at p) at.slot in
-    subst (λ (o : Option Insn). Continues p n (perform_at header s o)) (sym here) (continues_at p header n s (slot_at p n) h at refl (h.formed.supported n at.within))
+-- the same registers and stack at another slot
+fits_at : (s : State) (a : Knowledge) (slot : ℕ) → Fits s a → Fits (state slot s.registers s.stack) a
+fits_at s a slot fits = record { registers = fits.registers; bytes = fits.bytes }
 
-begins : (p : Program) (port : ℕ) → IsJustified p → Stands p 0 (entry_state port)
-begins p port h = record {
-  slot = refl;
-  within = h.limits.slots.0;
-  answer = None;
-  rest = refl;
-  holds = λ v e. absurd cc;
-}
+steps_to : BelowFits → (p : Program) (table : ℕ → Option Knowledge) (n : ℕ) (s : State) (insn : Insn) (later : ℕ) (a : Knowledge) → From p n s insn → s.slot < later → Fits s a → IsCovered a (table later) → Stands p table (n + 1) (state later s.registers s.stack)
+steps_to below p table n s insn later a at after fits covered =
+    arrives below p table (n + 1) (state later s.registers s.stack) a (fits_at s a later fits) covered (more_steps p n s insn later at after)
+
+-- a jump
+lands_on : BelowFits → (p : Program) (table : ℕ → Option Knowledge) (n : ℕ) (s : State) (insn : Insn) (z : ℤ) (a : Knowledge) → From p n s insn → IsAfter s.slot z → Fits s a → IsCovered a (known_at table z) → Continues p table (n + 1) (lands s z)
+lands_on below p table n s insn (pos later) a at after fits covered = steps_to below p table n s insn later a at after fits covered
+lands_on below p table n s insn (negsuc m) a at after fits covered = absurd covered
+
+-- a comparison
+takes : BelowFits → (p : Program) (table : ℕ → Option Knowledge) (n : ℕ) (s : State) (insn : Insn) (offset : ℤ) (taken not_taken : Option Knowledge) (holds : Bool) → From p n s insn → IsAfter s.slot (target s.slot offset) → FitsEdge s (if holds then taken else not_taken) → IsCoveredIfAny taken (known_at table (target s.slot offset)) → IsCoveredIfAny not_taken (table (s.slot + 1)) → Continues p table (n + 1) (branches s offset holds)
+takes below p table n s insn offset None not_taken true at after fits h g = absurd fits
+takes below p table n s insn offset (Some a) not_taken true at after fits h g = lands_on below p table n s insn (target s.slot offset) a at after fits h
+takes below p table n s insn offset taken None false at after fits h g = absurd fits
+takes below p table n s insn offset taken (Some a) false at after fits h g = steps_to below p table n s insn (s.slot + 1) a at (omega arith) fits g
+
+edge_is : (holds : Bool) (edges : Edges) (s : State) → FitsEdge s (edge_where holds edges) → FitsEdge s (if holds then edges.taken else edges.not_taken)
+edge_is true edges s fits = fits
+edge_is false edges s fits = fits
+
+compares_on : BelowFits → (p : Program) (table : ℕ → Option Knowledge) (n : ℕ) (s : State) (insn : Insn) (offset : ℤ) (o : Outcome) (r : Result Edges Cause) → From p n s insn → IsAfter s.slot (target s.slot offset) → TakesEdge s offset o r → AreEdgesCovered r (known_at table (target s.slot offset)) (table (s.slot + 1)) → Continues p table (n + 1) o
+compares_on below p table n s insn offset o (Err cause) at after edge covered = absurd covered
+compares_on below p table n s insn offset o (Ok edges) at after edge covered =
+    subst (λ (w : Outcome). Continues p table (n + 1) w) (sym edge.1)
+    (takes below p table n s insn offset edges.taken edges.not_taken edge.0 at after (edge_is edge.0 edges s edge.2) covered.0 covered.1)
+
+-- an exit
+exits_with : (p : Program) (table : ℕ → Option Knowledge) (n : ℕ) (v : Value) (k : AbsKind) → FitsKind v k → IsNumber k → Continues p table n (exits v)
+exits_with p table n v Unset fits number = absurd number
+exits_with p table n Nothing (Num range) fits number = absurd fits
+exits_with p table n (Number m) (Num range) fits number = tt
+exits_with p table n (Pointer region z) (Num range) fits number = absurd fits
+exits_with p table n (MapOf index) (Num range) fits number = absurd fits
+exits_with p table n v (Ptr region offsets) fits number = absurd number
+exits_with p table n v (Map index) fits number = absurd number
+
+index_of : (sizes : List ℕ) (index : ℤ) → IsTrue (is_map sizes index) → IsIndex index
+index_of sizes (pos n) h = tt
+index_of sizes (negsuc n) h = absurd cc
+
+-- ---- the step at an instruction
+
+-- one that goes on to the next
+proceeds : Laws → (p : Program) (table : ℕ → Option Knowledge) (header : Header) (n : ℕ) (s : State) (a : Knowledge) (insn : Insn) → IsHeader header → From p n s insn → Fits s a → GoesStraight insn → Proceeds table s.slot a insn → Continues p table (n + 1) (perform header s insn)
+proceeds laws p table header n s a insn good at fits straight h =
+    goes_on laws.below p table n s insn (s.slot + slots_of insn) (perform header s insn) (applied a insn) at (later (second_immediate insn)) (laws.apply header s a insn good straight fits) h
+  where
+    later : (o : Option ℤ) → s.slot < s.slot + slots_in o
+    later None = omega arith
+    later (Some immediate) = omega arith
+
+continues_at : Laws → (p : Program) (sizes : List ℕ) (table : ℕ → Option Knowledge) (header : Header) (n : ℕ) (s : State) (a : Knowledge) (insn : Insn) → IsHeader header → From p n s insn → Fits s a → IsAllowed p s.slot insn → IsInsn insn → IsPermitted sizes table s.slot a insn → Continues p table (n + 1) (perform header s insn)
+continues_at laws p sizes table header n s a (Alu op width dst src) good at fits allowed is_insn h = proceeds laws p table header n s a (Alu op width dst src) good at fits allowed.leaves_frame h
+continues_at laws p sizes table header n s a (Negate width dst) good at fits allowed is_insn h = proceeds laws p table header n s a (Negate width dst) good at fits allowed.leaves_frame h
+continues_at laws p sizes table header n s a (MoveSigned extension dst src) good at fits allowed is_insn h = proceeds laws p table header n s a (MoveSigned extension dst src) good at fits allowed.leaves_frame h
+continues_at laws p sizes table header n s a (ByteSwap swap bits dst) good at fits allowed is_insn h = proceeds laws p table header n s a (ByteSwap swap bits dst) good at fits allowed.leaves_frame h
+continues_at laws p sizes table header n s a (Load size dst base offset) good at fits allowed is_insn h = proceeds laws p table header n s a (Load size dst base offset) good at fits allowed.leaves_frame h
+continues_at laws p sizes table header n s a (Store size base offset src) good at fits allowed is_insn h = proceeds laws p table header n s a (Store size base offset src) good at fits tt h
+continues_at laws p sizes table header n s a (Jump condition width dst src offset) good at fits allowed is_insn h =
+    compares_on laws.below p table n s (Jump condition width dst src offset) offset _ _ at allowed.jump.forward (laws.refine header s a condition width dst src offset fits) h
+continues_at laws p sizes table header n s a (Goto (Short offset)) good at fits allowed is_insn h =
+    lands_on laws.below p table n s (Goto (Short offset)) (target s.slot offset) a at allowed.jump.forward fits h
+continues_at laws p sizes table header n s a (Goto (Long immediate)) good at fits allowed is_insn h =
+    lands_on laws.below p table n s (Goto (Long immediate)) (target s.slot immediate) a at allowed.jump.forward fits h
+continues_at laws p sizes table header n s a (Wide dst value) good at fits allowed is_insn h = proceeds laws p table header n s a (Wide dst value) good at fits (allowed.leaves_frame, is_insn.1) h
+continues_at laws p sizes table header n s a (LoadMap dst index) good at fits allowed is_insn h = proceeds laws p table header n s a (LoadMap dst index) good at fits (allowed.leaves_frame, index_of sizes index h.0) h.1
+continues_at laws p sizes table header n s a (LoadAddress dst address) good at fits allowed is_insn h = absurd h
+continues_at laws p sizes table header n s a (insns.Call callee number) good at fits allowed is_insn h = absurd h
+continues_at laws p sizes table header n s a Exit good at fits allowed is_insn h =
+    exits_with p table (n + 1) (s.registers 0) (kind_at a 0) (fits.registers 0) h
+
+continues_from : Laws → (p : Program) (sizes : List ℕ) (h : IsJustified p sizes) (header : Header) (n : ℕ) (s : State) (at : Stands p h.table n s) (o : Option Insn) → IsHeader header → insn_at p s.slot ≡ o → IsPermittedAt sizes h.table s.slot (Some at.known) o → Continues p h.table (n + 1) (perform_at header s o)
+continues_from laws p sizes h header n s at None good is permitted = absurd permitted
+continues_from laws p sizes h header n s at (Some insn) good is permitted =
+    continues_at laws p sizes h.table header n s at.known insn good (record { is = is; steps = at.steps }) at.fits (h.formed.allowed s.slot insn is) (insn_in false p.slots s.slot insn h.limits.code is) permitted
+
+-- what is known where a path stands permits its instruction
+pub permitted_here : (p : Program) (sizes : List ℕ) (h : IsJustified p sizes) (n : ℕ) (s : State) (at : Stands p h.table n s) → IsPermittedAt sizes h.table s.slot (Some at.known) (insn_at p s.slot)
+permitted_here p sizes h n s at =
+    subst (λ (k : Option Knowledge). IsPermittedAt sizes h.table s.slot k (insn_at p s.slot)) at.is (h.permitted s.slot)
+
+continues : Laws → (p : Program) (sizes : List ℕ) (h : IsJustified p sizes) (header : Header) (n : ℕ) (s : State) → IsHeader header → Stands p h.table n s → Continues p h.table (n + 1) (step p header s)
+continues laws p sizes h header n s good at =
+    continues_from laws p sizes h header n s at (insn_at p s.slot) good refl (permitted_here p sizes h n s at)
 
 -- every path stands somewhere
-pub stands : (p : Program) (header : Header) (port : ℕ) (calls : List Call) (n : ℕ) (s : State) → IsJustified p → Path p header port calls n s → Stands p n s
-stands p header port calls n s h entry = begins p port h
-stands p header port calls n s h (moves {n = m} {s = r} path e) =
-    let next = subst (λ (o : Outcome). Continues p m o) e (continues p header m r h (stands p header port calls m r h path)) in
+begins : Laws → (p : Program) (sizes : List ℕ) (h : IsJustified p sizes) (port : ℕ) → port < 32 → Stands p h.table 0 (entry_state port)
+begins laws p sizes h port low =
+    arrives laws.below p h.table 0 (entry_state port) h.entered.known (laws.entry h.entered.known port h.entered.entry low) h.entered.covered (omega arith)
+
+pub stands : Laws → (p : Program) (sizes : List ℕ) (h : IsJustified p sizes) (header : Header) (port : ℕ) (calls : List Call) (n : ℕ) (s : State) → IsHeader header → port < 32 → Path p header port calls n s → Stands p h.table n s
+stands laws p sizes h header port calls n s good low entry = begins laws p sizes h port low
+stands laws p sizes h header port calls n s good low (moves {n = m} {s = r} path e) =
+    let next = subst (λ (o : Outcome). Continues p h.table (m + 1) o) e (continues laws p sizes h header m r good (stands laws p sizes h header port calls m r good low path)) in
     rw (← add-one) next
-stands p header port calls n s h (answered {n = m} {s = r} answer path e below) =
-    absurd (subst (λ (o : Outcome). Continues p m o) e (continues p header m r h (stands p header port _ m r h path)))
+stands laws p sizes h header port calls n s good low (answered {n = m} {s = r} answer path e below) =
+    absurd (subst (λ (o : Outcome). Continues p h.table (m + 1) o) e (continues laws p sizes h header m r good (stands laws p sizes h header port _ m r good low path)))
 
--- a step that may be given is no trap
-no_trap_of : (p : Program) (n : ℕ) (o : Outcome) → Continues p n o → o ≢ Trap
-no_trap_of p n o c e = subst (λ (w : Outcome). Continues p n w) e c
+-- ---- safe
 
--- an instruction of a line names no map
-finds : (sizes : List ℕ) (s : State) (o : Option Insn) → IsSupported o → finds_maps sizes s o ≡ true
-finds sizes s None h = absurd h
-finds sizes s (Some (Alu op width dst src)) h = refl
-finds sizes s (Some Exit) h = refl
-finds sizes s (Some (Negate width dst)) h = absurd h
-finds sizes s (Some (MoveSigned extension dst src)) h = absurd h
-finds sizes s (Some (ByteSwap swap bits dst)) h = absurd h
-finds sizes s (Some (Load size dst base offset)) h = absurd h
-finds sizes s (Some (Store size base offset src)) h = absurd h
-finds sizes s (Some (Jump condition width dst src offset)) h = absurd h
-finds sizes s (Some (Goto distance)) h = absurd h
-finds sizes s (Some (Wide dst value)) h = absurd h
-finds sizes s (Some (LoadMap dst index)) h = absurd h
-finds sizes s (Some (LoadAddress dst address)) h = absurd h
-finds sizes s (Some (insns.Call callee number)) h = absurd h
+no_trap_of : (p : Program) (table : ℕ → Option Knowledge) (n : ℕ) (o : Outcome) → Continues p table n o → o ≢ Trap
+no_trap_of p table n o c e = subst (λ (w : Outcome). Continues p table n w) e c
 
--- a line is safe, whatever maps there are
-pub is_safe : (p : Program) (sizes : List ℕ) → IsJustified p → IsSafe p sizes
-is_safe p sizes h = record {
+-- a permitted instruction finds its map
+finds : (sizes : List ℕ) (table : ℕ → Option Knowledge) (s : State) (a : Knowledge) (o : Option Insn) → IsPermittedAt sizes table s.slot (Some a) o → finds_maps sizes s o ≡ true
+finds sizes table s a None h = absurd h
+finds sizes table s a (Some (Alu op width dst src)) h = refl
+finds sizes table s a (Some (Negate width dst)) h = refl
+finds sizes table s a (Some (MoveSigned extension dst src)) h = refl
+finds sizes table s a (Some (ByteSwap swap bits dst)) h = refl
+finds sizes table s a (Some (Load size dst base offset)) h = refl
+finds sizes table s a (Some (Store size base offset src)) h = refl
+finds sizes table s a (Some (Jump condition width dst src offset)) h = refl
+finds sizes table s a (Some (Goto distance)) h = refl
+finds sizes table s a (Some (Wide dst value)) h = refl
+finds sizes table s a (Some (LoadMap dst index)) h = h.0
+finds sizes table s a (Some (LoadAddress dst address)) h = absurd h
+finds sizes table s a (Some (insns.Call callee number)) h = absurd h
+finds sizes table s a (Some Exit) h = refl
+
+-- a path has fewer steps than the program weighs
+weighs : (p : Program) (sizes : List ℕ) (h : IsJustified p sizes) (n : ℕ) (s : State) (at : Stands p h.table n s) (o : Option Insn) → insn_at p s.slot ≡ o → IsPermittedAt sizes h.table s.slot (Some at.known) o → n < weight_from [] 0 p.slots
+weighs p sizes h n s at None is permitted = absurd permitted
+weighs p sizes h n s at (Some insn) is permitted =
+    let steps = at.steps in omega (arith, firsts_weigh p.slots 0 s.slot insn is)
+
+within : (p : Program) (n : ℕ) → IsFormed p → n < weight_from [] 0 p.slots → n < p.budget
+within p n form below =
+    let budget : weight_from [] 0 p.slots ≤ p.budget = subst (λ (loops : List _). weight_from loops 0 p.slots ≤ p.budget) form.no_loops form.within_budget in
+    omega arith
+
+pub is_safe : Laws → (p : Program) (sizes : List ℕ) → IsJustified p sizes → IsSafe p sizes
+is_safe laws p sizes h = record {
   ends = λ header port calls n s good low path.
-      let at = stands p header port calls n s h path in
-      let within = at.within in
-      let budget = h.formed.within_budget in
-      omega arith;
+      let at = stands laws p sizes h header port calls n s good low path in
+      within p n h.formed (weighs p sizes h n s at (insn_at p s.slot) refl (permitted_here p sizes h n s at));
   no_trap = λ header port calls n s good low path.
-      let at = stands p header port calls n s h path in
-      let supported : IsSupported (slot_at p s.slot) = subst (λ (k : ℕ). IsSupported (slot_at p k)) (sym at.slot) (h.formed.supported n at.within) in
-      rw (finds sizes s (slot_at p s.slot) supported) (no_trap_of p n (step p header s) (continues p header n s h at));
+      let at = stands laws p sizes h header port calls n s good low path in
+      rw (finds sizes h.table s at.known (insn_at p s.slot) (permitted_here p sizes h n s at)) (no_trap_of p h.table (n + 1) (step p header s) (continues laws p sizes h header n s good at));
 }

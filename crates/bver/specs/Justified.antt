@@ -1,21 +1,144 @@
--- When a program may judge. So far it is a line of moves and exits.
-use Rattle.std.specs.Prelude.{ℕ, List, Option, None, IsSome}
+-- When a program may judge (a choice of this project, since RFC 9669 leaves verification to the
+-- implementation): it has its form, and there is a table of what is known at its slots under which no
+-- instruction can go wrong.
+use Rattle.std.specs.Prelude.{◌≡◌, ℕ, ◌+◌, ℤ, pos, negsuc, List, Option, Some, None, Result, Ok, Err, IsTrue, slice_index_or}
 use Rattle.bpf.specs.Program.{Program, IsProgram}
-use Rattle.bver_form.specs.Form.{IsFormed}
-use Rattle.bver.specs.Sizes.{AreSizes}
-use Rattle.bver.specs.Verdict.{answer_from}
+use Rattle.bpf_insn.specs.declared.insn.Insn.{Insn}
+use Rattle.bpf_insn.specs.declared.insn.Insn.TheVariants.{Alu, Negate, MoveSigned, ByteSwap, Load, Store, Jump, Goto, Wide, LoadMap, LoadAddress, Call, Exit}
+use Rattle.bpf_insn.specs.Spelling.{slots_of}
+use Rattle.machine.specs.declared.regions.Region.{Region}
+use Rattle.machine.specs.Step.{insn_at, distance_of, is_map}
+use Rattle.absdom.specs.declared.cause.Cause.{Cause}
+use Rattle.absdom.specs.declared.kinds.AbsKind.{AbsKind}
+use Rattle.absdom.specs.declared.kinds.AbsKind.TheVariants.{Unset, Num, Ptr, Map}
+use Rattle.absdom.specs.declared.refining.Edges.{Edges}
+use Rattle.absdom.specs.Knowledge.{Knowledge, IsEntry, IsBelow, kind_at}
+use Rattle.absdom.specs.Effect.{applied}
+use Rattle.absdom.specs.Edges.{refined_edges}
+use Rattle.bver_form.specs.Form.{IsFormed, target}
 
--- what the program answers, whatever it judges
-abbrev pub verdict_of : Program → Option ℕ
-verdict_of p = answer_from p.slots None
+-- ---- what is known along an edge, and where it leads
 
--- the program has its form, and r0 is set at its first exit
-pub record IsJustified (p : Program) : Type 0 where
-  pub limits : IsProgram p
-  pub formed : IsFormed p
-  pub answers : IsSome (verdict_of p)
+-- whoever knows this knows all that the slot's state says, so a run may go there with it
+abbrev pub IsCovered : Knowledge → (there : Option Knowledge) → Type 0
+IsCovered a None = ⊥
+IsCovered a (Some b) = IsBelow a b
 
--- an accepted program: the program, and the sizes of the maps that it was accepted for
+-- the same, where there is anything to cover: nothing is known on an edge that no run takes
+abbrev pub IsCoveredIfAny : Option Knowledge → (there : Option Knowledge) → Type 0
+IsCoveredIfAny None there = Unit {0}
+IsCoveredIfAny (Some a) there = IsCovered a there
+
+-- an instruction is not refused, and what it leaves is covered where it goes on
+abbrev pub IsResultCovered : Result Knowledge Cause → (there : Option Knowledge) → Type 0
+IsResultCovered (Err cause) there = ⊥
+IsResultCovered (Ok a) there = IsCovered a there
+
+-- a comparison is not refused, and each edge that a run may take is covered
+abbrev pub AreEdgesCovered : Result Edges Cause → (taken next : Option Knowledge) → Type 0
+AreEdgesCovered (Err cause) taken next = ⊥
+AreEdgesCovered (Ok edges) taken next = IsCoveredIfAny edges.taken taken × IsCoveredIfAny edges.not_taken next
+
+-- what is known at a place of the code; nothing is before it
+abbrev pub known_at : (table : ℕ → Option Knowledge) → ℤ → Option Knowledge
+known_at table (pos slot) = table slot
+known_at table (negsuc n) = None
+
+-- ---- what is permitted
+
+-- an instruction that goes on to the next one: it is not refused, and what it leaves is covered there
+abbrev pub Proceeds : (table : ℕ → Option Knowledge) (slot : ℕ) → Knowledge → Insn → Type 0
+Proceeds table slot a insn = IsResultCovered (applied a insn) (table (slot + slots_of insn))
+
+-- a register holds a number
+abbrev pub IsNumber : AbsKind → Type 0
+IsNumber Unset = ⊥
+IsNumber (Num range) = Unit {0}
+IsNumber (Ptr region offsets) = ⊥
+IsNumber (Map index) = ⊥
+
+-- with what is known at its slot an instruction cannot go wrong, and on every edge that a run may take
+-- what it leaves is covered: a map that is loaded exists, and EXIT has a number for its answer
+abbrev pub IsPermitted : (sizes : List ℕ) (table : ℕ → Option Knowledge) (slot : ℕ) → Knowledge → Insn → Type 0
+IsPermitted sizes table slot a (Alu op width dst src) = Proceeds table slot a (Alu op width dst src)
+IsPermitted sizes table slot a (Negate width dst) = Proceeds table slot a (Negate width dst)
+IsPermitted sizes table slot a (MoveSigned extension dst src) = Proceeds table slot a (MoveSigned extension dst src)
+IsPermitted sizes table slot a (ByteSwap swap bits dst) = Proceeds table slot a (ByteSwap swap bits dst)
+IsPermitted sizes table slot a (Load size dst base offset) = Proceeds table slot a (Load size dst base offset)
+IsPermitted sizes table slot a (Store size base offset src) = Proceeds table slot a (Store size base offset src)
+IsPermitted sizes table slot a (Jump condition width dst src offset) =
+    AreEdgesCovered (refined_edges a condition width dst src) (known_at table (target slot offset)) (table (slot + 1))
+IsPermitted sizes table slot a (Goto distance) = IsCovered a (known_at table (target slot (distance_of distance)))
+IsPermitted sizes table slot a (Wide dst value) = Proceeds table slot a (Wide dst value)
+IsPermitted sizes table slot a (LoadMap dst index) =
+    IsTrue (is_map sizes index) × Proceeds table slot a (LoadMap dst index)
+IsPermitted sizes table slot a (LoadAddress dst address) = ⊥
+IsPermitted sizes table slot a (Call callee number) = ⊥
+IsPermitted sizes table slot a Exit = IsNumber (kind_at a 0)
+
+-- the same at a slot: a table has states only where instructions begin, and where it has none no run comes
+abbrev pub IsPermittedAt : (sizes : List ℕ) (table : ℕ → Option Knowledge) (slot : ℕ) → Option Knowledge → Option Insn → Type 0
+IsPermittedAt sizes table slot None insn = Unit {0}
+IsPermittedAt sizes table slot (Some a) None = ⊥
+IsPermittedAt sizes table slot (Some a) (Some insn) = IsPermitted sizes table slot a insn
+
+-- what is known at entry is covered
+pub record IsEntered (there : Option Knowledge) : Type 0 where
+  pub known : Knowledge
+  pub entry : IsEntry known
+  pub covered : IsCovered known there
+
+-- ---- justified
+
+-- the program has its form, and there is a table that covers the entry and permits the instruction at
+-- each of its states
+pub record IsJustified (program : Program) (sizes : List ℕ) : Type 0 where
+  pub limits : IsProgram program
+  pub formed : IsFormed program
+  pub table : ℕ → Option Knowledge
+  pub entered : IsEntered (table 0)
+  pub permitted : (slot : ℕ) → IsPermittedAt sizes table slot (table slot) (insn_at program slot)
+
+-- ---- the region of an access
+
+-- the region of a pointer
+abbrev pub pointed : AbsKind → Option Region
+pointed Unset = None
+pointed (Num range) = None
+pointed (Ptr region offsets) = Some region
+pointed (Map index) = None
+
+-- the region that an instruction accesses
+abbrev pub accessed : Knowledge → Insn → Option Region
+accessed a (Load size dst base offset) = pointed (kind_at a base)
+accessed a (Store size base offset src) = pointed (kind_at a base)
+accessed a (Alu op width dst src) = None
+accessed a (Negate width dst) = None
+accessed a (MoveSigned extension dst src) = None
+accessed a (ByteSwap swap bits dst) = None
+accessed a (Jump condition width dst src offset) = None
+accessed a (Goto distance) = None
+accessed a (Wide dst value) = None
+accessed a (LoadMap dst index) = None
+accessed a (LoadAddress dst address) = None
+accessed a (Call callee number) = None
+accessed a Exit = None
+
+-- the region that is accessed at a slot; none where no run comes
+abbrev pub accessed_at : Option Knowledge → Option Insn → Option Region
+accessed_at None insn = None
+accessed_at (Some a) None = None
+accessed_at (Some a) (Some insn) = accessed a insn
+
+-- ---- an accepted program
+
+-- the program, the sizes of the maps that it was accepted for, and the region that each slot accesses
 pub record Judge : Type 0 where
   pub program : Program
   pub sizes : List ℕ
+  pub regions : List (Option Region)
+
+-- the program is justified for the sizes, and the regions are those of the table
+pub record IsJudged (program : Program) (sizes : List ℕ) (regions : List (Option Region)) : Type 0 where
+  pub justified : IsJustified program sizes
+  pub resolved : (slot : ℕ) → slice_index_or regions slot None ≡ accessed_at (justified.table slot) (insn_at program slot)

@@ -1,5 +1,7 @@
 pub mod Sizes
 pub mod Padding
-pub mod Verdict
+pub mod Codes
 pub mod Justified
-pub mod Effect
+pub mod Resolved
+pub mod Passing
+pub mod Laws

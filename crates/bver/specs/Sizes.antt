@@ -1,6 +1,6 @@
 -- The counter maps that a node has: a choice of this target, since RFC 9669 leaves maps to the
 -- platform (section 5.4.1).
-use Rattle.std.specs.Prelude.{◌≡◌, ◌≤◌, ◌<◌, ℕ, ◌-◌, List, ◌++◌, length, sum, All, replicate, slice_index, take, drop}
+use Rattle.std.specs.Prelude.{◌≤◌, ◌<◌, ℕ, List, length, sum, All, slice_index}
 
 -- at most eight maps, none without cells, and at most 256 cells in all
 pub record AreSizes (sizes : List ℕ) : Type 0 where

@@ -1,12 +1,22 @@
 //! The verifier: which programs may judge (RFC 9669 leaves verification to the implementation).
+//!
+//! [`verify`] accepts a program that has its form (`bver_form`) and that one pass over its slots finds
+//! right, with what is known at each slot ([`absdom::State`]). The definitions are in `specs/`:
+//! `Justified` says when a program may judge, `Resolved` what the regions of its accesses are worth, and
+//! `Laws` that a justified program is safe.
 #![tactic(auto)]
 
 mod accepted;
-mod answers;
+mod flowing;
+mod laws;
+mod passing;
 mod sizes;
+mod table;
 
+pub use absdom::Region;
 pub use accepted::{Accepted, verify};
 pub use bver_form::{Refusal, Refused};
+pub use laws::justified_programs;
 pub use sizes::{MapSizes, TooMany};
 
 #[cfg(test)]

@@ -76,6 +76,14 @@ impl MapSizes {
         })
     }
 
+    /// How many maps there are, at most 8.
+    pub fn maps(&self) -> u8
+        ensures maps { result ≡ length self.now }
+        ensures sizes { AreSizes self.now }
+    {
+        self.count
+    }
+
     /// How many cells the map has, or `None` where there is no such map.
     pub fn cells(&self, map: u8) -> Option<u16>
         ensures cells { result ≡ slice_get self.now map }

@@ -1,34 +1,136 @@
 //! The tests of a program's form, in the order in which they refuse.
 
-ghost use Rattle.std.specs.Prelude.{◌≡◌, ◌<◌, ◌≤◌, ◌-◌, Ok, OnOk, IsTrue, length};
-ghost use Rattle.bver_form.specs.Form.{IsFormed, IsPassed, IsSupported, slot_at, ends_loop};
+ghost use Rattle.std.specs.Prelude.{◌≡◌, ◌≤◌, ◌-◌, Ok, Some, OnOk, IfSome, length};
+ghost use Rattle.bpf.specs.Weight.{weight_of};
+ghost use Rattle.bver_form.specs.Form.{IsFormed, IsPassed, IsAllowed, IsSupported, IsJump, LeavesFrame, slot_at, first_slot, target, written_register, jump_distance, ends_loop};
 
 use crate::refusal::{Refusal, Refused};
 use bpf::Image;
-use bpf_insn::{AluOp, Insn, Operand, Width};
+use bpf_insn::{Callee, Distance, Insn, Register};
 
 /// The frame pointer, which no instruction may write.
 const FRAME: u8 = 10;
 
-/// Tests one slot: what begins there is supported, and leaves the frame pointer.
-fn check_insn(insn: &Insn) -> Result<(), Refusal>
-    ensures { OnOk result (IsSupported (Some insn.now)) }
+/// Tests that the instruction is supported. So far no helper is known.
+fn check_supported(insn: &Insn) -> Result<(), Refusal>
+    ensures { OnOk result (IsSupported insn.now) }
 {
     match insn {
-        Insn::Alu {
-            op: AluOp::Mov,
-            width: Width::W64,
-            dst,
-            src: Operand::Immediate(_),
-        } => {
-            if dst.number() == FRAME {
+        Insn::LoadAddress { .. } => Err(Refusal::Unsupported),
+        Insn::Call { callee, .. } => match callee {
+            Callee::Helper => Err(Refusal::Helper),
+            Callee::Local | Callee::ByTypeId => Err(Refusal::Unsupported),
+        },
+        _ => Ok(()),
+    }
+}
+
+/// The register that the instruction names as the one that it writes.
+fn written_register(insn: &Insn) -> Option<Register>
+    ensures { result ≡ written_register insn.now }
+{
+    match insn {
+        Insn::Alu { dst, .. }
+        | Insn::Negate { dst, .. }
+        | Insn::MoveSigned { dst, .. }
+        | Insn::ByteSwap { dst, .. }
+        | Insn::Load { dst, .. }
+        | Insn::Wide { dst, .. }
+        | Insn::LoadMap { dst, .. }
+        | Insn::LoadAddress { dst, .. } => Some(*dst),
+        Insn::Store { .. }
+        | Insn::Jump { .. }
+        | Insn::Goto { .. }
+        | Insn::Call { .. }
+        | Insn::Exit => None,
+    }
+}
+
+/// Tests that the frame pointer is left as it is.
+fn check_frame(insn: &Insn) -> Result<(), Refusal>
+    ensures { OnOk result (LeavesFrame insn.now) }
+{
+    match written_register(insn) {
+        Some(register) => {
+            if register.number() == FRAME {
                 return Err(Refusal::FrameWrite);
             }
             Ok(())
         }
-        Insn::Exit => Ok(()),
-        _ => Err(Refusal::Unsupported),
+        None => Ok(()),
     }
+}
+
+/// How far the instruction jumps, in slots from the next one.
+fn jump_distance(insn: &Insn) -> Option<i32>
+    ensures { result ≡ jump_distance insn.now }
+{
+    match insn {
+        Insn::Jump { offset, .. } => Some(i32::from(*offset)),
+        Insn::Goto { distance } => match distance {
+            Distance::Short(offset) => Some(i32::from(*offset)),
+            Distance::Long(immediate) => Some(*immediate),
+        },
+        _ => None,
+    }
+}
+
+/// Where a jump at the slot by so many slots leads, counted from the first slot.
+fn target(slot: u16, distance: i32) -> i64
+    ensures { result ≡ target slot distance }
+{
+    i64::from(slot) + 1 + i64::from(distance)
+}
+
+/// The slot to which a jump leads from the slot by a distance in slots from the next one. `None` where
+/// no instruction begins there: outside the code, or at a second slot.
+pub fn landing(image: &Image, slot: u16, distance: i32) -> Option<u16>
+    ensures { result ≡ first_slot image.now (target slot distance) }
+{
+    let landing = target(slot, distance);
+    if landing < 0 || landing >= i64::from(image.slots()) {
+        return None;
+    }
+    let landing = landing.cast_unsigned() as u16;
+    if image.insn(landing).is_some() {
+        Some(landing)
+    } else {
+        None
+    }
+}
+
+/// Tests that a jump by so many slots leads forward, to where an instruction begins.
+fn check_landing(image: &Image, slot: u16, distance: i32) -> Result<(), Refusal>
+    ensures { OnOk result (IsJump image.now slot distance) }
+{
+    match landing(image, slot, distance) {
+        Some(landing) => {
+            if landing <= slot {
+                return Err(Refusal::BackJump);
+            }
+            Ok(())
+        }
+        None => Err(Refusal::Target),
+    }
+}
+
+/// Tests where the instruction jumps, if it does.
+fn check_jump(image: &Image, slot: u16, insn: &Insn) -> Result<(), Refusal>
+    ensures { OnOk result (IfSome (jump_distance insn.now) (λ distance. IsJump image.now slot distance)) }
+{
+    match jump_distance(insn) {
+        Some(distance) => check_landing(image, slot, distance),
+        None => Ok(()),
+    }
+}
+
+/// Tests that the instruction may stand at the slot.
+fn check_insn(image: &Image, slot: u16, insn: &Insn) -> Result<(), Refusal>
+    ensures { OnOk result (IsAllowed image.now slot insn.now) }
+{
+    check_supported(insn)?;
+    check_frame(insn)?;
+    check_jump(image, slot, insn)
 }
 
 /// Whether a declared loop ends at the slot.
@@ -38,7 +140,7 @@ fn ends_loop(image: &Image, slot: u16) -> bool
     image.loops().iter().any(|declared| declared.back == slot)
 }
 
-/// Tests the slot: an instruction that is supported begins there, and no loop ends there.
+/// Tests the slot: no loop ends there, and an instruction that begins there may stand there.
 fn check_slot(image: &Image, slot: u16) -> Result<(), Refusal>
     ensures { OnOk result (IsPassed image.now slot) }
 {
@@ -46,30 +148,36 @@ fn check_slot(image: &Image, slot: u16) -> Result<(), Refusal>
         return Err(Refusal::Unsupported);
     }
     match image.insn(slot) {
-        Some(insn) => check_insn(&insn),
-        None => Err(Refusal::Unsupported),
+        Some(insn) => check_insn(image, slot, &insn),
+        None => Ok(()),
     }
 }
 
-/// Tests that the last instruction is an exit.
+/// The refusal of a program whose last instruction is no exit, but begins at that slot.
+fn falls_off(slot: u16) -> Refused {
+    Refused {
+        code: Refusal::FallOff,
+        slot,
+    }
+}
+
+/// Tests that the last instruction is an exit. One of two slots is none.
 fn check_end(image: &Image) -> Result<(), Refused>
     ensures { OnOk result (slot_at image.now (length image.now.slots - 1) ≡ Some Insn.Exit) }
 {
     let slot = image.slots() - 1;
     match image.insn(slot) {
         Some(Insn::Exit) => Ok(()),
-        _ => Err(Refused {
-            code: Refusal::FallOff,
-            slot,
-        }),
+        Some(_) => Err(falls_off(slot)),
+        None => Err(falls_off(slot.saturating_sub(1))),
     }
 }
 
-/// Tests that the weight, one for each instruction, is within the budget.
+/// Tests that the weight is within the budget.
 fn check_budget(image: &Image) -> Result<(), Refused>
-    ensures { OnOk result (length image.now.slots ≤ image.now.budget) }
+    ensures { OnOk result (weight_of image.now ≤ image.now.budget) }
 {
-    if u32::from(image.slots()) > image.budget() {
+    if image.weight() > u64::from(image.budget()) {
         return Err(Refused {
             code: Refusal::Budget,
             slot: 0,
@@ -78,13 +186,14 @@ fn check_budget(image: &Image) -> Result<(), Refused>
     Ok(())
 }
 
-/// Tests the form of a program. So far 64-bit moves of an immediate and exits are supported; every
-/// other instruction is `Unsupported`, and so is the last slot of a loop.
+/// Tests the form of a program (RFC 9669, sections 2, 4.3 and 5.4). So far helpers are refused, and
+/// loops at their last slot.
 ///
 /// # Errors
 ///
-/// The first that is met: `Unsupported` and `FrameWrite` by rising slot, `FallOff` at the last slot,
-/// `Budget` at slot 0.
+/// The first that is met. By rising slot, for the end of a loop or the instruction at the slot:
+/// `Unsupported`, `Helper`, `FrameWrite`, `Target`, `BackJump`. Then `FallOff` at the last
+/// instruction, and `Budget` at slot 0.
 pub fn check(image: &Image) -> Result<(), Refused>
     ensures { OnOk result (IsFormed image.now) }
 {

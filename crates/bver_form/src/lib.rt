@@ -5,5 +5,5 @@
 mod form;
 mod refusal;
 
-pub use form::check;
+pub use form::{check, landing};
 pub use refusal::{Refusal, Refused};

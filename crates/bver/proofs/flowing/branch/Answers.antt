@@ -1,0 +1,19 @@
+use Rattle.std.proofs.Common.{rules}
+use Rattle.bver_form.specs.Form.{target}
+use Rattle.bver.specs.Justified.{IsCoveredIfAny, known_at}
+use Rattle.bver.specs.Passing.{known_in}
+use Rattle.bver.proofs.Covering.{any_covered_more, known_covered}
+use Rattle.bver.proofs.Visiting.{extended_twice}
+use Rattle.bver.proofs.flowing.branch.Goals as goal
+
+pub returns-clause-covered : goal.returns-clause-covered
+returns-clause-covered c =
+    let place = target c.args.slot c.args.distance in
+    let mid = c.follow_taken.new.table in
+    let new = c.follow_not_taken.new.table in
+    let covered : IsCoveredIfAny c.args.edges.now.taken (known_at (known_in mid) place) = search rules in
+    (any_covered_more c.order_of_states.ensures.transitive c.args.edges.now.taken (known_at (known_in mid) place) (known_at (known_in new) place) covered (known_covered (known_in mid) (known_in new) c.follow_not_taken.ensures.extended.grown.covered place), c.follow_not_taken.ensures.covered)
+
+pub returns-clause-extended : goal.returns-clause-extended
+returns-clause-extended c =
+    extended_twice c.order_of_states.ensures.transitive c.args.image.now c.args.slot c.args.table.now c.follow_taken.new.table c.follow_not_taken.new.table c.follow_taken.ensures.extended c.follow_not_taken.ensures.extended

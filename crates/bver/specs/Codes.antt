@@ -1,0 +1,13 @@
+-- The refusals that stand for what an instruction may do wrong.
+use Rattle.absdom.specs.declared.cause.Cause.{Cause}
+use Rattle.absdom.specs.declared.cause.Cause.TheVariants as causes
+use Rattle.bver_form.specs.declared.refusal.Refusal.{Refusal}
+use Rattle.bver_form.specs.declared.refusal.Refusal.TheVariants.{Unset, KindMismatch, OutOfRegion, UnsetStack, HeaderWrite, PointerRange}
+
+abbrev pub refusal_of : Cause → Refusal
+refusal_of causes.UnsetOperand = Unset
+refusal_of causes.KindMismatch = KindMismatch
+refusal_of causes.OutOfRegion = OutOfRegion
+refusal_of causes.UnsetStack = UnsetStack
+refusal_of causes.HeaderWrite = HeaderWrite
+refusal_of causes.PointerRange = PointerRange
