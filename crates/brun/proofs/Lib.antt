@@ -1,1 +1,5 @@
+pub mod Bits
+pub mod Bytes
+pub mod Values
 pub mod Following
+pub mod Running

@@ -1,2 +1,4 @@
-pub mod Turn
+pub mod Refining
+pub mod Words
+pub mod Simulating
 pub mod Running
