@@ -5,6 +5,7 @@
 #![tactic(auto)]
 
 use anyhow::{Context, Result};
+use basm::{assemble, disassemble};
 use bpf_insn::{Insn, decode, encode, text};
 use std::alloc::Global;
 
@@ -34,10 +35,23 @@ fn spells(alloc: Global, wanted: &str, bytes: &[u8]) -> Result<bool> {
     }
 }
 
+/// Whether a program of that one line assembles to the bytes, and is printed as it was written.
+fn assembles(alloc: Global, wanted: &str, bytes: &[u8]) -> Result<bool> {
+    let text = format!(in alloc; ".budget 1\n{wanted}\n")?;
+    match assemble(alloc, &text) {
+        Ok(image) => {
+            let written = image.write()?;
+            let printed = disassemble(alloc, &image)?;
+            Ok(written.as_slice().get(16..) == Some(bytes) && printed.as_str() == text.as_str())
+        }
+        Err(_) => Ok(false),
+    }
+}
+
 /// Whether the digits are the bytes of an instruction with that text.
 fn agrees(alloc: Global, wanted: &str, digits: &str) -> Result<bool> {
     let bytes = hex::decode(alloc, digits).context("reading the digits")?;
-    spells(alloc, wanted, &bytes)
+    Ok(spells(alloc, wanted, &bytes)? && assembles(alloc, wanted, &bytes)?)
 }
 
 fn main(rt: HostRuntime) -> Result<()> {

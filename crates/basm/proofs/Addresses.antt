@@ -1,0 +1,31 @@
+-- What the kind of an address says of its numbers.
+use Rattle.std.proofs.Common.{◌≡◌, ℕ, ℤ, pos, List, Option, Some, None, refl, sym, eqb-true}
+use Rattle.std.specs.Prelude.{◌==◌, IfSome}
+use Rattle.std.proofs.lemmas.Bool.{cond_both}
+use Rattle.bpf_insn.specs.declared.insn.Address.{Address}
+use Rattle.bpf_insn.specs.declared.insn.Address.TheVariants.{MapByFile, MapValueByFile, Variable, Code, MapValueByIndex}
+use Rattle.bpf_insn.specs.Codes.{address_subtype, address_first, address_second}
+use Rattle.bpf_insn.specs.declared.insn.Insn.TheVariants.{LoadAddress}
+use Rattle.basm_lex.specs.Numbers.{WritesNumber}
+use Rattle.basm_lex.specs.Places.{WritesRegister}
+use Rattle.basm.specs.Relation.{Four, WritesOperands}
+use Rattle.bpf_insn.specs.Kinds.{address_of}
+
+abbrev pub IsKind : ℕ → ℤ → Option Address → Type 0
+IsKind subtype first o = IfSome o (λ found. (address_subtype found ≡ subtype) × (address_first found ≡ first))
+
+pub address_is : (subtype : ℕ) (first second : ℤ) → IsKind subtype first (address_of subtype first second)
+address_is subtype first second =
+    let P : Option Address → Type 0 = IsKind subtype first in
+    cond_both (subtype == 1) (Some (MapByFile first)) _ P (λ yes. (sym (eqb-true subtype 1 yes), refl)) (λ no.
+    cond_both (subtype == 2) (Some (MapValueByFile first second)) _ P (λ yes. (sym (eqb-true subtype 2 yes), refl)) (λ no.
+    cond_both (subtype == 3) (Some (Variable first)) _ P (λ yes. (sym (eqb-true subtype 3 yes), refl)) (λ no.
+    cond_both (subtype == 4) (Some (Code first)) _ P (λ yes. (sym (eqb-true subtype 4 yes), refl)) (λ no.
+    cond_both (subtype == 6) (Some (MapValueByIndex first second)) None P (λ yes. (sym (eqb-true subtype 6 yes), refl)) (λ no. tt)))))
+
+-- the operands of a load of an address, by its numbers
+pub load_address : {X : Type 0} (text : X → List ℕ) (names : List ℕ → Option ℕ) (slot : ℕ) (xs : List X) (dst : ℕ) (subtype first second : ℤ) (address : Address)
+    → Four text xs (λ a. WritesNumber a subtype) (λ b. WritesRegister b dst) (λ c. WritesNumber c first) (λ d. WritesNumber d second)
+    → (pos (address_subtype address) ≡ subtype) × (address_first address ≡ first) × (address_second address ≡ second)
+    → WritesOperands text names slot xs (LoadAddress dst address)
+load_address text names slot xs dst subtype first second address four same = rw (same.0, same.1, same.2) four

@@ -1,0 +1,180 @@
+-- The text relation: when lines stand to an image.
+use Rattle.std.specs.Prelude.{◌≡◌, ◌≢◌, ◌↔◌, ◌⊎◌, ◌==◌, ℕ, ◌+◌, ℤ, pos, ◌-ℤ◌, List, [], ◌∷◌, ◌++◌, codes, Option, Some, FitsSigned}
+use Rattle.std.specs.Int.{w16, w32}
+use Rattle.std.specs.List.{slice_split, flat_map}
+use Rattle.std.specs.List.Sorted.{IsPermutation}
+use Rattle.bpf_insn.specs.declared.operation.Operand.{Operand}
+use Rattle.bpf_insn.specs.declared.operation.Operand.TheVariants.{FromRegister, Immediate}
+use Rattle.bpf_insn.specs.declared.insn.Distance.TheVariants.{Short, Long}
+use Rattle.bpf_insn.specs.declared.insn.Insn.{Insn}
+use Rattle.bpf_insn.specs.declared.insn.Insn.TheVariants.{Alu, Negate, MoveSigned, ByteSwap, Load, Store, Jump, Goto, Wide, LoadMap, LoadAddress, Call, Exit}
+use Rattle.bpf_insn.specs.Codes.{address_subtype, address_first, address_second}
+use Rattle.bpf_insn.specs.Spelling.{slots_of}
+use Rattle.bpf_insn.specs.Text.{insn_name}
+use Rattle.bpf.specs.declared.loops.Loop.{Loop}
+use Rattle.bpf.specs.Parts.{placed}
+use Rattle.bpf.specs.Program.{Program, IsProgram}
+use Rattle.basm_lex.specs.Lines.{operands_of, word_of}
+use Rattle.basm_lex.specs.Names.{IsName}
+use Rattle.basm_lex.specs.Numbers.{WritesDistance, WritesNumber, WritesWide}
+use Rattle.basm_lex.specs.Places.{WritesPlace, WritesRegister}
+
+-- ---- one word
+
+-- a register or a number
+abbrev pub WritesOperand : List ℕ → Operand → Type 0
+WritesOperand word (FromRegister register) = WritesRegister word register
+WritesOperand word (Immediate value) = WritesNumber word value
+
+-- the name of a slot, so far from the next one
+pub record NamesTarget (names : List ℕ → Option ℕ) (slot : ℕ) (word : List ℕ) (offset : ℤ) : Type 0 where
+  pub name : IsName word
+  pub target : ℕ
+  pub stands : names word ≡ Some target
+  pub away : offset ≡ pos target -ℤ pos slot -ℤ pos 1
+
+-- a target by its distance or its name, where names stand for slots
+abbrev pub WritesTarget : (names : List ℕ → Option ℕ) (slot : ℕ) → List ℕ → ℤ → Type 0
+WritesTarget names slot word offset = NamesTarget names slot word offset ⊎ WritesDistance word offset
+
+-- ---- the words of an instruction, by its own name
+
+abbrev pub One : {X : Type 0} → (X → List ℕ) → List X → (List ℕ → Type 0) → Type 0
+One text [] P = ⊥
+One text (a ∷ []) P = P (text a)
+One text (a ∷ b ∷ xs) P = ⊥
+
+abbrev pub Two : {X : Type 0} → (X → List ℕ) → List X → (List ℕ → Type 0) → (List ℕ → Type 0) → Type 0
+Two text [] P Q = ⊥
+Two text (a ∷ xs) P Q = P (text a) × One text xs Q
+
+abbrev pub Three : {X : Type 0} → (X → List ℕ) → List X → (List ℕ → Type 0) → (List ℕ → Type 0) → (List ℕ → Type 0) → Type 0
+Three text [] P Q R = ⊥
+Three text (a ∷ xs) P Q R = P (text a) × Two text xs Q R
+
+abbrev pub Four : {X : Type 0} → (X → List ℕ) → List X → (List ℕ → Type 0) → (List ℕ → Type 0) → (List ℕ → Type 0) → (List ℕ → Type 0) → Type 0
+Four text [] P Q R S = ⊥
+Four text (a ∷ xs) P Q R S = P (text a) × Three text xs Q R S
+
+-- the operands of an instruction that begins at the slot
+abbrev pub WritesOperands : {X : Type 0} (text : X → List ℕ) (names : List ℕ → Option ℕ) (slot : ℕ) → List X → Insn → Type 0
+WritesOperands text names slot xs (Alu op width dst src) = Two text xs (λ a. WritesRegister a dst) (λ b. WritesOperand b src)
+WritesOperands text names slot xs (Negate width dst) = One text xs (λ a. WritesRegister a dst)
+WritesOperands text names slot xs (MoveSigned extension dst src) = Two text xs (λ a. WritesRegister a dst) (λ b. WritesRegister b src)
+WritesOperands text names slot xs (ByteSwap swap bits dst) = One text xs (λ a. WritesRegister a dst)
+WritesOperands text names slot xs (Load size dst base offset) = Two text xs (λ a. WritesRegister a dst) (λ b. WritesPlace b base offset)
+WritesOperands text names slot xs (Store size base offset src) = Two text xs (λ a. WritesPlace a base offset) (λ b. WritesOperand b src)
+WritesOperands text names slot xs (Jump condition width dst src offset) =
+    Three text xs (λ a. WritesRegister a dst) (λ b. WritesOperand b src) (λ c. WritesTarget names slot c offset × FitsSigned w16 offset)
+WritesOperands text names slot xs (Goto (Short offset)) = One text xs (λ a. WritesTarget names slot a offset × FitsSigned w16 offset)
+WritesOperands text names slot xs (Goto (Long distance)) = One text xs (λ a. WritesTarget names slot a distance × FitsSigned w32 distance)
+WritesOperands text names slot xs (Wide dst value) = Two text xs (λ a. WritesRegister a dst) (λ b. WritesWide b value)
+WritesOperands text names slot xs (LoadMap dst index) = Two text xs (λ a. WritesRegister a dst) (λ b. WritesNumber b index)
+WritesOperands text names slot xs (LoadAddress dst address) =
+    Four text xs (λ a. WritesNumber a (pos (address_subtype address))) (λ b. WritesRegister b dst) (λ c. WritesNumber c (address_first address)) (λ d. WritesNumber d (address_second address))
+WritesOperands text names slot xs (Call callee number) = One text xs (λ a. WritesNumber a number)
+WritesOperands text names slot xs Exit = xs ≡ []
+
+-- a word and operands write the instruction
+pub record WritesInsn {X : Type 0} (text : X → List ℕ) (names : List ℕ → Option ℕ) (slot : ℕ) (word : List ℕ) (xs : List X) (insn : Insn) : Type 0 where
+  pub name : word ≡ insn_name insn
+  pub operands : WritesOperands text names slot xs insn
+
+-- ---- lines
+
+-- a loop's end: a slot by its number or its name
+abbrev pub WritesEnd : (names : List ℕ → Option ℕ) → List ℕ → ℕ → Type 0
+WritesEnd names word slot = (IsName word × (names word ≡ Some slot)) ⊎ WritesNumber word (pos slot)
+
+-- what a line says
+pub data Item : Type 0 where
+  Nothing : Item
+  Label : List ℕ → Item
+  Budget : ℕ → Item
+  OneLoop : Loop → Item
+  Code : Insn → Item
+
+abbrev pub slots_in : Item → ℕ
+slots_in Nothing = 0
+slots_in (Label name) = 0
+slots_in (Budget n) = 0
+slots_in (OneLoop l) = 0
+slots_in (Code insn) = slots_of insn
+
+-- the line says it, where the next instruction begins at the slot
+abbrev pub IsLine : (names : List ℕ → Option ℕ) (slot : ℕ) → List ℕ → Item → Type 0
+IsLine names slot line Nothing = (word_of line ≡ []) × (operands_of line ≡ [])
+IsLine names slot line (Label name) = IsName name × (word_of line ≡ name ++ codes ":") × (operands_of line ≡ [])
+IsLine names slot line (Budget n) = (word_of line ≡ codes ".budget") × One (λ x. x) (operands_of line) (λ a. WritesNumber a (pos n))
+IsLine names slot line (OneLoop l) =
+    (word_of line ≡ codes ".loop")
+    × Four (λ x. x) (operands_of line) (λ a. WritesEnd names a l.head) (λ b. WritesEnd names b l.back) (λ c. WritesNumber c (pos l.bound)) (λ d. WritesRegister d l.register)
+IsLine names slot line (Code insn) = WritesInsn (λ x. x) names slot (word_of line) (operands_of line) insn
+
+abbrev pub AreLines : (names : List ℕ → Option ℕ) (slot : ℕ) → List (List ℕ) → List Item → Type 0
+AreLines names slot [] [] = Unit {0}
+AreLines names slot [] (item ∷ items) = ⊥
+AreLines names slot (line ∷ lines) [] = ⊥
+AreLines names slot (line ∷ lines) (item ∷ items) = IsLine names slot line item × AreLines names (slot + slots_in item) lines items
+
+-- ---- the whole text
+
+-- the names that labels define, with the slot of the next instruction
+abbrev pub name_of : ℕ → Item → List (List ℕ × ℕ)
+name_of slot Nothing = []
+name_of slot (Label name) = (name, slot) ∷ []
+name_of slot (Budget n) = []
+name_of slot (OneLoop l) = []
+name_of slot (Code insn) = []
+
+abbrev pub names_from : ℕ → List Item → List (List ℕ × ℕ)
+names_from slot [] = []
+names_from slot (item ∷ items) = name_of slot item ++ names_from (slot + slots_in item) items
+
+abbrev pub budget_in : Item → List ℕ
+budget_in Nothing = []
+budget_in (Label name) = []
+budget_in (Budget n) = n ∷ []
+budget_in (OneLoop l) = []
+budget_in (Code insn) = []
+
+abbrev pub loop_in : Item → List Loop
+loop_in Nothing = []
+loop_in (Label name) = []
+loop_in (Budget n) = []
+loop_in (OneLoop l) = l ∷ []
+loop_in (Code insn) = []
+
+abbrev pub insn_in : Item → List Insn
+insn_in Nothing = []
+insn_in (Label name) = []
+insn_in (Budget n) = []
+insn_in (OneLoop l) = []
+insn_in (Code insn) = insn ∷ []
+
+-- a label among them gives the name this slot
+abbrev pub Defines : List (List ℕ × ℕ) → List ℕ → ℕ → Type 0
+Defines [] name slot = ⊥
+Defines (pair ∷ pairs) name slot = ((pair.0 ≡ name) × (pair.1 ≡ slot)) ⊎ Defines pairs name slot
+
+-- no label defines the name
+abbrev pub IsFree : List (List ℕ × ℕ) → List ℕ → Type 0
+IsFree [] name = Unit {0}
+IsFree (pair ∷ pairs) name = (pair.0 ≢ name) × IsFree pairs name
+
+-- no name is defined twice
+abbrev pub AreApart : List (List ℕ × ℕ) → Type 0
+AreApart [] = Unit {0}
+AreApart (pair ∷ pairs) = IsFree pairs pair.0 × AreApart pairs
+
+-- the lines write the image: one budget, loops in any order, and the instructions in theirs
+pub record IsText (text : List ℕ) (p : Program) : Type 0 where
+  pub items : List Item
+  pub names : List ℕ → Option ℕ
+  pub lines : AreLines names 0 (slice_split (λ c. c == 10) text) items
+  pub defined : (name : List ℕ) (slot : ℕ) → (names name ≡ Some slot) ↔ Defines (names_from 0 items) name slot
+  pub apart : AreApart (names_from 0 items)
+  pub budget : flat_map budget_in items ≡ p.budget ∷ []
+  pub loops : IsPermutation (flat_map loop_in items) p.loops
+  pub code : p.slots ≡ flat_map placed (flat_map insn_in items)
+  pub program : IsProgram p

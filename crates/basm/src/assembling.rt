@@ -1,0 +1,57 @@
+//! From a text to an image.
+
+ghost use Rattle.std.specs.Prelude.{IfOk};
+ghost use Rattle.bpf.specs.Program.{IsProgram};
+
+use crate::faults::{AsmCode, AsmFault};
+use crate::parts::Parts;
+use crate::survey::Survey;
+use bpf::Image;
+use std::alloc::Global;
+
+/// The image that the text writes. Its loops are sorted by their heads.
+///
+/// # Errors
+///
+/// The fault of the lowest line that has one, and on that line the one with the lowest code. A text
+/// without instructions is `TooMany` and one without a budget `BadBudget` at line 0, and so is
+/// `Memory` wherever it was refused.
+pub fn assemble(alloc: Global, text: &str) -> Result<Image, AsmFault>
+    ensures { IfOk result IsProgram }
+{
+    let survey = Survey::of(alloc, text)?;
+    if !survey.has_code {
+        return Err(AsmFault::of_text(AsmCode::TooMany));
+    }
+    if !survey.has_budget {
+        return Err(AsmFault::of_text(AsmCode::BadBudget));
+    }
+    let parts = read_lines(alloc, text, &survey)?;
+    if let Some(line) = survey.repeated {
+        return Err(AsmFault::of_line(line, AsmCode::BadLabel));
+    }
+    parts.into_image(alloc)
+}
+
+/// What the lines declare.
+fn read_lines(alloc: Global, text: &str, survey: &Survey) -> Result<Parts, AsmFault> {
+    let mut parts = Parts::new(alloc);
+    let mut number: u32 = 0;
+    for line in text.split('\n') {
+        number = number.saturating_add(1);
+        if let Err(code) = parts.add_line(alloc, survey, line) {
+            return Err(first_fault(survey.repeated, number, code));
+        }
+    }
+    Ok(parts)
+}
+
+/// The fault of this line, or that of an earlier one which defines a name again.
+fn first_fault(repeated: Option<u32>, number: u32, code: AsmCode) -> AsmFault {
+    match repeated {
+        Some(line) if line < number && code != AsmCode::Memory => {
+            AsmFault::of_line(line, AsmCode::BadLabel)
+        }
+        _ => AsmFault::of_line(number, code),
+    }
+}

@@ -1,0 +1,24 @@
+//! The lowest of several faults.
+
+ghost use Rattle.std.specs.Prelude.{◌≡◌, Ok, IfOk};
+
+use crate::faults::AsmCode;
+
+/// Both values, or the lowest fault.
+pub fn both<A: Drop, B: Drop>(
+    first: Result<A, AsmCode>,
+    second: Result<B, AsmCode>,
+) -> Result<(A, B), AsmCode>
+    ensures { IfOk result (λ both. (first ≡ Ok both.0) × (second ≡ Ok both.1)) }
+{
+    match first {
+        Ok(a) => match second {
+            Ok(b) => Ok((a, b)),
+            Err(fault) => Err(fault),
+        },
+        Err(fault) => match second {
+            Ok(_) => Err(fault),
+            Err(other) => Err(fault.lower(other)),
+        },
+    }
+}

@@ -1,0 +1,24 @@
+//! The text of an image: [`assemble`] reads it, and [`disassemble`] prints it.
+//!
+//! A text is lines of ASCII; a semicolon begins a comment. A line is empty, a label (`NAME:`), a
+//! directive (`.budget N`, `.loop HEAD, BACK, N, rK`) or an instruction.
+#![tactic(auto)]
+
+mod assembling;
+mod choice;
+mod faults;
+mod instructions;
+mod looping;
+mod mnemonics;
+mod names;
+mod parts;
+mod printing;
+mod survey;
+mod targets;
+
+pub use assembling::assemble;
+pub use faults::{AsmCode, AsmFault};
+pub use printing::disassemble;
+
+#[cfg(test)]
+mod tests;

@@ -1,0 +1,91 @@
+//! Directives: the budget and the loops.
+
+use crate::choice::both;
+use crate::faults::AsmCode;
+use crate::survey::Survey;
+use basm_lex::{NumberFault, is_name, number, register};
+use bpf::Loop;
+use bpf_insn::Register;
+
+/// The most slots of an image.
+pub const MAX_SLOTS: u32 = 512;
+/// The greatest budget of an image.
+const MAX_BUDGET: i32 = 65_536;
+/// The greatest bound of a loop.
+const MAX_BOUND: i32 = 4_096;
+
+/// The budget that the operands of `.budget` declare.
+pub fn read_budget(operands: &[&str]) -> Result<u32, AsmCode> {
+    let [budget] = operands else {
+        return Err(AsmCode::BadOperand);
+    };
+    let budget = field(budget, AsmCode::BadBudget)?;
+    if 1 <= budget && budget <= MAX_BUDGET {
+        Ok(budget as u32)
+    } else {
+        Err(AsmCode::BadBudget)
+    }
+}
+
+/// The loop that the operands of `.loop` declare.
+pub fn read_loop(operands: &[&str], survey: &Survey) -> Result<Loop, AsmCode> {
+    let [head, back, bound, counter] = operands else {
+        return Err(AsmCode::BadOperand);
+    };
+    let ends = both(read_end(head, survey), read_end(back, survey));
+    let counted = both(read_bound(bound), read_counter(counter));
+    let ((head, back), (bound, register)) = both(ends, counted)?;
+    if head < back {
+        Ok(Loop {
+            head,
+            back,
+            bound,
+            register,
+        })
+    } else {
+        Err(AsmCode::BadLoop)
+    }
+}
+
+/// How often a loop is passed at most: 1 to 4,096.
+fn read_bound(word: &str) -> Result<u16, AsmCode> {
+    let bound = field(word, AsmCode::BadLoop)?;
+    if 1 <= bound && bound <= MAX_BOUND {
+        Ok(bound as u16)
+    } else {
+        Err(AsmCode::BadLoop)
+    }
+}
+
+/// The number of a directive's field, where a number out of range is the directive's own fault.
+fn field(word: &str, out_of_range: AsmCode) -> Result<i32, AsmCode> {
+    match number(word) {
+        Ok(value) => Ok(value),
+        Err(NumberFault::Form) => Err(AsmCode::BadOperand),
+        Err(NumberFault::Range) => Err(out_of_range),
+    }
+}
+
+/// A slot of the program, by its number or a name.
+fn read_end(word: &str, survey: &Survey) -> Result<u16, AsmCode> {
+    let slot = if is_name(word) {
+        i64::from(survey.names.slot_of(word).ok_or(AsmCode::BadLabel)?)
+    } else {
+        i64::from(field(word, AsmCode::BadLoop)?)
+    };
+    if 0 <= slot && slot < i64::from(survey.slots.min(MAX_SLOTS)) {
+        Ok(slot as u16)
+    } else {
+        Err(AsmCode::BadLoop)
+    }
+}
+
+/// A register that counts: `r0` to `r9`.
+fn read_counter(word: &str) -> Result<Register, AsmCode> {
+    let found = register(word).ok_or(AsmCode::BadOperand)?;
+    if found.number() <= 9 {
+        Ok(found)
+    } else {
+        Err(AsmCode::BadLoop)
+    }
+}

@@ -1,0 +1,52 @@
+//! The names of slots.
+
+ghost use Rattle.std.specs.Prelude.{◌≡◌};
+ghost use Rattle.basm.specs.Naming.{slot_named};
+
+use std::alloc::{AllocError, Global};
+use std::collections::BTreeMap;
+use std::marker::Model;
+
+/// The slots that names stand for.
+#[derive(Drop)]
+pub struct Names<'a> {
+    slots: BTreeMap<&'a str, u32>,
+}
+
+impl<'a> Model for Names<'a> {
+    ghost use Rattle.std.specs.Prelude.{ℕ, List, map};
+
+    ghost Value = { List (List ℕ × ℕ) };
+
+    ghost view = { λ names. map (λ entry. (entry.0.now, entry.1)) names.slots.entries };
+}
+
+impl<'a> Names<'a> {
+    /// No names.
+    pub fn new(alloc: Global) -> Names<'a> {
+        Names {
+            slots: BTreeMap::new(alloc),
+        }
+    }
+
+    /// The slot that the name stands for.
+    pub fn slot_of(&self, name: &str) -> Option<u32>
+        ensures { result ≡ slot_named self.now name.now }
+    {
+        match self.slots.get(name) {
+            Some(slot) => Some(*slot),
+            None => None,
+        }
+    }
+
+    /// Lets the name stand for a slot, unless it stands for one. Gives whether it does so now.
+    pub fn define(&mut self, name: &'a str, slot: u32) -> Result<bool, AllocError> {
+        if self.slots.contains_key(name) {
+            return Ok(false);
+        }
+        match self.slots.insert(name, slot) {
+            Ok(_) => Ok(true),
+            Err(_) => Err(AllocError),
+        }
+    }
+}

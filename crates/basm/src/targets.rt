@@ -1,0 +1,44 @@
+//! The targets of jumps.
+
+ghost use Rattle.std.specs.Prelude.{IfOk, FitsSigned};
+ghost use Rattle.std.specs.Int.{w16, w32};
+ghost use Rattle.basm.specs.Naming.{slot_named};
+ghost use Rattle.basm.specs.Relation.{WritesTarget};
+
+use crate::faults::AsmCode;
+use crate::names::Names;
+use basm_lex::{NumberFault, distance, is_name};
+
+/// How far a jump at the slot goes to the target, in slots from the next one: `+N`, `-N` or a name.
+pub fn read_target(word: &str, names: &Names, slot: u32) -> Result<i64, AsmCode>
+    ensures { IfOk result (WritesTarget (slot_named names.now) slot word.now) }
+{
+    if is_name(word) {
+        match names.slot_of(word) {
+            Some(found) => Ok(i64::from(found) - i64::from(slot) - 1),
+            None => Err(AsmCode::BadLabel),
+        }
+    } else {
+        match distance(word) {
+            Ok(slots) => Ok(slots),
+            Err(NumberFault::Form) => Err(AsmCode::BadOperand),
+            Err(NumberFault::Range) => Err(AsmCode::Reach),
+        }
+    }
+}
+
+/// The same in a field of 16 bits.
+pub fn read_short_target(word: &str, names: &Names, slot: u32) -> Result<i16, AsmCode>
+    ensures { IfOk result (λ slots. WritesTarget (slot_named names.now) slot word.now slots × FitsSigned w16 slots) }
+{
+    let slots = read_target(word, names, slot)?;
+    i16::try_from(slots).map_err(|_| AsmCode::Reach)
+}
+
+/// The same in a field of 32 bits.
+pub fn read_long_target(word: &str, names: &Names, slot: u32) -> Result<i32, AsmCode>
+    ensures { IfOk result (λ slots. WritesTarget (slot_named names.now) slot word.now slots × FitsSigned w32 slots) }
+{
+    let slots = read_target(word, names, slot)?;
+    i32::try_from(slots).map_err(|_| AsmCode::Reach)
+}

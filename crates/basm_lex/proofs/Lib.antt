@@ -1,0 +1,4 @@
+pub mod Spaces
+pub mod RegisterTexts
+pub mod Decimals
+pub mod PlaceTexts

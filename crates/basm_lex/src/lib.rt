@@ -1,0 +1,20 @@
+//! Lines of assembler text: their words, and what a word writes.
+//!
+//! A line is read without its comment. [`read_statement`] finds its first word and its operands; the
+//! other functions say what one word writes: a register, a number, a place in memory or a name.
+#![tactic(auto)]
+
+mod names;
+mod numbers;
+mod places;
+mod registers;
+mod statements;
+
+pub use names::{is_name, label_name};
+pub use numbers::{NumberFault, distance, number, wide_number};
+pub use places::{Place, read_place};
+pub use registers::register;
+pub use statements::{Statement, first_word, read_statement};
+
+#[cfg(test)]
+mod tests;

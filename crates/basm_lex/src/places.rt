@@ -1,0 +1,80 @@
+//! Places in memory in a text.
+
+ghost use Rattle.std.specs.Prelude.{◌≡◌, ◌∷◌, ◌++◌, [], IfOk, IfSome, FitsSigned};
+ghost use Rattle.std.specs.Int.{w16};
+ghost use Rattle.basm_lex.specs.Numbers.{WritesDistance};
+ghost use Rattle.basm_lex.specs.Places.{WritesPlace, WritesRegister};
+
+use crate::numbers::{NumberFault, magnitude};
+use crate::registers::register;
+use bpf_insn::Register;
+
+/// A place in memory: a register and a distance in bytes.
+#[derive(Clone, Copy, Debug, PartialEq, Eq)]
+pub struct Place {
+    pub base: Register,
+    pub offset: i16,
+}
+
+/// The place that a word writes: `[rB+N]` or `[rB-N]`.
+pub fn read_place(word: &str) -> Result<Place, NumberFault>
+    ensures { IfOk result (λ place. WritesPlace word.now place.base place.offset) }
+{
+    let inner = inside(word)?;
+    match inner.split_once('+') {
+        Some((base, digits)) => {
+            let base = based(base)?;
+            let offset = forward(digits)?;
+            Ok(Place { base, offset })
+        }
+        None => {
+            let Some((base, digits)) = inner.split_once('-') else {
+                return Err(NumberFault::Form);
+            };
+            let base = based(base)?;
+            let offset = backward(digits)?;
+            Ok(Place { base, offset })
+        }
+    }
+}
+
+/// The offset that digits after a plus write.
+fn forward(digits: &str) -> Result<i16, NumberFault>
+    ensures { IfOk result (λ offset. WritesDistance (43 ∷ digits.now) offset × FitsSigned w16 offset) }
+{
+    let offset = magnitude(digits)?;
+    i16::try_from(offset).map_err(|_| NumberFault::Range)
+}
+
+/// The offset that digits after a minus write.
+fn backward(digits: &str) -> Result<i16, NumberFault>
+    ensures { IfOk result (λ offset. WritesDistance (45 ∷ digits.now) offset × FitsSigned w16 offset) }
+{
+    let offset = -magnitude(digits)?;
+    i16::try_from(offset).map_err(|_| NumberFault::Range)
+}
+
+/// What stands between the brackets.
+fn inside(word: &str) -> Result<&str, NumberFault>
+    ensures { IfOk result (λ inner. word.now ≡ 91 ∷ (inner.now ++ 93 ∷ [])) }
+{
+    match within(word) {
+        Some(inner) => Ok(inner),
+        None => Err(NumberFault::Form),
+    }
+}
+
+fn within(word: &str) -> Option<&str>
+    ensures { IfSome result (λ inner. word.now ≡ 91 ∷ (inner.now ++ 93 ∷ [])) }
+{
+    word.strip_prefix('[')?.strip_suffix(']')
+}
+
+fn based(word: &str) -> Result<Register, NumberFault>
+    ensures { IfOk result (WritesRegister word.now) }
+{
+    match register(word) {
+        Some(found) => Ok(found),
+        None => Err(NumberFault::Form),
+    }
+}

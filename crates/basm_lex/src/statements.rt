@@ -1,0 +1,107 @@
+//! The words of a line.
+
+ghost use Rattle.std.specs.Prelude.{◌≡◌, map, IfOk};
+ghost use Rattle.std.specs.List.{before_first};
+ghost use Rattle.basm_lex.specs.Lines.{code_of, drop_spaces, is_semicolon, operands_of, rest_of, separated, skip_spaces, trimmed, word_of};
+
+use std::alloc::{AllocError, Global};
+
+/// What a line says, without its comment.
+#[derive(Debug, Drop)]
+pub struct Statement<'a> {
+    /// The first word, empty in a line without words.
+    pub word: &'a str,
+    /// What stands between the commas after it, without the spaces around it.
+    pub operands: Vec<&'a str>,
+}
+
+/// The line without its comment and the spaces around it.
+#[tactic(auto, unfolding(crate::specs::Lines::code_of))]
+fn code_of(line: &str) -> &str
+    ensures { result.now ≡ code_of line.now }
+{
+    trim(before_comment(line))
+}
+
+fn before_comment(line: &str) -> &str
+    ensures { result.now ≡ before_first is_semicolon line.now }
+{
+    match line.split_once(';') {
+        Some((code, _)) => code,
+        None => line,
+    }
+}
+
+/// The first word of a line, and what follows it.
+#[tactic(auto, unfolding(crate::specs::Lines::word_of, crate::specs::Lines::rest_of))]
+fn split_word(line: &str) -> (&str, &str)
+    ensures word { result.0.now ≡ word_of line.now }
+    ensures rest { result.1.now ≡ rest_of line.now }
+{
+    let code = code_of(line);
+    match code.split_once(' ') {
+        Some((word, rest)) => (word, rest),
+        None => (code, ""),
+    }
+}
+
+/// The first word of a line without its comment; empty where the line has no words.
+pub fn first_word(line: &str) -> &str
+    ensures { result.now ≡ word_of line.now }
+{
+    let (word, _) = split_word(line);
+    word
+}
+
+/// The first word and the operands of a line. Words are separated by spaces, operands by a comma and
+/// spaces; what follows a semicolon is a comment. A tab or a carriage return is part of a word.
+///
+/// # Errors
+///
+/// `AllocError` where memory was refused.
+pub fn read_statement<'a>(alloc: Global, line: &'a str) -> Result<Statement<'a>, AllocError>
+    ensures word { IfOk result (λ found. found.word.now ≡ word_of line.now) }
+    ensures operands { IfOk result (λ found. map (λ operand. operand.now) found.operands.items ≡ operands_of line.now) }
+{
+    let (word, rest) = split_word(line);
+    let operands = read_operands(alloc, rest)?;
+    Ok(Statement { word, operands })
+}
+
+/// What stands between commas, without the spaces around it.
+fn read_operands(alloc: Global, rest: &str) -> Result<Vec<&str>, AllocError>
+    ensures { IfOk result (λ operands. map (λ operand. operand.now) operands.items ≡ separated rest.now) }
+{
+    if rest.is_empty() {
+        Ok(Vec::new(alloc))
+    } else {
+        rest.split(',').map(trim).collect(alloc)
+    }
+}
+
+/// The text without the spaces before and after it.
+fn trim(text: &str) -> &str
+    ensures { result.now ≡ trimmed text.now }
+{
+    trim_end(trim_start(text))
+}
+
+fn trim_start(text: &str) -> &str
+    ensures { result.now ≡ skip_spaces text.now }
+{
+    let mut rest = text;
+    while let Some(after) = rest.strip_prefix(' ') {
+        rest = after;
+    }
+    rest
+}
+
+fn trim_end(text: &str) -> &str
+    ensures { result.now ≡ drop_spaces text.now }
+{
+    let mut rest = text;
+    while let Some(before) = rest.strip_suffix(' ') {
+        rest = before;
+    }
+    rest
+}
