@@ -1,3 +1,6 @@
+pub mod Accepting
+pub mod Assembly
+pub mod Benches
 pub mod CommandLine
 pub mod Printed
 pub mod Statuses

@@ -1,6 +1,8 @@
 //! The node that the jobs run.
 
-ghost use Rattle.std.specs.Prelude.{◌≡◌, []};
+ghost use Rattle.std.specs.Prelude.{◌≡◌, ◌≢◌, [], None, IfOk, IfSome};
+ghost use Rattle.target.specs.Serving.{IsServed};
+ghost use Rattle.commands.specs.Benches.{fresh_setup};
 
 use crate::faults::Fault;
 use crate::programs::no_maps;
@@ -8,6 +10,7 @@ use bver::Accepted;
 use rmap::ReplyBuf;
 use spw::Packet;
 use std::alloc::Global;
+use std::marker::Model;
 use target::{BankConfig, Node, NodeConfig, Pass, Served, serve_packet};
 
 /// The logical address of the node.
@@ -28,10 +31,21 @@ pub struct Bench {
     reply: ReplyBuf,
 }
 
+impl Model for Bench {
+    ghost use Rattle.commands.specs.Benches.{Setup, IsSetup};
+
+    ghost Value = { Setup };
+
+    ghost view = { λ b. record { banks = b.node; holder = b.pass; reply = b.reply } };
+
+    ghost invariant = { λ b. IsSetup (record { banks = b.node; holder = b.pass; reply = b.reply }) };
+}
+
 impl Bench {
     /// A node of zero bytes whose commands this program judges.
     pub fn new<'a>(alloc: Global, program: Accepted) -> Result<Bench, Fault<'a>>
         requires { program.sizes ≡ [] }
+        ensures { IfOk result (λ bench. bench ≡ fresh_setup program) }
     {
         let config = NodeConfig {
             address: NODE_ADDRESS,
@@ -39,10 +53,10 @@ impl Bench {
             banks: &[BANK],
             sizes: no_maps(),
         };
-        // The configuration is within its limits, so only memory can be refused.
-        let made = Node::new(alloc, &config, program);
-        let (node, mut passes) = made.map_err(|_| Fault::NoMemory)?;
-        let pass = passes.pop().ok_or(Fault::NoMemory)?;
+        let (node, mut passes) = Node::new(alloc, &config, program)?;
+        let Some(pass) = passes.pop() else {
+            unreachable!()
+        };
         Ok(Bench {
             node,
             pass,
@@ -51,16 +65,20 @@ impl Bench {
     }
 
     /// What becomes of a packet that comes in at a port, or `None` where there is no such port.
-    pub fn serve(&mut self, port: u8, packet: Packet) -> Option<Served> {
-        // The pass is of this node, so their numbers of banks agree.
-        if port != self.pass.port() || self.pass.banks() != self.node.banks() {
+    pub fn serve(&mut self, port: u8, packet: Packet) -> Option<Served>
+        ensures served { IfSome result (λ served. IsServed served packet self.old.banks self.new.banks self.old.holder self.new.holder self.new.reply) }
+        ensures no_port { port ≢ self.old.holder.port → result ≡ None }
+    {
+        if port != self.pass.port() {
             return None;
         }
         Some(serve_packet(&mut self.node, &mut self.pass, packet, &mut self.reply))
     }
 
     /// The reply to the last packet that was served; no bytes where none is due.
-    pub fn reply(&self) -> &[u8] {
+    pub fn reply(&self) -> &[u8]
+        ensures { result.now ≡ self.now.reply }
+    {
         self.reply.bytes()
     }
 }

@@ -2,22 +2,28 @@
 
 ghost use Rattle.std.specs.Prelude.{◌≡◌, Some};
 ghost use Rattle.commands.specs.Printed.{fault_text};
-ghost use Rattle.commands.specs.declared.faults.Fault.TheVariants.{BadImage, BadLine, Unfit, NoMemory};
+ghost use Rattle.commands.specs.declared.faults.Fault.TheVariants.{BadImage, BadLine, BadText, Unfit, NoMemory};
 ghost use Rattle.spw.specs.Fault.{code_of};
 
+use basm::AsmFault;
 use bpf::ImageFault;
 use bver::Refused;
 use spw::LineFault;
 use std::alloc::AllocError;
 use std::fmt;
+use target::NodeFault;
 
 /// What ends a job before its end. It is the last line that the job prints.
 #[derive(Debug, Drop)]
 pub enum Fault<'a> {
     /// The file of this name cannot be read, or is no text where it has to be one.
     CannotRead(&'a str),
+    /// The file of this name cannot be written.
+    CannotWrite(&'a str),
     /// Memory was refused where that has no number of its own.
     NoMemory,
+    /// A text is no image.
+    BadText(AsmFault),
     /// The bytes of an image are none.
     BadImage(ImageFault),
     /// The verifier refuses an image.
@@ -64,11 +70,28 @@ impl From<ImageFault> for Fault<'_> {
     }
 }
 
+impl From<AsmFault> for Fault<'_> {
+    ghost from_gives = { λ fault given. given ≡ BadText fault };
+
+    fn from(fault: AsmFault) -> Self {
+        Fault::BadText(fault)
+    }
+}
+
 impl From<Refused> for Fault<'_> {
     ghost from_gives = { λ refused given. given ≡ Unfit refused };
 
     fn from(refused: Refused) -> Self {
         Fault::Unfit(refused)
+    }
+}
+
+/// The node's configuration is within its limits, so only memory can be refused.
+impl From<NodeFault> for Fault<'_> {
+    ghost from_gives = { λ _ given. given ≡ NoMemory };
+
+    fn from(_refused: NodeFault) -> Self {
+        Fault::NoMemory
     }
 }
 
@@ -86,7 +109,13 @@ impl fmt::Display for Fault<'_> {
     fn fmt<W: fmt::Write>(&self, f: &mut fmt::Formatter<W>) -> fmt::Result {
         match self {
             Fault::CannotRead(name) => write!(f, "cannot read {name}"),
+            Fault::CannotWrite(name) => write!(f, "cannot write {name}"),
             Fault::NoMemory => write!(f, "no memory"),
+            Fault::BadText(fault) => {
+                let code = fault.code.code();
+                let line = fault.line;
+                write!(f, "asm fault {code} line {line}")
+            }
             Fault::BadImage(fault) => {
                 let code = fault.code();
                 let slot = fault.slot();

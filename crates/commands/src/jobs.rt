@@ -17,6 +17,23 @@ pub enum Job {
         /// The name of the file of the BPF image that judges; without it the factory image does.
         image: Option<String>,
     },
+    /// Assembles a text, and writes the image.
+    Assemble {
+        /// The name of the file of the text.
+        text: String,
+        /// The name of the file that the image is written to.
+        image: String,
+    },
+    /// Prints the text of a BPF image.
+    Disassemble {
+        /// The name of the file of the image.
+        image: String,
+    },
+    /// Verifies a BPF image, and prints whether it may judge.
+    Verify {
+        /// The name of the file of the image.
+        image: String,
+    },
 }
 
 /// Why a command line names no job.

@@ -3,7 +3,7 @@
 use crate::bench::Bench;
 use crate::faults::Fault;
 use crate::printing::{print_discard, print_reply};
-use crate::programs::judging_program;
+use crate::programs::{bytes_in, judging_program};
 use crate::stops::Stop;
 use crate::storage::Files;
 use spw::read_line;
@@ -51,8 +51,7 @@ pub fn judge<'a, F: Files, W: Write>(
     files: &mut F,
     out: &mut W,
 ) -> Result<(), Stop<'a>> {
-    let bytes = files.read(alloc, lines);
-    let bytes = bytes.map_err(|_| Fault::CannotRead(lines))?;
+    let bytes = bytes_in(alloc, files, lines)?;
     let text = str::from_utf8(bytes.as_slice()).map_err(|_| Fault::CannotRead(lines))?;
     let program = judging_program(alloc, files, image)?;
     let mut bench = Bench::new(alloc, program)?;

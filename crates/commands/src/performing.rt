@@ -2,10 +2,12 @@
 
 ghost use Rattle.std.specs.Prelude.{◌≤◌, IfOk};
 
+use crate::assembly::{assemble_file, disassemble_file};
 use crate::jobs::Job;
 use crate::judging::judge;
 use crate::stops::{Stop, WriteFault};
 use crate::storage::Files;
+use crate::verifying::verify;
 use std::alloc::Global;
 use std::io::Write;
 
@@ -26,6 +28,11 @@ pub fn perform<F: Files, W: Write>(
             let image = image.as_ref().map(|name| name.as_str());
             judge(alloc, lines.as_str(), image, files, out)
         }
+        Job::Assemble { text, image } => {
+            assemble_file(alloc, text.as_str(), image.as_str(), files, out)
+        }
+        Job::Disassemble { image } => disassemble_file(alloc, image.as_str(), files, out),
+        Job::Verify { image } => verify(alloc, image.as_str(), files, out),
     };
     match done {
         Ok(()) => Ok(0),

@@ -1,6 +1,8 @@
 //! The program that judges.
 
-ghost use Rattle.std.specs.Prelude.{◌≡◌, IfOk, []};
+ghost use Rattle.std.specs.Prelude.{◌≡◌, IfErr, IfOk, []};
+ghost use Rattle.bpf.specs.Program.{IsProgram};
+ghost use Rattle.commands.specs.declared.faults.Fault.TheVariants.{CannotRead};
 
 use crate::faults::Fault;
 use crate::storage::Files;
@@ -22,12 +24,46 @@ pub fn no_maps() -> MapSizes
     MapSizes::new(&[]).unwrap()
 }
 
-/// The program of an image's bytes, for a node without counter maps.
-fn program_of<'a>(alloc: Global, bytes: &[u8]) -> Result<Accepted, Fault<'a>>
+/// The bytes of the file of this name.
+pub fn bytes_in<'a, F: Files>(
+    alloc: Global,
+    files: &mut F,
+    name: &'a str,
+) -> Result<Vec<u8>, Fault<'a>>
+    ensures { IfErr result (λ fault. fault ≡ CannotRead name.entry) }
+{
+    files.read(alloc, name).map_err(|_| Fault::CannotRead(name))
+}
+
+/// The image in the file of this name.
+pub fn image_in<'a, F: Files>(
+    alloc: Global,
+    files: &mut F,
+    name: &'a str,
+) -> Result<Image, Fault<'a>>
+    ensures { IfOk result IsProgram }
+{
+    let bytes = bytes_in(alloc, files, name)?;
+    Ok(Image::read(alloc, bytes.as_slice())?)
+}
+
+/// The program of an image, for a node without counter maps.
+fn accepted<'a>(alloc: Global, image: Image) -> Result<Accepted, Fault<'a>>
     ensures { IfOk result (λ program. program.sizes ≡ []) }
 {
-    let image = Image::read(alloc, bytes)?;
     Ok(verify(alloc, image, &no_maps())?)
+}
+
+/// The program of the image file of this name.
+pub fn program_in<'a, F: Files>(
+    alloc: Global,
+    files: &mut F,
+    name: &'a str,
+) -> Result<Accepted, Fault<'a>>
+    ensures { IfOk result (λ program. program.sizes ≡ []) }
+{
+    let image = image_in(alloc, files, name)?;
+    accepted(alloc, image)
 }
 
 /// The program of the image file of this name, or of the factory image where there is no name.
@@ -39,11 +75,7 @@ pub fn judging_program<'a, F: Files>(
     ensures { IfOk result (λ program. program.sizes ≡ []) }
 {
     match image {
-        Some(name) => {
-            let bytes = files.read(alloc, name);
-            let bytes = bytes.map_err(|_| Fault::CannotRead(name))?;
-            program_of(alloc, bytes.as_slice())
-        }
-        None => program_of(alloc, &FACTORY),
+        Some(name) => program_in(alloc, files, name),
+        None => accepted(alloc, Image::read(alloc, &FACTORY)?),
     }
 }

@@ -2,57 +2,18 @@
 //! standard streams of this machine. docs/COMMANDS.md says what it does.
 #![tactic(auto)]
 
-use commands::{Cannot, Files, Job, UsageFault, WriteFault, perform, words};
+use commands::{HostFiles, Job, UsageFault, WriteFault, perform, words};
 use std::alloc::Global;
-use std::io::{BufWriter, Read, Write};
+use std::io::{BufWriter, Write};
 use std::process::ExitCode;
 use std::rt::{self, Env};
-use std::{env, fs, io};
+use std::{env, io};
 
 /// What the program does where its command line has no word: it judges standard input.
 const WITHOUT_WORDS: [&str; 2] = ["judge", "-"];
 
 /// The exit status where standard output cannot be written.
 const FAILED: u8 = 1;
-
-/// The name of standard input.
-const STANDARD_INPUT: &str = "-";
-
-/// The files of this machine. The name `-` is standard input, which cannot be written.
-#[derive(Drop)]
-struct Machine<'a, R> {
-    rt: &'a R,
-}
-
-/// All bytes that a reader gives.
-fn bytes_of<R: Read>(alloc: Global, reader: &mut R) -> io::Result<Vec<u8>> {
-    let mut bytes = Vec::new(alloc);
-    reader.read_to_end(&mut bytes)?;
-    Ok(bytes)
-}
-
-impl<R: rt::Files + Input> Machine<'_, R> {
-    /// The bytes of the file `name`.
-    fn bytes(&self, alloc: Global, name: &str) -> io::Result<Vec<u8>> {
-        if name == STANDARD_INPUT {
-            return bytes_of(alloc, &mut self.rt.reader());
-        }
-        bytes_of(alloc, &mut fs::open(self.rt, name)?)
-    }
-}
-
-impl<R: rt::Files + Input> Files for Machine<'_, R> {
-    fn read(&mut self, alloc: Global, name: &str) -> Result<Vec<u8>, Cannot> {
-        self.bytes(alloc, name).map_err(|_| Cannot)
-    }
-
-    fn write(&mut self, name: &str, bytes: &[u8]) -> Result<(), Cannot> {
-        if name == STANDARD_INPUT {
-            return Err(Cannot);
-        }
-        fs::write(self.rt, name, bytes).map_err(|_| Cannot)
-    }
-}
 
 /// Does a job over this machine's files and standard output, and gives the exit status.
 fn do_job<R: rt::Files + Input + Print>(
@@ -61,7 +22,7 @@ fn do_job<R: rt::Files + Input + Print>(
     job: &Job,
 ) -> Result<u8, WriteFault> {
     let mut out = BufWriter::new(alloc, io::writer(rt))?;
-    let status = perform(alloc, job, &mut Machine { rt }, &mut out)?;
+    let status = perform(alloc, job, &mut HostFiles { rt }, &mut out)?;
     out.flush()?;
     Ok(status)
 }

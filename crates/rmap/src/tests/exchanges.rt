@@ -76,7 +76,7 @@ const ANSWERS: &[Answer] = &[
         body: None,
         status: Status::NotAuthorised,
         bytes: &[],
-        reply: "0 67 01 2C 0A FE 00 00 D2 EOP",
+        reply: "0 67 01 2C 0A FE 00 00 d2 EOP",
     },
     Answer {
         shows: "a write that finds no room",
@@ -233,7 +233,7 @@ const ANSWERS: &[Answer] = &[
     },
     Answer {
         shows: "a write without a reply",
-        command: "0 FE 01 64 00 67 12 39 00 A0 00 00 00 00 00 01 D5 2A D5 EOP",
+        command: "0 FE 01 64 00 67 12 39 00 A0 00 00 00 00 00 01 d5 2A d5 EOP",
         header: None,
         body: None,
         status: Status::Success,
@@ -242,7 +242,7 @@ const ANSWERS: &[Answer] = &[
     },
     Answer {
         shows: "a write with a byte too many",
-        command: "0 FE 01 6C 00 67 00 00 00 A0 00 00 00 00 00 01 12 2A D5 00 EOP",
+        command: "0 FE 01 6C 00 67 00 00 00 A0 00 00 00 00 00 01 12 2A d5 00 EOP",
         header: None,
         body: Some(Status::TooMuchData),
         status: Status::TooMuchData,
@@ -256,7 +256,7 @@ const ANSWERS: &[Answer] = &[
         body: Some(Status::TooMuchData),
         status: Status::TooMuchData,
         bytes: &[],
-        reply: "0 67 01 0C 06 FE 00 00 00 00 00 00 D5 00 EOP",
+        reply: "0 67 01 0C 06 FE 00 00 00 00 00 00 d5 00 EOP",
     },
     Answer {
         shows: "a whole write with an error end",

@@ -142,7 +142,7 @@ const HEADERS: &[Header] = &[
     },
     Header {
         shows: "a read of staging to its end",
-        command: "0 FE 01 4C 00 67 00 00 FF 00 00 3F F0 00 00 10 D9 EOP",
+        command: "0 FE 01 4C 00 67 00 00 FF 00 00 3F F0 00 00 10 d9 EOP",
         fault: None,
         place: Some(Place::Staging),
     },

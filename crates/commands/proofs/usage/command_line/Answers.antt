@@ -24,5 +24,11 @@ returns c =
     let third : app_of c.subcommand_required.result ≡ on_top wanting (app_of c.disable_help_subcommand.result) =
     ap app_of_fields c.subcommand_required.ensures in
     let top = third ∙ ap (on_top wanting) (second ∙ ap (on_top helpless) (first ∙ ap (on_top bare) about)) in
-    IfOk-weaker c.subcommand.result _ _ (λ m h. h.shape c.in_ok-judge.ensures.local
-    ∙ ap₂ with_subcommand top (ap (λ (a : App). a.top) c.in_ok-judge.ensures.shape)) c.subcommand.ensures
+    let with_asm = c.in_ok-subcommand.ensures.shape c.in_ok-asm.ensures.local
+    ∙ ap₂ with_subcommand top (ap (λ (a : App). a.top) c.in_ok-asm.ensures.shape) in
+    let with_dis = c.in_ok-subcommand-2.ensures.shape c.in_ok-dis.ensures.local
+    ∙ ap₂ with_subcommand with_asm (ap (λ (a : App). a.top) c.in_ok-dis.ensures.shape) in
+    let with_verify = c.in_ok-subcommand-3.ensures.shape c.in_ok-verify.ensures.local
+    ∙ ap₂ with_subcommand with_dis (ap (λ (a : App). a.top) c.in_ok-verify.ensures.shape) in
+    IfOk-weaker c.subcommand-4.result _ _ (λ m h. h.shape c.in_ok-judge.ensures.local
+    ∙ ap₂ with_subcommand with_verify (ap (λ (a : App). a.top) c.in_ok-judge.ensures.shape)) c.subcommand-4.ensures

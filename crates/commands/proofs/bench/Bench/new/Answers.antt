@@ -1,0 +1,15 @@
+use Rattle.std.proofs.Common.{rules, ◌≡◌, ◌∙◌, ap, ap₂, sym, ℕ, List, [], ◌∷◌}
+use Rattle.bank.specs.Records.{Contents}
+use Rattle.target.specs.Passes.{Holder}
+use Rattle.commands.specs.Benches.{Setup, fresh_setup}
+use Rattle.commands.proofs.Benching.{last_of_one}
+use Rattle.commands.proofs.bench.Bench.new.Goals as goal
+
+abbrev setup : List Contents → Holder → List ℕ → Setup
+setup banks holder reply = record { banks = banks; holder = holder; reply = reply }
+
+pub returns : goal.returns
+returns c =
+    let pass = last_of_one _ _ _ (sym c.in-Some.ensures.items ∙ c.in_ok-node.ensures.passes) in
+    ap₂ (λ banks holder. setup banks holder c.new-2.result) c.in_ok-node.ensures.banks pass
+    ∙ ap (setup _ _) c.new-2.ensures
