@@ -1,10 +1,15 @@
 //! Jobs over files in memory: what they print, and their exit statuses.
 
+mod assembling;
 mod faults;
 mod folder;
 mod images;
+mod nodes;
+mod programs;
+mod reads;
 mod replies;
 mod usage;
+mod verifying;
 mod writers;
 
 use commands::{perform, words};
@@ -17,15 +22,45 @@ pub const PLAIN_READ: &str = "0 FE014C0067000100A0000000000010C9 EOP";
 
 pub const PLAIN_REPLY: &str = "0 67010C00FE0001000000106D0000000000000000000000000000000000 EOP";
 
-/// What these words print over these files, and the exit status.
-pub fn run(alloc: Global, given: &[&str], files: &[(&str, &[u8])]) -> Result<(String, u8), Fail> {
+/// What a job printed, its exit status, and the bytes that it wrote to a file.
+#[derive(Drop)]
+pub struct Outcome {
+    pub printed: String,
+    pub status: u8,
+    pub written: Vec<u8>,
+}
+
+/// What comes of these words over these files.
+pub fn done(alloc: Global, given: &[&str], files: &[(&str, &[u8])]) -> Result<Outcome, Fail> {
     let job = words(alloc, given)?;
     let mut out = Vec::new(alloc);
-    let status = perform(alloc, &job, &mut Folder { files }, &mut out)?;
-    Ok((String::from_utf8(out)?, status))
+    let mut folder = Folder {
+        files,
+        written: Vec::new(alloc),
+    };
+    let status = perform(alloc, &job, &mut folder, &mut out)?;
+    Ok(Outcome {
+        printed: String::from_utf8(out)?,
+        status,
+        written: folder.written,
+    })
+}
+
+/// What these words print over these files, and the exit status.
+pub fn run(alloc: Global, given: &[&str], files: &[(&str, &[u8])]) -> Result<(String, u8), Fail> {
+    let done = done(alloc, given, files)?;
+    Ok((done.printed, done.status))
 }
 
 /// What `judge` prints of these lines by the factory program, and the exit status.
 pub fn judged(alloc: Global, lines: &str) -> Result<(String, u8), Fail> {
     run(alloc, &["judge", "lines"], &[("lines", lines.as_bytes())])
+}
+
+/// The factory program with the verdict V in place of 0: `mov r0, V; exit`.
+pub fn verdict_image(verdict: u8) -> [u8; 32] {
+    let mut image = *b"BPFA\x01\x00\x02\x00\x02\x00\x00\x00\x00\x00\x00\x00\
+        \xb7\x00\x00\x00\x00\x00\x00\x00\x95\x00\x00\x00\x00\x00\x00\x00";
+    image[20] = verdict;
+    image
 }

@@ -3,10 +3,14 @@
 use commands::{Cannot, Files};
 use std::alloc::Global;
 
-/// Files in memory, by their names. None can be written.
+/// The name of a file that cannot be written.
+pub const LOCKED: &str = "locked";
+
+/// Files in memory, by their names, and the bytes that were written last.
 #[derive(Drop)]
 pub struct Folder<'a> {
     pub files: &'a [(&'a str, &'a [u8])],
+    pub written: Vec<u8>,
 }
 
 impl Files for Folder<'_> {
@@ -19,7 +23,11 @@ impl Files for Folder<'_> {
         Err(Cannot)
     }
 
-    fn write(&mut self, _name: &str, _bytes: &[u8]) -> Result<(), Cannot> {
-        Err(Cannot)
+    fn write(&mut self, name: &str, bytes: &[u8]) -> Result<(), Cannot> {
+        if name == LOCKED {
+            return Err(Cannot);
+        }
+        self.written.clear();
+        self.written.extend_from_slice(bytes).map_err(|_| Cannot)
     }
 }

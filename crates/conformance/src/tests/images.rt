@@ -1,18 +1,10 @@
 //! The program that judges.
 
-use super::{PLAIN_READ, PLAIN_REPLY, run};
+use super::{PLAIN_READ, PLAIN_REPLY, run, verdict_image};
 use std::test::Fail;
 
 /// What the plain read prints under an image, and the exit status.
 const WORDS: [&str; 4] = ["judge", "--image", "image", "lines"];
-
-/// `mov r0, V; exit` with the verdict V.
-fn verdict_image(verdict: u8) -> [u8; 32] {
-    let mut image = *b"BPFA\x01\x00\x02\x00\x02\x00\x00\x00\x00\x00\x00\x00\
-        \xb7\x00\x00\x00\x00\x00\x00\x00\x95\x00\x00\x00\x00\x00\x00\x00";
-    image[20] = verdict;
-    image
-}
 
 #[test]
 fn verdicts(rt: HostRuntime) -> Result<(), Fail> {

@@ -21,13 +21,42 @@ fn words_of_judge(rt: HostRuntime) -> Result<(), Fail> {
         ("judge -- a", None),
     ] {
         let given = words_of(rt.alloc(), line)?;
-        let Job::Judge { lines, image } = words(rt.alloc(), given.as_slice())?;
+        let Job::Judge { lines, image } = words(rt.alloc(), given.as_slice())? else {
+            return Err("another job".into());
+        };
         assert_eq!(rt; lines.as_str(), "a");
         assert_eq!(rt; image.as_ref().map(|name| name.as_str()), wanted);
     }
-    let Job::Judge { lines, image } = words(rt.alloc(), &["judge", "-"])?;
+    let Job::Judge { lines, image } = words(rt.alloc(), &["judge", "-"])? else {
+        return Err("another job".into());
+    };
     assert_eq!(rt; lines.as_str(), "-");
     assert!(rt; image.is_none());
+    Ok(())
+}
+
+#[test]
+fn words_of_asm_and_dis(rt: HostRuntime) -> Result<(), Fail> {
+    let Job::Assemble { text, image } = words(rt.alloc(), &["asm", "a", "b"])? else {
+        return Err("another job".into());
+    };
+    assert_eq!(rt; (text.as_str(), image.as_str()), ("a", "b"));
+    let Job::Disassemble { image } = words(rt.alloc(), &["dis", "a"])? else {
+        return Err("another job".into());
+    };
+    assert_eq!(rt; image.as_str(), "a");
+    Ok(())
+}
+
+#[test]
+fn words_of_verify(rt: HostRuntime) -> Result<(), Fail> {
+    for line in ["verify a", "verify -- a"] {
+        let given = words_of(rt.alloc(), line)?;
+        let Job::Verify { image } = words(rt.alloc(), given.as_slice())? else {
+            return Err("another job".into());
+        };
+        assert_eq!(rt; image.as_str(), "a");
+    }
     Ok(())
 }
 
@@ -50,7 +79,15 @@ fn usage_faults(rt: HostRuntime) -> Result<(), Fail> {
         "judge a --maps 1",
         "judge a --ports 2",
         "judge a -x",
-        "asm a b",
+        "verify",
+        "verify a b",
+        "verify a --maps 1",
+        "verify a --image b",
+        "asm",
+        "asm a",
+        "asm a b c",
+        "dis",
+        "dis a b",
         "serve a",
         "sim a",
         "help",

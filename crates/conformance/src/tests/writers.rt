@@ -52,7 +52,11 @@ fn perform_until(
         has_failed: false,
     };
     let files = [("lines", lines.as_bytes())];
-    let done = perform(alloc, job, &mut Folder { files: &files }, &mut out);
+    let mut folder = Folder {
+        files: &files,
+        written: Vec::new(alloc),
+    };
+    let done = perform(alloc, job, &mut folder, &mut out);
     (out, done)
 }
 
@@ -87,7 +91,11 @@ fn tried(alloc: Global, lines: &str) -> Option<(String, u8)> {
     let job = words(alloc, &["judge", "lines"]).ok()?;
     let files = [("lines", lines.as_bytes())];
     let mut out = Vec::new(alloc);
-    let status = perform(alloc, &job, &mut Folder { files: &files }, &mut out).ok()?;
+    let mut folder = Folder {
+        files: &files,
+        written: Vec::new(alloc),
+    };
+    let status = perform(alloc, &job, &mut folder, &mut out).ok()?;
     Some((String::from_utf8(out).ok()?, status))
 }
 
