@@ -1,0 +1,25 @@
+//! Links the static library `speed`, and the allocator that the toolchain's kit has for it.
+
+use std::path::PathBuf;
+
+fn main() {
+    let here = PathBuf::from(env("CARGO_MANIFEST_DIR"));
+    let library = here.join("../crates/speed/out");
+    let kit = PathBuf::from(env("RATTLE_KIT"));
+    println!("cargo::rustc-link-search=native={}", library.display());
+    println!(
+        "cargo::rustc-link-search=native={}",
+        kit.join("c").display()
+    );
+    println!("cargo::rustc-link-lib=static=speed");
+    println!("cargo::rustc-link-lib=static=libc_c");
+    println!("cargo::rerun-if-env-changed=RATTLE_KIT");
+    println!(
+        "cargo::rerun-if-changed={}",
+        library.join("libspeed.a").display()
+    );
+}
+
+fn env(name: &str) -> String {
+    std::env::var(name).unwrap_or_else(|_| panic!("{name} is not set: call bench/run"))
+}

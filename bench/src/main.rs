@@ -1,0 +1,67 @@
+//! Times the target: one line a measure, with the best and the median of several rounds.
+
+mod images;
+mod speed;
+
+use std::time::{Duration, Instant};
+
+/// How often a measure is taken.
+const ROUNDS: usize = 9;
+
+/// The plain read of 16 bytes at 0xA0000000 (docs/PROTOCOL.md).
+const READ: [u8; 16] = [
+    0xFE, 0x01, 0x4C, 0x00, 0x67, 0x00, 0x01, 0x00, 0xA0, 0x00, 0x00, 0x00, 0x00, 0x00, 0x10, 0xC9,
+];
+
+/// The packets of one node: its journal holds no more.
+const PACKETS: u32 = 65_536;
+
+fn main() {
+    let block: Vec<u8> = (0..4096u32).map(|k| (k * 31 % 251) as u8).collect();
+    measure("crc over 4096 bytes", "bytes", 4096.0 * 20_000.0, || {
+        timed(|| speed::crc(&block, 20_000))
+    });
+
+    let straight = images::straight();
+    let slots = images::slots(&straight);
+    measure("run of 512 slots", "instructions", slots * 20_000.0, || {
+        timed(|| speed::run(&straight, &READ, 20_000))
+    });
+    measure("verify of 512 slots", "images", 200.0, || {
+        timed(|| speed::verify(&straight, 200))
+    });
+
+    for (name, image) in [
+        ("judge and finish, yes image", images::yes()),
+        ("judge and finish, 100 instructions", images::fields()),
+    ] {
+        measure(name, "packets", f64::from(PACKETS), || {
+            let whole = timed(|| speed::judge(&image, &READ, PACKETS))?;
+            let prepared = timed(|| speed::prepare(&image, &READ, PACKETS))?;
+            Some(whole.saturating_sub(prepared))
+        });
+    }
+}
+
+/// The time of a call, or `None` where an input is refused.
+fn timed(call: impl FnOnce() -> u64) -> Option<Duration> {
+    let start = Instant::now();
+    let sum = std::hint::black_box(call());
+    (sum != speed::REFUSED).then(|| start.elapsed())
+}
+
+/// Prints how many of the unit a second the best and the median round did.
+fn measure(name: &str, unit: &str, amount: f64, mut round: impl FnMut() -> Option<Duration>) {
+    let rounds: Option<Vec<Duration>> = (0..ROUNDS).map(|_| round()).collect();
+    let Some(mut rounds) = rounds else {
+        println!("{name}: refused");
+        return;
+    };
+    rounds.sort();
+    let rate = |time: Duration| amount / time.as_secs_f64();
+    println!(
+        "{name}: best {:.4e}, median {:.4e} {unit} a second",
+        rate(rounds[0]),
+        rate(rounds[ROUNDS / 2]),
+    );
+}

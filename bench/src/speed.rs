@@ -1,0 +1,77 @@
+//! The functions of the static library. A slice is passed as a pointer and a length.
+
+/// What a call returns where an input is refused.
+pub const REFUSED: u64 = u64::MAX;
+
+unsafe extern "C" {
+    fn speed_crc(bytes: *const u8, length: usize, rounds: u32) -> u64;
+    fn speed_verify(image: *const u8, length: usize, rounds: u32) -> u64;
+    fn speed_run(
+        image: *const u8,
+        image_length: usize,
+        header: *const u8,
+        header_length: usize,
+        rounds: u32,
+    ) -> u64;
+    fn speed_prepare(
+        image: *const u8,
+        image_length: usize,
+        packet: *const u8,
+        packet_length: usize,
+        count: u32,
+    ) -> u64;
+    fn speed_judge(
+        image: *const u8,
+        image_length: usize,
+        packet: *const u8,
+        packet_length: usize,
+        count: u32,
+    ) -> u64;
+}
+
+pub fn crc(bytes: &[u8], rounds: u32) -> u64 {
+    unsafe { speed_crc(bytes.as_ptr(), bytes.len(), rounds) }
+}
+
+pub fn verify(image: &[u8], rounds: u32) -> u64 {
+    unsafe { speed_verify(image.as_ptr(), image.len(), rounds) }
+}
+
+/// Runs the image on the 16 bytes of a header.
+pub fn run(image: &[u8], header: &[u8; 16], rounds: u32) -> u64 {
+    unsafe {
+        speed_run(
+            image.as_ptr(),
+            image.len(),
+            header.as_ptr(),
+            header.len(),
+            rounds,
+        )
+    }
+}
+
+/// Makes a fresh node and so many packets.
+pub fn prepare(image: &[u8], packet: &[u8], count: u32) -> u64 {
+    unsafe {
+        speed_prepare(
+            image.as_ptr(),
+            image.len(),
+            packet.as_ptr(),
+            packet.len(),
+            count,
+        )
+    }
+}
+
+/// Makes a fresh node and so many packets, then judges and finishes each.
+pub fn judge(image: &[u8], packet: &[u8], count: u32) -> u64 {
+    unsafe {
+        speed_judge(
+            image.as_ptr(),
+            image.len(),
+            packet.as_ptr(),
+            packet.len(),
+            count,
+        )
+    }
+}
