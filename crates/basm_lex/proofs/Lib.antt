@@ -2,3 +2,5 @@ pub mod Spaces
 pub mod RegisterTexts
 pub mod Decimals
 pub mod PlaceTexts
+pub mod PlaceReadings
+pub mod Readings

@@ -1,5 +1,5 @@
 -- The names of the registers.
-use Rattle.std.proofs.Common.{◌≡◌, ℕ, zero, suc, ◌≤◌, List, refl, ◌∙◌, arith}
+use Rattle.std.proofs.Common.{◌≡◌, ℕ, zero, suc, ◌-◌, ◌≤◌, List, [], ◌∷◌, refl, sym, ap, ◌∙◌, arith}
 use Rattle.std.specs.Prelude.{◌≢◌, codes}
 use Rattle.std.specs.Fmt.{digits}
 use Rattle.bpf_insn.specs.Text.{register_text}
@@ -63,3 +63,29 @@ no_register word h0 h1 h2 h3 h4 h5 h6 h7 h8 h9 h10 (suc (suc (suc (suc (suc (suc
 no_register word h0 h1 h2 h3 h4 h5 h6 h7 h8 h9 h10 (suc (suc (suc (suc (suc (suc (suc (suc (suc zero))))))))) w = h9 (w.1 ∙ text_9)
 no_register word h0 h1 h2 h3 h4 h5 h6 h7 h8 h9 h10 (suc (suc (suc (suc (suc (suc (suc (suc (suc (suc zero)))))))))) w = h10 (w.1 ∙ text_10)
 no_register word h0 h1 h2 h3 h4 h5 h6 h7 h8 h9 h10 (suc (suc (suc (suc (suc (suc (suc (suc (suc (suc (suc n))))))))))) w = absurd (omega arith)
+
+-- the number in a register's name
+number_in : List ℕ → ℕ
+number_in [] = 0
+number_in (c ∷ []) = 0
+number_in (c ∷ d ∷ []) = d - 48
+number_in (c ∷ d ∷ e ∷ xs) = 10
+
+number_in_text : (n : ℕ) → n ≤ 10 → number_in (register_text n) ≡ n
+unfolding number_in
+number_in_text zero low = ap number_in text_0
+number_in_text (suc zero) low = ap number_in text_1
+number_in_text (suc (suc zero)) low = ap number_in text_2
+number_in_text (suc (suc (suc zero))) low = ap number_in text_3
+number_in_text (suc (suc (suc (suc zero)))) low = ap number_in text_4
+number_in_text (suc (suc (suc (suc (suc zero))))) low = ap number_in text_5
+number_in_text (suc (suc (suc (suc (suc (suc zero)))))) low = ap number_in text_6
+number_in_text (suc (suc (suc (suc (suc (suc (suc zero))))))) low = ap number_in text_7
+number_in_text (suc (suc (suc (suc (suc (suc (suc (suc zero)))))))) low = ap number_in text_8
+number_in_text (suc (suc (suc (suc (suc (suc (suc (suc (suc zero))))))))) low = ap number_in text_9
+number_in_text (suc (suc (suc (suc (suc (suc (suc (suc (suc (suc zero)))))))))) low = ap number_in text_10
+number_in_text (suc (suc (suc (suc (suc (suc (suc (suc (suc (suc (suc n))))))))))) low = absurd (omega arith)
+
+-- a word names one register
+pub one_register : (word : List ℕ) (m n : ℕ) → WritesRegister word m → WritesRegister word n → m ≡ n
+one_register word m n v w = sym (number_in_text m v.0) ∙ ap number_in (sym v.1 ∙ w.1) ∙ number_in_text n w.0

@@ -47,6 +47,10 @@ abbrev pub WritesWide : List ℕ → ℕ → Type 0
 WritesWide word value =
     (IsNumeral 10 word × (value ≡ digits_value 10 word) × (value < 2 ^ 64)) ⊎ (WritesBelowZero word value ⊎ WritesBits 16 word value)
 
+-- a number of 64 bits that is written as a decimal
+abbrev pub WritesWideDecimal : List ℕ → ℕ → Type 0
+WritesWideDecimal word value = (IsNumeral 10 word × (value ≡ digits_value 10 word) × (value < 2 ^ 64)) ⊎ WritesBelowZero word value
+
 -- how far: digits, or bits as of a number of 32 bits
 abbrev pub WritesMagnitude : List ℕ → ℤ → Type 0
 WritesMagnitude word value = (IsNumeral 10 word × (value ≡ pos (digits_value 10 word))) ⊎ WritesPattern word value

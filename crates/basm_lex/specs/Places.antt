@@ -1,5 +1,5 @@
 -- What words write: places in memory.
-use Rattle.std.specs.Prelude.{◌≡◌, ◌≤◌, ℕ, ℤ, ◌⊎◌, List, ◌++◌, codes, FitsSigned}
+use Rattle.std.specs.Prelude.{◌≡◌, ◌≤◌, ℕ, ℤ, List, ◌++◌, codes, FitsSigned}
 use Rattle.std.specs.Int.{w16}
 use Rattle.bpf_insn.specs.Text.{register_text}
 use Rattle.basm_lex.specs.Numbers.{WritesDistance}

@@ -1,10 +1,10 @@
 //! Numbers in a text.
 
-ghost use Rattle.std.specs.Prelude.{◌≡◌, ◌≤◌, IfOk, negsuc, ◌≤ℤ◌, FitsSigned, length};
+ghost use Rattle.std.specs.Prelude.{◌≡◌, ◌≤◌, ◌<◌, ◌^◌, ℕ, ℤ, pos, negsuc, ◌≤ℤ◌, FitsSigned, IfOk, OkIff};
 ghost use Rattle.std.specs.Bool.{MatchBool};
 ghost use Rattle.std.specs.Int.{w32, cast_signed};
 ghost use Rattle.std.specs.Str.Parse.{IsNumeral, digits_value};
-ghost use Rattle.basm_lex.specs.Numbers.{IsDecimal, IsHexadecimal, WritesDecimal, WritesDistance, WritesMagnitude, WritesNumber, WritesWide};
+ghost use Rattle.basm_lex.specs.Numbers.{IsDecimal, IsHexadecimal, WritesDistance, WritesMagnitude, WritesNumber, WritesWide, WritesWideDecimal, decimal_value};
 
 use thiserror::Error;
 
@@ -22,7 +22,8 @@ pub enum NumberFault {
 /// The number of 32 bits that a word writes: a decimal with an optional minus, or `0x` and at most 8
 /// hexadecimal digits, which are its bits.
 pub fn number(word: &str) -> Result<i32, NumberFault>
-    ensures { IfOk result (WritesNumber word.now) }
+    ensures writes { IfOk result (WritesNumber word.now) }
+    ensures exact { (value : ℤ) → WritesNumber word.now value → result ≡ Ok value }
 {
     match word.strip_prefix("0x") {
         Some(digits) => pattern(digits),
@@ -33,7 +34,8 @@ pub fn number(word: &str) -> Result<i32, NumberFault>
 /// The number of 64 bits that a word writes: a decimal from -2^63 to 2^64 - 1, or `0x` and at most 16
 /// hexadecimal digits.
 pub fn wide_number(word: &str) -> Result<u64, NumberFault>
-    ensures { IfOk result (WritesWide word.now) }
+    ensures writes { IfOk result (WritesWide word.now) }
+    ensures exact { (value : ℕ) → WritesWide word.now value → result ≡ Ok value }
 {
     match word.strip_prefix("0x") {
         Some(digits) => wide_pattern(digits),
@@ -44,19 +46,23 @@ pub fn wide_number(word: &str) -> Result<u64, NumberFault>
 /// The distance that a word writes: a plus or a minus, and then decimal digits, or `0x` and at most 8
 /// hexadecimal digits, which are the bits of a number of 32 bits.
 pub fn distance(word: &str) -> Result<i64, NumberFault>
-    ensures { IfOk result (WritesDistance word.now) }
+    ensures writes { IfOk result (WritesDistance word.now) }
+    ensures exact { (value : ℤ) → WritesDistance word.now value → FitsSigned w32 value → result ≡ Ok value }
 {
     if let Some(rest) = word.strip_prefix('+') {
         return magnitude(rest);
     }
-    let rest = word.strip_prefix('-').ok_or(NumberFault::Form)?;
-    Ok(-magnitude(rest)?)
+    match word.strip_prefix('-') {
+        Some(rest) => Ok(-magnitude(rest)?),
+        None => Err(NumberFault::Form),
+    }
 }
 
 /// What follows the sign of a distance.
 pub fn magnitude(word: &str) -> Result<i64, NumberFault>
     ensures writes { IfOk result (WritesMagnitude word.now) }
     ensures low { IfOk result (λ n. negsuc 2147483647 ≤ℤ n) }
+    ensures exact { (value : ℤ) → WritesMagnitude word.now value → value ≤ℤ pos 2147483648 → result ≡ Ok value }
 {
     match word.strip_prefix("0x") {
         Some(digits) => Ok(i64::from(pattern(digits)?)),
@@ -65,7 +71,7 @@ pub fn magnitude(word: &str) -> Result<i64, NumberFault>
 }
 
 fn pattern(digits: &str) -> Result<i32, NumberFault>
-    ensures { IfOk result (λ value. IsHexadecimal 8 digits.now × (value ≡ cast_signed w32 (digits_value 16 digits.now))) }
+    ensures { OkIff result (IsHexadecimal 8 digits.now) (cast_signed w32 (digits_value 16 digits.now)) }
 {
     if !is_numeral(digits, 16) {
         return Err(NumberFault::Form);
@@ -80,7 +86,7 @@ fn pattern(digits: &str) -> Result<i32, NumberFault>
 }
 
 fn wide_pattern(digits: &str) -> Result<u64, NumberFault>
-    ensures { IfOk result (λ value. IsHexadecimal 16 digits.now × (value ≡ digits_value 16 digits.now)) }
+    ensures { OkIff result (IsHexadecimal 16 digits.now) (digits_value 16 digits.now) }
 {
     if !is_numeral(digits, 16) {
         return Err(NumberFault::Form);
@@ -95,7 +101,7 @@ fn wide_pattern(digits: &str) -> Result<u64, NumberFault>
 }
 
 fn decimal(word: &str) -> Result<i32, NumberFault>
-    ensures { IfOk result (λ value. WritesDecimal word.now value × FitsSigned w32 value) }
+    ensures { OkIff result (IsDecimal word.now × FitsSigned w32 (decimal_value word.now)) (decimal_value word.now) }
 {
     if !is_decimal(word) {
         return Err(NumberFault::Form);
@@ -107,7 +113,8 @@ fn decimal(word: &str) -> Result<i32, NumberFault>
 }
 
 fn wide_decimal(word: &str) -> Result<u64, NumberFault>
-    ensures { IfOk result (WritesWide word.now) }
+    ensures writes { IfOk result (WritesWide word.now) }
+    ensures exact { (value : ℕ) → WritesWideDecimal word.now value → result ≡ Ok value }
 {
     if !is_decimal(word) {
         return Err(NumberFault::Form);
@@ -127,7 +134,7 @@ fn wide_decimal(word: &str) -> Result<u64, NumberFault>
 
 /// A decimal without a sign.
 fn long_decimal(digits: &str) -> Result<u32, NumberFault>
-    ensures { IfOk result (λ value. IsNumeral 10 digits.now × (value ≡ digits_value 10 digits.now)) }
+    ensures { OkIff result (IsNumeral 10 digits.now × (digits_value 10 digits.now < 2 ^ 32)) (digits_value 10 digits.now) }
 {
     if !is_numeral(digits, 10) {
         return Err(NumberFault::Form);

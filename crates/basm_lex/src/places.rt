@@ -1,6 +1,6 @@
 //! Places in memory in a text.
 
-ghost use Rattle.std.specs.Prelude.{◌≡◌, ◌∷◌, ◌++◌, [], IfOk, IfSome, FitsSigned};
+ghost use Rattle.std.specs.Prelude.{◌≡◌, ◌≢◌, ℕ, ℤ, List, ◌∷◌, ◌++◌, [], IfOk, MatchOption, MatchResult, FitsSigned};
 ghost use Rattle.std.specs.Int.{w16};
 ghost use Rattle.basm_lex.specs.Numbers.{WritesDistance};
 ghost use Rattle.basm_lex.specs.Places.{WritesPlace, WritesRegister};
@@ -18,7 +18,9 @@ pub struct Place {
 
 /// The place that a word writes: `[rB+N]` or `[rB-N]`.
 pub fn read_place(word: &str) -> Result<Place, NumberFault>
-    ensures { IfOk result (λ place. WritesPlace word.now place.base place.offset) }
+    ensures writes { IfOk result (λ place. WritesPlace word.now place.base place.offset) }
+    ensures exact { (base : ℕ) (offset : ℤ) → WritesPlace word.now base offset
+        → MatchResult result (λ place. (place.base ≡ base) × (place.offset ≡ offset)) (λ _. ⊥) }
 {
     let inner = inside(word)?;
     match inner.split_once('+') {
@@ -40,7 +42,8 @@ pub fn read_place(word: &str) -> Result<Place, NumberFault>
 
 /// The offset that digits after a plus write.
 fn forward(digits: &str) -> Result<i16, NumberFault>
-    ensures { IfOk result (λ offset. WritesDistance (43 ∷ digits.now) offset × FitsSigned w16 offset) }
+    ensures writes { IfOk result (λ offset. WritesDistance (43 ∷ digits.now) offset × FitsSigned w16 offset) }
+    ensures exact { (offset : ℤ) → WritesDistance (43 ∷ digits.now) offset → FitsSigned w16 offset → result ≡ Ok offset }
 {
     let offset = magnitude(digits)?;
     i16::try_from(offset).map_err(|_| NumberFault::Range)
@@ -48,7 +51,8 @@ fn forward(digits: &str) -> Result<i16, NumberFault>
 
 /// The offset that digits after a minus write.
 fn backward(digits: &str) -> Result<i16, NumberFault>
-    ensures { IfOk result (λ offset. WritesDistance (45 ∷ digits.now) offset × FitsSigned w16 offset) }
+    ensures writes { IfOk result (λ offset. WritesDistance (45 ∷ digits.now) offset × FitsSigned w16 offset) }
+    ensures exact { (offset : ℤ) → WritesDistance (45 ∷ digits.now) offset → FitsSigned w16 offset → result ≡ Ok offset }
 {
     let offset = -magnitude(digits)?;
     i16::try_from(offset).map_err(|_| NumberFault::Range)
@@ -56,7 +60,7 @@ fn backward(digits: &str) -> Result<i16, NumberFault>
 
 /// What stands between the brackets.
 fn inside(word: &str) -> Result<&str, NumberFault>
-    ensures { IfOk result (λ inner. word.now ≡ 91 ∷ (inner.now ++ 93 ∷ [])) }
+    ensures { MatchResult result (λ inner. word.now ≡ 91 ∷ (inner.now ++ 93 ∷ [])) (λ _. (inner : List ℕ) → word.now ≢ 91 ∷ (inner ++ 93 ∷ [])) }
 {
     match within(word) {
         Some(inner) => Ok(inner),
@@ -65,13 +69,17 @@ fn inside(word: &str) -> Result<&str, NumberFault>
 }
 
 fn within(word: &str) -> Option<&str>
-    ensures { IfSome result (λ inner. word.now ≡ 91 ∷ (inner.now ++ 93 ∷ [])) }
+    ensures { MatchOption result ((inner : List ℕ) → word.now ≢ 91 ∷ (inner ++ 93 ∷ [])) (λ inner. word.now ≡ 91 ∷ (inner.now ++ 93 ∷ [])) }
 {
-    word.strip_prefix('[')?.strip_suffix(']')
+    match word.strip_prefix('[') {
+        Some(rest) => rest.strip_suffix(']'),
+        None => None,
+    }
 }
 
 fn based(word: &str) -> Result<Register, NumberFault>
-    ensures { IfOk result (WritesRegister word.now) }
+    ensures writes { IfOk result (WritesRegister word.now) }
+    ensures exact { (number : ℕ) → WritesRegister word.now number → result ≡ Ok number }
 {
     match register(word) {
         Some(found) => Ok(found),

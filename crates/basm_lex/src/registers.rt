@@ -1,13 +1,14 @@
 //! Registers in a text.
 
-ghost use Rattle.std.specs.Prelude.{ℕ, MatchOption};
+ghost use Rattle.std.specs.Prelude.{◌≡◌, ℕ, MatchOption};
 ghost use Rattle.basm_lex.specs.Places.{WritesRegister};
 
 use bpf_insn::Register;
 
 /// The register that a word names: `r0` to `r10`.
 pub fn register(word: &str) -> Option<Register>
-    ensures { MatchOption result ((n : ℕ) → ¬ WritesRegister word.now n) (λ n. WritesRegister word.now n) }
+    ensures writes { MatchOption result ((n : ℕ) → ¬ WritesRegister word.now n) (λ n. WritesRegister word.now n) }
+    ensures exact { (n : ℕ) → WritesRegister word.now n → result ≡ Some n }
 {
     match register_number(word) {
         Some(number) => Register::new(number),
