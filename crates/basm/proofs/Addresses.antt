@@ -1,10 +1,12 @@
 -- What the kind of an address says of its numbers.
 use Rattle.std.proofs.Common.{◌≡◌, ℕ, ℤ, pos, List, Option, Some, None, refl, sym, eqb-true}
-use Rattle.std.specs.Prelude.{◌==◌, IfSome}
+use Rattle.std.specs.Prelude.{◌==◌, IfSome, Ok}
+use Rattle.std.specs.declared.result.Result.{Result}
 use Rattle.std.proofs.lemmas.Bool.{cond_both}
 use Rattle.bpf_insn.specs.declared.insn.Address.{Address}
 use Rattle.bpf_insn.specs.declared.insn.Address.TheVariants.{MapByFile, MapValueByFile, Variable, Code, MapValueByIndex}
 use Rattle.bpf_insn.specs.Codes.{address_subtype, address_first, address_second}
+use Rattle.bpf_insn.specs.declared.insn.Insn.{Insn}
 use Rattle.bpf_insn.specs.declared.insn.Insn.TheVariants.{LoadAddress}
 use Rattle.basm_lex.specs.Numbers.{WritesNumber}
 use Rattle.basm_lex.specs.Places.{WritesRegister}
@@ -29,3 +31,14 @@ pub load_address : {X : Type 0} (text : X → List ℕ) (names : List ℕ → Op
     → (pos (address_subtype address) ≡ subtype) × (address_first address ≡ first) × (address_second address ≡ second)
     → WritesOperands text names slot xs (LoadAddress dst address)
 load_address text names slot xs dst subtype first second address four same = rw (same.0, same.1, same.2) four
+
+-- an address by its own numbers
+pub address_again : (address : Address) → address_of (address_subtype address) (address_first address) (address_second address) ≡ Some address
+address_again (MapByFile first) = refl
+address_again (MapValueByFile first second) = refl
+address_again (Variable first) = refl
+address_again (Code first) = refl
+address_again (MapValueByIndex first second) = refl
+
+pub same_load : {E : Type 0} (m n : ℕ) (a b : Address) → m ≡ n → Some a ≡ Some b → ◌≡◌ {A = Result Insn E} (Ok (LoadAddress m a)) (Ok (LoadAddress n b))
+same_load m n a b same found = let one : a ≡ b = cc found in λ i. Ok (LoadAddress (same i) (one i))

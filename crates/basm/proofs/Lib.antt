@@ -1,2 +1,17 @@
 pub mod Addresses
+pub mod Arms
+pub mod Images
+pub mod InsnReadings
+pub mod Items
 pub mod Lookups
+pub mod LoopReadings
+pub mod Loops
+pub mod MnemonicTables
+pub mod MnemonicWords
+pub mod OperandReadings
+pub mod Printed
+pub mod Rooms
+pub mod Surveys
+pub mod TargetReadings
+pub mod Texts
+pub mod Words

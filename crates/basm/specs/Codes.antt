@@ -1,5 +1,5 @@
 -- The numbers of the assembler's faults.
-use Rattle.std.specs.Prelude.{ℕ}
+use Rattle.std.specs.Prelude.{ℕ, nat_lt, if◌then◌else◌}
 use Rattle.basm.specs.declared.faults.AsmCode.{AsmCode}
 use Rattle.basm.specs.declared.faults.AsmCode.TheVariants.{BadWord, BadOperand, BadNumber, BadLabel, Reach, TooMany, BadBudget, BadLoop, Memory}
 
@@ -13,3 +13,7 @@ asm_code TooMany = 6
 asm_code BadBudget = 7
 asm_code BadLoop = 8
 asm_code Memory = 9
+
+-- the one of two faults that has the lower number
+abbrev pub lower_code : AsmCode → AsmCode → AsmCode
+lower_code code other = if nat_lt (asm_code other) (asm_code code) then other else code

@@ -1,5 +1,8 @@
+pub mod Adding
 pub mod Codes
+pub mod Labels
 pub mod Mnemonics
 pub mod Naming
+pub mod Outcomes
 pub mod Printed
 pub mod Relation

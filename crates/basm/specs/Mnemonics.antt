@@ -21,20 +21,20 @@ mnemonic_word AddressLoad = codes "ldimm"
 mnemonic_word (Calling callee) = callee_name callee
 mnemonic_word Exiting = codes "exit"
 
--- how many slots the instruction takes
-abbrev pub mnemonic_slots : Mnemonic → ℕ
-mnemonic_slots (Arithmetic op width) = 1
-mnemonic_slots (Negation width) = 1
-mnemonic_slots (SignedMove extension) = 1
-mnemonic_slots (Swapping swap bits) = 1
-mnemonic_slots (Loading size) = 1
-mnemonic_slots (Storing size) = 1
-mnemonic_slots (StoringRegister size) = 1
-mnemonic_slots (Jumping condition width) = 1
-mnemonic_slots ShortGoto = 1
-mnemonic_slots LongGoto = 1
-mnemonic_slots WideLoad = 2
-mnemonic_slots MapLoad = 2
-mnemonic_slots AddressLoad = 2
-mnemonic_slots (Calling callee) = 1
-mnemonic_slots Exiting = 1
+-- which table of names has the word: operations of two operands, conditional jumps, loads and stores, all others
+abbrev pub table_of : Mnemonic → ℕ
+table_of (Arithmetic op width) = 0
+table_of (Negation width) = 3
+table_of (SignedMove extension) = 3
+table_of (Swapping swap bits) = 3
+table_of (Loading size) = 2
+table_of (Storing size) = 2
+table_of (StoringRegister size) = 2
+table_of (Jumping condition width) = 1
+table_of ShortGoto = 3
+table_of LongGoto = 3
+table_of WideLoad = 3
+table_of MapLoad = 3
+table_of AddressLoad = 3
+table_of (Calling callee) = 3
+table_of Exiting = 3

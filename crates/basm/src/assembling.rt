@@ -1,7 +1,13 @@
 //! From a text to an image.
 
-ghost use Rattle.std.specs.Prelude.{IfOk};
-ghost use Rattle.bpf.specs.Program.{IsProgram};
+ghost use Rattle.std.specs.Prelude.{◌≡◌, ◌==◌, IfOk, MatchResult};
+ghost use Rattle.std.specs.List.{slice_split};
+ghost use Rattle.bpf.specs.Program.{Program};
+ghost use Rattle.basm.specs.Adding.{ArePartsOf, SayParts, SurveysText};
+ghost use Rattle.basm.specs.Naming.{slot_named};
+ghost use Rattle.basm.specs.Outcomes.{Makes, out_of_memory};
+ghost use Rattle.basm.specs.Relation.{IsText};
+ghost use Rattle.basm.specs.declared.faults.AsmCode.TheVariants.{Memory};
 
 use crate::faults::{AsmCode, AsmFault};
 use crate::parts::Parts;
@@ -17,10 +23,13 @@ use std::alloc::Global;
 /// without instructions is `TooMany` and one without a budget `BadBudget` at line 0, and so is
 /// `Memory` wherever it was refused.
 pub fn assemble(alloc: Global, text: &str) -> Result<Image, AsmFault>
-    ensures { IfOk result IsProgram }
+    ensures text { IfOk result (IsText text.now) }
+
+    // A text of an image gives that image, unless memory is refused.
+    ensures exact { (p : Program) → IsText text.now p → Makes p result }
 {
     let survey = Survey::of(alloc, text)?;
-    if !survey.has_code {
+    if survey.slots == 0 {
         return Err(AsmFault::of_text(AsmCode::TooMany));
     }
     if !survey.has_budget {
@@ -34,7 +43,10 @@ pub fn assemble(alloc: Global, text: &str) -> Result<Image, AsmFault>
 }
 
 /// What the lines declare.
-fn read_lines(alloc: Global, text: &str, survey: &Survey) -> Result<Parts, AsmFault> {
+fn read_lines(alloc: Global, text: &str, survey: &Survey) -> Result<Parts, AsmFault>
+    ensures parts { IfOk result (SayParts (slot_named survey.now.names) (slice_split (λ c. c == 10) text.now)) }
+    ensures exact { (p : Program) (t : IsText text.now p) → SurveysText t survey.now → MatchResult result (ArePartsOf t.items) (λ fault. fault ≡ out_of_memory) }
+{
     let mut parts = Parts::new(alloc);
     let mut number: u32 = 0;
     for line in text.split('\n') {
@@ -47,7 +59,9 @@ fn read_lines(alloc: Global, text: &str, survey: &Survey) -> Result<Parts, AsmFa
 }
 
 /// The fault of this line, or that of an earlier one which defines a name again.
-fn first_fault(repeated: Option<u32>, number: u32, code: AsmCode) -> AsmFault {
+fn first_fault(repeated: Option<u32>, number: u32, code: AsmCode) -> AsmFault
+    ensures { code ≡ Memory → result ≡ out_of_memory }
+{
     match repeated {
         Some(line) if line < number && code != AsmCode::Memory => {
             AsmFault::of_line(line, AsmCode::BadLabel)

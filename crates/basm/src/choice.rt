@@ -9,7 +9,8 @@ pub fn both<A: Drop, B: Drop>(
     first: Result<A, AsmCode>,
     second: Result<B, AsmCode>,
 ) -> Result<(A, B), AsmCode>
-    ensures { IfOk result (λ both. (first ≡ Ok both.0) × (second ≡ Ok both.1)) }
+    ensures both { IfOk result (λ both. (first ≡ Ok both.0) × (second ≡ Ok both.1)) }
+    ensures exact { IfOk first (λ a. IfOk second (λ b. result ≡ Ok (a, b))) }
 {
     match first {
         Ok(a) => match second {

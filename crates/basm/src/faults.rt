@@ -1,7 +1,8 @@
 //! Why a text is no image.
 
 ghost use Rattle.std.specs.Prelude.{◌≡◌};
-ghost use Rattle.basm.specs.Codes.{asm_code};
+ghost use Rattle.basm.specs.Codes.{asm_code, lower_code};
+ghost use Rattle.basm.specs.Outcomes.{image_code, line_fault, out_of_memory, text_fault};
 ghost use Rattle.basm.specs.declared.faults.AsmCode.TheVariants.{Memory};
 
 use basm_lex::NumberFault;
@@ -60,7 +61,9 @@ impl AsmCode {
     }
 
     /// The one of two faults of a line that has the lower number.
-    pub fn lower(self, other: AsmCode) -> AsmCode {
+    pub fn lower(self, other: AsmCode) -> AsmCode
+        ensures { result ≡ lower_code self other }
+    {
         if other.code() < self.code() {
             other
         } else {
@@ -106,12 +109,16 @@ pub struct AsmFault {
 
 impl AsmFault {
     /// A fault of the whole text.
-    pub fn of_text(code: AsmCode) -> AsmFault {
+    pub fn of_text(code: AsmCode) -> AsmFault
+        ensures { result ≡ text_fault code }
+    {
         AsmFault { line: 0, code }
     }
 
     /// A fault of a line; want of memory is no line's.
-    pub fn of_line(line: u32, code: AsmCode) -> AsmFault {
+    pub fn of_line(line: u32, code: AsmCode) -> AsmFault
+        ensures { result ≡ line_fault line code }
+    {
         match code {
             AsmCode::Memory => AsmFault::of_text(code),
             _ => AsmFault { line, code },
@@ -120,18 +127,24 @@ impl AsmFault {
 }
 
 impl From<AllocError> for AsmFault {
+    ghost from_gives = { λ _ fault. fault ≡ out_of_memory };
+
     fn from(_refused: AllocError) -> AsmFault {
         AsmFault::of_text(AsmCode::Memory)
     }
 }
 
 impl<T: Drop> From<AllocFailed<T>> for AsmFault {
+    ghost from_gives = { λ _ fault. fault ≡ out_of_memory };
+
     fn from(_refused: AllocFailed<T>) -> AsmFault {
         AsmFault::of_text(AsmCode::Memory)
     }
 }
 
 impl From<ImageFault> for AsmFault {
+    ghost from_gives = { λ found fault. fault ≡ text_fault (image_code found) };
+
     fn from(fault: ImageFault) -> AsmFault {
         AsmFault::of_text(match fault {
             ImageFault::Budget => AsmCode::BadBudget,

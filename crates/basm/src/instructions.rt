@@ -1,12 +1,16 @@
 //! From a line to an instruction.
 
-ghost use Rattle.std.specs.Prelude.{◌≡◌, ◌++◌, ◌∷◌, [], ℕ, List, Option, pos, IfOk, IfSome};
+ghost use Rattle.std.specs.Prelude.{◌≡◌, ◌+◌, ◌≤◌, ◌++◌, ◌∷◌, [], ℕ, ℤ, List, Option, pos, FitsSigned, IfOk, IfSome};
+ghost use Rattle.std.specs.Int.{w16, w32};
 ghost use Rattle.bpf_insn.specs.Codes.{address_first, address_second, address_subtype};
-ghost use Rattle.basm_lex.specs.Numbers.{WritesNumber};
+ghost use Rattle.bpf_insn.specs.declared.insn.Insn.{Insn as AnInsn};
+ghost use Rattle.bpf_insn.specs.Spelling.{slots_of};
+ghost use Rattle.basm_lex.specs.Numbers.{WritesNumber, WritesWide};
 ghost use Rattle.basm_lex.specs.Places.{WritesPlace, WritesRegister};
+ghost use Rattle.basm.specs.Adding.{PushesInsn, UnlessMemory};
 ghost use Rattle.basm.specs.Mnemonics.{mnemonic_word};
 ghost use Rattle.basm.specs.Naming.{slot_named};
-ghost use Rattle.basm.specs.Relation.{Four, Three, Two, WritesInsn, WritesOperand};
+ghost use Rattle.basm.specs.Relation.{Four, One, Three, Two, WritesInsn, WritesOperand, WritesTarget};
 
 use crate::choice::both;
 use crate::faults::AsmCode;
@@ -27,21 +31,30 @@ pub fn add_insn(
     operands: &[&str],
     names: &Names,
     slot: u32,
-) -> Result<u32, AsmCode> {
+) -> Result<u32, AsmCode>
+    ensures writes { IfOk result (λ after. (insn : AnInsn) × WritesInsn (λ operand. operand.now) (slot_named names.now) slot (mnemonic_word found) operands.now insn × PushesInsn insns.old.items insns.new.items slot insn after) }
+    ensures exact { (insn : AnInsn) → WritesInsn (λ operand. operand.now) (slot_named names.now) slot (mnemonic_word found) operands.now insn → slot + slots_of insn ≤ 512 → UnlessMemory result (PushesInsn insns.old.items insns.new.items slot insn) }
+{
     match read_insn(found, operands, names, slot) {
         Ok(insn) => push_insn(insns, slot, &insn),
         Err(fault) => Err(fault),
     }
 }
 
-fn push_insn(insns: &mut Vec<Insn>, slot: u32, insn: &Insn) -> Result<u32, AsmCode> {
+fn push_insn(insns: &mut Vec<Insn>, slot: u32, insn: &Insn) -> Result<u32, AsmCode>
+    ensures pushes { IfOk result (PushesInsn insns.old.items insns.new.items slot insn.now) }
+    ensures exact { slot + slots_of insn.now ≤ 512 → UnlessMemory result (λ _. Unit {0}) }
+{
     let after = slot_after(slot, insn)?;
     // `push` of an instruction is not covered by the toolchain's borrow checker today.
     insns.extend_from_slice(&[*insn])?;
     Ok(after)
 }
 
-fn slot_after(slot: u32, insn: &Insn) -> Result<u32, AsmCode> {
+fn slot_after(slot: u32, insn: &Insn) -> Result<u32, AsmCode>
+    ensures after { IfOk result (λ after. (after ≡ slot + slots_of insn.now) × (after ≤ 512)) }
+    ensures exact { slot + slots_of insn.now ≤ 512 → result ≡ Ok (slot + slots_of insn.now) }
+{
     let after = slot.saturating_add(insn.slots() as u32);
     if after > MAX_SLOTS {
         Err(AsmCode::TooMany)
@@ -52,7 +65,8 @@ fn slot_after(slot: u32, insn: &Insn) -> Result<u32, AsmCode> {
 
 /// The instruction of this name with these operands, at the slot.
 fn read_insn(found: Mnemonic, operands: &[&str], names: &Names, slot: u32) -> Result<Insn, AsmCode>
-    ensures { IfOk result (WritesInsn (λ operand. operand.now) (slot_named names.now) slot (mnemonic_word found) operands.now) }
+    ensures writes { IfOk result (WritesInsn (λ operand. operand.now) (slot_named names.now) slot (mnemonic_word found) operands.now) }
+    ensures exact { (insn : Insn) → WritesInsn (λ operand. operand.now) (slot_named names.now) slot (mnemonic_word found) operands.now insn → result ≡ Ok insn }
 {
     match found {
         Mnemonic::Arithmetic(op, width) => arithmetic(op, width, operands),
@@ -74,26 +88,30 @@ fn read_insn(found: Mnemonic, operands: &[&str], names: &Names, slot: u32) -> Re
 }
 
 fn reg(word: &str) -> Result<Register, AsmCode>
-    ensures { IfOk result (WritesRegister word.now) }
+    ensures writes { IfOk result (WritesRegister word.now) }
+    ensures exact { (number : ℕ) → WritesRegister word.now number → result ≡ Ok number }
 {
     register(word).ok_or(AsmCode::BadOperand)
 }
 
 fn immediate(word: &str) -> Result<i32, AsmCode>
-    ensures { IfOk result (WritesNumber word.now) }
+    ensures writes { IfOk result (WritesNumber word.now) }
+    ensures exact { (value : ℤ) → WritesNumber word.now value → result ≡ Ok value }
 {
     Ok(number(word)?)
 }
 
 fn memory(word: &str) -> Result<Place, AsmCode>
-    ensures { IfOk result (λ place. WritesPlace word.now place.base place.offset) }
+    ensures writes { IfOk result (λ place. WritesPlace word.now place.base place.offset) }
+    ensures exact { (base : ℕ) (offset : ℤ) → WritesPlace word.now base offset → result ≡ Ok (record { base = base; offset = offset }) }
 {
     Ok(read_place(word)?)
 }
 
 /// A register or a number.
 fn source(word: &str) -> Result<Operand, AsmCode>
-    ensures { IfOk result (WritesOperand word.now) }
+    ensures writes { IfOk result (WritesOperand word.now) }
+    ensures exact { (src : Operand) → WritesOperand word.now src → result ≡ Ok src }
 {
     match register(word) {
         Some(found) => Ok(Operand::FromRegister(found)),
@@ -102,7 +120,8 @@ fn source(word: &str) -> Result<Operand, AsmCode>
 }
 
 fn arithmetic(op: AluOp, width: Width, operands: &[&str]) -> Result<Insn, AsmCode>
-    ensures { (names : List ℕ → Option ℕ) (slot : ℕ) → IfOk result (WritesInsn (λ operand. operand.now) names slot (mnemonic_word (Mnemonic.Arithmetic op width)) operands.now) }
+    ensures writes { (names : List ℕ → Option ℕ) (slot : ℕ) → IfOk result (WritesInsn (λ operand. operand.now) names slot (mnemonic_word (Mnemonic.Arithmetic op width)) operands.now) }
+    ensures exact { (dst : ℕ) (src : Operand) → Two (λ operand. operand.now) operands.now (λ a. WritesRegister a dst) (λ b. WritesOperand b src) → result ≡ Ok (Insn.Alu op width dst src) }
 {
     let [dst, src] = operands else {
         return Err(AsmCode::BadOperand);
@@ -117,7 +136,8 @@ fn arithmetic(op: AluOp, width: Width, operands: &[&str]) -> Result<Insn, AsmCod
 }
 
 fn negation(width: Width, operands: &[&str]) -> Result<Insn, AsmCode>
-    ensures { (names : List ℕ → Option ℕ) (slot : ℕ) → IfOk result (WritesInsn (λ operand. operand.now) names slot (mnemonic_word (Mnemonic.Negation width)) operands.now) }
+    ensures writes { (names : List ℕ → Option ℕ) (slot : ℕ) → IfOk result (WritesInsn (λ operand. operand.now) names slot (mnemonic_word (Mnemonic.Negation width)) operands.now) }
+    ensures exact { (dst : ℕ) → One (λ operand. operand.now) operands.now (λ a. WritesRegister a dst) → result ≡ Ok (Insn.Negate width dst) }
 {
     let [dst] = operands else {
         return Err(AsmCode::BadOperand);
@@ -127,7 +147,8 @@ fn negation(width: Width, operands: &[&str]) -> Result<Insn, AsmCode>
 }
 
 fn signed_move(extension: Extension, operands: &[&str]) -> Result<Insn, AsmCode>
-    ensures { (names : List ℕ → Option ℕ) (slot : ℕ) → IfOk result (WritesInsn (λ operand. operand.now) names slot (mnemonic_word (Mnemonic.SignedMove extension)) operands.now) }
+    ensures writes { (names : List ℕ → Option ℕ) (slot : ℕ) → IfOk result (WritesInsn (λ operand. operand.now) names slot (mnemonic_word (Mnemonic.SignedMove extension)) operands.now) }
+    ensures exact { (dst src : ℕ) → Two (λ operand. operand.now) operands.now (λ a. WritesRegister a dst) (λ b. WritesRegister b src) → result ≡ Ok (Insn.MoveSigned extension dst src) }
 {
     let [dst, src] = operands else {
         return Err(AsmCode::BadOperand);
@@ -141,7 +162,8 @@ fn signed_move(extension: Extension, operands: &[&str]) -> Result<Insn, AsmCode>
 }
 
 fn byte_swap(swap: Swap, bits: SwapBits, operands: &[&str]) -> Result<Insn, AsmCode>
-    ensures { (names : List ℕ → Option ℕ) (slot : ℕ) → IfOk result (WritesInsn (λ operand. operand.now) names slot (mnemonic_word (Mnemonic.Swapping swap bits)) operands.now) }
+    ensures writes { (names : List ℕ → Option ℕ) (slot : ℕ) → IfOk result (WritesInsn (λ operand. operand.now) names slot (mnemonic_word (Mnemonic.Swapping swap bits)) operands.now) }
+    ensures exact { (dst : ℕ) → One (λ operand. operand.now) operands.now (λ a. WritesRegister a dst) → result ≡ Ok (Insn.ByteSwap swap bits dst) }
 {
     let [dst] = operands else {
         return Err(AsmCode::BadOperand);
@@ -151,7 +173,8 @@ fn byte_swap(swap: Swap, bits: SwapBits, operands: &[&str]) -> Result<Insn, AsmC
 }
 
 fn load(size: LoadSize, operands: &[&str]) -> Result<Insn, AsmCode>
-    ensures { (names : List ℕ → Option ℕ) (slot : ℕ) → IfOk result (WritesInsn (λ operand. operand.now) names slot (mnemonic_word (Mnemonic.Loading size)) operands.now) }
+    ensures writes { (names : List ℕ → Option ℕ) (slot : ℕ) → IfOk result (WritesInsn (λ operand. operand.now) names slot (mnemonic_word (Mnemonic.Loading size)) operands.now) }
+    ensures exact { (dst base : ℕ) (offset : ℤ) → Two (λ operand. operand.now) operands.now (λ a. WritesRegister a dst) (λ b. WritesPlace b base offset) → result ≡ Ok (Insn.Load size dst base offset) }
 {
     let [dst, place] = operands else {
         return Err(AsmCode::BadOperand);
@@ -166,7 +189,8 @@ fn load(size: LoadSize, operands: &[&str]) -> Result<Insn, AsmCode>
 }
 
 fn store(size: Size, operands: &[&str]) -> Result<Insn, AsmCode>
-    ensures { (names : List ℕ → Option ℕ) (slot : ℕ) → IfOk result (WritesInsn (λ operand. operand.now) names slot (mnemonic_word (Mnemonic.Storing size)) operands.now) }
+    ensures writes { (names : List ℕ → Option ℕ) (slot : ℕ) → IfOk result (WritesInsn (λ operand. operand.now) names slot (mnemonic_word (Mnemonic.Storing size)) operands.now) }
+    ensures exact { (base : ℕ) (offset value : ℤ) → Two (λ operand. operand.now) operands.now (λ a. WritesPlace a base offset) (λ b. WritesNumber b value) → result ≡ Ok (Insn.Store size base offset (Operand.Immediate value)) }
 {
     let [place, src] = operands else {
         return Err(AsmCode::BadOperand);
@@ -181,7 +205,8 @@ fn store(size: Size, operands: &[&str]) -> Result<Insn, AsmCode>
 }
 
 fn store_register(size: Size, operands: &[&str]) -> Result<Insn, AsmCode>
-    ensures { (names : List ℕ → Option ℕ) (slot : ℕ) → IfOk result (WritesInsn (λ operand. operand.now) names slot (mnemonic_word (Mnemonic.StoringRegister size)) operands.now) }
+    ensures writes { (names : List ℕ → Option ℕ) (slot : ℕ) → IfOk result (WritesInsn (λ operand. operand.now) names slot (mnemonic_word (Mnemonic.StoringRegister size)) operands.now) }
+    ensures exact { (base src : ℕ) (offset : ℤ) → Two (λ operand. operand.now) operands.now (λ a. WritesPlace a base offset) (λ b. WritesRegister b src) → result ≡ Ok (Insn.Store size base offset (Operand.FromRegister src)) }
 {
     let [place, src] = operands else {
         return Err(AsmCode::BadOperand);
@@ -202,7 +227,8 @@ fn jump(
     names: &Names,
     slot: u32,
 ) -> Result<Insn, AsmCode>
-    ensures { IfOk result (WritesInsn (λ operand. operand.now) (slot_named names.now) slot (mnemonic_word (Mnemonic.Jumping condition width)) operands.now) }
+    ensures writes { IfOk result (WritesInsn (λ operand. operand.now) (slot_named names.now) slot (mnemonic_word (Mnemonic.Jumping condition width)) operands.now) }
+    ensures exact { (dst : ℕ) (src : Operand) (offset : ℤ) → Three (λ operand. operand.now) operands.now (λ a. WritesRegister a dst) (λ b. WritesOperand b src) (λ c. WritesTarget (slot_named names.now) slot c offset × FitsSigned w16 offset) → result ≡ Ok (Insn.Jump condition width dst src offset) }
 {
     let [dst, src, target] = operands else {
         return Err(AsmCode::BadOperand);
@@ -219,7 +245,8 @@ fn jump(
 }
 
 fn short_goto(operands: &[&str], names: &Names, slot: u32) -> Result<Insn, AsmCode>
-    ensures { IfOk result (WritesInsn (λ operand. operand.now) (slot_named names.now) slot (mnemonic_word (Mnemonic.ShortGoto)) operands.now) }
+    ensures writes { IfOk result (WritesInsn (λ operand. operand.now) (slot_named names.now) slot (mnemonic_word (Mnemonic.ShortGoto)) operands.now) }
+    ensures exact { (offset : ℤ) → One (λ operand. operand.now) operands.now (λ a. WritesTarget (slot_named names.now) slot a offset × FitsSigned w16 offset) → result ≡ Ok (Insn.Goto (Distance.Short offset)) }
 {
     let [target] = operands else {
         return Err(AsmCode::BadOperand);
@@ -231,7 +258,8 @@ fn short_goto(operands: &[&str], names: &Names, slot: u32) -> Result<Insn, AsmCo
 }
 
 fn long_goto(operands: &[&str], names: &Names, slot: u32) -> Result<Insn, AsmCode>
-    ensures { IfOk result (WritesInsn (λ operand. operand.now) (slot_named names.now) slot (mnemonic_word (Mnemonic.LongGoto)) operands.now) }
+    ensures writes { IfOk result (WritesInsn (λ operand. operand.now) (slot_named names.now) slot (mnemonic_word (Mnemonic.LongGoto)) operands.now) }
+    ensures exact { (slots : ℤ) → One (λ operand. operand.now) operands.now (λ a. WritesTarget (slot_named names.now) slot a slots × FitsSigned w32 slots) → result ≡ Ok (Insn.Goto (Distance.Long slots)) }
 {
     let [target] = operands else {
         return Err(AsmCode::BadOperand);
@@ -243,7 +271,8 @@ fn long_goto(operands: &[&str], names: &Names, slot: u32) -> Result<Insn, AsmCod
 }
 
 fn wide(operands: &[&str]) -> Result<Insn, AsmCode>
-    ensures { (names : List ℕ → Option ℕ) (slot : ℕ) → IfOk result (WritesInsn (λ operand. operand.now) names slot (mnemonic_word (Mnemonic.WideLoad)) operands.now) }
+    ensures writes { (names : List ℕ → Option ℕ) (slot : ℕ) → IfOk result (WritesInsn (λ operand. operand.now) names slot (mnemonic_word (Mnemonic.WideLoad)) operands.now) }
+    ensures exact { (dst value : ℕ) → Two (λ operand. operand.now) operands.now (λ a. WritesRegister a dst) (λ b. WritesWide b value) → result ≡ Ok (Insn.Wide dst value) }
 {
     let [dst, value] = operands else {
         return Err(AsmCode::BadOperand);
@@ -254,7 +283,8 @@ fn wide(operands: &[&str]) -> Result<Insn, AsmCode>
 }
 
 fn map(operands: &[&str]) -> Result<Insn, AsmCode>
-    ensures { (names : List ℕ → Option ℕ) (slot : ℕ) → IfOk result (WritesInsn (λ operand. operand.now) names slot (mnemonic_word (Mnemonic.MapLoad)) operands.now) }
+    ensures writes { (names : List ℕ → Option ℕ) (slot : ℕ) → IfOk result (WritesInsn (λ operand. operand.now) names slot (mnemonic_word (Mnemonic.MapLoad)) operands.now) }
+    ensures exact { (dst : ℕ) (index : ℤ) → Two (λ operand. operand.now) operands.now (λ a. WritesRegister a dst) (λ b. WritesNumber b index) → result ≡ Ok (Insn.LoadMap dst index) }
 {
     let [dst, index] = operands else {
         return Err(AsmCode::BadOperand);
@@ -265,7 +295,8 @@ fn map(operands: &[&str]) -> Result<Insn, AsmCode>
 
 /// A load of another kind of address.
 fn address_load(operands: &[&str]) -> Result<Insn, AsmCode>
-    ensures { (names : List ℕ → Option ℕ) (slot : ℕ) → IfOk result (WritesInsn (λ operand. operand.now) names slot (mnemonic_word Mnemonic.AddressLoad) operands.now) }
+    ensures writes { (names : List ℕ → Option ℕ) (slot : ℕ) → IfOk result (WritesInsn (λ operand. operand.now) names slot (mnemonic_word Mnemonic.AddressLoad) operands.now) }
+    ensures exact { (dst : ℕ) (address : Address) → Four (λ operand. operand.now) operands.now (λ a. WritesNumber a (pos (address_subtype address))) (λ b. WritesRegister b dst) (λ c. WritesNumber c (address_first address)) (λ d. WritesNumber d (address_second address)) → result ≡ Ok (Insn.LoadAddress dst address) }
 {
     let (subtype, (dst, (first, second))) = address_operands(operands)?;
     match address(subtype, first, second) {
@@ -276,7 +307,8 @@ fn address_load(operands: &[&str]) -> Result<Insn, AsmCode>
 
 /// A subtype, a register and two numbers.
 fn address_operands(operands: &[&str]) -> Result<(i32, (Register, (i32, i32))), AsmCode>
-    ensures { IfOk result (λ found. Four (λ operand. operand.now) operands.now (λ a. WritesNumber a found.0) (λ b. WritesRegister b found.1.0) (λ c. WritesNumber c found.1.1.0) (λ d. WritesNumber d found.1.1.1)) }
+    ensures writes { IfOk result (λ found. Four (λ operand. operand.now) operands.now (λ a. WritesNumber a found.0) (λ b. WritesRegister b found.1.0) (λ c. WritesNumber c found.1.1.0) (λ d. WritesNumber d found.1.1.1)) }
+    ensures exact { (subtype : ℤ) (dst : ℕ) (first second : ℤ) → Four (λ operand. operand.now) operands.now (λ a. WritesNumber a subtype) (λ b. WritesRegister b dst) (λ c. WritesNumber c first) (λ d. WritesNumber d second) → result ≡ Ok (subtype, (dst, (first, second))) }
 {
     let [subtype, rest @ ..] = operands else {
         return Err(AsmCode::BadOperand);
@@ -286,7 +318,8 @@ fn address_operands(operands: &[&str]) -> Result<(i32, (Register, (i32, i32))), 
 
 /// A register and two numbers.
 fn address_place(operands: &[&str]) -> Result<(Register, (i32, i32)), AsmCode>
-    ensures { IfOk result (λ found. Three (λ operand. operand.now) operands.now (λ a. WritesRegister a found.0) (λ b. WritesNumber b found.1.0) (λ c. WritesNumber c found.1.1)) }
+    ensures writes { IfOk result (λ found. Three (λ operand. operand.now) operands.now (λ a. WritesRegister a found.0) (λ b. WritesNumber b found.1.0) (λ c. WritesNumber c found.1.1)) }
+    ensures exact { (dst : ℕ) (first second : ℤ) → Three (λ operand. operand.now) operands.now (λ a. WritesRegister a dst) (λ b. WritesNumber b first) (λ c. WritesNumber c second) → result ≡ Ok (dst, (first, second)) }
 {
     let [dst, rest @ ..] = operands else {
         return Err(AsmCode::BadOperand);
@@ -295,7 +328,8 @@ fn address_place(operands: &[&str]) -> Result<(Register, (i32, i32)), AsmCode>
 }
 
 fn two_numbers(operands: &[&str]) -> Result<(i32, i32), AsmCode>
-    ensures { IfOk result (λ found. Two (λ operand. operand.now) operands.now (λ a. WritesNumber a found.0) (λ b. WritesNumber b found.1)) }
+    ensures writes { IfOk result (λ found. Two (λ operand. operand.now) operands.now (λ a. WritesNumber a found.0) (λ b. WritesNumber b found.1)) }
+    ensures exact { (first second : ℤ) → Two (λ operand. operand.now) operands.now (λ a. WritesNumber a first) (λ b. WritesNumber b second) → result ≡ Ok (first, second) }
 {
     let [first, second] = operands else {
         return Err(AsmCode::BadOperand);
@@ -305,7 +339,8 @@ fn two_numbers(operands: &[&str]) -> Result<(i32, i32), AsmCode>
 
 /// The address of this subtype; `None` where there is none with these numbers.
 fn address(subtype: i32, first: i32, second: i32) -> Option<Address>
-    ensures { IfSome result (λ found. (pos (address_subtype found) ≡ subtype) × (address_first found ≡ first) × (address_second found ≡ second)) }
+    ensures writes { IfSome result (λ found. (pos (address_subtype found) ≡ subtype) × (address_first found ≡ first) × (address_second found ≡ second)) }
+    ensures exact { (found : Address) → pos (address_subtype found) ≡ subtype → address_first found ≡ first → address_second found ≡ second → result ≡ Some found }
 {
     match u8::try_from(subtype) {
         Ok(subtype) => {
@@ -322,13 +357,15 @@ fn address(subtype: i32, first: i32, second: i32) -> Option<Address>
 
 /// The address of this subtype, which may leave the second number out.
 fn known_address(subtype: u8, first: i32, second: i32) -> Option<Address>
-    ensures { IfSome result (λ found. (address_subtype found ≡ subtype) × (address_first found ≡ first)) }
+    ensures writes { IfSome result (λ found. (address_subtype found ≡ subtype) × (address_first found ≡ first)) }
+    ensures exact { (found : Address) → address_subtype found ≡ subtype → address_first found ≡ first → address_second found ≡ second → result ≡ Some found }
 {
     Address::from_parts(subtype, first, second)
 }
 
 fn call(callee: Callee, operands: &[&str]) -> Result<Insn, AsmCode>
-    ensures { (names : List ℕ → Option ℕ) (slot : ℕ) → IfOk result (WritesInsn (λ operand. operand.now) names slot (mnemonic_word (Mnemonic.Calling callee)) operands.now) }
+    ensures writes { (names : List ℕ → Option ℕ) (slot : ℕ) → IfOk result (WritesInsn (λ operand. operand.now) names slot (mnemonic_word (Mnemonic.Calling callee)) operands.now) }
+    ensures exact { (number : ℤ) → One (λ operand. operand.now) operands.now (λ a. WritesNumber a number) → result ≡ Ok (Insn.Call callee number) }
 {
     let [number] = operands else {
         return Err(AsmCode::BadOperand);
@@ -338,7 +375,8 @@ fn call(callee: Callee, operands: &[&str]) -> Result<Insn, AsmCode>
 }
 
 fn exit(operands: &[&str]) -> Result<Insn, AsmCode>
-    ensures { (names : List ℕ → Option ℕ) (slot : ℕ) → IfOk result (WritesInsn (λ operand. operand.now) names slot (mnemonic_word (Mnemonic.Exiting)) operands.now) }
+    ensures writes { (names : List ℕ → Option ℕ) (slot : ℕ) → IfOk result (WritesInsn (λ operand. operand.now) names slot (mnemonic_word (Mnemonic.Exiting)) operands.now) }
+    ensures exact { operands.now ≡ [] → result ≡ Ok Insn.Exit }
 {
     if operands.is_empty() {
         Ok(Insn::Exit)

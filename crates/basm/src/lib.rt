@@ -8,6 +8,7 @@ mod assembling;
 mod choice;
 mod faults;
 mod instructions;
+mod laws;
 mod looping;
 mod mnemonics;
 mod names;
@@ -18,6 +19,7 @@ mod targets;
 
 pub use assembling::assemble;
 pub use faults::{AsmCode, AsmFault};
+pub use laws::printed_again;
 pub use printing::disassemble;
 
 #[cfg(test)]

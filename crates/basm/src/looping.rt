@@ -1,5 +1,13 @@
 //! Directives: the budget and the loops.
 
+ghost use Rattle.std.specs.Prelude.{◌≡◌, ◌≤◌, ◌<◌, ℕ, ℤ, pos, IfOk};
+ghost use Rattle.basm_lex.specs.Numbers.{WritesNumber};
+ghost use Rattle.basm_lex.specs.Places.{WritesRegister};
+ghost use Rattle.bpf.specs.Program.{IsBudget, IsLoop};
+ghost use Rattle.basm.specs.Adding.{WritesLoop};
+ghost use Rattle.basm.specs.Naming.{slot_named};
+ghost use Rattle.basm.specs.Relation.{One, WritesEnd};
+
 use crate::choice::both;
 use crate::faults::AsmCode;
 use crate::survey::Survey;
@@ -15,7 +23,10 @@ const MAX_BUDGET: i32 = 65_536;
 const MAX_BOUND: i32 = 4_096;
 
 /// The budget that the operands of `.budget` declare.
-pub fn read_budget(operands: &[&str]) -> Result<u32, AsmCode> {
+pub fn read_budget(operands: &[&str]) -> Result<u32, AsmCode>
+    ensures writes { IfOk result (λ budget. One (λ operand. operand.now) operands.now (λ a. WritesNumber a (pos budget))) }
+    ensures exact { (n : ℕ) → IsBudget n → One (λ operand. operand.now) operands.now (λ a. WritesNumber a (pos n)) → result ≡ Ok n }
+{
     let [budget] = operands else {
         return Err(AsmCode::BadOperand);
     };
@@ -28,7 +39,10 @@ pub fn read_budget(operands: &[&str]) -> Result<u32, AsmCode> {
 }
 
 /// The loop that the operands of `.loop` declare.
-pub fn read_loop(operands: &[&str], survey: &Survey) -> Result<Loop, AsmCode> {
+pub fn read_loop(operands: &[&str], survey: &Survey) -> Result<Loop, AsmCode>
+    ensures writes { IfOk result (WritesLoop (λ operand. operand.now) (slot_named survey.now.names) operands.now) }
+    ensures exact { (l : Loop) → IsLoop survey.now.slots l → survey.now.slots ≤ 512 → WritesLoop (λ operand. operand.now) (slot_named survey.now.names) operands.now l → result ≡ Ok l }
+{
     let [head, back, bound, counter] = operands else {
         return Err(AsmCode::BadOperand);
     };
@@ -48,7 +62,10 @@ pub fn read_loop(operands: &[&str], survey: &Survey) -> Result<Loop, AsmCode> {
 }
 
 /// How often a loop is passed at most: 1 to 4,096.
-fn read_bound(word: &str) -> Result<u16, AsmCode> {
+fn read_bound(word: &str) -> Result<u16, AsmCode>
+    ensures writes { IfOk result (λ bound. WritesNumber word.now (pos bound)) }
+    ensures exact { (bound : ℕ) → 1 ≤ bound → bound ≤ 4096 → WritesNumber word.now (pos bound) → result ≡ Ok bound }
+{
     let bound = field(word, AsmCode::BadLoop)?;
     if 1 <= bound && bound <= MAX_BOUND {
         Ok(bound as u16)
@@ -58,7 +75,10 @@ fn read_bound(word: &str) -> Result<u16, AsmCode> {
 }
 
 /// The number of a directive's field, where a number out of range is the directive's own fault.
-fn field(word: &str, out_of_range: AsmCode) -> Result<i32, AsmCode> {
+fn field(word: &str, out_of_range: AsmCode) -> Result<i32, AsmCode>
+    ensures writes { IfOk result (WritesNumber word.now) }
+    ensures exact { (value : ℤ) → WritesNumber word.now value → result ≡ Ok value }
+{
     match number(word) {
         Ok(value) => Ok(value),
         Err(NumberFault::Form) => Err(AsmCode::BadOperand),
@@ -67,7 +87,10 @@ fn field(word: &str, out_of_range: AsmCode) -> Result<i32, AsmCode> {
 }
 
 /// A slot of the program, by its number or a name.
-fn read_end(word: &str, survey: &Survey) -> Result<u16, AsmCode> {
+fn read_end(word: &str, survey: &Survey) -> Result<u16, AsmCode>
+    ensures writes { IfOk result (WritesEnd (slot_named survey.now.names) word.now) }
+    ensures exact { (slot : ℕ) → slot < survey.now.slots → slot < 512 → WritesEnd (slot_named survey.now.names) word.now slot → result ≡ Ok slot }
+{
     let slot = if is_name(word) {
         i64::from(survey.names.slot_of(word).ok_or(AsmCode::BadLabel)?)
     } else {
@@ -81,7 +104,10 @@ fn read_end(word: &str, survey: &Survey) -> Result<u16, AsmCode> {
 }
 
 /// A register that counts: `r0` to `r9`.
-fn read_counter(word: &str) -> Result<Register, AsmCode> {
+fn read_counter(word: &str) -> Result<Register, AsmCode>
+    ensures writes { IfOk result (WritesRegister word.now) }
+    ensures exact { (number : ℕ) → number ≤ 9 → WritesRegister word.now number → result ≡ Ok number }
+{
     let found = register(word).ok_or(AsmCode::BadOperand)?;
     if found.number() <= 9 {
         Ok(found)

@@ -1,8 +1,8 @@
 //! The names of the instructions.
 
-ghost use Rattle.std.specs.Prelude.{◌≡◌, ◌++◌, IfSome};
+ghost use Rattle.std.specs.Prelude.{◌≡◌, ◌≢◌, ◌++◌, IfSome, MatchOption};
 ghost use Rattle.bpf_insn.specs.Text.{alu_name, condition_name, width_suffix};
-ghost use Rattle.basm.specs.Mnemonics.{mnemonic_slots, mnemonic_word};
+ghost use Rattle.basm.specs.Mnemonics.{mnemonic_word, table_of};
 
 use bpf_insn::{AluOp, Callee, Condition, Extension, LoadSize, Size, Swap, SwapBits, Width};
 
@@ -28,21 +28,10 @@ pub enum Mnemonic {
     Exiting,
 }
 
-impl Mnemonic {
-    /// How many slots the instruction takes.
-    pub fn slots(self) -> u32
-        ensures { result ≡ mnemonic_slots self }
-    {
-        match self {
-            Mnemonic::WideLoad | Mnemonic::MapLoad | Mnemonic::AddressLoad => 2,
-            _ => 1,
-        }
-    }
-}
-
 /// The instruction that the word names.
 pub fn read_mnemonic(word: &str) -> Option<Mnemonic>
-    ensures { IfSome result (λ found. word.now ≡ mnemonic_word found) }
+    ensures names { IfSome result (λ found. word.now ≡ mnemonic_word found) }
+    ensures exact { (found : Mnemonic) → word.now ≡ mnemonic_word found → result ≡ Some found }
 {
     if let Some((op, width)) = arithmetic(word) {
         return Some(Mnemonic::Arithmetic(op, width));
@@ -58,7 +47,8 @@ pub fn read_mnemonic(word: &str) -> Option<Mnemonic>
 
 /// An operation of two operands.
 fn arithmetic(word: &str) -> Option<(AluOp, Width)>
-    ensures { IfSome result (λ found. word.now ≡ alu_name found.0 ++ width_suffix found.1) }
+    ensures { MatchOption result ((op : AluOp) (width : Width) → word.now ≢ alu_name op ++ width_suffix width)
+        (λ found. word.now ≡ alu_name found.0 ++ width_suffix found.1) }
 {
     Some(match word {
         "add" => (AluOp::Add, Width::Bits64),
@@ -95,7 +85,8 @@ fn arithmetic(word: &str) -> Option<(AluOp, Width)>
 
 /// A conditional jump.
 fn jump(word: &str) -> Option<(Condition, Width)>
-    ensures { IfSome result (λ found. word.now ≡ condition_name found.0 ++ width_suffix found.1) }
+    ensures { MatchOption result ((condition : Condition) (width : Width) → word.now ≢ condition_name condition ++ width_suffix width)
+        (λ found. word.now ≡ condition_name found.0 ++ width_suffix found.1) }
 {
     Some(match word {
         "jeq" => (Condition::Equal, Width::Bits64),
@@ -126,7 +117,7 @@ fn jump(word: &str) -> Option<(Condition, Width)>
 
 /// A load or a store.
 fn memory(word: &str) -> Option<Mnemonic>
-    ensures { IfSome result (λ found. word.now ≡ mnemonic_word found) }
+    ensures { MatchOption result ((found : Mnemonic) → table_of found ≡ 2 → word.now ≢ mnemonic_word found) (λ found. word.now ≡ mnemonic_word found) }
 {
     Some(match word {
         "ldxb" => Mnemonic::Loading(LoadSize::LoadByte),
@@ -150,7 +141,7 @@ fn memory(word: &str) -> Option<Mnemonic>
 
 /// What is no operation of two operands, conditional jump, load or store.
 fn other(word: &str) -> Option<Mnemonic>
-    ensures { IfSome result (λ found. word.now ≡ mnemonic_word found) }
+    ensures { MatchOption result ((found : Mnemonic) → table_of found ≡ 3 → word.now ≢ mnemonic_word found) (λ found. word.now ≡ mnemonic_word found) }
 {
     Some(match word {
         "neg" => Mnemonic::Negation(Width::Bits64),

@@ -1,6 +1,6 @@
 //! The names of slots.
 
-ghost use Rattle.std.specs.Prelude.{◌≡◌};
+ghost use Rattle.std.specs.Prelude.{◌≡◌, ◌↔◌, ◌++◌, ◌∷◌, [], ℕ, List, IfOk, IsTrue};
 ghost use Rattle.basm.specs.Naming.{slot_named};
 
 use std::alloc::{AllocError, Global};
@@ -23,7 +23,9 @@ impl<'a> Model for Names<'a> {
 
 impl<'a> Names<'a> {
     /// No names.
-    pub fn new(alloc: Global) -> Names<'a> {
+    pub fn new(alloc: Global) -> Names<'a>
+        ensures { result ≡ [] }
+    {
         Names {
             slots: BTreeMap::new(alloc),
         }
@@ -40,7 +42,11 @@ impl<'a> Names<'a> {
     }
 
     /// Lets the name stand for a slot, unless it stands for one. Gives whether it does so now.
-    pub fn define(&mut self, name: &'a str, slot: u32) -> Result<bool, AllocError> {
+    pub fn define(&mut self, name: &'a str, slot: u32) -> Result<bool, AllocError>
+        // A name keeps its first slot.
+        ensures names { IfOk result (λ _. (other : List ℕ) → slot_named self.new other ≡ slot_named (self.old ++ (name.now, slot) ∷ []) other) }
+        ensures is_new { IfOk result (λ is_new. IsTrue is_new ↔ (slot_named self.old name.now ≡ None)) }
+    {
         if self.slots.contains_key(name) {
             return Ok(false);
         }

@@ -1,7 +1,17 @@
 //! The parts of an image, line by line.
 
-ghost use Rattle.std.specs.Prelude.{IfOk};
-ghost use Rattle.bpf.specs.Program.{IsProgram};
+ghost use Rattle.std.specs.Prelude.{◌≡◌, ◌+◌, ◌≤◌, ◌<◌, ◌++◌, ◌∷◌, [], ℕ, List, pos, length, None, IfOk};
+ghost use Rattle.bpf.specs.declared.loops.Loop.{Loop as ALoop};
+ghost use Rattle.bpf.specs.Program.{IsBudget, Program};
+ghost use Rattle.bpf_insn.specs.declared.insn.Insn.{Insn as AnInsn};
+ghost use Rattle.bpf_insn.specs.Spelling.{slots_of};
+ghost use Rattle.basm_lex.specs.Names.{IsName};
+ghost use Rattle.basm_lex.specs.Numbers.{WritesNumber};
+ghost use Rattle.basm.specs.Adding.{AddsItem, AddsLine, ArePartsOf, HasRoom, IsImageOf, UnlessMemory, WritesLoop, has_head};
+ghost use Rattle.basm.specs.Mnemonics.{mnemonic_word};
+ghost use Rattle.basm.specs.Naming.{slot_named};
+ghost use Rattle.basm.specs.Outcomes.{Makes};
+ghost use Rattle.basm.specs.Relation.{Budget, Code, IsLine, Item, One, OneLoop, WritesInsn};
 
 use crate::choice::both;
 use crate::faults::{AsmCode, AsmFault};
@@ -30,7 +40,9 @@ pub struct Parts {
 
 impl Parts {
     /// The parts of no lines.
-    pub fn new(alloc: Global) -> Parts {
+    pub fn new(alloc: Global) -> Parts
+        ensures { ArePartsOf [] result }
+    {
         Parts {
             budget: None,
             loops: Vec::new(alloc),
@@ -40,7 +52,10 @@ impl Parts {
     }
 
     /// Adds what a line says.
-    pub fn add_line(&mut self, alloc: Global, survey: &Survey, line: &str) -> Result<(), AsmCode> {
+    pub fn add_line(&mut self, alloc: Global, survey: &Survey, line: &str) -> Result<(), AsmCode>
+        ensures adds { IfOk result (λ _. AddsLine (slot_named survey.now.names) line.now self.old self.new) }
+        ensures exact { (item : Item) → IsLine (slot_named survey.now.names) self.old.slots line.now item → HasRoom survey.now.slots item self.old → UnlessMemory result (λ _. AddsItem item self.old self.new) }
+    {
         let statement = read_statement(alloc, line)?;
         let operands = statement.operands.as_slice();
         match statement.word {
@@ -54,7 +69,10 @@ impl Parts {
         }
     }
 
-    fn add_budget(&mut self, operands: &[&str]) -> Result<(), AsmCode> {
+    fn add_budget(&mut self, operands: &[&str]) -> Result<(), AsmCode>
+        ensures adds { IfOk result (λ _. (n : ℕ) × One (λ operand. operand.now) operands.now (λ a. WritesNumber a (pos n)) × AddsItem (Budget n) self.old self.new) }
+        ensures exact { (n : ℕ) → One (λ operand. operand.now) operands.now (λ a. WritesNumber a (pos n)) → IsBudget n → self.old.budget ≡ None → UnlessMemory result (λ _. AddsItem (Budget n) self.old self.new) }
+    {
         let budget = read_budget(operands)?;
         if self.budget.is_some() {
             return Err(AsmCode::BadBudget);
@@ -63,16 +81,27 @@ impl Parts {
         Ok(())
     }
 
-    fn add_loop(&mut self, operands: &[&str], survey: &Survey) -> Result<(), AsmCode> {
+    fn add_loop(&mut self, operands: &[&str], survey: &Survey) -> Result<(), AsmCode>
+        ensures adds { IfOk result (λ _. (l : ALoop) × WritesLoop (λ operand. operand.now) (slot_named survey.now.names) operands.now l × AddsItem (OneLoop l) self.old self.new) }
+        ensures exact { (l : ALoop) → WritesLoop (λ operand. operand.now) (slot_named survey.now.names) operands.now l → HasRoom survey.now.slots (OneLoop l) self.old → UnlessMemory result (λ _. AddsItem (OneLoop l) self.old self.new) }
+    {
         let (found, _) = both(read_loop(operands, survey), self.loop_room())?;
-        if self.loops.iter().any(|other| other.head == found.head) {
+        if self.has_head(found.head) {
             return Err(AsmCode::BadLoop);
         }
         self.loops.push(found)?;
         Ok(())
     }
 
-    fn loop_room(&self) -> Result<(), AsmCode> {
+    fn has_head(&self, head: u16) -> bool
+        ensures { result ≡ has_head head self.now.loops.items }
+    {
+        self.loops.iter().any(|found| found.head == head)
+    }
+
+    fn loop_room(&self) -> Result<(), AsmCode>
+        ensures { length self.now.loops.items < 8 → result ≡ Ok tt }
+    {
         if self.loops.len() < MAX_LOOPS {
             Ok(())
         } else {
@@ -85,14 +114,19 @@ impl Parts {
         found: Mnemonic,
         operands: &[&str],
         survey: &Survey,
-    ) -> Result<(), AsmCode> {
+    ) -> Result<(), AsmCode>
+        ensures adds { IfOk result (λ _. (insn : AnInsn) × WritesInsn (λ operand. operand.now) (slot_named survey.now.names) self.old.slots (mnemonic_word found) operands.now insn × AddsItem (Code insn) self.old self.new × (self.new.slots ≤ 512)) }
+        ensures exact { (insn : AnInsn) → WritesInsn (λ operand. operand.now) (slot_named survey.now.names) self.old.slots (mnemonic_word found) operands.now insn → self.old.slots + slots_of insn ≤ 512 → UnlessMemory result (λ _. AddsItem (Code insn) self.old self.new) }
+    {
         self.slots = add_insn(&mut self.insns, found, operands, &survey.names, self.slots)?;
         Ok(())
     }
 
     /// The image of these parts, its loops by rising head.
     pub fn into_image(mut self, alloc: Global) -> Result<Image, AsmFault>
-        ensures { IfOk result IsProgram }
+        // What is made is the image of the parts, and if they have one it is made, unless memory is refused.
+        ensures image { IfOk result (IsImageOf self) }
+        ensures exact { (p : Program) → IsImageOf self p → Makes p result }
     {
         let budget = self.budget.ok_or(AsmFault::of_text(AsmCode::BadBudget))?;
         self.loops.sort_unstable_by_key(|found| found.head);
@@ -101,7 +135,10 @@ impl Parts {
 }
 
 /// A label alone on its line says nothing more here; any other word is unknown.
-fn read_label(word: &str, operands: &[&str]) -> Result<(), AsmCode> {
+fn read_label(word: &str, operands: &[&str]) -> Result<(), AsmCode>
+    ensures reads { IfOk result (λ _. (name : List ℕ) × IsName name × (word.now ≡ name ++ 58 ∷ []) × (operands.now ≡ [])) }
+    ensures exact { (name : List ℕ) → IsName name → word.now ≡ name ++ 58 ∷ [] → operands.now ≡ [] → result ≡ Ok tt }
+{
     if label_name(word).is_none() {
         return Err(AsmCode::BadWord);
     }

@@ -1,6 +1,10 @@
 //! What the whole text says before its lines are read one by one.
 
-use crate::mnemonics::read_mnemonic;
+ghost use Rattle.std.specs.Prelude.{◌≡◌, ◌==◌, ◌++◌, ◌∷◌, [], ℕ, List, IfOk};
+ghost use Rattle.std.specs.List.{slice_split};
+ghost use Rattle.basm_lex.specs.Lines.{word_of};
+ghost use Rattle.basm.specs.Labels.{AddsName, IsSurvey, word_slots};
+
 use crate::names::Names;
 use basm_lex::{first_word, label_name};
 use std::alloc::{AllocError, Global};
@@ -16,19 +20,18 @@ pub struct Survey<'a> {
     pub slots: u32,
     /// Whether there is a `.budget`.
     pub has_budget: bool,
-    /// Whether there is an instruction.
-    pub has_code: bool,
 }
 
 impl<'a> Survey<'a> {
     /// What the text says.
-    pub fn of(alloc: Global, text: &'a str) -> Result<Survey<'a>, AllocError> {
+    pub fn of(alloc: Global, text: &'a str) -> Result<Survey<'a>, AllocError>
+        ensures { IfOk result (IsSurvey (slice_split (λ c. c == 10) text.now)) }
+    {
         let mut survey = Survey {
             names: Names::new(alloc),
             repeated: None,
             slots: 0,
             has_budget: false,
-            has_code: false,
         };
         let mut number: u32 = 0;
         for line in text.split('\n') {
@@ -38,25 +41,23 @@ impl<'a> Survey<'a> {
         Ok(survey)
     }
 
-    fn add_line(&mut self, number: u32, line: &'a str) -> Result<(), AllocError> {
+    fn add_line(&mut self, number: u32, line: &'a str) -> Result<(), AllocError>
+        ensures { IfOk result (λ _. (lines : List (List ℕ)) → IsSurvey lines self.old → IsSurvey (lines ++ line.now ∷ []) self.new) }
+    {
         let word = first_word(line);
-        if word.is_empty() {
-            return Ok(());
+        match label_name(word) {
+            Some(name) => self.add_name(number, name),
+            None => {
+                self.has_budget = self.has_budget || word == ".budget";
+                self.slots = self.slots.saturating_add(slots_of(word));
+                Ok(())
+            }
         }
-        if let Some(name) = label_name(word) {
-            return self.add_name(number, name);
-        }
-        if word == ".budget" {
-            self.has_budget = true;
-        }
-        if !word.starts_with('.') {
-            self.has_code = true;
-            self.slots = self.slots.saturating_add(slots_of(word));
-        }
-        Ok(())
     }
 
-    fn add_name(&mut self, number: u32, name: &'a str) -> Result<(), AllocError> {
+    fn add_name(&mut self, number: u32, name: &'a str) -> Result<(), AllocError>
+        ensures { IfOk result (λ _. AddsName name.now self.old self.new) }
+    {
         if !self.names.define(name, self.slots)? {
             self.repeated = self.repeated.or(Some(number));
         }
@@ -64,10 +65,16 @@ impl<'a> Survey<'a> {
     }
 }
 
-/// How many slots an instruction of this name takes. An unknown one counts as one.
-fn slots_of(word: &str) -> u32 {
-    match read_mnemonic(word) {
-        Some(found) => found.slots(),
-        None => 1,
+/// How many slots a line with this first word takes. An unknown word counts as one.
+#[tactic(auto, unfolding(crate::specs::Labels::word_slots))]
+fn slots_of(word: &str) -> u32
+    ensures { result ≡ word_slots word.now }
+{
+    if word.is_empty() || word.starts_with('.') {
+        return 0;
+    }
+    match word {
+        "lddw" | "ldmap" | "ldimm" => 2,
+        _ => 1,
     }
 }

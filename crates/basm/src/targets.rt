@@ -1,6 +1,6 @@
 //! The targets of jumps.
 
-ghost use Rattle.std.specs.Prelude.{IfOk, FitsSigned};
+ghost use Rattle.std.specs.Prelude.{◌≡◌, ℤ, IfOk, FitsSigned};
 ghost use Rattle.std.specs.Int.{w16, w32};
 ghost use Rattle.basm.specs.Naming.{slot_named};
 ghost use Rattle.basm.specs.Relation.{WritesTarget};
@@ -11,7 +11,8 @@ use basm_lex::{NumberFault, distance, is_name};
 
 /// How far a jump at the slot goes to the target, in slots from the next one: `+N`, `-N` or a name.
 pub fn read_target(word: &str, names: &Names, slot: u32) -> Result<i64, AsmCode>
-    ensures { IfOk result (WritesTarget (slot_named names.now) slot word.now) }
+    ensures writes { IfOk result (WritesTarget (slot_named names.now) slot word.now) }
+    ensures exact { (offset : ℤ) → WritesTarget (slot_named names.now) slot word.now offset → FitsSigned w32 offset → result ≡ Ok offset }
 {
     if is_name(word) {
         match names.slot_of(word) {
@@ -29,7 +30,8 @@ pub fn read_target(word: &str, names: &Names, slot: u32) -> Result<i64, AsmCode>
 
 /// The same in a field of 16 bits.
 pub fn read_short_target(word: &str, names: &Names, slot: u32) -> Result<i16, AsmCode>
-    ensures { IfOk result (λ slots. WritesTarget (slot_named names.now) slot word.now slots × FitsSigned w16 slots) }
+    ensures writes { IfOk result (λ slots. WritesTarget (slot_named names.now) slot word.now slots × FitsSigned w16 slots) }
+    ensures exact { (offset : ℤ) → WritesTarget (slot_named names.now) slot word.now offset → FitsSigned w16 offset → result ≡ Ok offset }
 {
     let slots = read_target(word, names, slot)?;
     i16::try_from(slots).map_err(|_| AsmCode::Reach)
@@ -37,7 +39,8 @@ pub fn read_short_target(word: &str, names: &Names, slot: u32) -> Result<i16, As
 
 /// The same in a field of 32 bits.
 pub fn read_long_target(word: &str, names: &Names, slot: u32) -> Result<i32, AsmCode>
-    ensures { IfOk result (λ slots. WritesTarget (slot_named names.now) slot word.now slots × FitsSigned w32 slots) }
+    ensures writes { IfOk result (λ slots. WritesTarget (slot_named names.now) slot word.now slots × FitsSigned w32 slots) }
+    ensures exact { (offset : ℤ) → WritesTarget (slot_named names.now) slot word.now offset → FitsSigned w32 offset → result ≡ Ok offset }
 {
     let slots = read_target(word, names, slot)?;
     i32::try_from(slots).map_err(|_| AsmCode::Reach)

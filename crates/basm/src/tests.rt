@@ -123,7 +123,10 @@ const ORDER: &[(&str, u32, u8)] = &[
 
 /// Texts, and how many slots and loops their images have, and the budget.
 const IMAGES: &[(&str, u16, usize, u32)] = &[
+    (".budget 2/mov r0, 0/exit", 2, 0, 2),
+    (".budget 1/mov r0, 0/exit", 2, 0, 1),
     (".budget 2/ldxdw r0, [r2+4]/exit", 2, 0, 2),
+    (".budget 2/ldxdw r0, [r2+5]/exit", 2, 0, 2),
     (
         ".budget 15/.loop 2, 4, 4, r6/mov r0, 0/mov r6, 4/add r0, 1/add r6, -1/jne r6, 0, -3/exit",
         6,
@@ -136,10 +139,18 @@ const IMAGES: &[(&str, u16, usize, u32)] = &[
         1,
         14,
     ),
+    (
+        ".budget 15/.loop 2, 4, 3, r6/mov r0, 0/mov r6, 4/add r0, 1/add r6, -1/jne r6, 0, -3/exit",
+        6,
+        1,
+        15,
+    ),
     (".budget 2/ldxb r0, [r10-1]/exit", 2, 0, 2),
     (".budget 3/stb [r10-512], 1/mov r0, 0/exit", 3, 0, 3),
+    (".budget 3/stb [r10-513], 1/mov r0, 0/exit", 3, 0, 3),
     (".budget 3/jeq r3, 0, +1/mov r0, 0/exit", 3, 0, 3),
     (".budget 4/mov r0, 7/mov r1, 0/div r0, r1/exit", 4, 0, 4),
+    (".budget 4/mov r0, 7/mov r1, 0/mod r0, r1/exit", 4, 0, 4),
     (
         ".budget 4/lddw r0, 0x0102030405060708/le64 r0/rsh r0, 56/exit",
         5,
@@ -157,6 +168,18 @@ const IMAGES: &[(&str, u16, usize, u32)] = &[
         9,
         2,
         48,
+    ),
+    (
+        ".budget 33/.loop 3, 5, 4, r6/.loop 2, 7, 3, r6/mov r0, 0/mov r6, 3/mov r6, 4/add r0, 1/add r6, -1/jne r6, 0, -3/add r6, -1/jne r6, 0, -6/exit",
+        9,
+        2,
+        33,
+    ),
+    (
+        ".budget 12290/.loop 2, 4, 4096, r6/mov r0, 0/mov r6, 4096/ja +1/add r6, -1/jne r6, 0, -3/exit",
+        6,
+        1,
+        12290,
     ),
     (
         ".budget 12291/.loop 2, 4, 4096, r6/mov r0, 0/mov r6, 4096/mov r7, 0/add r6, -1/jne r6, 0, -3/exit",
@@ -240,7 +263,13 @@ const RARE: &[(&str, &[u8])] = &[
     ("jne r6, 0, -3", &[0x55, 0x06, 0xfd, 0xff, 0, 0, 0, 0]),
 ];
 
-/// The image of two instructions, `mov r0, 10` and `exit`, of budget 2.
+/// The image of two instructions, `mov r0, 0` and `exit`, of budget 2.
+const YES: [u8; 32] = [
+    0x42, 0x50, 0x46, 0x41, 1, 0, 2, 0, 2, 0, 0, 0, 0, 0, 0, 0, 0xb7, 0, 0, 0, 0, 0, 0, 0, 0x95, 0,
+    0, 0, 0, 0, 0, 0,
+];
+
+/// The same with `mov r0, 10`.
 const DENY: [u8; 32] = [
     0x42, 0x50, 0x46, 0x41, 1, 0, 2, 0, 2, 0, 0, 0, 0, 0, 0, 0, 0xb7, 0, 0, 0, 0x0a, 0, 0, 0, 0x95,
     0, 0, 0, 0, 0, 0, 0,
@@ -360,7 +389,7 @@ fn images_are_printed(rt: HostRuntime) -> Result<(), Fail> {
         let image = assemble(rt.alloc(), &lines(rt.alloc(), text)?)?;
         let wanted = lines(rt.alloc(), printed)?;
         assert_eq!(rt; disassemble(rt.alloc(), &image)?.as_str(), wanted.as_str());
-        let again = assemble(rt.alloc(), &wanted)?;
+        let again = printed_again(rt.alloc(), &image)?;
         assert_eq!(rt; again.write()?.as_slice(), image.write()?.as_slice());
     }
     Ok(())
@@ -368,8 +397,13 @@ fn images_are_printed(rt: HostRuntime) -> Result<(), Fail> {
 
 #[test]
 fn images_have_their_bytes(rt: HostRuntime) -> Result<(), Fail> {
-    let deny = assemble(rt.alloc(), &lines(rt.alloc(), ".budget 2/mov r0, 10/exit")?)?;
-    assert_eq!(rt; deny.write()?.as_slice(), DENY.as_slice());
+    for (text, bytes) in [
+        (".budget 2/mov r0, 0/exit", YES),
+        (".budget 2/mov r0, 10/exit", DENY),
+    ] {
+        let image = assemble(rt.alloc(), &lines(rt.alloc(), text)?)?;
+        assert_eq!(rt; image.write()?.as_slice(), bytes.as_slice());
+    }
     for (insn, bytes) in RARE {
         let text = format!(in rt.alloc(); ".budget 1\n{insn}\n")?;
         let image = assemble(rt.alloc(), &text)?;
@@ -451,5 +485,26 @@ fn memory_is_refused_to_disassemble(rt: HostRuntime) -> Result<(), Fail> {
         Err(_) => disassemble(rt.alloc(), &image)?,
     };
     assert_eq!(rt; text.as_str(), WHOLE_PRINTED);
+    Ok(())
+}
+
+/// The same for the image of the text of an image.
+#[test]
+fn memory_is_refused_to_print_again(rt: HostRuntime) -> Result<(), Fail> {
+    let image = assemble_again(&rt, rt.alloc(), WHOLE)?;
+    let again = match printed_again(rt.alloc(), &image) {
+        Ok(again) => again,
+        Err(fault) => {
+            assert_eq!(rt; fault.line, 0);
+            assert_eq!(rt; fault.code, AsmCode::Memory);
+            printed_again(rt.alloc(), &image)?
+        }
+    };
+    assert_eq!(rt; again.budget(), image.budget());
+    assert_eq!(rt; again.loops(), image.loops());
+    assert_eq!(rt; again.slots(), image.slots());
+    for slot in 0..image.slots() {
+        assert_eq!(rt; again.insn(slot), image.insn(slot), "the slot {slot}");
+    }
     Ok(())
 }

@@ -1,0 +1,99 @@
+-- What is made of the parts of an image.
+use Rattle.std.proofs.Common.{◌≡◌, ℕ, ◌+◌, ◌≤◌, ◌<◌, Bool, true, false, ◌&&◌, List, [], ◌∷◌, length, Option, Some, None, Result, Ok, Err, refl, sym, ap, ◌∙◌, subst, arith, nat_le, nat_lt}
+use Rattle.std.specs.Prelude.{if◌then◌else◌}
+use Rattle.std.specs.List.{flat_map}
+use Rattle.std.specs.List.Sorted.{IsNonDecreasingBy, IsPermutation}
+use Rattle.std.specs.Result.{IsErrAnd}
+use Rattle.std.proofs.lemmas.Option.{same_Some}
+use Rattle.std.proofs.lemmas.Bool.Decides.{nat_tests}
+use Rattle.bpf_insn.specs.declared.insn.Insn.{Insn}
+use Rattle.bpf.specs.declared.fault.ImageFault.{ImageFault}
+use Rattle.bpf.specs.declared.fault.ImageFault.TheVariants as faults
+use Rattle.bpf.specs.declared.loops.Loop.{Loop}
+use Rattle.bpf.specs.Parts.{are_loops, parts_fault, parts_reading, placed, unless}
+use Rattle.bpf.specs.Program.{AreLoops, IsBudget, IsLoop, IsProgram, IsSlotCount, Program, program}
+use Rattle.bpf.specs.Reading.{Fails, is_budget, is_count, is_loop}
+use Rattle.basm.specs.declared.faults.AsmFault.{AsmFault}
+use Rattle.basm.specs.declared.parts.Parts.{Parts}
+use Rattle.basm.specs.Adding.{IsImageOf}
+use Rattle.basm.specs.Outcomes.{Makes, image_code, text_fault}
+use Rattle.basm.proofs.Loops.{sorted_loops}
+
+and_both : (a b : Bool) → a ≡ true → b ≡ true → (a && b) ≡ true
+and_both a b p q = rw (p, q) refl
+
+le_holds : (a b : ℕ) → a ≤ b → nat_le a b ≡ true
+le_holds a b le = grind (arith, nat_tests)
+
+lt_holds : (a b : ℕ) → a < b → nat_lt a b ≡ true
+lt_holds a b lt = grind (arith, nat_tests)
+
+if_true : (t : Bool) (x y : Option ImageFault) → t ≡ true → (if t then x else y) ≡ x
+if_true true x y h = refl
+if_true false x y h = cc
+
+count_holds : (loops slots : ℕ) → loops ≤ 8 → IsSlotCount slots → is_count loops slots 0 ≡ true
+count_holds loops slots few count =
+    and_both _ _ (and_both _ _ (and_both _ _ (le_holds loops 8 few) (le_holds 1 slots count.0)) (le_holds slots 512 count.1)) refl
+
+budget_holds : (budget : ℕ) → IsBudget budget → is_budget budget ≡ true
+budget_holds budget is = and_both _ _ (le_holds 1 budget is.0) (le_holds budget 65536 is.1)
+
+loop_holds : (slots least : ℕ) (l : Loop) → least ≤ l.head → IsLoop slots l → is_loop slots least l.head l.back l.bound l.register 0 ≡ true
+loop_holds slots least l above is =
+    let head = and_both _ _ (le_holds least l.head above) (lt_holds l.head l.back is.ordered) in
+    let back = and_both _ _ head (lt_holds l.back slots is.within) in
+    let bound = and_both _ _ (and_both _ _ back (le_holds 1 l.bound is.low)) (le_holds l.bound 4096 is.high) in
+    and_both _ _ (and_both _ _ bound (le_holds l.register 9 is.register)) refl
+
+loops_hold : (slots least : ℕ) (ls : List Loop) → AreLoops slots least ls → are_loops slots least ls ≡ true
+loops_hold slots least [] loops = refl
+loops_hold slots least (l ∷ ls) loops =
+    and_both _ _ (loop_holds slots least l loops.0 loops.1) (loops_hold slots (l.head + 1) ls loops.2)
+
+no_fault : (slots budget : ℕ) (loops : List Loop) → IsSlotCount slots → length loops ≤ 8 → IsBudget budget → AreLoops slots 0 loops → parts_fault slots loops budget ≡ None
+unfolding parts_fault
+no_fault slots budget loops count few within are =
+    if_true (is_count (length loops) slots 0) _ _ (count_holds (length loops) slots few count)
+    ∙ if_true (is_budget budget) _ _ (budget_holds budget within)
+    ∙ if_true (are_loops slots 0 loops) _ _ (loops_hold slots 0 loops are)
+
+is_made : (p : Program) (slots : List (Option Insn)) → p.version ≡ 1 → p.slots ≡ slots → program p.budget p.loops slots ≡ p
+is_made p slots version same =
+    let one : program p.budget p.loops slots ≡ record { version = p.version; budget = p.budget; loops = p.loops; slots = slots } = ap (λ (v : ℕ). record { version = v; budget = p.budget; loops = p.loops; slots = slots }) (sym version) in
+    let two : record { version = p.version; budget = p.budget; loops = p.loops; slots = slots } ≡ p = ap (λ (s : List (Option Insn)). record { version = p.version; budget = p.budget; loops = p.loops; slots = s }) (sym same) in
+    one ∙ two
+
+-- a program is made of its parts
+pub program_made : (p : Program) (insns : List Insn) → IsProgram p → p.slots ≡ flat_map placed insns → parts_reading insns p.loops p.budget ≡ Ok p
+program_made p insns is code =
+    let slots = flat_map placed insns in
+    let fault : parts_fault (length slots) p.loops p.budget ≡ None =
+    ap (λ (s : List (Option Insn)). parts_fault (length s) p.loops p.budget) (sym code) ∙ no_fault (length p.slots) p.budget p.loops is.slots is.few_loops is.budget is.loops in
+    ap (λ (f : Option ImageFault). unless f (program p.budget p.loops slots)) fault ∙ ap (λ (q : Program). Ok q) (is_made p slots is.version code)
+
+-- where parts have an image, nothing is wrong with them once their loops are sorted
+pub image_reading : (parts : Parts) (sorted : List Loop) (budget : ℕ) (p : Program) → parts.budget ≡ Some budget → IsPermutation parts.loops.items sorted → IsNonDecreasingBy (λ l. l.head) sorted → IsImageOf parts p → parts_reading parts.insns.items sorted budget ≡ Ok p
+image_reading parts sorted budget p declared moved heads image =
+    let loops = sorted_loops (length p.slots) parts.loops.items sorted p.loops moved heads image.loops image.program.loops in
+    let same : budget ≡ p.budget = same_Some budget p.budget (sym declared ∙ image.budget) in
+    ap (λ (ls : List Loop). parts_reading parts.insns.items ls budget) loops
+    ∙ ap (λ (n : ℕ). parts_reading parts.insns.items p.loops n) same
+    ∙ program_made p parts.insns.items image.program image.code
+
+only_memory : (fault : ImageFault) (p : Program) → Fails fault (Ok p) → fault ≡ faults.Memory
+only_memory faults.Memory p fails = refl
+only_memory faults.Magic p fails = cc
+only_memory faults.Version p fails = cc
+only_memory faults.Length p fails = cc
+only_memory faults.Count p fails = cc
+only_memory faults.Budget p fails = cc
+only_memory faults.BadLoop p fails = cc
+only_memory (faults.BadSlot slot fault) p fails = cc
+
+-- and then what is refused is memory
+pub refused : (r : Result Program AsmFault) (fault : ImageFault) (p : Program) (read : Result Program ImageFault) → read ≡ Ok p → Fails fault read → IsErrAnd r (λ given. given ≡ text_fault (image_code fault)) → Makes p r
+refused (Ok image) fault p read same fails gives = absurd gives
+refused (Err given) fault p read same fails gives =
+    let P : Result Program ImageFault → Type 0 = Fails fault in
+    gives ∙ ap (λ (f : ImageFault). text_fault (image_code f)) (only_memory fault p (subst P same fails))

@@ -1,0 +1,94 @@
+-- A mnemonic and operands write one instruction.
+use Rattle.std.proofs.Common.{◌≡◌, ℕ, ℤ, pos, List, [], refl, sym, ap, ◌∙◌, subst}
+use Rattle.std.specs.Prelude.{Option, FitsSigned, Ok}
+use Rattle.std.specs.Int.{w16, w32}
+use Rattle.std.specs.declared.result.Result.{Result}
+use Rattle.bpf_insn.specs.declared.operation.Operand.{Operand}
+use Rattle.bpf_insn.specs.declared.operation.Operand.TheVariants.{FromRegister, Immediate}
+use Rattle.bpf_insn.specs.declared.insn.Address.{Address}
+use Rattle.bpf_insn.specs.declared.insn.Distance.TheVariants.{Short, Long}
+use Rattle.bpf_insn.specs.declared.insn.Insn.{Insn}
+use Rattle.bpf_insn.specs.declared.insn.Insn.TheVariants.{Alu, Negate, MoveSigned, ByteSwap, Load, Store, Jump, Goto, Wide, LoadMap, LoadAddress, Call, Exit}
+use Rattle.bpf_insn.specs.Codes.{address_subtype, address_first, address_second}
+use Rattle.bpf_insn.specs.Text.{insn_name}
+use Rattle.basm_lex.specs.Numbers.{WritesNumber, WritesWide}
+use Rattle.basm_lex.specs.Places.{WritesPlace, WritesRegister}
+use Rattle.basm.specs.declared.mnemonics.Mnemonic.{Mnemonic}
+use Rattle.basm.specs.declared.mnemonics.Mnemonic.TheVariants.{Arithmetic, Negation, SignedMove, Swapping, Loading, Storing, StoringRegister, Jumping, ShortGoto, LongGoto, WideLoad, MapLoad, AddressLoad, Calling, Exiting}
+use Rattle.basm.specs.Mnemonics.{mnemonic_word}
+use Rattle.basm.specs.Relation.{Four, One, Three, Two, WritesInsn, WritesOperand, WritesOperands, WritesTarget}
+use Rattle.basm.proofs.MnemonicWords.{mnemonics_apart}
+
+abbrev pub mnemonic_of : Insn → Mnemonic
+mnemonic_of (Alu op width dst src) = Arithmetic op width
+mnemonic_of (Negate width dst) = Negation width
+mnemonic_of (MoveSigned extension dst src) = SignedMove extension
+mnemonic_of (ByteSwap swap bits dst) = Swapping swap bits
+mnemonic_of (Load size dst base offset) = Loading size
+mnemonic_of (Store size base offset (Immediate value)) = Storing size
+mnemonic_of (Store size base offset (FromRegister src)) = StoringRegister size
+mnemonic_of (Jump condition width dst src offset) = Jumping condition width
+mnemonic_of (Goto (Short offset)) = ShortGoto
+mnemonic_of (Goto (Long slots)) = LongGoto
+mnemonic_of (Wide dst value) = WideLoad
+mnemonic_of (LoadMap dst index) = MapLoad
+mnemonic_of (LoadAddress dst address) = AddressLoad
+mnemonic_of (Call callee number) = Calling callee
+mnemonic_of Exit = Exiting
+
+pub insn_named : (insn : Insn) → insn_name insn ≡ mnemonic_word (mnemonic_of insn)
+insn_named (Alu op width dst src) = refl
+insn_named (Negate width dst) = refl
+insn_named (MoveSigned extension dst src) = refl
+insn_named (ByteSwap swap bits dst) = refl
+insn_named (Load size dst base offset) = refl
+insn_named (Store size base offset (Immediate value)) = refl
+insn_named (Store size base offset (FromRegister src)) = refl
+insn_named (Jump condition width dst src offset) = refl
+insn_named (Goto (Short offset)) = refl
+insn_named (Goto (Long slots)) = refl
+insn_named (Wide dst value) = refl
+insn_named (LoadMap dst index) = refl
+insn_named (LoadAddress dst address) = refl
+insn_named (Call callee number) = refl
+insn_named Exit = refl
+
+module _ {X E : Type 0} (text : X → List ℕ) (names : List ℕ → Option ℕ) (slot : ℕ) (xs : List X) (r : Result Insn E) where
+  -- the operands are read where the mnemonic is known
+  abbrev pub Reads : Mnemonic → Type 0
+  Reads (Arithmetic op width) = (dst : ℕ) (src : Operand) → Two text xs (λ a. WritesRegister a dst) (λ b. WritesOperand b src) → r ≡ Ok (Alu op width dst src)
+  Reads (Negation width) = (dst : ℕ) → One text xs (λ a. WritesRegister a dst) → r ≡ Ok (Negate width dst)
+  Reads (SignedMove extension) = (dst src : ℕ) → Two text xs (λ a. WritesRegister a dst) (λ b. WritesRegister b src) → r ≡ Ok (MoveSigned extension dst src)
+  Reads (Swapping swap bits) = (dst : ℕ) → One text xs (λ a. WritesRegister a dst) → r ≡ Ok (ByteSwap swap bits dst)
+  Reads (Loading size) = (dst base : ℕ) (offset : ℤ) → Two text xs (λ a. WritesRegister a dst) (λ b. WritesPlace b base offset) → r ≡ Ok (Load size dst base offset)
+  Reads (Storing size) = (base : ℕ) (offset value : ℤ) → Two text xs (λ a. WritesPlace a base offset) (λ b. WritesNumber b value) → r ≡ Ok (Store size base offset (Immediate value))
+  Reads (StoringRegister size) = (base src : ℕ) (offset : ℤ) → Two text xs (λ a. WritesPlace a base offset) (λ b. WritesRegister b src) → r ≡ Ok (Store size base offset (FromRegister src))
+  Reads (Jumping condition width) = (dst : ℕ) (src : Operand) (offset : ℤ) → Three text xs (λ a. WritesRegister a dst) (λ b. WritesOperand b src) (λ c. WritesTarget names slot c offset × FitsSigned w16 offset) → r ≡ Ok (Jump condition width dst src offset)
+  Reads ShortGoto = (offset : ℤ) → One text xs (λ a. WritesTarget names slot a offset × FitsSigned w16 offset) → r ≡ Ok (Goto (Short offset))
+  Reads LongGoto = (slots : ℤ) → One text xs (λ a. WritesTarget names slot a slots × FitsSigned w32 slots) → r ≡ Ok (Goto (Long slots))
+  Reads WideLoad = (dst value : ℕ) → Two text xs (λ a. WritesRegister a dst) (λ b. WritesWide b value) → r ≡ Ok (Wide dst value)
+  Reads MapLoad = (dst : ℕ) (index : ℤ) → Two text xs (λ a. WritesRegister a dst) (λ b. WritesNumber b index) → r ≡ Ok (LoadMap dst index)
+  Reads AddressLoad = (dst : ℕ) (address : Address) → Four text xs (λ a. WritesNumber a (pos (address_subtype address))) (λ b. WritesRegister b dst) (λ c. WritesNumber c (address_first address)) (λ d. WritesNumber d (address_second address)) → r ≡ Ok (LoadAddress dst address)
+  Reads (Calling callee) = (number : ℤ) → One text xs (λ a. WritesNumber a number) → r ≡ Ok (Call callee number)
+  Reads Exiting = xs ≡ [] → r ≡ Ok Exit
+
+  reads : (insn : Insn) → Reads (mnemonic_of insn) → WritesOperands text names slot xs insn → r ≡ Ok insn
+  reads (Alu op width dst src) read w = read dst src w
+  reads (Negate width dst) read w = read dst w
+  reads (MoveSigned extension dst src) read w = read dst src w
+  reads (ByteSwap swap bits dst) read w = read dst w
+  reads (Load size dst base offset) read w = read dst base offset w
+  reads (Store size base offset (Immediate value)) read w = read base offset value w
+  reads (Store size base offset (FromRegister src)) read w = read base src offset w
+  reads (Jump condition width dst src offset) read w = read dst src offset w
+  reads (Goto (Short offset)) read w = read offset w
+  reads (Goto (Long slots)) read w = read slots w
+  reads (Wide dst value) read w = read dst value w
+  reads (LoadMap dst index) read w = read dst index w
+  reads (LoadAddress dst address) read w = read dst address w
+  reads (Call callee number) read w = read number w
+  reads Exit read w = read w
+
+  pub insn_read : (found m : Mnemonic) → found ≡ m → Reads m → (insn : Insn) → WritesInsn text names slot (mnemonic_word found) xs insn → r ≡ Ok insn
+  insn_read found m same read insn w =
+      reads insn (subst Reads (mnemonics_apart m (mnemonic_of insn) (ap mnemonic_word (sym same) ∙ w.name ∙ insn_named insn)) read) w.operands

@@ -1,0 +1,249 @@
+-- Lines with the items that they say, one more at a time.
+use Rattle.std.proofs.Common.{◌≡◌, false, not, ℤ, Some, None, ℕ, suc, ◌+◌, ◌≤◌, List, [], ◌∷◌, ◌++◌, map, length, get_or, take, pos, Option, refl, sym, ap, ◌∙◌, subst, zero-add, arith}
+use Rattle.std.proofs.lemmas.List.{append-nil, append_assoc, length-append}
+use Rattle.std.specs.Prelude.{codes}
+use Rattle.std.specs.Option.{is_some}
+use Rattle.std.specs.List.{before_first, flat_map, prefix_len}
+use Rattle.std.proofs.lemmas.Bool.{cond_both}
+use Rattle.bpf_insn.specs.declared.insn.Distance.TheVariants.{Short, Long}
+use Rattle.bpf_insn.specs.declared.insn.Insn.{Insn}
+use Rattle.bpf_insn.specs.declared.insn.Insn.TheVariants.{Alu, Negate, MoveSigned, ByteSwap, Load, Store, Jump, Goto, Wide, LoadMap, LoadAddress, Call, Exit}
+use Rattle.bpf.specs.declared.loops.Loop.{Loop}
+use Rattle.bpf.specs.Parts.{placed, second_slots}
+use Rattle.bpf_insn.specs.Spelling.{second_immediate, slots_in as immediate_slots, slots_of}
+use Rattle.basm_lex.specs.Lines.{code_of, drop_spaces, is_semicolon, is_space, operands_of, rest_of, skip_spaces, trimmed, unless_space, word_of}
+use Rattle.basm_lex.specs.Names.{IsName}
+use Rattle.basm_lex.specs.Numbers.{WritesNumber}
+use Rattle.basm_lex.specs.Places.{WritesRegister}
+use Rattle.basm.specs.declared.parts.Parts.{Parts}
+use Rattle.basm.specs.Adding.{AddsItem, AddsLine, ArePartsOf, SayParts, slots_of_items}
+use Rattle.basm.specs.Relation.{Item, Nothing, Label, Budget, OneLoop, Code, WritesEnd, AreLines, Four, IsLine, One, Three, Two, WritesInsn, WritesOperands, budget_in, insn_in, loop_in, slots_in}
+
+pub not_nil : {X : Type 0} (c : X) (cs : List X) → c ∷ cs ≡ [] → ⊥
+not_nil c cs same = cc
+
+-- ---- operands that lie elsewhere
+
+pub one_map : {X : Type 0} (text : X → List ℕ) (xs : List X) (P : List ℕ → Type 0) → One text xs P → One (λ x. x) (map text xs) P
+one_map text [] P h = h
+one_map text (a ∷ []) P h = h
+one_map text (a ∷ b ∷ xs) P h = h
+
+pub two_map : {X : Type 0} (text : X → List ℕ) (xs : List X) (P Q : List ℕ → Type 0) → Two text xs P Q → Two (λ x. x) (map text xs) P Q
+two_map text [] P Q h = h
+two_map text (a ∷ xs) P Q h = (h.0, one_map text xs Q h.1)
+
+pub three_map : {X : Type 0} (text : X → List ℕ) (xs : List X) (P Q R : List ℕ → Type 0) → Three text xs P Q R → Three (λ x. x) (map text xs) P Q R
+three_map text [] P Q R h = h
+three_map text (a ∷ xs) P Q R h = (h.0, two_map text xs Q R h.1)
+
+pub four_map : {X : Type 0} (text : X → List ℕ) (xs : List X) (P Q R S : List ℕ → Type 0) → Four text xs P Q R S → Four (λ x. x) (map text xs) P Q R S
+four_map text [] P Q R S h = h
+four_map text (a ∷ xs) P Q R S h = (h.0, three_map text xs Q R S h.1)
+
+pub four_from : {X : Type 0} (text : X → List ℕ) (xs : List X) (d : X) (P Q R S : List ℕ → Type 0) → length xs ≡ 4
+    → P (text (get_or xs 0 d)) → Q (text (get_or xs 1 d)) → R (text (get_or xs 2 d)) → S (text (get_or xs 3 d)) → Four text xs P Q R S
+four_from text [] d P Q R S four p q r s = absurd (omega arith)
+four_from text (a ∷ []) d P Q R S four p q r s = absurd (omega arith)
+four_from text (a ∷ b ∷ []) d P Q R S four p q r s = absurd (omega arith)
+four_from text (a ∷ b ∷ c ∷ []) d P Q R S four p q r s = absurd (omega arith)
+four_from text (a ∷ b ∷ c ∷ e ∷ []) d P Q R S four p q r s = (p, (q, (r, s)))
+four_from text (a ∷ b ∷ c ∷ e ∷ f ∷ xs) d P Q R S four p q r s = absurd (omega arith)
+
+operands_map : {X : Type 0} (text : X → List ℕ) (names : List ℕ → Option ℕ) (slot : ℕ) (xs : List X) (insn : Insn)
+    → WritesOperands text names slot xs insn → WritesOperands (λ x. x) names slot (map text xs) insn
+operands_map text names slot xs (Alu op width dst src) h = two_map text xs _ _ h
+operands_map text names slot xs (Negate width dst) h = one_map text xs _ h
+operands_map text names slot xs (MoveSigned extension dst src) h = two_map text xs _ _ h
+operands_map text names slot xs (ByteSwap swap bits dst) h = one_map text xs _ h
+operands_map text names slot xs (Load size dst base offset) h = two_map text xs _ _ h
+operands_map text names slot xs (Store size base offset src) h = two_map text xs _ _ h
+operands_map text names slot xs (Jump condition width dst src offset) h = three_map text xs _ _ _ h
+operands_map text names slot xs (Goto (Short offset)) h = one_map text xs _ h
+operands_map text names slot xs (Goto (Long distance)) h = one_map text xs _ h
+operands_map text names slot xs (Wide dst value) h = two_map text xs _ _ h
+operands_map text names slot xs (LoadMap dst index) h = two_map text xs _ _ h
+operands_map text names slot xs (LoadAddress dst address) h = four_map text xs _ _ _ _ h
+operands_map text names slot xs (Call callee number) h = one_map text xs _ h
+operands_map text names slot xs Exit h = ap (map text) h
+
+pub insn_map : {X : Type 0} (text : X → List ℕ) (names : List ℕ → Option ℕ) (slot : ℕ) (word : List ℕ) (xs : List X) (insn : Insn)
+    → WritesInsn text names slot word xs insn → WritesInsn (λ x. x) names slot word (map text xs) insn
+insn_map text names slot word xs insn h = record { name = h.name; operands = operands_map text names slot xs insn h.operands }
+
+-- ---- and back
+
+pub one_unmap : {X : Type 0} (text : X → List ℕ) (xs : List X) (P : List ℕ → Type 0) → One (λ x. x) (map text xs) P → One text xs P
+one_unmap text [] P h = h
+one_unmap text (a ∷ []) P h = h
+one_unmap text (a ∷ b ∷ xs) P h = h
+
+pub two_unmap : {X : Type 0} (text : X → List ℕ) (xs : List X) (P Q : List ℕ → Type 0) → Two (λ x. x) (map text xs) P Q → Two text xs P Q
+two_unmap text [] P Q h = h
+two_unmap text (a ∷ xs) P Q h = (h.0, one_unmap text xs Q h.1)
+
+pub three_unmap : {X : Type 0} (text : X → List ℕ) (xs : List X) (P Q R : List ℕ → Type 0) → Three (λ x. x) (map text xs) P Q R → Three text xs P Q R
+three_unmap text [] P Q R h = h
+three_unmap text (a ∷ xs) P Q R h = (h.0, two_unmap text xs Q R h.1)
+
+pub four_unmap : {X : Type 0} (text : X → List ℕ) (xs : List X) (P Q R S : List ℕ → Type 0) → Four (λ x. x) (map text xs) P Q R S → Four text xs P Q R S
+four_unmap text [] P Q R S h = h
+four_unmap text (a ∷ xs) P Q R S h = (h.0, three_unmap text xs Q R S h.1)
+
+pub none_unmap : {X : Type 0} (text : X → List ℕ) (xs : List X) → map text xs ≡ [] → xs ≡ []
+none_unmap text [] h = refl
+none_unmap text (a ∷ xs) h = absurd (not_nil (text a) (map text xs) h)
+
+operands_unmap : {X : Type 0} (text : X → List ℕ) (names : List ℕ → Option ℕ) (slot : ℕ) (xs : List X) (insn : Insn)
+    → WritesOperands (λ x. x) names slot (map text xs) insn → WritesOperands text names slot xs insn
+operands_unmap text names slot xs (Alu op width dst src) h = two_unmap text xs _ _ h
+operands_unmap text names slot xs (Negate width dst) h = one_unmap text xs _ h
+operands_unmap text names slot xs (MoveSigned extension dst src) h = two_unmap text xs _ _ h
+operands_unmap text names slot xs (ByteSwap swap bits dst) h = one_unmap text xs _ h
+operands_unmap text names slot xs (Load size dst base offset) h = two_unmap text xs _ _ h
+operands_unmap text names slot xs (Store size base offset src) h = two_unmap text xs _ _ h
+operands_unmap text names slot xs (Jump condition width dst src offset) h = three_unmap text xs _ _ _ h
+operands_unmap text names slot xs (Goto (Short offset)) h = one_unmap text xs _ h
+operands_unmap text names slot xs (Goto (Long distance)) h = one_unmap text xs _ h
+operands_unmap text names slot xs (Wide dst value) h = two_unmap text xs _ _ h
+operands_unmap text names slot xs (LoadMap dst index) h = two_unmap text xs _ _ h
+operands_unmap text names slot xs (LoadAddress dst address) h = four_unmap text xs _ _ _ _ h
+operands_unmap text names slot xs (Call callee number) h = one_unmap text xs _ h
+operands_unmap text names slot xs Exit h = none_unmap text xs h
+
+pub insn_unmap : {X : Type 0} (text : X → List ℕ) (names : List ℕ → Option ℕ) (slot : ℕ) (word : List ℕ) (xs : List X) (insn : Insn)
+    → WritesInsn (λ x. x) names slot word (map text xs) insn → WritesInsn text names slot word xs insn
+insn_unmap text names slot word xs insn h = record { name = h.name; operands = operands_unmap text names slot xs insn h.operands }
+
+-- ---- what a line adds
+
+word_begins : (c : ℕ) (cs : List ℕ) → is_space c ≡ false → before_first is_space (c ∷ cs) ≡ c ∷ before_first is_space cs
+word_begins c cs other = rw other (more (prefix_len (λ x. not (is_space x)) cs) _ (omega arith))
+  where
+    more : (n m : ℕ) → m ≡ suc n → take m (c ∷ cs) ≡ c ∷ take n cs
+    more n m same = rw same refl
+
+unless_begins : (c : ℕ) (cs : List ℕ) → is_space c ≡ false → (ds : List ℕ) × (unless_space c cs ≡ c ∷ ds)
+unless_begins c [] other = ([], rw other refl)
+unless_begins c (d ∷ ds) other = (d ∷ ds, refl)
+
+kept : (c : ℕ) (cs : List ℕ) → is_space c ≡ false → before_first is_space (unless_space c cs) ≡ [] → ⊥
+kept c cs other none =
+    let text = unless_begins c cs other in
+    not_nil c (before_first is_space text.0) (sym (word_begins c text.0 other) ∙ ap (before_first is_space) (sym text.1) ∙ none)
+
+no_word : (text : List ℕ) → before_first is_space (trimmed text) ≡ [] → trimmed text ≡ []
+no_word [] none = refl
+no_word (c ∷ cs) none =
+    let P : List ℕ → Type 0 = λ s. before_first is_space (drop_spaces s) ≡ [] → drop_spaces s ≡ [] in
+    cond_both (is_space c) (skip_spaces cs) (c ∷ cs) P (λ yes. no_word cs) (λ other none. absurd (kept c (drop_spaces cs) other none)) none
+
+-- a line without a word has no operands
+no_operands : (line : List ℕ) → word_of line ≡ [] → operands_of line ≡ []
+unfolding word_of rest_of code_of
+no_operands line none = rw (no_word (before_first is_semicolon line) none) refl
+
+-- an item that declares nothing
+pub adds_nothing : (parts : Parts) → AddsItem Nothing parts parts
+adds_nothing parts = record { budget = sym (append-nil _); loops = sym (append-nil _); insns = sym (append-nil _); slots = omega arith }
+
+pub adds_label : (name : List ℕ) (parts : Parts) → AddsItem (Label name) parts parts
+adds_label name parts = record { budget = sym (append-nil _); loops = sym (append-nil _); insns = sym (append-nil _); slots = omega arith }
+
+pub line_nothing : (names : List ℕ → Option ℕ) (line : List ℕ) (parts : Parts) → word_of line ≡ [] → AddsLine names line parts parts
+line_nothing names line parts word = record {
+  item = Nothing;
+  says = (word, no_operands line word);
+  adds = adds_nothing parts;
+  few = λ h. h;
+}
+
+pub line_label : (names : List ℕ → Option ℕ) (line : List ℕ) (parts : Parts) (name : List ℕ)
+    → IsName name → word_of line ≡ name ++ 58 ∷ [] → operands_of line ≡ [] → AddsLine names line parts parts
+line_label names line parts name is_name word operands = record {
+  item = Label name;
+  says = (is_name, word, operands);
+  adds = adds_label name parts;
+  few = λ h. h;
+}
+
+pub line_loop : {X : Type 0} (text : X → List ℕ) (xs : List X) (names : List ℕ → Option ℕ) (line : List ℕ) (old new : Parts) (l : Loop)
+    → word_of line ≡ codes ".loop" → map text xs ≡ operands_of line
+    → Four text xs (λ a. WritesEnd names a l.head) (λ b. WritesEnd names b l.back) (λ c. WritesNumber c (pos l.bound)) (λ d. WritesRegister d l.register)
+    → AddsItem (OneLoop l) old new → AddsLine names line old new
+line_loop text xs names line old new l word operands four adds =
+    let P : List (List ℕ) → Type 0 = λ ys. Four (λ x. x) ys (λ a. WritesEnd names a l.head) (λ b. WritesEnd names b l.back) (λ c. WritesNumber c (pos l.bound)) (λ d. WritesRegister d l.register) in
+    record {
+      item = OneLoop l;
+      says = (word, subst P operands (four_map text xs _ _ _ _ four));
+      adds = adds;
+      few = λ h. let same = adds.slots in omega arith;
+    }
+
+pub line_insn : {X : Type 0} (text : X → List ℕ) (xs : List X) (names : List ℕ → Option ℕ) (line word : List ℕ) (old new : Parts) (insn : Insn)
+    → word_of line ≡ word → map text xs ≡ operands_of line → WritesInsn text names old.slots word xs insn
+    → AddsItem (Code insn) old new → new.slots ≤ 512 → AddsLine names line old new
+line_insn text xs names line word old new insn same operands writes adds few =
+    let P : List (List ℕ) → Type 0 = λ ys. WritesInsn (λ x. x) names old.slots word ys insn in
+    let Q : List ℕ → Type 0 = λ w. WritesInsn (λ x. x) names old.slots w (operands_of line) insn in
+    record {
+      item = Code insn;
+      says = subst Q (sym same) (subst P operands (insn_map text names old.slots word xs insn writes));
+      adds = adds;
+      few = λ h. few;
+    }
+
+-- ---- one item more
+
+pub lines_push : (names : List ℕ → Option ℕ) (slot : ℕ) (lines : List (List ℕ)) (items : List Item) (line : List ℕ) (item : Item)
+    → AreLines names slot lines items → IsLine names (slot + slots_of_items items) line item → AreLines names slot (lines ++ line ∷ []) (items ++ item ∷ [])
+lines_push names slot [] [] line item says last = let P : ℕ → Type 0 = λ s. IsLine names s line item in (subst P (omega arith) last, tt)
+lines_push names slot [] (i ∷ items) line item says last = absurd says
+lines_push names slot (l ∷ lines) [] line item says last = absurd says
+lines_push names slot (l ∷ lines) (i ∷ items) line item says last =
+    let P : ℕ → Type 0 = λ s. IsLine names s line item in
+    (says.0, lines_push names (slot + slots_in i) lines items line item says.1 (subst P (omega arith) last))
+
+slots_push : (items : List Item) (item : Item) → slots_of_items (items ++ item ∷ []) ≡ slots_of_items items + slots_in item
+slots_push [] item = omega arith
+slots_push (i ∷ items) item = omega (arith, slots_push items item)
+
+flat_push : {A : Type 0} (f : Item → List A) (items : List Item) (item : Item) → flat_map f items ++ f item ≡ flat_map f (items ++ item ∷ [])
+flat_push f [] item = sym (append-nil (f item))
+flat_push f (i ∷ items) item = append_assoc (f i) (flat_map f items) (f item) ∙ ap (λ rest. f i ++ rest) (flat_push f items item)
+
+pub parts_push : (items : List Item) (item : Item) (old new : Parts) → ArePartsOf items old → AddsItem item old new → ArePartsOf (items ++ item ∷ []) new
+parts_push items item old new are adds = record {
+  budget = adds.budget ∙ rw are.budget (flat_push budget_in items item);
+  loops = adds.loops ∙ rw are.loops (flat_push loop_in items item);
+  insns = adds.insns ∙ rw are.insns (flat_push insn_in items item);
+  slots = adds.slots ∙ rw are.slots (sym (slots_push items item));
+}
+
+pub say_push : (names : List ℕ → Option ℕ) (lines : List (List ℕ)) (line : List ℕ) (old new : Parts)
+    → SayParts names lines old → AddsLine names line old new → SayParts names (lines ++ line ∷ []) new
+say_push names lines line old new say adds =
+    let P : ℕ → Type 0 = λ slot. IsLine names slot line adds.item in
+    record {
+      items = say.items ++ adds.item ∷ [];
+      says = lines_push names 0 lines say.items line adds.item say.says (subst P (say.parts_of.slots ∙ sym (zero-add _)) adds.says);
+      parts_of = parts_push say.items adds.item old new say.parts_of adds.adds;
+      few = adds.few say.few;
+    }
+
+-- ---- how many slots there are
+
+slots_placed : (insn : Insn) → length (placed insn) ≡ slots_of insn
+slots_placed insn = at (second_immediate insn)
+  where
+    at : (o : Option ℤ) → length (Some insn ∷ second_slots (is_some o)) ≡ immediate_slots o
+    at None = refl
+    at (Some immediate) = refl
+
+pub slots_are : (items : List Item) → length (flat_map placed (flat_map insn_in items)) ≡ slots_of_items items
+slots_are [] = refl
+slots_are (Nothing ∷ items) = slots_are items ∙ omega arith
+slots_are (Label name ∷ items) = slots_are items ∙ omega arith
+slots_are (Budget n ∷ items) = slots_are items ∙ omega arith
+slots_are (OneLoop l ∷ items) = slots_are items ∙ omega arith
+slots_are (Code insn ∷ items) = omega (arith, length-append (placed insn) (flat_map placed (flat_map insn_in items)), slots_placed insn, slots_are items)

@@ -1,0 +1,139 @@
+-- A printed image stands in the text relation.
+use Rattle.std.proofs.Common.{◌≡◌, ℕ, ◌+◌, Bool, true, false, List, [], ◌∷◌, ◌++◌, length, Option, Some, None, is_some, refl, sym, ap, ◌∙◌, append-nil, append_assoc}
+use Rattle.std.specs.Prelude.{◌↔◌, codes, decimal}
+use Rattle.std.specs.List.{flat_map}
+use Rattle.std.proofs.lemmas.List.Sorted.{IsPermutation-refl}
+use Rattle.bpf_insn.specs.declared.insn.Insn.{Insn}
+use Rattle.bpf_insn.specs.Spelling.{second_immediate}
+use Rattle.bpf_insn.specs.Text.{insn_text, register_text}
+use Rattle.bpf.specs.declared.loops.Loop.{Loop}
+use Rattle.bpf.specs.Parts.{placed, second_slots}
+use Rattle.bpf.specs.Program.{AreLoops, AreSlots, IsProgram, Program}
+use Rattle.basm.specs.Printed.{budget_line, loop_line, printed_image, slot_line}
+use Rattle.basm.specs.Relation.{Defines, IsText, Item, budget_in, insn_in, loop_in}
+use Rattle.basm.specs.Relation.Item.{Nothing, Budget, OneLoop, Code}
+use Rattle.basm.proofs.Printed.Items.{ArePrinted, item_line, lines_say, no_names, text_of}
+
+abbrev slot_items : List (Option Insn) → List Item
+slot_items [] = []
+slot_items (None ∷ slots) = slot_items slots
+slot_items (Some insn ∷ slots) = Code insn ∷ slot_items slots
+
+abbrev loop_items : List Loop → List Item → List Item
+loop_items [] rest = rest
+loop_items (l ∷ ls) rest = OneLoop l ∷ loop_items ls rest
+
+-- what the lines of a printed image say
+abbrev items_of : Program → List Item
+items_of p = Budget p.budget ∷ loop_items p.loops (slot_items p.slots)
+
+-- ---- the text is that of the items
+
+budget_printed : (budget : ℕ) (rest : List ℕ) → budget_line budget ++ rest ≡ item_line (Budget budget) ++ 10 ∷ rest
+budget_printed budget rest = simp append_assoc
+
+-- both ways to join a name and four operands, over plain variables since `simp` does not look into texts
+four_operands : (front comma a b c d end rest : List ℕ)
+    → front ++ a ++ comma ++ b ++ comma ++ c ++ comma ++ d ++ end ++ rest
+    ≡ (front ++ a ++ (comma ++ b ++ (comma ++ c ++ (comma ++ d ++ [])))) ++ (end ++ rest)
+four_operands front comma a b c d end rest = simp (append_assoc, append-nil)
+
+loop_printed : (l : Loop) (rest : List ℕ) → loop_line l ++ rest ≡ item_line (OneLoop l) ++ 10 ∷ rest
+loop_printed l rest =
+    four_operands (codes ".loop ") (codes ", ") (decimal l.head) (decimal l.back) (decimal l.bound) (register_text l.register) (codes "\n") rest
+
+slots_printed : (slots : List (Option Insn)) → flat_map slot_line slots ≡ text_of (slot_items slots)
+unfolding insn_text
+slots_printed [] = refl
+slots_printed (None ∷ slots) = slots_printed slots
+slots_printed (Some insn ∷ slots) =
+    append_assoc (insn_text insn) (codes "\n") (flat_map slot_line slots)
+    ∙ ap (λ rest. insn_text insn ++ 10 ∷ rest) (slots_printed slots)
+
+loops_printed : (ls : List Loop) (rest : List Item) → flat_map loop_line ls ++ text_of rest ≡ text_of (loop_items ls rest)
+loops_printed [] rest = refl
+loops_printed (l ∷ ls) rest =
+    append_assoc (loop_line l) (flat_map loop_line ls) (text_of rest)
+    ∙ loop_printed l (flat_map loop_line ls ++ text_of rest)
+    ∙ ap (λ more. item_line (OneLoop l) ++ 10 ∷ more) (loops_printed ls rest)
+
+image_printed : (p : Program) → printed_image p ≡ text_of (items_of p)
+unfolding printed_image
+image_printed p =
+    append_assoc (budget_line p.budget) (flat_map loop_line p.loops) (flat_map slot_line p.slots)
+    ∙ budget_printed p.budget (flat_map loop_line p.loops ++ flat_map slot_line p.slots)
+    ∙ ap (λ more. item_line (Budget p.budget) ++ 10 ∷ more)
+    (ap (λ code. flat_map loop_line p.loops ++ code) (slots_printed p.slots) ∙ loops_printed p.loops (slot_items p.slots))
+
+-- ---- each item is one that is printed
+
+are_slots : (slots : ℕ) (second : Bool) (xs : List (Option Insn)) → AreSlots second xs → ArePrinted slots (slot_items xs)
+are_slots slots second [] are = tt
+are_slots slots true (None ∷ xs) are = are_slots slots false xs are
+are_slots slots true (Some insn ∷ xs) are = absurd are
+are_slots slots false (None ∷ xs) are = absurd are
+are_slots slots false (Some insn ∷ xs) are = (are.0, are_slots slots (is_some (second_immediate insn)) xs are.1)
+
+are_loops : (slots least : ℕ) (ls : List Loop) (rest : List Item) → AreLoops slots least ls → ArePrinted slots rest → ArePrinted slots (loop_items ls rest)
+are_loops slots least [] rest loops are = are
+are_loops slots least (l ∷ ls) rest loops are = (loops.1, are_loops slots (l.head + 1) ls rest loops.2 are)
+
+are_printed : (p : Program) → IsProgram p → ArePrinted (length p.slots) (items_of p)
+are_printed p is = (is.budget, are_loops (length p.slots) 0 p.loops (slot_items p.slots) is.loops (are_slots (length p.slots) false p.slots is.code))
+
+-- ---- budget, loops and instructions of the items
+
+slots_no_budget : (xs : List (Option Insn)) → flat_map budget_in (slot_items xs ++ Nothing ∷ []) ≡ []
+slots_no_budget [] = refl
+slots_no_budget (None ∷ xs) = slots_no_budget xs
+slots_no_budget (Some insn ∷ xs) = slots_no_budget xs
+
+slots_no_loop : (xs : List (Option Insn)) → flat_map loop_in (slot_items xs ++ Nothing ∷ []) ≡ []
+slots_no_loop [] = refl
+slots_no_loop (None ∷ xs) = slots_no_loop xs
+slots_no_loop (Some insn ∷ xs) = slots_no_loop xs
+
+loops_no_budget : (ls : List Loop) (xs : List (Option Insn)) → flat_map budget_in (loop_items ls (slot_items xs) ++ Nothing ∷ []) ≡ []
+loops_no_budget [] xs = slots_no_budget xs
+loops_no_budget (l ∷ ls) xs = loops_no_budget ls xs
+
+loops_again : (ls : List Loop) (xs : List (Option Insn)) → flat_map loop_in (loop_items ls (slot_items xs) ++ Nothing ∷ []) ≡ ls
+loops_again [] xs = slots_no_loop xs
+loops_again (l ∷ ls) xs = ap (λ more. l ∷ more) (loops_again ls xs)
+
+loops_no_code : (ls : List Loop) (rest : List Item) → flat_map insn_in (loop_items ls rest ++ Nothing ∷ []) ≡ flat_map insn_in (rest ++ Nothing ∷ [])
+loops_no_code [] rest = refl
+loops_no_code (l ∷ ls) rest = loops_no_code ls rest
+
+slots_again : (second : Bool) (xs : List (Option Insn)) → AreSlots second xs
+    → second_slots second ++ flat_map placed (flat_map insn_in (slot_items xs ++ Nothing ∷ [])) ≡ xs
+slots_again true [] are = absurd (cc)
+slots_again false [] are = refl
+slots_again true (None ∷ xs) are = ap (λ more. None ∷ more) (slots_again false xs are)
+slots_again true (Some insn ∷ xs) are = absurd are
+slots_again false (None ∷ xs) are = absurd are
+slots_again false (Some insn ∷ xs) are = ap (λ more. Some insn ∷ more) (slots_again (is_some (second_immediate insn)) xs are.1)
+
+-- ---- the whole
+
+no_definition : (name : List ℕ) (slot : ℕ) → (◌≡◌ {A = Option ℕ} None (Some slot)) ↔ Defines [] name slot
+no_definition name slot = (λ same. absurd (cc), λ none. absurd none)
+
+printed_items : (p : Program) → IsProgram p → IsText (text_of (items_of p)) p
+printed_items p is =
+    let printed = are_printed p is in
+    let none = no_names (length p.slots) 0 (items_of p) printed in
+    record {
+      items = items_of p ++ Nothing ∷ [];
+      names = λ name. None;
+      lines = lines_say (λ name. None) (length p.slots) 0 is.slots.1 (items_of p) printed;
+      defined = rw none no_definition;
+      apart = rw none tt;
+      budget = ap (λ more. p.budget ∷ more) (loops_no_budget p.loops p.slots);
+      loops = rw (loops_again p.loops p.slots) (IsPermutation-refl p.loops);
+      code = sym (ap (flat_map placed) (loops_no_code p.loops (slot_items p.slots)) ∙ slots_again false p.slots is.code);
+      program = is;
+    }
+
+pub printed_is_text : (text : List ℕ) (p : Program) → IsProgram p → text ≡ printed_image p → IsText text p
+printed_is_text text p is printed = rw (printed ∙ image_printed p) (printed_items p is)

@@ -1,0 +1,121 @@
+-- The printed line of each item says it.
+use Rattle.std.proofs.Common.{◌≡◌, ℕ, ◌+◌, ◌≤◌, List, [], ◌∷◌, ◌++◌, Option, inr, refl, sym, arith, subst}
+use Rattle.std.specs.Prelude.{◌==◌, codes, decimal}
+use Rattle.std.specs.List.{slice_split}
+use Rattle.bpf_insn.specs.Spelling.{IsInsn}
+use Rattle.bpf_insn.specs.Text.{insn_name, insn_operands, register_text, written}
+use Rattle.bpf.specs.Program.{IsBudget, IsLoop}
+use Rattle.basm_lex.specs.Lines.{code_of, operands_of, rest_of, word_of}
+use Rattle.basm.specs.Relation.{AreLines, IsLine, Item, slots_in, names_from}
+use Rattle.basm.specs.Relation.Item.{Nothing, Label, Budget, OneLoop, Code}
+use Rattle.basm.proofs.Printed.Insns.{name_word, operands_words, operands_write}
+use Rattle.basm.proofs.Printed.Numerals.{number_writes}
+use Rattle.basm.proofs.Printed.Plain.{IsWord}
+use Rattle.basm.proofs.Printed.Splits.{split_at}
+use Rattle.basm.proofs.Printed.Texts.{decimal_word, register_word}
+use Rattle.basm.proofs.Printed.Words.{AreWords, operands_written, word_written, written_one_line}
+
+abbrev pub item_name : Item → List ℕ
+item_name Nothing = []
+item_name (Label name) = []
+item_name (Budget n) = codes ".budget"
+item_name (OneLoop l) = codes ".loop"
+item_name (Code insn) = insn_name insn
+
+abbrev pub item_operands : Item → List (List ℕ)
+item_operands Nothing = []
+item_operands (Label name) = []
+item_operands (Budget n) = decimal n ∷ []
+item_operands (OneLoop l) = decimal l.head ∷ decimal l.back ∷ decimal l.bound ∷ register_text l.register ∷ []
+item_operands (Code insn) = insn_operands insn
+
+-- the line that is printed for an item
+abbrev pub item_line : Item → List ℕ
+item_line item = written (item_name item) (item_operands item)
+
+-- an item of an image of so many slots
+abbrev pub IsPrinted : (slots : ℕ) → Item → Type 0
+IsPrinted slots Nothing = ⊥
+IsPrinted slots (Label name) = ⊥
+IsPrinted slots (Budget n) = IsBudget n
+IsPrinted slots (OneLoop l) = IsLoop slots l
+IsPrinted slots (Code insn) = IsInsn insn
+
+abbrev pub ArePrinted : (slots : ℕ) → List Item → Type 0
+ArePrinted slots [] = Unit {0}
+ArePrinted slots (item ∷ items) = IsPrinted slots item × ArePrinted slots items
+
+item_word : (slots : ℕ) (item : Item) → IsPrinted slots item → IsWord (item_name item)
+item_word slots Nothing is = absurd is
+item_word slots (Label name) is = absurd is
+item_word slots (Budget n) is = refl
+item_word slots (OneLoop l) is = refl
+item_word slots (Code insn) is = name_word insn
+
+item_words : (slots : ℕ) → slots ≤ 512 → (item : Item) → IsPrinted slots item → AreWords (item_operands item)
+item_words slots few Nothing is = absurd is
+item_words slots few (Label name) is = absurd is
+item_words slots few (Budget n) is = (decimal_word n (omega (arith, is.1)), tt)
+item_words slots few (OneLoop l) is = (
+  decimal_word l.head (omega (arith, is.ordered, is.within)),
+  (
+    decimal_word l.back (omega (arith, is.within)),
+    (decimal_word l.bound (omega (arith, is.high)), (register_word l.register (omega (arith, is.register)), tt)),
+  ),
+)
+item_words slots few (Code insn) is = operands_words insn is
+
+-- the item, by the words of its line
+words_say : (names : List ℕ → Option ℕ) (slots slot : ℕ) → slots ≤ 512 → (item : Item) → IsPrinted slots item → (line : List ℕ)
+    → word_of line ≡ item_name item → operands_of line ≡ item_operands item → IsLine names slot line item
+words_say names slots slot few Nothing is line word operands = absurd is
+words_say names slots slot few (Label name) is line word operands = absurd is
+words_say names slots slot few (Budget n) is line word operands =
+    (word, rw operands (number_writes n (omega (arith, is.1))))
+words_say names slots slot few (OneLoop l) is line word operands = (
+  word,
+  rw operands (
+    inr (number_writes l.head (omega (arith, is.ordered, is.within))),
+    (
+      inr (number_writes l.back (omega (arith, is.within))),
+      (number_writes l.bound (omega (arith, is.high)), (omega (arith, is.register), refl)),
+    ),
+  ),
+)
+words_say names slots slot few (Code insn) is line word operands =
+    record { name = word; operands = rw operands (operands_write names slot insn is) }
+
+line_says : (names : List ℕ → Option ℕ) (slots slot : ℕ) → slots ≤ 512 → (item : Item) → IsPrinted slots item → IsLine names slot (item_line item) item
+line_says names slots slot few item is =
+    let name = item_word slots item is in
+    let words = item_words slots few item is in
+    words_say names slots slot few item is (item_line item) (word_written (item_name item) (item_operands item) name words)
+    (operands_written (item_name item) (item_operands item) name words)
+
+-- ---- all lines, each with its end, and the empty one after the last end
+
+abbrev pub text_of : List Item → List ℕ
+text_of [] = []
+text_of (item ∷ items) = item_line item ++ 10 ∷ text_of items
+
+nothing_said : (names : List ℕ → Option ℕ) (slot : ℕ) → IsLine names slot [] Nothing
+unfolding word_of rest_of code_of
+nothing_said names slot = (refl, refl)
+
+pub lines_say : (names : List ℕ → Option ℕ) (slots slot : ℕ) → slots ≤ 512 → (items : List Item) → ArePrinted slots items
+    → AreLines names slot (slice_split (λ c. c == 10) (text_of items)) (items ++ Nothing ∷ [])
+lines_say names slots slot few [] are = (nothing_said names slot, tt)
+lines_say names slots slot few (item ∷ items) are =
+    let one_line = written_one_line (item_name item) (item_operands item) (item_word slots item are.0) (item_words slots few item are.0) in
+    let parts = split_at (λ c. c == 10) (item_line item) 10 (text_of items) one_line refl in
+    subst (λ lines. AreLines names slot lines (item ∷ (items ++ Nothing ∷ []))) (sym parts)
+    (line_says names slots slot few item are.0, lines_say names slots (slot + slots_in item) few items are.1)
+
+-- no label is printed
+pub no_names : (slots slot : ℕ) (items : List Item) → ArePrinted slots items → names_from slot (items ++ Nothing ∷ []) ≡ []
+no_names slots slot [] are = refl
+no_names slots slot (Nothing ∷ items) are = absurd are.0
+no_names slots slot (Label name ∷ items) are = absurd are.0
+no_names slots slot (Budget n ∷ items) are = no_names slots (slot + 0) items are.1
+no_names slots slot (OneLoop l ∷ items) are = no_names slots (slot + 0) items are.1
+no_names slots slot (Code insn ∷ items) are = no_names slots (slot + slots_in (Code insn)) items are.1

@@ -1,0 +1,65 @@
+-- What the first words of lines say of names and slots, whether or not the lines are right.
+use Rattle.std.specs.Prelude.{◌≡◌, ◌↔◌, ℕ, ◌+◌, ◌-◌, min, Bool, ◌&&◌, ◌||◌, ◌==◌, if◌then◌else◌, List, [], ◌∷◌, ◌++◌, length, take, codes, Option, Some, None}
+use Rattle.std.specs.List.{list_any}
+use Rattle.std.specs.Str.{bytes_eq}
+use Rattle.basm_lex.specs.Lines.{word_of}
+use Rattle.basm_lex.specs.Names.{is_name}
+use Rattle.basm.specs.declared.survey.Survey.{Survey}
+use Rattle.basm.specs.Naming.{slot_named}
+use Rattle.basm.specs.Relation.{AreApart}
+
+-- the name of a word that is a label
+unfoldable pub label_of : List ℕ → Option (List ℕ)
+label_of word =
+    let name = take (length word - 1) word in
+    if is_name name && bytes_eq word (name ++ codes ":") then Some name else None
+
+-- how many slots a word that is no label stands for: a directive and no word stand for none, an unknown word for one
+unfoldable pub word_slots : List ℕ → ℕ
+word_slots [] = 0
+word_slots (c ∷ cs) =
+    if c == 46
+    then 0
+    else (if bytes_eq (c ∷ cs) (codes "lddw") || bytes_eq (c ∷ cs) (codes "ldmap") || bytes_eq (c ∷ cs) (codes "ldimm") then 2 else 1)
+
+-- the same of a word that may be a label, which stands for none
+abbrev pub slots_unless : Option (List ℕ) → List ℕ → ℕ
+slots_unless None word = word_slots word
+slots_unless (Some name) word = 0
+
+-- the slot after so many more, as far as it is counted
+abbrev pub counted : ℕ → ℕ
+counted slots = min slots 4294967295
+
+abbrev pub slot_after : ℕ → List ℕ → ℕ
+slot_after slot line = counted (slot + slots_unless (label_of (word_of line)) (word_of line))
+
+abbrev pub slots_from : ℕ → List (List ℕ) → ℕ
+slots_from slot [] = slot
+slots_from slot (line ∷ lines) = slots_from (slot_after slot line) lines
+
+-- the names of the labels among the lines, with the slot of the next instruction
+abbrev pub labelled : Option (List ℕ) → ℕ → List (List ℕ × ℕ)
+labelled None slot = []
+labelled (Some name) slot = (name, slot) ∷ []
+
+abbrev pub labels_from : ℕ → List (List ℕ) → List (List ℕ × ℕ)
+labels_from slot [] = []
+labels_from slot (line ∷ lines) = labelled (label_of (word_of line)) slot ++ labels_from (slot_after slot line) lines
+
+abbrev pub declares_budget : List ℕ → Bool
+declares_budget line = bytes_eq (word_of line) (codes ".budget")
+
+-- the survey of these lines
+pub record IsSurvey (lines : List (List ℕ)) (survey : Survey) : Type 0 where
+  pub names : (name : List ℕ) → slot_named survey.names name ≡ slot_named (labels_from 0 lines) name
+  pub apart : (survey.repeated ≡ None) ↔ AreApart (labels_from 0 lines)
+  pub slots : survey.slots ≡ slots_from 0 lines
+  pub budget : survey.has_budget ≡ list_any declares_budget lines
+
+-- the survey has met one more name
+pub record AddsName (name : List ℕ) (old new : Survey) : Type 0 where
+  pub names : (other : List ℕ) → slot_named new.names other ≡ slot_named (old.names ++ (name, old.slots) ∷ []) other
+  pub repeated : (new.repeated ≡ None) ↔ ((old.repeated ≡ None) × (slot_named old.names name ≡ None))
+  pub slots : new.slots ≡ old.slots
+  pub budget : new.has_budget ≡ old.has_budget

@@ -1,0 +1,43 @@
+-- How assembling may end.
+use Rattle.std.specs.Prelude.{◌≡◌, ℕ, Result, MatchResult}
+use Rattle.bpf.specs.declared.fault.ImageFault.{ImageFault}
+use Rattle.bpf.specs.declared.fault.ImageFault.TheVariants as image
+use Rattle.bpf.specs.Program.{Program}
+use Rattle.basm.specs.declared.faults.AsmCode.{AsmCode}
+use Rattle.basm.specs.declared.faults.AsmCode.TheVariants.{BadWord, BadOperand, BadNumber, BadLabel, Reach, TooMany, BadBudget, BadLoop, Memory}
+use Rattle.basm.specs.declared.faults.AsmFault.{AsmFault}
+
+-- a fault of the whole text
+abbrev pub text_fault : AsmCode → AsmFault
+text_fault code = record { line = 0; code = code }
+
+-- want of memory, which is no line's
+abbrev pub out_of_memory : AsmFault
+out_of_memory = text_fault Memory
+
+-- a fault of a line
+abbrev pub line_fault : ℕ → AsmCode → AsmFault
+line_fault line BadWord = record { line = line; code = BadWord }
+line_fault line BadOperand = record { line = line; code = BadOperand }
+line_fault line BadNumber = record { line = line; code = BadNumber }
+line_fault line BadLabel = record { line = line; code = BadLabel }
+line_fault line Reach = record { line = line; code = Reach }
+line_fault line TooMany = record { line = line; code = TooMany }
+line_fault line BadBudget = record { line = line; code = BadBudget }
+line_fault line BadLoop = record { line = line; code = BadLoop }
+line_fault line Memory = out_of_memory
+
+-- what a fault of the image's parts is called here
+abbrev pub image_code : ImageFault → AsmCode
+image_code image.Magic = TooMany
+image_code image.Version = TooMany
+image_code image.Length = TooMany
+image_code image.Count = TooMany
+image_code image.Budget = BadBudget
+image_code image.BadLoop = BadLoop
+image_code (image.BadSlot slot fault) = TooMany
+image_code image.Memory = Memory
+
+-- the image, unless memory was refused
+abbrev pub Makes : Program → Result Program AsmFault → Type 0
+Makes p result = MatchResult result (λ made. made ≡ p) (λ fault. fault ≡ out_of_memory)

@@ -1,0 +1,21 @@
+//! What printing and assembling do together.
+
+ghost use Rattle.basm.specs.Outcomes.{Makes};
+
+use crate::assembling::assemble;
+use crate::faults::AsmFault;
+use crate::printing::disassemble;
+use bpf::Image;
+use std::alloc::Global;
+
+/// The image that is assembled of the printed text of an image: an equal one.
+///
+/// # Errors
+///
+/// `Memory` at line 0, where memory was refused.
+pub fn printed_again(alloc: Global, image: &Image) -> Result<Image, AsmFault>
+    ensures { Makes image.now result }
+{
+    let text = disassemble(alloc, image)?;
+    assemble(alloc, &text)
+}
