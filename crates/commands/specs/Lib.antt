@@ -3,4 +3,5 @@ pub mod Assembly
 pub mod Benches
 pub mod CommandLine
 pub mod Printed
+pub mod Reading
 pub mod Statuses

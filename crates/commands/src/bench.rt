@@ -1,8 +1,9 @@
 //! The node that the jobs run.
 
-ghost use Rattle.std.specs.Prelude.{◌≡◌, ◌≢◌, [], None, IfOk, IfSome};
+ghost use Rattle.std.specs.Prelude.{◌≡◌, ◌≢◌, [], None, IfErr, IfOk, IfSome};
 ghost use Rattle.target.specs.Serving.{IsServed};
 ghost use Rattle.commands.specs.Benches.{fresh_setup};
+ghost use Rattle.commands.specs.declared.faults.Fault.TheVariants.{NoMemory};
 
 use crate::faults::Fault;
 use crate::programs::no_maps;
@@ -45,7 +46,8 @@ impl Bench {
     /// A node of zero bytes whose commands this program judges.
     pub fn new<'a>(alloc: Global, program: Accepted) -> Result<Bench, Fault<'a>>
         requires { program.sizes ≡ [] }
-        ensures { IfOk result (λ bench. bench ≡ fresh_setup program) }
+        ensures made { IfOk result (λ bench. bench ≡ fresh_setup program) }
+        ensures refused { IfErr result (λ fault. fault ≡ NoMemory) }
     {
         let config = NodeConfig {
             address: NODE_ADDRESS,
@@ -68,6 +70,7 @@ impl Bench {
     pub fn serve(&mut self, port: u8, packet: Packet) -> Option<Served>
         ensures served { IfSome result (λ served. IsServed served packet self.old.banks self.new.banks self.old.holder self.new.holder self.new.reply) }
         ensures no_port { port ≢ self.old.holder.port → result ≡ None }
+        ensures own_port { port ≡ self.old.holder.port → result ≢ None }
     {
         if port != self.pass.port() {
             return None;

@@ -1,7 +1,8 @@
 //! The program that judges.
 
-ghost use Rattle.std.specs.Prelude.{◌≡◌, IfErr, IfOk, []};
+ghost use Rattle.std.specs.Prelude.{◌≡◌, IfErr, IfOk, ℕ, List, []};
 ghost use Rattle.bpf.specs.Program.{IsProgram};
+ghost use Rattle.commands.specs.Reading.{IsNoImage, IsNoProgram};
 ghost use Rattle.commands.specs.declared.faults.Fault.TheVariants.{CannotRead};
 
 use crate::faults::Fault;
@@ -41,7 +42,8 @@ pub fn image_in<'a, F: Files>(
     files: &mut F,
     name: &'a str,
 ) -> Result<Image, Fault<'a>>
-    ensures { IfOk result IsProgram }
+    ensures image { IfOk result IsProgram }
+    ensures refused { IfErr result (IsNoImage name.now) }
 {
     let bytes = bytes_in(alloc, files, name)?;
     Ok(Image::read(alloc, bytes.as_slice())?)
@@ -49,7 +51,8 @@ pub fn image_in<'a, F: Files>(
 
 /// The program of an image, for a node without counter maps.
 fn accepted<'a>(alloc: Global, image: Image) -> Result<Accepted, Fault<'a>>
-    ensures { IfOk result (λ program. program.sizes ≡ []) }
+    ensures program { IfOk result (λ program. program.sizes ≡ []) }
+    ensures refused { IfErr result (λ fault. (name : List ℕ) → IsNoProgram name fault) }
 {
     Ok(verify(alloc, image, &no_maps())?)
 }
@@ -60,7 +63,8 @@ pub fn program_in<'a, F: Files>(
     files: &mut F,
     name: &'a str,
 ) -> Result<Accepted, Fault<'a>>
-    ensures { IfOk result (λ program. program.sizes ≡ []) }
+    ensures program { IfOk result (λ program. program.sizes ≡ []) }
+    ensures refused { IfErr result (IsNoProgram name.now) }
 {
     let image = image_in(alloc, files, name)?;
     accepted(alloc, image)

@@ -8,8 +8,8 @@ use Rattle.commands.proofs.bench.Bench.new.Goals as goal
 abbrev setup : List Contents → Holder → List ℕ → Setup
 setup banks holder reply = record { banks = banks; holder = holder; reply = reply }
 
-pub returns : goal.returns
-returns c =
+pub returns-clause-made : goal.returns-clause-made
+returns-clause-made c =
     let pass = last_of_one _ _ _ (sym c.in-Some.ensures.items ∙ c.in_ok-node.ensures.passes) in
     ap₂ (λ banks holder. setup banks holder c.new-2.result) c.in_ok-node.ensures.banks pass
     ∙ ap (setup _ _) c.new-2.ensures
