@@ -35,7 +35,7 @@ pub record AddsItem (item : Item) (old new : Parts) : Type 0 where
   pub insns : new.insns.items ≡ old.insns.items ++ insn_in item
   pub slots : new.slots ≡ old.slots + slots_in item
 
--- P of what was made, unless memory was refused
+-- what is made has the property, unless memory was refused
 abbrev pub UnlessMemory : {X : Type 0} → Result X AsmCode → (X → Type 0) → Type 0
 UnlessMemory result P = MatchResult result P (λ code. code ≡ Memory)
 

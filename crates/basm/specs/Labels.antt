@@ -22,31 +22,35 @@ word_slots (c ∷ cs) =
     then 0
     else (if bytes_eq (c ∷ cs) (codes "lddw") || bytes_eq (c ∷ cs) (codes "ldmap") || bytes_eq (c ∷ cs) (codes "ldimm") then 2 else 1)
 
--- the same of a word that may be a label, which stands for none
+-- the same of a word that may be a label
 abbrev pub slots_unless : Option (List ℕ) → List ℕ → ℕ
 slots_unless None word = word_slots word
 slots_unless (Some name) word = 0
 
--- the slot after so many more, as far as it is counted
+-- so many slots, as far as 32 bits count them
 abbrev pub counted : ℕ → ℕ
 counted slots = min slots 4294967295
 
+-- the slot of the next instruction, behind a line
 abbrev pub slot_after : ℕ → List ℕ → ℕ
 slot_after slot line = counted (slot + slots_unless (label_of (word_of line)) (word_of line))
 
+-- the same, behind lines
 abbrev pub slots_from : ℕ → List (List ℕ) → ℕ
 slots_from slot [] = slot
 slots_from slot (line ∷ lines) = slots_from (slot_after slot line) lines
 
--- the names of the labels among the lines, with the slot of the next instruction
+-- the name of a label, with its slot
 abbrev pub labelled : Option (List ℕ) → ℕ → List (List ℕ × ℕ)
 labelled None slot = []
 labelled (Some name) slot = (name, slot) ∷ []
 
+-- the names of the labels among the lines, with the slot of the next instruction
 abbrev pub labels_from : ℕ → List (List ℕ) → List (List ℕ × ℕ)
 labels_from slot [] = []
 labels_from slot (line ∷ lines) = labelled (label_of (word_of line)) slot ++ labels_from (slot_after slot line) lines
 
+-- whether the line begins with `.budget`
 abbrev pub declares_budget : List ℕ → Bool
 declares_budget line = bytes_eq (word_of line) (codes ".budget")
 

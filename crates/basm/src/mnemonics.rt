@@ -2,6 +2,7 @@
 
 ghost use Rattle.std.specs.Prelude.{◌≡◌, ◌≢◌, ◌++◌, IfSome, MatchOption};
 ghost use Rattle.bpf_insn.specs.Text.{alu_name, condition_name, width_suffix};
+ghost use Rattle.basm.specs.Labels.{word_slots};
 ghost use Rattle.basm.specs.Mnemonics.{mnemonic_word, table_of};
 
 use bpf_insn::{AluOp, Callee, Condition, Extension, LoadSize, Size, Swap, SwapBits, Width};
@@ -26,6 +27,20 @@ pub enum Mnemonic {
     AddressLoad,
     Calling(Callee),
     Exiting,
+}
+
+/// How many slots a line with this first word takes. An unknown word counts as one.
+#[tactic(auto, unfolding(crate::specs::Labels::word_slots))]
+pub fn slots_of_word(word: &str) -> u32
+    ensures { result ≡ word_slots word.now }
+{
+    if word.is_empty() || word.starts_with('.') {
+        return 0;
+    }
+    match word {
+        "lddw" | "ldmap" | "ldimm" => 2,
+        _ => 1,
+    }
 }
 
 /// The instruction that the word names.

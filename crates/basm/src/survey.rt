@@ -3,8 +3,9 @@
 ghost use Rattle.std.specs.Prelude.{◌≡◌, ◌==◌, ◌++◌, ◌∷◌, [], ℕ, List, IfOk};
 ghost use Rattle.std.specs.List.{slice_split};
 ghost use Rattle.basm_lex.specs.Lines.{word_of};
-ghost use Rattle.basm.specs.Labels.{AddsName, IsSurvey, word_slots};
+ghost use Rattle.basm.specs.Labels.{AddsName, IsSurvey};
 
+use crate::mnemonics::slots_of_word;
 use crate::names::Names;
 use basm_lex::{first_word, label_name};
 use std::alloc::{AllocError, Global};
@@ -49,7 +50,7 @@ impl<'a> Survey<'a> {
             Some(name) => self.add_name(number, name),
             None => {
                 self.has_budget = self.has_budget || word == ".budget";
-                self.slots = self.slots.saturating_add(slots_of(word));
+                self.slots = self.slots.saturating_add(slots_of_word(word));
                 Ok(())
             }
         }
@@ -62,19 +63,5 @@ impl<'a> Survey<'a> {
             self.repeated = self.repeated.or(Some(number));
         }
         Ok(())
-    }
-}
-
-/// How many slots a line with this first word takes. An unknown word counts as one.
-#[tactic(auto, unfolding(crate::specs::Labels::word_slots))]
-fn slots_of(word: &str) -> u32
-    ensures { result ≡ word_slots word.now }
-{
-    if word.is_empty() || word.starts_with('.') {
-        return 0;
-    }
-    match word {
-        "lddw" | "ldmap" | "ldimm" => 2,
-        _ => 1,
     }
 }

@@ -3,7 +3,7 @@ use Rattle.std.specs.Prelude.{◌≡◌, ℕ, List}
 use Rattle.commands.specs.declared.faults.Fault.{Fault}
 use Rattle.commands.specs.declared.faults.Fault.TheVariants.{CannotRead, CannotWrite, NoMemory, BadText, BadImage, Unfit, BadLine}
 
--- the file of this name cannot be read, or has no image
+-- the file of this name cannot be read, or its bytes give no image
 abbrev pub IsNoImage : List ℕ → Fault → Type 0
 IsNoImage name (CannotRead file) = file.now ≡ name
 IsNoImage name (CannotWrite file) = ⊥
