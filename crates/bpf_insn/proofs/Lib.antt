@@ -5,3 +5,4 @@ pub mod Fit
 pub mod Explained
 pub mod Apart
 pub mod Zeros
+pub mod Signs

@@ -6,7 +6,7 @@ ghost use Rattle.bpf_insn.specs.Codes.{store_class};
 ghost use Rattle.bpf_insn.specs.Spelling.{RegistersFit, fields, first_bytes, first_fields, second_bytes, second_immediate};
 
 use crate::fields::Fields;
-use crate::insn::{Distance, Insn};
+use crate::insn::{Address, Distance, Insn};
 use crate::memory::{LoadSize, Size};
 use crate::operation::{AluOp, Condition, Extension, Operand, Swap, SwapBits, Width};
 use crate::register::Register;
@@ -85,9 +85,7 @@ pub fn first_fields(insn: &Insn) -> Fields
         Insn::Goto { distance } => goto_fields(distance),
         Insn::Wide { dst, value } => wide_fields(dst, CONSTANT, low_half(value)),
         Insn::LoadMap { dst, index } => wide_fields(dst, MAP_BY_INDEX, index),
-        Insn::LoadAddress { dst, address } => {
-            wide_fields(dst, address.subtype(), address.first())
-        }
+        Insn::LoadAddress { dst, address } => address_fields(dst, address),
         Insn::Call { callee, number } => Fields::new(CALL, 0, callee.code(), 0, number),
         Insn::Exit => Fields::new(EXIT, 0, 0, 0, 0),
     }
@@ -191,6 +189,13 @@ fn goto_fields(distance: Distance) -> Fields
         Distance::Short(offset) => Fields::new(GOTO_SHORT, 0, 0, offset, 0),
         Distance::Long(slots) => Fields::new(GOTO_LONG, 0, 0, 0, slots),
     }
+}
+
+fn address_fields(dst: Register, address: Address) -> Fields
+    ensures value { result ≡ first_fields (Insn.LoadAddress dst address) }
+    ensures registers { RegistersFit result }
+{
+    wide_fields(dst, address.subtype(), address.first())
 }
 
 /// The first slot of a two-slot load of this subtype.

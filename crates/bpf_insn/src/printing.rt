@@ -2,7 +2,7 @@
 
 ghost use Rattle.std.specs.Prelude.{◌≡◌, Some, IfOk};
 ghost use Rattle.std.specs.String.{string_bytes};
-ghost use Rattle.bpf_insn.specs.Text.{alu_name, bits_text, callee_name, condition_name, extension_name, insn_text, load_suffix, operand_text, place_text, register_text, signed_text, store_prefix, store_suffix, swap_bits_name, swap_name, width_suffix};
+ghost use Rattle.bpf_insn.specs.Text.{alu_name, bits_text, callee_name, condition_name, extension_name, insn_text, load_suffix, operand_text, place_text, register_text, store_prefix, store_suffix, swap_bits_name, swap_name, width_suffix};
 
 use crate::insn::{Address, Callee, Distance, Insn};
 use crate::memory::{LoadSize, Size};
@@ -27,23 +27,6 @@ impl fmt::Display for Operand {
         match self {
             Operand::FromRegister(register) => write!(f, "{register}"),
             Operand::Immediate(value) => write!(f, "{value}"),
-        }
-    }
-}
-
-/// A number that is printed with its sign.
-#[derive(Drop)]
-struct Signed(i32);
-
-impl fmt::Display for Signed {
-    ghost output = { λ signed. Some (signed_text signed.0) };
-
-    fn fmt<W: fmt::Write>(&self, f: &mut fmt::Formatter<W>) -> fmt::Result {
-        let number = self.0;
-        if number < 0 {
-            write!(f, "{number}")
-        } else {
-            write!(f, "+{number}")
         }
     }
 }
@@ -73,47 +56,53 @@ impl fmt::Display for Place {
 
     fn fmt<W: fmt::Write>(&self, f: &mut fmt::Formatter<W>) -> fmt::Result {
         let base = self.base;
-        let offset = Signed(i32::from(self.offset));
-        write!(f, "[{base}{offset}]")
+        let offset = self.offset;
+        write!(f, "[{base}{offset:+}]")
     }
 }
 
-fn alu_name(op: AluOp) -> &'static str
-    ensures { result.now ≡ alu_name op }
-{
-    match op {
-        AluOp::Add => "add",
-        AluOp::Sub => "sub",
-        AluOp::Mul => "mul",
-        AluOp::Div => "div",
-        AluOp::SignedDiv => "sdiv",
-        AluOp::Or => "or",
-        AluOp::And => "and",
-        AluOp::Lsh => "lsh",
-        AluOp::Rsh => "rsh",
-        AluOp::Mod => "mod",
-        AluOp::SignedMod => "smod",
-        AluOp::Xor => "xor",
-        AluOp::Mov => "mov",
-        AluOp::Arsh => "arsh",
+/// The name of the operation, without its width.
+impl fmt::Display for AluOp {
+    ghost output = { λ op. Some (alu_name op) };
+
+    fn fmt<W: fmt::Write>(&self, f: &mut fmt::Formatter<W>) -> fmt::Result {
+        f.write_str(match self {
+            AluOp::Add => "add",
+            AluOp::Sub => "sub",
+            AluOp::Mul => "mul",
+            AluOp::Div => "div",
+            AluOp::SignedDiv => "sdiv",
+            AluOp::Or => "or",
+            AluOp::And => "and",
+            AluOp::Lsh => "lsh",
+            AluOp::Rsh => "rsh",
+            AluOp::Mod => "mod",
+            AluOp::SignedMod => "smod",
+            AluOp::Xor => "xor",
+            AluOp::Mov => "mov",
+            AluOp::Arsh => "arsh",
+        })
     }
 }
 
-fn condition_name(condition: Condition) -> &'static str
-    ensures { result.now ≡ condition_name condition }
-{
-    match condition {
-        Condition::Equal => "jeq",
-        Condition::Greater => "jgt",
-        Condition::GreaterEqual => "jge",
-        Condition::AnyBits => "jset",
-        Condition::NotEqual => "jne",
-        Condition::SignedGreater => "jsgt",
-        Condition::SignedGreaterEqual => "jsge",
-        Condition::Less => "jlt",
-        Condition::LessEqual => "jle",
-        Condition::SignedLess => "jslt",
-        Condition::SignedLessEqual => "jsle",
+/// The name of a jump on the condition, without its width.
+impl fmt::Display for Condition {
+    ghost output = { λ condition. Some (condition_name condition) };
+
+    fn fmt<W: fmt::Write>(&self, f: &mut fmt::Formatter<W>) -> fmt::Result {
+        f.write_str(match self {
+            Condition::Equal => "jeq",
+            Condition::Greater => "jgt",
+            Condition::GreaterEqual => "jge",
+            Condition::AnyBits => "jset",
+            Condition::NotEqual => "jne",
+            Condition::SignedGreater => "jsgt",
+            Condition::SignedGreaterEqual => "jsge",
+            Condition::Less => "jlt",
+            Condition::LessEqual => "jle",
+            Condition::SignedLess => "jslt",
+            Condition::SignedLessEqual => "jsle",
+        })
     }
 }
 
@@ -127,65 +116,81 @@ fn suffix(width: Width) -> &'static str
     }
 }
 
-fn extension_name(extension: Extension) -> &'static str
-    ensures { result.now ≡ extension_name extension }
-{
-    match extension {
-        Extension::ByteTo32 => "mov32sx8",
-        Extension::HalfTo32 => "mov32sx16",
-        Extension::ByteTo64 => "movsx8",
-        Extension::HalfTo64 => "movsx16",
-        Extension::WordTo64 => "movsx32",
+/// The name of the move.
+impl fmt::Display for Extension {
+    ghost output = { λ extension. Some (extension_name extension) };
+
+    fn fmt<W: fmt::Write>(&self, f: &mut fmt::Formatter<W>) -> fmt::Result {
+        f.write_str(match self {
+            Extension::ByteTo32 => "mov32sx8",
+            Extension::HalfTo32 => "mov32sx16",
+            Extension::ByteTo64 => "movsx8",
+            Extension::HalfTo64 => "movsx16",
+            Extension::WordTo64 => "movsx32",
+        })
     }
 }
 
-fn swap_name(swap: Swap) -> &'static str
-    ensures { result.now ≡ swap_name swap }
-{
-    match swap {
-        Swap::ToLittle => "le",
-        Swap::ToBig => "be",
-        Swap::Reverse => "swap",
+/// The name of the swap, without its bits.
+impl fmt::Display for Swap {
+    ghost output = { λ swap. Some (swap_name swap) };
+
+    fn fmt<W: fmt::Write>(&self, f: &mut fmt::Formatter<W>) -> fmt::Result {
+        f.write_str(match self {
+            Swap::ToLittle => "le",
+            Swap::ToBig => "be",
+            Swap::Reverse => "swap",
+        })
     }
 }
 
-fn swap_bits_name(bits: SwapBits) -> &'static str
-    ensures { result.now ≡ swap_bits_name bits }
-{
-    match bits {
-        SwapBits::Swap16 => "16",
-        SwapBits::Swap32 => "32",
-        SwapBits::Swap64 => "64",
+/// The number of bits, which stands behind the name of the swap.
+impl fmt::Display for SwapBits {
+    ghost output = { λ bits. Some (swap_bits_name bits) };
+
+    fn fmt<W: fmt::Write>(&self, f: &mut fmt::Formatter<W>) -> fmt::Result {
+        f.write_str(match self {
+            SwapBits::Swap16 => "16",
+            SwapBits::Swap32 => "32",
+            SwapBits::Swap64 => "64",
+        })
     }
 }
 
-fn load_suffix(size: LoadSize) -> &'static str
-    ensures { result.now ≡ load_suffix size }
-{
-    match size {
-        LoadSize::LoadByte => "b",
-        LoadSize::LoadHalf => "h",
-        LoadSize::LoadWord => "w",
-        LoadSize::LoadDouble => "dw",
-        LoadSize::SignedByte => "sb",
-        LoadSize::SignedHalf => "sh",
-        LoadSize::SignedWord => "sw",
+/// The letters of the size, which stand behind the name of the load.
+impl fmt::Display for LoadSize {
+    ghost output = { λ size. Some (load_suffix size) };
+
+    fn fmt<W: fmt::Write>(&self, f: &mut fmt::Formatter<W>) -> fmt::Result {
+        f.write_str(match self {
+            LoadSize::LoadByte => "b",
+            LoadSize::LoadHalf => "h",
+            LoadSize::LoadWord => "w",
+            LoadSize::LoadDouble => "dw",
+            LoadSize::SignedByte => "sb",
+            LoadSize::SignedHalf => "sh",
+            LoadSize::SignedWord => "sw",
+        })
     }
 }
 
-fn store_suffix(size: Size) -> &'static str
-    ensures { result.now ≡ store_suffix size }
-{
-    match size {
-        Size::Byte => "b",
-        Size::Half => "h",
-        Size::Word => "w",
-        Size::Double => "dw",
+/// The letters of the size, which stand behind the name of the store.
+impl fmt::Display for Size {
+    ghost output = { λ size. Some (store_suffix size) };
+
+    fn fmt<W: fmt::Write>(&self, f: &mut fmt::Formatter<W>) -> fmt::Result {
+        f.write_str(match self {
+            Size::Byte => "b",
+            Size::Half => "h",
+            Size::Word => "w",
+            Size::Double => "dw",
+        })
     }
 }
 
-fn store_prefix(src: &Operand) -> &'static str
-    ensures { result.now ≡ store_prefix src.now }
+/// What the name of a store begins with.
+fn prefix(src: Operand) -> &'static str
+    ensures { result.now ≡ store_prefix src }
 {
     match src {
         Operand::FromRegister(_) => "stx",
@@ -193,13 +198,56 @@ fn store_prefix(src: &Operand) -> &'static str
     }
 }
 
-fn callee_name(callee: Callee) -> &'static str
-    ensures { result.now ≡ callee_name callee }
-{
-    match callee {
-        Callee::Helper => "call",
-        Callee::Local => "calllocal",
-        Callee::ByTypeId => "callbtf",
+/// The name of the call.
+impl fmt::Display for Callee {
+    ghost output = { λ callee. Some (callee_name callee) };
+
+    fn fmt<W: fmt::Write>(&self, f: &mut fmt::Formatter<W>) -> fmt::Result {
+        f.write_str(match self {
+            Callee::Helper => "call",
+            Callee::Local => "calllocal",
+            Callee::ByTypeId => "callbtf",
+        })
+    }
+}
+
+/// A jump that is always taken.
+#[derive(Drop)]
+struct Goto(Distance);
+
+impl fmt::Display for Goto {
+    ghost use Rattle.bpf_insn.specs.declared.insn.Insn.{Insn};
+
+    ghost output = { λ goto. Some (insn_text (Insn.Goto goto.0)) };
+
+    #[tactic(auto, unfolding(crate::specs::Text::insn_text))]
+    fn fmt<W: fmt::Write>(&self, f: &mut fmt::Formatter<W>) -> fmt::Result {
+        match self.0 {
+            Distance::Short(offset) => write!(f, "ja {offset:+}"),
+            Distance::Long(offset) => write!(f, "ja32 {offset:+}"),
+        }
+    }
+}
+
+/// A load of an address, which is printed by its subtype and both immediates.
+#[derive(Drop)]
+struct AddressLoad {
+    dst: Register,
+    address: Address,
+}
+
+impl fmt::Display for AddressLoad {
+    ghost use Rattle.bpf_insn.specs.declared.insn.Insn.{Insn};
+
+    ghost output = { λ load. Some (insn_text (Insn.LoadAddress load.dst load.address)) };
+
+    #[tactic(auto, unfolding(crate::specs::Text::insn_text))]
+    fn fmt<W: fmt::Write>(&self, f: &mut fmt::Formatter<W>) -> fmt::Result {
+        let dst = self.dst;
+        let subtype = self.address.subtype();
+        let first = self.address.first();
+        let second = self.address.second();
+        write!(f, "ldimm {subtype}, {dst}, {first}, {second}")
     }
 }
 
@@ -208,98 +256,44 @@ impl fmt::Display for Insn {
 
     #[tactic(auto, unfolding(crate::specs::Text::insn_text))]
     fn fmt<W: fmt::Write>(&self, f: &mut fmt::Formatter<W>) -> fmt::Result {
-        match self {
+        match *self {
             Insn::Alu {
                 op,
                 width,
                 dst,
                 src,
-            } => {
-                let name = alu_name(*op);
-                let suffix = suffix(*width);
-                write!(f, "{name}{suffix} {dst}, {src}")
-            }
-            Insn::Negate { width, dst } => {
-                let suffix = suffix(*width);
-                write!(f, "neg{suffix} {dst}")
-            }
+            } => write!(f, "{op}{} {dst}, {src}", suffix(width)),
+            Insn::Negate { width, dst } => write!(f, "neg{} {dst}", suffix(width)),
             Insn::MoveSigned {
                 extension,
                 dst,
                 src,
-            } => {
-                let name = extension_name(*extension);
-                write!(f, "{name} {dst}, {src}")
-            }
-            Insn::ByteSwap { swap, bits, dst } => {
-                let name = swap_name(*swap);
-                let bits = swap_bits_name(*bits);
-                write!(f, "{name}{bits} {dst}")
-            }
+            } => write!(f, "{extension} {dst}, {src}"),
+            Insn::ByteSwap { swap, bits, dst } => write!(f, "{swap}{bits} {dst}"),
             Insn::Load {
                 size,
                 dst,
                 base,
                 offset,
-            } => {
-                let suffix = load_suffix(*size);
-                let place = Place {
-                    base: *base,
-                    offset: *offset,
-                };
-                write!(f, "ldx{suffix} {dst}, {place}")
-            }
+            } => write!(f, "ldx{size} {dst}, {}", Place { base, offset }),
             Insn::Store {
                 size,
                 base,
                 offset,
                 src,
-            } => {
-                let prefix = store_prefix(src);
-                let suffix = store_suffix(*size);
-                let place = Place {
-                    base: *base,
-                    offset: *offset,
-                };
-                write!(f, "{prefix}{suffix} {place}, {src}")
-            }
+            } => write!(f, "{}{size} {}, {src}", prefix(src), Place { base, offset }),
             Insn::Jump {
                 condition,
                 width,
                 dst,
                 src,
                 offset,
-            } => {
-                let name = condition_name(*condition);
-                let suffix = suffix(*width);
-                let offset = Signed(i32::from(*offset));
-                write!(f, "{name}{suffix} {dst}, {src}, {offset}")
-            }
-            Insn::Goto { distance } => match distance {
-                Distance::Short(offset) => {
-                    let offset = Signed(i32::from(*offset));
-                    write!(f, "ja {offset}")
-                }
-                Distance::Long(offset) => {
-                    let offset = Signed(*offset);
-                    write!(f, "ja32 {offset}")
-                }
-            },
-            Insn::Wide { dst, value } => {
-                let bits = Bits(*value);
-                write!(f, "lddw {dst}, {bits}")
-            }
+            } => write!(f, "{condition}{} {dst}, {src}, {offset:+}", suffix(width)),
+            Insn::Goto { distance } => write!(f, "{}", Goto(distance)),
+            Insn::Wide { dst, value } => write!(f, "lddw {dst}, {}", Bits(value)),
             Insn::LoadMap { dst, index } => write!(f, "ldmap {dst}, {index}"),
-            Insn::LoadAddress { dst, address } => {
-                let subtype = address.subtype();
-                let first = address.first();
-                let second = address.second();
-                write!(f, "ldimm {subtype}, {dst}, {first}, {second}")
-            }
-            Insn::Call { callee, number } => {
-                let name = callee_name(*callee);
-                write!(f, "{name} {number}")
-            }
+            Insn::LoadAddress { dst, address } => write!(f, "{}", AddressLoad { dst, address }),
+            Insn::Call { callee, number } => write!(f, "{callee} {number}"),
             Insn::Exit => write!(f, "exit"),
         }
     }
