@@ -14,11 +14,11 @@ ghost use Rattle.basm.specs.Relation.{Four, One, Three, Two, WritesInsn, WritesO
 
 use crate::choice::both;
 use crate::faults::AsmCode;
-use crate::looping::MAX_SLOTS;
 use crate::mnemonics::Mnemonic;
 use crate::names::Names;
 use crate::targets::{read_long_target, read_short_target};
 use basm_lex::{Place, number, read_place, register, wide_number};
+use bpf::MAX_SLOTS;
 use bpf_insn::{
     Address, AluOp, Callee, Condition, Distance, Extension, Insn, LoadSize, Operand, Register,
     Size, Swap, SwapBits, Width,
@@ -56,7 +56,7 @@ fn slot_after(slot: u32, insn: &Insn) -> Result<u32, AsmCode>
     ensures exact { slot + slots_of insn.now ≤ 512 → result ≡ Ok (slot + slots_of insn.now) }
 {
     let after = slot.saturating_add(insn.slots() as u32);
-    if after > MAX_SLOTS {
+    if after > u32::from(MAX_SLOTS) {
         Err(AsmCode::TooMany)
     } else {
         Ok(after)

@@ -12,15 +12,8 @@ use crate::choice::both;
 use crate::faults::AsmCode;
 use crate::survey::Survey;
 use basm_lex::{NumberFault, is_name, number, register};
-use bpf::Loop;
+use bpf::{Loop, MAX_BOUND, MAX_BUDGET, MAX_SLOTS};
 use bpf_insn::Register;
-
-/// The most slots of an image.
-pub const MAX_SLOTS: u32 = 512;
-/// The greatest budget of an image.
-const MAX_BUDGET: i32 = 65_536;
-/// The greatest bound of a loop.
-const MAX_BOUND: i32 = 4_096;
 
 /// The budget that the operands of `.budget` declare.
 pub fn read_budget(operands: &[&str]) -> Result<u32, AsmCode>
@@ -31,7 +24,7 @@ pub fn read_budget(operands: &[&str]) -> Result<u32, AsmCode>
         return Err(AsmCode::BadOperand);
     };
     let budget = field(budget, AsmCode::BadBudget)?;
-    if 1 <= budget && budget <= MAX_BUDGET {
+    if 1 <= budget && budget as u32 <= MAX_BUDGET {
         Ok(budget as u32)
     } else {
         Err(AsmCode::BadBudget)
@@ -67,7 +60,7 @@ fn read_bound(word: &str) -> Result<u16, AsmCode>
     ensures exact { (bound : ℕ) → 1 ≤ bound → bound ≤ 4096 → WritesNumber word.now (pos bound) → result ≡ Ok bound }
 {
     let bound = field(word, AsmCode::BadLoop)?;
-    if 1 <= bound && bound <= MAX_BOUND {
+    if 1 <= bound && bound <= i32::from(MAX_BOUND) {
         Ok(bound as u16)
     } else {
         Err(AsmCode::BadLoop)
@@ -96,7 +89,7 @@ fn read_end(word: &str, survey: &Survey) -> Result<u16, AsmCode>
     } else {
         i64::from(field(word, AsmCode::BadLoop)?)
     };
-    if 0 <= slot && slot < i64::from(survey.slots.min(MAX_SLOTS)) {
+    if 0 <= slot && slot < i64::from(survey.slots.min(u32::from(MAX_SLOTS))) {
         Ok(slot as u16)
     } else {
         Err(AsmCode::BadLoop)

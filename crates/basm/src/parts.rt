@@ -20,12 +20,9 @@ use crate::looping::{read_budget, read_loop};
 use crate::mnemonics::{Mnemonic, read_mnemonic};
 use crate::survey::Survey;
 use basm_lex::{label_name, read_statement};
-use bpf::{Image, Loop};
+use bpf::{Image, Loop, MAX_LOOPS};
 use bpf_insn::Insn;
 use std::alloc::Global;
-
-/// The most loops of an image.
-const MAX_LOOPS: usize = 8;
 
 /// The parts of an image that the lines so far declare.
 #[derive(Drop)]

@@ -10,11 +10,11 @@ const MAGIC: [u8; 4] = *b"BPFA";
 /// The version of the format.
 pub const VERSION: u8 = 1;
 /// The most loops of an image.
-const MAX_LOOPS: usize = 8;
+pub const MAX_LOOPS: usize = 8;
 /// The most slots of an image.
-pub const MAX_SLOTS: usize = 512;
+pub const MAX_SLOTS: u16 = 512;
 /// The greatest budget of an image.
-const MAX_BUDGET: u32 = 65_536;
+pub const MAX_BUDGET: u32 = 65_536;
 
 /// What an image declares in its first 16 bytes, in the limits of the format.
 #[derive(Clone, Copy)]
@@ -88,7 +88,7 @@ fn read_counts(bytes: &[u8]) -> Result<Header, ImageFault>
 fn is_count(loops: usize, slots: usize, reserved: u32) -> bool
     ensures { result ≡ is_count loops slots reserved }
 {
-    loops <= MAX_LOOPS && 1 <= slots && slots <= MAX_SLOTS && reserved == 0
+    loops <= MAX_LOOPS && 1 <= slots && slots <= usize::from(MAX_SLOTS) && reserved == 0
 }
 
 /// Whether this is a budget of an image.

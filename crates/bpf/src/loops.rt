@@ -10,7 +10,7 @@ use bpf_insn::Register;
 use std::alloc::Global;
 
 /// The greatest bound of a loop.
-const MAX_BOUND: u16 = 4_096;
+pub const MAX_BOUND: u16 = 4_096;
 
 /// A loop that an image declares: the slots `head` to `back`, passed at most `bound` times in a row,
 /// which `register` counts down to zero.

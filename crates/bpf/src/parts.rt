@@ -25,7 +25,7 @@ pub fn header_of(insns: &[Insn], loops: &[Loop], budget: u32) -> Result<Header, 
     ensures { result ≡ header_of insns.now loops.now budget }
 {
     // More instructions have more slots.
-    if insns.len() > MAX_SLOTS {
+    if insns.len() > usize::from(MAX_SLOTS) {
         return Err(ImageFault::Count);
     }
     let header = Header::new(loops.len(), count_slots(insns), 0, budget)?;

@@ -43,6 +43,6 @@ returns-else-slot-ge0-clause-exact c = λ slot within low w.
     ]) in
     elim c.else-slot-ge0.branch [
       | else-slot-ge0-via-then-slot-ge0+else-slot-from v ↦
-          absurd (not_above slot c.args.survey.now.slots v.min.result bits v.from.result same within low v.min.ensures v.from.ensures v.if-slot-from.false)
+          absurd (not_above slot c.args.survey.now.slots v.min.result bits v.from-then-slot-ge0.result same within low (rw v.from.ensures at v.min.ensures) v.from-then-slot-ge0.ensures v.if-slot-from.false)
       | else-slot-ge0-via-else-slot-ge0 v ↦ absurd (not_below slot bits same v.if-slot-ge0.false)
     ]
