@@ -1,7 +1,10 @@
 //! What an instruction does to what is known.
 
 ghost use Rattle.std.specs.Prelude.{◌≡◌};
-ghost use Rattle.absdom.specs.Effect.{operand_kind, map_kind, written, applied};
+ghost use Rattle.machine.specs.Memory.{size_bytes};
+ghost use Rattle.absdom.specs.Kinds.{number_of};
+ghost use Rattle.absdom.specs.Knowledge.{kind_at};
+ghost use Rattle.absdom.specs.Effect.{operand_kind, alu_kind, map_kind, stored, written, applied};
 
 use crate::access::{load, store};
 use crate::arithmetic::{alu, byte_swap, move_signed, negate};
@@ -9,7 +12,7 @@ use crate::cause::Cause;
 use crate::kinds::AbsKind;
 use crate::state::State;
 use absdom_num::Range;
-use bpf_insn::{Insn, Operand, Register};
+use bpf_insn::{AluOp, Insn, Operand, Register, Size, Width};
 
 /// What is known of an operand: a register's kind, or the number of an immediate with its sign extended.
 pub(crate) fn operand(state: &State, operand: &Operand) -> AbsKind
@@ -38,6 +41,34 @@ fn written(state: &State, register: Register, kind: Result<AbsKind, Cause>) -> R
     Ok(state.with(register, kind?))
 }
 
+/// The state after arithmetic on a register and an operand, or why it is refused.
+fn arithmetic(
+    state: &State,
+    op: AluOp,
+    width: Width,
+    dst: Register,
+    src: &Operand,
+) -> Result<State, Cause>
+    ensures { result ≡ written state.now dst (alu_kind op width (kind_at state.now dst) (operand_kind state.now src.now)) }
+{
+    let kind = alu(op, width, &state.kind(dst), &operand(state, src));
+    written(state, dst, kind)
+}
+
+/// The state after a store of an operand through a register, or why it is refused.
+fn put(
+    state: &State,
+    size: Size,
+    base: Register,
+    offset: i16,
+    src: &Operand,
+) -> Result<State, Cause>
+    ensures { result ≡ stored state.now (size_bytes size) (kind_at state.now base) offset (number_of (operand_kind state.now src.now)) }
+{
+    let value = operand(state, src);
+    store(state, size, &state.kind(base), offset, &value)
+}
+
 /// The state after an instruction that goes on to the next one: arithmetic, loads, stores and two-slot
 /// loads of a constant or a map (RFC 9669, sections 4.1, 4.2, 5 and 5.4), or why it is refused. All other
 /// instructions leave the state as it is here: of a comparison `refine` tells the edges, after a helper's
@@ -51,13 +82,7 @@ pub fn apply(state: &State, insn: &Insn) -> Result<State, Cause>
             width,
             dst,
             src,
-        } => {
-            written(
-                state,
-                *dst,
-                alu(*op, *width, &state.kind(*dst), &operand(state, src)),
-            )
-        }
+        } => arithmetic(state, *op, *width, *dst, src),
         Insn::Negate { width, dst } => written(state, *dst, negate(*width, &state.kind(*dst))),
         Insn::MoveSigned {
             extension,
@@ -78,15 +103,7 @@ pub fn apply(state: &State, insn: &Insn) -> Result<State, Cause>
             base,
             offset,
             src,
-        } => {
-            store(
-                state,
-                *size,
-                &state.kind(*base),
-                *offset,
-                &operand(state, src),
-            )
-        }
+        } => put(state, *size, *base, *offset, src),
         Insn::Wide { dst, value } => Ok(state.with(*dst, AbsKind::Num(Range::single(*value)))),
         Insn::LoadMap { dst, index } => Ok(state.with(*dst, map_kind(*index))),
         Insn::Jump { .. }

@@ -4,14 +4,18 @@ ghost use Rattle.std.specs.Prelude.{◌≡◌, ◌^◌, ◌<◌, ◌≤◌, ◌+
 ghost use Rattle.machine.specs.Bytes.{header_in};
 ghost use Rattle.machine.specs.Near.{IsNear, AreNear};
 ghost use Rattle.machine.specs.Effects.{state_in, outcome_of, IsPlaced, asks_with, calls_with, perform_with};
-ghost use Rattle.machine.specs.Step.{operand, writes, lands, jumps, compares, loads, stores, map_at, is_map, exits, distance_of};
+ghost use Rattle.machine.specs.Words.{swapped};
+ghost use Rattle.machine.specs.Step.{operand, writes, lands, jumps, compares, loads, stores, map_at, is_map, exits, distance_of, alu, on_number};
 
 use crate::arithmetic::{alu, byte_swap, move_signed, negate, number};
 use crate::memory::{Memory, load_bytes, loaded, place_of, read, size_bytes};
 use crate::regions::Region;
 use crate::values::Value;
 use crate::words::{holds_words, word};
-use bpf_insn::{Callee, Condition, Distance, Insn, LoadSize, Operand, Register, Size, Width};
+use bpf_insn::{
+    AluOp, Callee, Condition, Distance, Insn, LoadSize, Operand, Register, Size, Swap, SwapBits,
+    Width,
+};
 
 /// What an instruction does.
 #[derive(Clone, Copy)]
@@ -98,6 +102,24 @@ fn write(frame: Frame<'_>, register: Register, value: Option<Value>, slots: u32)
     }
 }
 
+/// An operation on a register and a source.
+fn calculate(frame: Frame<'_>, op: AluOp, width: Width, dst: Register, src: &Operand) -> Effect
+    requires { AreNear (2 ^ 126) frame.registers.now }
+    ensures outcome { outcome_of (state_in frame.entry) result ≡ writes (state_in frame.entry) (frame.entry.slot + 1) dst (alu op width (slice_index_or frame.entry.registers.now dst Value.Unset) (operand (state_in frame.entry) src.now)) }
+    ensures placed { IsPlaced result }
+{
+    let value = alu(op, width, value_of(frame, dst), operand(frame, src));
+    write(frame, dst, value, 1)
+}
+
+/// END: the bytes of a register in another order.
+fn reorder(frame: Frame<'_>, swap: Swap, bits: SwapBits, dst: Register) -> Effect
+    ensures outcome { outcome_of (state_in frame.entry) result ≡ writes (state_in frame.entry) (frame.entry.slot + 1) dst (on_number (swapped swap bits) (slice_index_or frame.entry.registers.now dst Value.Unset)) }
+    ensures placed { IsPlaced result }
+{
+    write(frame, dst, byte_swap(swap, bits, value_of(frame, dst)), 1)
+}
+
 /// The next instruction is at the target, unless that is before the code.
 fn land(frame: Frame<'_>, target: i64) -> Effect
     requires { target <ℤ pos (2 ^ 32) }
@@ -120,21 +142,21 @@ fn jump(frame: Frame<'_>, offset: i32) -> Effect
     land(frame, i64::from(frame.slot) + 1 + i64::from(offset))
 }
 
-/// A jump where the condition holds of two numbers.
+/// A jump where the condition holds of a register and a source, which must be numbers.
 fn compare(
     frame: Frame<'_>,
     condition: Condition,
     width: Width,
+    dst: Register,
+    src: &Operand,
     offset: i16,
-    a: Value,
-    b: Value,
 ) -> Effect
     requires { frame.slot < 512 }
-    ensures outcome { outcome_of (state_in frame.entry) result ≡ compares condition width (state_in frame.entry) offset a b }
+    ensures outcome { outcome_of (state_in frame.entry) result ≡ compares condition width (state_in frame.entry) offset (slice_index_or frame.entry.registers.now dst Value.Unset) (operand (state_in frame.entry) src.now) }
     ensures placed { IsPlaced result }
 {
-    match a {
-        Value::Num(a) => match b {
+    match value_of(frame, dst) {
+        Value::Num(a) => match operand(frame, src) {
             Value::Num(b) => {
                 if holds_words(condition, width, a, b) {
                     jump(frame, i32::from(offset))
@@ -170,20 +192,30 @@ fn load(frame: Frame<'_>, size: LoadSize, base: Value, offset: i16) -> Option<Va
     }
 }
 
-/// A store of a number through a pointer into the stack.
-fn store(frame: Frame<'_>, size: Size, base: Value, offset: i16, value: Value) -> Effect
-    requires { IsNear (2 ^ 126) base }
-    ensures outcome { outcome_of (state_in frame.entry) result ≡ stores (state_in frame.entry) size base offset value }
+/// A load into a register, through the pointer in another.
+fn load_into(frame: Frame<'_>, size: LoadSize, dst: Register, base: Register, offset: i16) -> Effect
+    requires { AreNear (2 ^ 126) frame.registers.now }
+    ensures outcome { outcome_of (state_in frame.entry) result ≡ writes (state_in frame.entry) (frame.entry.slot + 1) dst (loads (header_in frame.entry.memory) (state_in frame.entry) size (slice_index_or frame.entry.registers.now base Value.Unset) offset) }
     ensures placed { IsPlaced result }
 {
-    match base {
+    let value = load(frame, size, value_of(frame, base), offset);
+    write(frame, dst, value, 1)
+}
+
+/// A store of a number through a register's pointer into the stack.
+fn store(frame: Frame<'_>, size: Size, base: Register, offset: i16, src: &Operand) -> Effect
+    requires { AreNear (2 ^ 126) frame.registers.now }
+    ensures outcome { outcome_of (state_in frame.entry) result ≡ stores (state_in frame.entry) size (slice_index_or frame.entry.registers.now base Value.Unset) offset (operand (state_in frame.entry) src.now) }
+    ensures placed { IsPlaced result }
+{
+    match value_of(frame, base) {
         Value::Ptr {
             region: Region::Stack,
             offset: start,
         } => {
             let bytes = size_bytes(size);
             match place_of(Region::Stack, bytes, start + i128::from(offset)) {
-                Some(place) => match number(value) {
+                Some(place) => match number(operand(frame, src)) {
                     Some(number) => Effect::Put {
                         place,
                         bytes,
@@ -291,66 +323,33 @@ pub fn perform(frame: Frame<'_>, sizes: &[u16], insn: &Insn) -> Effect
             width,
             dst,
             src,
-        } => {
-            write(
-                frame,
-                dst,
-                alu(op, width, value_of(frame, dst), operand(frame, &src)),
-                1,
-            )
-        }
+        } => calculate(frame, op, width, dst, &src),
         Insn::Negate { width, dst } => write(frame, dst, negate(width, value_of(frame, dst)), 1),
         Insn::MoveSigned {
             extension,
             dst,
             src,
-        } => { write(frame, dst, move_signed(extension, value_of(frame, src)), 1) }
-        Insn::ByteSwap { swap, bits, dst } => {
-            write(frame, dst, byte_swap(swap, bits, value_of(frame, dst)), 1)
-        }
+        } => write(frame, dst, move_signed(extension, value_of(frame, src)), 1),
+        Insn::ByteSwap { swap, bits, dst } => reorder(frame, swap, bits, dst),
         Insn::Load {
             size,
             dst,
             base,
             offset,
-        } => {
-            write(
-                frame,
-                dst,
-                load(frame, size, value_of(frame, base), offset),
-                1,
-            )
-        }
+        } => load_into(frame, size, dst, base, offset),
         Insn::Store {
             size,
             base,
             offset,
             src,
-        } => {
-            store(
-                frame,
-                size,
-                value_of(frame, base),
-                offset,
-                operand(frame, &src),
-            )
-        }
+        } => store(frame, size, base, offset, &src),
         Insn::Jump {
             condition,
             width,
             dst,
             src,
             offset,
-        } => {
-            compare(
-                frame,
-                condition,
-                width,
-                offset,
-                value_of(frame, dst),
-                operand(frame, &src),
-            )
-        }
+        } => compare(frame, condition, width, dst, &src, offset),
         Insn::Goto { distance } => jump(frame, distance_of(distance)),
         Insn::Wide { dst, value } => write(frame, dst, Some(Value::Num(value)), 2),
         Insn::LoadMap { dst, index } => write(frame, dst, map_at(sizes, index), 2),
