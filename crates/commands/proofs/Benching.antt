@@ -1,5 +1,5 @@
 -- The one pass of a node of one port.
-use Rattle.std.proofs.Common.{◌≡◌, ap, arith, ℕ, List, [], ◌∷◌, ◌++◌, length, ◌+◌, slice_index_or}
+use Rattle.std.proofs.Common.{◌≡◌, ap, arith, List, [], ◌∷◌, ◌++◌, length, slice_index_or}
 use Rattle.std.proofs.lemmas.List.{length-append}
 use Rattle.target.specs.Passes.{Holder}
 

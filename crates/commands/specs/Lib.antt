@@ -5,3 +5,4 @@ pub mod CommandLine
 pub mod Printed
 pub mod Reading
 pub mod Statuses
+pub mod Stopping

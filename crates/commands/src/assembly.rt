@@ -1,8 +1,9 @@
 //! The jobs `asm` and `dis`.
 
-ghost use Rattle.std.specs.Prelude.{IfOk, OnOk};
+ghost use Rattle.std.specs.Prelude.{IfErr, IfOk, OnOk};
 ghost use Rattle.bpf.specs.Program.{IsProgram};
 ghost use Rattle.commands.specs.Assembly.{PrintsParts, PrintsText};
+ghost use Rattle.commands.specs.Stopping.{IsNoText, IsNotAssembled, IsNotPrinted, StopsBy};
 
 use crate::faults::Fault;
 use crate::printing::{print_parts, print_text};
@@ -16,7 +17,8 @@ use std::io::Write;
 
 /// The image that the text of a file writes.
 fn assembled<'a, F: Files>(alloc: Global, text: &'a str, files: &mut F) -> Result<Image, Fault<'a>>
-    ensures { IfOk result IsProgram }
+    ensures image { IfOk result IsProgram }
+    ensures refused { IfErr result (IsNoText text.entry.now) }
 {
     let bytes = bytes_in(alloc, files, text)?;
     let source = str::from_utf8(bytes.as_slice()).map_err(|_| Fault::CannotRead(text))?;
@@ -34,7 +36,8 @@ pub fn assemble_file<'a, F: Files, W: Write>(
     files: &mut F,
     out: &mut W,
 ) -> Result<(), Stop<'a>>
-    ensures { OnOk result (PrintsParts (W.contents out.old) (W.contents out.new)) }
+    ensures printed { OnOk result (PrintsParts (W.contents out.old) (W.contents out.new)) }
+    ensures stops { IfErr result (StopsBy (IsNotAssembled text.now image.now)) }
 {
     let made = assembled(alloc, text, files)?;
     let written = files.write(image, made.write()?.as_slice());
@@ -51,7 +54,8 @@ pub fn disassemble_file<'a, F: Files, W: Write>(
     files: &mut F,
     out: &mut W,
 ) -> Result<(), Stop<'a>>
-    ensures { OnOk result (PrintsText (W.contents out.old) (W.contents out.new)) }
+    ensures printed { OnOk result (PrintsText (W.contents out.old) (W.contents out.new)) }
+    ensures stops { IfErr result (StopsBy (IsNotPrinted image.now)) }
 {
     let image = image_in(alloc, files, image)?;
     let text = disassemble(alloc, &image)?;

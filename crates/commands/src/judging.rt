@@ -1,5 +1,9 @@
 //! The job `judge`.
 
+ghost use Rattle.std.specs.Prelude.{◌⊎◌, IfErr, MatchOption, ℕ, List};
+ghost use Rattle.commands.specs.Reading.{IsNoProgram};
+ghost use Rattle.commands.specs.Stopping.{IsBadLines, IsBadPacket, StopsBy};
+
 use crate::bench::Bench;
 use crate::faults::Fault;
 use crate::printing::{print_discard, print_reply};
@@ -18,7 +22,9 @@ fn judge_line<'a, W: Write>(
     line: &str,
     number: usize,
     out: &mut W,
-) -> Result<(), Stop<'a>> {
+) -> Result<(), Stop<'a>>
+    ensures stops { IfErr result (StopsBy (IsBadPacket number)) }
+{
     let (port, packet) = read_line(alloc, line).map_err(|fault| Fault::unread(number, fault))?;
     let served = bench.serve(port, packet).ok_or(Fault::no_port(number))?;
     match served {
@@ -33,7 +39,9 @@ fn judge_text<'a, W: Write>(
     bench: &mut Bench,
     text: &str,
     out: &mut W,
-) -> Result<(), Stop<'a>> {
+) -> Result<(), Stop<'a>>
+    ensures stops { (name : List ℕ) → IfErr result (StopsBy (IsBadLines name)) }
+{
     for (index, line) in text.split_terminator('\n').enumerate() {
         judge_line(alloc, bench, line, index.saturating_add(1), out)?;
     }
@@ -50,7 +58,9 @@ pub fn judge<'a, F: Files, W: Write>(
     image: Option<&'a str>,
     files: &mut F,
     out: &mut W,
-) -> Result<(), Stop<'a>> {
+) -> Result<(), Stop<'a>>
+    ensures stops { IfErr result (StopsBy (λ fault. IsBadLines lines.now fault ⊎ MatchOption image.entry ((name : List ℕ) → IsNoProgram name fault) (λ name. IsNoProgram name.now fault))) }
+{
     let bytes = bytes_in(alloc, files, lines)?;
     let text = str::from_utf8(bytes.as_slice()).map_err(|_| Fault::CannotRead(lines))?;
     let program = judging_program(alloc, files, image)?;

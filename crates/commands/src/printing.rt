@@ -1,8 +1,10 @@
 //! What is printed of a packet, an image or a program.
 
-ghost use Rattle.std.specs.Prelude.{OnOk};
+ghost use Rattle.std.specs.Prelude.{◌≡◌, IfErr, OnOk};
 ghost use Rattle.std.specs.Io.KnownBytes.{Appends};
 ghost use Rattle.commands.specs.Printed.{accepted_line, discard_line, parts_line, reply_line};
+ghost use Rattle.commands.specs.Stopping.{StopsBy};
+ghost use Rattle.commands.specs.declared.faults.Fault.TheVariants.{NoMemory};
 
 use crate::stops::Stop;
 use bpf::Image;
@@ -25,7 +27,8 @@ pub fn print_reply<'a, W: Write>(
     port: u8,
     reply: &[u8],
 ) -> Result<(), Stop<'a>>
-    ensures { OnOk result (Appends (W.contents out.old) (W.contents out.new) (reply_line port reply.now)) }
+    ensures printed { OnOk result (Appends (W.contents out.old) (W.contents out.new) (reply_line port reply.now)) }
+    ensures stops { IfErr result (StopsBy (λ fault. fault ≡ NoMemory)) }
 {
     if reply.is_empty() {
         writeln!(out, "{port} -")?;

@@ -1,6 +1,6 @@
 //! The program that judges.
 
-ghost use Rattle.std.specs.Prelude.{◌≡◌, IfErr, IfOk, ℕ, List, []};
+ghost use Rattle.std.specs.Prelude.{◌≡◌, IfErr, IfOk, MatchOption, ℕ, List, []};
 ghost use Rattle.bpf.specs.Program.{IsProgram};
 ghost use Rattle.commands.specs.Reading.{IsNoImage, IsNoProgram};
 ghost use Rattle.commands.specs.declared.faults.Fault.TheVariants.{CannotRead};
@@ -76,7 +76,8 @@ pub fn judging_program<'a, F: Files>(
     files: &mut F,
     image: Option<&'a str>,
 ) -> Result<Accepted, Fault<'a>>
-    ensures { IfOk result (λ program. program.sizes ≡ []) }
+    ensures program { IfOk result (λ program. program.sizes ≡ []) }
+    ensures refused { IfErr result (λ fault. MatchOption image.entry ((name : List ℕ) → IsNoProgram name fault) (λ name. IsNoProgram name.now fault)) }
 {
     match image {
         Some(name) => program_in(alloc, files, name),

@@ -1,7 +1,9 @@
 //! The job `verify`.
 
-ghost use Rattle.std.specs.Prelude.{OnOk};
+ghost use Rattle.std.specs.Prelude.{IfErr, OnOk};
 ghost use Rattle.commands.specs.Accepting.{PrintsAccepted};
+ghost use Rattle.commands.specs.Reading.{IsNoProgram};
+ghost use Rattle.commands.specs.Stopping.{StopsBy};
 
 use crate::printing::print_accepted;
 use crate::programs::program_in;
@@ -20,7 +22,8 @@ pub fn verify<'a, F: Files, W: Write>(
     files: &mut F,
     out: &mut W,
 ) -> Result<(), Stop<'a>>
-    ensures { OnOk result (PrintsAccepted (W.contents out.old) (W.contents out.new)) }
+    ensures printed { OnOk result (PrintsAccepted (W.contents out.old) (W.contents out.new)) }
+    ensures stops { IfErr result (StopsBy (IsNoProgram image.now)) }
 {
     let program = program_in(alloc, files, image)?;
     Ok(print_accepted(out, program.image().weight(), program.budget())?)

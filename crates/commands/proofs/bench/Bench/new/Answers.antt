@@ -1,7 +1,7 @@
-use Rattle.std.proofs.Common.{rules, ◌≡◌, ◌∙◌, ap, ap₂, sym, ℕ, List, [], ◌∷◌}
+use Rattle.std.proofs.Common.{◌∙◌, ap, ap₂, sym, ℕ, List}
 use Rattle.bank.specs.Records.{Contents}
 use Rattle.target.specs.Passes.{Holder}
-use Rattle.commands.specs.Benches.{Setup, fresh_setup}
+use Rattle.commands.specs.Benches.{Setup}
 use Rattle.commands.proofs.Benching.{last_of_one}
 use Rattle.commands.proofs.bench.Bench.new.Goals as goal
 
