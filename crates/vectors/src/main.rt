@@ -1,13 +1,19 @@
-//! Compares instructions with what an independent assembler makes of their text. Each line of the input
-//! has the text of an instruction, a tab and its bytes in hexadecimal; a line that begins with `#` says
-//! where they come from. Prints each line at which this crate's reader, printer or encoder differs, and
-//! how many lines agree.
+//! Compares instructions and whole texts with what independent assemblers make of them.
+//!
+//! Each line of the input has the text of an instruction, a tab and its bytes in hexadecimal. Each line of the
+//! file `texts.txt` has an answer, a tab and the text of a program, whose lines are apart by `|`; the answer is
+//! the bytes of the image in hexadecimal, or the fault. A line that begins with `#` says where the others come
+//! from. Prints each line at which a reader, printer or encoder of this workspace differs, and how many lines agree.
 #![tactic(auto)]
 
 use anyhow::{Context, Result};
 use basm::{assemble, disassemble};
 use bpf_insn::{Insn, decode, encode, text};
-use std::alloc::Global;
+use std::alloc::{AllocError, Global};
+use std::fs;
+
+/// The file of texts.
+const TEXTS: &str = "texts.txt";
 
 /// Whether the bytes are the instruction's, all of them.
 fn is_spelling(insn: &Insn, bytes: &[u8]) -> bool {
@@ -54,21 +60,70 @@ fn agrees(alloc: Global, wanted: &str, digits: &str) -> Result<bool> {
     Ok(spells(alloc, wanted, &bytes)? && assembles(alloc, wanted, &bytes)?)
 }
 
+/// What the assembler answers to a text: the bytes of its image in hexadecimal, or its fault.
+fn answer(alloc: Global, text: &str) -> Result<String, AllocError> {
+    match assemble(alloc, text) {
+        Ok(image) => hex::encode(alloc, image.write()?),
+        Err(fault) => {
+            let (code, line) = (fault.code.code(), fault.line);
+            format!(in alloc; "fault {code} line {line}")
+        }
+    }
+}
+
+/// Whether the text, whose lines are apart by `|`, has this answer.
+fn answers(alloc: Global, wanted: &str, text: &str) -> Result<bool> {
+    let text = text.replace(alloc, "|", "\n")?;
+    Ok(answer(alloc, &text)?.as_str() == wanted)
+}
+
+/// How many lines of a table there are, and how many agree.
+#[derive(Drop)]
+struct Tally {
+    agreeing: u32,
+    lines: u32,
+}
+
+impl Tally {
+    fn new() -> Tally {
+        Tally {
+            agreeing: 0,
+            lines: 0,
+        }
+    }
+
+    /// Counts a line; says whether it agrees.
+    fn count(&mut self, agrees: bool) -> bool {
+        self.lines = self.lines.saturating_add(1);
+        self.agreeing = self.agreeing.saturating_add(u32::from(agrees));
+        agrees
+    }
+}
+
 fn main(rt: HostRuntime) -> Result<()> {
-    let mut agreeing = 0u32;
-    let mut lines = 0u32;
+    let mut insns = Tally::new();
     for line in rt.lines(rt.alloc()) {
         let line = line?;
         let Some((wanted, digits)) = line.as_str().split_once('\t') else {
             continue;
         };
-        lines = lines.saturating_add(1);
-        if agrees(rt.alloc(), wanted, digits)? {
-            agreeing = agreeing.saturating_add(1);
-        } else {
+        if !insns.count(agrees(rt.alloc(), wanted, digits)?) {
             println!(rt; "differs: {line}")?;
         }
     }
+    let Tally { agreeing, lines } = insns;
     println!(rt; "{agreeing} of {lines} lines agree")?;
+
+    let mut texts = Tally::new();
+    for line in fs::read_to_string(&rt, TEXTS)?.lines() {
+        let Some((wanted, text)) = line.split_once('\t') else {
+            continue;
+        };
+        if !texts.count(answers(rt.alloc(), wanted, text)?) {
+            println!(rt; "differs: {line}")?;
+        }
+    }
+    let Tally { agreeing, lines } = texts;
+    println!(rt; "{agreeing} of {lines} texts agree")?;
     Ok(())
 }
