@@ -1,4 +1,4 @@
-//! What no clause says: that the definitions are the standard's, shown by worked packets.
+//! `rmap`: that the definitions are the standard's, shown by worked packets.
 //!
 //! Packets are written as packet lines, with the port 0. Their CRCs and the replies' were computed
 //! outside this crate, by long division of polynomials.
@@ -6,90 +6,47 @@
 mod exchanges;
 mod headers;
 
-use super::*;
-use spw::{End, LineFault, Packet, read_line};
-use std::alloc::Global;
+use super::word;
+use rmap::{
+    Command, Discard, Kind, MAX_REPLY, ReplyBuf, Status, Windows, command_is_unique,
+    commands_are_laid_out, discard_is_exact, put_reply, replies_are_short,
+};
+use spw::End;
 use std::test::Fail;
-
-/// The packet that a line writes.
-fn packet(alloc: Global, line: &str) -> Result<Packet, LineFault> {
-    let (_port, packet) = read_line(alloc, line)?;
-    Ok(packet)
-}
+use trial::{Row, packet};
 
 /// What a packet is, the packet, and why it is discarded.
-const DISCARDS: &[(&str, &str, Discard)] = &[
-    ("the empty packet", "0 EOP", Discard::Short),
-    ("two bytes", "0 FE 01 EOP", Discard::Short),
-    (
-        "a write cut off after 10 bytes",
-        "0 FE 01 6C 00 67 00 00 00 A0 00 EOP",
-        Discard::Short,
-    ),
-    (
-        "the same with an error end",
-        "0 FE 01 6C 00 67 00 00 00 A0 00 EEP",
-        Discard::Short,
-    ),
-    (
-        "a header without its CRC",
-        "0 FE 01 6C 00 67 00 00 00 A0 00 00 00 00 00 10 EOP",
-        Discard::Short,
-    ),
-    (
-        "a header that lacks a byte of its reply address",
-        "0 FE 01 4D 00 00 00 00 00 67 00 00 00 A0 00 00 00 00 00 01 EOP",
-        Discard::Short,
-    ),
-    (
-        "another protocol",
-        "0 FE 02 6C 00 67 00 00 00 A0 00 00 00 00 00 00 EF EOP",
-        Discard::Protocol,
-    ),
-    (
-        "three bytes of another protocol",
-        "0 FE 02 6C EOP",
-        Discard::Protocol,
-    ),
-    (
-        "a reply of another protocol",
-        "0 67 02 2C 00 EOP",
-        Discard::Protocol,
-    ),
-    ("a reply", "0 67 01 2C 00 FE 00 00 ED EOP", Discard::Reply),
-    (
-        "a long reply",
-        "0 FE 01 2C 00 67 00 00 00 A0 00 00 00 00 00 00 77 EOP",
-        Discard::Reply,
-    ),
-    (
-        "a wrong header CRC",
-        "0 FE 01 6C 00 67 00 00 00 A0 00 00 00 00 00 10 9E 01 23 45 67 89 AB CD EF 10 11 12 13 14 15 16 17 56 EOP",
-        Discard::HeaderCrc,
-    ),
-    (
-        "a changed key",
-        "0 FE 01 6C 01 67 00 00 00 A0 00 00 00 00 00 10 9F 01 23 45 67 89 AB CD EF 10 11 12 13 14 15 16 17 56 EOP",
-        Discard::HeaderCrc,
-    ),
-];
+const DISCARDS: &str = "\
+the empty packet|0 EOP|Short
+two bytes|0 FE01 EOP|Short
+a write cut off after 10 bytes|0 FE016C0067000000A000 EOP|Short
+the same with an error end|0 FE016C0067000000A000 EEP|Short
+a header without its CRC|0 FE016C0067000000A0000000000010 EOP|Short
+a header that lacks a byte of its reply address|0 FE014D000000000067000000A0000000000001 EOP|Short
+another protocol|0 FE026C0067000000A0000000000000EF EOP|Protocol
+three bytes of another protocol|0 FE026C EOP|Protocol
+a reply of another protocol|0 67022C00 EOP|Protocol
+a reply|0 67012C00FE0000ED EOP|Reply
+a long reply|0 FE012C0067000000A000000000000077 EOP|Reply
+a wrong header CRC|0 FE016C0067000000A00000000000109E 0123456789ABCDEF101112131415161756 EOP|HeaderCrc
+a changed key|0 FE016C0167000000A00000000000109F 0123456789ABCDEF101112131415161756 EOP|HeaderCrc
+";
 
 #[test]
 fn packets_that_are_no_commands(rt: HostRuntime) -> Result<(), Fail> {
-    for (shows, line, why) in DISCARDS {
-        let sent = packet(rt.alloc(), line)?;
-        match Command::view(&sent) {
-            Ok(_) => assert!(rt; false, "{shows} is a command"),
-            Err(given) => assert_eq!(rt; given, *why, "{shows}"),
-        }
+    for line in DISCARDS.lines() {
+        let mut row = Row::of(line);
+        let shows = row.part()?;
+        let sent = packet(rt.alloc(), row.part()?)?;
+        let found = word(rt.alloc(), Command::view(&sent).err())?;
+        assert_eq!(rt; found.as_str(), row.part()?, "{shows}");
     }
     Ok(())
 }
 
 #[test]
 fn fields_of_a_header(rt: HostRuntime) -> Result<(), Fail> {
-    let line =
-        "0 20 01 4E 33 00 00 00 00 00 00 05 06 67 44 55 11 89 AB CD EF 12 34 56 74 AA BB EOP";
+    let line = "0 20014E33 0000000000000506 674455 11 89ABCDEF 123456 74 AABB EOP";
     let sent = packet(rt.alloc(), line)?;
     let command = Command::view(&sent)?;
     assert_eq!(rt; *command.front(), [0x20, 0x01, 0x4E, 0x33]);
@@ -114,47 +71,28 @@ fn fields_of_a_header(rt: HostRuntime) -> Result<(), Fail> {
     Ok(())
 }
 
-/// Command codes 0 to 15, bits 5 to 2 of the instruction.
-const KINDS: [Kind; 16] = [
-    Kind::Unused,
-    Kind::Unused,
-    Kind::Read,
-    Kind::Read,
-    Kind::Unused,
-    Kind::Unused,
-    Kind::Unused,
-    Kind::Rmw,
-    Kind::Write,
-    Kind::Write,
-    Kind::Write,
-    Kind::Write,
-    Kind::Write,
-    Kind::Write,
-    Kind::Write,
-    Kind::Write,
-];
+/// The kinds of the command codes 0 to 15, bits 5 to 2 of the instruction.
+const KINDS: &str =
+    "Unused Unused Read Read Unused Unused Unused Rmw Write Write Write Write Write Write Write Write";
 
 #[test]
-fn kinds_of_instructions(rt: HostRuntime) {
+fn kinds_of_instructions(rt: HostRuntime) -> Result<(), Fail> {
     for instruction in 0..=255u8 {
         let code = usize::from(instruction / 4 % 16);
         let want = if instruction / 64 == 1 {
-            KINDS[code]
+            KINDS.split(' ').nth(code).ok_or("no such code")?
         } else {
-            Kind::Unused
+            "Unused"
         };
-        assert_eq!(rt;
-            Kind::of_instruction(instruction),
-            want,
-            "instruction {instruction}"
-        );
+        let found = word(rt.alloc(), Some(Kind::of_instruction(instruction)))?;
+        assert_eq!(rt; found.as_str(), want, "instruction {instruction}");
     }
+    Ok(())
 }
 
 #[test]
 fn longest_reply(rt: HostRuntime) -> Result<(), Fail> {
-    let line =
-        "0 FE 01 4F 00 01 02 03 04 05 06 07 08 09 0A 0B 0C 67 00 00 00 A0 00 00 00 00 10 00 3D EOP";
+    let line = "0 FE014F00 0102030405060708090A0B0C 67000000A0000000001000 3D EOP";
     let sent = packet(rt.alloc(), line)?;
     let command = Command::view(&sent)?;
     let mut reply = ReplyBuf::new();
