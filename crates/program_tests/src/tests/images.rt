@@ -42,7 +42,10 @@ const CUT_PAIR: [u8; 32] = [
 
 /// The bytes of the largest image: 512 slots, and eight loops of 4,096 passes that all end at its end.
 fn largest(alloc: Global) -> Result<Vec<u8>, Fail> {
-    let mut bytes = Vec::from_slice(alloc, b"BPFA\x01\x08\x00\x02\x00\x00\x01\x00\x00\x00\x00\x00")?;
+    let mut bytes = Vec::from_slice(
+        alloc,
+        b"BPFA\x01\x08\x00\x02\x00\x00\x01\x00\x00\x00\x00\x00",
+    )?;
     for head in 0..8u8 {
         bytes.extend_from_slice(&[head, 0, 0xff, 0x01, 0x00, 0x10, head, 0])?;
     }
@@ -411,7 +414,10 @@ fn a_weight_is_a_sum_of_products(rt: HostRuntime) -> Result<(), Fail> {
     assert_eq!(rt; Image::read(rt.alloc(), &YES)?.weight(), 2);
     assert_eq!(rt; Image::read(rt.alloc(), &COUNTDOWN)?.weight(), 15);
     assert_eq!(rt; Image::read(rt.alloc(), &TWO_LOOPS)?.weight(), 4);
-    assert_eq!(rt; Image::read(rt.alloc(), &largest(rt.alloc())?)?.weight(), u64::MAX);
+    assert_eq!(rt;
+        Image::read(rt.alloc(), &largest(rt.alloc())?)?.weight(),
+        u64::MAX
+    );
     Ok(())
 }
 
