@@ -1,7 +1,10 @@
-//! Opcodes, faults and registers. The program `vectors` compares whole instructions with an
+//! Opcodes, faults, registers and rare forms. The program `vectors` compares whole instructions with an
 //! independent assembler.
 
-use super::*;
+use super::RARE_FORMS;
+use bpf_insn::{BadInsn, Register, decode, encode, text};
+use std::test::Fail;
+use trial::{Row, hexadecimals};
 
 /// The first bytes of the table of opcodes (RFC 9669, appendix A), rising.
 const OPCODES: [u8; 117] = [
@@ -116,4 +119,19 @@ fn a_register_has_its_number(rt: HostRuntime) {
         assert!(rt; Register::new(number).is_some_and(|r| r.number() == number));
     }
     assert!(rt; Register::new(11).is_none());
+}
+
+#[test]
+fn rare_forms(rt: HostRuntime) -> Result<(), Fail> {
+    for line in RARE_FORMS.lines() {
+        let mut row = Row::of(line);
+        let wanted = row.part()?;
+        let slots = hexadecimals(rt.alloc(), row.part()?)?;
+        let first = slots.as_slice().first().ok_or("a slot")?.to_be_bytes();
+        let second = slots.as_slice().get(1).map(|slot| slot.to_be_bytes());
+        let insn = decode(&first, second.as_ref())?;
+        assert_eq!(rt; text(rt.alloc(), &insn)?.as_str(), wanted);
+        assert!(rt; encode(&insn) == (first, second), "the slots of {wanted:?}");
+    }
+    Ok(())
 }

@@ -1,6 +1,6 @@
-//! What no clause says.
+//! A line of text.
 
-use super::*;
+use basm_lex::read_statement;
 use std::test::Fail;
 
 #[test]
