@@ -9,7 +9,7 @@ use bpf_insn::{
     AluOp, Condition, Extension, Insn, LoadSize, Operand, Register, Size, Swap, SwapBits, Width,
 };
 use bver::{MapSizes, verify};
-use machine::Ending;
+use slow_machine::Ending;
 use std::alloc::Global;
 use std::process::Abort;
 use std::test::Fail;
@@ -278,11 +278,12 @@ fn agrees(rt: &impl Abort, alloc: Global, seed: u64) -> Result<bool, Fail> {
     let mut dice = Dice(seed);
     let insns = instructions(alloc, &mut dice)?;
     let image = Image::new(alloc, &insns, &[], 65_536)?;
-    let Ok(program) = verify(alloc, image.copy()?, &MapSizes::new(&[])?) else {
+    let none = MapSizes::new(&[])?;
+    let Ok(program) = verify(alloc, image.copy()?, &none) else {
         return Ok(false);
     };
     let port = dice.roll(32) as u8;
-    let slow = machine::run(&image, &[], &FRONT, &TAIL, port, &[], 65_536);
+    let slow = slow_machine::run(&image, &none, &FRONT, &TAIL, port, &[], 65_536);
     let fast = run(&program, &FRONT, &TAIL, port, &mut [0xa5; 512]);
     assert!(rt;
         slow == Ending::Verdict(fast),

@@ -7,7 +7,7 @@ use super::*;
 use bpf_insn::{
     AluOp, Condition, Extension, Insn, LoadSize, Operand, Register, Size, Swap, SwapBits, Width,
 };
-use machine::{Ending, run};
+use slow_machine::{Ending, run};
 
 /// A generator of numbers: the high bits of a linear congruence modulo 2^64.
 #[derive(Drop)]
@@ -234,7 +234,7 @@ fn check_runs(rt: &impl Abort, accepted: &Accepted) {
         for port in [0, 1, 31] {
             let ending = run(
                 accepted.image(),
-                &[],
+                &accepted.sizes(),
                 front,
                 tail,
                 port,
