@@ -17,6 +17,3 @@ pub use accepted::{Accepted, verify};
 pub use bver_form::{Refusal, Refused};
 pub use laws::justified_programs;
 pub use machine::{MapSizes, TooMany};
-
-#[cfg(test)]
-mod tests;

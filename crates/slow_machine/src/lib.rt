@@ -15,6 +15,3 @@ mod turns;
 pub use endings::{Ending, run};
 pub use machines::Machine;
 pub use turns::Turn;
-
-#[cfg(test)]
-mod tests;

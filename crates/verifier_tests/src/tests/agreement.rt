@@ -5,7 +5,7 @@ use super::{FRONT, TAIL};
 use bpf::Image;
 use brun::run;
 use bver::{MapSizes, verify};
-use machine::Ending;
+use slow_machine::Ending;
 use std::alloc::Global;
 use std::process::Abort;
 use std::test::Fail;
@@ -22,11 +22,12 @@ fn agrees(rt: &impl Abort, alloc: Global, seed: u64) -> Result<bool, Fail> {
     let mut random = Random::new(seed);
     let insns = instructions(alloc, &mut random, LENGTH, 100)?;
     let image = Image::new(alloc, &insns, &[], 65_536)?;
-    let Ok(program) = verify(alloc, image.copy()?, &MapSizes::new(&[])?) else {
+    let none = MapSizes::new(&[])?;
+    let Ok(program) = verify(alloc, image.copy()?, &none) else {
         return Ok(false);
     };
     let port = random.below(32) as u8;
-    let slow = machine::run(&image, &[], &FRONT, &TAIL, port, &[], 65_536);
+    let slow = slow_machine::run(&image, &none, &FRONT, &TAIL, port, &[], 65_536);
     let fast = run(&program, &FRONT, &TAIL, port, &mut [0xa5; 512]);
     assert!(rt;
         slow == Ending::Verdict(fast),

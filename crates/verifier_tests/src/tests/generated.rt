@@ -4,7 +4,7 @@
 use super::generator::instructions;
 use bpf::Image;
 use bver::{Accepted, MapSizes, verify};
-use machine::{Ending, run};
+use slow_machine::{Ending, run};
 use std::process::Abort;
 use std::test::Fail;
 use trial::Random;
@@ -16,12 +16,12 @@ const HEADERS: [([u8; 4], [u8; 12]); 3] = [
 ];
 
 /// Runs an accepted program on several headers and ports.
-fn check_runs(rt: &impl Abort, accepted: &Accepted) {
+fn check_runs(rt: &impl Abort, accepted: &Accepted, none: &MapSizes) {
     for (front, tail) in &HEADERS {
         for port in [0, 1, 31] {
             let ending = run(
                 accepted.image(),
-                &[],
+                none,
                 front,
                 tail,
                 port,
@@ -46,7 +46,7 @@ fn accepted_programs_end_with_a_verdict(rt: HostRuntime) -> Result<(), Fail> {
         let budget = (insns.len() % 65536) as u32;
         let image = Image::new(alloc, &insns, &[], budget)?;
         if let Ok(accepted) = verify(alloc, image, &none) {
-            check_runs(&rt, &accepted);
+            check_runs(&rt, &accepted, &none);
             accepted_programs = accepted_programs.saturating_add(1);
         }
     }

@@ -1,6 +1,6 @@
 //! The calls on states that a program meets, with the answers of the table.
 
-use crate::{AbsKind, Cause, Offsets, Region, State, apply, refine};
+use absdom::{AbsKind, Cause, Offsets, Region, State, apply, refine};
 use absdom_num::Range;
 use bpf_insn::{AluOp, Condition, Insn, LoadSize, Operand, Register, Size, Width};
 use std::test::Fail;

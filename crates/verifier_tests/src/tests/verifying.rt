@@ -1,11 +1,10 @@
-mod generated;
-mod programs;
+//! The calls of the verifier, and memory that is refused.
 
-use super::*;
 use bpf::{Image, ImageFault};
+use bver::{MapSizes, Refusal, Region, verify};
 use std::alloc::Global;
-use std::process::Abort;
 use std::test::Fail;
+use trial::image_of_text;
 
 /// `ldxdw r0, [r2+4]; exit` with a budget of 9.
 const LOADS: [u8; 32] = [
@@ -46,15 +45,13 @@ fn accepted_tells_its_parts(rt: HostRuntime) -> Result<(), Fail> {
 #[test]
 fn accepts_as_many_slots_as_there_may_be(rt: HostRuntime) -> Result<(), Fail> {
     let alloc = rt.alloc();
-    let mut bytes = Vec::from_slice(
-        alloc,
-        b"BPFA\x01\x00\x00\x02\x00\x02\x00\x00\x00\x00\x00\x00",
-    )?;
+    let mut text = String::new(alloc);
     for _slot in 0..511 {
-        bytes.extend_from_slice(&[0xb7, 0, 0, 0, 0, 0, 0, 0])?;
+        text.push_str("mov r0, 0;")?;
     }
-    bytes.extend_from_slice(&[0x95, 0, 0, 0, 0, 0, 0, 0])?;
-    let accepted = verify(alloc, Image::read(alloc, &bytes)?, &MapSizes::new(&[])?)?;
+    text.push_str("exit")?;
+    let image = image_of_text(alloc, &text, 512)?;
+    let accepted = verify(alloc, image, &MapSizes::new(&[])?)?;
     assert_eq!(rt; accepted.image().weight(), 512);
     Ok(())
 }

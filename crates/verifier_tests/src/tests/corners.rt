@@ -1,7 +1,6 @@
 //! The operations on words at their corners. The results were computed with Python's integers, which
 //! have no width, by `//`, `%`, `<<`, `>>`, `&`, `|` and `^` of numbers that were cut and signed by hand.
 
-use super::*;
 use bpf_insn::{AluOp, Width};
 use machine::alu_words;
 use std::process::Abort;
@@ -267,40 +266,54 @@ ffffffffffffffff ffffffffffffffff ffffffffffffffff ffffffffffffffff ffffffffffff
 7fffffffffffffff 3fffffffffffffff 0 7fffffffffffffff 0 ffffffff 7fffffff 0 7fffffffffffffff
 80000000 40000000 0 80000000 0 1 0 0 80000000";
 
+/// The results at 32 bits, by the operation.
+const RESULTS_32: [(AluOp, &str); 14] = [
+    (AluOp::Add, ADD_32),
+    (AluOp::Sub, SUB_32),
+    (AluOp::Mul, MUL_32),
+    (AluOp::Div, DIV_32),
+    (AluOp::SignedDiv, SIGNED_DIV_32),
+    (AluOp::Or, OR_32),
+    (AluOp::And, AND_32),
+    (AluOp::Lsh, LSH_32),
+    (AluOp::Rsh, RSH_32),
+    (AluOp::Mod, MOD_32),
+    (AluOp::SignedMod, SIGNED_MOD_32),
+    (AluOp::Xor, XOR_32),
+    (AluOp::Mov, MOV_32),
+    (AluOp::Arsh, ARSH_32),
+];
+
 #[test]
 fn corners_at_32_bits(rt: HostRuntime) -> Result<(), Fail> {
-    check(&rt, AluOp::Add, Width::Bits32, ADD_32)?;
-    check(&rt, AluOp::Sub, Width::Bits32, SUB_32)?;
-    check(&rt, AluOp::Mul, Width::Bits32, MUL_32)?;
-    check(&rt, AluOp::Div, Width::Bits32, DIV_32)?;
-    check(&rt, AluOp::SignedDiv, Width::Bits32, SIGNED_DIV_32)?;
-    check(&rt, AluOp::Or, Width::Bits32, OR_32)?;
-    check(&rt, AluOp::And, Width::Bits32, AND_32)?;
-    check(&rt, AluOp::Lsh, Width::Bits32, LSH_32)?;
-    check(&rt, AluOp::Rsh, Width::Bits32, RSH_32)?;
-    check(&rt, AluOp::Mod, Width::Bits32, MOD_32)?;
-    check(&rt, AluOp::SignedMod, Width::Bits32, SIGNED_MOD_32)?;
-    check(&rt, AluOp::Xor, Width::Bits32, XOR_32)?;
-    check(&rt, AluOp::Mov, Width::Bits32, MOV_32)?;
-    check(&rt, AluOp::Arsh, Width::Bits32, ARSH_32)?;
+    for (op, results) in &RESULTS_32 {
+        check(&rt, *op, Width::Bits32, results)?;
+    }
     Ok(())
 }
 
+/// The results at 64 bits, by the operation.
+const RESULTS_64: [(AluOp, &str); 14] = [
+    (AluOp::Add, ADD_64),
+    (AluOp::Sub, SUB_64),
+    (AluOp::Mul, MUL_64),
+    (AluOp::Div, DIV_64),
+    (AluOp::SignedDiv, SIGNED_DIV_64),
+    (AluOp::Or, OR_64),
+    (AluOp::And, AND_64),
+    (AluOp::Lsh, LSH_64),
+    (AluOp::Rsh, RSH_64),
+    (AluOp::Mod, MOD_64),
+    (AluOp::SignedMod, SIGNED_MOD_64),
+    (AluOp::Xor, XOR_64),
+    (AluOp::Mov, MOV_64),
+    (AluOp::Arsh, ARSH_64),
+];
+
 #[test]
 fn corners_at_64_bits(rt: HostRuntime) -> Result<(), Fail> {
-    check(&rt, AluOp::Add, Width::Bits64, ADD_64)?;
-    check(&rt, AluOp::Sub, Width::Bits64, SUB_64)?;
-    check(&rt, AluOp::Mul, Width::Bits64, MUL_64)?;
-    check(&rt, AluOp::Div, Width::Bits64, DIV_64)?;
-    check(&rt, AluOp::SignedDiv, Width::Bits64, SIGNED_DIV_64)?;
-    check(&rt, AluOp::Or, Width::Bits64, OR_64)?;
-    check(&rt, AluOp::And, Width::Bits64, AND_64)?;
-    check(&rt, AluOp::Lsh, Width::Bits64, LSH_64)?;
-    check(&rt, AluOp::Rsh, Width::Bits64, RSH_64)?;
-    check(&rt, AluOp::Mod, Width::Bits64, MOD_64)?;
-    check(&rt, AluOp::SignedMod, Width::Bits64, SIGNED_MOD_64)?;
-    check(&rt, AluOp::Xor, Width::Bits64, XOR_64)?;
-    check(&rt, AluOp::Mov, Width::Bits64, MOV_64)?;
-    check(&rt, AluOp::Arsh, Width::Bits64, ARSH_64)?;
+    for (op, results) in &RESULTS_64 {
+        check(&rt, *op, Width::Bits64, results)?;
+    }
     Ok(())
 }
