@@ -165,7 +165,6 @@ pub record IsAt (program : Program) (header : Header) (sizes : List ℕ) (port :
   pub same_program : m.program ≡ program
   pub same_header : m.header ≡ header
   pub same_sizes : m.sizes ≡ sizes
-  pub steps : m.steps ≡ n
   pub calls : List Call
   pub way : ClearPath program header sizes port calls n (state_of m)
   pub given : answers ≡ answers_of calls ++ left
@@ -185,8 +184,8 @@ module _ (program : Program) (header : Header) (sizes : List ℕ) (port : ℕ) (
   here : (n : ℕ) (m : Standing) (left : List ℕ) (o : Outcome) → IsAt program header sizes port answers n m left → step_of m ≡ o → step_with sizes program header (state_of m) ≡ o
   here n m left o at e = rw (at.same_program, at.same_header, at.same_sizes) at e
 
-  pub walk_moves : (n : ℕ) (m after : Standing) (left : List ℕ) → IsAt program header sizes port answers n m left → IsTurn (step_of m) turns.Moved (state_of m) (state_of after) → IsSameRun m after → after.steps ≡ m.steps + 1 → IsAt program header sizes port answers (n + 1) after left
-  walk_moves n m after left at turn same more =
+  pub walk_moves : (n : ℕ) (m after : Standing) (left : List ℕ) → IsAt program header sizes port answers n m left → IsTurn (step_of m) turns.Moved (state_of m) (state_of after) → IsSameRun m after → IsAt program header sizes port answers (n + 1) after left
+  walk_moves n m after left at turn same =
       let with_sizes = here n m left (Next (state_of after)) at (turn_moves _ _ _ turn) in
       let no_trap : Next (state_of after) ≡ Trap → ⊥ = λ e. cc in
       let bare = without_sizes sizes program header (state_of m) _ with_sizes no_trap in
@@ -194,7 +193,6 @@ module _ (program : Program) (header : Header) (sizes : List ℕ) (port : ℕ) (
         same_program = same.program ∙ at.same_program;
         same_header = same.header ∙ at.same_header;
         same_sizes = same.sizes ∙ at.same_sizes;
-        steps = more ∙ ap (λ k. k + 1) at.steps;
         calls = at.calls;
         way = rw add-one (record { path = moves at.way.path bare; clear = (at.way.clear, λ e. no_trap (sym with_sizes ∙ e)) });
         given = at.given;
@@ -203,8 +201,8 @@ module _ (program : Program) (header : Header) (sizes : List ℕ) (port : ℕ) (
   more_given : (calls : List Call) (c : Call) (left : List ℕ) → answers ≡ answers_of calls ++ (c.answer ∷ left) → answers ≡ answers_of (calls ++ c ∷ []) ++ left
   more_given calls c left e = e ∙ sym (ap (λ xs. xs ++ left) (map-append (λ d. d.answer) calls (c ∷ [])) ∙ append_assoc (answers_of calls) (c.answer ∷ []) left)
 
-  pub walk_asks : (n : ℕ) (m asked after : Standing) (helper map key answer : ℕ) (left : List ℕ) → IsAt program header sizes port answers n m (answer ∷ left) → IsTurn (step_of m) (turns.Asked helper map key) (state_of m) (state_of asked) → IsSameRun m asked → asked.steps ≡ m.steps + 1 → answer < 2 ^ 64 → state_of after ≡ answered (state_of asked) answer → IsSameRun asked after → after.steps ≡ asked.steps → IsAt program header sizes port answers (n + 1) after left
-  walk_asks n m asked after helper map key answer left at turn same more small goes_on same_after stays =
+  pub walk_asks : (n : ℕ) (m asked after : Standing) (helper map key answer : ℕ) (left : List ℕ) → IsAt program header sizes port answers n m (answer ∷ left) → IsTurn (step_of m) (turns.Asked helper map key) (state_of m) (state_of asked) → IsSameRun m asked → answer < 2 ^ 64 → state_of after ≡ answered (state_of asked) answer → IsSameRun asked after → IsAt program header sizes port answers (n + 1) after left
+  walk_asks n m asked after helper map key answer left at turn same small goes_on same_after =
       let told = turn_asks _ helper map key _ _ turn in
       let with_sizes = here n m (answer ∷ left) _ at told.1 in
       let no_trap : Ask helper map key told.0 ≡ Trap → ⊥ = λ e. cc in
@@ -218,7 +216,6 @@ module _ (program : Program) (header : Header) (sizes : List ℕ) (port : ℕ) (
         same_program = same_after.program ∙ same.program ∙ at.same_program;
         same_header = same_after.header ∙ same.header ∙ at.same_header;
         same_sizes = same_after.sizes ∙ same.sizes ∙ at.same_sizes;
-        steps = stays ∙ more ∙ ap (λ k. k + 1) at.steps;
         calls = at.calls ++ call helper map key answer ∷ [];
         way = rw add-one (rw reached at longer);
         given = more_given at.calls (call helper map key answer) left at.given;
@@ -259,13 +256,12 @@ module _ (program : Program) (header : Header) (sizes : List ℕ) (port : ℕ) (
         within = below;
       }
 
-  pub walk_begins : (m : Standing) → m.program ≡ program → m.header ≡ header → m.sizes ≡ sizes → m.steps ≡ 0 → state_of m ≡ entry_state port → IsAt program header sizes port answers 0 m answers
-  walk_begins m same_program same_header same_sizes none entered =
+  pub walk_begins : (m : Standing) → m.program ≡ program → m.header ≡ header → m.sizes ≡ sizes → state_of m ≡ entry_state port → IsAt program header sizes port answers 0 m answers
+  walk_begins m same_program same_header same_sizes entered =
       record {
         same_program = same_program;
         same_header = same_header;
         same_sizes = same_sizes;
-        steps = none;
         calls = [];
         way = rw entered (record { path = runs.entry; clear = tt });
         given = refl;
