@@ -21,7 +21,7 @@ use Rattle.machine.specs.Step.{Outcome, Next, Ask, Verdict, Trap, answered, writ
 use Rattle.machine.specs.Runs.{Path, moves, Runs, call}
 use Rattle.machine.specs.Runs as runs
 use Rattle.slow_machine.specs.Standing.{Standing, state_of, step_of, IsTurn, IsAsk, IsSameRun}
-use Rattle.slow_machine.specs.Endings.{answers_of, Walk, WalkEnds, WalkTraps, WalkAsks}
+use Rattle.slow_machine.specs.Endings.{answers_of, IsClear, Walk, WalkEnds, WalkTraps, WalkAsks}
 
 -- ---- what a turn tells of the outcome
 
@@ -155,14 +155,18 @@ asks_goes_on program header s helper map key on e =
 
 -- ---- the machine on its path
 
+-- a path without a trap, with maps of these sizes
+pub record ClearPath (program : Program) (header : Header) (sizes : List ℕ) (port : ℕ) (calls : List Call) (n : ℕ) (last : State) : Type 0 where
+  pub path : Path program header port calls n last
+  pub clear : IsClear sizes program header port calls n last path
+
 -- after n steps, with some answers left
 pub record IsAt (program : Program) (header : Header) (sizes : List ℕ) (port : ℕ) (answers : List ℕ) (n : ℕ) (m : Standing) (left : List ℕ) : Type 0 where
   pub same_program : m.program ≡ program
   pub same_header : m.header ≡ header
   pub same_sizes : m.sizes ≡ sizes
-  pub steps : m.steps ≡ n
   pub calls : List Call
-  pub path : Path program header port calls n (state_of m)
+  pub way : ClearPath program header sizes port calls n (state_of m)
   pub given : answers ≡ answers_of calls ++ left
 
 same_step : (sizes sizes' : List ℕ) (program program' : Program) (header header' : Header) (s s' : State) → sizes ≡ sizes' → program ≡ program' → header ≡ header' → s ≡ s' → step_with sizes program header s ≡ step_with sizes' program' header' s'
@@ -180,8 +184,8 @@ module _ (program : Program) (header : Header) (sizes : List ℕ) (port : ℕ) (
   here : (n : ℕ) (m : Standing) (left : List ℕ) (o : Outcome) → IsAt program header sizes port answers n m left → step_of m ≡ o → step_with sizes program header (state_of m) ≡ o
   here n m left o at e = rw (at.same_program, at.same_header, at.same_sizes) at e
 
-  pub walk_moves : (n : ℕ) (m after : Standing) (left : List ℕ) → IsAt program header sizes port answers n m left → IsTurn (step_of m) turns.Moved (state_of m) (state_of after) → IsSameRun m after → after.steps ≡ m.steps + 1 → IsAt program header sizes port answers (n + 1) after left
-  walk_moves n m after left at turn same more =
+  pub walk_moves : (n : ℕ) (m after : Standing) (left : List ℕ) → IsAt program header sizes port answers n m left → IsTurn (step_of m) turns.Moved (state_of m) (state_of after) → IsSameRun m after → IsAt program header sizes port answers (n + 1) after left
+  walk_moves n m after left at turn same =
       let with_sizes = here n m left (Next (state_of after)) at (turn_moves _ _ _ turn) in
       let no_trap : Next (state_of after) ≡ Trap → ⊥ = λ e. cc in
       let bare = without_sizes sizes program header (state_of m) _ with_sizes no_trap in
@@ -189,35 +193,35 @@ module _ (program : Program) (header : Header) (sizes : List ℕ) (port : ℕ) (
         same_program = same.program ∙ at.same_program;
         same_header = same.header ∙ at.same_header;
         same_sizes = same.sizes ∙ at.same_sizes;
-        steps = more ∙ ap (λ k. k + 1) at.steps;
         calls = at.calls;
-        path = rw add-one (moves at.path bare);
+        way = rw add-one (record { path = moves at.way.path bare; clear = (at.way.clear, λ e. no_trap (sym with_sizes ∙ e)) });
         given = at.given;
       }
 
   more_given : (calls : List Call) (c : Call) (left : List ℕ) → answers ≡ answers_of calls ++ (c.answer ∷ left) → answers ≡ answers_of (calls ++ c ∷ []) ++ left
   more_given calls c left e = e ∙ sym (ap (λ xs. xs ++ left) (map-append (λ d. d.answer) calls (c ∷ [])) ∙ append_assoc (answers_of calls) (c.answer ∷ []) left)
 
-  pub walk_asks : (n : ℕ) (m asked after : Standing) (helper map key answer : ℕ) (left : List ℕ) → IsAt program header sizes port answers n m (answer ∷ left) → IsTurn (step_of m) (turns.Asked helper map key) (state_of m) (state_of asked) → IsSameRun m asked → asked.steps ≡ m.steps + 1 → answer < 2 ^ 64 → state_of after ≡ answered (state_of asked) answer → IsSameRun asked after → after.steps ≡ asked.steps → IsAt program header sizes port answers (n + 1) after left
-  walk_asks n m asked after helper map key answer left at turn same more small goes_on same_after stays =
+  pub walk_asks : (n : ℕ) (m asked after : Standing) (helper map key answer : ℕ) (left : List ℕ) → IsAt program header sizes port answers n m (answer ∷ left) → IsTurn (step_of m) (turns.Asked helper map key) (state_of m) (state_of asked) → IsSameRun m asked → answer < 2 ^ 64 → state_of after ≡ answered (state_of asked) answer → IsSameRun asked after → IsAt program header sizes port answers (n + 1) after left
+  walk_asks n m asked after helper map key answer left at turn same small goes_on same_after =
       let told = turn_asks _ helper map key _ _ turn in
       let with_sizes = here n m (answer ∷ left) _ at told.1 in
       let no_trap : Ask helper map key told.0 ≡ Trap → ⊥ = λ e. cc in
       let bare = without_sizes sizes program header (state_of m) _ with_sizes no_trap in
       let on_is = asks_goes_on program header (state_of m) helper map key told.0 bare in
       let reached : told.0 answer ≡ state_of after = ap (λ (f : ℕ → State). f answer) on_is ∙ sym (goes_on ∙ ap (λ s. answered s answer) told.2) in
-      let longer = runs.answered answer at.path bare small in
+      let longer : ClearPath program header sizes port (at.calls ++ call helper map key answer ∷ []) _ (told.0 answer) =
+          record { path = runs.answered answer at.way.path bare small; clear = (at.way.clear, λ e. no_trap (sym with_sizes ∙ e)) }
+      in
       record {
         same_program = same_after.program ∙ same.program ∙ at.same_program;
         same_header = same_after.header ∙ same.header ∙ at.same_header;
         same_sizes = same_after.sizes ∙ same.sizes ∙ at.same_sizes;
-        steps = stays ∙ more ∙ ap (λ k. k + 1) at.steps;
         calls = at.calls ++ call helper map key answer ∷ [];
-        path = rw add-one (rw reached at longer);
+        way = rw add-one (rw reached at longer);
         given = more_given at.calls (call helper map key answer) left at.given;
       }
 
-  pub walk_ends : (n limit verdict : ℕ) (m after : Standing) (left : List ℕ) → IsAt program header sizes port answers n m left → IsTurn (step_of m) (turns.Ended verdict) (state_of m) (state_of after) → n < limit → WalkEnds program header port answers limit verdict
+  pub walk_ends : (n limit verdict : ℕ) (m after : Standing) (left : List ℕ) → IsAt program header sizes port answers n m left → IsTurn (step_of m) (turns.Ended verdict) (state_of m) (state_of after) → n < limit → WalkEnds program header sizes port answers limit verdict
   walk_ends n limit verdict m after left at turn below =
       let with_sizes = here n m left (Verdict verdict) at (turn_ends _ _ _ _ turn) in
       let no_trap : Verdict verdict ≡ Trap → ⊥ = λ e. cc in
@@ -225,17 +229,18 @@ module _ (program : Program) (header : Header) (sizes : List ℕ) (port : ℕ) (
         calls = at.calls;
         left = left;
         n = n + 1;
-        run = record { before = n; last = state_of m; path = at.path; steps = refl; exit = without_sizes sizes program header (state_of m) _ with_sizes no_trap };
+        run = record { before = n; last = state_of m; path = at.way.path; steps = refl; exit = without_sizes sizes program header (state_of m) _ with_sizes no_trap };
+        clear = at.way.clear;
         given = at.given;
         within = omega arith;
       }
 
   pub walk_traps : (n limit : ℕ) (m after : Standing) (left : List ℕ) → IsAt program header sizes port answers n m left → IsTurn (step_of m) turns.Trapped (state_of m) (state_of after) → n < limit → WalkTraps program header sizes port answers limit
   walk_traps n limit m after left at turn below =
-      record { n = n; walk = record { calls = at.calls; left = left; last = state_of m; path = at.path; given = at.given }; trap = here n m left Trap at (turn_traps _ _ _ turn); within = below }
+      record { n = n; walk = record { calls = at.calls; left = left; last = state_of m; path = at.way.path; clear = at.way.clear; given = at.given }; trap = here n m left Trap at (turn_traps _ _ _ turn); within = below }
 
-  pub walk_stops : (limit : ℕ) (m : Standing) (left : List ℕ) → IsAt program header sizes port answers limit m left → Walk program header port answers limit
-  walk_stops limit m left at = record { calls = at.calls; left = left; last = state_of m; path = at.path; given = at.given }
+  pub walk_stops : (limit : ℕ) (m : Standing) (left : List ℕ) → IsAt program header sizes port answers limit m left → Walk program header sizes port answers limit
+  walk_stops limit m left at = record { calls = at.calls; left = left; last = state_of m; path = at.way.path; clear = at.way.clear; given = at.given }
 
   pub walk_lacks : (n limit : ℕ) (m asked : Standing) (helper map key : ℕ) → IsAt program header sizes port answers n m [] → IsTurn (step_of m) (turns.Asked helper map key) (state_of m) (state_of asked) → n < limit → WalkAsks program header sizes port answers limit
   walk_lacks n limit m asked helper map key at turn below =
@@ -244,21 +249,21 @@ module _ (program : Program) (header : Header) (sizes : List ℕ) (port : ℕ) (
         calls = at.calls;
         n = n;
         last = state_of m;
-        path = at.path;
+        path = at.way.path;
+        clear = at.way.clear;
         given = at.given ∙ append-nil (answers_of at.calls);
         question = subst (λ (o : Outcome). IsAsk o) (sym (here n m [] _ at told.1)) tt;
         within = below;
       }
 
-  pub walk_begins : (m : Standing) → m.program ≡ program → m.header ≡ header → m.sizes ≡ sizes → m.steps ≡ 0 → state_of m ≡ entry_state port → IsAt program header sizes port answers 0 m answers
-  walk_begins m same_program same_header same_sizes none entered =
+  pub walk_begins : (m : Standing) → m.program ≡ program → m.header ≡ header → m.sizes ≡ sizes → state_of m ≡ entry_state port → IsAt program header sizes port answers 0 m answers
+  walk_begins m same_program same_header same_sizes entered =
       record {
         same_program = same_program;
         same_header = same_header;
         same_sizes = same_sizes;
-        steps = none;
         calls = [];
-        path = rw entered runs.entry;
+        way = rw entered (record { path = runs.entry; clear = tt });
         given = refl;
       }
 
