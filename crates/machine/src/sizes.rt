@@ -76,6 +76,13 @@ impl MapSizes {
         })
     }
 
+    /// A law and no work: there are at most 8 maps, none without cells, and at most 256 cells in all.
+    pub fn stand_limited(&self)
+        ensures { AreSizes self.now }
+    {
+        let _ = &self.cells;
+    }
+
     /// How many maps there are, at most 8.
     pub fn maps(&self) -> u8
         ensures maps { result ≡ length self.now }
