@@ -31,7 +31,7 @@ fn applied(
     }
     let judged = Judged::new(packet, &windows, 0, 7, verdict);
     if !bank.fits(share, &judged) {
-        drop(judged.into_packet());
+        judged.answer_error(reply);
         return Ok(None);
     }
     Ok(Some(bank.apply(share, judged, reply)))
