@@ -3,6 +3,8 @@
 
 use super::RARE_FORMS;
 use bpf_insn::{BadInsn, Register, decode, encode, text};
+use std::alloc::Global;
+use std::process::Abort;
 use std::test::Fail;
 use trial::{Row, hexadecimals};
 
@@ -121,17 +123,38 @@ fn a_register_has_its_number(rt: HostRuntime) {
     assert!(rt; Register::new(11).is_none());
 }
 
+/// Fails unless these slots are the spelling of the instruction that has this text.
+fn spell(rt: &impl Abort, alloc: Global, slots: &[u64], wanted: &str) -> Result<(), Fail> {
+    let first = slots.first().ok_or("a slot")?.to_be_bytes();
+    let second = slots.get(1).map_or([0; 8], |slot| slot.to_be_bytes());
+    match decode(&first, Some(&second)) {
+        Ok(insn) => {
+            let (encoded, rest) = encode(&insn);
+            assert!(rt; encoded.as_slice() == first.as_slice());
+            assert!(rt;
+                rest.map_or(
+                    slots.len() == 1,
+                    |slot| slot.as_slice() == second.as_slice()
+                )
+            );
+            assert_eq!(rt; text(alloc, &insn)?.as_str(), wanted);
+        }
+        Err(_) => assert!(rt; false, "{wanted:?} is no instruction"),
+    }
+    Ok(())
+}
+
 #[test]
 fn rare_forms(rt: HostRuntime) -> Result<(), Fail> {
     for line in RARE_FORMS.lines() {
         let mut row = Row::of(line);
         let wanted = row.part()?;
-        let slots = hexadecimals(rt.alloc(), row.part()?)?;
-        let first = slots.as_slice().first().ok_or("a slot")?.to_be_bytes();
-        let second = slots.as_slice().get(1).map(|slot| slot.to_be_bytes());
-        let insn = decode(&first, second.as_ref())?;
-        assert_eq!(rt; text(rt.alloc(), &insn)?.as_str(), wanted);
-        assert!(rt; encode(&insn) == (first, second), "the slots of {wanted:?}");
+        spell(
+            &rt,
+            rt.alloc(),
+            &hexadecimals(rt.alloc(), row.part()?)?,
+            wanted,
+        )?;
     }
     Ok(())
 }
