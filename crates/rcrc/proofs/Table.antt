@@ -1,5 +1,5 @@
 -- Each entry of the tables is so many steps of the register.
-use Rattle.std.proofs.Common.{◌≡◌, ℕ, suc, ◌*◌, ◌<◌, Bool, true, eqb, List, [], get_or, refl}
+use Rattle.std.proofs.Common.{◌≡◌, ℕ, suc, ◌*◌, ◌<◌, Bool, true, eqb, [], get_or, refl}
 use Rattle.std.proofs.lemmas.Bool.{agree_below, agree_below_at, eqb-true}
 use Rattle.rcrc.specs.Crc.{shifts}
 use Rattle.rcrc.specs.declared.tables.TheConstants.{TABLES}

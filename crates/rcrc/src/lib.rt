@@ -3,11 +3,11 @@
 
 mod tables;
 
-use tables::shifted;
-
 ghost use Rattle.std.specs.Prelude.{◌≡◌, ℕ, List, ◌++◌};
 ghost use Rattle.rcrc.specs.Crc.{crc_from, crc_of};
 ghost use Rattle.rcrc.specs.Polynomial.{IsRemainder, RemainderIsUnique};
+
+use tables::shifted;
 
 /// The CRC of `bytes` (ECSS-E-ST-50-52C, 8-bit CRC): the register starts at 0 and takes in one byte
 /// after another.
@@ -52,11 +52,11 @@ fn after_chunk(register: u8, chunk: &[u8; 8]) -> u8
         ^ shifted(register ^ a, 7)
 }
 
-/// The register after some bytes, taken in one after another.
-fn after_bytes(crc: u8, bytes: &[u8]) -> u8
-    ensures { result ≡ crc_from crc bytes.now }
+/// The register after some bytes, taken in one after another from `start` on.
+fn after_bytes(start: u8, bytes: &[u8]) -> u8
+    ensures { result ≡ crc_from start bytes.now }
 {
-    let mut register = crc;
+    let mut register = start;
     for byte in bytes {
         register = shifted(register ^ *byte, 0);
     }
