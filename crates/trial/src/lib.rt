@@ -3,13 +3,13 @@
 #![tactic(auto)]
 
 mod images;
-mod node;
+mod nodes;
 mod operations;
 mod random;
 mod rows;
 
 pub use images::{image_of_slots, image_of_text};
-pub use node::{BASE, PLAIN_READ, PLAIN_REPLY, PLAIN_WRITE, bank, node, packet, program, served};
+pub use nodes::{BASE, PLAIN_READ, PLAIN_REPLY, PLAIN_WRITE, bank, node, packet, program, served};
 pub use operations::{
     CONDITIONS, EXTENSIONS, LOAD_SIZES, OPERATIONS, SIZES, SWAP_BITS, SWAPS, WIDTHS,
 };
