@@ -16,9 +16,11 @@ use Rattle.machine.specs.Step.{Outcome, Next, Ask, Verdict, Trap, answered, asks
 abbrev pub registers_in : List Value → ℕ → Value
 registers_in registers k = slice_index_or registers k Unset
 
+-- the state of a frame: its slot, its registers and its stack
 abbrev pub state_in : Frame → State
 state_in frame = state frame.slot (registers_in frame.registers.now) (bytes_in frame.memory.stack.now)
 
+-- what an effect makes of a state
 abbrev pub outcome_of : State → Effect → Outcome
 outcome_of s (effects.Write register value slots) = Next (state (s.slot + slots) (register_after s.registers register value) s.stack)
 outcome_of s (effects.Put place bytes number) = Next (state (s.slot + 1) s.registers (byte_after s.stack bytes place number))

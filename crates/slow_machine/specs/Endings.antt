@@ -59,6 +59,8 @@ pub record WalkAsks (program : Program) (header : Header) (sizes : List ℕ) (po
   pub question : IsAsk (step_with sizes program header last)
   pub within : n < limit
 
+-- how a walk of at most so many steps ends: by a verdict, a trap, a question without an answer, or the end of
+-- its steps
 abbrev pub IsEnding : (program : Program) (header : Header) (sizes : List ℕ) (port : ℕ) (answers : List ℕ) (limit : ℕ) → Ending → Type 0
 IsEnding program header sizes port answers limit (endings.Verdict verdict) = WalkEnds program header sizes port answers limit verdict
 IsEnding program header sizes port answers limit endings.Trap = WalkTraps program header sizes port answers limit

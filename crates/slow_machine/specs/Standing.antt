@@ -20,9 +20,11 @@ pub record Standing : Type 0 where
   pub registers : List Value
   pub stack : List (Option ℕ)
 
+-- the state of a slot, a list of registers and a list of stack bytes
 abbrev pub state_with : ℕ → List Value → List (Option ℕ) → State
 state_with slot registers stack = state slot (registers_in registers) (bytes_in stack)
 
+-- the state in which the machine stands
 abbrev pub state_of : Standing → State
 state_of m = state_with m.slot m.registers m.stack
 
