@@ -20,6 +20,3 @@ pub use journal::Journal;
 pub use judged::Judged;
 pub use reading::command_in;
 pub use share::Share;
-
-#[cfg(test)]
-mod tests;

@@ -63,6 +63,3 @@ pub fn crc_more(crc: u8, bytes: &[u8]) -> u8
 pub fn remainder_is_unique()
     ensures { RemainderIsUnique }
 {}
-
-#[cfg(test)]
-mod tests;

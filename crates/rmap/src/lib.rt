@@ -12,8 +12,6 @@ mod laws;
 mod places;
 mod reply;
 mod status;
-#[cfg(test)]
-mod tests;
 mod windows;
 
 pub use checks::{body_fault, header_fault, place};

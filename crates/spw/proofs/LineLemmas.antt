@@ -8,7 +8,6 @@ use Rattle.spw.specs.declared.faults.LineFault.{LineFault}
 use Rattle.spw.specs.declared.faults.LineFault.TheVariants.{NoPort, BadHex, BadMarker, TooLong, Memory}
 use Rattle.spw.specs.declared.packets.End.{End}
 use Rattle.spw.specs.declared.packets.End.TheVariants.{Eop, Eep}
-use Rattle.spw.specs.declared.packets.TheConstants.{MAX_PACKET}
 use Rattle.std.proofs.lemmas.List.{append-nil, map-append, take_more}
 use Rattle.std.proofs.Math.Seq.{take-length}
 use Rattle.std.proofs.lemmas.List.Concat.{flat_map-append}
@@ -117,7 +116,7 @@ line_has_hex : (line : List ℕ) (port : ℕ) (cargo : Cargo) → IsPacketLine l
 line_has_hex line port cargo a =
     record { first = a.first; between = a.between; last = marker_word cargo.end; words = a.words; is_hex = a.is_hex }
 
-line_fault : (line : List ℕ) (port : ℕ) (cargo : Cargo) (fault : LineFault) → IsPacketLine line port cargo → length cargo.bytes ≤ MAX_PACKET → HasFault line fault → ⊥
+line_fault : (line : List ℕ) (port : ℕ) (cargo : Cargo) (fault : LineFault) → IsPacketLine line port cargo → length cargo.bytes ≤ 4200 → HasFault line fault → ⊥
 line_fault line port cargo NoPort a short has = has (line_has_port line port cargo a)
 line_fault line port cargo BadHex a short has = has.2 (line_has_hex line port cargo a)
 line_fault line port cargo BadMarker a short has = has.1 (line_has_marker line port cargo a)
@@ -154,7 +153,7 @@ one_fault line Memory b x y = absurd x
 
 -- ---- the answers
 
-pub reading_of_line : (line : List ℕ) (port : ℕ) (cargo : Cargo) → IsPacketLine line port cargo → length cargo.bytes ≤ MAX_PACKET → IsReading line (Ok (port, cargo))
+pub reading_of_line : (line : List ℕ) (port : ℕ) (cargo : Cargo) → IsPacketLine line port cargo → length cargo.bytes ≤ 4200 → IsReading line (Ok (port, cargo))
 reading_of_line line port cargo a short = record {
   ok = (a, short);
   err = tt;

@@ -8,7 +8,6 @@ use Rattle.spw.specs.declared.faults.LineFault.{LineFault}
 use Rattle.spw.specs.declared.faults.LineFault.TheVariants.{NoPort, BadHex, BadMarker, TooLong, Memory}
 use Rattle.spw.specs.declared.packets.End.{End}
 use Rattle.spw.specs.declared.packets.End.TheVariants.{Eop, Eep}
-use Rattle.spw.specs.declared.packets.TheConstants.{MAX_PACKET}
 
 -- the words of a line: what stands between its spaces (32), without the empty pieces
 abbrev pub words_of : List ℕ → List (List ℕ)
@@ -71,7 +70,7 @@ pub record IsTooLong (line : List ℕ) : Type 0 where
   pub port : ℕ
   pub cargo : Cargo
   pub reading : IsPacketLine line port cargo
-  pub long : MAX_PACKET < length cargo.bytes
+  pub long : 4200 < length cargo.bytes
 
 -- the fault of a line: the first of no port, bad marker, bad digits and too long
 abbrev pub HasFault : List ℕ → LineFault → Type 0
@@ -82,11 +81,11 @@ HasFault line TooLong = IsTooLong line
 HasFault line Memory = ⊥
 
 -- what reading a line answers: where memory is not refused, the port and the packet exactly where
--- the line is of the form with at most MAX_PACKET bytes, and else exactly its fault
+-- the line is of the form with at most 4,200 bytes, and else exactly its fault
 pub record IsReading (line : List ℕ) (answer : Result (ℕ × Cargo) LineFault) : Type 0 where
-  pub ok : IfOk answer (λ r. IsPacketLine line r.0 r.1 × (length r.1.bytes ≤ MAX_PACKET))
+  pub ok : IfOk answer (λ r. IsPacketLine line r.0 r.1 × (length r.1.bytes ≤ 4200))
   pub err : IfErr answer (λ fault. (fault ≡ Memory) ⊎ HasFault line fault)
-  pub reads : (port : ℕ) (cargo : Cargo) → IsPacketLine line port cargo → length cargo.bytes ≤ MAX_PACKET → (answer ≡ Ok (port, cargo)) ⊎ (answer ≡ Err Memory)
+  pub reads : (port : ℕ) (cargo : Cargo) → IsPacketLine line port cargo → length cargo.bytes ≤ 4200 → (answer ≡ Ok (port, cargo)) ⊎ (answer ≡ Err Memory)
   pub refuses : (fault : LineFault) → HasFault line fault → (answer ≡ Err fault) ⊎ (answer ≡ Err Memory)
 
 -- no line writes two ports or two packets

@@ -4,8 +4,6 @@
 mod faults;
 mod lines;
 mod packets;
-#[cfg(test)]
-mod tests;
 
 pub use crate::faults::LineFault;
 pub use crate::lines::{line_is_unambiguous, read_line};

@@ -20,6 +20,3 @@ pub use judging::{Step, judge};
 pub use node::Node;
 pub use pass::Pass;
 pub use serving::{Served, serve_packet};
-
-#[cfg(test)]
-mod tests;

@@ -2,7 +2,6 @@ use Rattle.std.proofs.Common.{◌≡◌, map, inl, inr, length, Ok, Err, ◌∙�
 use Rattle.std.proofs.lemmas.Bool.{cases_lt}
 use Rattle.spw.specs.Cargo.{Cargo}
 use Rattle.spw.specs.declared.faults.LineFault.TheVariants.{TooLong}
-use Rattle.spw.specs.declared.packets.TheConstants.{MAX_PACKET}
 use Rattle.std.proofs.lemmas.Result.{err_from_is_err_and}
 use Rattle.spw.proofs.LineLemmas.{IsSplit, bad_marker, bad_hex, line_of_words, reading_of_line, reading_of_fault, reading_of_memory}
 use Rattle.spw.proofs.lines.read_line.Goals as goal
@@ -58,7 +57,7 @@ returns c =
     let bytes = c.in_ok-bytes.ensures.ok in
     let cargo : Cargo = record { bytes = c.in_ok-bytes.bytes.items; end = c.in_ok-end.end } in
     let reading = line_of_words (λ word. word.now) words c.args.line.now _ _ c.in_ok-port.port cargo split port.0 port.1 marker bytes.0 bytes.1 in
-    elim (cases_lt MAX_PACKET (length cargo.bytes)) [
+    elim (cases_lt 4200 (length cargo.bytes)) [
       | inl long ↦ absurd (ok_is_no_err (c.in_ok-new.ensures.too_long.1 long))
       | inr short ↦ rw c.in_ok-new.ensures.ok (reading_of_line c.args.line.now c.in_ok-port.port cargo reading short)
     ]
