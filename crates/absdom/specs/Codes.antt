@@ -3,6 +3,7 @@ use Rattle.std.specs.Prelude.{ℕ}
 use Rattle.absdom.specs.declared.cause.Cause.{Cause}
 use Rattle.absdom.specs.declared.cause.Cause.TheVariants.{UnsetOperand, KindMismatch, OutOfRegion, UnsetStack, HeaderWrite, PointerRange}
 
+-- the number of a refusal, as the verifier tells it
 abbrev pub cause_code : Cause → ℕ
 cause_code UnsetOperand = 5
 cause_code KindMismatch = 6

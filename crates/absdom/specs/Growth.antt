@@ -31,6 +31,7 @@ IsEdgeBelow None large = Unit {0}
 IsEdgeBelow (Some small) None = ⊥
 IsEdgeBelow (Some small) (Some large) = IsBelow small large
 
+-- where the larger state is not refused, neither is the smaller, and each of its edges is below
 abbrev pub AreEdgesGrown : (small large : Result Edges Cause) → Type 0
 AreEdgesGrown small (Err cause) = Unit {0}
 AreEdgesGrown (Err cause) (Ok large) = ⊥

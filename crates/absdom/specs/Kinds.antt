@@ -10,6 +10,7 @@ use Rattle.absdom.specs.declared.kinds.AbsKind.{AbsKind}
 use Rattle.absdom.specs.declared.kinds.AbsKind.TheVariants.{Unset, Num, Ptr, Map}
 use Rattle.absdom.specs.Offsets.{joined_offsets, AreAmong}
 
+-- whether two regions are the same
 abbrev pub same_region : Region → Region → Bool
 same_region Front Front = true
 same_region Front Tail = false

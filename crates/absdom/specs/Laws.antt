@@ -19,9 +19,11 @@ use Rattle.absdom.specs.Fits.{Fits, IsSound, GoesStraight, TakesEdge}
 abbrev pub BelowFits : Type 0
 BelowFits = (s : State) (a b : Knowledge) → IsBelow a b → Fits s a → Fits s b
 
+-- each state is below itself
 abbrev pub BelowIsReflexive : Type 0
 BelowIsReflexive = (a : Knowledge) → IsBelow a a
 
+-- a state below one that is below a third is below the third
 abbrev pub BelowIsTransitive : Type 0
 BelowIsTransitive = (a b c : Knowledge) → IsBelow a b → IsBelow b c → IsBelow a c
 

@@ -30,6 +30,3 @@ pub use machine::Region;
 pub use offsets::Offsets;
 pub use refining::{Edges, refine};
 pub use state::State;
-
-#[cfg(test)]
-mod tests;

@@ -20,15 +20,18 @@ AluFits =
     (op : AluOp) (width : Width) (a b : Range) (n m : ℕ) → IsIn n a → IsIn m b
     → IsIn (alu_words op width n m) (alu_range op width a b)
 
+-- NEG: every result of a number in the range lies in the result's range
 abbrev pub NegateFits : Type 0
 NegateFits =
     (width : Width) (a : Range) (n : ℕ) → IsIn n a → IsIn (negated width n) (negated_range width a)
 
+-- MOVSX: every result of a number in the range lies in the result's range
 abbrev pub MoveSignedFits : Type 0
 MoveSignedFits =
     (extension : Extension) (a : Range) (n : ℕ) → IsIn n a
     → IsIn (extended extension n) (extended_range extension a)
 
+-- END: every result of a number in the range lies in the result's range
 abbrev pub ByteSwapFits : Type 0
 ByteSwapFits =
     (swap : Swap) (bits : SwapBits) (a : Range) (n : ℕ) → IsIn n a
@@ -56,16 +59,19 @@ AluGrows =
     (op : AluOp) (width : Width) (a b c d : Range) → IsRange a → IsRange b → IsWithin a c → IsWithin b d
     → IsWithin (alu_range op width a b) (alu_range op width c d)
 
+-- NEG: a larger range gives a result that is at least as large
 abbrev pub NegateGrows : Type 0
 NegateGrows =
     (width : Width) (a c : Range) → IsRange a → IsWithin a c
     → IsWithin (negated_range width a) (negated_range width c)
 
+-- MOVSX: a larger range gives a result that is at least as large
 abbrev pub MoveSignedGrows : Type 0
 MoveSignedGrows =
     (extension : Extension) (a c : Range) → IsRange a → IsWithin a c
     → IsWithin (extended_range extension a) (extended_range extension c)
 
+-- END: a larger range gives a result that is at least as large
 abbrev pub ByteSwapGrows : Type 0
 ByteSwapGrows =
     (swap : Swap) (bits : SwapBits) (a c : Range) → IsRange a → IsWithin a c
@@ -77,10 +83,12 @@ IsBelow None other = Unit {0}
 IsBelow (Some operands) None = ⊥
 IsBelow (Some operands) (Some other) = IsWithin operands.dst other.dst × IsWithin operands.src other.src
 
+-- both edges lead to what the others do, with ranges at least as large there
 pub record AreBelow (edges others : Edges) : Type 0 where
   pub taken : IsBelow edges.taken others.taken
   pub not_taken : IsBelow edges.not_taken others.not_taken
 
+-- larger operands leave edges that are at least as large
 abbrev pub RefineGrows : Type 0
 RefineGrows =
     (condition : Condition) (width : Width) (a b c d : Range) → IsRange a → IsRange b → IsWithin a c → IsWithin b d

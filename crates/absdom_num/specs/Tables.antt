@@ -19,6 +19,7 @@ use Rattle.absdom_num.specs.declared.ranges.Range.{Range}
 abbrev pub only : ℕ → Range
 only n = (n, n)
 
+-- whether the range has one number
 abbrev pub is_single : Range → Bool
 is_single a = a.0 == a.1
 
@@ -73,12 +74,15 @@ remainder_range a b =
 abbrev pub ones_over : ℕ → ℕ
 ones_over n = 2 ^ (64 - leading_zeros w64 n) - 1
 
+-- AND: from 0 to the lesser high end
 abbrev pub and_range : Range → Range → Range
 and_range a b = (0, min a.1 b.1)
 
+-- OR: from the greater low end to all bits up to the highest of both
 abbrev pub or_range : Range → Range → Range
 or_range a b = (max a.0 b.0, ones_over (max a.1 b.1))
 
+-- XOR: from 0 to all bits up to the highest of both
 abbrev pub xor_range : Range → Range → Range
 xor_range a b = (0, ones_over (max a.1 b.1))
 

@@ -9,8 +9,6 @@ mod laws;
 mod ranges;
 mod refinement;
 mod tables;
-#[cfg(test)]
-mod tests;
 
 pub use laws::{
     edges_fit, edges_grow, ones_are_least, ranges_are_ordered, results_fit, results_grow,

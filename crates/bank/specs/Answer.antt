@@ -31,9 +31,11 @@ abbrev pub status_with : (room : Bool) → Option Status → Status
 status_with room None = if room then Success else GeneralError
 status_with room (Some status) = status
 
+-- the status of a judged command with verdict v, where there is room or not
 abbrev pub status_of : (room : Bool) → Parts → ℕ → Status
 status_of room c v = status_with room (judged_line c v)
 
+-- whether the status is success
 abbrev pub is_success : Status → Bool
 is_success status = status_code status == 0
 
@@ -47,6 +49,7 @@ pub record Answer : Type 0 where
   pub memory : Memory
   pub reply : List ℕ
 
+-- the answer of that status: the effect under success, else memory stays and the reply has no data
 abbrev pub answer_at : Status → Memory → Parts → Answer
 answer_at status m c = record {
   status = status;
@@ -54,5 +57,6 @@ answer_at status m c = record {
   reply = reply_of c status (effect_at status m c).reply;
 }
 
+-- the answer of a judged command with verdict v, where there is room or not
 abbrev pub answer : Memory → (room : Bool) → Parts → ℕ → Answer
 answer m room c v = answer_at (status_of room c v) m c

@@ -59,6 +59,7 @@ pub record Effect : Type 0 where
   pub memory : Memory
   pub reply : List ℕ
 
+-- the effect of a command by its kind (ECSS-E-ST-50-52C, write action, read action, read-modify-write action)
 abbrev pub effect_of : Kind → Memory → Parts → Effect
 effect_of Read m c = record { memory = m; reply = bytes_read m c (length_of c) }
 effect_of Write m c = record { memory = written m c (data_of c); reply = [] }

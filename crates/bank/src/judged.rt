@@ -1,20 +1,23 @@
 //! A command with a verdict.
 
-ghost use Rattle.std.specs.Prelude.{◌≡◌, None, Some};
+ghost use Rattle.std.specs.Prelude.{◌≡◌, [], None, Some};
 ghost use Rattle.spw.specs.Cargo.{Cargo};
 ghost use Rattle.rmap.specs.Command.{discard_of};
 ghost use Rattle.rmap.specs.Ranges.{place_of};
 ghost use Rattle.rmap.specs.Checks.{header_line};
+ghost use Rattle.rmap.specs.Reply.{reply_of};
+ghost use Rattle.rmap.specs.declared.status.Status.TheVariants.{GeneralError as Fails};
 ghost use Rattle.bank.specs.Reading.{command_of, IsAdmitted};
 
 use crate::reading::command_in;
-use rmap::{Command, Place, Windows, place};
+use rmap::{Command, Place, ReplyBuf, Status, Windows, place, put_reply};
 use spw::Packet;
 use std::marker::Model;
 
 /// A command that the checks of its header let pass, with the verdict of the application on it: the
 /// packet, the place of its bytes, the port that it came in at and the generation of the program that
-/// judged it. It must be spent, so that a command which was judged is also answered.
+/// judged it. It must be spent, so that a command which was judged is also answered: by
+/// [`Bank::apply`](crate::Bank::apply), or by [`Judged::answer_error`].
 #[derive(Debug)]
 pub struct Judged {
     packet: Packet,
@@ -98,8 +101,19 @@ impl Judged {
         self.verdict
     }
 
+    /// Ends the command where nothing can serve it: the reply is a general error without data. No
+    /// bank and no journal changes. The status is that of the reply.
+    pub fn answer_error(self, reply: &mut ReplyBuf) -> Status
+        ensures status { result ≡ Fails }
+        ensures reply { reply.new ≡ reply_of (command_of self.packet) Fails [] }
+    {
+        put_reply(reply, &self.command(), Status::GeneralError, &[]);
+        drop(self.into_packet());
+        Status::GeneralError
+    }
+
     /// Takes the judged command apart: the packet, as it came.
-    pub fn into_packet(self) -> Packet
+    pub(crate) fn into_packet(self) -> Packet
         ensures { result ≡ self.packet }
     {
         let Judged {

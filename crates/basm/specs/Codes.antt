@@ -3,6 +3,7 @@ use Rattle.std.specs.Prelude.{ℕ, nat_lt, if◌then◌else◌}
 use Rattle.basm.specs.declared.faults.AsmCode.{AsmCode}
 use Rattle.basm.specs.declared.faults.AsmCode.TheVariants.{BadWord, BadOperand, BadNumber, BadLabel, Reach, TooMany, BadBudget, BadLoop, Memory}
 
+-- the number of a fault
 abbrev pub asm_code : AsmCode → ℕ
 asm_code BadWord = 1
 asm_code BadOperand = 2

@@ -4,6 +4,7 @@ use Rattle.bpf_insn.specs.Text.{alu_name, callee_name, condition_name, extension
 use Rattle.basm.specs.declared.mnemonics.Mnemonic.{Mnemonic}
 use Rattle.basm.specs.declared.mnemonics.Mnemonic.TheVariants.{Arithmetic, Negation, SignedMove, Swapping, Loading, Storing, StoringRegister, Jumping, ShortGoto, LongGoto, WideLoad, MapLoad, AddressLoad, Calling, Exiting}
 
+-- the word of a mnemonic
 abbrev pub mnemonic_word : Mnemonic → List ℕ
 mnemonic_word (Arithmetic op width) = alu_name op ++ width_suffix width
 mnemonic_word (Negation width) = codes "neg" ++ width_suffix width

@@ -39,19 +39,23 @@ WritesTarget names slot word offset = NamesTarget names slot word offset ⊎ Wri
 
 -- ---- the words of an instruction, by its own name
 
+-- one operand, which stands in the relation
 abbrev pub One : {X : Type 0} → (X → List ℕ) → List X → (List ℕ → Type 0) → Type 0
 One text [] P = ⊥
 One text (a ∷ []) P = P (text a)
 One text (a ∷ b ∷ xs) P = ⊥
 
+-- two operands, each in its relation
 abbrev pub Two : {X : Type 0} → (X → List ℕ) → List X → (List ℕ → Type 0) → (List ℕ → Type 0) → Type 0
 Two text [] P Q = ⊥
 Two text (a ∷ xs) P Q = P (text a) × One text xs Q
 
+-- three operands, each in its relation
 abbrev pub Three : {X : Type 0} → (X → List ℕ) → List X → (List ℕ → Type 0) → (List ℕ → Type 0) → (List ℕ → Type 0) → Type 0
 Three text [] P Q R = ⊥
 Three text (a ∷ xs) P Q R = P (text a) × Two text xs Q R
 
+-- four operands, each in its relation
 abbrev pub Four : {X : Type 0} → (X → List ℕ) → List X → (List ℕ → Type 0) → (List ℕ → Type 0) → (List ℕ → Type 0) → (List ℕ → Type 0) → Type 0
 Four text [] P Q R S = ⊥
 Four text (a ∷ xs) P Q R S = P (text a) × Three text xs Q R S
@@ -94,6 +98,7 @@ pub data Item : Type 0 where
   OneLoop : Loop → Item
   Code : Insn → Item
 
+-- how many slots a line takes: those of its instruction, or none
 abbrev pub slots_in : Item → ℕ
 slots_in Nothing = 0
 slots_in (Label name) = 0
@@ -111,6 +116,7 @@ IsLine names slot line (OneLoop l) =
     × Four (λ x. x) (operands_of line) (λ a. WritesEnd names a l.head) (λ b. WritesEnd names b l.back) (λ c. WritesNumber c (pos l.bound)) (λ d. WritesRegister d l.register)
 IsLine names slot line (Code insn) = WritesInsn (λ x. x) names slot (word_of line) (operands_of line) insn
 
+-- the lines say these items, each at the slot that the items before it leave
 abbrev pub AreLines : (names : List ℕ → Option ℕ) (slot : ℕ) → List (List ℕ) → List Item → Type 0
 AreLines names slot [] [] = Unit {0}
 AreLines names slot [] (item ∷ items) = ⊥
@@ -127,10 +133,12 @@ name_of slot (Budget n) = []
 name_of slot (OneLoop l) = []
 name_of slot (Code insn) = []
 
+-- the names that the labels of some items define, with their slots, from a slot on
 abbrev pub names_from : ℕ → List Item → List (List ℕ × ℕ)
 names_from slot [] = []
 names_from slot (item ∷ items) = name_of slot item ++ names_from (slot + slots_in item) items
 
+-- the budget that a line declares, if it does
 abbrev pub budget_in : Item → List ℕ
 budget_in Nothing = []
 budget_in (Label name) = []
@@ -138,6 +146,7 @@ budget_in (Budget n) = n ∷ []
 budget_in (OneLoop l) = []
 budget_in (Code insn) = []
 
+-- the loop that a line declares, if it does
 abbrev pub loop_in : Item → List Loop
 loop_in Nothing = []
 loop_in (Label name) = []
@@ -145,6 +154,7 @@ loop_in (Budget n) = []
 loop_in (OneLoop l) = l ∷ []
 loop_in (Code insn) = []
 
+-- the instruction of a line, if it has one
 abbrev pub insn_in : Item → List Insn
 insn_in Nothing = []
 insn_in (Label name) = []

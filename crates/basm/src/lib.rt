@@ -21,6 +21,3 @@ pub use assembling::assemble;
 pub use faults::{AsmCode, AsmFault};
 pub use laws::printed_again;
 pub use printing::disassemble;
-
-#[cfg(test)]
-mod tests;

@@ -2,13 +2,15 @@
 use Rattle.std.specs.Prelude.{ℕ, Bool, ◌==◌, if◌then◌else◌, List, [], ◌∷◌, map}
 use Rattle.std.specs.List.{before_first, after_first, slice_split}
 
--- a space, the comma between operands, and the semicolon that begins a comment
+-- the space between words
 abbrev pub is_space : ℕ → Bool
 is_space c = c == 32
 
+-- the comma between operands
 abbrev pub is_comma : ℕ → Bool
 is_comma c = c == 44
 
+-- the semicolon that begins a comment
 abbrev pub is_semicolon : ℕ → Bool
 is_semicolon c = c == 59
 

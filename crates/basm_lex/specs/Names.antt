@@ -12,5 +12,6 @@ abbrev pub is_name : List ℕ → Bool
 is_name [] = false
 is_name (c ∷ cs) = is_ascii_alphabetic c && list_all is_name_byte (c ∷ cs)
 
+-- the word is a name
 abbrev pub IsName : List ℕ → Type 0
 IsName word = is_name word ≡ true

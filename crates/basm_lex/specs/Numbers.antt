@@ -11,6 +11,7 @@ IsDecimal word = IsNumeral 10 (cond (starts_with_minus word) (drop 1 word) word)
 abbrev pub decimal_value : List ℕ → ℤ
 decimal_value word = cond (starts_with_minus word) (neg_ℤ (pos (digits_value 10 (drop 1 word)))) (pos (digits_value 10 word))
 
+-- the word is a decimal, and writes this number
 abbrev pub WritesDecimal : List ℕ → ℤ → Type 0
 WritesDecimal word value = IsDecimal word × (value ≡ decimal_value word)
 
@@ -35,7 +36,7 @@ pub record WritesPattern (word : List ℕ) (value : ℤ) : Type 0 where
 abbrev pub WritesNumber : List ℕ → ℤ → Type 0
 WritesNumber word value = (WritesDecimal word value × FitsSigned w32 value) ⊎ WritesPattern word value
 
--- a number of 64 bits: a decimal, below zero as its two's complement, or its bits
+-- a decimal of 64 bits below zero, as its two's complement
 pub record WritesBelowZero (word : List ℕ) (value : ℕ) : Type 0 where
   pub signed : ℤ
   pub minus : starts_with_minus word ≡ true
@@ -43,6 +44,7 @@ pub record WritesBelowZero (word : List ℕ) (value : ℕ) : Type 0 where
   pub fits : FitsSigned w64 signed
   pub bits : value ≡ cast_unsigned w64 signed
 
+-- a number of 64 bits: a decimal, below zero as its two's complement, or its bits
 abbrev pub WritesWide : List ℕ → ℕ → Type 0
 WritesWide word value =
     (IsNumeral 10 word × (value ≡ digits_value 10 word) × (value < 2 ^ 64)) ⊎ (WritesBelowZero word value ⊎ WritesBits 16 word value)
@@ -55,12 +57,13 @@ WritesWideDecimal word value = (IsNumeral 10 word × (value ≡ digits_value 10 
 abbrev pub WritesMagnitude : List ℕ → ℤ → Type 0
 WritesMagnitude word value = (IsNumeral 10 word × (value ≡ pos (digits_value 10 word))) ⊎ WritesPattern word value
 
--- a sign and how far
+-- a plus, and how far
 pub record WritesForward (word : List ℕ) (value : ℤ) : Type 0 where
   pub digits : List ℕ
   pub signed : word ≡ 43 ∷ digits
   pub magnitude : WritesMagnitude digits value
 
+-- a minus, and how far back
 pub record WritesBackward (word : List ℕ) (value : ℤ) : Type 0 where
   pub digits : List ℕ
   pub forward : ℤ
@@ -68,5 +71,6 @@ pub record WritesBackward (word : List ℕ) (value : ℤ) : Type 0 where
   pub magnitude : WritesMagnitude digits forward
   pub negated : value ≡ neg_ℤ forward
 
+-- a distance: a sign, and how far
 abbrev pub WritesDistance : List ℕ → ℤ → Type 0
 WritesDistance word value = WritesForward word value ⊎ WritesBackward word value

@@ -15,6 +15,3 @@ pub use numbers::{NumberFault, distance, number, wide_number};
 pub use places::{Place, read_place};
 pub use registers::register;
 pub use statements::{Statement, first_word, read_statement};
-
-#[cfg(test)]
-mod tests;

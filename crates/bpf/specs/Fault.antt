@@ -3,6 +3,7 @@ use Rattle.std.specs.Prelude.{ℕ}
 use Rattle.bpf.specs.declared.fault.ImageFault.{ImageFault}
 use Rattle.bpf.specs.declared.fault.ImageFault.TheVariants.{Magic, Version, Length, Count, Budget, BadLoop, BadSlot, Memory}
 
+-- the number of a fault
 abbrev pub image_fault_code : ImageFault → ℕ
 image_fault_code Magic = 1
 image_fault_code Version = 2
@@ -13,6 +14,7 @@ image_fault_code BadLoop = 6
 image_fault_code (BadSlot slot fault) = 7
 image_fault_code Memory = 8
 
+-- the slot of a faulty instruction, 0 for every other fault
 abbrev pub image_fault_slot : ImageFault → ℕ
 image_fault_slot Magic = 0
 image_fault_slot Version = 0

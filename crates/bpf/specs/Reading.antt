@@ -11,12 +11,13 @@ use Rattle.bpf.specs.declared.fault.ImageFault.{ImageFault}
 use Rattle.bpf.specs.declared.fault.ImageFault.TheVariants as faults
 use Rattle.bpf.specs.Program.{Program, program}
 
+-- the next step of a reading, unless a fault was found
 infixl 10 ◌>>=◌
 abbrev pub ◌>>=◌ : {A B : Type 0} → Result A ImageFault → (A → Result B ImageFault) → Result B ImageFault
 (Ok x) >>= f = f x
 (Err e) >>= f = Err e
 
--- what a function returned, seen by view, is what reading gives, unless memory was refused
+-- reading gives this fault, unless memory was refused
 abbrev pub Fails : {Y : Type 0} → ImageFault → Result Y ImageFault → Type 0
 Fails faults.Memory read = Unit {0}
 Fails faults.Magic read = read ≡ Err faults.Magic
@@ -27,6 +28,7 @@ Fails faults.Budget read = read ≡ Err faults.Budget
 Fails faults.BadLoop read = read ≡ Err faults.BadLoop
 Fails (faults.BadSlot slot fault) read = read ≡ Err (faults.BadSlot slot fault)
 
+-- what a function returned, seen by `view`, is what reading gives, unless memory was refused
 abbrev pub Gives : {X Y : Type 0} → (X → Y) → Result X ImageFault → Result Y ImageFault → Type 0
 Gives view (Ok x) read = read ≡ Ok (view x)
 Gives view (Err e) read = Fails e read
@@ -44,9 +46,11 @@ word_at place bytes =
 abbrev pub magic : List ℕ
 magic = 66 ∷ 80 ∷ 70 ∷ 65 ∷ []
 
+-- whether these are counts of loops and slots, with a reserved word of zero
 abbrev pub is_count : (loops slots reserved : ℕ) → Bool
 is_count loops slots reserved = nat_le loops 8 && nat_le 1 slots && nat_le slots 512 && reserved == 0
 
+-- whether it is a budget
 abbrev pub is_budget : ℕ → Bool
 is_budget budget = nat_le 1 budget && nat_le budget 65536
 
@@ -63,6 +67,7 @@ declared loops slots reserved budget =
 unfoldable pub counts_reading : List ℕ → Result Header ImageFault
 counts_reading bytes = declared (slice_index bytes 5) (half_at 6 bytes) (word_at 12 bytes) (word_at 8 bytes)
 
+-- the counts and the budget of an image, or the first fault of its header
 unfoldable pub header_reading : List ℕ → Result Header ImageFault
 header_reading bytes =
     if starts_with nat_eq bytes magic
@@ -76,12 +81,14 @@ abbrev pub is_loop : (slots least head back bound number zero : ℕ) → Bool
 is_loop slots least head back bound number last =
     nat_le least head && nat_lt head back && nat_lt back slots && nat_le 1 bound && nat_le bound 4096 && nat_le number 9 && last == 0
 
+-- a loop whose head is this slot or a later one, or the fault
 unfoldable pub loop_reading : (slots least : ℕ) → List ℕ → Result Loop ImageFault
 loop_reading slots least bytes =
     if is_loop slots least (half_at 0 bytes) (half_at 2 bytes) (half_at 4 bytes) (slice_index bytes 6) (slice_index bytes 7)
     then Ok (record { head = half_at 0 bytes; back = half_at 2 bytes; bound = half_at 4 bytes; register = slice_index bytes 6 })
     else Err faults.BadLoop
 
+-- so many loops, by rising head, or the first fault
 unfoldable pub loops_reading : (slots count least : ℕ) → List ℕ → Result (List Loop) ImageFault
 loops_reading slots zero least bytes = Ok []
 loops_reading slots (suc n) least bytes =
@@ -93,6 +100,7 @@ loops_reading slots (suc n) least bytes =
 abbrev pub slot_in : List ℕ → Option (List ℕ)
 slot_in bytes = if nat_lt (length bytes) 8 then None else Some (take 8 bytes)
 
+-- an instruction at the slot, or the fault with its slot
 abbrev pub found_at : ℕ → Result Insn BadInsn → Result (Option Insn) ImageFault
 found_at slot (Ok insn) = Ok (Some insn)
 found_at slot (Err fault) = Err (faults.BadSlot slot fault)
@@ -122,6 +130,7 @@ pub record PushesSlot (old new : List (Option Insn)) (slot : ℕ) (second : Bool
   pub next : two ≡ begins_two found
   pub spelled : IsSlot second bytes found
 
+-- so many slots from one on, or the first fault
 unfoldable pub slots_reading : (count slot : ℕ) (second : Bool) → List ℕ → Result (List (Option Insn)) ImageFault
 slots_reading zero slot second bytes = Ok []
 slots_reading (suc n) slot second bytes =
@@ -129,6 +138,7 @@ slots_reading (suc n) slot second bytes =
     slots_reading n (slot + 1) (begins_two x) (drop 8 bytes) >>= (λ xs.
     Ok (x ∷ xs)))
 
+-- the program that the bytes of an image spell, or the first fault
 unfoldable pub image_reading : List ℕ → Result Program ImageFault
 image_reading bytes =
     header_reading bytes >>= (λ h.

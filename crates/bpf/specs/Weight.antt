@@ -23,6 +23,8 @@ unfoldable pub weight_from : List Loop → ℕ → List (Option Insn) → ℕ
 weight_from loops slot [] = 0
 weight_from loops slot (x ∷ xs) = part_of loops slot x + weight_from loops (slot + 1) xs
 
+-- the weight of a program: the sum over its instructions of the product of the bounds of the loops that hold
+-- each
 abbrev pub weight_of : Program → ℕ
 weight_of p = weight_from p.loops 0 p.slots
 

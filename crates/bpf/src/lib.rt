@@ -20,6 +20,3 @@ pub use header::{MAX_BUDGET, MAX_LOOPS, MAX_SLOTS};
 pub use image::Image;
 pub use laws::image_laws;
 pub use loops::{Loop, MAX_BOUND};
-
-#[cfg(test)]
-mod tests;

@@ -8,6 +8,7 @@ use Rattle.bpf_insn.specs.declared.decoding.BadInsn.{BadInsn}
 use Rattle.bpf_insn.specs.declared.decoding.BadInsn.TheVariants as faults
 use Rattle.bpf_insn.specs.Spelling.{first_fields, second_immediate, Spells}
 
+-- the number of a fault
 abbrev pub bad_insn_code : BadInsn → ℕ
 bad_insn_code faults.Opcode = 1
 bad_insn_code faults.Register = 2
@@ -34,6 +35,7 @@ uses_dst (Wide dst value) = true
 uses_dst (LoadMap dst index) = true
 uses_dst (LoadAddress dst address) = true
 
+-- whether an operand is a register
 abbrev pub is_register : Operand → Bool
 is_register (FromRegister register) = true
 is_register (Immediate value) = false
@@ -58,6 +60,7 @@ uses_src Exit = false
 abbrev pub over : Insn → (dst src : ℕ) → Bool
 over insn dst src = (uses_dst insn && not (nat_le dst 10)) || (uses_src insn && not (nat_le src 10))
 
+-- whether a register that the instruction uses is over 10 in the bytes of its slot
 abbrev pub register_over : Insn → List ℕ → Bool
 register_over insn bytes = over insn (slice_index bytes 1 % 16) (slice_index bytes 1 / 16)
 

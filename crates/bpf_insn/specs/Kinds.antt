@@ -38,6 +38,7 @@ alu_of code signed =
     else (if code == 12 then Some Arsh
     else None)))))))))))
 
+-- the extension of so many bits to a width, from the offset of a sign-extending move
 abbrev pub extension_from : Width → ℕ → Option Extension
 extension_from Bits32 n = if n == 8 then Some ByteTo32 else (if n == 16 then Some HalfTo32 else None)
 extension_from Bits64 n =
@@ -59,6 +60,7 @@ swap_bits_of (pos n) =
     if n == 16 then Some Swap16 else (if n == 32 then Some Swap32 else (if n == 64 then Some Swap64 else None))
 swap_bits_of (negsuc n) = None
 
+-- the condition of a code (section 4.3)
 abbrev pub condition_of : ℕ → Option Condition
 condition_of code =
     if code == 1 then Some Equal
@@ -74,6 +76,7 @@ condition_of code =
     else (if code == 13 then Some SignedLessEqual
     else None))))))))))
 
+-- the size of a store, from mode and size of its opcode (section 5)
 abbrev pub size_of : ℕ → Option Size
 size_of code =
     if code == 0x60 then Some Word
@@ -82,6 +85,7 @@ size_of code =
     else (if code == 0x78 then Some Double
     else None)))
 
+-- the size of a load, from mode and size of its opcode (section 5)
 abbrev pub load_size_of : ℕ → Option LoadSize
 load_size_of code =
     if code == 0x60 then Some LoadWord
@@ -93,6 +97,7 @@ load_size_of code =
     else (if code == 0x90 then Some SignedByte
     else None))))))
 
+-- the address of a subtype and of the two immediates (section 5.4)
 abbrev pub address_of : ℕ → ℤ → ℤ → Option Address
 address_of subtype first second =
     if subtype == 1 then Some (MapByFile first)
@@ -102,6 +107,7 @@ address_of subtype first second =
     else (if subtype == 6 then Some (MapValueByIndex first second)
     else None))))
 
+-- whose function a call names, from its source field (section 4.3)
 abbrev pub callee_of : ℕ → Option Callee
 callee_of code =
     if code == 0 then Some Helper

@@ -18,6 +18,7 @@ use Rattle.bpf_insn.specs.declared.decoding.BadInsn.TheVariants as faults
 use Rattle.bpf_insn.specs.Kinds.{alu_of, extension_of, swap_of, swap_bits_of, condition_of, size_of, load_size_of, address_of, callee_of}
 use Rattle.bpf_insn.specs.Spelling.{fields, first_fields, second_immediate}
 
+-- the next step of a reading, unless a fault was found
 infixl 10 ◌>>=◌
 abbrev pub ◌>>=◌ : {A B : Type 0} → Result A BadInsn → (A → Result B BadInsn) → Result B BadInsn
 (Ok x) >>= f = f x
@@ -30,6 +31,7 @@ fields_in bytes =
     (cast_signed w16 (slice_index bytes 2 + slice_index bytes 3 * 256))
     (cast_signed w32 (slice_index bytes 4 + slice_index bytes 5 * 256 + slice_index bytes 6 * 65536 + slice_index bytes 7 * 16777216))
 
+-- a register, or the fault of a number over 10
 abbrev pub register_of : ℕ → Result ℕ BadInsn
 register_of number = if nat_le number 10 then Ok number else Err faults.Register
 
@@ -37,14 +39,17 @@ register_of number = if nat_le number 10 then Ok number else Err faults.Register
 abbrev pub names_register : Fields → Bool
 names_register f = f.opcode / 8 % 2 == 1
 
+-- the source operand: the register, or else the immediate
 abbrev pub operand_of : Fields → Bool → Result Operand BadInsn
 operand_of f true = register_of f.src >>= (λ src. Ok (FromRegister src))
 operand_of f false = Ok (Immediate f.immediate)
 
+-- NEG, which has no source register
 unfoldable pub negation_of : Fields → Width → Result Insn BadInsn
 negation_of f width =
     if names_register f then Err faults.Opcode else (register_of f.dst >>= (λ dst. Ok (Negate width dst)))
 
+-- END: the byte order of class and source bit, the width in the immediate
 unfoldable pub byte_swap_of : Fields → Width → Result Insn BadInsn
 byte_swap_of f width =
     ok_or (swap_of width (names_register f)) faults.Opcode >>= (λ swap.
@@ -52,6 +57,7 @@ byte_swap_of f width =
     ok_or (swap_bits_of f.immediate) faults.Unused >>= (λ bits.
     Ok (ByteSwap swap bits dst))))
 
+-- arithmetic on two operands
 unfoldable pub two_operands_of : Fields → Width → ℕ → Result Insn BadInsn
 two_operands_of f width code =
     ok_or (alu_of code (int_eq f.offset (pos 1))) faults.Opcode >>= (λ op.
@@ -59,10 +65,12 @@ two_operands_of f width code =
     operand_of f (names_register f) >>= (λ src.
     Ok (Alu op width dst src))))
 
+-- a move from a register, sign-extending where there is an extension
 abbrev pub register_move : Width → ℕ → ℕ → Option Extension → Insn
 register_move width dst src None = Alu Mov width dst (FromRegister src)
 register_move width dst src (Some extension) = MoveSigned extension dst src
 
+-- MOV, or MOVSX where a register is moved at an offset
 unfoldable pub move_of : Fields → Width → Result Insn BadInsn
 move_of f width =
     register_of f.dst >>= (λ dst.
@@ -70,6 +78,7 @@ move_of f width =
     then (register_of f.src >>= (λ src. Ok (register_move width dst src (extension_of width f.offset))))
     else Ok (Alu Mov width dst (Immediate f.immediate)))
 
+-- an instruction of the classes ALU and ALU64, by its code
 unfoldable pub arithmetic_of : Fields → Width → Result Insn BadInsn
 arithmetic_of f width =
     if f.opcode / 16 == 8 then negation_of f width
@@ -77,9 +86,11 @@ arithmetic_of f width =
     else (if f.opcode / 16 == 13 then byte_swap_of f width
     else two_operands_of f width (f.opcode / 16)))
 
+-- CALL, with what its source field names
 unfoldable pub call_of : Fields → Result Insn BadInsn
 call_of f = ok_or (callee_of f.src) faults.Unused >>= (λ callee. Ok (Call callee f.immediate))
 
+-- a conditional jump
 unfoldable pub branch_of : Fields → Width → Result Insn BadInsn
 branch_of f width =
     ok_or (condition_of (f.opcode / 16)) faults.Opcode >>= (λ condition.
@@ -87,6 +98,7 @@ branch_of f width =
     operand_of f (names_register f) >>= (λ src.
     Ok (Jump condition width dst src f.offset))))
 
+-- an instruction of the classes JMP and JMP32, by its opcode
 unfoldable pub jump_of : Fields → Width → Result Insn BadInsn
 jump_of f width =
     if f.opcode == 0x05 then Ok (Goto (Short f.offset))
@@ -95,6 +107,7 @@ jump_of f width =
     else (if f.opcode == 0x95 then Ok Exit
     else branch_of f width)))
 
+-- an instruction of the class LDX
 unfoldable pub load_of : Fields → Result Insn BadInsn
 load_of f =
     ok_or (load_size_of (f.opcode - f.opcode % 8)) faults.Opcode >>= (λ size.
@@ -102,6 +115,7 @@ load_of f =
     register_of f.src >>= (λ base.
     Ok (Load size dst base f.offset))))
 
+-- an instruction of the classes ST and STX
 unfoldable pub store_of : Fields → Bool → Result Insn BadInsn
 store_of f from_register =
     ok_or (size_of (f.opcode - f.opcode % 8)) faults.Opcode >>= (λ size.
@@ -113,12 +127,14 @@ store_of f from_register =
 abbrev pub joined : ℤ → ℤ → ℕ
 joined low high = cast_unsigned w32 low + cast_unsigned w32 high * 4294967296
 
+-- the 64-bit immediate instruction of two slots, by its subtype (section 5.4)
 unfoldable pub pair_of : Fields → ℕ → Fields → Result Insn BadInsn
 pair_of f dst second =
     if f.src == 0 then Ok (Wide dst (joined f.immediate second.immediate))
     else (if f.src == 5 then Ok (LoadMap dst f.immediate)
     else (ok_or (address_of f.src f.immediate second.immediate) faults.Unused >>= (λ address. Ok (LoadAddress dst address))))
 
+-- an instruction of the class LD: only the one of two slots, where the next slot is there
 unfoldable pub wide_of : Fields → Option Fields → Result Insn BadInsn
 wide_of f next =
     if f.opcode == 0x18
@@ -137,9 +153,11 @@ meant_of f next =
     else (if f.opcode % 8 == 6 then jump_of f Bits32
     else arithmetic_of f Bits64))))))
 
+-- whether two slots have the same fields
 abbrev pub same_fields : Fields → Fields → Bool
 same_fields f g = f.opcode == g.opcode && f.dst == g.dst && f.src == g.src && int_eq f.offset g.offset && int_eq f.immediate g.immediate
 
+-- whether the next slot is the second one of this immediate, where there is one
 abbrev pub same_second : Option ℤ → Option Fields → Bool
 same_second None next = true
 same_second (Some immediate) None = false

@@ -28,6 +28,7 @@ use Rattle.bpf_insn.specs.Codes.{address_subtype, address_first, address_second}
 
 -- ---- operands
 
+-- `r` and the number of a register
 abbrev pub register_text : ℕ → List ℕ
 register_text number = codes "r" ++ decimal number
 
@@ -56,6 +57,7 @@ abbrev pub width_suffix : Width → List ℕ
 width_suffix Bits32 = codes "32"
 width_suffix Bits64 = []
 
+-- the name of an operation of arithmetic on 64 bits
 abbrev pub alu_name : AluOp → List ℕ
 alu_name Add = codes "add"
 alu_name Sub = codes "sub"
@@ -72,6 +74,7 @@ alu_name Xor = codes "xor"
 alu_name Mov = codes "mov"
 alu_name Arsh = codes "arsh"
 
+-- the name of a conditional jump on 64 bits
 abbrev pub condition_name : Condition → List ℕ
 condition_name Equal = codes "jeq"
 condition_name Greater = codes "jgt"
@@ -85,6 +88,7 @@ condition_name LessEqual = codes "jle"
 condition_name SignedLess = codes "jslt"
 condition_name SignedLessEqual = codes "jsle"
 
+-- the name of a sign-extending move
 abbrev pub extension_name : Extension → List ℕ
 extension_name ByteTo32 = codes "mov32sx8"
 extension_name HalfTo32 = codes "mov32sx16"
@@ -92,16 +96,19 @@ extension_name ByteTo64 = codes "movsx8"
 extension_name HalfTo64 = codes "movsx16"
 extension_name WordTo64 = codes "movsx32"
 
+-- the name of a byte order, before the width
 abbrev pub swap_name : Swap → List ℕ
 swap_name ToLittle = codes "le"
 swap_name ToBig = codes "be"
 swap_name Reverse = codes "swap"
 
+-- the width behind the name of a byte order
 abbrev pub swap_bits_name : SwapBits → List ℕ
 swap_bits_name Swap16 = codes "16"
 swap_bits_name Swap32 = codes "32"
 swap_bits_name Swap64 = codes "64"
 
+-- the end of the name of a load: its size, with an `s` where the sign is extended
 abbrev pub load_suffix : LoadSize → List ℕ
 load_suffix LoadByte = codes "b"
 load_suffix LoadHalf = codes "h"
@@ -111,16 +118,19 @@ load_suffix SignedByte = codes "sb"
 load_suffix SignedHalf = codes "sh"
 load_suffix SignedWord = codes "sw"
 
+-- the end of the name of a store: its size
 abbrev pub store_suffix : Size → List ℕ
 store_suffix Byte = codes "b"
 store_suffix Half = codes "h"
 store_suffix Word = codes "w"
 store_suffix Double = codes "dw"
 
+-- the beginning of the name of a store: of a register, or of an immediate
 abbrev pub store_prefix : Operand → List ℕ
 store_prefix (FromRegister register) = codes "stx"
 store_prefix (Immediate value) = codes "st"
 
+-- the name of a call, by whose function it names
 abbrev pub callee_name : Callee → List ℕ
 callee_name Helper = codes "call"
 callee_name Local = codes "calllocal"

@@ -30,7 +30,7 @@ pub enum Address {
 
 impl Address {
     /// The subtype, in the source register field.
-    pub fn subtype(self) -> u8
+    pub(crate) fn subtype(self) -> u8
         ensures value { result ≡ address_subtype self }
         ensures small { result < 16 }
     {
@@ -93,7 +93,7 @@ pub enum Callee {
 
 impl Callee {
     /// The code, in the source register field.
-    pub fn code(self) -> u8
+    pub(crate) fn code(self) -> u8
         ensures value { result ≡ callee_code self }
         ensures small { result < 16 }
     {
@@ -105,7 +105,7 @@ impl Callee {
     }
 
     /// The callee of this code. `None` above 2.
-    pub fn from_code(code: u8) -> Option<Callee>
+    pub(crate) fn from_code(code: u8) -> Option<Callee>
         ensures { result ≡ callee_of code }
     {
         match code {

@@ -22,6 +22,3 @@ pub use memory::{LoadSize, Size};
 pub use operation::{AluOp, Condition, Extension, Operand, Swap, SwapBits, Width};
 pub use printing::text;
 pub use register::Register;
-
-#[cfg(test)]
-mod tests;

@@ -15,7 +15,7 @@ pub enum Size {
 
 impl Size {
     /// The mode and size bits of a store's opcode.
-    pub fn code(self) -> u8
+    pub(crate) fn code(self) -> u8
         ensures value { result ≡ size_code self }
         ensures small { result < 0x80 }
     {
@@ -28,7 +28,7 @@ impl Size {
     }
 
     /// The size of these mode and size bits. `None` where no store has them.
-    pub fn from_code(code: u8) -> Option<Size>
+    pub(crate) fn from_code(code: u8) -> Option<Size>
         ensures { result ≡ size_of code }
     {
         match code {
@@ -55,7 +55,7 @@ pub enum LoadSize {
 
 impl LoadSize {
     /// The mode and size bits of a load's opcode.
-    pub fn code(self) -> u8
+    pub(crate) fn code(self) -> u8
         ensures value { result ≡ load_code self }
         ensures small { result < 0xa0 }
     {
@@ -71,7 +71,7 @@ impl LoadSize {
     }
 
     /// The load of these mode and size bits. `None` where there is none.
-    pub fn from_code(code: u8) -> Option<LoadSize>
+    pub(crate) fn from_code(code: u8) -> Option<LoadSize>
         ensures { result ≡ load_size_of code }
     {
         match code {

@@ -17,7 +17,7 @@ pub enum Width {
 
 impl Width {
     /// The class of arithmetic at this width: ALU or ALU64.
-    pub fn arithmetic_class(self) -> u8
+    pub(crate) fn arithmetic_class(self) -> u8
         ensures value { result ≡ arithmetic_class self }
         ensures small { result < 8 }
     {
@@ -28,7 +28,7 @@ impl Width {
     }
 
     /// The class of conditional jumps at this width: JMP32 or JMP.
-    pub fn jump_class(self) -> u8
+    pub(crate) fn jump_class(self) -> u8
         ensures value { result ≡ jump_class self }
         ensures small { result < 8 }
     {
@@ -60,7 +60,7 @@ pub enum AluOp {
 
 impl AluOp {
     /// The code, in the high four bits of the opcode.
-    pub fn code(self) -> u8
+    pub(crate) fn code(self) -> u8
         ensures value { result ≡ alu_code self }
         ensures small { result < 16 }
     {
@@ -81,7 +81,7 @@ impl AluOp {
     }
 
     /// The offset field: 1 for the signed divisions, else 0.
-    pub fn offset(self) -> i16
+    pub(crate) fn offset(self) -> i16
         ensures { result ≡ alu_offset self }
     {
         match self {
@@ -92,7 +92,7 @@ impl AluOp {
 
     /// The operation of this code, and of the two divisions that have it the signed one where
     /// `signed` says so. `None` where no operation with two operands has the code.
-    pub fn from_code(code: u8, signed: bool) -> Option<AluOp>
+    pub(crate) fn from_code(code: u8, signed: bool) -> Option<AluOp>
         ensures { result ≡ alu_of code signed }
     {
         match code {
@@ -122,7 +122,7 @@ pub enum Operand {
 
 impl Operand {
     /// The source bit of the opcode: 8 for a register, 0 for an immediate.
-    pub fn source_bit(&self) -> u8
+    pub(crate) fn source_bit(&self) -> u8
         ensures value { result ≡ source_bit self.now }
         ensures small { result < 9 }
     {
@@ -133,7 +133,7 @@ impl Operand {
     }
 
     /// The source register field: 0 for an immediate.
-    pub fn source_field(&self) -> u8
+    pub(crate) fn source_field(&self) -> u8
         ensures value { result ≡ source_field self.now }
         ensures small { result < 16 }
     {
@@ -144,7 +144,7 @@ impl Operand {
     }
 
     /// The immediate field: 0 for a register.
-    pub fn immediate_field(&self) -> i32
+    pub(crate) fn immediate_field(&self) -> i32
         ensures { result ≡ immediate_field self.now }
     {
         match self {
@@ -166,7 +166,7 @@ pub enum Extension {
 
 impl Extension {
     /// The width of the move.
-    pub fn width(self) -> Width
+    pub(crate) fn width(self) -> Width
         ensures { result ≡ extension_width self }
     {
         match self {
@@ -176,7 +176,7 @@ impl Extension {
     }
 
     /// How many low bits of the source are extended: the offset field.
-    pub fn bits(self) -> i16
+    pub(crate) fn bits(self) -> i16
         ensures { result ≡ extension_bits self }
     {
         match self {
@@ -187,7 +187,7 @@ impl Extension {
     }
 
     /// The extension of so many bits to this width. `None` where there is none.
-    pub fn from_bits(width: Width, bits: i16) -> Option<Extension>
+    pub(crate) fn from_bits(width: Width, bits: i16) -> Option<Extension>
         ensures { result ≡ extension_of width bits }
     {
         match width {
@@ -219,7 +219,7 @@ pub enum Swap {
 
 impl Swap {
     /// The width whose class the instruction has: ALU for the first two, ALU64 for the last.
-    pub fn width(self) -> Width
+    pub(crate) fn width(self) -> Width
         ensures { result ≡ swap_width self }
     {
         match self {
@@ -229,7 +229,7 @@ impl Swap {
     }
 
     /// The source bit of the opcode: 8 for big-endian.
-    pub fn source_bit(self) -> u8
+    pub(crate) fn source_bit(self) -> u8
         ensures value { result ≡ swap_source self }
         ensures small { result < 9 }
     {
@@ -240,7 +240,7 @@ impl Swap {
     }
 
     /// The order of this class and source bit. `None` where no instruction has them.
-    pub fn from_parts(width: Width, register: bool) -> Option<Swap>
+    pub(crate) fn from_parts(width: Width, register: bool) -> Option<Swap>
         ensures { result ≡ swap_of width register }
     {
         match width {
@@ -264,7 +264,7 @@ pub enum SwapBits {
 
 impl SwapBits {
     /// The number of bits: the immediate field.
-    pub fn bits(self) -> i32
+    pub(crate) fn bits(self) -> i32
         ensures { result ≡ swap_bits self }
     {
         match self {
@@ -275,7 +275,7 @@ impl SwapBits {
     }
 
     /// The width of so many bits. `None` for any number but 16, 32 and 64.
-    pub fn from_bits(bits: i32) -> Option<SwapBits>
+    pub(crate) fn from_bits(bits: i32) -> Option<SwapBits>
         ensures { result ≡ swap_bits_of bits }
     {
         match bits {
@@ -306,7 +306,7 @@ pub enum Condition {
 
 impl Condition {
     /// The code, in the high four bits of the opcode.
-    pub fn code(self) -> u8
+    pub(crate) fn code(self) -> u8
         ensures value { result ≡ condition_code self }
         ensures small { result < 16 }
     {
@@ -326,7 +326,7 @@ impl Condition {
     }
 
     /// The condition of this code. `None` where no conditional jump has it.
-    pub fn from_code(code: u8) -> Option<Condition>
+    pub(crate) fn from_code(code: u8) -> Option<Condition>
         ensures { result ≡ condition_of code }
     {
         match code {

@@ -3,3 +3,4 @@ pub mod Bytes
 pub mod Values
 pub mod Following
 pub mod Running
+pub mod Cells

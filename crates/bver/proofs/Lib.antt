@@ -1,4 +1,3 @@
-pub mod Filled
 pub mod Counting
 pub mod Covering
 pub mod Slots

@@ -4,6 +4,7 @@ use Rattle.absdom.specs.declared.cause.Cause.TheVariants as causes
 use Rattle.bver_form.specs.declared.refusal.Refusal.{Refusal}
 use Rattle.bver_form.specs.declared.refusal.Refusal.TheVariants.{Unset, KindMismatch, OutOfRegion, UnsetStack, HeaderWrite, PointerRange}
 
+-- the refusal for the cause by which a state refuses an instruction
 abbrev pub refusal_of : Cause → Refusal
 refusal_of causes.UnsetOperand = Unset
 refusal_of causes.KindMismatch = KindMismatch

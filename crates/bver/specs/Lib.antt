@@ -1,5 +1,3 @@
-pub mod Sizes
-pub mod Padding
 pub mod Codes
 pub mod Justified
 pub mod Resolved

@@ -1,12 +1,12 @@
 -- How the verifier's table grows while it passes over the slots.
-use Rattle.std.specs.Prelude.{◌≡◌, ◌<◌, ◌≤◌, ℕ, ◌+◌, List, length, slice_index_or, Option, None, IsSome}
+use Rattle.std.specs.Prelude.{◌≡◌, ◌<◌, ◌≤◌, ℕ, ◌+◌, List, length, slice_index_or, Option, Some, None, IsSome}
 use Rattle.bpf.specs.Program.{Program}
 use Rattle.bpf_insn.specs.declared.insn.Insn.{Insn}
 use Rattle.bpf_insn.specs.declared.insn.Insn.TheVariants.{Alu, Negate, MoveSigned, ByteSwap, Load, Store, Jump, Goto, Wide, LoadMap, LoadAddress, Call, Exit}
 use Rattle.bpf_insn.specs.Spelling.{slots_of}
 use Rattle.machine.specs.declared.regions.Region.{Region}
 use Rattle.machine.specs.Step.{insn_at}
-use Rattle.absdom.specs.Knowledge.{Knowledge}
+use Rattle.absdom.specs.Knowledge.{Knowledge, IsBelow}
 use Rattle.bver.specs.Justified.{IsCoveredIfAny, IsEntered, IsPermittedAt, accessed_at}
 
 -- what is known at a slot, in a list by slot
@@ -17,6 +17,10 @@ known_in table slot = slice_index_or table slot None
 pub record IsGrown (old new : List (Option Knowledge)) : Type 0 where
   pub size : length new ≡ length old
   pub covered : (slot : ℕ) → IsCoveredIfAny (known_in old slot) (known_in new slot)
+
+-- no more is known at a slot than was, and than is known along an edge to it: what covers both covers it
+abbrev pub IsLeast : (old : Option Knowledge) → Knowledge → (new : Option Knowledge) → Type 0
+IsLeast old edge new = (above : Knowledge) → IsCoveredIfAny old (Some above) → IsBelow edge above → IsCoveredIfAny new (Some above)
 
 -- something is known only where an instruction begins
 abbrev pub IsPlaced : Program → List (Option Knowledge) → Type 0

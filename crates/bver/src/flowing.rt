@@ -11,12 +11,12 @@ ghost use Rattle.bver.specs.Codes.{refusal_of};
 ghost use Rattle.bver.specs.Justified.{IsCovered, IsCoveredIfAny, IsResultCovered, AreEdgesCovered, IsNumber, IsPermitted, known_at, pointed, accessed};
 ghost use Rattle.bver.specs.Passing.{IsExtended, IsLater, HasNext, known_in};
 
-use crate::sizes::MapSizes;
 use crate::table::Table;
 use absdom::{AbsKind, Cause, Edges, Region, State, apply, order_of_states, refine};
 use bpf::Image;
 use bpf_insn::{Condition, Distance, Insn, Operand, Register, Width};
 use bver_form::{Refusal, landing};
+use machine::MapSizes;
 
 /// The refusal for what an instruction may do wrong.
 fn refusal_of(cause: Cause) -> Refusal

@@ -10,14 +10,10 @@ mod accepted;
 mod flowing;
 mod laws;
 mod passing;
-mod sizes;
 mod table;
 
 pub use absdom::Region;
 pub use accepted::{Accepted, verify};
 pub use bver_form::{Refusal, Refused};
 pub use laws::justified_programs;
-pub use sizes::{MapSizes, TooMany};
-
-#[cfg(test)]
-mod tests;
+pub use machine::{MapSizes, TooMany};

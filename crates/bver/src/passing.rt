@@ -7,11 +7,11 @@ ghost use Rattle.bver.specs.Justified.{IsJudged, IsPermittedAt, accessed_at};
 ghost use Rattle.bver.specs.Passing.{AreVisited, IsExtended, IsPlaced, known_in};
 
 use crate::flowing::{accessed, flow};
-use crate::sizes::MapSizes;
 use crate::table::Table;
 use absdom::{Region, State, order_of_states};
 use bpf::Image;
 use bver_form::{Refusal, Refused};
+use machine::MapSizes;
 
 /// Visits a slot with what is known there. It tells the region that the instruction accesses.
 fn visit_with(

@@ -3,7 +3,7 @@
 ghost use Rattle.std.specs.Prelude.{◌≡◌, ◌≢◌, ◌<◌, ℕ, IfOk, Some, None, length};
 ghost use Rattle.absdom.specs.Knowledge.{IsBelow};
 ghost use Rattle.bver.specs.Justified.{IsCovered, IsCoveredIfAny};
-ghost use Rattle.bver.specs.Passing.{IsGrown, known_in};
+ghost use Rattle.bver.specs.Passing.{IsGrown, IsLeast, known_in};
 
 use absdom::{State, join_is_least, order_of_states};
 use std::alloc::{AllocError, Global};
@@ -13,6 +13,7 @@ use std::marker::Model;
 fn joint(known: &Option<State>, state: &State) -> State
     ensures state { IsBelow state.now result }
     ensures known { IsCoveredIfAny known.now (Some result) }
+    ensures least { IsLeast known.now state.now (Some result) }
 {
     order_of_states();
     join_is_least();
@@ -61,6 +62,7 @@ impl Table {
     pub(crate) fn follow(&mut self, slot: u16, state: &State)
         requires { slot < length self.old }
         ensures covered { IsCovered state.now (known_in self.new slot) }
+        ensures least { IsLeast (known_in self.old slot) state.now (known_in self.new slot) }
         ensures grown { IsGrown self.old self.new }
         ensures others { (k : ℕ) → k ≢ slot → known_in self.new k ≡ known_in self.old k }
     {

@@ -3,6 +3,7 @@ use Rattle.std.specs.Prelude.{ℕ}
 use Rattle.bver_form.specs.declared.refusal.Refusal.{Refusal}
 use Rattle.bver_form.specs.declared.refusal.Refusal.TheVariants.{Target, BackJump, LoopShape, LoopEntry, Unset, KindMismatch, OutOfRegion, UnsetStack, HeaderWrite, FrameWrite, PointerRange, MapKey, Helper, FallOff, Budget, Unsupported, Memory}
 
+-- the number of a refusal, 1 to 17
 abbrev pub refusal_code : Refusal → ℕ
 refusal_code Target = 1
 refusal_code BackJump = 2

@@ -69,7 +69,7 @@ impl Bench {
     /// What becomes of a packet that comes in at a port, or `None` where there is no such port.
     pub fn serve(&mut self, port: u8, packet: Packet) -> Option<Served>
         ensures served { IfSome result (λ served. IsServed served packet self.old.banks self.new.banks self.old.holder self.new.holder self.new.reply) }
-        ensures no_port { port ≢ self.old.holder.port → result ≡ None }
+        ensures no_port { port ≢ self.old.holder.port → (result ≡ None) × (self.new ≡ self.old) }
         ensures own_port { port ≡ self.old.holder.port → result ≢ None }
     {
         if port != self.pass.port() {

@@ -16,11 +16,7 @@ use commands::{perform, words};
 use folder::Folder;
 use std::alloc::Global;
 use std::test::Fail;
-
-/// The plain read, and its reply by the factory program.
-pub const PLAIN_READ: &str = "0 FE014C0067000100A0000000000010C9 EOP";
-
-pub const PLAIN_REPLY: &str = "0 67010C00FE0001000000106D0000000000000000000000000000000000 EOP";
+pub use trial::{PLAIN_READ, PLAIN_REPLY};
 
 /// What a job printed, its exit status, and the bytes that it wrote to a file.
 #[derive(Drop)]

@@ -1,7 +1,4 @@
-mod LittleEndian
-mod Functions
-mod Nearness
-mod Walking
 mod Agreement
 mod Results
 mod Fitting
+mod Filled

@@ -1,11 +1,8 @@
 pub mod Words
 pub mod Memory
 pub mod State
-pub mod Near
-pub mod Bytes
 pub mod Step
-pub mod Effects
-pub mod Standing
 pub mod Runs
-pub mod Endings
+pub mod Sizes
+pub mod Padding
 pub mod Laws

@@ -1,32 +1,24 @@
-//! The machine: what a BPF program does (RFC 9669), as a definition and as a slow program.
+//! The machine: what a BPF program does (RFC 9669), as a definition.
 //!
 //! The definitions are in `specs/`: `Words` has the arithmetic, `Memory` the regions, `State` what the
-//! machine remembers, `Step` what each instruction does, and `Runs` whole runs. All that is promised
-//! of programs elsewhere is a statement about them.
+//! machine remembers, `Step` what each instruction does, `Runs` whole runs, and `Sizes` which maps a node
+//! may have. All that is promised of programs elsewhere is a statement about them.
 #![tactic(auto)]
 
-mod arithmetic;
 mod calls;
-mod effects;
-mod endings;
+mod jumps;
 mod laws;
-mod machines;
 mod memory;
 mod regions;
-mod turns;
+mod sizes;
 mod values;
 mod words;
 
 pub use calls::Call;
-pub use effects::distance_of;
-pub use endings::{Ending, run};
+pub use jumps::distance_of;
 pub use laws::{numbers_fit, results_fit, runs_agree, sizes_only_trap, steps_leave};
-pub use machines::Machine;
 pub use memory::{load_bytes, loaded, size_bytes};
 pub use regions::Region;
-pub use turns::Turn;
+pub use sizes::{MapSizes, TooMany};
 pub use values::Value;
-pub use words::{alu_words, extended, holds_words, negated, swapped, word};
-
-#[cfg(test)]
-mod tests;
+pub use words::{alu_words, extended, holds_words, low, negated, swapped, word};

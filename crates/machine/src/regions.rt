@@ -1,5 +1,8 @@
 //! The memory that a program sees.
 
+ghost use Rattle.std.specs.Prelude.{◌≡◌};
+ghost use Rattle.machine.specs.Memory.{region_size};
+
 /// A region of memory (a choice of this project; RFC 9669 leaves memory to the runtime).
 #[derive(Clone, Copy, Debug, PartialEq, Eq)]
 pub enum Region {
@@ -9,4 +12,17 @@ pub enum Region {
     Tail,
     /// The stack of 512 bytes, at offsets -512 to -1 (RFC 9669, section 2).
     Stack,
+}
+
+impl Region {
+    /// How many bytes the region has: 4, 12 or 512.
+    pub fn size(self) -> usize
+        ensures { result ≡ region_size self }
+    {
+        match self {
+            Region::Front => 4,
+            Region::Tail => 12,
+            Region::Stack => 512,
+        }
+    }
 }

@@ -11,6 +11,6 @@ pub enum Value {
     Num(u64),
     /// A pointer: any whole offset, of which only those inside the region can be read or written.
     Ptr { region: Region, offset: i128 },
-    /// A map, by its index.
-    Map(u32),
+    /// A map that the node has, by its index.
+    Map(u8),
 }

@@ -93,7 +93,7 @@ shifts_below (suc n) register below = shifts_below n (shift register) (shift_bel
 
 -- ---- the bits of a sum
 
-bit_cases : (P : ℕ → Type 0) → P 0 → P 1 → (x : ℕ) → x < 2 → P x
+pub bit_cases : (P : ℕ → Type 0) → P 0 → P 1 → (x : ℕ) → x < 2 → P x
 bit_cases P p q zero below = p
 bit_cases P p q (suc zero) below = q
 bit_cases P p q (suc (suc x)) below = absurd (omega arith)

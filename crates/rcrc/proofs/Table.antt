@@ -1,10 +1,15 @@
--- Each entry of the table is eight steps of the register.
-use Rattle.std.proofs.Common.{◌≡◌, ℕ, ◌<◌, true, eqb, get_or, refl}
-use Rattle.std.proofs.lemmas.Bool.{agree_below_at, eqb-true}
+-- Each entry of the tables is so many steps of the register.
+use Rattle.std.proofs.Common.{◌≡◌, ℕ, suc, ◌*◌, ◌<◌, Bool, true, eqb, [], get_or, refl}
+use Rattle.std.proofs.lemmas.Bool.{agree_below, agree_below_at, eqb-true}
 use Rattle.rcrc.specs.Crc.{shifts}
-use Rattle.rcrc.specs.declared.TheConstants.{TABLE}
+use Rattle.rcrc.specs.declared.tables.TheConstants.{TABLES}
 
-pub table_entry : (byte : ℕ) → byte < 256 → get_or TABLE byte 0 ≡ shifts 8 byte
+-- a test of one entry
+abbrev has_entry : ℕ → ℕ → Bool
+has_entry later byte = eqb (get_or (get_or TABLES later []) byte 0) (shifts (8 * suc later) byte)
+
+pub table_entry : (later byte : ℕ) → later < 8 → byte < 256 → get_or (get_or TABLES later []) byte 0 ≡ shifts (8 * suc later) byte
 unfolding shifts
-table_entry byte below =
-    eqb-true _ _ (agree_below_at (λ x. eqb (get_or TABLE x 0) (shifts 8 x)) (λ _. true) 256 byte refl below)
+table_entry later byte within below =
+    eqb-true _ _ (agree_below_at (has_entry later) (λ _. true) 256 byte
+    (agree_below_at (λ k. agree_below (has_entry k) (λ _. true) 256) (λ _. true) 8 later refl within) below)

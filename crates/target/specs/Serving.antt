@@ -1,5 +1,5 @@
 -- The whole way of a packet, from its bytes to its reply.
-use Rattle.std.specs.Prelude.{◌≡◌, ◌<◌, ℕ, true, false, List, [], length, slice_index_or, slice_set, Some}
+use Rattle.std.specs.Prelude.{◌≡◌, ◌<◌, ℕ, true, false, List, [], length, slice_get, slice_set, Some}
 use Rattle.spw.specs.Cargo.{Cargo}
 use Rattle.rmap.specs.declared.places.Place.TheVariants.{Bank}
 use Rattle.rmap.specs.declared.status.Status.TheVariants.{GeneralError}
@@ -27,7 +27,7 @@ pub record IsDone (old new : List Contents) (holder after : Holder) (p : Cargo) 
   pub behind : Contents
   pub judged_for : IsJudgedFor holder p judged
   pub place : judged.place ≡ Bank number
-  pub bank : before ≡ slice_index_or old number before
+  pub bank : slice_get old number ≡ Some before
   pub node : new ≡ slice_set old number behind
   pub applied : fits before (share_of holder judged.place) judged ≡ true → IsApplied before behind (share_of holder judged.place) holder after judged result bytes
   pub refused : fits before (share_of holder judged.place) judged ≡ false → IsRefused before behind holder after judged result bytes

@@ -19,12 +19,14 @@ use Rattle.target.specs.Passes.{Holder}
 use Rattle.target.specs.declared.judging.Step.{Step}
 use Rattle.target.specs.declared.judging.Step.TheVariants.{Discarded, Answered, Unread, Judged}
 
+-- whether it is a read
 abbrev pub is_read : Kind → Bool
 is_read Read = true
 is_read Write = false
 is_read Rmw = false
 is_read Unused = false
 
+-- whether the place is a bank
 abbrev pub is_in_bank : Option Place → Bool
 is_in_bank (Some (Bank k)) = true
 is_in_bank (Some Staging) = false

@@ -1,30 +1,13 @@
 //! The second half of a packet's way: its effect.
 
-ghost use Rattle.std.specs.Prelude.{◌≡◌, [], None, length, true, false};
-ghost use Rattle.rmap.specs.declared.status.Status.TheVariants.{GeneralError as Fails};
-ghost use Rattle.rmap.specs.Reply.{reply_of};
-ghost use Rattle.bank.specs.Reading.{command_of};
+ghost use Rattle.std.specs.Prelude.{◌≡◌, length, true, false};
 ghost use Rattle.bank.specs.Records.{fits};
 ghost use Rattle.target.specs.Steps.{IsBankBelow};
 ghost use Rattle.target.specs.Endings.{share_of, IsApplied, IsRefused};
 
 use crate::pass::Pass;
 use bank::{Applied, Bank, Judged};
-use rmap::{Place, ReplyBuf, Status, put_reply};
-
-/// Ends a judged command without its effect: a general error.
-fn refuse(judged: Judged, reply: &mut ReplyBuf) -> Applied
-    ensures status { result.status ≡ Fails }
-    ensures number { result.number ≡ None }
-    ensures reply { reply.new ≡ reply_of (command_of judged.packet) Fails [] }
-{
-    put_reply(reply, &judged.command(), Status::GeneralError, &[]);
-    drop(judged.into_packet());
-    Applied {
-        status: Status::GeneralError,
-        number: None,
-    }
-}
+use rmap::{Place, ReplyBuf};
 
 /// Applies a judged command to the bank of its place, with the port's share of it, and leaves the
 /// reply. Where [`Bank::fits`] says no, it is a general error, and nothing changes.
@@ -40,7 +23,10 @@ pub fn finish(pass: &mut Pass, bank: &mut Bank, judged: Judged, reply: &mut Repl
     };
     let k = usize::from(k);
     if !bank.fits(&pass.shares[k], &judged) {
-        return refuse(judged, reply);
+        return Applied {
+            status: judged.answer_error(reply),
+            number: None,
+        };
     }
     bank.apply(&mut pass.shares[k], judged, reply)
 }

@@ -1,45 +1,26 @@
-//! What no clause says: outside rows, each call once, and memory that is refused.
+//! `bank`: outside rows, each call once, and memory that is refused.
 
-use crate::{Applied, Bank, BankFault, Journal, Judged, Share, command_in};
+use bank::{Applied, Bank, BankFault, Journal, Judged, Share, command_in};
 use rmap::{ReplyBuf, Status, Windows, header_fault};
-use spw::{End, Packet};
 use std::alloc::Global;
-use std::process::Abort;
 use std::test::Fail;
+use trial::{BASE, PLAIN_READ, PLAIN_WRITE, packet};
 
-const BASE: u32 = 0xA000_0000;
+const READ_MODIFY_WRITE: &str = "0 FE015C0067000400A000000000000297 F03CEE EOP";
 
-const PLAIN_WRITE: [u8; 33] = [
-    0xFE, 0x01, 0x6C, 0x00, 0x67, 0x00, 0x00, 0x00, 0xA0, 0x00, 0x00, 0x00, 0x00, 0x00, 0x10, 0x9F,
-    0x01, 0x23, 0x45, 0x67, 0x89, 0xAB, 0xCD, 0xEF, 0x10, 0x11, 0x12, 0x13, 0x14, 0x15, 0x16, 0x17,
-    0x56,
-];
+const WRITE_TO_ONE_ADDRESS: &str = "0 FE01680067000800A0000000000002BE 1122A3 EOP";
 
-const PLAIN_READ: [u8; 16] = [
-    0xFE, 0x01, 0x4C, 0x00, 0x67, 0x00, 0x01, 0x00, 0xA0, 0x00, 0x00, 0x00, 0x00, 0x00, 0x10, 0xC9,
-];
-
-const READ_MODIFY_WRITE: [u8; 19] = [
-    0xFE, 0x01, 0x5C, 0x00, 0x67, 0x00, 0x04, 0x00, 0xA0, 0x00, 0x00, 0x00, 0x00, 0x00, 0x02, 0x97,
-    0xF0, 0x3C, 0xEE,
-];
-
-const WRITE_TO_ONE_ADDRESS: [u8; 19] = [
-    0xFE, 0x01, 0x68, 0x00, 0x67, 0x00, 0x08, 0x00, 0xA0, 0x00, 0x00, 0x00, 0x00, 0x00, 0x02, 0xBE,
-    0x11, 0x22, 0xA3,
-];
-
-/// Applies the command of the bytes with a verdict; `None` where the header stops it or it does not
+/// Applies the command of the line with a verdict; `None` where the header stops it or it does not
 /// fit.
 fn applied(
     alloc: Global,
     bank: &mut Bank,
     share: &mut Share,
-    bytes: &[u8],
+    line: &str,
     verdict: u64,
     reply: &mut ReplyBuf,
 ) -> Result<Option<Applied>, Fail> {
-    let packet = Packet::new(bytes.to_vec(alloc)?, End::Eop)?;
+    let packet = packet(alloc, line)?;
     let windows = Windows::new(0xFE, &[(BASE, 65_536)]);
     let is_judged = match command_in(&packet) {
         Ok(command) => header_fault(&command, &windows).is_none(),
@@ -50,7 +31,7 @@ fn applied(
     }
     let judged = Judged::new(packet, &windows, 0, 7, verdict);
     if !bank.fits(share, &judged) {
-        drop(judged.into_packet());
+        judged.answer_error(reply);
         return Ok(None);
     }
     Ok(Some(bank.apply(share, judged, reply)))
@@ -71,7 +52,7 @@ fn plain_write_then_read(rt: HostRuntime) -> Result<(), Fail> {
     assert_eq!(rt; shares.len(), 2);
     let share = &mut shares[0];
     let mut reply = ReplyBuf::new();
-    let done = applied(alloc, &mut bank, share, &PLAIN_WRITE, 0, &mut reply)?;
+    let done = applied(alloc, &mut bank, share, PLAIN_WRITE, 0, &mut reply)?;
     assert_eq!(rt; done, success(0));
     assert_eq!(rt;
         reply.bytes(),
@@ -80,7 +61,7 @@ fn plain_write_then_read(rt: HostRuntime) -> Result<(), Fail> {
     assert_eq!(rt; bank.memory(BASE + 1), Some(0x23));
     assert_eq!(rt; bank.base(BASE + 1), Some(0));
     assert_eq!(rt; bank.memory(BASE - 1), None);
-    let done = applied(alloc, &mut bank, share, &PLAIN_READ, 0, &mut reply)?;
+    let done = applied(alloc, &mut bank, share, PLAIN_READ, 0, &mut reply)?;
     assert_eq!(rt; done, success(1));
     assert_eq!(rt; reply.bytes().len(), 29);
     assert_eq!(rt; reply.bytes().last(), Some(&0x56));
@@ -96,18 +77,11 @@ fn read_modify_write_and_one_address(rt: HostRuntime) -> Result<(), Fail> {
     assert_eq!(rt; shares.len(), 1);
     let share = &mut shares[0];
     let mut reply = ReplyBuf::new();
-    let _ = applied(alloc, &mut bank, share, &PLAIN_WRITE, 0, &mut reply)?;
-    let done = applied(alloc, &mut bank, share, &READ_MODIFY_WRITE, 0, &mut reply)?;
+    let _ = applied(alloc, &mut bank, share, PLAIN_WRITE, 0, &mut reply)?;
+    let done = applied(alloc, &mut bank, share, READ_MODIFY_WRITE, 0, &mut reply)?;
     assert_eq!(rt; done, success(1));
     assert_eq!(rt; bank.memory(BASE), Some(0x31));
-    let done = applied(
-        alloc,
-        &mut bank,
-        share,
-        &WRITE_TO_ONE_ADDRESS,
-        0,
-        &mut reply,
-    )?;
+    let done = applied(alloc, &mut bank, share, WRITE_TO_ONE_ADDRESS, 0, &mut reply)?;
     assert_eq!(rt; done, success(2));
     assert_eq!(rt; bank.memory(BASE), Some(0x22));
     assert_eq!(rt; bank.memory(BASE + 1), Some(0x23));
@@ -128,7 +102,7 @@ fn refused_commands_leave_memory_and_an_entry(rt: HostRuntime) -> Result<(), Fai
         (12, Status::InvalidLogicalAddress, None),
         (0, Status::GeneralError, None),
     ] {
-        let done = applied(alloc, &mut bank, share, &PLAIN_WRITE, verdict, &mut reply)?;
+        let done = applied(alloc, &mut bank, share, PLAIN_WRITE, verdict, &mut reply)?;
         assert_eq!(rt; done, Some(Applied { status, number }));
         assert_eq!(rt; bank.memory(BASE), Some(0));
     }

@@ -1,125 +1,128 @@
-//! What no clause says: lines as people write them, printed faults, and that reading succeeds.
+//! `spw`: lines as people write them, printed faults, and that reading succeeds.
 
-use super::*;
+use super::word;
+use hex::decode;
+use spw::{End, LineFault, MAX_PACKET, Packet, line_is_unambiguous, read_line};
 use std::alloc::{AllocError, Global};
 use std::process::Abort;
 use std::test::Fail;
+use trial::Row;
 
 /// Lines, and the port, bytes and marker that they write.
-const LINES: &[(&str, u8, &[u8], End)] = &[
-    ("0 FE01 EOP", 0, &[0xFE, 0x01], End::Eop),
-    (
-        "0 fe 01 6C 00 67 EOP",
-        0,
-        &[0xFE, 0x01, 0x6C, 0x00, 0x67],
-        End::Eop,
-    ),
-    ("31 00 EEP", 31, &[0x00], End::Eep),
-    ("  7   aB  Cd0F  EEP  ", 7, &[0xAB, 0xCD, 0x0F], End::Eep),
-    ("07 EOP", 7, &[], End::Eop),
-    ("007 EEP", 7, &[], End::Eep),
-    ("1 E0 EE EOP", 1, &[0xE0, 0xEE], End::Eop),
-];
+const LINES: &str = "\
+0 FE01 EOP|0|FE01|Eop
+0 fe 01 6C 00 67 EOP|0|FE016C0067|Eop
+31 00 EEP|31|00|Eep
+  7   aB  Cd0F  EEP  |7|ABCD0F|Eep
+07 EOP|7||Eop
+007 EEP|7||Eep
+1 E0 EE EOP|1|E0EE|Eop
+";
 
 /// Lines, and the first fault of each.
-const FAULTS: &[(&str, LineFault)] = &[
-    ("", LineFault::NoPort),
-    ("   ", LineFault::NoPort),
-    ("EOP", LineFault::NoPort),
-    ("+7 00 EOP", LineFault::NoPort),
-    ("-1 00 EOP", LineFault::NoPort),
-    ("32 00 EOP", LineFault::NoPort),
-    ("256 00 EOP", LineFault::NoPort),
-    ("0x1 00 EOP", LineFault::NoPort),
-    ("\t0 00 EOP", LineFault::NoPort),
-    ("0", LineFault::BadMarker),
-    ("0 EOP 00", LineFault::BadMarker),
-    ("0 00 eop", LineFault::BadMarker),
-    ("0 00 EOP\r", LineFault::BadMarker),
-    ("0 00EOP", LineFault::BadMarker),
-    ("0 0 EOP", LineFault::BadHex),
-    ("0 0 0 EOP", LineFault::BadHex),
-    ("0 0G EOP", LineFault::BadHex),
-    ("0 EOP EOP", LineFault::BadHex),
-    ("0 00\t00 EOP", LineFault::BadHex),
-    ("0 é0 EOP", LineFault::BadHex),
-];
+const FAULTS: &str = "\
+|NoPort
+   |NoPort
+EOP|NoPort
++7 00 EOP|NoPort
+-1 00 EOP|NoPort
+32 00 EOP|NoPort
+256 00 EOP|NoPort
+0x1 00 EOP|NoPort
+\t0 00 EOP|NoPort
+0|BadMarker
+0 EOP 00|BadMarker
+0 00 eop|BadMarker
+0 00 EOP\r|BadMarker
+0 00EOP|BadMarker
+0 0 EOP|BadHex
+0 0 0 EOP|BadHex
+0 0G EOP|BadHex
+0 EOP EOP|BadHex
+0 00\t00 EOP|BadHex
+0 é0 EOP|BadHex
+";
 
 /// Lines with several faults, and the one that is named.
-const ORDER: &[(&str, LineFault)] = &[
-    ("32 0 EOX", LineFault::NoPort),
-    ("32 0 EOP", LineFault::NoPort),
-    ("31 0 EOX", LineFault::BadMarker),
-    ("31 0 EOP", LineFault::BadHex),
-];
-
-/// A line at port 0 with so many zero bytes, then a word of its own, and `EOP`.
-fn long_line(alloc: Global, bytes: usize, word: &str) -> Result<String, AllocError> {
-    let mut line = String::from_str(alloc, "0 ")?;
-    for _byte in 0..bytes {
-        line.push_str("00")?;
-    }
-    line.push_str(" ")?;
-    line.push_str(word)?;
-    line.push_str(" EOP")?;
-    Ok(line)
-}
+const ORDER: &str = "\
+32 0 EOX|NoPort
+32 0 EOP|NoPort
+31 0 EOX|BadMarker
+31 0 EOP|BadHex
+";
 
 #[test]
 fn lines_are_read(rt: HostRuntime) -> Result<(), Fail> {
-    for (line, port, bytes, end) in LINES {
-        let (read_port, packet) = read_line(rt.alloc(), line)?;
-        assert_eq!(rt; read_port, *port, "the port of {line:?}");
-        assert_eq!(rt; packet.bytes(), *bytes, "the bytes of {line:?}");
-        assert_eq!(rt; packet.end(), *end, "the marker of {line:?}");
+    for row in LINES.lines() {
+        let mut row = Row::of(row);
+        let line = row.part()?;
+        let (port, packet) = read_line(rt.alloc(), line)?;
+        assert_eq!(rt; port, row.part()?.parse::<u8>()?, "the port of {line:?}");
+        let bytes = decode(rt.alloc(), row.part()?)?;
+        assert_eq!(rt; packet.bytes(), bytes.as_slice(), "the bytes of {line:?}");
+        let end = word(rt.alloc(), Some(packet.end()))?;
+        assert_eq!(rt; end.as_str(), row.part()?, "the marker of {line:?}");
+    }
+    Ok(())
+}
+
+/// Compares the fault of each line of a table.
+fn have_faults(rt: &impl Abort, alloc: Global, table: &str) -> Result<(), Fail> {
+    for row in table.lines() {
+        let mut row = Row::of(row);
+        let (line, fault) = (row.part()?, row.part()?);
+        let found = word(alloc, read_line(alloc, line).err())?;
+        assert_eq!(rt; found.as_str(), fault, "the fault of {line:?}");
     }
     Ok(())
 }
 
 #[test]
-fn faults_are_named(rt: HostRuntime) {
-    for (line, fault) in FAULTS {
-        assert_eq!(rt;
-            read_line(rt.alloc(), line).err(),
-            Some(*fault),
-            "the fault of {line:?}"
-        );
-    }
+fn faults_are_named(rt: HostRuntime) -> Result<(), Fail> {
+    have_faults(&rt, rt.alloc(), FAULTS)
 }
 
 #[test]
-fn first_fault_is_named(rt: HostRuntime) {
-    for (line, fault) in ORDER {
-        assert_eq!(rt;
-            read_line(rt.alloc(), line).err(),
-            Some(*fault),
-            "the fault of {line:?}"
-        );
-    }
+fn first_fault_is_named(rt: HostRuntime) -> Result<(), Fail> {
+    have_faults(&rt, rt.alloc(), ORDER)
 }
 
+/// A line at port 0 with so many bytes of zero, each behind what stands between them, then a word of its
+/// own, and `EOP`.
+fn long_line(alloc: Global, bytes: usize, between: &str, last: &str) -> Result<String, AllocError> {
+    let mut line = String::from_str(alloc, "0 ")?;
+    for _byte in 0..bytes {
+        line.push_str(between)?;
+        line.push_str("00")?;
+    }
+    line.push_str(" ")?;
+    line.push_str(last)?;
+    line.push_str(" EOP")?;
+    Ok(line)
+}
+
+/// In one word, and in as many as there are bytes: the packet is read, and memory is not short for it.
 #[test]
 fn longest_packet_is_read(rt: HostRuntime) -> Result<(), Fail> {
-    let line = long_line(rt.alloc(), MAX_PACKET - 1, "FF")?;
-    let (port, packet) = read_line(rt.alloc(), line.as_str())?;
-    assert_eq!(rt; port, 0);
-    assert_eq!(rt; packet.bytes().len(), 4200);
-    assert_eq!(rt; packet.bytes().last(), Some(&0xFF));
+    let mut bytes = vec![in rt.alloc(); 0; 4199]?;
+    bytes.push(0xFF)?;
+    for between in ["", " ", "        "] {
+        let line = long_line(rt.alloc(), 4199, between, "FF")?;
+        let (port, packet) = read_line(rt.alloc(), line.as_str())?;
+        assert_eq!(rt; port, 0);
+        assert_eq!(rt; packet.end(), End::Eop);
+        assert_eq!(rt; packet.bytes(), bytes.as_slice());
+    }
     Ok(())
 }
 
 #[test]
 fn longer_packet_is_refused(rt: HostRuntime) -> Result<(), Fail> {
-    let line = long_line(rt.alloc(), MAX_PACKET, "FF")?;
-    assert_eq!(rt;
-        read_line(rt.alloc(), line.as_str()).err(),
-        Some(LineFault::TooLong)
-    );
-    let bad = long_line(rt.alloc(), MAX_PACKET, "F")?;
-    assert_eq!(rt;
-        read_line(rt.alloc(), bad.as_str()).err(),
-        Some(LineFault::BadHex)
-    );
+    let alloc = rt.alloc();
+    for (last, fault) in [("FF", LineFault::TooLong), ("F", LineFault::BadHex)] {
+        let line = long_line(alloc, MAX_PACKET, "", last)?;
+        assert_eq!(rt; read_line(alloc, line.as_str()).err(), Some(fault));
+    }
     Ok(())
 }
 
@@ -130,7 +133,7 @@ fn packet_keeps_bytes_and_marker(rt: HostRuntime) -> Result<(), Fail> {
     assert_eq!(rt; packet.bytes(), [1, 2, 3].as_slice());
     assert_eq!(rt; packet.end(), End::Eep);
     let longest = vec![in rt.alloc(); 0; MAX_PACKET]?;
-    assert_eq!(rt; Packet::new(longest, End::Eop)?.bytes().len(), MAX_PACKET);
+    assert_eq!(rt; Packet::new(longest, End::Eop)?.bytes().len(), 4200);
     let longer = vec![in rt.alloc(); 0; MAX_PACKET + 1]?;
     assert_eq!(rt;
         Packet::new(longer, End::Eop).err(),

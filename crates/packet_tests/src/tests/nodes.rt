@@ -1,135 +1,90 @@
-//! What no clause says: outside rows, each call once, and memory that is refused.
+//! `target`: outside rows, each call once, and memory that is refused.
 
-use crate::{BankConfig, Node, NodeConfig, NodeFault, Pass, Served, serve_packet};
 use bank::Applied;
-use bpf::Image;
-use bver::{Accepted, MapSizes, verify};
+use basm::assemble;
+use bver::{MapSizes, verify};
+use hex::decode;
 use rmap::{Discard, ReplyBuf, Status};
-use spw::{End, Packet};
 use std::alloc::Global;
 use std::test::Fail;
+use target::{BankConfig, NodeFault, Served};
+use trial::{PLAIN_READ, PLAIN_REPLY, bank, node, packet, program, served};
 
-const BANKS: [BankConfig; 1] = [BankConfig {
-    base: 0xA000_0000,
-    size: 65_536,
-    room: 1024,
-}];
-
-const YES: [u8; 32] = [
-    0x42, 0x50, 0x46, 0x41, 0x01, 0x00, 0x02, 0x00, 0x02, 0x00, 0x00, 0x00, 0x00, 0x00, 0x00, 0x00,
-    0xB7, 0x00, 0x00, 0x00, 0x00, 0x00, 0x00, 0x00, 0x95, 0x00, 0x00, 0x00, 0x00, 0x00, 0x00, 0x00,
-];
-
-const NOT_AUTHORISED: [u8; 32] = [
-    0x42, 0x50, 0x46, 0x41, 0x01, 0x00, 0x02, 0x00, 0x02, 0x00, 0x00, 0x00, 0x00, 0x00, 0x00, 0x00,
-    0xB7, 0x00, 0x00, 0x00, 0x0A, 0x00, 0x00, 0x00, 0x95, 0x00, 0x00, 0x00, 0x00, 0x00, 0x00, 0x00,
-];
-
-const PLAIN_READ: [u8; 16] = [
-    0xFE, 0x01, 0x4C, 0x00, 0x67, 0x00, 0x01, 0x00, 0xA0, 0x00, 0x00, 0x00, 0x00, 0x00, 0x10, 0xC9,
-];
-
-const NO_BANK: [u8; 16] = [
-    0xFE, 0x01, 0x4C, 0x00, 0x67, 0x00, 0x09, 0x01, 0xA0, 0x00, 0x00, 0x00, 0x00, 0x00, 0x10, 0x95,
-];
-
-const LOAD_RESULT: [u8; 16] = [
-    0xFE, 0x01, 0x4C, 0x00, 0x67, 0x00, 0x06, 0xFF, 0x00, 0x01, 0x00, 0x00, 0x00, 0x00, 0x08, 0xA6,
-];
-
-fn program(alloc: Global, image: &[u8]) -> Result<Accepted, Fail> {
-    let sizes = MapSizes::new(&[])?;
-    match verify(alloc, Image::read(alloc, image)?, &sizes) {
-        Ok(accepted) => Ok(accepted),
-        Err(_) => Err("refused".into()),
-    }
-}
-
-fn node(
+/// What becomes of the packet of a line at port 0 of a fresh node.
+fn served_afresh(
     alloc: Global,
-    ports: u8,
-    banks: &[BankConfig],
-    image: &[u8],
-) -> Result<Result<(Node, Vec<Pass>), NodeFault>, Fail> {
-    let sizes = MapSizes::new(&[])?;
-    let config = NodeConfig {
-        address: 0xFE,
-        ports,
-        banks,
-        sizes,
-    };
-    Ok(Node::new(alloc, &config, program(alloc, image)?))
+    verdict: u8,
+    line: &str,
+    reply: &mut ReplyBuf,
+) -> Result<Served, Fail> {
+    let (mut node, mut passes) = node(alloc, 2, &[bank(1024)], program(alloc, verdict)?)?;
+    let pass = passes.first_mut().ok_or("no pass")?;
+    served(&mut node, pass, packet(alloc, line)?, reply)
 }
 
-/// What becomes of the bytes at port 0 of a fresh node.
-fn served(alloc: Global, image: &[u8], bytes: &[u8], reply: &mut ReplyBuf) -> Result<Served, Fail> {
-    let (mut node, mut passes) = node(alloc, 2, &BANKS, image)??;
-    let packet = Packet::new(bytes.to_vec(alloc)?, End::Eop)?;
-    if passes.is_empty() || passes[0].banks() != node.banks() {
-        return Err("no pass".into());
-    }
-    Ok(serve_packet(&mut node, &mut passes[0], packet, reply))
+/// The first command of a port, with that status.
+fn done(status: Status) -> Served {
+    Served::Done(Applied {
+        status,
+        number: Some(0),
+    })
 }
 
 #[test]
 fn packets_and_what_becomes_of_them(rt: HostRuntime) -> Result<(), Fail> {
     let alloc = rt.alloc();
     let mut reply = ReplyBuf::new();
-    let done = |status| Served::Done(Applied {
-        status,
-        number: Some(0),
-    });
-    let what = served(alloc, &YES, &PLAIN_READ, &mut reply)?;
-    assert_eq!(rt; what, done(Status::Success));
-    assert_eq!(rt; reply.bytes().len(), 29);
-    let what = served(alloc, &NOT_AUTHORISED, &PLAIN_READ, &mut reply)?;
-    assert_eq!(rt; what, done(Status::NotAuthorised));
-    assert_eq!(rt;
-        reply.bytes(),
-        [
-            0x67, 0x01, 0x0C, 0x0A, 0xFE, 0x00, 0x01, 0x00, 0x00, 0x00, 0x00, 0xA6, 0x00
-        ]
-        .as_slice()
-    );
-    let what = served(alloc, &YES, &NO_BANK, &mut reply)?;
-    assert_eq!(rt; what, Served::Answered(Status::NotAuthorised));
-    assert_eq!(rt;
-        reply.bytes(),
-        [
-            0x67, 0x01, 0x0C, 0x0A, 0xFE, 0x00, 0x09, 0x00, 0x00, 0x00, 0x00, 0xEA, 0x00
-        ]
-        .as_slice()
-    );
-    let what = served(alloc, &YES, &LOAD_RESULT, &mut reply)?;
-    assert_eq!(rt; what, Served::Unread);
-    assert_eq!(rt;
-        reply.bytes(),
-        [
-            0x67, 0x01, 0x0C, 0x01, 0xFE, 0x00, 0x06, 0x00, 0x00, 0x00, 0x00, 0x50, 0x00
-        ]
-        .as_slice()
-    );
-    let what = served(alloc, &YES, &PLAIN_READ[..10], &mut reply)?;
-    assert_eq!(rt; what, Served::Discarded(Discard::Short));
-    assert_eq!(rt; reply.bytes(), [].as_slice());
+    for (verdict, line, what, answer) in [
+        (0, PLAIN_READ, done(Status::Success), PLAIN_REPLY),
+        (
+            10,
+            PLAIN_READ,
+            done(Status::NotAuthorised),
+            "0 67010C0AFE000100000000A600 EOP",
+        ),
+        // A bank that is not there, the load result, and a packet that is cut off.
+        (
+            0,
+            "0 FE014C0067000901A000000000001095 EOP",
+            Served::Answered(Status::NotAuthorised),
+            "0 67010C0AFE000900000000EA00 EOP",
+        ),
+        (
+            0,
+            "0 FE014C00670006FF00010000000008A6 EOP",
+            Served::Unread,
+            "0 67010C01FE0006000000005000 EOP",
+        ),
+        (
+            0,
+            "0 FE014C0067000100A000 EOP",
+            Served::Discarded(Discard::Short),
+            "0 EOP",
+        ),
+    ] {
+        let found = served_afresh(alloc, verdict, line, &mut reply)?;
+        assert_eq!(rt; found, what, "at {line}");
+        assert_eq!(rt; reply.bytes(), packet(alloc, answer)?.bytes(), "at {line}");
+    }
     Ok(())
 }
 
 #[test]
 fn nodes_outside_their_limits(rt: HostRuntime) -> Result<(), Fail> {
     let alloc = rt.alloc();
+    let fitting = [bank(1024)];
     let wide = [BankConfig {
         base: 0,
         size: 1_048_577,
         room: 1,
     }];
     for (ports, banks, code) in [
-        (0, BANKS.as_slice(), 2),
-        (33, BANKS.as_slice(), 2),
+        (0, fitting.as_slice(), 2),
+        (33, fitting.as_slice(), 2),
         (1, [].as_slice(), 3),
         (1, wide.as_slice(), 3),
     ] {
-        match node(alloc, ports, banks, &YES)? {
+        match node(alloc, ports, banks, program(alloc, 0)?) {
             Ok(_) => assert!(rt; false),
             Err(fault) => assert_eq!(rt; fault.code(), code),
         }
@@ -139,16 +94,10 @@ fn nodes_outside_their_limits(rt: HostRuntime) -> Result<(), Fail> {
 
 /// Makes a node and tells how many banks and passes it has; `None` where the program takes no memory.
 fn made(alloc: Global) -> Option<Result<(usize, usize), NodeFault>> {
+    let image = assemble(alloc, ".budget 2\nmov r0, 0\nexit").ok()?;
     let sizes = MapSizes::new(&[]).ok()?;
-    let config = NodeConfig {
-        address: 0xFE,
-        ports: 2,
-        banks: &BANKS,
-        sizes,
-    };
-    let image = Image::read(alloc, &YES).ok()?;
     let factory = verify(alloc, image, &sizes).ok()?;
-    match Node::new(alloc, &config, factory) {
+    match node(alloc, 2, &[bank(1024)], factory) {
         Ok((node, passes)) => Some(Ok((node.banks(), passes.len()))),
         Err(fault) => Some(Err(fault)),
     }

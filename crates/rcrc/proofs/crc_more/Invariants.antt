@@ -1,6 +1,6 @@
-use Rattle.std.proofs.Common.{◌≡◌, take}
+use Rattle.std.proofs.Common.{◌≡◌, take, fold}
 use Rattle.rcrc.specs.Crc.{crc_from}
 use Rattle.rcrc.proofs.crc_more.Given as goal
 
-abbrev pub invariant-loop-byte : goal.invariant-loop-byte
-invariant-loop-byte l = l.register ≡ crc_from l.crc (take l.byte-index l.bytes)
+abbrev pub invariant-loop-chunk : goal.invariant-loop-chunk
+invariant-loop-chunk l = l.register ≡ fold crc_from l.crc (take l.chunk-index l.chunks)

@@ -1,5 +1,0 @@
-use Rattle.machine.proofs.Functions.{bytes_in-unset}
-use Rattle.machine.proofs.machines.entry_stack.Goals as goal
-
-pub returns : goal.returns
-returns c = bytes_in-unset 512

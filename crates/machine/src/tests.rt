@@ -1,6 +1,0 @@
-//! Outside values: programs and corner operands.
-
-use super::*;
-
-mod corners;
-mod programs;

@@ -1,0 +1,20 @@
+//! What no clause says, crate by crate: values from outside, printed words, each call once, and memory
+//! that is refused.
+
+mod banks;
+mod crc;
+mod lines;
+mod nodes;
+mod protocol;
+
+use std::alloc::Global;
+use std::fmt::Debug;
+use std::test::Fail;
+
+/// The variant as its name, or `-` for none.
+pub fn word<T: Debug + Drop>(alloc: Global, value: Option<T>) -> Result<String, Fail> {
+    Ok(match value {
+        Some(value) => format!(in alloc; "{value:?}")?,
+        None => String::from_str(alloc, "-")?,
+    })
+}

@@ -1,0 +1,179 @@
+//! `rmap`: that the definitions are the standard's, shown by worked packets.
+//!
+//! Packets are written as packet lines, with the port 0. Their CRCs and the replies' were computed
+//! outside this crate, by long division of polynomials.
+
+mod exchanges;
+mod headers;
+
+use super::word;
+use rmap::{
+    Command, Discard, Kind, MAX_REPLY, ReplyBuf, Status, Windows, command_is_unique,
+    commands_are_laid_out, discard_is_exact, put_reply, replies_are_short,
+};
+use spw::End;
+use std::test::Fail;
+use trial::{Row, packet};
+
+/// What a packet is, the packet, and why it is discarded.
+const DISCARDS: &str = "\
+the empty packet|0 EOP|Short
+two bytes|0 FE01 EOP|Short
+a write cut off after 10 bytes|0 FE016C0067000000A000 EOP|Short
+the same with an error end|0 FE016C0067000000A000 EEP|Short
+a header without its CRC|0 FE016C0067000000A0000000000010 EOP|Short
+a header that lacks a byte of its reply address|0 FE014D000000000067000000A0000000000001 EOP|Short
+another protocol|0 FE026C0067000000A0000000000000EF EOP|Protocol
+three bytes of another protocol|0 FE026C EOP|Protocol
+a reply of another protocol|0 67022C00 EOP|Protocol
+a reply|0 67012C00FE0000ED EOP|Reply
+a long reply|0 FE012C0067000000A000000000000077 EOP|Reply
+a wrong header CRC|0 FE016C0067000000A00000000000109E 0123456789ABCDEF101112131415161756 EOP|HeaderCrc
+a changed key|0 FE016C0167000000A00000000000109F 0123456789ABCDEF101112131415161756 EOP|HeaderCrc
+";
+
+#[test]
+fn packets_that_are_no_commands(rt: HostRuntime) -> Result<(), Fail> {
+    for line in DISCARDS.lines() {
+        let mut row = Row::of(line);
+        let shows = row.part()?;
+        let sent = packet(rt.alloc(), row.part()?)?;
+        let found = word(rt.alloc(), Command::view(&sent).err())?;
+        assert_eq!(rt; found.as_str(), row.part()?, "{shows}");
+    }
+    Ok(())
+}
+
+#[test]
+fn fields_of_a_header(rt: HostRuntime) -> Result<(), Fail> {
+    let line = "0 20014E33 0000000000000506 674455 11 89ABCDEF 123456 74 AABB EOP";
+    let sent = packet(rt.alloc(), line)?;
+    let command = Command::view(&sent)?;
+    assert_eq!(rt; *command.front(), [0x20, 0x01, 0x4E, 0x33]);
+    assert_eq!(rt; command.reply_path(), [0, 0, 0, 0, 0, 0, 5, 6].as_slice());
+    assert_eq!(rt; command.tail()[0], 0x67);
+    assert_eq!(rt; command.tail()[11], 0x74);
+    assert_eq!(rt; command.body(), [0xAA, 0xBB].as_slice());
+    assert_eq!(rt; command.end(), End::Eop);
+    assert_eq!(rt; command.target(), 0x20);
+    assert_eq!(rt; command.instruction(), 0x4E);
+    assert_eq!(rt; command.key(), 0x33);
+    assert_eq!(rt; command.initiator(), 0x67);
+    assert_eq!(rt; command.transaction(), 0x4455);
+    assert_eq!(rt; command.extended(), 0x11);
+    assert_eq!(rt; command.address(), 0x89AB_CDEF);
+    assert_eq!(rt; command.length(), 0x12_3456);
+    assert_eq!(rt; command.kind(), Kind::Read);
+    assert!(rt; !command.writes());
+    assert!(rt; !command.verifies());
+    assert!(rt; command.wants_reply());
+    assert!(rt; command.increments());
+    Ok(())
+}
+
+/// The kinds of the command codes 0 to 15, bits 5 to 2 of the instruction.
+const KINDS: &str =
+    "Unused Unused Read Read Unused Unused Unused Rmw Write Write Write Write Write Write Write Write";
+
+#[test]
+fn kinds_of_instructions(rt: HostRuntime) -> Result<(), Fail> {
+    for instruction in 0..=255u8 {
+        let code = usize::from(instruction / 4 % 16);
+        let want = if instruction / 64 == 1 {
+            KINDS.split(' ').nth(code).ok_or("no such code")?
+        } else {
+            "Unused"
+        };
+        let found = word(rt.alloc(), Some(Kind::of_instruction(instruction)))?;
+        assert_eq!(rt; found.as_str(), want, "instruction {instruction}");
+    }
+    Ok(())
+}
+
+#[test]
+fn longest_reply(rt: HostRuntime) -> Result<(), Fail> {
+    let line = "0 FE014F00 0102030405060708090A0B0C 67000000A0000000001000 3D EOP";
+    let sent = packet(rt.alloc(), line)?;
+    let command = Command::view(&sent)?;
+    let mut reply = ReplyBuf::new();
+    put_reply(&mut reply, &command, Status::Success, &[0x5A; 4096]);
+    assert_eq!(rt; reply.bytes().len(), MAX_REPLY);
+    assert_eq!(rt; reply.bytes().last(), Some(&0x42));
+    reply.clear();
+    assert_eq!(rt; reply.bytes().len(), 0);
+    Ok(())
+}
+
+#[test]
+fn windows_of_a_node(rt: HostRuntime) {
+    let windows = Windows::new(0x42, &[(16, 32), (0xFFFF_FFFF, 1)]);
+    assert_eq!(rt; windows.node_address(), 0x42);
+    assert_eq!(rt; windows.bank(0), Some((16, 32)));
+    assert_eq!(rt; windows.bank(1), Some((0xFFFF_FFFF, 1)));
+    assert_eq!(rt; windows.bank(2), None);
+    assert_eq!(rt; windows.bank(0xFF), None);
+}
+
+/// The standard's statuses, with their numbers and texts.
+const STATUSES: &[(Status, u8, &str)] = &[
+    (Status::Success, 0, "success"),
+    (Status::GeneralError, 1, "general error"),
+    (Status::UnusedCode, 2, "unused packet type or command code"),
+    (Status::InvalidKey, 3, "invalid key"),
+    (Status::InvalidDataCrc, 4, "invalid data CRC"),
+    (Status::EarlyEndOfPacket, 5, "early EOP"),
+    (Status::TooMuchData, 6, "too much data"),
+    (Status::ErrorEndOfPacket, 7, "EEP"),
+    (Status::VerifyBufferOverrun, 9, "verify buffer overrun"),
+    (
+        Status::NotAuthorised,
+        10,
+        "not implemented or not authorised",
+    ),
+    (Status::RmwDataLength, 11, "RMW data length error"),
+    (
+        Status::InvalidLogicalAddress,
+        12,
+        "invalid target logical address",
+    ),
+];
+
+#[test]
+fn numbers_and_texts_of_statuses(rt: HostRuntime) -> Result<(), Fail> {
+    for (status, code, text) in STATUSES {
+        assert_eq!(rt; status.code(), *code, "{text}");
+        let printed = format!(in rt.alloc(); "{status}")?;
+        assert_eq!(rt; printed.as_str(), *text);
+    }
+    Ok(())
+}
+
+/// The reasons to discard, with their numbers and texts.
+const REASONS: &[(Discard, u8, &str)] = &[
+    (Discard::Short, 1, "the packet is shorter than its header"),
+    (
+        Discard::Protocol,
+        2,
+        "the protocol identifier is not that of RMAP",
+    ),
+    (Discard::Reply, 3, "the packet is a reply"),
+    (Discard::HeaderCrc, 4, "the header CRC is wrong"),
+];
+
+#[test]
+fn numbers_and_texts_of_discards(rt: HostRuntime) -> Result<(), Fail> {
+    for (reason, code, text) in REASONS {
+        assert_eq!(rt; reason.code(), *code, "{text}");
+        let printed = format!(in rt.alloc(); "{reason}")?;
+        assert_eq!(rt; printed.as_str(), *text);
+    }
+    Ok(())
+}
+
+#[test]
+fn laws_are_called(_rt: HostRuntime) {
+    discard_is_exact();
+    command_is_unique();
+    commands_are_laid_out();
+    replies_are_short();
+}

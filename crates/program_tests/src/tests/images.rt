@@ -1,0 +1,442 @@
+//! Worked images, and the faults of an image.
+
+use super::YES;
+use bpf::{Image, ImageFault, Loop};
+use bpf_insn::{AluOp, Callee, Condition, Insn, Operand, Register, Width};
+use std::alloc::Global;
+use std::process::Abort;
+use std::test::Fail;
+
+/// `ldmap r1, 0; mov r2, 0; call 2; jlt r0, 5, +2; mov r0, 10; exit; mov r0, 0; exit`, budget 8.
+const QUOTA: [u8; 88] = [
+    0x42, 0x50, 0x46, 0x41, 0x01, 0x00, 0x09, 0x00, 0x08, 0x00, 0x00, 0x00, 0x00, 0x00, 0x00, 0x00,
+    0x18, 0x51, 0x00, 0x00, 0x00, 0x00, 0x00, 0x00, 0x00, 0x00, 0x00, 0x00, 0x00, 0x00, 0x00, 0x00,
+    0xb7, 0x02, 0x00, 0x00, 0x00, 0x00, 0x00, 0x00, 0x85, 0x00, 0x00, 0x00, 0x02, 0x00, 0x00, 0x00,
+    0xa5, 0x00, 0x02, 0x00, 0x05, 0x00, 0x00, 0x00, 0xb7, 0x00, 0x00, 0x00, 0x0a, 0x00, 0x00, 0x00,
+    0x95, 0x00, 0x00, 0x00, 0x00, 0x00, 0x00, 0x00, 0xb7, 0x00, 0x00, 0x00, 0x00, 0x00, 0x00, 0x00,
+    0x95, 0x00, 0x00, 0x00, 0x00, 0x00, 0x00, 0x00,
+];
+
+/// `mov r0, 0; mov r6, 4; add r0, 1; add r6, -1; jne r6, 0, -3; exit`, loop (2, 4, 4, r6), budget 15.
+const COUNTDOWN: [u8; 72] = [
+    0x42, 0x50, 0x46, 0x41, 0x01, 0x01, 0x06, 0x00, 0x0f, 0x00, 0x00, 0x00, 0x00, 0x00, 0x00, 0x00,
+    0x02, 0x00, 0x04, 0x00, 0x04, 0x00, 0x06, 0x00, 0xb7, 0x00, 0x00, 0x00, 0x00, 0x00, 0x00, 0x00,
+    0xb7, 0x06, 0x00, 0x00, 0x04, 0x00, 0x00, 0x00, 0x07, 0x00, 0x00, 0x00, 0x01, 0x00, 0x00, 0x00,
+    0x07, 0x06, 0x00, 0x00, 0xff, 0xff, 0xff, 0xff, 0x55, 0x06, 0xfd, 0xff, 0x00, 0x00, 0x00, 0x00,
+    0x95, 0x00, 0x00, 0x00, 0x00, 0x00, 0x00, 0x00,
+];
+
+/// Two loops, at 0 and at 2.
+const TWO_LOOPS: [u8; 64] = [
+    0x42, 0x50, 0x46, 0x41, 0x01, 0x02, 0x04, 0x00, 0x01, 0x00, 0x00, 0x00, 0x00, 0x00, 0x00, 0x00,
+    0x00, 0x00, 0x01, 0x00, 0x01, 0x00, 0x00, 0x00, 0x02, 0x00, 0x03, 0x00, 0x01, 0x00, 0x01, 0x00,
+    0xb7, 0x00, 0x00, 0x00, 0x00, 0x00, 0x00, 0x00, 0xb7, 0x00, 0x00, 0x00, 0x00, 0x00, 0x00, 0x00,
+    0xb7, 0x00, 0x00, 0x00, 0x00, 0x00, 0x00, 0x00, 0x95, 0x00, 0x00, 0x00, 0x00, 0x00, 0x00, 0x00,
+];
+
+/// The last slot is the first of a pair.
+const CUT_PAIR: [u8; 32] = [
+    0x42, 0x50, 0x46, 0x41, 0x01, 0x00, 0x02, 0x00, 0x01, 0x00, 0x00, 0x00, 0x00, 0x00, 0x00, 0x00,
+    0xb7, 0x00, 0x00, 0x00, 0x00, 0x00, 0x00, 0x00, 0x18, 0x01, 0x00, 0x00, 0x00, 0x00, 0x00, 0x00,
+];
+
+/// The bytes of the largest image: 512 slots, and eight loops of 4,096 passes that all end at its end.
+fn largest(alloc: Global) -> Result<Vec<u8>, Fail> {
+    let mut bytes = Vec::from_slice(
+        alloc,
+        b"BPFA\x01\x08\x00\x02\x00\x00\x01\x00\x00\x00\x00\x00",
+    )?;
+    for head in 0..8u8 {
+        bytes.extend_from_slice(&[head, 0, 0xff, 0x01, 0x00, 0x10, head, 0])?;
+    }
+    for _slot in 0..512 {
+        bytes.extend_from_slice(&[0x95, 0, 0, 0, 0, 0, 0, 0])?;
+    }
+    Ok(bytes)
+}
+
+/// The fault's number and slot, (0, 0) where the bytes are an image.
+fn fault(rt: HostRuntime, bytes: &[u8]) -> (u8, u16) {
+    match Image::read(rt.alloc(), bytes) {
+        Ok(_) => (0, 0),
+        Err(fault) => (fault.code(), fault.slot()),
+    }
+}
+
+/// A place in `COUNTDOWN`, the byte that is put there, and the fault and slot that are wanted.
+const CHANGES: [(usize, u8, u8, u16); 31] = [
+    (0, 0x43, 1, 0),
+    (3, 0x42, 1, 0),
+    (4, 0x02, 2, 0),
+    (4, 0x00, 2, 0),
+    (5, 0x09, 4, 0),
+    (5, 0xff, 4, 0),
+    (6, 0x00, 4, 0),
+    (7, 0x03, 4, 0),
+    (12, 0x01, 4, 0),
+    (15, 0x01, 4, 0),
+    (9, 0x01, 0, 0),
+    (10, 0x01, 5, 0),
+    (11, 0x01, 5, 0),
+    (8, 0x00, 5, 0),
+    (5, 0x00, 3, 0),
+    (5, 0x02, 3, 0),
+    (6, 0x05, 3, 0),
+    (6, 0x07, 3, 0),
+    (16, 0x04, 6, 0),
+    (18, 0x06, 6, 0),
+    (18, 0x02, 6, 0),
+    (20, 0x00, 6, 0),
+    (21, 0x10, 6, 0),
+    (22, 0x0a, 6, 0),
+    (22, 0x09, 0, 0),
+    (23, 0x01, 6, 0),
+    (24, 0xff, 7, 0),
+    (32, 0xff, 7, 1),
+    (33, 0x0b, 7, 1),
+    (65, 0x01, 7, 5),
+    (64, 0x18, 7, 5),
+];
+
+#[test]
+fn a_changed_byte_is_the_first_fault(rt: HostRuntime) {
+    for (place, value, code, slot) in &CHANGES {
+        let mut bytes = COUNTDOWN;
+        if let Some(byte) = bytes.get_mut(*place) {
+            *byte = *value;
+        }
+        assert_eq!(rt; fault(rt, &bytes), (*code, *slot), "at {place} {value}");
+    }
+}
+
+/// What each byte is replaced by.
+const REPLACEMENTS: [u8; 5] = [0x00, 0x01, 0x7f, 0x80, 0xff];
+
+/// How many of the 360 replaced bytes leave an image, and how many are each fault by its number, as an
+/// independent reader counts them.
+const REPLACED: [u16; 8] = [168, 20, 4, 6, 23, 9, 27, 103];
+
+/// The number of the fault, 0 where the bytes are an image, which is then written as the same bytes.
+fn written_back(rt: &impl Abort, alloc: Global, bytes: &[u8]) -> Result<u8, Fail> {
+    match Image::read(alloc, bytes) {
+        Ok(image) => {
+            assert!(rt; image.write()?.as_slice() == bytes);
+            Ok(0)
+        }
+        Err(fault) => Ok(fault.code()),
+    }
+}
+
+#[test]
+fn a_replaced_byte_is_written_back_or_a_fault(rt: HostRuntime) -> Result<(), Fail> {
+    let mut counts = [0u16; 8];
+    for place in 0..COUNTDOWN.len() {
+        for value in &REPLACEMENTS {
+            let mut bytes = COUNTDOWN;
+            bytes[place] = *value;
+            let code = written_back(&rt, rt.alloc(), &bytes)?;
+            if let Some(count) = counts.get_mut(usize::from(code)) {
+                *count = count.saturating_add(1);
+            }
+        }
+    }
+    assert!(rt; counts == REPLACED);
+    Ok(())
+}
+
+/// Of each beginning: the magic, the version, and then the length.
+#[test]
+fn each_beginning_is_a_fault(rt: HostRuntime) -> Result<(), Fail> {
+    for len in 0..COUNTDOWN.len() {
+        let code = if len < 4 {
+            1
+        } else if len == 4 {
+            2
+        } else {
+            3
+        };
+        assert_eq!(rt;
+            written_back(&rt, rt.alloc(), &COUNTDOWN[..len])?,
+            code,
+            "at {len}"
+        );
+    }
+    assert_eq!(rt; written_back(&rt, rt.alloc(), &COUNTDOWN)?, 0);
+    Ok(())
+}
+
+/// The declared size alone is tested, whatever follows it.
+#[test]
+fn a_size_out_of_range_is_a_count_fault(rt: HostRuntime) {
+    for size in &[0u16, 513, 65_535] {
+        let mut bytes = YES;
+        let [low, high] = size.to_le_bytes();
+        bytes[6] = low;
+        bytes[7] = high;
+        assert_eq!(rt; fault(rt, &bytes), (4, 0), "at {size}");
+        assert_eq!(rt; fault(rt, &bytes[..16]), (4, 0), "at {size}, and no slot");
+    }
+}
+
+#[test]
+fn bytes_after_the_end_are_a_fault(rt: HostRuntime) {
+    let mut bytes = [0; 33];
+    for (to, from) in bytes.iter_mut().zip(&YES) {
+        *to = *from;
+    }
+    assert_eq!(rt; fault(rt, &bytes), (3, 0));
+}
+
+#[test]
+fn heads_must_rise(rt: HostRuntime) {
+    let mut bytes = TWO_LOOPS;
+    assert_eq!(rt; fault(rt, &bytes), (0, 0));
+    bytes[24] = 1;
+    assert_eq!(rt; fault(rt, &bytes), (0, 0));
+    bytes[24] = 0;
+    assert_eq!(rt; fault(rt, &bytes), (6, 0));
+}
+
+#[test]
+fn a_cut_pair_is_half(rt: HostRuntime) {
+    let bytes = CUT_PAIR;
+    assert_eq!(rt; fault(rt, &bytes), (7, 1));
+}
+
+fn tells_quota(rt: &impl Abort, image: &Image) {
+    assert_eq!(rt; image.version(), 1);
+    assert_eq!(rt; image.slots(), 9);
+    assert_eq!(rt; image.budget(), 8);
+    assert!(rt; image.loops().is_empty());
+    let Some(r1) = Register::new(1) else {
+        return;
+    };
+    assert!(rt; image.insn(0) == Some(Insn::LoadMap { dst: r1, index: 0 }));
+    assert!(rt; image.insn(1).is_none(), "a second slot");
+    assert!(rt;
+        image.insn(3)
+            == Some(Insn::Call {
+                callee: Callee::Helper,
+                number: 2
+            })
+    );
+    let Some(r0) = Register::new(0) else {
+        return;
+    };
+    let src = Operand::Immediate(5);
+    let jump = Insn::Jump {
+        condition: Condition::Less,
+        width: Width::Bits64,
+        dst: r0,
+        src,
+        offset: 2,
+    };
+    assert!(rt; image.insn(4) == Some(jump));
+    let src = Operand::Immediate(10);
+    let answer = Insn::Alu {
+        op: AluOp::Mov,
+        width: Width::Bits64,
+        dst: r0,
+        src,
+    };
+    assert!(rt; image.insn(5) == Some(answer));
+    assert!(rt; image.insn(8) == Some(Insn::Exit));
+    assert!(rt; image.insn(9).is_none(), "past the end");
+    assert!(rt; image.insn(65_535).is_none(), "past the end");
+}
+
+#[test]
+fn the_quota_image_is_read_and_copied(rt: HostRuntime) -> Result<(), Fail> {
+    let image = Image::read(rt.alloc(), &QUOTA)?;
+    tells_quota(&rt, &image);
+    tells_quota(&rt, &image.copy()?);
+    Ok(())
+}
+
+#[test]
+fn the_loop_image_is_read(rt: HostRuntime) -> Result<(), Fail> {
+    let image = Image::read(rt.alloc(), &COUNTDOWN)?;
+    assert_eq!(rt; image.slots(), 6);
+    assert_eq!(rt; image.budget(), 15);
+    assert_eq!(rt; image.loops().len(), 1);
+    let copy = image.copy()?;
+    assert_eq!(rt; copy.loops().len(), 1);
+    let found = copy.loops()[0];
+    assert_eq!(rt; (found.head, found.back, found.bound), (2, 4, 4));
+    assert_eq!(rt; found.register.number(), 6);
+    Ok(())
+}
+
+#[test]
+fn the_least_image_is_read(rt: HostRuntime) -> Result<(), Fail> {
+    let image = Image::read(rt.alloc(), &YES)?;
+    assert_eq!(rt; (image.slots(), image.budget()), (2, 2));
+    Ok(())
+}
+
+/// With ample memory no length of an image wants more.
+#[test]
+fn the_largest_image_is_read(rt: HostRuntime) -> Result<(), Fail> {
+    let bytes = largest(rt.alloc())?;
+    let image = Image::read(rt.alloc(), &bytes)?;
+    assert_eq!(rt; (image.slots(), image.loops().len()), (512, 8));
+    let copy = image.copy()?;
+    assert_eq!(rt; copy.write()?.as_slice(), bytes.as_slice());
+    Ok(())
+}
+
+/// Whether the image that is read from the bytes is written as them.
+fn is_written_so(rt: HostRuntime, bytes: &[u8]) -> Result<bool, Fail> {
+    let written = Image::read(rt.alloc(), bytes)?.write()?;
+    Ok(written.as_slice() == bytes)
+}
+
+#[test]
+fn an_image_is_written_as_it_is_read(rt: HostRuntime) -> Result<(), Fail> {
+    assert!(rt; is_written_so(rt, &QUOTA)?, "an instruction of two slots");
+    assert!(rt; is_written_so(rt, &YES)?, "no loop");
+    assert!(rt; is_written_so(rt, &COUNTDOWN)?, "one loop");
+    assert!(rt; is_written_so(rt, &TWO_LOOPS)?, "two loops");
+    assert!(rt; is_written_so(rt, &largest(rt.alloc())?)?, "eight loops");
+    Ok(())
+}
+
+/// Whether the image of the instructions, loops and budget that the bytes spell is written as them.
+fn is_made_so(rt: HostRuntime, bytes: &[u8]) -> Result<bool, Fail> {
+    let image = Image::read(rt.alloc(), bytes)?;
+    let mut insns = Vec::new(rt.alloc());
+    for slot in 0..image.slots() {
+        if let Some(insn) = image.insn(slot) {
+            insns.push(insn)?;
+        }
+    }
+    let made = Image::new(rt.alloc(), &insns, image.loops(), image.budget())?;
+    Ok(made.write()?.as_slice() == bytes)
+}
+
+#[test]
+fn an_image_is_made_of_its_parts(rt: HostRuntime) -> Result<(), Fail> {
+    assert!(rt; is_made_so(rt, &QUOTA)?, "an instruction of two slots");
+    assert!(rt; is_made_so(rt, &YES)?, "no loop");
+    assert!(rt; is_made_so(rt, &COUNTDOWN)?, "one loop");
+    assert!(rt; is_made_so(rt, &TWO_LOOPS)?, "two loops");
+    assert!(rt; is_made_so(rt, &largest(rt.alloc())?)?, "eight loops");
+    Ok(())
+}
+
+/// The number of the fault of these parts, 0 where they make an image.
+fn parts_fault(rt: HostRuntime, insns: &[Insn], loops: &[Loop], budget: u32) -> u8 {
+    match Image::new(rt.alloc(), insns, loops, budget) {
+        Ok(_) => 0,
+        Err(fault) => fault.code(),
+    }
+}
+
+const EXITS: [Insn; 513] = [Insn::Exit; 513];
+
+#[test]
+fn each_count_of_parts_is_tested(rt: HostRuntime) {
+    let Some(register) = Register::new(0) else {
+        return;
+    };
+    assert_eq!(rt; parts_fault(rt, &[], &[], 1), 4, "no slot");
+    assert_eq!(rt; parts_fault(rt, &EXITS[..512], &[], 1), 0);
+    assert_eq!(rt; parts_fault(rt, &EXITS, &[], 1), 4, "too many instructions");
+    let pairs = [Insn::Wide {
+        dst: register,
+        value: 7,
+    }; 257];
+    assert_eq!(rt; parts_fault(rt, &pairs[..256], &[], 1), 0);
+    assert_eq!(rt; parts_fault(rt, &pairs, &[], 1), 4, "too many slots");
+    let loops = [Loop {
+        head: 0,
+        back: 1,
+        bound: 1,
+        register,
+    }; 9];
+    assert_eq!(rt;
+        parts_fault(rt, &EXITS[..2], &loops, 0),
+        4,
+        "too many loops"
+    );
+    assert_eq!(rt;
+        parts_fault(rt, &EXITS[..2], &loops[..8], 0),
+        5,
+        "no budget"
+    );
+    assert_eq!(rt;
+        parts_fault(rt, &EXITS[..2], &loops[..8], 65_537),
+        5,
+        "too great a budget"
+    );
+    assert_eq!(rt;
+        parts_fault(rt, &EXITS[..2], &loops[..8], 65_536),
+        6,
+        "equal heads"
+    );
+    assert_eq!(rt; parts_fault(rt, &EXITS[..2], &loops[..1], 65_536), 0);
+}
+
+/// The head, the back, the bound and the register of a loop of an image of two slots, and the fault.
+const LOOPS: [(u16, u16, u16, u8, u8); 7] = [
+    (0, 1, 1, 9, 0),
+    (0, 1, 4_096, 0, 0),
+    (0, 0, 1, 0, 6),
+    (0, 2, 1, 0, 6),
+    (0, 1, 0, 0, 6),
+    (0, 1, 4_097, 0, 6),
+    (0, 1, 1, 10, 6),
+];
+
+#[test]
+fn each_field_of_a_loop_is_tested(rt: HostRuntime) {
+    for (head, back, bound, number, code) in &LOOPS {
+        let Some(register) = Register::new(*number) else {
+            return;
+        };
+        let found = Loop {
+            head: *head,
+            back: *back,
+            bound: *bound,
+            register,
+        };
+        assert_eq!(rt;
+            parts_fault(rt, &EXITS[..2], &[found], 1),
+            *code,
+            "at {back} {bound} {number}"
+        );
+    }
+}
+
+#[test]
+fn a_weight_is_a_sum_of_products(rt: HostRuntime) -> Result<(), Fail> {
+    assert_eq!(rt; Image::read(rt.alloc(), &QUOTA)?.weight(), 8);
+    assert_eq!(rt; Image::read(rt.alloc(), &YES)?.weight(), 2);
+    assert_eq!(rt; Image::read(rt.alloc(), &COUNTDOWN)?.weight(), 15);
+    assert_eq!(rt; Image::read(rt.alloc(), &TWO_LOOPS)?.weight(), 4);
+    assert_eq!(rt;
+        Image::read(rt.alloc(), &largest(rt.alloc())?)?.weight(),
+        u64::MAX
+    );
+    Ok(())
+}
+
+/// The bytes of a copy of the image of `COUNTDOWN`, and of an image that is made of exits and its loops.
+fn made_twice(alloc: Global) -> Result<(Vec<u8>, Vec<u8>), ImageFault> {
+    let image = Image::read(alloc, &COUNTDOWN)?.copy()?;
+    let exits = Image::new(alloc, &EXITS[..6], image.loops(), image.budget())?;
+    Ok((image.write()?, exits.write()?))
+}
+
+/// A refused allocation is `Memory`, and the next calls give the images.
+#[test]
+fn refused_memory_is_told(rt: HostRuntime) -> Result<(), Fail> {
+    if let Err(fault) = made_twice(rt.alloc()) {
+        assert_eq!(rt; fault.code(), 8);
+    }
+    let (copied, exits) = made_twice(rt.alloc())?;
+    assert!(rt; copied.as_slice() == COUNTDOWN.as_slice());
+    assert!(rt; exits.as_slice().starts_with(&COUNTDOWN[..24]));
+    assert_eq!(rt; exits.len(), 72);
+    Ok(())
+}

@@ -1,0 +1,4 @@
+mod LittleEndian
+mod Functions
+mod Nearness
+mod Walking

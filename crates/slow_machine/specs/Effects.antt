@@ -1,0 +1,51 @@
+-- What the slow program finds for an instruction, as an outcome of the definition.
+use Rattle.std.specs.Prelude.{ℕ, ℤ, pos, ◌+◌, ◌≤◌, if◌then◌else◌, List, slice_index_or, Some}
+use Rattle.bpf_insn.specs.declared.insn.Callee.{Callee}
+use Rattle.bpf_insn.specs.declared.insn.Insn.{Insn}
+use Rattle.slow_machine.specs.declared.effects.Effect.{Effect}
+use Rattle.slow_machine.specs.declared.effects.Effect.TheVariants as effects
+use Rattle.slow_machine.specs.declared.effects.Frame.{Frame}
+use Rattle.machine.specs.declared.values.Value.{Value}
+use Rattle.machine.specs.declared.values.Value.TheVariants.{Unset}
+use Rattle.machine.specs.Memory.{Header, byte_after}
+use Rattle.slow_machine.specs.Bytes.{bytes_in}
+use Rattle.machine.specs.State.{State, state, register_after}
+use Rattle.machine.specs.Step.{Outcome, Next, Ask, Verdict, Trap, answered, asks, calls, is_cell, perform, finds_maps}
+
+-- a list of values, asked by register
+abbrev pub registers_in : List Value → ℕ → Value
+registers_in registers k = slice_index_or registers k Unset
+
+-- the state of a frame: its slot, its registers and its stack
+abbrev pub state_in : Frame → State
+state_in frame = state frame.slot (registers_in frame.registers.now) (bytes_in frame.memory.stack.now)
+
+-- what an effect makes of a state
+abbrev pub outcome_of : State → Effect → Outcome
+outcome_of s (effects.Write register value slots) = Next (state (s.slot + slots) (register_after s.registers register value) s.stack)
+outcome_of s (effects.Put place bytes number) = Next (state (s.slot + 1) s.registers (byte_after s.stack bytes place number))
+outcome_of s (effects.Go slot) = Next (state slot s.registers s.stack)
+outcome_of s (effects.Ask helper map key) = Ask helper map key (answered s)
+outcome_of s (effects.End verdict) = Verdict verdict
+outcome_of s effects.Stop = Trap
+
+-- what it writes is there: the next slot is near, and the bytes lie in the stack
+abbrev pub IsPlaced : Effect → Type 0
+IsPlaced (effects.Write register value slots) = slots ≤ 2
+IsPlaced (effects.Put place bytes number) = place + bytes ≤ 512
+IsPlaced (effects.Go slot) = Unit {0}
+IsPlaced (effects.Ask helper map key) = Unit {0}
+IsPlaced (effects.End verdict) = Unit {0}
+IsPlaced effects.Stop = Unit {0}
+
+-- the question of a helper whose number is known, with maps of these sizes
+abbrev pub asks_with : (sizes : List ℕ) → State → (helper : ℕ) → Outcome
+asks_with sizes s helper = if is_cell sizes (s.registers 1) (s.registers 2) then asks s (pos helper) (s.registers 1) (s.registers 2) else Trap
+
+-- a call with maps of these sizes
+abbrev pub calls_with : (sizes : List ℕ) → State → Callee → ℤ → Outcome
+calls_with sizes s callee number = if is_cell sizes (s.registers 1) (s.registers 2) then calls s callee number else Trap
+
+-- what an instruction does with maps of these sizes
+abbrev pub perform_with : (sizes : List ℕ) → Header → State → Insn → Outcome
+perform_with sizes header s insn = if finds_maps sizes s (Some insn) then perform header s insn else Trap

@@ -1,0 +1,349 @@
+//! What each instruction does, found before it is done (RFC 9669, sections 4 and 5).
+
+ghost use Rattle.std.specs.Prelude.{◌≡◌, ◌^◌, ◌<◌, ◌≤◌, ◌+◌, ◌<ℤ◌, pos, slice_index, slice_index_or, if◌then◌else◌, nat_lt};
+ghost use Rattle.slow_machine.specs.Bytes.{header_in};
+ghost use Rattle.slow_machine.specs.Near.{IsNear, AreNear};
+ghost use Rattle.slow_machine.specs.Effects.{state_in, outcome_of, IsPlaced, asks_with, calls_with, perform_with};
+ghost use Rattle.machine.specs.Words.{swapped};
+ghost use Rattle.machine.specs.Step.{operand, writes, lands, jumps, compares, loads, stores, map_at, is_map, exits, alu, on_number};
+
+use crate::arithmetic::{alu, byte_swap, move_signed, negate, number};
+use crate::memory::{Memory, place_of, read};
+use bpf_insn::{
+    AluOp, Callee, Condition, Insn, LoadSize, Operand, Register, Size, Swap, SwapBits, Width,
+};
+use machine::{
+    MapSizes, Region, Value, distance_of, holds_words, load_bytes, loaded, size_bytes, word,
+};
+
+/// What an instruction does.
+#[derive(Clone, Copy)]
+pub enum Effect {
+    /// The register is written, and the next instruction is so many slots further.
+    Write {
+        register: Register,
+        value: Value,
+        slots: u32,
+    },
+    /// So many low bytes of the number go to the stack from the place on.
+    Put {
+        place: usize,
+        bytes: usize,
+        number: u64,
+    },
+    /// The next instruction is at the slot.
+    Go(u32),
+    /// The helper asks the map for the key.
+    Ask {
+        helper: u8,
+        map: u8,
+        key: u16,
+    },
+    /// The program ends with a verdict.
+    End(u64),
+    /// A trap.
+    Stop,
+}
+
+/// What an instruction sees: its own slot, the registers and the memory.
+#[derive(Clone, Copy)]
+pub struct Frame<'a> {
+    pub slot: u32,
+    pub registers: &'a [Value; 11],
+    pub memory: Memory<'a>,
+}
+
+/// What the register of this number holds.
+fn value_at(frame: Frame<'_>, number: u8) -> Value
+    requires { number ≤ 10 }
+    ensures { result ≡ slice_index_or frame.entry.registers.now number Value.Unset }
+{
+    let registers: &[Value; 11] = frame.registers;
+    registers[usize::from(number)]
+}
+
+/// What the register of an instruction holds.
+fn value_of(frame: Frame<'_>, register: Register) -> Value
+    ensures { result ≡ slice_index_or frame.entry.registers.now register Value.Unset }
+{
+    value_at(frame, register.number())
+}
+
+/// A register's value, or the immediate.
+fn operand(frame: Frame<'_>, src: &Operand) -> Value
+    ensures { result ≡ operand (state_in frame.entry) src.now }
+{
+    match src {
+        Operand::FromRegister(register) => value_of(frame, *register),
+        Operand::Immediate(value) => Value::Num(word(i64::from(*value))),
+    }
+}
+
+/// The register is written, unless there is no value, or the register is r10.
+fn write(frame: Frame<'_>, register: Register, value: Option<Value>, slots: u32) -> Effect
+    requires { slots ≤ 2 }
+    ensures outcome { outcome_of (state_in frame.entry) result ≡ writes (state_in frame.entry) (frame.entry.slot + slots) register value }
+    ensures placed { IsPlaced result }
+{
+    match value {
+        None => Effect::Stop,
+        Some(value) => {
+            if register.number() == 10 {
+                Effect::Stop
+            } else {
+                Effect::Write {
+                    register,
+                    value,
+                    slots,
+                }
+            }
+        }
+    }
+}
+
+/// An operation on a register and a source.
+fn calculate(frame: Frame<'_>, op: AluOp, width: Width, dst: Register, src: &Operand) -> Effect
+    requires { AreNear (2 ^ 126) frame.registers.now }
+    ensures outcome { outcome_of (state_in frame.entry) result ≡ writes (state_in frame.entry) (frame.entry.slot + 1) dst (alu op width (slice_index_or frame.entry.registers.now dst Value.Unset) (operand (state_in frame.entry) src.now)) }
+    ensures placed { IsPlaced result }
+{
+    let value = alu(op, width, value_of(frame, dst), operand(frame, src));
+    write(frame, dst, value, 1)
+}
+
+/// END: the bytes of a register in another order.
+fn reorder(frame: Frame<'_>, swap: Swap, bits: SwapBits, dst: Register) -> Effect
+    ensures outcome { outcome_of (state_in frame.entry) result ≡ writes (state_in frame.entry) (frame.entry.slot + 1) dst (on_number (swapped swap bits) (slice_index_or frame.entry.registers.now dst Value.Unset)) }
+    ensures placed { IsPlaced result }
+{
+    write(frame, dst, byte_swap(swap, bits, value_of(frame, dst)), 1)
+}
+
+/// The next instruction is at the target, unless that is before the code.
+fn land(frame: Frame<'_>, target: i64) -> Effect
+    requires { target <ℤ pos (2 ^ 32) }
+    ensures outcome { outcome_of (state_in frame.entry) result ≡ lands (state_in frame.entry) target }
+    ensures placed { IsPlaced result }
+{
+    if target < 0 {
+        Effect::Stop
+    } else {
+        Effect::Go(target as u32)
+    }
+}
+
+/// A jump by so many slots from the next one.
+fn jump(frame: Frame<'_>, offset: i32) -> Effect
+    requires { frame.slot < 512 }
+    ensures outcome { outcome_of (state_in frame.entry) result ≡ jumps (state_in frame.entry) offset }
+    ensures placed { IsPlaced result }
+{
+    land(frame, i64::from(frame.slot) + 1 + i64::from(offset))
+}
+
+/// A jump where the condition holds of a register and a source, which must be numbers.
+fn compare(
+    frame: Frame<'_>,
+    condition: Condition,
+    width: Width,
+    dst: Register,
+    src: &Operand,
+    offset: i16,
+) -> Effect
+    requires { frame.slot < 512 }
+    ensures outcome { outcome_of (state_in frame.entry) result ≡ compares condition width (state_in frame.entry) offset (slice_index_or frame.entry.registers.now dst Value.Unset) (operand (state_in frame.entry) src.now) }
+    ensures placed { IsPlaced result }
+{
+    match value_of(frame, dst) {
+        Value::Num(a) => match operand(frame, src) {
+            Value::Num(b) => {
+                if holds_words(condition, width, a, b) {
+                    jump(frame, i32::from(offset))
+                } else {
+                    Effect::Go(frame.slot + 1)
+                }
+            }
+            Value::Unset | Value::Ptr { .. } | Value::Map(_) => Effect::Stop,
+        },
+        Value::Unset | Value::Ptr { .. } | Value::Map(_) => Effect::Stop,
+    }
+}
+
+/// A load through a pointer. `None` is a trap.
+fn load(frame: Frame<'_>, size: LoadSize, base: Value, offset: i16) -> Option<Value>
+    requires { IsNear (2 ^ 126) base }
+    ensures { result ≡ loads (header_in frame.entry.memory) (state_in frame.entry) size base offset }
+{
+    match base {
+        Value::Ptr {
+            region,
+            offset: start,
+        } => match read(
+            frame.memory,
+            region,
+            load_bytes(size),
+            start + i128::from(offset),
+        ) {
+            Some(number) => Some(Value::Num(loaded(size, number))),
+            None => None,
+        },
+        Value::Unset | Value::Num(_) | Value::Map(_) => None,
+    }
+}
+
+/// A load into a register, through the pointer in another.
+fn load_into(frame: Frame<'_>, size: LoadSize, dst: Register, base: Register, offset: i16) -> Effect
+    requires { AreNear (2 ^ 126) frame.registers.now }
+    ensures outcome { outcome_of (state_in frame.entry) result ≡ writes (state_in frame.entry) (frame.entry.slot + 1) dst (loads (header_in frame.entry.memory) (state_in frame.entry) size (slice_index_or frame.entry.registers.now base Value.Unset) offset) }
+    ensures placed { IsPlaced result }
+{
+    let value = load(frame, size, value_of(frame, base), offset);
+    write(frame, dst, value, 1)
+}
+
+/// A store of a number through a register's pointer into the stack.
+fn store(frame: Frame<'_>, size: Size, base: Register, offset: i16, src: &Operand) -> Effect
+    requires { AreNear (2 ^ 126) frame.registers.now }
+    ensures outcome { outcome_of (state_in frame.entry) result ≡ stores (state_in frame.entry) size (slice_index_or frame.entry.registers.now base Value.Unset) offset (operand (state_in frame.entry) src.now) }
+    ensures placed { IsPlaced result }
+{
+    match value_of(frame, base) {
+        Value::Ptr {
+            region: Region::Stack,
+            offset: start,
+        } => {
+            let bytes = size_bytes(size);
+            match place_of(Region::Stack, bytes, start + i128::from(offset)) {
+                Some(place) => match number(operand(frame, src)) {
+                    Some(number) => Effect::Put {
+                        place,
+                        bytes,
+                        number,
+                    },
+                    None => Effect::Stop,
+                },
+                None => Effect::Stop,
+            }
+        }
+        _ => Effect::Stop,
+    }
+}
+
+/// A map by its index, where there is one.
+fn map_at(sizes: &MapSizes, index: i32) -> Option<Value>
+    ensures { result ≡ (if is_map sizes.now index then map_at index else None) }
+{
+    if index >= 0 && index < i32::from(sizes.maps()) {
+        Some(Value::Map(index as u8))
+    } else {
+        None
+    }
+}
+
+/// The key, where the map has it.
+fn key_in(sizes: &MapSizes, map: u8, key: u64) -> Option<u16>
+    ensures { result ≡ (if nat_lt key (slice_index sizes.now map) then Some key else None) }
+{
+    match sizes.cells(map) {
+        Some(cells) => {
+            if key < u64::from(cells) {
+                Some(key as u16)
+            } else {
+                None
+            }
+        }
+        None => None,
+    }
+}
+
+/// The question of a helper: r1 is a map, r2 a key below its size.
+fn ask(frame: Frame<'_>, sizes: &MapSizes, helper: u8) -> Effect
+    ensures outcome { outcome_of (state_in frame.entry) result ≡ asks_with sizes.now (state_in frame.entry) helper }
+    ensures placed { IsPlaced result }
+{
+    match value_at(frame, 1) {
+        Value::Map(map) => match value_at(frame, 2) {
+            Value::Num(key) => match key_in(sizes, map, key) {
+                Some(key) => Effect::Ask { helper, map, key },
+                None => Effect::Stop,
+            },
+            Value::Unset | Value::Ptr { .. } | Value::Map(_) => Effect::Stop,
+        },
+        Value::Unset | Value::Num(_) | Value::Ptr { .. } => Effect::Stop,
+    }
+}
+
+/// A call.
+fn call(frame: Frame<'_>, sizes: &MapSizes, callee: Callee, number: i32) -> Effect
+    ensures outcome { outcome_of (state_in frame.entry) result ≡ calls_with sizes.now (state_in frame.entry) callee number }
+    ensures placed { IsPlaced result }
+{
+    match callee {
+        Callee::Helper => match number {
+            1 => ask(frame, sizes, 1),
+            2 => ask(frame, sizes, 2),
+            _ => Effect::Stop,
+        },
+        Callee::Local | Callee::ByTypeId => Effect::Stop,
+    }
+}
+
+/// EXIT: r0 is the verdict.
+fn exit(frame: Frame<'_>) -> Effect
+    ensures outcome { outcome_of (state_in frame.entry) result ≡ exits (slice_index_or frame.entry.registers.now 0 Value.Unset) }
+    ensures placed { IsPlaced result }
+{
+    match value_at(frame, 0) {
+        Value::Num(verdict) => Effect::End(verdict),
+        Value::Unset | Value::Ptr { .. } | Value::Map(_) => Effect::Stop,
+    }
+}
+
+/// What an instruction does, with maps of these sizes.
+pub fn perform(frame: Frame<'_>, sizes: &MapSizes, insn: &Insn) -> Effect
+    requires inside { frame.slot < 512 }
+    requires near { AreNear (2 ^ 126) frame.registers.now }
+    ensures outcome { outcome_of (state_in frame.entry) result ≡ perform_with sizes.now (header_in frame.entry.memory) (state_in frame.entry) insn.now }
+    ensures placed { IsPlaced result }
+{
+    match *insn {
+        Insn::Alu {
+            op,
+            width,
+            dst,
+            src,
+        } => calculate(frame, op, width, dst, &src),
+        Insn::Negate { width, dst } => write(frame, dst, negate(width, value_of(frame, dst)), 1),
+        Insn::MoveSigned {
+            extension,
+            dst,
+            src,
+        } => write(frame, dst, move_signed(extension, value_of(frame, src)), 1),
+        Insn::ByteSwap { swap, bits, dst } => reorder(frame, swap, bits, dst),
+        Insn::Load {
+            size,
+            dst,
+            base,
+            offset,
+        } => load_into(frame, size, dst, base, offset),
+        Insn::Store {
+            size,
+            base,
+            offset,
+            src,
+        } => store(frame, size, base, offset, &src),
+        Insn::Jump {
+            condition,
+            width,
+            dst,
+            src,
+            offset,
+        } => compare(frame, condition, width, dst, &src, offset),
+        Insn::Goto { distance } => jump(frame, distance_of(distance)),
+        Insn::Wide { dst, value } => write(frame, dst, Some(Value::Num(value)), 2),
+        Insn::LoadMap { dst, index } => write(frame, dst, map_at(sizes, index), 2),
+        Insn::LoadAddress { .. } => Effect::Stop,
+        Insn::Call { callee, number } => call(frame, sizes, callee, number),
+        Insn::Exit => exit(frame),
+    }
+}

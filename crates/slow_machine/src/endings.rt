@@ -1,0 +1,65 @@
+//! Whole runs of the slow machine.
+
+ghost use Rattle.std.specs.Prelude.{◌≡◌, ℕ};
+ghost use Rattle.machine.specs.Memory.{Header};
+ghost use Rattle.machine.specs.State.{entry_state};
+ghost use Rattle.slow_machine.specs.Standing.{state_of};
+ghost use Rattle.slow_machine.specs.Endings.{IsEnding};
+
+use crate::machines::Machine;
+use crate::turns::Turn;
+use bpf::Image;
+use machine::MapSizes;
+
+/// How a run ended.
+#[derive(Clone, Copy, Debug, PartialEq, Eq)]
+pub enum Ending {
+    /// The program ended with this verdict.
+    Verdict(u64),
+    /// A trap.
+    Trap,
+    /// A helper asked, and no answer was left.
+    Unanswered,
+    /// The limit of steps was reached.
+    OutOfSteps,
+}
+
+/// Goes on from the entry of a program for at most `limit` steps.
+fn walk(mut machine: Machine<'_>, answers: &[u64], limit: u32) -> Ending
+    requires { machine.steps ≡ 0 }
+    ensures { (port : ℕ) → state_of machine.entry ≡ entry_state port → IsEnding machine.entry.program machine.entry.header machine.entry.sizes port answers.now limit result }
+{
+    let mut left = answers;
+    for _step in 0..limit {
+        match machine.step() {
+            Turn::Moved => {}
+            Turn::Asked { .. } => {
+                let Some((answer, rest)) = left.split_first() else {
+                    return Ending::Unanswered;
+                };
+                machine.answer(*answer);
+                left = rest;
+            }
+            Turn::Ended(verdict) => return Ending::Verdict(verdict),
+            Turn::Trapped => return Ending::Trap,
+        }
+    }
+    Ending::OutOfSteps
+}
+
+/// Runs a program on a command's header and a port, with maps of these sizes, for at most `limit`
+/// steps, of which EXIT is one. The helpers' questions get the answers in order.
+pub fn run(
+    image: &Image,
+    sizes: &MapSizes,
+    front: &[u8; 4],
+    tail: &[u8; 12],
+    port: u8,
+    answers: &[u64],
+    limit: u32,
+) -> Ending
+    ensures { IsEnding image.now (record { front = front.now; tail = tail.now }) sizes.now port answers.now limit result }
+{
+    let machine = Machine::start(image, sizes, front, tail, port);
+    walk(machine, answers, limit)
+}

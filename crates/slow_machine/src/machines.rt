@@ -1,0 +1,172 @@
+//! The slow machine.
+
+ghost use Rattle.std.specs.Prelude.{◌≡◌, ◌+◌, ◌^◌, ◌<◌, OnSome};
+ghost use Rattle.slow_machine.specs.Bytes.{bytes_in};
+ghost use Rattle.slow_machine.specs.Effects.{registers_in};
+ghost use Rattle.slow_machine.specs.Near.{AreNear};
+ghost use Rattle.machine.specs.State.{entry_state, entry_register, register_after_call};
+ghost use Rattle.machine.specs.Step.{insn_at, answered};
+ghost use Rattle.slow_machine.specs.Standing.{state_of, step_of, IsTurn, IsAsk, IsRunOf, IsSameRun};
+
+use crate::effects::{Frame, perform};
+use crate::memory::Memory;
+use crate::turns::{Turn, apply};
+use bpf::Image;
+use bpf_insn::Insn;
+use machine::{MapSizes, Region, Value};
+use std::marker::Model;
+
+/// A program that is run one instruction at a time, with every value tagged by its kind and every trap
+/// told. It is written to be read beside RFC 9669, not to be fast.
+#[derive(Drop)]
+pub struct Machine<'a> {
+    image: &'a Image,
+    sizes: &'a MapSizes,
+    front: &'a [u8; 4],
+    tail: &'a [u8; 12],
+    steps: u32,
+    slot: u32,
+    registers: [Value; 11],
+    stack: [Option<u8>; 512],
+}
+
+impl<'a> Model for Machine<'a> {
+    ghost use Rattle.std.specs.Prelude.{◌*◌, ◌^◌};
+    ghost use Rattle.slow_machine.specs.Standing.{Standing};
+    ghost use Rattle.slow_machine.specs.Near.{AreNear};
+
+    ghost Value = { Standing };
+
+    ghost view = { λ m. record { program = m.image.now; header = record { front = m.front.now; tail = m.tail.now }; sizes = m.sizes.now; steps = m.steps; slot = m.slot; registers = m.registers; stack = m.stack } };
+
+    // a step moves a pointer by at most 2^63, so the offsets fit in 128 bits
+    ghost invariant = { λ m. AreNear (2 ^ 63 * m.steps) m.registers };
+}
+
+/// The instruction that begins at a slot.
+fn fetch(image: &Image, slot: u32) -> Option<Insn>
+    ensures value { result ≡ insn_at image.now slot }
+    ensures inside { OnSome result (slot < 512) }
+{
+    if slot < u32::from(image.slots()) {
+        image.insn(slot as u16)
+    } else {
+        None
+    }
+}
+
+/// The registers at entry: r1 and r2 point to the parts of the header, r3 is the port, r10 points to
+/// the end of the stack.
+fn entry_registers(port: u8) -> [Value; 11]
+    ensures value { registers_in result ≡ entry_register port }
+    ensures near { AreNear 0 result }
+{
+    let mut registers = [Value::Unset; 11];
+    registers[1] = Value::Ptr {
+        region: Region::Front,
+        offset: 0,
+    };
+    registers[2] = Value::Ptr {
+        region: Region::Tail,
+        offset: 0,
+    };
+    registers[3] = Value::Num(u64::from(port));
+    registers[10] = Value::Ptr {
+        region: Region::Stack,
+        offset: 0,
+    };
+    registers
+}
+
+/// The stack at entry: every byte is unset.
+fn entry_stack() -> [Option<u8>; 512]
+    ensures { bytes_in result ≡ (λ place. None) }
+{
+    [None; 512]
+}
+
+impl<'a> Machine<'a> {
+    /// The machine at the entry of a program, on a command's header and a port, with maps of these sizes.
+    pub fn start(
+        image: &'a Image,
+        sizes: &'a MapSizes,
+        front: &'a [u8; 4],
+        tail: &'a [u8; 12],
+        port: u8,
+    ) -> Machine<'a>
+        ensures run { IsRunOf result image.now front.now tail.now sizes.now }
+        ensures state { state_of result ≡ entry_state port }
+        ensures steps { result.steps ≡ 0 }
+    {
+        Machine {
+            image,
+            sizes,
+            front,
+            tail,
+            steps: 0,
+            slot: 0,
+            registers: entry_registers(port),
+            stack: entry_stack(),
+        }
+    }
+
+    /// How many steps were made.
+    pub fn steps(&self) -> u32
+        ensures { result ≡ self.now.steps }
+    {
+        self.steps
+    }
+
+    /// Makes a step: what the instruction at the machine's slot does. Where it is not `Turn::Moved`, the
+    /// registers and the stack stay as they were.
+    pub fn step(&mut self) -> Turn
+        requires { self.old.steps + 1 < 2 ^ 32 }
+        ensures turn { IsTurn (step_of self.old) result (state_of self.old) (state_of self.new) }
+        ensures run { IsSameRun self.old self.new }
+        ensures steps { self.new.steps ≡ self.old.steps + 1 }
+    {
+        self.steps += 1;
+        let Some(insn) = fetch(self.image, self.slot) else {
+            return Turn::Trapped;
+        };
+        let effect = {
+            let memory = Memory {
+                front: self.front,
+                tail: self.tail,
+                stack: &self.stack,
+            };
+            let frame = Frame {
+                slot: self.slot,
+                registers: &self.registers,
+                memory,
+            };
+            perform(frame, self.sizes, &insn)
+        };
+        apply(&mut self.slot, &mut self.registers, &mut self.stack, effect)
+    }
+
+    /// Answers the question at which the machine stands: the answer is in r0, and r1 to r5 are unset.
+    pub fn answer(&mut self, answer: u64)
+        requires { IsAsk (step_of self.old) }
+        ensures state { state_of self.new ≡ answered (state_of self.old) answer }
+        ensures run { IsSameRun self.old self.new }
+        ensures steps { self.new.steps ≡ self.old.steps }
+    {
+        if let Some(_) = fetch(self.image, self.slot) {
+            self.slot += 1;
+        }
+        after_call(&mut self.registers, answer);
+    }
+}
+
+/// The registers after a call: the answer is in r0, and r1 to r5 are unset.
+fn after_call(registers: &mut [Value; 11], answer: u64)
+    ensures { registers_in registers.new ≡ register_after_call (registers_in registers.old) answer }
+{
+    registers[5] = Value::Unset;
+    registers[4] = Value::Unset;
+    registers[3] = Value::Unset;
+    registers[2] = Value::Unset;
+    registers[1] = Value::Unset;
+    registers[0] = Value::Num(answer);
+}

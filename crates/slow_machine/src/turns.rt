@@ -1,0 +1,75 @@
+//! What one step of a machine came to, and how it is done.
+
+ghost use Rattle.std.specs.Prelude.{◌≡◌, ◌+◌, ◌<◌, ◌≤◌};
+ghost use Rattle.slow_machine.specs.Bytes.{bytes_in};
+ghost use Rattle.machine.specs.Memory.{byte_after};
+ghost use Rattle.slow_machine.specs.Effects.{outcome_of, IsPlaced};
+ghost use Rattle.slow_machine.specs.Standing.{state_with, IsTurn};
+
+use crate::effects::Effect;
+use machine::Value;
+
+/// What one step of a machine came to.
+#[derive(Clone, Copy, Debug, PartialEq, Eq)]
+pub enum Turn {
+    /// The machine is at its next instruction.
+    Moved,
+    /// The helper of this number asks the map of this index for a key; `Machine::answer` goes on.
+    Asked { helper: u8, map: u8, key: u16 },
+    /// The program ended with this verdict.
+    Ended(u64),
+    /// A trap: the machine cannot go on.
+    Trapped,
+}
+
+/// Writes so many low bytes of a number to the stack from a place on, the lowest first.
+fn put(stack: &mut [Option<u8>; 512], place: usize, bytes: usize, number: u64)
+    requires { place + bytes ≤ 512 }
+    ensures { bytes_in stack.new ≡ byte_after (bytes_in stack.old) bytes place number }
+{
+    let mut rest = number;
+    for k in place..place + bytes {
+        stack[k] = Some((rest % 256) as u8);
+        rest /= 256;
+    }
+}
+
+/// Does what an instruction does.
+pub fn apply(
+    slot: &mut u32,
+    registers: &mut [Value; 11],
+    stack: &mut [Option<u8>; 512],
+    effect: Effect,
+) -> Turn
+    requires inside { slot.old < 512 }
+    requires placed { IsPlaced effect }
+    ensures { IsTurn (outcome_of (state_with slot.old registers.old stack.old) effect) result (state_with slot.old registers.old stack.old) (state_with slot.new registers.new stack.new) }
+{
+    match effect {
+        Effect::Write {
+            register,
+            value,
+            slots,
+        } => {
+            registers[usize::from(register.number())] = value;
+            *slot += slots;
+            Turn::Moved
+        }
+        Effect::Put {
+            place,
+            bytes,
+            number,
+        } => {
+            put(stack, place, bytes, number);
+            *slot += 1;
+            Turn::Moved
+        }
+        Effect::Go(target) => {
+            *slot = target;
+            Turn::Moved
+        }
+        Effect::Ask { helper, map, key } => Turn::Asked { helper, map, key },
+        Effect::End(verdict) => Turn::Ended(verdict),
+        Effect::Stop => Turn::Trapped,
+    }
+}

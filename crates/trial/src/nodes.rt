@@ -1,0 +1,73 @@
+//! Nodes of one bank, and what they need: programs, packets and the plain commands.
+
+use crate::images::image_of_text;
+use bver::{Accepted, MapSizes, verify};
+use rmap::ReplyBuf;
+use spw::{Packet, read_line};
+use std::alloc::Global;
+use std::test::Fail;
+use target::{BankConfig, Node, NodeConfig, NodeFault, Pass, Served, serve_packet};
+
+/// The address of the bank's first byte.
+pub const BASE: u32 = 0xA000_0000;
+
+/// A write of 16 bytes to the beginning of the bank, as a packet line.
+pub const PLAIN_WRITE: &str =
+    "0 FE016C0067000000A00000000000109F 0123456789ABCDEF101112131415161756 EOP";
+
+/// A read of those 16 bytes, as a packet line.
+pub const PLAIN_READ: &str = "0 FE014C0067000100A0000000000010C9 EOP";
+
+/// The reply to the plain read of a fresh bank, as a packet line.
+pub const PLAIN_REPLY: &str = "0 67010C00FE0001000000106D0000000000000000000000000000000000 EOP";
+
+/// The bank of 65,536 bytes, whose journal has room for so many entries.
+pub fn bank(room: u32) -> BankConfig {
+    BankConfig {
+        base: BASE,
+        size: 65_536,
+        room,
+    }
+}
+
+/// The packet of a line.
+pub fn packet(alloc: Global, line: &str) -> Result<Packet, Fail> {
+    let (_, packet) = read_line(alloc, line)?;
+    Ok(packet)
+}
+
+/// The program that always gives that verdict.
+pub fn program(alloc: Global, verdict: u8) -> Result<Accepted, Fail> {
+    let text = format!(in alloc; "mov r0, {verdict}; exit")?;
+    let image = image_of_text(alloc, &text, 2)?;
+    Ok(verify(alloc, image, &MapSizes::new(&[])?)?)
+}
+
+/// A node of logical address 0xFE without maps, whose ports have that program, and their passes.
+pub fn node(
+    alloc: Global,
+    ports: u8,
+    banks: &[BankConfig],
+    factory: Accepted,
+) -> Result<(Node, Vec<Pass>), NodeFault> {
+    let config = NodeConfig {
+        address: 0xFE,
+        ports,
+        banks,
+        sizes: factory.sizes(),
+    };
+    Node::new(alloc, &config, factory)
+}
+
+/// What becomes of the packet at the pass's port. It fails where the pass is that of another node.
+pub fn served(
+    node: &mut Node,
+    pass: &mut Pass,
+    packet: Packet,
+    reply: &mut ReplyBuf,
+) -> Result<Served, Fail> {
+    if pass.banks() != node.banks() {
+        return Err("another number of banks".into());
+    }
+    Ok(serve_packet(node, pass, packet, reply))
+}

@@ -1,0 +1,39 @@
+//! Rows of a table in text.
+
+use std::alloc::Global;
+use std::str::Split;
+use std::test::Fail;
+
+/// A row of a table: parts with bars between them.
+#[derive(Drop)]
+pub struct Row<'a> {
+    parts: Split<'a, char>,
+}
+
+impl<'a> Row<'a> {
+    /// The row of a line.
+    pub fn of(line: &'a str) -> Row<'a> {
+        Row {
+            parts: line.split('|'),
+        }
+    }
+
+    /// The next part, or a failure where the row has no more.
+    pub fn part(&mut self) -> Result<&'a str, Fail> {
+        Ok(self.parts.next().ok_or("a row has too few parts")?)
+    }
+
+    /// The next part, as a number in hexadecimal digits.
+    pub fn hexadecimal(&mut self) -> Result<u64, Fail> {
+        Ok(u64::from_str_radix(self.part()?, 16)?)
+    }
+}
+
+/// The numbers of a text, which stand in hexadecimal digits with spaces between them.
+pub fn hexadecimals(alloc: Global, text: &str) -> Result<Vec<u64>, Fail> {
+    let mut numbers = Vec::new(alloc);
+    for word in text.split_whitespace() {
+        numbers.push(u64::from_str_radix(word, 16)?)?;
+    }
+    Ok(numbers)
+}

@@ -1,0 +1,279 @@
+//! Random programs. Each sets its registers and a part of its stack, does what the random numbers say,
+//! and answers with a mixture of all.
+
+ghost use Rattle.std.specs.Prelude.{◌<◌};
+
+use bpf_insn::{AluOp, Insn, LoadSize, Operand, Register, Size, Width};
+use std::alloc::{AllocError, Global};
+use trial::{
+    CONDITIONS, EXTENSIONS, LOAD_SIZES, OPERATIONS, Random, SIZES, SWAP_BITS, SWAPS, WIDTHS,
+};
+
+/// How many places of the stack each program sets and reads back: eight bytes each, from its top down.
+const PLACES: i16 = 8;
+
+/// How many registers hold numbers: r0 and r4 to r7. Those behind them, r8 and r9, hold pointers.
+const NUMBERS: u64 = 5;
+
+/// The instructions of a random program, with so many random ones between the first and the last.
+/// One of these in `wild` takes any registers and any place, so that programs are refused too.
+pub fn instructions(
+    alloc: Global,
+    random: &mut Random,
+    length: u64,
+    wild: u64,
+) -> Result<Vec<Insn>, AllocError>
+    requires { 0 < wild }
+{
+    let mut insns = Vec::new(alloc);
+    set_registers(&mut insns, random)?;
+    set_stack(&mut insns, random)?;
+    for _insn in 0..length {
+        let kind = random.below(wild);
+        insns.push(if kind == 0 {
+            any(random)
+        } else {
+            chosen(random)
+        })?;
+    }
+    mix(&mut insns)?;
+    Ok(insns)
+}
+
+/// The register of this number.
+fn register(number: u8) -> Register
+    requires { number < 11 }
+{
+    match Register::new(number) {
+        Some(register) => register,
+        None => unreachable!(),
+    }
+}
+
+/// The register that holds this of the numbers.
+fn number_register(place: u64) -> Register
+    requires { place < 5 }
+{
+    if place == 0 {
+        register(0)
+    } else {
+        register((place + 3) as u8)
+    }
+}
+
+/// A register that holds a number.
+fn number(random: &mut Random) -> Register {
+    number_register(random.below(NUMBERS))
+}
+
+/// Any register.
+fn any_register(random: &mut Random) -> Register {
+    register(random.below(11) as u8)
+}
+
+fn immediate(random: &mut Random) -> i32 {
+    match random.below(4) {
+        0 => 0,
+        1 => random.below(64) as i32,
+        2 => -(random.below(64) as i32),
+        _ => (random.below(1 << 32) as u32).cast_signed(),
+    }
+}
+
+fn operand(random: &mut Random) -> Operand {
+    if random.below(2) == 0 {
+        Operand::Immediate(immediate(random))
+    } else {
+        Operand::FromRegister(number(random))
+    }
+}
+
+fn arithmetic(random: &mut Random, dst: Register, src: Operand) -> Insn {
+    Insn::Alu {
+        op: random.one_of(&OPERATIONS),
+        width: random.one_of(&WIDTHS),
+        dst,
+        src,
+    }
+}
+
+fn negation(random: &mut Random, dst: Register) -> Insn {
+    Insn::Negate {
+        width: random.one_of(&WIDTHS),
+        dst,
+    }
+}
+
+fn extension(random: &mut Random, dst: Register, src: Register) -> Insn {
+    Insn::MoveSigned {
+        extension: random.one_of(&EXTENSIONS),
+        dst,
+        src,
+    }
+}
+
+fn swap(random: &mut Random, dst: Register) -> Insn {
+    Insn::ByteSwap {
+        swap: random.one_of(&SWAPS),
+        bits: random.one_of(&SWAP_BITS),
+        dst,
+    }
+}
+
+/// A jump over one or two instructions.
+fn jump(random: &mut Random, dst: Register, src: Operand) -> Insn {
+    Insn::Jump {
+        condition: random.one_of(&CONDITIONS),
+        width: random.one_of(&WIDTHS),
+        dst,
+        src,
+        offset: 1 + random.below(2) as i16,
+    }
+}
+
+fn load(random: &mut Random, base: Register, offset: i16) -> Insn {
+    Insn::Load {
+        size: random.one_of(&LOAD_SIZES),
+        dst: number(random),
+        base,
+        offset,
+    }
+}
+
+fn store(random: &mut Random, base: Register, offset: i16) -> Insn {
+    Insn::Store {
+        size: random.one_of(&SIZES),
+        base,
+        offset,
+        src: operand(random),
+    }
+}
+
+/// A load of two bytes of the front.
+fn load_front(random: &mut Random) -> Insn {
+    Insn::Load {
+        size: LoadSize::LoadHalf,
+        dst: number(random),
+        base: register(1),
+        offset: random.below(3) as i16,
+    }
+}
+
+/// An access of the front, the tail, or the part of the stack that is set; some of them by a register
+/// that a pointer was moved to.
+fn access(random: &mut Random) -> Insn {
+    let low = random.below(5) as i16;
+    let high = random.below(57) as i16 - 64;
+    match random.below(6) {
+        0 => load_front(random),
+        1 => load(random, register(2), low),
+        2 => load(random, register(8), 0),
+        3 => load(random, register(10), high),
+        4 => load(random, register(9), high + 64),
+        _ => store(random, register(10), high),
+    }
+}
+
+/// An instruction on registers that hold numbers, or an access of a place that is there.
+fn chosen(random: &mut Random) -> Insn {
+    let dst = number(random);
+    match random.below(10) {
+        0 => negation(random, dst),
+        1 => {
+            let src = number(random);
+            extension(random, dst, src)
+        }
+        2 => swap(random, dst),
+        3 => {
+            let src = operand(random);
+            jump(random, dst, src)
+        }
+        4 | 5 | 6 => access(random),
+        _ => {
+            let src = operand(random);
+            arithmetic(random, dst, src)
+        }
+    }
+}
+
+/// An instruction on any registers.
+fn any(random: &mut Random) -> Insn {
+    let (dst, src) = (any_register(random), any_register(random));
+    let offset = random.below(16) as i16 - 8;
+    match random.below(6) {
+        0 => extension(random, dst, src),
+        1 => jump(random, dst, Operand::FromRegister(src)),
+        2 => load(random, src, offset),
+        3 => store(random, dst, offset),
+        4 => {
+            let value = immediate(random);
+            arithmetic(random, dst, Operand::Immediate(value))
+        }
+        _ => arithmetic(random, dst, Operand::FromRegister(src)),
+    }
+}
+
+/// `dst op= src` at 64 bits.
+fn alu(op: AluOp, dst: u8, src: Operand) -> Insn
+    requires { dst < 11 }
+{
+    Insn::Alu {
+        op,
+        width: Width::Bits64,
+        dst: register(dst),
+        src,
+    }
+}
+
+/// Numbers in r0 and r4 to r7, a place of the tail in r8, and the lowest place that is set in r9.
+fn set_registers(insns: &mut Vec<Insn>, random: &mut Random) -> Result<(), AllocError> {
+    for place in 0..NUMBERS {
+        insns.push(Insn::Wide {
+            dst: number_register(place),
+            value: random.number(),
+        })?;
+    }
+    let tail = random.below(5) as i32;
+    insns.push(alu(AluOp::Mov, 8, Operand::FromRegister(register(2))))?;
+    insns.push(alu(AluOp::Add, 8, Operand::Immediate(tail)))?;
+    insns.push(alu(AluOp::Mov, 9, Operand::FromRegister(register(10))))?;
+    insns.push(alu(AluOp::Add, 9, Operand::Immediate(-64)))?;
+    Ok(())
+}
+
+fn set_stack(insns: &mut Vec<Insn>, random: &mut Random) -> Result<(), AllocError> {
+    for place in 0..PLACES {
+        insns.push(Insn::Store {
+            size: Size::Double,
+            base: register(10),
+            offset: 8 * place - 64,
+            src: operand(random),
+        })?;
+    }
+    Ok(())
+}
+
+/// Mixes all numbers and the stack into r0, and ends.
+fn mix(insns: &mut Vec<Insn>) -> Result<(), AllocError> {
+    for place in 0..NUMBERS {
+        mix_in(insns, number_register(place))?;
+    }
+    for place in 0..PLACES {
+        insns.push(Insn::Load {
+            size: LoadSize::LoadDouble,
+            dst: register(4),
+            base: register(10),
+            offset: 8 * place - 64,
+        })?;
+        mix_in(insns, register(4))?;
+    }
+    insns.push(Insn::Exit)?;
+    Ok(())
+}
+
+/// `r0 = 31 * r0 + src`.
+fn mix_in(insns: &mut Vec<Insn>, src: Register) -> Result<(), AllocError> {
+    insns.push(alu(AluOp::Mul, 0, Operand::Immediate(31)))?;
+    insns.push(alu(AluOp::Add, 0, Operand::FromRegister(src)))?;
+    Ok(())
+}

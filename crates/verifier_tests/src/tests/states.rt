@@ -1,0 +1,133 @@
+//! The calls on states that a program meets, with the answers of the table.
+
+use absdom::{AbsKind, Cause, Offsets, Region, State, apply, refine};
+use absdom_num::Range;
+use bpf_insn::{AluOp, Condition, Insn, LoadSize, Operand, Register, Size, Width};
+use std::test::Fail;
+
+fn register(number: u8) -> Result<Register, &'static str> {
+    Register::new(number).ok_or("no register")
+}
+
+fn add(dst: Register, value: i32) -> Insn {
+    Insn::Alu {
+        op: AluOp::Add,
+        width: Width::Bits64,
+        dst,
+        src: Operand::Immediate(value),
+    }
+}
+
+fn load(dst: Register, base: Register, offset: i16) -> Insn {
+    Insn::Load {
+        size: LoadSize::LoadDouble,
+        dst,
+        base,
+        offset,
+    }
+}
+
+fn store(base: Register, offset: i16) -> Insn {
+    Insn::Store {
+        size: Size::Double,
+        base,
+        offset,
+        src: Operand::Immediate(-1),
+    }
+}
+
+#[test]
+fn entry_follows_the_calling_rules(rt: HostRuntime) -> Result<(), Fail> {
+    let entry = State::entry();
+    let start = Offsets::zero();
+    assert_eq!(rt; entry.kind(register(0)?), AbsKind::Unset);
+    assert_eq!(rt;
+        entry.kind(register(1)?),
+        AbsKind::Ptr(Region::Front, start)
+    );
+    assert_eq!(rt; entry.kind(register(2)?), AbsKind::Ptr(Region::Tail, start));
+    assert_eq!(rt; entry.kind(register(3)?), AbsKind::Num(Range::new(0, 31)));
+    assert_eq!(rt;
+        entry.kind(register(10)?),
+        AbsKind::Ptr(Region::Stack, start)
+    );
+    assert_eq!(rt; start.low(), 0);
+    assert_eq!(rt; start.high(), 0);
+    Ok(())
+}
+
+#[test]
+fn each_refusal_has_its_cause(rt: HostRuntime) -> Result<(), Fail> {
+    let entry = State::entry();
+    let (r1, r4, r10) = (register(1)?, register(4)?, register(10)?);
+    let negate = Insn::Negate {
+        width: Width::Bits64,
+        dst: r1,
+    };
+    assert_eq!(rt; apply(&entry, &add(r4, 1)).err(), Some(Cause::UnsetOperand));
+    assert_eq!(rt; apply(&entry, &negate).err(), Some(Cause::KindMismatch));
+    assert_eq!(rt;
+        apply(&entry, &load(r4, r1, 0)).err(),
+        Some(Cause::OutOfRegion)
+    );
+    assert_eq!(rt;
+        apply(&entry, &load(r4, r10, -8)).err(),
+        Some(Cause::UnsetStack)
+    );
+    assert_eq!(rt;
+        apply(&entry, &store(r1, 0)).err(),
+        Some(Cause::HeaderWrite)
+    );
+    assert_eq!(rt;
+        apply(&entry, &add(r1, 65_537)).err(),
+        Some(Cause::PointerRange)
+    );
+    assert_eq!(rt; Cause::UnsetOperand.code(), 5);
+    assert_eq!(rt; Cause::PointerRange.code(), 11);
+    Ok(())
+}
+
+#[test]
+fn bytes_that_were_stored_are_loaded(rt: HostRuntime) -> Result<(), Fail> {
+    let (r4, r10) = (register(4)?, register(10)?);
+    let entry = State::entry();
+    let stored = apply(&entry, &store(r10, -8))?;
+    let loaded = apply(&stored, &load(r4, r10, -8))?;
+    assert_eq!(rt; loaded.kind(r4), AbsKind::Num(Range::whole()));
+    assert!(rt; stored.leq(&entry));
+    assert!(rt; !entry.leq(&stored));
+    let joint = stored.join(&entry);
+    assert_eq!(rt;
+        apply(&joint, &load(r4, r10, -8)).err(),
+        Some(Cause::UnsetStack)
+    );
+    Ok(())
+}
+
+#[test]
+fn a_comparison_moves_the_ends(rt: HostRuntime) -> Result<(), Fail> {
+    let r3 = register(3)?;
+    let edges = refine(
+        &State::entry(),
+        Condition::Less,
+        Width::Bits64,
+        r3,
+        &Operand::Immediate(5),
+    )?;
+    let taken = edges.taken.ok_or("not followed")?;
+    let not_taken = edges.not_taken.ok_or("not followed")?;
+    assert_eq!(rt; taken.kind(r3).number(), Ok(Range::new(0, 4)));
+    assert_eq!(rt; not_taken.kind(r3).number(), Ok(Range::new(5, 31)));
+    Ok(())
+}
+
+#[test]
+fn a_call_unsets_its_arguments(rt: HostRuntime) -> Result<(), Fail> {
+    let (r0, r1) = (register(0)?, register(1)?);
+    let called = State::entry().with(r1, AbsKind::Map(3));
+    assert_eq!(rt; called.kind(r1).map(), Ok(3));
+    let after = called.after_call();
+    assert_eq!(rt; after.kind(r1), AbsKind::Unset);
+    assert_eq!(rt; after.kind(r0), AbsKind::Num(Range::whole()));
+    Ok(())
+}
