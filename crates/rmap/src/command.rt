@@ -90,6 +90,7 @@ impl<'a> Command<'a> {
         requires { discard_of packet.now.bytes ≡ None }
         ensures { result ≡ command_of packet.now }
     {
+        let end = packet.end();
         let bytes = packet.bytes();
         let address = Instruction(bytes[field::INSTRUCTION]).reply_address_len();
         let (front, rest) = bytes.split_first_chunk::<4>().unwrap();
@@ -100,7 +101,7 @@ impl<'a> Command<'a> {
             path,
             tail,
             body,
-            end: packet.end(),
+            end,
         }
     }
 
