@@ -210,7 +210,7 @@ module _ (program : Program) (header : Header) (sizes : List ℕ) (port : ℕ) (
       let on_is = asks_goes_on program header (state_of m) helper map key told.0 bare in
       let reached : told.0 answer ≡ state_of after = ap (λ (f : ℕ → State). f answer) on_is ∙ sym (goes_on ∙ ap (λ s. answered s answer) told.2) in
       let longer : ClearPath program header sizes port (at.calls ++ call helper map key answer ∷ []) _ (told.0 answer) =
-          record { path = runs.answered answer at.way.path bare small; clear = (at.way.clear, λ e. no_trap (sym with_sizes ∙ e)) }
+      record { path = runs.answered answer at.way.path bare small; clear = (at.way.clear, λ e. no_trap (sym with_sizes ∙ e)) }
       in
       record {
         same_program = same_after.program ∙ same.program ∙ at.same_program;

@@ -12,16 +12,3 @@ pub fn image_of_text(alloc: Global, text: &str, budget: u32) -> Result<Image, Fa
     let whole = format!(in alloc; ".budget {budget}\n{lines}")?;
     Ok(assemble(alloc, &whole)?)
 }
-
-/// The image of these slots without loops, with a budget. The bytes of a slot are a big-endian number.
-pub fn image_of_slots(alloc: Global, slots: &[u64], budget: u32) -> Result<Image, Fail> {
-    let count = (slots.len() % 65536) as u16;
-    let mut bytes = Vec::from_slice(alloc, b"BPFA\x01\x00")?;
-    bytes.extend_from_slice(&count.to_le_bytes())?;
-    bytes.extend_from_slice(&budget.to_le_bytes())?;
-    bytes.extend_from_slice(&[0; 4])?;
-    for slot in slots {
-        bytes.extend_from_slice(&slot.to_be_bytes())?;
-    }
-    Ok(Image::read(alloc, &bytes)?)
-}

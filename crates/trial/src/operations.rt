@@ -2,8 +2,10 @@
 
 use bpf_insn::{AluOp, Condition, Extension, LoadSize, Size, Swap, SwapBits, Width};
 
+/// Both widths.
 pub const WIDTHS: [Width; 2] = [Width::Bits32, Width::Bits64];
 
+/// The operations of arithmetic that have two operands.
 pub const OPERATIONS: [AluOp; 14] = [
     AluOp::Add,
     AluOp::Sub,
@@ -21,6 +23,7 @@ pub const OPERATIONS: [AluOp; 14] = [
     AluOp::Arsh,
 ];
 
+/// The comparisons of conditional jumps.
 pub const CONDITIONS: [Condition; 11] = [
     Condition::Equal,
     Condition::Greater,
@@ -35,6 +38,7 @@ pub const CONDITIONS: [Condition; 11] = [
     Condition::SignedLessEqual,
 ];
 
+/// The extensions of a move.
 pub const EXTENSIONS: [Extension; 5] = [
     Extension::ByteTo32,
     Extension::HalfTo32,
@@ -43,6 +47,7 @@ pub const EXTENSIONS: [Extension; 5] = [
     Extension::WordTo64,
 ];
 
+/// What a load reads.
 pub const LOAD_SIZES: [LoadSize; 7] = [
     LoadSize::LoadByte,
     LoadSize::LoadHalf,
@@ -53,8 +58,11 @@ pub const LOAD_SIZES: [LoadSize; 7] = [
     LoadSize::SignedWord,
 ];
 
+/// What a store writes.
 pub const SIZES: [Size; 4] = [Size::Byte, Size::Half, Size::Word, Size::Double];
 
+/// The orders of bytes.
 pub const SWAPS: [Swap; 3] = [Swap::ToLittle, Swap::ToBig, Swap::Reverse];
 
+/// How many bits are put in order.
 pub const SWAP_BITS: [SwapBits; 3] = [SwapBits::Swap16, SwapBits::Swap32, SwapBits::Swap64];

@@ -9,8 +9,8 @@ use trial::{
     CONDITIONS, EXTENSIONS, LOAD_SIZES, OPERATIONS, Random, SIZES, SWAP_BITS, SWAPS, WIDTHS,
 };
 
-/// How many places of the stack each program sets and reads back: eight bytes each, from its top down.
-const PLACES: i16 = 8;
+/// The places of the stack that each program sets and reads back: eight bytes each.
+const PLACES: [i16; 8] = [-64, -56, -48, -40, -32, -24, -16, -8];
 
 /// How many registers hold numbers: r0 and r4 to r7. Those behind them, r8 and r9, hold pointers.
 const NUMBERS: u64 = 5;
@@ -29,15 +29,28 @@ pub fn instructions(
     set_registers(&mut insns, random)?;
     set_stack(&mut insns, random)?;
     for _insn in 0..length {
-        let kind = random.below(wild);
-        insns.push(if kind == 0 {
-            any(random)
-        } else {
-            chosen(random)
-        })?;
+        add(&mut insns, next(random, wild))?;
     }
-    mix(&mut insns)?;
+    mix_numbers(&mut insns)?;
+    mix_stack(&mut insns)?;
+    add(&mut insns, Insn::Exit)?;
     Ok(insns)
+}
+
+/// Adds an instruction at the end.
+fn add(insns: &mut Vec<Insn>, insn: Insn) -> Result<(), AllocError> {
+    insns.extend_from_slice(&[insn])
+}
+
+/// The next instruction: one in `wild` is any.
+fn next(random: &mut Random, wild: u64) -> Insn
+    requires { 0 < wild }
+{
+    if random.below(wild) == 0 {
+        any(random)
+    } else {
+        chosen(random)
+    }
 }
 
 /// The register of this number.
@@ -228,52 +241,75 @@ fn alu(op: AluOp, dst: u8, src: Operand) -> Insn
 /// Numbers in r0 and r4 to r7, a place of the tail in r8, and the lowest place that is set in r9.
 fn set_registers(insns: &mut Vec<Insn>, random: &mut Random) -> Result<(), AllocError> {
     for place in 0..NUMBERS {
-        insns.push(Insn::Wide {
-            dst: number_register(place),
-            value: random.number(),
-        })?;
+        add(
+            insns,
+            Insn::Wide {
+                dst: number_register(place),
+                value: random.number(),
+            },
+        )?;
     }
     let tail = random.below(5) as i32;
-    insns.push(alu(AluOp::Mov, 8, Operand::FromRegister(register(2))))?;
-    insns.push(alu(AluOp::Add, 8, Operand::Immediate(tail)))?;
-    insns.push(alu(AluOp::Mov, 9, Operand::FromRegister(register(10))))?;
-    insns.push(alu(AluOp::Add, 9, Operand::Immediate(-64)))?;
+    add(
+        insns,
+        alu(AluOp::Mov, 8, Operand::FromRegister(register(2))),
+    )?;
+    add(insns, alu(AluOp::Add, 8, Operand::Immediate(tail)))?;
+    add(
+        insns,
+        alu(AluOp::Mov, 9, Operand::FromRegister(register(10))),
+    )?;
+    add(insns, alu(AluOp::Add, 9, Operand::Immediate(-64)))?;
     Ok(())
 }
 
 fn set_stack(insns: &mut Vec<Insn>, random: &mut Random) -> Result<(), AllocError> {
-    for place in 0..PLACES {
-        insns.push(Insn::Store {
-            size: Size::Double,
-            base: register(10),
-            offset: 8 * place - 64,
-            src: operand(random),
-        })?;
+    for offset in PLACES {
+        add(insns, set_place(random, offset))?;
     }
     Ok(())
 }
 
-/// Mixes all numbers and the stack into r0, and ends.
-fn mix(insns: &mut Vec<Insn>) -> Result<(), AllocError> {
+/// Sets eight bytes of the stack.
+fn set_place(random: &mut Random, offset: i16) -> Insn {
+    Insn::Store {
+        size: Size::Double,
+        base: register(10),
+        offset,
+        src: operand(random),
+    }
+}
+
+/// Mixes all numbers into r0.
+fn mix_numbers(insns: &mut Vec<Insn>) -> Result<(), AllocError> {
     for place in 0..NUMBERS {
         mix_in(insns, number_register(place))?;
     }
-    for place in 0..PLACES {
-        insns.push(Insn::Load {
-            size: LoadSize::LoadDouble,
-            dst: register(4),
-            base: register(10),
-            offset: 8 * place - 64,
-        })?;
+    Ok(())
+}
+
+/// Mixes all places of the stack into r0, by r4.
+fn mix_stack(insns: &mut Vec<Insn>) -> Result<(), AllocError> {
+    for offset in PLACES {
+        add(insns, get_place(offset))?;
         mix_in(insns, register(4))?;
     }
-    insns.push(Insn::Exit)?;
     Ok(())
+}
+
+/// Loads eight bytes of the stack into r4.
+fn get_place(offset: i16) -> Insn {
+    Insn::Load {
+        size: LoadSize::LoadDouble,
+        dst: register(4),
+        base: register(10),
+        offset,
+    }
 }
 
 /// `r0 = 31 * r0 + src`.
 fn mix_in(insns: &mut Vec<Insn>, src: Register) -> Result<(), AllocError> {
-    insns.push(alu(AluOp::Mul, 0, Operand::Immediate(31)))?;
-    insns.push(alu(AluOp::Add, 0, Operand::FromRegister(src)))?;
+    add(insns, alu(AluOp::Mul, 0, Operand::Immediate(31)))?;
+    add(insns, alu(AluOp::Add, 0, Operand::FromRegister(src)))?;
     Ok(())
 }

@@ -1,5 +1,5 @@
-//! Whole programs. Each was spelt by an assembler, and its ending computed by an interpreter, that were
-//! written in Python for these tables alone, with Python's integers, which have no width.
+//! Whole programs on the slow machine. The ending of each was computed by an interpreter that was written in
+//! Python for these tables alone, with Python's integers, which have no width.
 
 use super::{FRONT, TAIL, sizes};
 use slow_machine::{Ending, run};

@@ -1,6 +1,6 @@
-//! Programs with the answer that the rules of the verifier (docs/BPF.md) give. An assembler written apart,
-//! in Python, spelt them. The rows of the first two tables were read off the rules by hand; those of the
-//! third, and the others once more, are the answers of a verifier written apart in Python from the rules.
+//! Programs with the answer that the rules of the verifier (docs/BPF.md) give. The rows of the first two
+//! tables were read off the rules by hand; those of the third, and the others once more, are the answers of
+//! a verifier written apart in Python from the rules.
 
 use super::sizes;
 use bver::verify;

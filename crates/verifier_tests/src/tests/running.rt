@@ -1,4 +1,4 @@
-//! Whole programs. The slots were spelt, and the verdicts computed, by hand from RFC 9669.
+//! Whole programs on the interpreter. The verdicts were computed by hand from RFC 9669.
 
 use super::{FRONT, TAIL};
 use brun::run;

@@ -23,8 +23,8 @@ loop-step-init c = record {
 pub returns-in_default : goal.returns-in_default
 returns-in_default c =
     λ port entered.
-        let at = along_left _ _ _ _ _ _ _ _ [] (none_left _ c.in_default.ensures.cases) (c.loop-step.invariant.at port entered) in
-        walk_lacks _ _ _ _ _ _ _ c.loop-step.machine c.step.new.self _ _ _ at c.in-Asked.ensures.turn c.loop-step-test.true
+    let at = along_left _ _ _ _ _ _ _ _ [] (none_left _ c.in_default.ensures.cases) (c.loop-step.invariant.at port entered) in
+    walk_lacks _ _ _ _ _ _ _ c.loop-step.machine c.step.new.self _ _ _ at c.in-Asked.ensures.turn c.loop-step-test.true
 
 pub answer-requires : goal.answer-requires
 answer-requires c = still_asks c.loop-step.machine c.step.new.self _ _ _ c.in-Asked.ensures.turn c.in-Asked.ensures.run
@@ -32,12 +32,12 @@ answer-requires c = still_asks c.loop-step.machine c.step.new.self _ _ _ c.in-As
 pub returns-in-Ended : goal.returns-in-Ended
 returns-in-Ended c =
     λ port entered.
-        walk_ends _ _ _ _ _ _ _ _ c.loop-step.machine c.step.new.self _ (c.loop-step.invariant.at port entered) c.in-Ended.ensures.turn c.loop-step-test.true
+    walk_ends _ _ _ _ _ _ _ _ c.loop-step.machine c.step.new.self _ (c.loop-step.invariant.at port entered) c.in-Ended.ensures.turn c.loop-step-test.true
 
 pub returns-in-Trapped : goal.returns-in-Trapped
 returns-in-Trapped c =
     λ port entered.
-        walk_traps _ _ _ _ _ _ _ c.loop-step.machine c.step.new.self _ (c.loop-step.invariant.at port entered) c.in-Trapped.ensures.turn c.loop-step-test.true
+    walk_traps _ _ _ _ _ _ _ c.loop-step.machine c.step.new.self _ (c.loop-step.invariant.at port entered) c.in-Trapped.ensures.turn c.loop-step-test.true
 
 pub loop-step-preserved : goal.loop-step-preserved
 loop-step-preserved c =
@@ -63,6 +63,6 @@ loop-step-preserved c =
 pub returns : goal.returns
 returns c =
     λ port entered.
-        let all : c.loop-step._step ≡ c.args.limit = omega arith in
-        let at = rw all at (c.loop-step.invariant.at port entered) in
-        walk_stops _ _ _ _ _ _ _ _ at
+    let all : c.loop-step._step ≡ c.args.limit = omega arith in
+    let at = rw all at (c.loop-step.invariant.at port entered) in
+    walk_stops _ _ _ _ _ _ _ _ at
