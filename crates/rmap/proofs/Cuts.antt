@@ -121,7 +121,7 @@ not_discarded bytes c h =
     rw (short, is_rmap, no_reply, whole, place, right) refl
 
 -- commands with the same parts are the same
-same_parts : (c d : Parts) → c.front ≡ d.front → c.path ≡ d.path → c.tail ≡ d.tail → c.body ≡ d.body → c.end ≡ d.end → c ≡ d
+pub same_parts : (c d : Parts) → c.front ≡ d.front → c.path ≡ d.path → c.tail ≡ d.tail → c.body ≡ d.body → c.end ≡ d.end → c ≡ d
 same_parts c d front path tail body end =
     let parts : List ℕ → List ℕ → List ℕ → List ℕ → End → Parts = λ f p t b e. record { front = f; path = p; tail = t; body = b; end = e } in
     ap (λ (f : List ℕ). parts f c.path c.tail c.body c.end) front

@@ -1,3 +1,4 @@
 pub mod Cuts
 pub mod Replies
 pub mod Fields
+mod Readings

@@ -4,6 +4,7 @@ use Rattle.std.specs.Prelude.{◌≡◌, ◌≤◌, ℕ, ◌+◌, ◌-◌, Bool,
 use Rattle.byteorder.specs.Endian.{big_bytes, big_number}
 use Rattle.rcrc.specs.Crc.{crc_of}
 use Rattle.spw.specs.declared.packets.End.{End}
+use Rattle.spw.specs.Cargo.{Cargo}
 use Rattle.rmap.specs.declared.kind.Kind.{Kind}
 use Rattle.rmap.specs.declared.discard.Discard.{Discard}
 use Rattle.rmap.specs.declared.discard.Discard.TheVariants.{Short, Protocol, Reply, HeaderCrc}
@@ -131,3 +132,17 @@ abbrev pub tail_fields : Parts → List ℕ
 tail_fields c =
     initiator_of c ∷ [] ++ big_bytes 2 (transaction_of c) ++ extended_of c ∷ []
     ++ big_bytes 4 (address_of c) ++ big_bytes 3 (length_of c) ++ header_crc_of c ∷ []
+
+-- how many bytes the reply address has, as the third byte announces them
+abbrev pub path_length : List ℕ → ℕ
+path_length bytes = reply_address_length (slice_index bytes 2)
+
+-- the bytes of a packet, cut into the parts of a command
+abbrev pub command_of : Cargo → Parts
+command_of p = record {
+  front = take 4 p.bytes;
+  path = take (path_length p.bytes) (drop 4 p.bytes);
+  tail = take 12 (drop (4 + path_length p.bytes) p.bytes);
+  body = drop (16 + path_length p.bytes) p.bytes;
+  end = p.end;
+}

@@ -1,10 +1,11 @@
 //! The checks of a command that need no program.
 
-ghost use Rattle.std.specs.Prelude.{◌≡◌};
+ghost use Rattle.std.specs.Prelude.{◌≡◌, MatchResult, None, Some};
 ghost use Rattle.rmap.specs.Command.{length_of};
-ghost use Rattle.rmap.specs.Ranges.{place_of, boot_place, is_register, lies_inside};
+ghost use Rattle.rmap.specs.Ranges.{place_of};
 ghost use Rattle.rmap.specs.Checks.{header_line, body_line, wanted, has_wrong_rmw_length};
 
+use crate::boot::{BOOT_WINDOW, boot_place};
 use crate::command::Command;
 use crate::kind::Kind;
 use crate::places::Place;
@@ -17,49 +18,7 @@ use spw::End;
 const VERIFY_BUFFER: u32 = 1024;
 
 /// The most bytes of data that a command may have.
-const MAX_DATA: u32 = 4096;
-
-/// The extended address of the boot window.
-const BOOT_WINDOW: u8 = 0xFF;
-
-/// The bytes of a port's staging, which begins at address 0 of the boot window.
-const STAGING_SIZE: u32 = 16_384;
-
-/// The address of the load result and of control writes in the boot window.
-const REGISTER: u32 = 0x10000;
-
-/// Whether the command's bytes lie in the range of that base and size.
-fn lies_inside(command: &Command, base: u32, size: u32) -> bool
-    ensures { result ≡ lies_inside base size command.now }
-{
-    let address = u64::from(command.address());
-    let end = u64::from(base) + u64::from(size);
-    u64::from(base) <= address
-        && address < end
-        && (!command.increments() || address + u64::from(command.length()) <= end)
-}
-
-/// Whether the command is for exactly those bytes of the register, with increment.
-fn is_register(command: &Command, size: u32) -> bool
-    ensures { result ≡ is_register size command.now }
-{
-    command.address() == REGISTER && command.length() == size && command.increments()
-}
-
-/// The place in the boot window.
-fn boot_place(command: &Command) -> Option<Place>
-    ensures { result ≡ boot_place command.now }
-{
-    let kind = command.kind();
-    if !matches!(kind, Kind::Unused) && lies_inside(command, 0, STAGING_SIZE) {
-        return Some(Place::Staging);
-    }
-    match kind {
-        Kind::Read if is_register(command, 8) => Some(Place::LoadResult),
-        Kind::Write if is_register(command, 4) => Some(Place::Control),
-        _ => None,
-    }
-}
+pub const MAX_DATA: u32 = 4096;
 
 /// Where the command's bytes lie, or `None` where that is not allowed. A read-modify-write counts by
 /// its whole data length, data and mask.
@@ -68,7 +27,7 @@ pub fn place(command: &Command, windows: &Windows) -> Option<Place>
 {
     let extended = command.extended();
     match windows.bank(extended) {
-        Some((base, size)) => lies_inside(command, base, size).then_some(Place::Bank(extended)),
+        Some((base, size)) => command.lies_inside(base, size).then_some(Place::Bank(extended)),
         None if extended == BOOT_WINDOW => boot_place(command),
         None => None,
     }
@@ -84,33 +43,38 @@ fn has_wrong_rmw_length(kind: Kind, length: u32) -> bool
     }
 }
 
-/// The first fault of the header, or `None`: an unused code, a logical address other than the node's,
-/// a wrong length of a read-modify-write, more than 1,024 bytes to verify, then more than 4,096 bytes
-/// or a place that is not allowed (ECSS-E-ST-50-52C, error and status codes).
-pub fn header_fault(command: &Command, windows: &Windows) -> Option<Status>
-    ensures { result ≡ header_line command.now windows.now }
+/// Where the bytes of the command lie, or the first fault of its header: an unused code, a logical
+/// address other than the node's, a wrong length of a read-modify-write, more than 1,024 bytes to
+/// verify, then more than 4,096 bytes or a place that is not allowed (ECSS-E-ST-50-52C, error and
+/// status codes).
+pub fn checked_place(command: &Command, windows: &Windows) -> Result<Place, Status>
+    ensures { MatchResult result (λ place. (header_line command.now windows.now ≡ None) × (place_of command.now windows.now ≡ Some place)) (λ status. header_line command.now windows.now ≡ Some status) }
 {
     let length = command.length();
     let kind = command.kind();
     if matches!(kind, Kind::Unused) {
-        return Some(Status::UnusedCode);
+        return Err(Status::UnusedCode);
     }
     if command.target() != windows.node_address() {
-        return Some(Status::InvalidLogicalAddress);
+        return Err(Status::InvalidLogicalAddress);
     }
     if has_wrong_rmw_length(kind, length) {
-        return Some(Status::RmwDataLength);
+        return Err(Status::RmwDataLength);
     }
     if command.verifies() && length > VERIFY_BUFFER {
-        return Some(Status::VerifyBufferOverrun);
+        return Err(Status::VerifyBufferOverrun);
     }
     if length > MAX_DATA {
-        return Some(Status::NotAuthorised);
+        return Err(Status::NotAuthorised);
     }
-    match place(command, windows) {
-        Some(_) => None,
-        None => Some(Status::NotAuthorised),
-    }
+    place(command, windows).ok_or(Status::NotAuthorised)
+}
+
+/// The first fault of the header, or `None`: that of [`checked_place`].
+pub fn header_fault(command: &Command, windows: &Windows) -> Option<Status>
+    ensures { result ≡ header_line command.now windows.now }
+{
+    checked_place(command, windows).err()
 }
 
 /// The bytes that should follow the header.

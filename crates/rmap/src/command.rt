@@ -2,9 +2,12 @@
 
 ghost use Rattle.std.specs.Prelude.{◌≡◌, length, MatchResult, IfOk, None, Some};
 ghost use Rattle.rcrc.specs.Polynomial.{IsRemainder};
-ghost use Rattle.rmap.specs.Command.{Parts, IsCommand, IsHeader, discard_of, header_of, header_crc_of, target_of, instruction_of, key_of, initiator_of, transaction_of, extended_of, address_of, length_of, command_kind, writes, verifies, wants_reply, increments, header_length};
+ghost use Rattle.rmap.specs.Command.{Parts, IsCommand, IsHeader, discard_of, header_of, header_crc_of, target_of, instruction_of, key_of, initiator_of, transaction_of, extended_of, address_of, length_of, command_kind, writes, verifies, wants_reply, increments, header_length, command_of};
+ghost use Rattle.rmap.specs.Ranges.{lies_inside};
 
 use crate::discard::Discard;
+use crate::field;
+use crate::instruction::Instruction;
 use crate::kind::Kind;
 use byteorder::{BigEndian, ByteOrder};
 use rcrc::crc;
@@ -12,7 +15,7 @@ use spw::{End, Packet};
 use std::marker::Model;
 
 /// The protocol identifier of RMAP (ECSS-E-ST-50-52C, protocol identifier field).
-const RMAP: u8 = 0x01;
+pub const PROTOCOL: u8 = 0x01;
 
 /// A command with a right header, lent from the bytes of its packet (ECSS-E-ST-50-52C, write command
 /// format, read command format, read-modify-write command format). Nothing is said yet of its body.
@@ -48,26 +51,28 @@ impl<'a> Command<'a> {
         ensures end { MatchResult result (λ c. c.end ≡ packet.now.end) (λ _. Unit {0}) }
         ensures crc { IfOk result (λ c. IsRemainder (header_of c) (header_crc_of c)) }
         ensures kept { IfOk result (λ _. discard_of packet.now.bytes ≡ None) }
+        ensures found { IfOk result (λ c. c ≡ command_of packet.now) }
         ensures only { (c : Parts) → IsCommand packet.now.bytes c → c.end ≡ packet.now.end → result ≡ Ok c }
     {
         let bytes = packet.bytes();
         let [_, protocol, instruction, ..] = bytes else {
             return Err(Discard::Short);
         };
-        if *protocol != RMAP {
+        if *protocol != PROTOCOL {
             return Err(Discard::Protocol);
         }
-        if *instruction / 64 == 0 {
+        let instruction = Instruction(*instruction);
+        if instruction.is_reply() {
             return Err(Discard::Reply);
         }
-        let address = 4 * usize::from(*instruction % 4);
+        let address = instruction.reply_address_len();
         let (front, rest) = bytes.split_first_chunk::<4>().ok_or(Discard::Short)?;
         if rest.len() < address {
             return Err(Discard::Short);
         }
         let (path, rest) = rest.split_at(address);
         let (tail, body) = rest.split_first_chunk::<12>().ok_or(Discard::Short)?;
-        if tail[11] != crc(&bytes[..15 + address]) {
+        if tail[field::HEADER_CRC] != crc(&bytes[..field::CHECKED + address]) {
             return Err(Discard::HeaderCrc);
         }
         Ok(Command {
@@ -77,6 +82,27 @@ impl<'a> Command<'a> {
             body,
             end: packet.end(),
         })
+    }
+
+    /// The command that the packet's bytes are, once it is known that they are one: cut by lengths
+    /// alone.
+    pub fn again(packet: &'a Packet) -> Command<'a>
+        requires { discard_of packet.now.bytes ≡ None }
+        ensures { result ≡ command_of packet.now }
+    {
+        let end = packet.end();
+        let bytes = packet.bytes();
+        let address = Instruction(bytes[field::INSTRUCTION]).reply_address_len();
+        let (front, rest) = bytes.split_first_chunk::<4>().unwrap();
+        let (path, rest) = rest.split_at(address);
+        let (tail, body) = rest.split_first_chunk::<12>().unwrap();
+        Command {
+            front,
+            path,
+            tail,
+            body,
+            end,
+        }
     }
 
     /// The first four bytes: target logical address, protocol identifier, instruction, key.
@@ -121,28 +147,28 @@ impl<'a> Command<'a> {
     pub fn target(&self) -> u8
         ensures { result ≡ target_of self.now }
     {
-        self.front[0]
+        self.front[field::TARGET]
     }
 
     /// The instruction byte (ECSS-E-ST-50-52C, instruction field).
-    pub fn instruction(&self) -> u8
-        ensures { result ≡ instruction_of self.now }
+    pub fn instruction(&self) -> Instruction
+        ensures { result.0 ≡ instruction_of self.now }
     {
-        self.front[2]
+        Instruction(self.front[field::INSTRUCTION])
     }
 
     /// The key (ECSS-E-ST-50-52C, key field).
     pub fn key(&self) -> u8
         ensures { result ≡ key_of self.now }
     {
-        self.front[3]
+        self.front[field::KEY]
     }
 
     /// The initiator logical address (ECSS-E-ST-50-52C, initiator logical address field).
     pub fn initiator(&self) -> u8
         ensures { result ≡ initiator_of self.now }
     {
-        self.tail[0]
+        self.tail[field::INITIATOR]
     }
 
     /// The transaction identifier, most significant byte first (ECSS-E-ST-50-52C, transaction
@@ -151,14 +177,14 @@ impl<'a> Command<'a> {
         ensures { result ≡ transaction_of self.now }
     {
         let tail = self.tail;
-        BigEndian::read_u16(&tail[1..])
+        BigEndian::read_u16(&tail[field::TRANSACTION..])
     }
 
     /// The extended address (ECSS-E-ST-50-52C, extended address field).
     pub fn extended(&self) -> u8
         ensures { result ≡ extended_of self.now }
     {
-        self.tail[3]
+        self.tail[field::EXTENDED]
     }
 
     /// The address, most significant byte first (ECSS-E-ST-50-52C, address field).
@@ -166,7 +192,7 @@ impl<'a> Command<'a> {
         ensures { result ≡ address_of self.now }
     {
         let tail = self.tail;
-        BigEndian::read_u32(&tail[4..])
+        BigEndian::read_u32(&tail[field::ADDRESS..])
     }
 
     /// The data length, in bytes, below 2²⁴, most significant byte first (ECSS-E-ST-50-52C, data
@@ -175,41 +201,53 @@ impl<'a> Command<'a> {
         ensures value { result ≡ length_of self.now }
     {
         let tail = self.tail;
-        BigEndian::read_u24(&tail[8..])
+        BigEndian::read_u24(&tail[field::LENGTH..])
+    }
+
+    /// Whether the command's bytes lie in the range of that base and size: its address does, and with
+    /// increment its data do not pass the end.
+    pub fn lies_inside(&self, base: u32, size: u32) -> bool
+        ensures { result ≡ lies_inside base size self.now }
+    {
+        let address = u64::from(self.address());
+        let end = u64::from(base) + u64::from(size);
+        u64::from(base) <= address
+            && address < end
+            && (!self.increments() || address + u64::from(self.length()) <= end)
     }
 
     /// What the command asks for; a reserved packet type is `Unused`.
     pub fn kind(&self) -> Kind
         ensures { result ≡ command_kind self.now }
     {
-        Kind::of_instruction(self.instruction())
+        self.instruction().kind()
     }
 
     /// Bit 5: a reply has the form of a write reply.
     pub fn writes(&self) -> bool
         ensures { result ≡ writes self.now }
     {
-        self.instruction() >> 5 & 1 == 1
+        self.instruction().writes()
     }
 
     /// Bit 4: the data is to be checked before memory changes.
     pub fn verifies(&self) -> bool
         ensures { result ≡ verifies self.now }
     {
-        self.instruction() >> 4 & 1 == 1
+        self.instruction().verifies()
     }
 
     /// Bit 3: a reply is to be sent.
     pub fn wants_reply(&self) -> bool
         ensures { result ≡ wants_reply self.now }
     {
-        self.instruction() >> 3 & 1 == 1
+        self.instruction().wants_reply()
     }
 
     /// Bit 2: each byte has the next address; else all have the one address.
     pub fn increments(&self) -> bool
         ensures { result ≡ increments self.now }
     {
-        self.instruction() >> 2 & 1 == 1
+        self.instruction().increments()
     }
 }

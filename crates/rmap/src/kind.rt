@@ -1,8 +1,5 @@
 //! What a command asks for.
 
-ghost use Rattle.std.specs.Prelude.{◌≡◌};
-ghost use Rattle.rmap.specs.Instruction.{kind_of};
-
 /// What a command asks for, by its packet type and command code (ECSS-E-ST-50-52C, instruction
 /// field).
 #[derive(Clone, Copy, Debug, PartialEq, Eq)]
@@ -15,21 +12,4 @@ pub enum Kind {
     Rmw,
     /// Codes 0000, 0001, 0100, 0101 and 0110, which are unused, and any packet type but 01.
     Unused,
-}
-
-impl Kind {
-    /// The kind that an instruction byte stands for.
-    pub fn of_instruction(instruction: u8) -> Kind
-        ensures { result ≡ kind_of instruction }
-    {
-        if instruction / 64 != 1 {
-            return Kind::Unused;
-        }
-        match instruction / 4 % 16 {
-            2 | 3 => Kind::Read,
-            7 => Kind::Rmw,
-            8.. => Kind::Write,
-            _ => Kind::Unused,
-        }
-    }
 }

@@ -8,7 +8,7 @@ ghost use Rattle.rcrc.specs.Polynomial.{IsRemainder};
 ghost use Rattle.rmap.specs.Command.{wants_reply};
 ghost use Rattle.rmap.specs.Reply.{HasRemainders, reply_of, reply_header, reply_path_of, read_fields, with_crc, without_leading_zeros, reply_instruction};
 
-use crate::command::Command;
+use crate::command::{Command, PROTOCOL};
 use crate::status::Status;
 use byteorder::{BigEndian, ByteOrder};
 use rcrc::crc;
@@ -16,9 +16,6 @@ use std::marker::Model;
 
 /// The most bytes that a reply has: a path of 12, a header of 12 and 4,096 of data with their CRC.
 pub const MAX_REPLY: usize = 4121;
-
-/// The protocol identifier of RMAP (ECSS-E-ST-50-52C, protocol identifier field).
-const RMAP: u8 = 0x01;
 
 /// Room for one reply.
 #[derive(Debug, Drop)]
@@ -89,8 +86,8 @@ impl ReplyBuf {
         ensures { self.new ≡ self.old ++ reply_header command.now status bytes.now }
     {
         self.push(command.initiator());
-        self.push(RMAP);
-        self.push(command.instruction() % 64);
+        self.push(PROTOCOL);
+        self.push(command.instruction().of_reply().0);
         self.push(status.code());
         self.push(command.target());
         let mut transaction = [0; 2];

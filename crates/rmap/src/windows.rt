@@ -5,7 +5,7 @@ ghost use Rattle.std.specs.Prelude.{◌≡◌, ◌≤◌, length, slice_get};
 use std::marker::Model;
 
 /// The most banks that a node has.
-const MAX_BANKS: usize = 8;
+pub const MAX_BANKS: usize = 8;
 
 /// The logical address of a node, and the base and the size in bytes of each of its banks. Every
 /// node has the boot window beside them.

@@ -8,7 +8,7 @@ mod headers;
 
 use super::word;
 use rmap::{
-    Command, Discard, Kind, MAX_REPLY, ReplyBuf, Status, Windows, command_is_unique,
+    Command, Discard, Instruction, Kind, MAX_REPLY, ReplyBuf, Status, Windows, command_is_unique,
     commands_are_laid_out, discard_is_exact, put_reply, replies_are_short,
 };
 use spw::End;
@@ -56,7 +56,7 @@ fn fields_of_a_header(rt: HostRuntime) -> Result<(), Fail> {
     assert_eq!(rt; command.body(), [0xAA, 0xBB].as_slice());
     assert_eq!(rt; command.end(), End::Eop);
     assert_eq!(rt; command.target(), 0x20);
-    assert_eq!(rt; command.instruction(), 0x4E);
+    assert_eq!(rt; command.instruction().0, 0x4E);
     assert_eq!(rt; command.key(), 0x33);
     assert_eq!(rt; command.initiator(), 0x67);
     assert_eq!(rt; command.transaction(), 0x4455);
@@ -84,7 +84,7 @@ fn kinds_of_instructions(rt: HostRuntime) -> Result<(), Fail> {
         } else {
             "Unused"
         };
-        let found = word(rt.alloc(), Some(Kind::of_instruction(instruction)))?;
+        let found = word(rt.alloc(), Some(Instruction(instruction).kind()))?;
         assert_eq!(rt; found.as_str(), want, "instruction {instruction}");
     }
     Ok(())

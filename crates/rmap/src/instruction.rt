@@ -1,0 +1,108 @@
+//! The instruction byte.
+
+ghost use Rattle.std.specs.Prelude.{◌≡◌, ◌≤◌, ◌<◌, ◌==◌};
+ghost use Rattle.std.specs.Int.{bit_at};
+ghost use Rattle.rmap.specs.Instruction.{packet_type, command_code, kind_of, has_write_bit, has_verify_bit, has_reply_bit, has_increment_bit, reply_address_length};
+ghost use Rattle.rmap.specs.Reply.{reply_instruction};
+
+use crate::kind::Kind;
+
+/// The instruction byte of a command or a reply (ECSS-E-ST-50-52C, instruction field).
+#[derive(Clone, Copy, Debug, PartialEq, Eq)]
+pub struct Instruction(pub u8);
+
+impl Instruction {
+    /// Bits 7 and 6: 0 is a reply, 1 a command, 2 and 3 are reserved.
+    fn packet_type(self) -> u8
+        ensures { result ≡ packet_type self.0 }
+    {
+        self.0 >> 6
+    }
+
+    /// Bits 5 to 2.
+    fn code(self) -> u8
+        ensures { result ≡ command_code self.0 }
+    {
+        self.0 >> 2 & 0b1111
+    }
+
+    fn has(self, bit: u8) -> bool
+        requires { bit < 8 }
+        ensures { result ≡ (bit_at self.0 bit == 1) }
+    {
+        self.0 >> bit & 1 == 1
+    }
+
+    /// Whether it is that of a command.
+    pub fn is_command(self) -> bool
+        ensures { result ≡ (packet_type self.0 == 1) }
+    {
+        self.packet_type() == 1
+    }
+
+    /// Whether it is that of a reply.
+    pub fn is_reply(self) -> bool
+        ensures { result ≡ (packet_type self.0 == 0) }
+    {
+        self.packet_type() == 0
+    }
+
+    /// What it asks for, by packet type and command code; a reserved packet type asks for nothing that
+    /// is used.
+    pub fn kind(self) -> Kind
+        ensures { result ≡ kind_of self.0 }
+    {
+        if !self.is_command() {
+            return Kind::Unused;
+        }
+        match self.code() {
+            0b0010 | 0b0011 => Kind::Read,
+            0b0111 => Kind::Rmw,
+            0b1000.. => Kind::Write,
+            _ => Kind::Unused,
+        }
+    }
+
+    /// Bit 5: a reply has the form of a write reply.
+    pub fn writes(self) -> bool
+        ensures { result ≡ has_write_bit self.0 }
+    {
+        self.has(5)
+    }
+
+    /// Bit 4: the data is to be checked before memory changes.
+    pub fn verifies(self) -> bool
+        ensures { result ≡ has_verify_bit self.0 }
+    {
+        self.has(4)
+    }
+
+    /// Bit 3: a reply is to be sent.
+    pub fn wants_reply(self) -> bool
+        ensures { result ≡ has_reply_bit self.0 }
+    {
+        self.has(3)
+    }
+
+    /// Bit 2: each byte has the next address; else all have the one address.
+    pub fn increments(self) -> bool
+        ensures { result ≡ has_increment_bit self.0 }
+    {
+        self.has(2)
+    }
+
+    /// Bits 1 and 0: the bytes of the reply address, 0, 4, 8 or 12.
+    pub fn reply_address_len(self) -> usize
+        ensures value { result ≡ reply_address_length self.0 }
+        ensures few { result ≤ 12 }
+    {
+        4 * usize::from(self.0 % 4)
+    }
+
+    /// The instruction of the reply: packet type 00, and the other bits as they are.
+    pub fn of_reply(self) -> Instruction
+        ensures { result.0 ≡ reply_instruction self.0 }
+    {
+        Instruction(self.0 % 64)
+    }
+}
