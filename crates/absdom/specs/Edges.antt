@@ -12,9 +12,13 @@ use Rattle.absdom_num.specs.Tables.{only}
 use Rattle.absdom_num.specs.Refinement.{refined}
 use Rattle.absdom.specs.declared.cause.Cause.{Cause}
 use Rattle.absdom.specs.declared.kinds.AbsKind.TheVariants.{Num}
-use Rattle.absdom.specs.declared.refining.Edges.{Edges}
 use Rattle.absdom.specs.Kinds.{number_of}
 use Rattle.absdom.specs.Knowledge.{Knowledge, kind_at, with_kind}
+
+-- what is known on the two edges of a comparison: none is known on an edge that no run takes
+pub record Edges : Type 0 where
+  pub taken : Option Knowledge
+  pub not_taken : Option Knowledge
 
 -- the second operand of a comparison: an immediate counts by the bits that the comparison reads
 abbrev pub compared : Width → Knowledge → Operand → Result Range Cause
@@ -49,6 +53,13 @@ is_itself dst (Immediate value) = false
 abbrev pub edges_of : Condition → Width → Knowledge → (dst : ℕ) → Operand → Range → Range → Edges
 edges_of condition width a dst src left right =
     if is_itself dst src then unrefined a else on_edges a dst src (refined condition width left right)
+
+-- the ranges on both edges; a comparison of a register with itself leaves them as they are
+abbrev pub ranges_of : Condition → Width → (dst : ℕ) → Operand → Range → Range → RangeEdges
+ranges_of condition width dst src left right =
+    if is_itself dst src
+      then record { taken = Some (record { dst = left; src = right }); not_taken = Some (record { dst = left; src = right }) }
+      else refined condition width left right
 
 -- the edges of a comparison of two numbers
 abbrev pub compared_edges : Condition → Width → Knowledge → (dst : ℕ) → Operand → Result Range Cause → Result Range Cause → Result Edges Cause

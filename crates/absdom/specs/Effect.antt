@@ -1,6 +1,6 @@
 -- What an instruction does to what is known, or why it is refused (a choice of this project). Operands are
 -- tested first, the destination before the source, and of each whether it is set and then its kind.
-use Rattle.std.specs.Prelude.{ℕ, ◌+◌, ◌-◌, ◌^◌, ◌≤◌, Bool, true, ◌||◌, ◌==◌, nat_lt, nat_le, if◌then◌else◌, ℤ, pos, negsuc, ◌+ℤ◌, ◌-ℤ◌, List, Option, Some, None, Result, Ok, Err}
+use Rattle.std.specs.Prelude.{◌≡◌, ℕ, ◌+◌, ◌-◌, ◌^◌, ◌≤◌, Bool, true, ◌||◌, ◌==◌, nat_lt, nat_le, if◌then◌else◌, ℤ, pos, negsuc, ◌+ℤ◌, ◌-ℤ◌, List, Option, Some, None, Result, Ok, Err}
 use Rattle.bpf_insn.specs.declared.operation.Width.{Width}
 use Rattle.bpf_insn.specs.declared.operation.Width.TheVariants.{Bits32, Bits64}
 use Rattle.bpf_insn.specs.declared.operation.AluOp.{AluOp}
@@ -216,3 +216,8 @@ applied a (LoadMap dst index) = Ok (with_kind a dst (map_kind index))
 applied a (LoadAddress dst address) = Ok a
 applied a (Call callee number) = Ok a
 applied a Exit = Ok a
+
+-- a change in place: the state becomes what is given, or stays what it was where it is refused
+abbrev pub Becomes : Result (Unit {0}) Cause → (old new : Knowledge) → (given : Result Knowledge Cause) → Type 0
+Becomes (Ok done) old new given = given ≡ Ok new
+Becomes (Err cause) old new given = (given ≡ Err cause) × (new ≡ old)

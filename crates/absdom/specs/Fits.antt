@@ -10,9 +10,9 @@ use Rattle.absdom_num.specs.Ranges.{IsIn}
 use Rattle.absdom.specs.declared.cause.Cause.{Cause}
 use Rattle.absdom.specs.declared.kinds.AbsKind.{AbsKind}
 use Rattle.absdom.specs.declared.kinds.AbsKind.TheVariants.{Unset, Num, Ptr, Map}
-use Rattle.absdom.specs.declared.refining.Edges.{Edges}
 use Rattle.absdom.specs.Knowledge.{Knowledge, kind_at}
 use Rattle.absdom.specs.Marks.{mark_at}
+use Rattle.absdom.specs.Edges.{Edges}
 
 -- an offset is one of these
 pub record IsAmong (z : ℤ) (offsets : ℤ × ℤ) : Type 0 where

@@ -4,8 +4,8 @@ use Rattle.absdom_num.specs.Ranges.{IsRange}
 use Rattle.absdom.specs.declared.cause.Cause.{Cause}
 use Rattle.absdom.specs.declared.kinds.AbsKind.{AbsKind}
 use Rattle.absdom.specs.declared.kinds.AbsKind.TheVariants.{Unset, Num, Ptr, Map}
-use Rattle.absdom.specs.declared.refining.Edges.{Edges}
 use Rattle.absdom.specs.Knowledge.{Knowledge, IsKnowledge, IsBelow, kind_at}
+use Rattle.absdom.specs.Edges.{Edges}
 
 -- the ends of a range, or of offsets, stand in order
 abbrev pub IsProper : AbsKind → Type 0

@@ -4,7 +4,7 @@ ghost use Rattle.std.specs.Prelude.{◌≡◌, ◌+◌, ◌-◌, ◌^◌, ◌<�
 ghost use Rattle.machine.specs.Memory.{place_within, place_of, size_bytes, load_bytes};
 ghost use Rattle.absdom.specs.Offsets.{IsOffset};
 ghost use Rattle.absdom.specs.Kinds.{number_of};
-ghost use Rattle.absdom.specs.Effect.{access_places, is_set, loaded_range, read_kind, load_kind, wrote, wrote_at, wrote_to, stored, AreInside};
+ghost use Rattle.absdom.specs.Effect.{access_places, is_set, loaded_range, read_kind, load_kind, wrote, wrote_at, wrote_to, stored, AreInside, Becomes};
 
 use crate::cause::Cause;
 use crate::kinds::AbsKind;
@@ -175,17 +175,16 @@ pub(crate) fn load(
 }
 
 /// A store to the stack at one of these offsets: it sets its bytes where there is one offset alone.
-fn write(state: &State, bytes: usize, offsets: Offsets, offset: i16) -> Result<State, Cause>
+fn write(state: &mut State, bytes: usize, offsets: Offsets, offset: i16) -> Result<(), Cause>
     requires { bytes ≤ 8 }
-    ensures { result ≡ wrote_at state.now bytes (access_places Region.Stack bytes offsets offset) }
+    ensures { Becomes result state.old state.new (wrote_at state.old bytes (access_places Region.Stack bytes offsets offset)) }
 {
     match access(Region::Stack, bytes, offsets, offset) {
         Some((lowest, highest)) => {
             if lowest == highest {
-                Ok(state.with_bytes(lowest, lowest + bytes))
-            } else {
-                Ok(*state)
+                state.write_bytes(lowest, lowest + bytes);
             }
+            Ok(())
         }
         None => Err(Cause::OutOfRegion),
     }
@@ -193,13 +192,13 @@ fn write(state: &State, bytes: usize, offsets: Offsets, offset: i16) -> Result<S
 
 /// A store through a pointer of a value that is this one.
 pub(crate) fn store(
-    state: &State,
+    state: &mut State,
     size: Size,
     base: &AbsKind,
     offset: i16,
     value: &AbsKind,
-) -> Result<State, Cause>
-    ensures { result ≡ stored state.now (size_bytes size) base.now offset (number_of value.now) }
+) -> Result<(), Cause>
+    ensures { Becomes result state.old state.new (stored state.old (size_bytes size) base.now offset (number_of value.now)) }
 {
     match base {
         AbsKind::Unset => Err(Cause::UnsetOperand),
@@ -218,15 +217,15 @@ pub(crate) fn store(
 
 /// A store to a region: the header is read-only.
 fn store_to(
-    state: &State,
+    state: &mut State,
     bytes: usize,
     region: Region,
     offsets: Offsets,
     offset: i16,
     value: &AbsKind,
-) -> Result<State, Cause>
+) -> Result<(), Cause>
     requires { bytes ≤ 8 }
-    ensures { result ≡ stored state.now bytes (AbsKind.Ptr region offsets) offset (number_of value.now) }
+    ensures { Becomes result state.old state.new (stored state.old bytes (AbsKind.Ptr region offsets) offset (number_of value.now)) }
 {
     let _ = value.number()?;
     match region {

@@ -13,7 +13,7 @@ pub fn order_of_states()
 /// A law and no work: from every state of the machine that fits what is known, an instruction that
 /// [`apply`] does not refuse goes on, in a state that fits what `apply` gives.
 ///
-/// [`apply`]: crate::apply
+/// [`apply`]: crate::State::apply
 pub fn apply_fits()
     ensures { ApplyFits }
 {
@@ -28,9 +28,9 @@ pub fn entry_fits()
 {}
 
 /// A law and no work: whatever a helper answers, the machine's state after the call fits
-/// [`State::after_call`] of a state that fitted before.
+/// [`State::call`] of a state that fitted before.
 ///
-/// [`State::after_call`]: crate::State::after_call
+/// [`State::call`]: crate::State::call
 pub fn after_call_fits()
     ensures { CallFits }
 {}
@@ -55,7 +55,7 @@ pub fn refine_fits()
 /// A law and no work: of a smaller state [`apply`] gives a smaller one, and does not refuse where it does
 /// not at the larger.
 ///
-/// [`apply`]: crate::apply
+/// [`apply`]: crate::State::apply
 pub fn apply_grows()
     ensures { ApplyGrows }
 {

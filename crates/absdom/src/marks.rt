@@ -60,16 +60,14 @@ impl Marks {
         }
     }
 
-    /// The marks that stand in both.
-    pub(crate) fn join(&self, other: &Marks) -> Marks
-        ensures both { (place : ℕ) → mark_at result place ≡ (mark_at self.now place && mark_at other.now place) }
-        ensures length { length result ≡ 512 }
+    /// Keeps the marks that stand in both.
+    pub(crate) fn join(&mut self, other: &Marks)
+        ensures both { (place : ℕ) → mark_at self.new place ≡ (mark_at self.old place && mark_at other.now place) }
+        ensures length { length self.new ≡ 512 }
     {
-        let mut set = [false; STACK];
         for place in 0..STACK {
-            set[place] = self.set[place] && other.set[place];
+            self.set[place] = self.set[place] && other.set[place];
         }
-        Marks { set }
     }
 
     /// Whether each mark of the other stands here too.

@@ -67,25 +67,21 @@ impl State {
         self.kinds[usize::from(register.number())]
     }
 
-    /// The state after the register was written.
-    pub fn with(&self, register: Register, kind: AbsKind) -> State
-        ensures { result ≡ with_kind self.now register kind }
+    /// Writes a register.
+    pub fn write(&mut self, register: Register, kind: AbsKind)
+        ensures { self.new ≡ with_kind self.old register kind }
     {
-        let mut state = *self;
-        state.kinds[usize::from(register.number())] = kind;
-        state
+        self.kinds[usize::from(register.number())] = kind;
     }
 
-    /// The least state above both: register by register, and a byte is set where it is in both.
-    pub fn join(&self, other: &State) -> State
-        ensures joint { IsJoin self.now other.now result }
-        ensures known { IsKnowledge result }
-        ensures whole { IsWhole result }
+    /// Grows to the least state above both: register by register, and a byte is set where it is in both.
+    pub fn join(&mut self, other: &State)
+        ensures joint { IsJoin self.old other.now self.new }
+        ensures known { IsKnowledge self.new }
+        ensures whole { IsWhole self.new }
     {
-        State {
-            kinds: join_kinds(&self.kinds, &other.kinds),
-            marks: self.marks.join(&other.marks),
-        }
+        join_kinds(&mut self.kinds, &other.kinds);
+        self.marks.join(&other.marks);
     }
 
     /// Whether this state says all that the other says.
@@ -95,18 +91,16 @@ impl State {
         are_below(&self.kinds, &other.kinds) && self.marks.leq(&other.marks)
     }
 
-    /// The state after a helper was called: r0 is any number, r1 to r5 are unset (RFC 9669, section 2).
-    pub fn after_call(&self) -> State
-        ensures { result ≡ after_call self.now }
+    /// Calls a helper: r0 is then any number, and r1 to r5 are unset (RFC 9669, section 2).
+    pub fn call(&mut self)
+        ensures { self.new ≡ after_call self.old }
     {
-        let mut state = *self;
-        state.kinds[0] = AbsKind::Num(Range::whole());
-        state.kinds[1] = AbsKind::Unset;
-        state.kinds[2] = AbsKind::Unset;
-        state.kinds[3] = AbsKind::Unset;
-        state.kinds[4] = AbsKind::Unset;
-        state.kinds[5] = AbsKind::Unset;
-        state
+        self.kinds[0] = AbsKind::Num(Range::whole());
+        self.kinds[1] = AbsKind::Unset;
+        self.kinds[2] = AbsKind::Unset;
+        self.kinds[3] = AbsKind::Unset;
+        self.kinds[4] = AbsKind::Unset;
+        self.kinds[5] = AbsKind::Unset;
     }
 
     /// Whether the bytes of the stack from place `first` to before `end` are set.
@@ -117,15 +111,13 @@ impl State {
         self.marks.are_set(first, end)
     }
 
-    /// The state after the bytes of the stack from place `first` to before `end` were written.
-    pub(crate) fn with_bytes(&self, first: usize, end: usize) -> State
+    /// Writes the bytes of the stack from place `first` to before `end`.
+    pub(crate) fn write_bytes(&mut self, first: usize, end: usize)
         requires order { first ≤ end }
         requires inside { end ≤ 512 }
-        ensures { result ≡ with_marks self.now (marked self.now.marks first (end - first)) }
+        ensures { self.new ≡ with_marks self.old (marked self.old.marks first (end - first)) }
     {
-        let mut state = *self;
-        state.marks.mark(first, end);
-        state
+        self.marks.mark(first, end);
     }
 }
 
@@ -157,16 +149,14 @@ fn kind_of(kinds: &[AbsKind; REGISTERS], register: usize) -> AbsKind
 }
 
 /// Register by register the least kind above both.
-fn join_kinds(a: &[AbsKind; REGISTERS], b: &[AbsKind; REGISTERS]) -> [AbsKind; REGISTERS]
-    ensures kinds { AreJoined a.now b.now result }
-    ensures size { length result ≡ 11 }
+fn join_kinds(a: &mut [AbsKind; REGISTERS], b: &[AbsKind; REGISTERS])
+    ensures kinds { AreJoined a.old b.now a.new }
+    ensures size { length a.new ≡ 11 }
 {
-    let mut joint = [AbsKind::Unset; REGISTERS];
     for register in 0..REGISTERS {
         let kind = kind_of(a, register).join(&kind_of(b, register));
-        joint[register] = kind;
+        a[register] = kind;
     }
-    joint
 }
 
 /// Whether each kind is below the other's of the same register.

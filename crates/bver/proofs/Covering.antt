@@ -5,10 +5,9 @@ use Rattle.bpf_insn.specs.declared.insn.Insn.TheVariants.{Alu, Negate, MoveSigne
 use Rattle.bpf_insn.specs.Spelling.{slots_of}
 use Rattle.machine.specs.Step.{distance_of}
 use Rattle.absdom.specs.declared.cause.Cause.{Cause}
-use Rattle.absdom.specs.declared.refining.Edges.{Edges}
 use Rattle.absdom.specs.Knowledge.{Knowledge}
 use Rattle.absdom.specs.Effect.{applied}
-use Rattle.absdom.specs.Edges.{refined_edges}
+use Rattle.absdom.specs.Edges.{Edges, refined_edges}
 use Rattle.absdom.specs.Laws.{BelowIsReflexive, BelowIsTransitive}
 use Rattle.bver_form.specs.Form.{target}
 use Rattle.bver.specs.Justified.{IsCovered, IsCoveredIfAny, IsResultCovered, AreEdgesCovered, Proceeds, IsPermitted, IsPermittedAt, known_at}

@@ -19,7 +19,7 @@ use Rattle.machine.specs.Runs.{Path, entry, moves, answered, IsSafe}
 use Rattle.absdom.specs.declared.cause.Cause.{Cause}
 use Rattle.absdom.specs.declared.kinds.AbsKind.{AbsKind}
 use Rattle.absdom.specs.declared.kinds.AbsKind.TheVariants.{Unset, Num, Ptr, Map}
-use Rattle.absdom.specs.declared.refining.Edges.{Edges}
+use Rattle.absdom.specs.Edges.{Edges}
 use Rattle.absdom.specs.Knowledge.{Knowledge, kind_at}
 use Rattle.absdom.specs.Effect.{applied}
 use Rattle.absdom.specs.Fits.{Fits, FitsKind, FitsEdge, IsSound, IsIndex, GoesStraight, TakesEdge, edge_where}

@@ -11,10 +11,9 @@ use Rattle.machine.specs.Step.{insn_at, distance_of, is_map}
 use Rattle.absdom.specs.declared.cause.Cause.{Cause}
 use Rattle.absdom.specs.declared.kinds.AbsKind.{AbsKind}
 use Rattle.absdom.specs.declared.kinds.AbsKind.TheVariants.{Unset, Num, Ptr, Map}
-use Rattle.absdom.specs.declared.refining.Edges.{Edges}
 use Rattle.absdom.specs.Knowledge.{Knowledge, IsEntry, IsBelow, kind_at}
 use Rattle.absdom.specs.Effect.{applied}
-use Rattle.absdom.specs.Edges.{refined_edges}
+use Rattle.absdom.specs.Edges.{Edges, refined_edges}
 use Rattle.bver_form.specs.Form.{IsFormed, target}
 
 -- ---- what is known along an edge, and where it leads

@@ -4,7 +4,7 @@ ghost use Rattle.std.specs.Prelude.{◌≡◌, ◌+◌, ◌<◌, IsTrue, OnOk, O
 ghost use Rattle.bpf_insn.specs.Spelling.{slots_of};
 ghost use Rattle.machine.specs.Step.{is_map};
 ghost use Rattle.absdom.specs.Effect.{applied};
-ghost use Rattle.absdom.specs.Edges.{refined_edges};
+ghost use Rattle.absdom.specs.Edges.{refined_edges, on_edge, on_edges};
 ghost use Rattle.absdom.specs.Knowledge.{kind_at};
 ghost use Rattle.bver_form.specs.Form.{IsAllowed, IsJump, target};
 ghost use Rattle.bver.specs.Codes.{refusal_of};
@@ -12,7 +12,7 @@ ghost use Rattle.bver.specs.Justified.{IsCovered, IsCoveredIfAny, IsResultCovere
 ghost use Rattle.bver.specs.Passing.{IsExtended, IsLater, HasNext, known_in};
 
 use crate::table::Table;
-use absdom::{AbsKind, Cause, Edges, Region, State, apply, order_of_states, refine};
+use absdom::{AbsKind, Cause, Edges, Operands, Region, State, order_of_states, refine};
 use bpf::Image;
 use bpf_insn::{Condition, Distance, Insn, Operand, Register, Width};
 use bver_form::{Refusal, landing};
@@ -46,44 +46,77 @@ fn jump(table: &mut Table, image: &Image, slot: u16, distance: i32, state: &Stat
 }
 
 /// Follows the edge of a comparison on which it holds, if a run may take it.
-fn follow_taken(table: &mut Table, image: &Image, slot: u16, distance: i32, edge: &Option<State>)
+fn follow_taken(
+    table: &mut Table,
+    image: &Image,
+    slot: u16,
+    state: &State,
+    dst: Register,
+    src: &Operand,
+    distance: i32,
+    edge: &Option<Operands>,
+)
     requires size { length table.old ≡ length image.now.slots }
     requires jump { IsJump image.now slot distance }
-    ensures covered { IsCoveredIfAny edge.now (known_at (known_in table.new) (target slot distance)) }
+    ensures covered { IsCoveredIfAny (on_edge state.now dst src.now edge.now) (known_at (known_in table.new) (target slot distance)) }
     ensures extended { IsExtended image.now slot table.old table.new }
 {
     order_of_states();
     match edge {
-        Some(state) => jump(table, image, slot, distance, state),
+        Some(new) => {
+            let mut state = *state;
+            state.narrow(dst, src, new);
+            jump(table, image, slot, distance, &state);
+        }
         None => {}
     }
 }
 
 /// Follows the other edge of a comparison, if a run may take it.
-fn follow_not_taken(table: &mut Table, image: &Image, slot: u16, edge: &Option<State>)
+fn follow_not_taken(
+    table: &mut Table,
+    image: &Image,
+    slot: u16,
+    state: &mut State,
+    dst: Register,
+    src: &Operand,
+    edge: &Option<Operands>,
+)
     requires { IsLater image.now slot table.old (slot + 1) }
-    ensures covered { IsCoveredIfAny edge.now (known_in table.new (slot + 1)) }
+    ensures covered { IsCoveredIfAny (on_edge state.old dst src.now edge.now) (known_in table.new (slot + 1)) }
     ensures extended { IsExtended image.now slot table.old table.new }
 {
     order_of_states();
     let next = slot + 1;
     match edge {
-        Some(state) => table.follow(next, state),
+        Some(new) => {
+            state.narrow(dst, src, new);
+            table.follow(next, state);
+        }
         None => {}
     }
 }
 
 /// Follows the edges of a comparison.
-fn branch(table: &mut Table, image: &Image, slot: u16, distance: i32, edges: &Edges)
+fn branch(
+    table: &mut Table,
+    image: &Image,
+    slot: u16,
+    state: &mut State,
+    dst: Register,
+    src: &Operand,
+    distance: i32,
+    edges: &Edges,
+)
     requires size { length table.old ≡ length image.now.slots }
     requires jump { IsJump image.now slot distance }
     requires next { IsLater image.now slot table.old (slot + 1) }
-    ensures covered { AreEdgesCovered (Ok edges.now) (known_at (known_in table.new) (target slot distance)) (known_in table.new (slot + 1)) }
+    ensures covered { AreEdgesCovered (Ok (on_edges state.old dst src.now edges.now)) (known_at (known_in table.new) (target slot distance)) (known_in table.new (slot + 1)) }
     ensures extended { IsExtended image.now slot table.old table.new }
 {
     order_of_states();
-    follow_taken(table, image, slot, distance, &edges.taken);
-    follow_not_taken(table, image, slot, &edges.not_taken);
+    follow_taken(table, image, slot, state, dst, src, distance, &edges.taken);
+    follow_not_taken(table, image, slot, state, dst, src, &edges.not_taken);
 }
 
 /// A comparison.
@@ -91,7 +124,7 @@ fn compare(
     table: &mut Table,
     image: &Image,
     slot: u16,
-    state: &State,
+    state: &mut State,
     condition: Condition,
     width: Width,
     dst: Register,
@@ -101,13 +134,17 @@ fn compare(
     requires size { length table.old ≡ length image.now.slots }
     requires jump { IsJump image.now slot offset }
     requires next { IsLater image.now slot table.old (slot + 1) }
-    ensures covered { OnOk result (AreEdgesCovered (refined_edges state.now condition width dst src.now) (known_at (known_in table.new) (target slot offset)) (known_in table.new (slot + 1))) }
+    ensures covered { OnOk result (AreEdgesCovered (refined_edges state.old condition width dst src.now) (known_at (known_in table.new) (target slot offset)) (known_in table.new (slot + 1))) }
     ensures extended { IsExtended image.now slot table.old table.new }
 {
     order_of_states();
-    let edges = refine(state, condition, width, dst, src).map_err(refusal_of)?;
-    branch(table, image, slot, i32::from(offset), &edges);
-    Ok(())
+    match refine(state, condition, width, dst, src) {
+        Ok(edges) => {
+            branch(table, image, slot, state, dst, src, i32::from(offset), &edges);
+            Ok(())
+        }
+        Err(cause) => Err(refusal_of(cause)),
+    }
 }
 
 /// An instruction that goes on to the next one.
@@ -115,17 +152,17 @@ fn straight(
     table: &mut Table,
     image: &Image,
     slot: u16,
-    state: &State,
+    state: &mut State,
     insn: &Insn,
 ) -> Result<(), Refusal>
     requires { IsLater image.now slot table.old (slot + slots_of insn.now) }
-    ensures covered { OnOk result (IsResultCovered (applied state.now insn.now) (known_in table.new (slot + slots_of insn.now))) }
+    ensures covered { OnOk result (IsResultCovered (applied state.old insn.now) (known_in table.new (slot + slots_of insn.now))) }
     ensures extended { IsExtended image.now slot table.old table.new }
 {
     order_of_states();
-    let after = apply(state, insn).map_err(refusal_of)?;
+    state.apply(insn).map_err(refusal_of)?;
     let next = slot + insn.slots() as u16;
-    table.follow(next, &after);
+    table.follow(next, state);
     Ok(())
 }
 
@@ -175,7 +212,7 @@ pub(crate) fn accessed(state: &State, insn: &Insn) -> Option<Region>
 }
 
 /// Tests an instruction with what is known at its slot, and follows the edges that a run may take from
-/// there.
+/// there. The state is changed on the way.
 ///
 /// # Errors
 ///
@@ -186,13 +223,13 @@ pub(crate) fn flow(
     image: &Image,
     sizes: &MapSizes,
     slot: u16,
-    state: &State,
+    state: &mut State,
     insn: &Insn,
 ) -> Result<(), Refusal>
     requires size { length table.old ≡ length image.now.slots }
     requires allowed { IsAllowed image.now slot insn.now }
     requires next { HasNext image.now slot table.old insn.now }
-    ensures permitted { OnOk result (IsPermitted sizes.now (known_in table.new) slot state.now insn.now) }
+    ensures permitted { OnOk result (IsPermitted sizes.now (known_in table.new) slot state.old insn.now) }
     ensures extended { IsExtended image.now slot table.old table.new }
 {
     order_of_states();

@@ -19,31 +19,34 @@ fn visit_with(
     image: &Image,
     sizes: &MapSizes,
     slot: u16,
-    state: &State,
+    state: &mut State,
 ) -> Result<Option<Region>, Refusal>
     requires formed { IsFormed image.now }
     requires size { length table.old ≡ length image.now.slots }
     requires placed { IsPlaced image.now table.old }
-    requires known { known_in table.old slot ≡ Some state.now }
-    ensures permitted { OnOk result (IsPermittedAt sizes.now (known_in table.new) slot (Some state.now) (insn_at image.now slot)) }
-    ensures region { IfOk result (λ region. region ≡ accessed_at (Some state.now) (insn_at image.now slot)) }
+    requires known { known_in table.old slot ≡ Some state.old }
+    ensures permitted { OnOk result (IsPermittedAt sizes.now (known_in table.new) slot (Some state.old) (insn_at image.now slot)) }
+    ensures region { IfOk result (λ region. region ≡ accessed_at (Some state.old) (insn_at image.now slot)) }
     ensures extended { IsExtended image.now slot table.old table.new }
 {
     match image.insn(slot) {
         Some(insn) => {
+            let region = accessed(state, &insn);
             flow(table, image, sizes, slot, state, &insn)?;
-            Ok(accessed(state, &insn))
+            Ok(region)
         }
         None => unreachable!(),
     }
 }
 
-/// Visits a slot. One at which nothing is known is skipped, since no run comes there.
+/// Visits a slot. One at which nothing is known is skipped, since no run comes there. The state is room for
+/// what is known there.
 fn visit(
     table: &mut Table,
     image: &Image,
     sizes: &MapSizes,
     slot: u16,
+    state: &mut State,
 ) -> Result<Option<Region>, Refusal>
     requires formed { IsFormed image.now }
     requires size { length table.old ≡ length image.now.slots }
@@ -54,9 +57,10 @@ fn visit(
     ensures extended { IsExtended image.now slot table.old table.new }
 {
     order_of_states();
-    match table.state(slot) {
-        Some(state) => visit_with(table, image, sizes, slot, &state),
-        None => Ok(None),
+    if table.read(slot, state) {
+        visit_with(table, image, sizes, slot, state)
+    } else {
+        Ok(None)
     }
 }
 
@@ -78,8 +82,9 @@ pub(crate) fn pass(
     ensures { OnOk result (IsJudged image.now sizes.now regions.new.items) }
 {
     order_of_states();
+    let mut state = State::entry();
     for slot in 0..image.slots() {
-        let region = visit(table, image, sizes, slot).map_err(|code| Refused { code, slot })?;
+        let region = visit(table, image, sizes, slot, &mut state).map_err(|code| Refused { code, slot })?;
         regions[usize::from(slot)] = region;
     }
     Ok(())

@@ -1,7 +1,6 @@
 //! What is known at each slot of a program.
 
-ghost use Rattle.std.specs.Prelude.{◌≡◌, ◌≢◌, ◌<◌, ℕ, IfOk, Some, None, length};
-ghost use Rattle.absdom.specs.Knowledge.{IsBelow};
+ghost use Rattle.std.specs.Prelude.{◌≡◌, ◌≢◌, ◌<◌, ℕ, IfOk, Some, None, length, if◌then◌else◌};
 ghost use Rattle.bver.specs.Justified.{IsCovered, IsCoveredIfAny};
 ghost use Rattle.bver.specs.Passing.{IsGrown, IsLeast, known_in};
 
@@ -9,17 +8,17 @@ use absdom::{State, join_is_least, order_of_states};
 use std::alloc::{AllocError, Global};
 use std::marker::Model;
 
-/// The least state above what is known, if anything is, and the other state.
-fn joint(known: &Option<State>, state: &State) -> State
-    ensures state { IsBelow state.now result }
-    ensures known { IsCoveredIfAny known.now (Some result) }
-    ensures least { IsLeast known.now state.now (Some result) }
+/// Grows what is known, if anything is, to the least that covers the state too.
+fn include(known: &mut Option<State>, state: &State)
+    ensures state { IsCovered state.now known.new }
+    ensures known { IsCoveredIfAny known.old known.new }
+    ensures least { IsLeast known.old state.now known.new }
 {
     order_of_states();
     join_is_least();
     match known {
         Some(known) => known.join(state),
-        None => *state,
+        None => *known = Some(*state),
     }
 }
 
@@ -49,12 +48,18 @@ impl Table {
         })
     }
 
-    /// What is known at a slot.
-    pub(crate) fn state(&self, slot: u16) -> Option<State>
+    /// Writes what is known at a slot to the state, and tells whether anything is.
+    pub(crate) fn read(&self, slot: u16, state: &mut State) -> bool
         requires { slot < length self.now }
-        ensures { result ≡ known_in self.now slot }
+        ensures { known_in self.now slot ≡ (if result then Some state.new else None) }
     {
-        self.states[usize::from(slot)]
+        match &self.states[usize::from(slot)] {
+            Some(known) => {
+                *state = *known;
+                true
+            }
+            None => false,
+        }
     }
 
     /// Follows an edge to a slot: what is known there is from now on the least that covers the state
@@ -67,7 +72,6 @@ impl Table {
         ensures others { (k : ℕ) → k ≢ slot → known_in self.new k ≡ known_in self.old k }
     {
         order_of_states();
-        let state = joint(&self.state(slot), state);
-        self.states[usize::from(slot)] = Some(state);
+        include(&mut self.states[usize::from(slot)], state);
     }
 }

@@ -1,6 +1,6 @@
 //! The calls on states that a program meets, with the answers of the table.
 
-use absdom::{AbsKind, Cause, Offsets, Region, State, apply, refine};
+use absdom::{AbsKind, Cause, Offsets, Region, State, refine};
 use absdom_num::Range;
 use bpf_insn::{AluOp, Condition, Insn, LoadSize, Operand, Register, Size, Width};
 use std::test::Fail;
@@ -58,30 +58,19 @@ fn entry_follows_the_calling_rules(rt: HostRuntime) -> Result<(), Fail> {
 
 #[test]
 fn each_refusal_has_its_cause(rt: HostRuntime) -> Result<(), Fail> {
-    let entry = State::entry();
     let (r1, r4, r10) = (register(1)?, register(4)?, register(10)?);
     let negate = Insn::Negate {
         width: Width::Bits64,
         dst: r1,
     };
-    assert_eq!(rt; apply(&entry, &add(r4, 1)).err(), Some(Cause::UnsetOperand));
-    assert_eq!(rt; apply(&entry, &negate).err(), Some(Cause::KindMismatch));
-    assert_eq!(rt;
-        apply(&entry, &load(r4, r1, 0)).err(),
-        Some(Cause::OutOfRegion)
-    );
-    assert_eq!(rt;
-        apply(&entry, &load(r4, r10, -8)).err(),
-        Some(Cause::UnsetStack)
-    );
-    assert_eq!(rt;
-        apply(&entry, &store(r1, 0)).err(),
-        Some(Cause::HeaderWrite)
-    );
-    assert_eq!(rt;
-        apply(&entry, &add(r1, 65_537)).err(),
-        Some(Cause::PointerRange)
-    );
+    let mut state = State::entry();
+    assert_eq!(rt; state.apply(&add(r4, 1)), Err(Cause::UnsetOperand));
+    assert_eq!(rt; state.apply(&negate), Err(Cause::KindMismatch));
+    assert_eq!(rt; state.apply(&load(r4, r1, 0)), Err(Cause::OutOfRegion));
+    assert_eq!(rt; state.apply(&load(r4, r10, -8)), Err(Cause::UnsetStack));
+    assert_eq!(rt; state.apply(&store(r1, 0)), Err(Cause::HeaderWrite));
+    assert_eq!(rt; state.apply(&add(r1, 65_537)), Err(Cause::PointerRange));
+    assert!(rt; state == State::entry());
     assert_eq!(rt; Cause::UnsetOperand.code(), 5);
     assert_eq!(rt; Cause::PointerRange.code(), 11);
     Ok(())
@@ -91,43 +80,40 @@ fn each_refusal_has_its_cause(rt: HostRuntime) -> Result<(), Fail> {
 fn bytes_that_were_stored_are_loaded(rt: HostRuntime) -> Result<(), Fail> {
     let (r4, r10) = (register(4)?, register(10)?);
     let entry = State::entry();
-    let stored = apply(&entry, &store(r10, -8))?;
-    let loaded = apply(&stored, &load(r4, r10, -8))?;
-    assert_eq!(rt; loaded.kind(r4), AbsKind::Num(Range::whole()));
+    let mut state = entry;
+    state.apply(&store(r10, -8))?;
+    let stored = state;
+    state.apply(&load(r4, r10, -8))?;
+    assert_eq!(rt; state.kind(r4), AbsKind::Num(Range::whole()));
     assert!(rt; stored.leq(&entry));
     assert!(rt; !entry.leq(&stored));
-    let joint = stored.join(&entry);
-    assert_eq!(rt;
-        apply(&joint, &load(r4, r10, -8)).err(),
-        Some(Cause::UnsetStack)
-    );
+    state.join(&entry);
+    assert_eq!(rt; state.apply(&load(r4, r10, -8)), Err(Cause::UnsetStack));
     Ok(())
 }
 
 #[test]
 fn a_comparison_moves_the_ends(rt: HostRuntime) -> Result<(), Fail> {
     let r3 = register(3)?;
-    let edges = refine(
-        &State::entry(),
-        Condition::Less,
-        Width::Bits64,
-        r3,
-        &Operand::Immediate(5),
-    )?;
+    let five = Operand::Immediate(5);
+    let mut state = State::entry();
+    let edges = refine(&state, Condition::Less, Width::Bits64, r3, &five)?;
     let taken = edges.taken.ok_or("not followed")?;
     let not_taken = edges.not_taken.ok_or("not followed")?;
-    assert_eq!(rt; taken.kind(r3).number(), Ok(Range::new(0, 4)));
-    assert_eq!(rt; not_taken.kind(r3).number(), Ok(Range::new(5, 31)));
+    assert_eq!(rt; not_taken.dst, Range::new(5, 31));
+    state.narrow(r3, &five, &taken);
+    assert_eq!(rt; state.kind(r3).number(), Ok(Range::new(0, 4)));
     Ok(())
 }
 
 #[test]
 fn a_call_unsets_its_arguments(rt: HostRuntime) -> Result<(), Fail> {
     let (r0, r1) = (register(0)?, register(1)?);
-    let called = State::entry().with(r1, AbsKind::Map(3));
-    assert_eq!(rt; called.kind(r1).map(), Ok(3));
-    let after = called.after_call();
-    assert_eq!(rt; after.kind(r1), AbsKind::Unset);
-    assert_eq!(rt; after.kind(r0), AbsKind::Num(Range::whole()));
+    let mut state = State::entry();
+    state.write(r1, AbsKind::Map(3));
+    assert_eq!(rt; state.kind(r1).map(), Ok(3));
+    state.call();
+    assert_eq!(rt; state.kind(r1), AbsKind::Unset);
+    assert_eq!(rt; state.kind(r0), AbsKind::Num(Range::whole()));
     Ok(())
 }

@@ -1,7 +1,11 @@
-use Rattle.std.proofs.Common.{◌≡◌, ℕ, ◌<◌, length}
+use Rattle.std.proofs.Common.{◌≡◌, ℕ, ◌<◌, ◌≤◌, length}
 use Rattle.absdom.specs.Kinds.{joined}
 use Rattle.absdom.specs.Knowledge.{kind_in}
 use Rattle.absdom.proofs.state.join_kinds.Given as goal
 
 abbrev pub invariant-loop-register : goal.invariant-loop-register
-invariant-loop-register l = record { size : length l.joint ≡ 11; kinds : (k : ℕ) → k < l.register → kind_in l.joint k ≡ joined (kind_in l.a k) (kind_in l.b k) }
+invariant-loop-register l = record {
+  size : length l.a ≡ 11;
+  kinds : (k : ℕ) → k < l.register → kind_in l.a k ≡ joined (kind_in l.initial.a k) (kind_in l.b k);
+  ahead : (k : ℕ) → l.register ≤ k → kind_in l.a k ≡ kind_in l.initial.a k;
+}

@@ -1,4 +1,6 @@
-use Rattle.std.proofs.Common.{rules}
+use Rattle.std.proofs.Common.{rules, Option}
+use Rattle.absdom.specs.Knowledge.{Knowledge}
+use Rattle.absdom.specs.Edges.{on_edge}
 use Rattle.bver_form.specs.Form.{target}
 use Rattle.bver.specs.Justified.{IsCoveredIfAny, known_at}
 use Rattle.bver.specs.Passing.{known_in}
@@ -11,8 +13,9 @@ returns-clause-covered c =
     let place = target c.args.slot c.args.distance in
     let mid = c.follow_taken.new.table in
     let new = c.follow_not_taken.new.table in
-    let covered : IsCoveredIfAny c.args.edges.now.taken (known_at (known_in mid) place) = search rules in
-    (any_covered_more c.order_of_states.ensures.transitive c.args.edges.now.taken (known_at (known_in mid) place) (known_at (known_in new) place) covered (known_covered (known_in mid) (known_in new) c.follow_not_taken.ensures.extended.grown.covered place), c.follow_not_taken.ensures.covered)
+    let edge : Option Knowledge = on_edge c.args.state.now c.args.dst c.args.src.now c.args.edges.now.taken in
+    let covered : IsCoveredIfAny edge (known_at (known_in mid) place) = search rules in
+    (any_covered_more c.order_of_states.ensures.transitive edge (known_at (known_in mid) place) (known_at (known_in new) place) covered (known_covered (known_in mid) (known_in new) c.follow_not_taken.ensures.extended.grown.covered place), c.follow_not_taken.ensures.covered)
 
 pub returns-clause-extended : goal.returns-clause-extended
 returns-clause-extended c =

@@ -1,0 +1,137 @@
+//! What an instruction does to what is known.
+
+ghost use Rattle.std.specs.Prelude.{◌≡◌};
+ghost use Rattle.machine.specs.Memory.{size_bytes};
+ghost use Rattle.absdom.specs.Kinds.{number_of};
+ghost use Rattle.absdom.specs.Knowledge.{kind_at};
+ghost use Rattle.absdom.specs.Effect.{operand_kind, alu_kind, map_kind, stored, written, applied, Becomes};
+
+use crate::access::{load, store};
+use crate::arithmetic::{alu, byte_swap, move_signed, negate};
+use crate::cause::Cause;
+use crate::kinds::AbsKind;
+use crate::state::State;
+use absdom_num::Range;
+use bpf_insn::{AluOp, Insn, Operand, Register, Size, Width};
+
+/// What is known of an operand: a register's kind, or the number of an immediate with its sign extended.
+pub(crate) fn operand(state: &State, operand: &Operand) -> AbsKind
+    ensures { result ≡ operand_kind state.now operand.now }
+{
+    match operand {
+        Operand::FromRegister(register) => state.kind(*register),
+        Operand::Immediate(value) => AbsKind::Num(Range::single(machine::word(i64::from(*value)))),
+    }
+}
+
+/// The map of an index. Nothing is known of an index that no map has.
+fn map_kind(index: i32) -> AbsKind
+    ensures { result ≡ map_kind index }
+{
+    match u8::try_from(index) {
+        Ok(index) => AbsKind::Map(index),
+        Err(_) => AbsKind::Unset,
+    }
+}
+
+/// Writes a register, or says why not.
+fn write(state: &mut State, register: Register, kind: Result<AbsKind, Cause>) -> Result<(), Cause>
+    ensures { Becomes result state.old state.new (written state.old register kind) }
+{
+    state.write(register, kind?);
+    Ok(())
+}
+
+/// Arithmetic on a register and an operand.
+fn arithmetic(
+    state: &mut State,
+    op: AluOp,
+    width: Width,
+    dst: Register,
+    src: &Operand,
+) -> Result<(), Cause>
+    ensures { Becomes result state.old state.new (written state.old dst (alu_kind op width (kind_at state.old dst) (operand_kind state.old src.now))) }
+{
+    let kind = alu(op, width, &state.kind(dst), &operand(state, src));
+    write(state, dst, kind)
+}
+
+/// A store of an operand through a register.
+fn put(
+    state: &mut State,
+    size: Size,
+    base: Register,
+    offset: i16,
+    src: &Operand,
+) -> Result<(), Cause>
+    ensures { Becomes result state.old state.new (stored state.old (size_bytes size) (kind_at state.old base) offset (number_of (operand_kind state.old src.now))) }
+{
+    let pointer = state.kind(base);
+    let value = operand(state, src);
+    store(state, size, &pointer, offset, &value)
+}
+
+impl State {
+    /// Changes to what is known after an instruction that goes on to the next one: arithmetic, loads, stores
+    /// and two-slot loads of a constant or a map (RFC 9669, sections 4.1, 4.2, 5 and 5.4). All other
+    /// instructions leave the state as it is here: of a comparison [`refine`] tells the edges, after a
+    /// helper's call there is [`State::call`].
+    ///
+    /// # Errors
+    ///
+    /// Why the instruction is refused. The state is then what it was.
+    ///
+    /// [`refine`]: crate::refine
+    pub fn apply(&mut self, insn: &Insn) -> Result<(), Cause>
+        ensures { Becomes result self.old self.new (applied self.old insn.now) }
+    {
+        match insn {
+            Insn::Alu {
+                op,
+                width,
+                dst,
+                src,
+            } => arithmetic(self, *op, *width, *dst, src),
+            Insn::Negate { width, dst } => {
+                let kind = negate(*width, &self.kind(*dst));
+                write(self, *dst, kind)
+            }
+            Insn::MoveSigned {
+                extension,
+                dst,
+                src,
+            } => {
+                let kind = move_signed(*extension, &self.kind(*src));
+                write(self, *dst, kind)
+            }
+            Insn::ByteSwap { swap, bits, dst } => {
+                let kind = byte_swap(*swap, *bits, &self.kind(*dst));
+                write(self, *dst, kind)
+            }
+            Insn::Load {
+                size,
+                dst,
+                base,
+                offset,
+            } => {
+                let kind = load(self, *size, &self.kind(*base), *offset);
+                write(self, *dst, kind)
+            }
+            Insn::Store {
+                size,
+                base,
+                offset,
+                src,
+            } => put(self, *size, *base, *offset, src),
+            Insn::Wide { dst, value } => {
+                write(self, *dst, Ok(AbsKind::Num(Range::single(*value))))
+            }
+            Insn::LoadMap { dst, index } => write(self, *dst, Ok(map_kind(*index))),
+            Insn::Jump { .. }
+            | Insn::Goto { .. }
+            | Insn::LoadAddress { .. }
+            | Insn::Call { .. }
+            | Insn::Exit => { Ok(()) }
+        }
+    }
+}
