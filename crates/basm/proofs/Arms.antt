@@ -1,11 +1,10 @@
 -- Which item a right line has, by its first word.
-use Rattle.std.proofs.Common.{◌≡◌, ℕ, suc, pos, ◌≤◌, List, [], ◌∷◌, ◌++◌, map, Option, Some, None, refl, sym, ap, ◌∙◌, subst, arith}
+use Rattle.std.proofs.Common.{◌≡◌, ℕ, suc, pos, ◌≤◌, List, [], ◌∷◌, map, Option, Some, None, refl, sym, ap, ◌∙◌, subst, arith}
 use Rattle.std.specs.Prelude.{◌≢◌, ℤ, codes}
 use Rattle.bpf.specs.declared.loops.Loop.{Loop}
 use Rattle.bpf_insn.specs.declared.insn.Insn.{Insn}
 use Rattle.bpf_insn.specs.Spelling.{second_immediate, slots_in as immediate_slots, slots_of}
-use Rattle.basm_lex.specs.Lines.{operands_of, word_of}
-use Rattle.basm_lex.specs.Names.{IsName}
+use Rattle.basm_lex.specs.Lines.{IsLabel, operands_of, word_of}
 use Rattle.basm_lex.specs.Numbers.{WritesNumber}
 use Rattle.basm_lex.specs.Places.{WritesRegister}
 use Rattle.basm.specs.declared.mnemonics.Mnemonic.{Mnemonic}
@@ -15,7 +14,7 @@ use Rattle.basm.specs.Labels.{label_of, labelled, slots_unless, word_slots}
 use Rattle.basm.specs.Mnemonics.{mnemonic_word}
 use Rattle.basm.specs.Relation.{Budget, Code, Four, IsLine, Item, Label, Nothing, One, OneLoop, WritesEnd, WritesInsn, name_of, slots_in}
 use Rattle.basm.proofs.InsnReadings.{insn_named, mnemonic_of}
-use Rattle.basm.proofs.Items.{adds_label, adds_nothing, four_unmap, insn_unmap, none_unmap, not_nil, one_unmap}
+use Rattle.basm.proofs.Items.{adds_label, adds_nothing, four_unmap, insn_unmap, not_nil, one_unmap}
 use Rattle.basm.proofs.Texts.{SaysWord, line_says}
 use Rattle.basm.proofs.Words.{mnemonic_takes}
 
@@ -129,11 +128,11 @@ insn_item text xs names slot line (Code insn) found Q same operands says then =
 
 -- ---- any other word
 
-pub label_item : {X : Type 0} (text : X → List ℕ) (xs : List X) (names : List ℕ → Option ℕ) (slot : ℕ) (line : List ℕ) (item : Item) (Q : Item → Type 0) → word_of line ≢ [] → word_of line ≢ codes ".budget" → word_of line ≢ codes ".loop"
-    → ((found : Mnemonic) → word_of line ≢ mnemonic_word found) → map text xs ≡ operands_of line → IsLine names slot line item
-    → ((name : List ℕ) → IsName name → word_of line ≡ name ++ 58 ∷ [] → xs ≡ [] → Q (Label name)) → Q item
-label_item text xs names slot line Nothing Q some other apart unknown operands says then = absurd (some says.0)
-label_item text xs names slot line (Label name) Q some other apart unknown operands says then = then name says.0 says.1 (none_unmap text xs (operands ∙ says.2))
-label_item text xs names slot line (Budget n) Q some other apart unknown operands says then = absurd (other says.0)
-label_item text xs names slot line (OneLoop l) Q some other apart unknown operands says then = absurd (apart says.0)
-label_item text xs names slot line (Code insn) Q some other apart unknown operands says then = absurd (unknown (mnemonic_of insn) (says.name ∙ insn_named insn))
+pub label_item : (names : List ℕ → Option ℕ) (slot : ℕ) (line : List ℕ) (item : Item) (Q : Item → Type 0) → word_of line ≢ [] → word_of line ≢ codes ".budget" → word_of line ≢ codes ".loop"
+    → ((found : Mnemonic) → word_of line ≢ mnemonic_word found) → IsLine names slot line item
+    → ((name : List ℕ) → IsLabel line name → Q (Label name)) → Q item
+label_item names slot line Nothing Q some other apart unknown says then = absurd (some says.0)
+label_item names slot line (Label name) Q some other apart unknown says then = then name says
+label_item names slot line (Budget n) Q some other apart unknown says then = absurd (other says.0)
+label_item names slot line (OneLoop l) Q some other apart unknown says then = absurd (apart says.0)
+label_item names slot line (Code insn) Q some other apart unknown says then = absurd (unknown (mnemonic_of insn) (says.name ∙ insn_named insn))

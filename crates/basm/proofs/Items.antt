@@ -11,8 +11,7 @@ use Rattle.bpf_insn.specs.declared.insn.Insn.TheVariants.{Alu, Negate, MoveSigne
 use Rattle.bpf.specs.declared.loops.Loop.{Loop}
 use Rattle.bpf.specs.Parts.{placed, second_slots}
 use Rattle.bpf_insn.specs.Spelling.{second_immediate, slots_in as immediate_slots, slots_of}
-use Rattle.basm_lex.specs.Lines.{code_of, drop_spaces, is_semicolon, is_space, operands_of, rest_of, skip_spaces, trimmed, unless_space, word_of}
-use Rattle.basm_lex.specs.Names.{IsName}
+use Rattle.basm_lex.specs.Lines.{IsLabel, code_of, drop_spaces, is_semicolon, is_space, operands_of, rest_of, skip_spaces, trimmed, unless_space, word_of}
 use Rattle.basm_lex.specs.Numbers.{WritesNumber}
 use Rattle.basm_lex.specs.Places.{WritesRegister}
 use Rattle.basm.specs.declared.parts.Parts.{Parts}
@@ -159,10 +158,10 @@ line_nothing names line parts word = record {
 }
 
 pub line_label : (names : List ℕ → Option ℕ) (line : List ℕ) (parts : Parts) (name : List ℕ)
-    → IsName name → word_of line ≡ name ++ 58 ∷ [] → operands_of line ≡ [] → AddsLine names line parts parts
-line_label names line parts name is_name word operands = record {
+    → IsLabel line name → AddsLine names line parts parts
+line_label names line parts name label = record {
   item = Label name;
-  says = (is_name, word, operands);
+  says = label;
   adds = adds_label name parts;
   few = λ h. h;
 }

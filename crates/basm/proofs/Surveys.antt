@@ -7,10 +7,10 @@ use Rattle.std.proofs.lemmas.Bool.{and_parts, cases_Bool, cond_both}
 use Rattle.std.proofs.lemmas.List.{append-nil, append_assoc, take_at, length-append}
 use Rattle.std.proofs.lemmas.Option.{none-some}
 use Rattle.std.proofs.lemmas.Slice.Eq.{bytes_eq-Decides}
-use Rattle.basm_lex.specs.Lines.{word_of}
+use Rattle.basm_lex.specs.Lines.{IsLabel, operands_of, word_of}
 use Rattle.basm_lex.specs.Names.{IsName, is_name}
 use Rattle.basm.specs.declared.survey.Survey.{Survey}
-use Rattle.basm.specs.Labels.{AddsName, IsSurvey, counted, declares_budget, label_of, labelled, labels_from, slot_after, slots_from, word_slots}
+use Rattle.basm.specs.Labels.{AddsName, IsSurvey, counted, alone, declares_budget, label_in, label_of, labelled, labels_from, slot_after, slots_from, word_slots}
 use Rattle.basm.specs.Naming.{slot_named}
 use Rattle.basm.proofs.Lookups.{apart_more, same_bytes, slot_named-push}
 
@@ -33,6 +33,18 @@ no_label word none =
     absurd (none name parts.0 ((bytes_eq-Decides word (name ++ codes ":")).0 parts.1)))
     (λ no. refl)
 
+-- the name of a line that is a label
+pub line_named : (line name : List ℕ) → IsLabel line name → label_in line ≡ Some name
+line_named line name says = rw says.2 (label_named (word_of line) name says.0 says.1)
+
+-- and of one that is none
+pub line_unnamed : (line : List ℕ) → ((name : List ℕ) → ¬ IsLabel line name) → label_in line ≡ None
+line_unnamed line none = at (operands_of line) (λ name is_name word operands. none name (is_name, word, operands))
+  where
+    at : (operands : List (List ℕ)) → ((name : List ℕ) → IsName name → word_of line ≡ name ++ 58 ∷ [] → operands ≡ [] → ⊥) → alone operands (label_of (word_of line)) ≡ None
+    at [] h = no_label (word_of line) (λ name is_name word. h name is_name word refl)
+    at (operand ∷ operands) h = refl
+
 -- a label is no directive
 label_budget : (word name : List ℕ) → label_of word ≡ Some name → bytes_eq word (codes ".budget") ≡ false
 unfolding label_of
@@ -51,12 +63,12 @@ slots_push slot [] line = refl
 slots_push slot (x ∷ lines) line = slots_push (slot_after slot x) lines line
 
 labels_push : (slot : ℕ) (lines : List (List ℕ)) (line : List ℕ)
-    → labels_from slot (lines ++ line ∷ []) ≡ labels_from slot lines ++ labelled (label_of (word_of line)) (slots_from slot lines)
-labels_push slot [] line = append-nil (labelled (label_of (word_of line)) slot)
+    → labels_from slot (lines ++ line ∷ []) ≡ labels_from slot lines ++ labelled (label_in line) (slots_from slot lines)
+labels_push slot [] line = append-nil (labelled (label_in line) slot)
 labels_push slot (x ∷ lines) line =
-    let front = labelled (label_of (word_of x)) slot in
+    let front = labelled (label_in x) slot in
     ap (λ (rest : List (List ℕ × ℕ)). front ++ rest) (labels_push (slot_after slot x) lines line)
-    ∙ sym (append_assoc front (labels_from (slot_after slot x) lines) (labelled (label_of (word_of line)) (slots_from (slot_after slot x) lines)))
+    ∙ sym (append_assoc front (labels_from (slot_after slot x) lines) (labelled (label_in line) (slots_from (slot_after slot x) lines)))
 
 any_push : {X : Type 0} (test : X → Bool) (xs : List X) (x : X) → list_any test (xs ++ x ∷ []) ≡ (list_any test xs || test x)
 any_push test [] x = search rules
@@ -72,10 +84,10 @@ slots_low slot [] low = low
 slots_low slot (line ∷ lines) low = slots_low (slot_after slot line) lines (omega arith)
 
 -- a line that is a label
-pub survey_label : (lines : List (List ℕ)) (line name : List ℕ) (old new : Survey) → IsName name → word_of line ≡ name ++ 58 ∷ []
+pub survey_label : (lines : List (List ℕ)) (line name : List ℕ) (old new : Survey) → IsLabel line name
     → AddsName name old new → IsSurvey lines old → IsSurvey (lines ++ line ∷ []) new
-survey_label lines line name old new is_name word adds is =
-    let label : label_of (word_of line) ≡ Some name = label_named (word_of line) name is_name word in
+survey_label lines line name old new says adds is =
+    let label = line_named line name says in
     let pairs = labels_from 0 lines in
     let more : labels_from 0 (lines ++ line ∷ []) ≡ pairs ++ (name, slots_from 0 lines) ∷ [] =
     labels_push 0 lines line ∙ ap (λ (l : Option (List ℕ)). pairs ++ labelled l (slots_from 0 lines)) label in
@@ -89,15 +101,15 @@ survey_label lines line name old new is_name word adds is =
         λ apart. let parts = (apart_more pairs name (slots_from 0 lines)).0 apart in adds.repeated.1 (is.apart.1 parts.0, is.names name ∙ parts.1),
       );
       slots = adds.slots ∙ is.slots ∙ sym (slots_push 0 lines line ∙ rw label (let low = slots_low 0 lines (omega arith) in omega arith));
-      budget = adds.budget ∙ is.budget ∙ sym (any_push declares_budget lines line ∙ rw (label_budget (word_of line) name label) (or_false _));
+      budget = adds.budget ∙ is.budget ∙ sym (any_push declares_budget lines line ∙ rw (label_budget (word_of line) name (label_named (word_of line) name says.0 says.1)) (or_false _));
     }
 
 -- a line that is none
-pub survey_word : (lines : List (List ℕ)) (line : List ℕ) (old new : Survey) → ((name : List ℕ) → IsName name → word_of line ≢ name ++ 58 ∷ [])
+pub survey_word : (lines : List (List ℕ)) (line : List ℕ) (old new : Survey) → ((name : List ℕ) → ¬ IsLabel line name)
     → new.names ≡ old.names → new.repeated ≡ old.repeated → new.slots ≡ counted (old.slots + word_slots (word_of line))
     → new.has_budget ≡ (old.has_budget || declares_budget line) → IsSurvey lines old → IsSurvey (lines ++ line ∷ []) new
 survey_word lines line old new none names repeated slots budget is =
-    let label : label_of (word_of line) ≡ None = no_label (word_of line) none in
+    let label = line_unnamed line none in
     let pairs = labels_from 0 lines in
     let same : labels_from 0 (lines ++ line ∷ []) ≡ pairs =
     labels_push 0 lines line ∙ ap (λ (l : Option (List ℕ)). pairs ++ labelled l (slots_from 0 lines)) label ∙ append-nil pairs in

@@ -13,7 +13,7 @@ use Rattle.basm_lex.specs.Lines.{word_of}
 use Rattle.basm.specs.declared.parts.Parts.{Parts}
 use Rattle.basm.specs.declared.survey.Survey.{Survey}
 use Rattle.basm.specs.Adding.{IsImageOf, SayParts, SurveysText, slots_of_items}
-use Rattle.basm.specs.Labels.{IsSurvey, declares_budget, label_of, labelled, labels_from, slot_after, slots_from, slots_unless, word_slots}
+use Rattle.basm.specs.Labels.{IsSurvey, alone, declares_budget, label_in, label_of, labelled, labels_from, slot_after, slots_from, slots_unless, word_slots}
 use Rattle.basm.specs.Naming.{slot_named}
 use Rattle.basm.specs.Relation.{budget_in, AreApart, Defines, AreLines, Budget, Code, IsLine, IsText, Item, Label, Nothing, OneLoop, name_of, names_from, slots_in}
 use Rattle.basm.proofs.Items.{not_nil, slots_are}
@@ -52,6 +52,25 @@ line_says names slot line (OneLoop l) says = let P : List ℕ → Type 0 = SaysW
 line_says names slot line (Code insn) says =
     let P : List ℕ → Type 0 = SaysWord slot [] (slots_in (Code insn)) in subst P (sym says.name) (other_word slot (slots_in (Code insn)) _ (insn_takes insn))
 
+-- whether something stands behind the word counts for a label alone
+unless_none : (operands : List (List ℕ)) (o : Option (List ℕ)) → o ≡ None → alone operands o ≡ o
+unless_none [] o none = refl
+unless_none (operand ∷ operands) o none = sym none
+
+unlabelled : (slot : ℕ) (word : List ℕ) (pairs : List (List ℕ × ℕ)) (slots : ℕ) → SaysWord slot pairs slots word → pairs ≡ [] → label_of word ≡ None
+unlabelled slot word pairs slots says none = at (label_of word) (says.0 ∙ none)
+  where
+    at : (o : Option (List ℕ)) → labelled o slot ≡ [] → o ≡ None
+    at None h = refl
+    at (Some name) h = absurd (not_nil _ _ h)
+
+label_same : (names : List ℕ → Option ℕ) (slot : ℕ) (line : List ℕ) (item : Item) → IsLine names slot line item → label_in line ≡ label_of (word_of line)
+label_same names slot line Nothing says = rw says.1 refl
+label_same names slot line (Label name) says = rw says.2 refl
+label_same names slot line (Budget n) says = unless_none _ _ (unlabelled slot _ _ _ (line_says names slot line (Budget n) says) refl)
+label_same names slot line (OneLoop l) says = unless_none _ _ (unlabelled slot _ _ _ (line_says names slot line (OneLoop l) says) refl)
+label_same names slot line (Code insn) says = unless_none _ _ (unlabelled slot _ _ _ (line_says names slot line (Code insn) says) refl)
+
 -- and so do all lines, as long as there are not too many slots
 pub labels_are : (names : List ℕ → Option ℕ) (slot : ℕ) (lines : List (List ℕ)) (items : List Item) → AreLines names slot lines items → slot + slots_of_items items ≤ 512
     → (labels_from slot lines ≡ names_from slot items) × (slots_from slot lines ≡ slot + slots_of_items items)
@@ -59,7 +78,9 @@ labels_are names slot [] [] says few = (refl, omega arith)
 labels_are names slot [] (item ∷ items) says few = absurd says
 labels_are names slot (line ∷ lines) [] says few = absurd says
 labels_are names slot (line ∷ lines) (item ∷ items) says few =
-    let one = line_says names slot line item says.0 in
+    let same = label_same names slot line item says.0 in
+    let P : Option (List ℕ) → Type 0 = λ o. (labelled o slot ≡ name_of slot item) × (slots_unless o (word_of line) ≡ slots_in item) in
+    let one = subst P (sym same) (line_says names slot line item says.0) in
     let slots = one.1 in
     let next : slot_after slot line ≡ slot + slots_in item = omega arith in
     let rest = labels_are names (slot + slots_in item) lines items says.1 (omega arith) in

@@ -2,7 +2,7 @@
 use Rattle.std.specs.Prelude.{◌≡◌, ◌↔◌, ℕ, ◌+◌, ◌-◌, min, Bool, ◌&&◌, ◌||◌, ◌==◌, if◌then◌else◌, List, [], ◌∷◌, ◌++◌, length, take, codes, Option, Some, None}
 use Rattle.std.specs.List.{list_any}
 use Rattle.std.specs.Str.{bytes_eq}
-use Rattle.basm_lex.specs.Lines.{word_of}
+use Rattle.basm_lex.specs.Lines.{operands_of, word_of}
 use Rattle.basm_lex.specs.Names.{is_name}
 use Rattle.basm.specs.declared.survey.Survey.{Survey}
 use Rattle.basm.specs.Naming.{slot_named}
@@ -13,6 +13,15 @@ unfoldable pub label_of : List ℕ → Option (List ℕ)
 label_of word =
     let name = take (length word - 1) word in
     if is_name name && bytes_eq word (name ++ codes ":") then Some name else None
+
+-- the name, where no operands follow it
+abbrev pub alone : List (List ℕ) → Option (List ℕ) → Option (List ℕ)
+alone [] name = name
+alone (operand ∷ operands) name = None
+
+-- the name that a line defines: a label with something behind it defines none
+abbrev pub label_in : List ℕ → Option (List ℕ)
+label_in line = alone (operands_of line) (label_of (word_of line))
 
 -- how many slots a word that is no label stands for: a directive and no word stand for none, an unknown word for one
 unfoldable pub word_slots : List ℕ → ℕ
@@ -33,7 +42,7 @@ counted slots = min slots 4294967295
 
 -- the slot of the next instruction, behind a line
 abbrev pub slot_after : ℕ → List ℕ → ℕ
-slot_after slot line = counted (slot + slots_unless (label_of (word_of line)) (word_of line))
+slot_after slot line = counted (slot + slots_unless (label_in line) (word_of line))
 
 -- the same, behind lines
 abbrev pub slots_from : ℕ → List (List ℕ) → ℕ
@@ -48,7 +57,7 @@ labelled (Some name) slot = (name, slot) ∷ []
 -- the names of the labels among the lines, with the slot of the next instruction
 abbrev pub labels_from : ℕ → List (List ℕ) → List (List ℕ × ℕ)
 labels_from slot [] = []
-labels_from slot (line ∷ lines) = labelled (label_of (word_of line)) slot ++ labels_from (slot_after slot line) lines
+labels_from slot (line ∷ lines) = labelled (label_in line) slot ++ labels_from (slot_after slot line) lines
 
 -- whether the line begins with `.budget`
 abbrev pub declares_budget : List ℕ → Bool

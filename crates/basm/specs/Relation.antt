@@ -14,7 +14,7 @@ use Rattle.bpf_insn.specs.Text.{insn_name}
 use Rattle.bpf.specs.declared.loops.Loop.{Loop}
 use Rattle.bpf.specs.Parts.{placed}
 use Rattle.bpf.specs.Program.{Program, IsProgram}
-use Rattle.basm_lex.specs.Lines.{operands_of, word_of}
+use Rattle.basm_lex.specs.Lines.{IsLabel, operands_of, word_of}
 use Rattle.basm_lex.specs.Names.{IsName}
 use Rattle.basm_lex.specs.Numbers.{WritesDistance, WritesNumber, WritesWide}
 use Rattle.basm_lex.specs.Places.{WritesPlace, WritesRegister}
@@ -109,7 +109,7 @@ slots_in (Code insn) = slots_of insn
 -- the line says it, where the next instruction begins at the slot
 abbrev pub IsLine : (names : List ℕ → Option ℕ) (slot : ℕ) → List ℕ → Item → Type 0
 IsLine names slot line Nothing = (word_of line ≡ []) × (operands_of line ≡ [])
-IsLine names slot line (Label name) = IsName name × (word_of line ≡ name ++ codes ":") × (operands_of line ≡ [])
+IsLine names slot line (Label name) = IsLabel line name
 IsLine names slot line (Budget n) = (word_of line ≡ codes ".budget") × One (λ x. x) (operands_of line) (λ a. WritesNumber a (pos n))
 IsLine names slot line (OneLoop l) =
     (word_of line ≡ codes ".loop")

@@ -5,7 +5,7 @@ ghost use Rattle.bpf.specs.declared.loops.Loop.{Loop as ALoop};
 ghost use Rattle.bpf.specs.Program.{IsBudget, Program};
 ghost use Rattle.bpf_insn.specs.declared.insn.Insn.{Insn as AnInsn};
 ghost use Rattle.bpf_insn.specs.Spelling.{slots_of};
-ghost use Rattle.basm_lex.specs.Names.{IsName};
+ghost use Rattle.basm_lex.specs.Lines.{IsLabel};
 ghost use Rattle.basm_lex.specs.Numbers.{WritesNumber};
 ghost use Rattle.basm.specs.Adding.{AddsItem, AddsLine, ArePartsOf, HasRoom, IsImageOf, UnlessMemory, WritesLoop, has_head};
 ghost use Rattle.basm.specs.Mnemonics.{mnemonic_word};
@@ -19,7 +19,7 @@ use crate::instructions::add_insn;
 use crate::looping::{read_budget, read_loop};
 use crate::mnemonics::{Mnemonic, read_mnemonic};
 use crate::survey::Survey;
-use basm_lex::{label_name, read_statement};
+use basm_lex::{label, read_statement};
 use bpf::{Image, Loop, MAX_LOOPS};
 use bpf_insn::Insn;
 use std::alloc::Global;
@@ -61,7 +61,7 @@ impl Parts {
             ".loop" => self.add_loop(operands, survey),
             word => match read_mnemonic(word) {
                 Some(found) => self.add_insn(found, operands, survey),
-                None => read_label(word, operands),
+                None => read_label(line),
             },
         }
     }
@@ -131,17 +131,13 @@ impl Parts {
     }
 }
 
-/// A label alone on its line says nothing more here; any other word is unknown.
-fn read_label(word: &str, operands: &[&str]) -> Result<(), AsmCode>
-    ensures reads { IfOk result (λ _. (name : List ℕ) × IsName name × (word.now ≡ name ++ 58 ∷ []) × (operands.now ≡ [])) }
-    ensures exact { (name : List ℕ) → IsName name → word.now ≡ name ++ 58 ∷ [] → operands.now ≡ [] → result ≡ Ok tt }
+/// A label says nothing more here; any other line is unknown.
+fn read_label(line: &str) -> Result<(), AsmCode>
+    ensures reads { IfOk result (λ _. (name : List ℕ) × IsLabel line.now name) }
+    ensures exact { (name : List ℕ) → IsLabel line.now name → result ≡ Ok tt }
 {
-    if label_name(word).is_none() {
-        return Err(AsmCode::BadWord);
-    }
-    if operands.is_empty() {
-        Ok(())
-    } else {
-        Err(AsmCode::BadOperand)
+    match label(line) {
+        Some(_) => Ok(()),
+        None => Err(AsmCode::BadWord),
     }
 }

@@ -7,7 +7,7 @@ ghost use Rattle.basm.specs.Labels.{AddsName, IsSurvey};
 
 use crate::mnemonics::slots_of_word;
 use crate::names::Names;
-use basm_lex::{first_word, label_name};
+use basm_lex::{first_word, label};
 use std::alloc::{AllocError, Global};
 
 /// What the whole text says before its lines are read one by one.
@@ -45,10 +45,10 @@ impl<'a> Survey<'a> {
     fn add_line(&mut self, number: u32, line: &'a str) -> Result<(), AllocError>
         ensures { IfOk result (λ _. (lines : List (List ℕ)) → IsSurvey lines self.old → IsSurvey (lines ++ line.now ∷ []) self.new) }
     {
-        let word = first_word(line);
-        match label_name(word) {
+        match label(line) {
             Some(name) => self.add_name(number, name),
             None => {
+                let word = first_word(line);
                 self.has_budget = self.has_budget || word == ".budget";
                 self.slots = self.slots.saturating_add(slots_of_word(word));
                 Ok(())

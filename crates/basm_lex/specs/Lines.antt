@@ -1,6 +1,7 @@
 -- The words of a line: its first word, and its operands.
-use Rattle.std.specs.Prelude.{ℕ, Bool, ◌==◌, if◌then◌else◌, List, [], ◌∷◌, map}
+use Rattle.std.specs.Prelude.{◌≡◌, ℕ, Bool, ◌==◌, if◌then◌else◌, List, [], ◌∷◌, ◌++◌, codes, map}
 use Rattle.std.specs.List.{before_first, after_first, slice_split}
+use Rattle.basm_lex.specs.Names.{IsName}
 
 -- the space between words
 abbrev pub is_space : ℕ → Bool
@@ -53,3 +54,7 @@ rest_of line = after_first is_space (code_of line)
 -- the operands
 abbrev pub operands_of : List ℕ → List (List ℕ)
 operands_of line = separated (rest_of line)
+
+-- the line is the label of the name, with nothing behind it
+abbrev pub IsLabel : List ℕ → List ℕ → Type 0
+IsLabel line name = IsName name × (word_of line ≡ name ++ codes ":") × (operands_of line ≡ [])

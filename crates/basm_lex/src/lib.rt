@@ -10,8 +10,8 @@ mod places;
 mod registers;
 mod statements;
 
-pub use names::{is_name, label_name};
+pub use names::is_name;
 pub use numbers::{NumberFault, distance, number, wide_number};
 pub use places::{Place, read_place};
 pub use registers::register;
-pub use statements::{Statement, first_word, read_statement};
+pub use statements::{Statement, first_word, label, read_statement};

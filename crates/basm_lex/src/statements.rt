@@ -1,9 +1,10 @@
 //! The words of a line.
 
-ghost use Rattle.std.specs.Prelude.{◌≡◌, map, IfOk};
+ghost use Rattle.std.specs.Prelude.{◌≡◌, ℕ, List, map, IfOk, MatchOption};
 ghost use Rattle.std.specs.List.{before_first};
-ghost use Rattle.basm_lex.specs.Lines.{code_of, drop_spaces, is_semicolon, operands_of, rest_of, separated, skip_spaces, trimmed, word_of};
+ghost use Rattle.basm_lex.specs.Lines.{IsLabel, code_of, drop_spaces, is_semicolon, operands_of, rest_of, separated, skip_spaces, trimmed, word_of};
 
+use crate::names::label_name;
 use std::alloc::{AllocError, Global};
 
 /// What a line says, without its comment.
@@ -51,6 +52,18 @@ pub fn first_word(line: &str) -> &str
 {
     let (word, _) = split_word(line);
     word
+}
+
+/// The name that a line defines: a label, and nothing behind it.
+pub fn label(line: &str) -> Option<&str>
+    ensures { MatchOption result ((name : List ℕ) → ¬ IsLabel line.now name) (λ name. IsLabel line.now name.now) }
+{
+    let (word, after) = split_word(line);
+    if after.is_empty() {
+        label_name(word)
+    } else {
+        None
+    }
 }
 
 /// The first word and the operands of a line. Words are separated by spaces, operands by a comma and

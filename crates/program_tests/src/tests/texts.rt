@@ -19,6 +19,10 @@ const FAULTS: &str = "\
 .budget 1/mov\tr0, 0/exit|2|1
 .budget 1/MOV r0, 0/exit|2|1
 .budget 1/exit\r|2|1
+.budget 1/a: exit/exit|2|1
+.budget 1/a: exit|2|1
+.budget 1/a:/a: exit/exit|3|1
+.budget 1/.loop 0, 1, 1, r0/a: exit/exit|3|1
 .budget 1/exit :|2|2
 .budget 1/mov r0/exit|2|2
 .budget 1/mov/exit|2|2
@@ -46,7 +50,6 @@ const FAULTS: &str = "\
 .budget 1/stxb [r1+1], 2/exit|2|2
 .budget 1/ja 1/exit|2|2
 .budget 1/ja +/exit|2|2
-.budget 1/a: exit/exit|2|2
 .budget one/exit|1|2
 .budget/exit|1|2
 .budget 1, 1/exit|1|2
@@ -68,6 +71,7 @@ const FAULTS: &str = "\
 .budget 1/ldimm 1, r0, 0, 1/exit|2|3
 .budget 1/call 2147483648/exit|2|3
 .budget 1/ja nowhere/exit|2|4
+.budget 1/ja a/a: exit/exit|2|4
 .budget 1/a:/exit/a:|4|4
 .budget 1/.loop nowhere, 1, 1, r1/exit/exit|2|4
 .budget 1/ja +32768/exit|2|5

@@ -53,16 +53,13 @@ returns-in-Some-clause-exact c = λ item says room.
 
 pub returns-clause-adds : goal.returns-clause-adds
 returns-clause-adds c =
-    let operands : map (λ operand. operand.now) c.as_slice-operands.result.now ≡ operands_of c.args.line.now = ap (map (λ operand. operand.now)) c.as_slice-operands.ensures.value ∙ c.in_ok-statement.ensures.operands in
-    IfOk-weaker c.read_label.result _ _ (λ x h. line_label (slot_named c.args.survey.now.names) c.args.line.now c.args.self.now h.0 h.1
-    (sym c.in_ok-statement.ensures.word ∙ h.2) (sym operands ∙ ap (map (λ operand. operand.now)) h.3)) c.read_label.ensures.reads
+    IfOk-weaker c.read_label.result _ _ (λ x h. line_label (slot_named c.args.survey.now.names) c.args.line.now c.args.self.now h.0 h.1) c.read_label.ensures.reads
 
 pub returns-clause-exact : goal.returns-clause-exact
 returns-clause-exact c = λ item says room.
-    let operands : map (λ operand. operand.now) c.as_slice-operands.result.now ≡ operands_of c.args.line.now = ap (map (λ operand. operand.now)) c.as_slice-operands.ensures.value ∙ c.in_ok-statement.ensures.operands in
     let word = c.in_ok-statement.ensures.word in
     let Q : Item → Type 0 = λ item. UnlessMemory c.read_label.result (λ _. AddsItem item c.args.self.now c.args.self.now) in
-    label_item (λ operand. operand.now) c.as_slice-operands.result.now (slot_named c.args.survey.now.names) c.args.self.now.slots c.args.line.now item Q
+    label_item (slot_named c.args.survey.now.names) c.args.self.now.slots c.args.line.now item Q
     (λ same. c.in_default.not-empty (word ∙ same)) (λ same. c.in_default.not-text (word ∙ same)) (λ same. c.in_default.not-text-2 (word ∙ same))
-    (λ found same. none-some found (c.in-None.ensures.exact found (word ∙ same))) operands says
-    (λ name is_name same none. rw (c.read_label.ensures.exact name is_name (word ∙ same) none) (adds_label name c.args.self.now))
+    (λ found same. none-some found (c.in-None.ensures.exact found (word ∙ same))) says
+    (λ name label. rw (c.read_label.ensures.exact name label) (adds_label name c.args.self.now))
