@@ -6,3 +6,4 @@ pub mod Faults
 pub mod Reading
 pub mod Text
 pub mod Sizes
+pub mod Flow

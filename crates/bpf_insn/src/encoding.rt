@@ -3,7 +3,7 @@
 ghost use Rattle.std.specs.Prelude.{◌≡◌, ◌<◌, ◌*◌, ◌+◌, ◌/◌, ◌%◌, ◌^◌, ℤ, pos};
 ghost use Rattle.std.specs.Int.{w32, cast_signed};
 ghost use Rattle.bpf_insn.specs.Codes.{store_class};
-ghost use Rattle.bpf_insn.specs.Spelling.{RegistersFit, fields, first_bytes, first_fields, load_wide, second_bytes, second_immediate};
+ghost use Rattle.bpf_insn.specs.Spelling.{RegistersFit, Spells, fields, first_bytes, first_fields, load_wide, second_bytes, second_immediate};
 
 use crate::fields::Fields;
 use crate::insn::{Address, Distance, Insn};
@@ -18,9 +18,11 @@ use crate::register::Register;
 /// The bytes that spell the instruction: the first slot, and the second of an instruction that has
 /// two (RFC 9669, section 3).
 pub fn encode(insn: &Insn) -> ([u8; 8], Option<[u8; 8]>)
+    ensures spells { Spells result.0 result.1 insn.now }
     ensures first { result.0 ≡ first_bytes insn.now }
     ensures second { result.1 ≡ second_bytes insn.now }
 {
+    insn.keeps_limits();
     (first_fields(insn).bytes(), second_bytes(insn))
 }
 

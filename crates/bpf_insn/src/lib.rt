@@ -7,6 +7,7 @@
 mod decoding;
 mod encoding;
 mod fields;
+mod flow;
 mod insn;
 mod laws;
 mod memory;
@@ -17,6 +18,7 @@ mod register;
 
 pub use decoding::{BadInsn, decode};
 pub use encoding::encode;
+pub use flow::Flow;
 pub use insn::{Address, Callee, Distance, Insn};
 pub use laws::spelling_laws;
 pub use memory::{LoadSize, Size};

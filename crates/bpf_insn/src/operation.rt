@@ -3,6 +3,7 @@
 ghost use Rattle.std.specs.Prelude.{◌≡◌, ◌+◌, ◌*◌, ◌<◌, ℤ, pos};
 ghost use Rattle.std.specs.Option.{SomeIff};
 ghost use Rattle.bpf_insn.specs.Codes.{arithmetic_class, jump_class, alu_code, alu_offset, condition_code, source_bit, source_field, immediate_field, extension_bits, extension_width, swap_width, swap_source, swap_bits};
+ghost use Rattle.bpf_insn.specs.Spelling.{IsOperand};
 ghost use Rattle.bpf_insn.specs.Kinds.{alu_of, condition_of, extension_of, swap_of, swap_bits_of};
 
 use crate::opcode;
@@ -122,6 +123,15 @@ pub enum Operand {
 }
 
 impl Operand {
+    /// A law and no work: a register is r0 to r10, and a number fits the immediate field.
+    pub(crate) fn keeps_limits(self)
+        ensures { IsOperand self }
+    {
+        match self {
+            Operand::FromRegister(_) | Operand::Immediate(_) => {}
+        }
+    }
+
     /// The source bit of the opcode: 8 for a register, 0 for an immediate.
     pub(crate) fn source_bit(&self) -> u8
         ensures value { result ≡ source_bit self.now }
