@@ -1,7 +1,7 @@
 //! The shape of an instruction: where a run goes on after it, and which registers it names.
 
 ghost use Rattle.std.specs.Prelude.{◌≡◌};
-ghost use Rattle.bpf_insn.specs.Flow.{accessed_base, call_flow, flow_of, is_clobbered, is_named, is_written, written_register};
+ghost use Rattle.bpf_insn.specs.Flow.{accessed_base, flow_of, is_clobbered, is_named, is_written, written_register};
 
 use crate::insn::{Callee, Insn};
 use crate::register::Register;
@@ -15,11 +15,11 @@ pub enum Flow {
     Branches(i32),
     /// By the distance further.
     Jumps(i32),
-    /// At the next one, after the helper of this number has answered.
-    Calls(i32),
+    /// At the next one, after what is called by this number has answered.
+    Calls(Callee, i32),
     /// Nowhere: r0 is the answer.
     Ends,
-    /// Nowhere: a two-slot load of an address, or a call of another kind than a helper by its number.
+    /// Nowhere: a two-slot load of an address is not supported.
     Unsupported,
 }
 
@@ -39,7 +39,7 @@ impl Insn {
             | Insn::LoadMap { .. } => Flow::GoesOn,
             Insn::Jump { offset, .. } => Flow::Branches(i32::from(offset)),
             Insn::Goto { distance } => Flow::Jumps(distance.slots()),
-            Insn::Call { callee, number } => call_flow(callee, number),
+            Insn::Call { callee, number } => Flow::Calls(callee, number),
             Insn::Exit => Flow::Ends,
             Insn::LoadAddress { .. } => Flow::Unsupported,
         }
@@ -67,7 +67,7 @@ impl Insn {
     }
 
     /// Whether a run of the instruction may change the register: its destination, and r0 to r5 for a
-    /// call of a helper (RFC 9669, section 2).
+    /// call (RFC 9669, section 2).
     pub fn writes(&self, register: Register) -> bool
         ensures { result ≡ is_written self.now register }
     {
@@ -95,16 +95,6 @@ impl Insn {
     }
 }
 
-/// Where a run goes on after a call: only helpers by their number are supported.
-fn call_flow(callee: Callee, number: i32) -> Flow
-    ensures { result ≡ call_flow callee number }
-{
-    match callee {
-        Callee::Helper => Flow::Calls(number),
-        Callee::Local | Callee::ByTypeId => Flow::Unsupported,
-    }
-}
-
 /// Whether it is the register that is named, if one is.
 fn is_named(named: Option<Register>, register: Register) -> bool
     ensures { result ≡ is_named named register }
@@ -120,7 +110,7 @@ fn is_clobbered(flow: Flow, register: Register) -> bool
     ensures { result ≡ is_clobbered flow register }
 {
     match flow {
-        Flow::Calls(_) => register.number() <= 5,
+        Flow::Calls(_, _) => register.number() <= 5,
         Flow::GoesOn | Flow::Branches(_) | Flow::Jumps(_) | Flow::Ends | Flow::Unsupported => false,
     }
 }
