@@ -1,8 +1,8 @@
 //! An image.
 
-ghost use Rattle.std.specs.Prelude.{◌≡◌, ◌≤◌, length, IfOk, slice_index_or, None};
+ghost use Rattle.std.specs.Prelude.{◌≡◌, ◌≤◌, length, IfOk};
 ghost use Rattle.bpf.specs.Parts.{parts_reading};
-ghost use Rattle.bpf.specs.Program.{IsProgram, image_bytes, program};
+ghost use Rattle.bpf.specs.Program.{IsProgram, image_bytes, insn_at, program};
 ghost use Rattle.bpf.specs.Weight.{saturated, weight_of};
 ghost use Rattle.bpf.specs.Reading.{Gives, image_reading};
 
@@ -159,7 +159,7 @@ impl Image {
     /// The instruction that begins at the slot. `None` at the second slot of an instruction, and past
     /// the end.
     pub fn insn(&self, slot: u16) -> Option<Insn>
-        ensures value { result ≡ slice_index_or self.now.slots slot None }
+        ensures value { result ≡ insn_at self.now slot }
         ensures program { IsProgram self.now }
     {
         match self.slots.get(usize::from(slot)) {

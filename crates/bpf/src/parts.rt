@@ -1,10 +1,8 @@
 //! An image from its parts.
 
-ghost use Rattle.std.specs.Prelude.{◌≡◌, ◌≤◌, ◌++◌, false, IsTrue, length, is_some, FitsSigned, IfOk, OnOk};
-ghost use Rattle.std.specs.Int.{w32};
-ghost use Rattle.bpf_insn.specs.Codes.{address_first, address_second};
+ghost use Rattle.std.specs.Prelude.{◌≡◌, ◌≤◌, ◌++◌, false, IsTrue, length, IfOk, OnOk};
 ghost use Rattle.std.specs.List.{flat_map};
-ghost use Rattle.bpf_insn.specs.Spelling.{IsDistance, IsInsn, IsOperand, second_immediate};
+ghost use Rattle.bpf_insn.specs.Spelling.{IsInsn};
 ghost use Rattle.bpf.specs.Program.{AreSlots, IsLoop};
 ghost use Rattle.bpf.specs.Reading.{is_loop};
 ghost use Rattle.bpf.specs.Parts.{are_loops, header_of, placed};
@@ -12,7 +10,7 @@ ghost use Rattle.bpf.specs.Parts.{are_loops, header_of, placed};
 use crate::fault::ImageFault;
 use crate::header::{Header, MAX_SLOTS};
 use crate::loops::{Loop, is_loop};
-use bpf_insn::{Address, Distance, Insn, Operand};
+use bpf_insn::Insn;
 use std::alloc::{AllocError, Global};
 
 /// The header of the image of these parts.
@@ -43,7 +41,7 @@ fn count_slots(insns: &[Insn]) -> usize
 {
     let mut count = 0;
     for insn in insns {
-        count += if has_second(insn) { 2 } else { 1 };
+        count += if insn.is_wide() { 2 } else { 1 };
     }
     count
 }
@@ -92,60 +90,10 @@ fn place_insn(slots: &mut Vec<Option<Insn>>, insn: &Insn) -> Result<(), AllocErr
     ensures placed { OnOk result (slots.new.items ≡ slots.old.items ++ placed insn.now) }
     ensures limits { IsInsn insn.now }
 {
-    keeps_limits(*insn);
+    insn.slots();
     slots.push(Some(*insn))?;
-    if has_second(insn) {
+    if insn.is_wide() {
         slots.push(None)?;
     }
     Ok(())
-}
-
-fn has_second(insn: &Insn) -> bool
-    ensures { result ≡ is_some (second_immediate insn.now) }
-{
-    insn.slots() == 2
-}
-
-/// An instruction keeps the limits of its fields: it does nothing, and its contract says so.
-fn keeps_limits(insn: Insn)
-    ensures { IsInsn insn }
-{
-    match insn {
-        Insn::Alu { src, .. } => operand_keeps_limits(src),
-        Insn::Store { src, .. } => operand_keeps_limits(src),
-        Insn::Jump { src, .. } => operand_keeps_limits(src),
-        Insn::Goto { distance } => distance_keeps_limits(distance),
-        Insn::LoadAddress { address, .. } => address_keeps_limits(address),
-        Insn::Negate { .. }
-        | Insn::MoveSigned { .. }
-        | Insn::ByteSwap { .. }
-        | Insn::Load { .. }
-        | Insn::Wide { .. }
-        | Insn::LoadMap { .. }
-        | Insn::Call { .. }
-        | Insn::Exit => {}
-    }
-}
-
-fn operand_keeps_limits(operand: Operand)
-    ensures { IsOperand operand }
-{
-    match operand {
-        Operand::FromRegister(_) | Operand::Immediate(_) => {}
-    }
-}
-
-fn distance_keeps_limits(distance: Distance)
-    ensures { IsDistance distance }
-{
-    match distance {
-        Distance::Short(_) | Distance::Long(_) => {}
-    }
-}
-
-fn address_keeps_limits(address: Address)
-    ensures first { FitsSigned w32 (address_first address) }
-    ensures second { FitsSigned w32 (address_second address) }
-{
-    let _ = (address.first(), address.second());
 }

@@ -62,7 +62,7 @@ fn read_insn(slot: u16, bytes: &[u8]) -> Result<(Insn, bool), ImageFault>
     };
     match decode(first, next_slot(after)) {
         Ok(insn) => {
-            let two = insn.slots() == 2;
+            let two = insn.is_wide();
             Ok((insn, two))
         }
         Err(fault) => Err(ImageFault::BadSlot { slot, fault }),

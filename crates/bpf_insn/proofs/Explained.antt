@@ -28,7 +28,8 @@ use Rattle.bpf_insn.specs.declared.decoding.BadInsn.TheVariants as faults
 use Rattle.bpf_insn.specs.Spelling.{fields, second_immediate, Spells}
 use Rattle.bpf_insn.specs.Faults.{opcode_of, uses_dst, uses_src, over, IsFault}
 use Rattle.bpf_insn.specs.Kinds.{swap_bits_of, address_of, callee_of}
-use Rattle.bpf_insn.specs.Reading.{◌>>=◌, register_of, meant_of, wide_of, pair_of, load_of, store_of, arithmetic_of, negation_of, byte_swap_of, two_operands_of, move_of, jump_of, call_of, branch_of, has_fields, fields_in, reading_of}
+use Rattle.bpf_insn.specs.Reading.{◌>>=◌, register_of, meant_of, wide_of, pair_of, load_of, store_of, arithmetic_of, negation_of, byte_swap_of, two_operands_of, move_of, jump_of, call_of, branch_of, has_fields, fields_in, reading_of, reading}
+use Rattle.bpf_insn.proofs.Spelled.{reading-spelled}
 
 -- no register is over 10, and a second slot is there where the instruction wants one
 abbrev pub is_fine : Insn → ℕ → ℕ → Option Fields → Bool
@@ -311,3 +312,9 @@ fault_of bytes next (Err e) value opcode only =
 pub fault_explained : (bytes : List ℕ) (next : Option (List ℕ)) (f : Fields) (r : Result Insn BadInsn) → r ≡ reading_of f (option_map fields_in next) → f ≡ fields_in bytes → slice_index bytes 0 < 256 → ((i : Insn) → Spells bytes next i → r ≡ Ok i) → IfErr r (IsFault bytes next)
 fault_explained bytes next f r value first opcode only =
     fault_of bytes next r (value ∙ ap (λ (x : Fields). reading_of x (option_map fields_in next)) first) opcode only
+
+-- the fault of bytes that are read
+pub fault_read : (bytes : List ℕ) (next : Option (List ℕ)) (e : BadInsn) → slice_index bytes 0 < 256 → reading bytes next ≡ Err e → IsFault bytes next e
+unfolding reading
+fault_read bytes next e opcode read =
+    fault_of bytes next (Err e) (sym read) opcode (λ i s. sym read ∙ reading-spelled bytes next i s)

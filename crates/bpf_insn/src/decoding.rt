@@ -11,6 +11,10 @@ use crate::encoding::{first_fields, second_immediate};
 use crate::fields::Fields;
 use crate::insn::{Address, Callee, Distance, Insn};
 use crate::memory::{LoadSize, Size};
+use crate::opcode::{
+    ALU, CALL, CONSTANT, END, EXIT, GOTO_LONG, GOTO_SHORT, JMP, JMP32, LD, LDX, LOAD_WIDE, MAP_BY_INDEX,
+    MOV, NEG, ST, STX,
+};
 use crate::operation::{AluOp, Condition, Extension, Operand, Swap, SwapBits, Width};
 use crate::register::Register;
 use thiserror::Error;
@@ -112,13 +116,13 @@ fn meant(fields: &Fields, next: Option<&[u8; 8]>) -> Result<Insn, BadInsn>
     ensures insn { IfOk result IsInsn }
 {
     match fields.opcode % 8 {
-        0 => wide(fields, next),
-        1 => load(fields),
-        2 => store(fields, false),
-        3 => store(fields, true),
-        4 => arithmetic(fields, Width::Bits32),
-        5 => jump(fields, Width::Bits64),
-        6 => jump(fields, Width::Bits32),
+        LD => wide(fields, next),
+        LDX => load(fields),
+        ST => store(fields, false),
+        STX => store(fields, true),
+        ALU => arithmetic(fields, Width::Bits32),
+        JMP => jump(fields, Width::Bits64),
+        JMP32 => jump(fields, Width::Bits32),
         _ => arithmetic(fields, Width::Bits64),
     }
 }
@@ -157,9 +161,9 @@ fn arithmetic(fields: &Fields, width: Width) -> Result<Insn, BadInsn>
     ensures insn { IfOk result IsInsn }
 {
     match fields.opcode / 16 {
-        8 => negation(fields, width),
-        11 => move_of(fields, width),
-        13 => byte_swap(fields, width),
+        NEG => negation(fields, width),
+        MOV => move_of(fields, width),
+        END => byte_swap(fields, width),
         code => two_operands(fields, width, code),
     }
 }
@@ -244,14 +248,14 @@ fn jump(fields: &Fields, width: Width) -> Result<Insn, BadInsn>
     ensures insn { IfOk result IsInsn }
 {
     match fields.opcode {
-        0x05 => Ok(Insn::Goto {
+        GOTO_SHORT => Ok(Insn::Goto {
             distance: Distance::Short(fields.offset),
         }),
-        0x06 => Ok(Insn::Goto {
+        GOTO_LONG => Ok(Insn::Goto {
             distance: Distance::Long(fields.immediate),
         }),
-        0x85 => call(fields),
-        0x95 => Ok(Insn::Exit),
+        CALL => call(fields),
+        EXIT => Ok(Insn::Exit),
         _ => branch(fields, width),
     }
 }
@@ -323,7 +327,7 @@ fn wide(fields: &Fields, next: Option<&[u8; 8]>) -> Result<Insn, BadInsn>
     ensures value { result ≡ wide_of fields.now (option_map fields_in (option_copied next.entry)) }
     ensures insn { IfOk result IsInsn }
 {
-    if fields.opcode != 0x18 {
+    if fields.opcode != LOAD_WIDE {
         return Err(BadInsn::Opcode);
     }
     let dst = register(fields.dst)?;
@@ -338,11 +342,11 @@ fn pair(fields: &Fields, dst: Register, second: &Fields) -> Result<Insn, BadInsn
     ensures insn { IfOk result IsInsn }
 {
     match fields.src {
-        0 => Ok(Insn::Wide {
+        CONSTANT => Ok(Insn::Wide {
             dst,
             value: joined(fields.immediate, second.immediate),
         }),
-        5 => Ok(Insn::LoadMap {
+        MAP_BY_INDEX => Ok(Insn::LoadMap {
             dst,
             index: fields.immediate,
         }),

@@ -3,34 +3,26 @@
 ghost use Rattle.std.specs.Prelude.{◌≡◌, ◌<◌, ◌*◌, ◌+◌, ◌/◌, ◌%◌, ◌^◌, ℤ, pos};
 ghost use Rattle.std.specs.Int.{w32, cast_signed};
 ghost use Rattle.bpf_insn.specs.Codes.{store_class};
-ghost use Rattle.bpf_insn.specs.Spelling.{RegistersFit, fields, first_bytes, first_fields, second_bytes, second_immediate};
+ghost use Rattle.bpf_insn.specs.Spelling.{RegistersFit, Spells, fields, first_bytes, first_fields, load_wide, second_bytes, second_immediate};
 
 use crate::fields::Fields;
 use crate::insn::{Address, Distance, Insn};
 use crate::memory::{LoadSize, Size};
+use crate::opcode::{
+    CALL, CONSTANT, END, EXIT, GOTO_LONG, GOTO_SHORT, K, LDX, LOAD_WIDE, MAP_BY_INDEX, MOV, NEG, ST,
+    STX, X,
+};
 use crate::operation::{AluOp, Condition, Extension, Operand, Swap, SwapBits, Width};
 use crate::register::Register;
-
-const EXIT: u8 = 0x95;
-
-const CALL: u8 = 0x85;
-
-const GOTO_SHORT: u8 = 0x05;
-
-const GOTO_LONG: u8 = 0x06;
-
-const LOAD_WIDE: u8 = 0x18;
-/// The subtype of a 64-bit constant.
-const CONSTANT: u8 = 0;
-/// The subtype of a map by its index.
-const MAP_BY_INDEX: u8 = 5;
 
 /// The bytes that spell the instruction: the first slot, and the second of an instruction that has
 /// two (RFC 9669, section 3).
 pub fn encode(insn: &Insn) -> ([u8; 8], Option<[u8; 8]>)
+    ensures spells { Spells result.0 result.1 insn.now }
     ensures first { result.0 ≡ first_bytes insn.now }
     ensures second { result.1 ≡ second_bytes insn.now }
 {
+    insn.keeps_limits();
     (first_fields(insn).bytes(), second_bytes(insn))
 }
 
@@ -121,14 +113,15 @@ fn negate_fields(width: Width, dst: Register) -> Fields
     ensures value { result ≡ first_fields (Insn.Negate width dst) }
     ensures registers { RegistersFit result }
 {
-    Fields::new(width.arithmetic_class() + 0x80, dst.number(), 0, 0, 0)
+    let opcode = width.arithmetic_class() + K + NEG * 16;
+    Fields::new(opcode, dst.number(), 0, 0, 0)
 }
 
 fn move_fields(extension: Extension, dst: Register, src: Register) -> Fields
     ensures value { result ≡ first_fields (Insn.MoveSigned extension dst src) }
     ensures registers { RegistersFit result }
 {
-    let opcode = extension.width().arithmetic_class() + 0xb8;
+    let opcode = extension.width().arithmetic_class() + X + MOV * 16;
     Fields::new(opcode, dst.number(), src.number(), extension.bits(), 0)
 }
 
@@ -136,7 +129,7 @@ fn swap_fields(swap: Swap, bits: SwapBits, dst: Register) -> Fields
     ensures value { result ≡ first_fields (Insn.ByteSwap swap bits dst) }
     ensures registers { RegistersFit result }
 {
-    let opcode = swap.width().arithmetic_class() + swap.source_bit() + 0xd0;
+    let opcode = swap.width().arithmetic_class() + swap.source_bit() + END * 16;
     Fields::new(opcode, dst.number(), 0, 0, bits.bits())
 }
 
@@ -144,7 +137,7 @@ fn load_fields(size: LoadSize, dst: Register, base: Register, offset: i16) -> Fi
     ensures value { result ≡ first_fields (Insn.Load size dst base offset) }
     ensures registers { RegistersFit result }
 {
-    Fields::new(1 + size.code(), dst.number(), base.number(), offset, 0)
+    Fields::new(LDX + size.code(), dst.number(), base.number(), offset, 0)
 }
 
 fn store_fields(size: Size, base: Register, offset: i16, src: Operand) -> Fields
@@ -201,7 +194,7 @@ fn address_fields(dst: Register, address: Address) -> Fields
 /// The first slot of a two-slot load of this subtype.
 fn wide_fields(dst: Register, subtype: u8, first: i32) -> Fields
     requires { subtype < 16 }
-    ensures value { result ≡ fields 0x18 dst subtype (pos 0) first }
+    ensures value { result ≡ fields load_wide dst subtype (pos 0) first }
     ensures registers { RegistersFit result }
 {
     Fields::new(LOAD_WIDE, dst.number(), subtype, 0, first)
@@ -213,8 +206,8 @@ fn store_class(src: &Operand) -> u8
     ensures small { result < 8 }
 {
     match src {
-        Operand::FromRegister(_) => 3,
-        Operand::Immediate(_) => 2,
+        Operand::FromRegister(_) => STX,
+        Operand::Immediate(_) => ST,
     }
 }
 

@@ -1,9 +1,10 @@
 //! The instructions.
 
-ghost use Rattle.std.specs.Prelude.{◌≡◌, ◌+◌, ◌*◌, ◌<◌, ℤ, pos};
+ghost use Rattle.std.specs.Prelude.{◌≡◌, ◌+◌, ◌*◌, ◌<◌, ℤ, is_some, pos};
 ghost use Rattle.bpf_insn.specs.Codes.{callee_code, address_subtype, address_first, address_second};
 ghost use Rattle.bpf_insn.specs.Kinds.{callee_of, address_of};
-ghost use Rattle.bpf_insn.specs.Spelling.{slots_of};
+ghost use Rattle.bpf_insn.specs.Flow.{distance_of};
+ghost use Rattle.bpf_insn.specs.Spelling.{IsDistance, IsInsn, second_immediate, slots_of};
 
 use crate::memory::{LoadSize, Size};
 use crate::operation::{AluOp, Condition, Extension, Operand, Swap, SwapBits, Width};
@@ -15,6 +16,19 @@ use crate::register::Register;
 pub enum Distance {
     Short(i16),
     Long(i32),
+}
+
+impl Distance {
+    /// The distance, in slots from the next one.
+    pub fn slots(self) -> i32
+        ensures value { result ≡ distance_of self }
+        ensures limits { IsDistance self }
+    {
+        match self {
+            Distance::Short(offset) => i32::from(offset),
+            Distance::Long(slots) => slots,
+        }
+    }
 }
 
 /// What a two-slot load of another kind than a constant or a map's index names (RFC 9669, section
@@ -198,11 +212,47 @@ pub enum Insn {
 impl Insn {
     /// How many slots of 8 bytes the instruction takes: 1 or 2.
     pub fn slots(&self) -> usize
-        ensures { result ≡ slots_of self.now }
+        ensures value { result ≡ slots_of self.now }
+
+        // The registers are r0 to r10, and each number fits its field.
+        ensures limits { IsInsn self.now }
+    {
+        self.keeps_limits();
+        if self.is_wide() { 2 } else { 1 }
+    }
+
+    /// Whether the instruction takes two slots.
+    pub fn is_wide(&self) -> bool
+        ensures { result ≡ is_some (second_immediate self.now) }
     {
         match self {
-            Insn::Wide { .. } | Insn::LoadMap { .. } | Insn::LoadAddress { .. } => 2,
-            _ => 1,
+            Insn::Wide { .. } | Insn::LoadMap { .. } | Insn::LoadAddress { .. } => true,
+            _ => false,
+        }
+    }
+
+    /// A law and no work: each field of an instruction is within its limits.
+    pub(crate) fn keeps_limits(self)
+        ensures { IsInsn self }
+    {
+        match self {
+            Insn::Alu { src, .. } | Insn::Store { src, .. } | Insn::Jump { src, .. } => {
+                src.keeps_limits();
+            }
+            Insn::Goto { distance } => {
+                distance.slots();
+            }
+            Insn::LoadAddress { address, .. } => {
+                (address.first(), address.second());
+            }
+            Insn::Negate { .. }
+            | Insn::MoveSigned { .. }
+            | Insn::ByteSwap { .. }
+            | Insn::Load { .. }
+            | Insn::Wide { .. }
+            | Insn::LoadMap { .. }
+            | Insn::Call { .. }
+            | Insn::Exit => {}
         }
     }
 }

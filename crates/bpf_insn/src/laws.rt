@@ -1,7 +1,9 @@
 //! Laws of the spelling of instructions.
 
-ghost use Rattle.std.specs.Prelude.{◌≡◌, ℕ, List, ◌++◌, Option, Ok};
+ghost use Rattle.std.specs.Prelude.{◌≡◌, ◌<◌, ℕ, List, ◌++◌, Option, Ok, Err, slice_index};
 ghost use Rattle.bpf_insn.specs.declared.insn.Insn.{Insn};
+ghost use Rattle.bpf_insn.specs.declared.decoding.BadInsn.{BadInsn};
+ghost use Rattle.bpf_insn.specs.Faults.{IsFault};
 ghost use Rattle.bpf_insn.specs.Spelling.{IsInsn, Spells, spelling};
 ghost use Rattle.bpf_insn.specs.Reading.{reading};
 
@@ -15,4 +17,7 @@ pub fn spelling_laws()
 
     // No spelling begins another.
     ensures apart { (a b : Insn) (after more : List ℕ) → IsInsn a → IsInsn b → spelling a ++ after ≡ spelling b ++ more → a ≡ b }
+
+    // A fault that is read stands in the bytes.
+    ensures fault { (bytes : List ℕ) (next : Option (List ℕ)) (e : BadInsn) → slice_index bytes 0 < 256 → reading bytes next ≡ Err e → IsFault bytes next e }
 {}

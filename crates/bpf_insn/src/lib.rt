@@ -7,18 +7,21 @@
 mod decoding;
 mod encoding;
 mod fields;
+mod flow;
 mod insn;
 mod laws;
 mod memory;
+mod opcode;
 mod operation;
 mod printing;
 mod register;
 
 pub use decoding::{BadInsn, decode};
 pub use encoding::encode;
+pub use flow::Flow;
 pub use insn::{Address, Callee, Distance, Insn};
 pub use laws::spelling_laws;
 pub use memory::{LoadSize, Size};
 pub use operation::{AluOp, Condition, Extension, Operand, Swap, SwapBits, Width};
 pub use printing::text;
-pub use register::Register;
+pub use register::{FRAME_POINTER, REGISTERS, Register};

@@ -1,8 +1,11 @@
 //! The sizes of loads and stores, and the codes of them (RFC 9669, section 5).
 
-ghost use Rattle.std.specs.Prelude.{◌≡◌, ◌<◌};
+ghost use Rattle.std.specs.Prelude.{◌≡◌, ◌<◌, ◌≤◌};
 ghost use Rattle.bpf_insn.specs.Codes.{size_code, load_code};
 ghost use Rattle.bpf_insn.specs.Kinds.{size_of, load_size_of};
+ghost use Rattle.bpf_insn.specs.Sizes.{is_signed, load_bytes, size_bytes};
+
+use crate::opcode;
 
 /// How many low bytes a store writes: 1, 2, 4 or 8.
 #[derive(Clone, Copy, Debug, PartialEq, Eq)]
@@ -14,16 +17,29 @@ pub enum Size {
 }
 
 impl Size {
+    /// How many bytes a store of this size writes.
+    pub fn bytes(self) -> usize
+        ensures value { result ≡ size_bytes self }
+        ensures few { result ≤ 8 }
+    {
+        match self {
+            Size::Byte => 1,
+            Size::Half => 2,
+            Size::Word => 4,
+            Size::Double => 8,
+        }
+    }
+
     /// The mode and size bits of a store's opcode.
     pub(crate) fn code(self) -> u8
         ensures value { result ≡ size_code self }
         ensures small { result < 0x80 }
     {
         match self {
-            Size::Word => 0x60,
-            Size::Half => 0x68,
-            Size::Byte => 0x70,
-            Size::Double => 0x78,
+            Size::Word => opcode::MEM_W,
+            Size::Half => opcode::MEM_H,
+            Size::Byte => opcode::MEM_B,
+            Size::Double => opcode::MEM_DW,
         }
     }
 
@@ -32,10 +48,10 @@ impl Size {
         ensures { result ≡ size_of code }
     {
         match code {
-            0x60 => Some(Size::Word),
-            0x68 => Some(Size::Half),
-            0x70 => Some(Size::Byte),
-            0x78 => Some(Size::Double),
+            opcode::MEM_W => Some(Size::Word),
+            opcode::MEM_H => Some(Size::Half),
+            opcode::MEM_B => Some(Size::Byte),
+            opcode::MEM_DW => Some(Size::Double),
             _ => None,
         }
     }
@@ -54,19 +70,42 @@ pub enum LoadSize {
 }
 
 impl LoadSize {
+    /// How many bytes a load of this size reads.
+    pub fn bytes(self) -> usize
+        ensures value { result ≡ load_bytes self }
+        ensures few { result ≤ 8 }
+    {
+        match self {
+            LoadSize::LoadByte | LoadSize::SignedByte => 1,
+            LoadSize::LoadHalf | LoadSize::SignedHalf => 2,
+            LoadSize::LoadWord | LoadSize::SignedWord => 4,
+            LoadSize::LoadDouble => 8,
+        }
+    }
+
+    /// Whether the sign of what is read is extended to 64 bits.
+    pub fn is_signed(self) -> bool
+        ensures { result ≡ is_signed self }
+    {
+        match self {
+            LoadSize::SignedByte | LoadSize::SignedHalf | LoadSize::SignedWord => true,
+            _ => false,
+        }
+    }
+
     /// The mode and size bits of a load's opcode.
     pub(crate) fn code(self) -> u8
         ensures value { result ≡ load_code self }
         ensures small { result < 0xa0 }
     {
         match self {
-            LoadSize::LoadWord => 0x60,
-            LoadSize::LoadHalf => 0x68,
-            LoadSize::LoadByte => 0x70,
-            LoadSize::LoadDouble => 0x78,
-            LoadSize::SignedWord => 0x80,
-            LoadSize::SignedHalf => 0x88,
-            LoadSize::SignedByte => 0x90,
+            LoadSize::LoadWord => opcode::MEM_W,
+            LoadSize::LoadHalf => opcode::MEM_H,
+            LoadSize::LoadByte => opcode::MEM_B,
+            LoadSize::LoadDouble => opcode::MEM_DW,
+            LoadSize::SignedWord => opcode::MEMSX_W,
+            LoadSize::SignedHalf => opcode::MEMSX_H,
+            LoadSize::SignedByte => opcode::MEMSX_B,
         }
     }
 
@@ -75,13 +114,13 @@ impl LoadSize {
         ensures { result ≡ load_size_of code }
     {
         match code {
-            0x60 => Some(LoadSize::LoadWord),
-            0x68 => Some(LoadSize::LoadHalf),
-            0x70 => Some(LoadSize::LoadByte),
-            0x78 => Some(LoadSize::LoadDouble),
-            0x80 => Some(LoadSize::SignedWord),
-            0x88 => Some(LoadSize::SignedHalf),
-            0x90 => Some(LoadSize::SignedByte),
+            opcode::MEM_W => Some(LoadSize::LoadWord),
+            opcode::MEM_H => Some(LoadSize::LoadHalf),
+            opcode::MEM_B => Some(LoadSize::LoadByte),
+            opcode::MEM_DW => Some(LoadSize::LoadDouble),
+            opcode::MEMSX_W => Some(LoadSize::SignedWord),
+            opcode::MEMSX_H => Some(LoadSize::SignedHalf),
+            opcode::MEMSX_B => Some(LoadSize::SignedByte),
             _ => None,
         }
     }

@@ -3,8 +3,10 @@
 ghost use Rattle.std.specs.Prelude.{◌≡◌, ◌+◌, ◌*◌, ◌<◌, ℤ, pos};
 ghost use Rattle.std.specs.Option.{SomeIff};
 ghost use Rattle.bpf_insn.specs.Codes.{arithmetic_class, jump_class, alu_code, alu_offset, condition_code, source_bit, source_field, immediate_field, extension_bits, extension_width, swap_width, swap_source, swap_bits};
+ghost use Rattle.bpf_insn.specs.Spelling.{IsOperand};
 ghost use Rattle.bpf_insn.specs.Kinds.{alu_of, condition_of, extension_of, swap_of, swap_bits_of};
 
+use crate::opcode;
 use crate::register::Register;
 
 /// The width of an operation. At 32 bits the upper half of the result is zero (classes ALU and
@@ -22,8 +24,8 @@ impl Width {
         ensures small { result < 8 }
     {
         match self {
-            Width::Bits32 => 4,
-            Width::Bits64 => 7,
+            Width::Bits32 => opcode::ALU,
+            Width::Bits64 => opcode::ALU64,
         }
     }
 
@@ -33,8 +35,8 @@ impl Width {
         ensures small { result < 8 }
     {
         match self {
-            Width::Bits32 => 6,
-            Width::Bits64 => 5,
+            Width::Bits32 => opcode::JMP32,
+            Width::Bits64 => opcode::JMP,
         }
     }
 }
@@ -75,7 +77,7 @@ impl AluOp {
             AluOp::Rsh => 7,
             AluOp::Mod | AluOp::SignedMod => 9,
             AluOp::Xor => 10,
-            AluOp::Mov => 11,
+            AluOp::Mov => opcode::MOV,
             AluOp::Arsh => 12,
         }
     }
@@ -106,7 +108,7 @@ impl AluOp {
             7 => Some(AluOp::Rsh),
             9 => Some(if signed { AluOp::SignedMod } else { AluOp::Mod }),
             10 => Some(AluOp::Xor),
-            11 => Some(AluOp::Mov),
+            opcode::MOV => Some(AluOp::Mov),
             12 => Some(AluOp::Arsh),
             _ => None,
         }
@@ -121,14 +123,23 @@ pub enum Operand {
 }
 
 impl Operand {
+    /// A law and no work: a register is r0 to r10, and a number fits the immediate field.
+    pub(crate) fn keeps_limits(self)
+        ensures { IsOperand self }
+    {
+        match self {
+            Operand::FromRegister(_) | Operand::Immediate(_) => {}
+        }
+    }
+
     /// The source bit of the opcode: 8 for a register, 0 for an immediate.
     pub(crate) fn source_bit(&self) -> u8
         ensures value { result ≡ source_bit self.now }
         ensures small { result < 9 }
     {
         match self {
-            Operand::FromRegister(_) => 8,
-            Operand::Immediate(_) => 0,
+            Operand::FromRegister(_) => opcode::X,
+            Operand::Immediate(_) => opcode::K,
         }
     }
 
@@ -166,7 +177,7 @@ pub enum Extension {
 
 impl Extension {
     /// The width of the move.
-    pub(crate) fn width(self) -> Width
+    pub fn width(self) -> Width
         ensures { result ≡ extension_width self }
     {
         match self {
@@ -234,8 +245,8 @@ impl Swap {
         ensures small { result < 9 }
     {
         match self {
-            Swap::ToBig => 8,
-            Swap::ToLittle | Swap::Reverse => 0,
+            Swap::ToBig => opcode::X,
+            Swap::ToLittle | Swap::Reverse => opcode::K,
         }
     }
 

@@ -9,8 +9,5 @@ use bpf_insn::Distance;
 pub fn distance_of(distance: Distance) -> i32
     ensures { result ≡ distance_of distance }
 {
-    match distance {
-        Distance::Short(offset) => i32::from(offset),
-        Distance::Long(immediate) => immediate,
-    }
+    distance.slots()
 }

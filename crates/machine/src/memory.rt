@@ -11,12 +11,7 @@ pub fn size_bytes(size: Size) -> usize
     ensures value { result ≡ size_bytes size }
     ensures few { result ≤ 8 }
 {
-    match size {
-        Size::Byte => 1,
-        Size::Half => 2,
-        Size::Word => 4,
-        Size::Double => 8,
-    }
+    size.bytes()
 }
 
 /// How many bytes a load reads.
@@ -24,12 +19,7 @@ pub fn load_bytes(size: LoadSize) -> usize
     ensures value { result ≡ load_bytes size }
     ensures few { result ≤ 8 }
 {
-    match size {
-        LoadSize::LoadByte | LoadSize::SignedByte => 1,
-        LoadSize::LoadHalf | LoadSize::SignedHalf => 2,
-        LoadSize::LoadWord | LoadSize::SignedWord => 4,
-        LoadSize::LoadDouble => 8,
-    }
+    size.bytes()
 }
 
 /// The word that the bytes of a load give.

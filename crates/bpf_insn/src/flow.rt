@@ -1,0 +1,116 @@
+//! The shape of an instruction: where a run goes on after it, and which registers it names.
+
+ghost use Rattle.std.specs.Prelude.{◌≡◌};
+ghost use Rattle.bpf_insn.specs.Flow.{accessed_base, flow_of, is_clobbered, is_named, is_written, written_register};
+
+use crate::insn::{Callee, Insn};
+use crate::register::Register;
+
+/// Where a run goes on after an instruction. Distances are in slots from the next instruction.
+#[derive(Clone, Copy, Debug, PartialEq, Eq)]
+pub enum Flow {
+    /// At the next instruction.
+    GoesOn,
+    /// At the next one, or by the distance further where the condition holds.
+    Branches(i32),
+    /// By the distance further.
+    Jumps(i32),
+    /// At the next one, after what is called by this number has answered.
+    Calls(Callee, i32),
+    /// Nowhere: r0 is the answer.
+    Ends,
+    /// Nowhere: a two-slot load of an address is not supported.
+    Unsupported,
+}
+
+impl Insn {
+    /// Where a run goes on after the instruction.
+    pub fn flow(&self) -> Flow
+        ensures { result ≡ flow_of self.now }
+    {
+        match *self {
+            Insn::Alu { .. }
+            | Insn::Negate { .. }
+            | Insn::MoveSigned { .. }
+            | Insn::ByteSwap { .. }
+            | Insn::Load { .. }
+            | Insn::Store { .. }
+            | Insn::Wide { .. }
+            | Insn::LoadMap { .. } => Flow::GoesOn,
+            Insn::Jump { offset, .. } => Flow::Branches(i32::from(offset)),
+            Insn::Goto { distance } => Flow::Jumps(distance.slots()),
+            Insn::Call { callee, number } => Flow::Calls(callee, number),
+            Insn::Exit => Flow::Ends,
+            Insn::LoadAddress { .. } => Flow::Unsupported,
+        }
+    }
+
+    /// The register that the instruction names as the one that it writes: its destination.
+    pub fn written(&self) -> Option<Register>
+        ensures { result ≡ written_register self.now }
+    {
+        match *self {
+            Insn::Alu { dst, .. }
+            | Insn::Negate { dst, .. }
+            | Insn::MoveSigned { dst, .. }
+            | Insn::ByteSwap { dst, .. }
+            | Insn::Load { dst, .. }
+            | Insn::Wide { dst, .. }
+            | Insn::LoadMap { dst, .. }
+            | Insn::LoadAddress { dst, .. } => Some(dst),
+            Insn::Store { .. }
+            | Insn::Jump { .. }
+            | Insn::Goto { .. }
+            | Insn::Call { .. }
+            | Insn::Exit => None,
+        }
+    }
+
+    /// Whether a run of the instruction may change the register: its destination, and r0 to r5 for a
+    /// call (RFC 9669, section 2).
+    pub fn writes(&self, register: Register) -> bool
+        ensures { result ≡ is_written self.now register }
+    {
+        is_named(self.written(), register) || is_clobbered(self.flow(), register)
+    }
+
+    /// The base register of a load or a store, through which it accesses memory.
+    pub fn accessed(&self) -> Option<Register>
+        ensures { result ≡ accessed_base self.now }
+    {
+        match *self {
+            Insn::Load { base, .. } | Insn::Store { base, .. } => Some(base),
+            Insn::Alu { .. }
+            | Insn::Negate { .. }
+            | Insn::MoveSigned { .. }
+            | Insn::ByteSwap { .. }
+            | Insn::Jump { .. }
+            | Insn::Goto { .. }
+            | Insn::Wide { .. }
+            | Insn::LoadMap { .. }
+            | Insn::LoadAddress { .. }
+            | Insn::Call { .. }
+            | Insn::Exit => None,
+        }
+    }
+}
+
+/// Whether it is the register that is named, if one is.
+fn is_named(named: Option<Register>, register: Register) -> bool
+    ensures { result ≡ is_named named register }
+{
+    match named {
+        Some(named) => named.number() == register.number(),
+        None => false,
+    }
+}
+
+/// Whether a run that goes on so may change the register, though the instruction does not name it.
+fn is_clobbered(flow: Flow, register: Register) -> bool
+    ensures { result ≡ is_clobbered flow register }
+{
+    match flow {
+        Flow::Calls(_, _) => register.number() <= 5,
+        Flow::GoesOn | Flow::Branches(_) | Flow::Jumps(_) | Flow::Ends | Flow::Unsupported => false,
+    }
+}
