@@ -56,7 +56,8 @@ fn installed<J: Room, R: Wait + Abort>(rt: &R, alloc: Global, opened: Opened) ->
     let Some(factory) = program(alloc, &sizes, 2) else {
         return Ok(());
     };
-    let Ok((mut publisher, mut readers)) = Programs::new::<J, _>(alloc, rt, opened, factory, 1) else {
+    let Ok((mut publisher, mut readers)) = Programs::new::<J, _>(alloc, rt, opened, factory, 1)
+    else {
         return Ok(());
     };
     let mut reader = readers.pop().ok_or("a reader")?;
@@ -72,7 +73,10 @@ fn installed<J: Room, R: Wait + Abort>(rt: &R, alloc: Global, opened: Opened) ->
             }
             Err(fault) => assert_eq!(rt; fault, PublishFault::Memory),
         }
-        assert_eq!(rt; reader.take(1).map(|taken| taken.generation()), Some(generation));
+        assert_eq!(rt;
+            reader.take(1).map(|taken| taken.generation()),
+            Some(generation)
+        );
     }
     assert!(rt; generation >= 3);
     Ok(())
