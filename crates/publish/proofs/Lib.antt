@@ -1,0 +1,5 @@
+pub mod Adding
+pub mod Fronts
+pub mod Shelves
+pub mod Rooms
+pub mod Lasts

@@ -1,0 +1,9 @@
+pub mod Histories
+pub mod Reached
+pub mod Published
+pub mod Tables
+pub mod Sights
+pub mod Laws
+pub mod Codes
+pub mod Staged
+pub mod Lending

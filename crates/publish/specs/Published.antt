@@ -1,0 +1,33 @@
+-- Which program judges.
+use Rattle.std.specs.Prelude.{ℕ, ◌≡◌, ◌==◌, ◌+◌, List, [], ◌∷◌, Option, Some, None, cond}
+use Rattle.core.specs.Option.{option_map}
+use Rattle.bver.specs.Justified.{Judge}
+use Rattle.publish.specs.declared.history.Publish.{Publish}
+
+-- the last program for a slot, with its generation, where `best` judged before these and `next` is the
+-- generation of the first of them
+abbrev pub published_from : Judge × ℕ → ℕ → List Publish → ℕ → Judge × ℕ
+published_from best next [] slot = best
+published_from best next (p ∷ ps) slot = published_from (cond (p.slot == slot) (p.program, next) best) (next + 1) ps slot
+
+-- the program that judges at a slot, with its generation: the last that was published for it, else the
+-- factory program, with which each history begins, and 0
+abbrev pub published : List Publish → ℕ → Option (Judge × ℕ)
+published [] slot = None
+published (f ∷ ps) slot = Some (published_from (f.program, 0) 1 ps slot)
+
+abbrev pub program_at : List Publish → ℕ → Option Judge
+program_at history slot = option_map (λ p. p.0) (published history slot)
+
+abbrev pub generation_at : List Publish → ℕ → Option ℕ
+generation_at history slot = option_map (λ p. p.1) (published history slot)
+
+-- the sizes of the maps of a node: those of its factory program
+abbrev pub sizes_of : List Publish → List ℕ
+sizes_of [] = []
+sizes_of (f ∷ ps) = f.program.sizes
+
+-- each program was accepted for those sizes
+abbrev pub AreFor : List ℕ → List Publish → Type 0
+AreFor sizes [] = Unit {0}
+AreFor sizes (p ∷ ps) = (p.program.sizes ≡ sizes) × AreFor sizes ps

@@ -1,0 +1,24 @@
+-- How far a history was reached.
+use Rattle.std.specs.Prelude.{◌≡◌, List, Option, Some}
+use Rattle.logbook.specs.Pages.{Book}
+use Rattle.publish.specs.declared.history.Publish.{Publish}
+
+-- a room, and the programs with which its history begins
+pub record Reached : Type 0 where
+  pub room : Book
+  pub programs : List Publish
+
+abbrev pub reached : Book → List Publish → Reached
+reached room programs = record { room = room; programs = programs }
+
+-- what a reader knows of the history, and the programs of the table in which it is, if it is in one
+pub record Known : Type 0 where
+  pub programs : List Publish
+  pub inside : Option (List Publish)
+
+abbrev pub known : List Publish → Option (List Publish) → Known
+known programs inside = record { programs = programs; inside = inside }
+
+-- the reader is in the table whose programs it knows
+abbrev pub IsInside : Known → Type 0
+IsInside reader = reader.inside ≡ Some reader.programs

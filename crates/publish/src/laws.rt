@@ -1,0 +1,26 @@
+//! Laws of histories.
+
+ghost use Rattle.std.specs.Prelude.{◌⊎◌};
+ghost use mathlib.Core.List.{IsPrefix};
+ghost use Rattle.publish.specs.Laws.{IsSetByNext, IsLastFor, IsBelow};
+
+use crate::history::Room;
+use crate::publisher::Publisher;
+use crate::reader::Reader;
+use std::sync::Wait;
+
+/// What a history of programs says of a slot: one publish more sets it for its own slot alone; the program
+/// is the last for the slot, or the factory program where there is none; and its generation is its place.
+pub fn published_programs()
+    ensures next { IsSetByNext }
+    ensures last { IsLastFor }
+    ensures below { IsBelow }
+{}
+
+/// What a reader knows and what was published are beginnings of one history: one begins the other.
+pub fn one_history<J: Room, R: Wait + Drop>(reader: &Reader<J>, publisher: &Publisher<J, R>)
+    ensures { IsPrefix reader.now.programs publisher.now ⊎ IsPrefix publisher.now reader.now.programs }
+{
+    let mut longer = reader.front().again();
+    longer.advance(publisher.front());
+}

@@ -1,0 +1,80 @@
+//! A node's table of programs, as it is made.
+
+ghost use Rattle.std.specs.Prelude.{◌≡◌, ◌<◌, ◌∷◌, [], length, None, IfOk, replicate};
+ghost use Rattle.publish.specs.Histories.{entry};
+ghost use Rattle.publish.specs.Published.{sizes_of};
+ghost use Rattle.publish.specs.Reached.{known};
+
+use crate::history::{Front, Opened, Room};
+use crate::publisher::Publisher;
+use crate::reader::Reader;
+use crate::rule::{InRoom, Sight};
+use crate::table::Table;
+use bver::{Accepted, MapSizes};
+use left_right::writer::Writer;
+use std::alloc::{AllocError, Global};
+use std::sync::{Arc, Wait};
+
+/// A node's programs.
+pub struct Programs;
+
+impl Programs {
+    /// The programs of a node: what publishes them, and so many readers of them. Each slot begins with the
+    /// factory program, of generation 0. The publisher keeps `rt`, since its end waits for readers.
+    pub fn new<J: Room, R: Wait + Drop>(
+        alloc: Global,
+        rt: R,
+        opened: Opened,
+        factory: Accepted,
+        readers: u8,
+    ) -> Result<(Publisher<J, R>, Vec<Reader<J>>), AllocError>
+        requires { opened ≡ J.book }
+        ensures publisher { IfOk result (λ made. made.0 ≡ entry 0 factory ∷ []) }
+        ensures readers { IfOk result (λ made. made.1.items ≡ replicate readers (known (entry 0 factory ∷ []) None)) }
+    {
+        let sizes = factory.sizes();
+        let (history, mut front) = opened.parts();
+        let first = (0u8, Arc::new(alloc, factory)?);
+        if !front.add(&history, &first) {
+            return Err(AllocError);
+        }
+        let table = Table::first(first.1, front.again())?;
+        let spare = table.copy()?;
+        let writer: Writer<Table, Table, Sight, InRoom<J>> = Writer::new(
+            alloc,
+            table,
+            spare,
+            usize::from(readers.max(1)),
+        )?;
+        let mut publisher = Publisher {
+            alloc,
+            writer,
+            history,
+            rt,
+        };
+        publisher.make_room()?;
+        let entrances = entrances(alloc, &publisher.writer, &front, sizes, readers)?;
+        Ok((publisher, entrances))
+    }
+}
+
+/// So many readers of a table.
+fn entrances<J: Room>(
+    alloc: Global,
+    writer: &Writer<Table, Table, Sight, InRoom<J>>,
+    front: &Front,
+    sizes: MapSizes,
+    readers: u8,
+) -> Result<Vec<Reader<J>>, AllocError>
+    requires room { front.now.room ≡ J.book }
+    requires some { 0 < length front.now.programs }
+    requires sizes { sizes ≡ sizes_of front.now.programs }
+    ensures { IfOk result (λ made. made.items ≡ replicate readers (known front.now.programs None)) }
+{
+    let mut entrances = Vec::with_capacity(alloc, usize::from(readers))?;
+    for _port in 0..readers {
+        let entrance = writer.factory().reader()?;
+        entrances.push(Reader::new(entrance, front.again(), sizes))?;
+    }
+    Ok(entrances)
+}

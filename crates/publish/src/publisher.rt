@@ -1,0 +1,171 @@
+//! What changes the table of programs.
+
+ghost use Rattle.std.specs.Prelude.{◌≡◌, ◌<◌, ◌≤◌, ◌^◌, ◌++◌, ◌∷◌, [], length, drop, fold, MatchResult, IfErr, Err};
+ghost use mathlib.Core.List.{IsPrefix};
+ghost use Rattle.publish.specs.Histories.{entry};
+ghost use Rattle.publish.specs.Published.{sizes_of};
+ghost use Rattle.publish.specs.Reached.{reached};
+
+use crate::faults::PublishFault;
+use crate::history::{Front, History, Publish, Room};
+use crate::rule::{InRoom, Shows, Sight};
+use crate::table::Table;
+use crate::told::Told;
+use bver::{Accepted, MapSizes};
+use core::mem::replace_with;
+use left_right::writer::Writer;
+use std::alloc::{AllocError, Global};
+use std::marker::Model;
+use std::sync::{Arc, Wait};
+
+/// The greatest slot.
+const LAST_SLOT: u8 = 3;
+
+/// What changes the table of programs. Contracts see it as the list of what was published, which begins
+/// with the factory program. Its end waits for readers.
+pub struct Publisher<J: Room, R: Wait + Drop> {
+    pub(crate) alloc: Global,
+    pub(crate) writer: Writer<Table, Table, Sight, InRoom<J>>,
+    pub(crate) history: History,
+    pub(crate) rt: R,
+}
+
+impl<J: Room, R: Wait + Drop> Model for Publisher<J, R> {
+    ghost use Rattle.std.specs.Prelude.{◌≡◌, List, [], drop};
+    ghost use Rattle.publish.specs.declared.history.Publish.{Publish};
+
+    ghost Value = { List Publish };
+
+    ghost view = { λ p. p.writer.desk.shown.value.programs };
+
+    ghost invariant = { λ p. (p.history ≡ J.book) × (p.writer.desk.shown.value.room ≡ J.book) × (drop p.writer.behind p.writer.log.items ≡ []) };
+}
+
+impl<J: Room, R: Wait + Drop> Drop for Publisher<J, R> {
+    fn drop(self) {
+        let Self {
+            alloc: _,
+            writer,
+            history: _history,
+            rt,
+        } = self;
+        drop(writer.take(&rt));
+    }
+}
+
+impl<J: Room, R: Wait + Drop> Publisher<J, R> {
+    /// The sizes of the maps for which each program was accepted: those of the factory program.
+    pub fn sizes(&self) -> MapSizes
+        ensures { result ≡ sizes_of self.now }
+    {
+        self.writer.published().shown(0).program.sizes()
+    }
+
+    /// Publishes a program for a slot, and tells it. It may wait for readers.
+    ///
+    /// # Errors
+    ///
+    /// `Slot` for a slot above 3; `GenerationsFull` after 4,294,967,295 publishes; `Memory` where memory was
+    /// refused. What is published stays as it was.
+    pub fn install(&mut self, slot: u8, program: Accepted) -> Result<Told<J>, PublishFault>
+        requires { program.sizes ≡ sizes_of self.old }
+        ensures published { MatchResult result (λ told. (self.new ≡ self.old ++ entry slot program ∷ []) × (told ≡ self.new)) (λ _. self.new ≡ self.old) }
+        ensures slot { 3 < slot → result ≡ Err PublishFault.Slot }
+        ensures full { slot ≤ 3 → 2 ^ 32 ≤ length self.old → result ≡ Err PublishFault.GenerationsFull }
+        ensures memory { slot ≤ 3 → length self.old < 2 ^ 32 → IfErr result (λ fault. fault ≡ PublishFault.Memory) }
+    {
+        if slot > LAST_SLOT {
+            return Err(PublishFault::Slot);
+        }
+        if self.front().len() > u64::from(u32::MAX) {
+            return Err(PublishFault::GenerationsFull);
+        }
+        let mut front = self.front().again();
+        let mut table = self.writer.published().copy()?;
+        let publish = (slot, Arc::new(self.alloc, program)?);
+        // From here on nothing asks for memory.
+        if !front.add(&self.history, &publish) {
+            return Err(PublishFault::Memory);
+        }
+        let told = Told::new(front.again());
+        table.put(slot, publish.1, front);
+        self.show(table);
+        Ok(told)
+    }
+
+    /// How far the history goes.
+    pub(crate) fn front(&self) -> &Front
+        ensures value { result.now ≡ reached J.book self.now }
+        ensures some { 0 < length self.now }
+    {
+        self.writer.published().front()
+    }
+
+    /// Publishes the table once more, so that the queue of operations has room from now on.
+    #[tactic(auto, using(crate::proofs::Fronts::prefix_same))]
+    pub(crate) fn make_room(&mut self) -> Result<(), AllocError>
+        ensures { self.new ≡ self.old }
+    {
+        let table = self.writer.published().copy()?;
+        if self.writer.append(table).is_err() {
+            return Err(AllocError);
+        }
+        replace_with(&mut self.writer, &self.rt, |writer, rt| flushed(rt, writer));
+        Ok(())
+    }
+
+    /// Shows readers a table.
+    fn show(&mut self, table: Table)
+        requires room { table.room ≡ J.book }
+        requires longer { IsPrefix self.old table.programs }
+        ensures { self.new ≡ table.programs }
+    {
+        replace_with(&mut self.writer, (table, &self.rt), |writer, (table, rt)| {
+            shown(rt, writer, table)
+        })
+    }
+}
+
+/// The writer once readers see what is pending.
+fn flushed<J: Room, R: Wait>(
+    rt: &R,
+    writer: Writer<Table, Table, Sight, InRoom<J>>,
+) -> (Writer<Table, Table, Sight, InRoom<J>>, ())
+    requires room { (fold (λ _ t. t) writer.desk.shown.value (drop writer.behind writer.log.items)).room ≡ J.book }
+    requires longer { IsPrefix writer.desk.shown.value.programs (fold (λ _ t. t) writer.desk.shown.value (drop writer.behind writer.log.items)).programs }
+    ensures shown { result.0.desk.shown.value ≡ fold (λ _ t. t) writer.desk.shown.value (drop writer.behind writer.log.items) }
+    ensures pending { drop result.0.behind result.0.log.items ≡ [] }
+{
+    let mut writer = writer;
+    for _ in rt.forever() {
+        let (next, done) = writer.publish_as::<Shows, R>(rt);
+        writer = next;
+        if done.is_ok() {
+            break;
+        }
+    }
+    (writer, ())
+}
+
+/// The writer once readers see the table.
+fn shown<J: Room, R: Wait>(
+    rt: &R,
+    writer: Writer<Table, Table, Sight, InRoom<J>>,
+    table: Table,
+) -> (Writer<Table, Table, Sight, InRoom<J>>, ())
+    requires pending { drop writer.behind writer.log.items ≡ [] }
+    requires room { table.room ≡ J.book }
+    requires longer { IsPrefix writer.desk.shown.value.programs table.programs }
+    ensures shown { result.0.desk.shown.value ≡ table }
+    ensures pending { drop result.0.behind result.0.log.items ≡ [] }
+{
+    let mut writer = writer;
+    let mut table = table;
+    for _ in rt.forever() {
+        match writer.append(table) {
+            Ok(()) => break,
+            Err(back) => table = back,
+        }
+    }
+    flushed(rt, writer)
+}

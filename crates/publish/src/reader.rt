@@ -1,0 +1,209 @@
+//! What a port has of the table of programs.
+
+ghost use Rattle.std.specs.Prelude.{◌≡◌, ◌<◌, true, false, IfSome, Some, None, length};
+ghost use Rattle.std.specs.Arc.{arc_value};
+ghost use Rattle.std.specs.Borrow.{sem, RestsIfNone};
+ghost use mathlib.Core.List.{IsPrefix};
+ghost use Rattle.left_right.specs.Sides.{view};
+ghost use Rattle.publish.specs.Published.{published, program_at, generation_at, sizes_of};
+ghost use Rattle.publish.specs.Reached.{IsInside, known, reached};
+ghost use Rattle.publish.specs.Tables.{shown};
+ghost use Rattle.publish.specs.contracts.reader.Reader.{the_row};
+
+use crate::history::{Front, Room};
+use crate::rule::{InRoom, Looks, Sight};
+use crate::table::{Shown, Table};
+use crate::told::Told;
+use bver::{Accepted, MapSizes};
+use left_right::reader::{Reader as Entrance, Reading};
+use std::marker::Model;
+use std::mem;
+
+/// What a port has of the table of programs: how it enters, and how far the history is known to it.
+/// Contracts see it as the programs that it knows, and those of the table in which it is.
+pub struct Reader<J: Room> {
+    outside: Option<Entrance<Table, Sight, InRoom<J>>>,
+    inside: Option<Reading<Table, Sight, InRoom<J>>>,
+    known: Front,
+    sizes: MapSizes,
+}
+
+impl<J: Room> Model for Reader<J> {
+    ghost use Rattle.std.specs.Prelude.{◌≡◌, ◌<◌, IfSome, length};
+    ghost use Rattle.core.specs.Option.{option_map};
+    ghost use mathlib.Core.List.{IsPrefix};
+    ghost use Rattle.left_right.specs.Sides.{view as sight};
+    ghost use Rattle.publish.specs.Published.{sizes_of as first_sizes};
+    ghost use Rattle.publish.specs.Reached.{Known, known as knows};
+
+    ghost Value = { Known };
+
+    ghost view = { λ r. knows r.known.programs (option_map (λ s. s.part.value.programs) r.inside) };
+
+    ghost invariant = { λ r. (r.known.room ≡ J.book) × (0 < length r.known.programs) × (r.sizes ≡ first_sizes r.known.programs) × IfSome r.outside (λ e. IsPrefix (sight e.place) r.known.programs) × IfSome r.inside (λ e. IsPrefix (sight e.place) r.known.programs) };
+}
+
+impl<J: Room> Drop for Reader<J> {
+    fn drop(self) {
+        let Self {
+            outside: _outside,
+            inside,
+            known: _known,
+            sizes: _,
+        } = self;
+        if let Some(reading) = inside {
+            drop(reading.leave());
+        }
+    }
+}
+
+/// The program of a slot, as it was taken. The table keeps it for as long as this is held.
+pub struct Taken<'a, J: Room> {
+    reader: &'a mut Reader<J>,
+    slot: u8,
+    ghost few: { slot < 4 },
+}
+
+impl<J: Room> Reader<J> {
+    /// A reader that knows so much.
+    pub(crate) fn new(
+        entrance: Entrance<Table, Sight, InRoom<J>>,
+        front: Front,
+        sizes: MapSizes,
+    ) -> Reader<J>
+        requires room { front.room ≡ J.book }
+        requires some { 0 < length front.programs }
+        requires sizes { sizes ≡ sizes_of front.programs }
+        requires sight { IsPrefix (view entrance.place) front.programs }
+        ensures { result ≡ known front.programs None }
+    {
+        Reader {
+            outside: Some(entrance),
+            inside: None,
+            known: front,
+            sizes,
+        }
+    }
+
+    /// How far the history is known.
+    pub(crate) fn front(&self) -> &Front
+        ensures { result.now ≡ reached J.book self.now.programs }
+    {
+        &self.known
+    }
+
+    /// The sizes of the maps for which each program was accepted.
+    pub fn sizes(&self) -> MapSizes
+        ensures { result ≡ sizes_of self.now.programs }
+    {
+        self.sizes
+    }
+
+    /// Takes in what a publisher told.
+    pub fn learn(&mut self, told: &Told<J>)
+        ensures old { IsPrefix self.old.programs self.new.programs }
+        ensures told { IsPrefix told.now self.new.programs }
+        ensures inside { self.new.inside ≡ self.old.inside }
+        ensures sizes { sizes_of self.new.programs ≡ sizes_of self.old.programs }
+    {
+        self.known.advance(told.front());
+    }
+
+    /// Takes the program of a slot. `None` where a program that was taken was never let go of.
+    pub fn take(&mut self, slot: u8) -> Option<Taken<'_, J>>
+        requires slot { slot < 4 }
+        ensures* unchanged { sem 𝓛 (RestsIfNone (the_row J.row J.Room) self.entry (λ t. t.reader.ghost_name) result (λ n. n ≡ self.old)) }
+        ensures same_reference { IfSome result (λ t. t.reader.ghost_name ≡ self.entry.ghost_name) }
+        ensures seen { IfSome result (λ t. IsPrefix self.old.programs t.reader.now.programs) }
+        ensures inside { IfSome result (λ t. IsInside t.reader.now) }
+        ensures slot { IfSome result (λ t. t.slot ≡ slot) }
+        ensures sizes { IfSome result (λ t. sizes_of t.reader.now.programs ≡ sizes_of self.old.programs) }
+    {
+        if self.enter() {
+            Some(Taken { reader: self, slot })
+        } else {
+            None
+        }
+    }
+
+    /// Enters the table, where it shows no less than is known, and knows that.
+    fn enter(&mut self) -> bool
+        ensures entered { result ≡ true → IsPrefix self.old.programs self.new.programs × IsInside self.new }
+        ensures out { result ≡ false → self.new ≡ self.old }
+        ensures sizes { sizes_of self.new.programs ≡ sizes_of self.old.programs }
+    {
+        if self.inside.is_some() {
+            return false;
+        }
+        let Some(entrance) = self.outside.take() else {
+            return false;
+        };
+        let reading = match entrance.enter_as::<Looks<J>>() {
+            Ok(reading) => reading,
+            Err(entrance) => {
+                self.outside = Some(entrance);
+                return false;
+            }
+        };
+        let is_late = reading.get().front().len() < self.known.len();
+        self.known.advance(reading.get().front());
+        if is_late {
+            self.outside = Some(reading.leave());
+            return false;
+        }
+        if let Some(late) = mem::replace(&mut self.inside, Some(reading)) {
+            drop(late.leave());
+        }
+        true
+    }
+
+    /// The program of a slot of the table.
+    fn shown(&self, slot: u8) -> &Shown
+        requires slot { slot < 4 }
+        requires inside { IsInside self.now }
+        ensures value { published self.now.programs slot ≡ Some (shown result.now) }
+        ensures sizes { (arc_value result.now.program).sizes ≡ sizes_of self.now.programs }
+    {
+        let Some(reading) = &self.inside else {
+            unreachable!()
+        };
+        reading.get().shown(slot)
+    }
+
+    /// Leaves the table.
+    fn leave(&mut self)
+        ensures { self.new ≡ known self.old.programs None }
+    {
+        if let Some(reading) = self.inside.take() {
+            self.outside = Some(reading.leave());
+        }
+    }
+}
+
+impl<J: Room> Taken<'_, J> {
+    /// The program.
+    pub fn accepted(&self) -> &Accepted
+        requires { IsInside self.now.reader.now }
+        ensures program { program_at self.now.reader.now.programs self.now.slot ≡ Some result.now }
+        ensures sizes { result.now.sizes ≡ sizes_of self.now.reader.now.programs }
+    {
+        &self.reader.shown(self.slot).program
+    }
+
+    /// The generation of the program.
+    pub fn generation(&self) -> u32
+        requires { IsInside self.now.reader.now }
+        ensures { generation_at self.now.reader.now.programs self.now.slot ≡ Some result }
+    {
+        self.reader.shown(self.slot).generation
+    }
+}
+
+impl<'a, J: Room> Drop for Taken<'a, J> {
+    fn drop(self)
+        ensures { self.exit.0.now ≡ known self.entry.reader.now.programs None }
+    {
+        let Taken { reader, slot: _ } = self;
+        reader.leave();
+    }
+}

@@ -1,0 +1,44 @@
+//! The rule of the table of programs, and what the steps on it tell.
+
+use crate::history::{Publish, Room};
+use crate::table::Table;
+use crossbeam_utils::rule::{Outcome, Protocol};
+use std::collections::LinkedList;
+use std::marker::PhantomData;
+
+/// What a reader saw of the history. No value of it is made.
+pub(crate) type Sight = LinkedList<Publish>;
+
+/// The rule: the table is of one room, and each reader saw a beginning of its programs.
+pub(crate) struct InRoom<J: Room> {
+    of: PhantomData<J>,
+}
+
+impl<J: Room> Protocol<Table, Sight> for InRoom<J> {
+    ghost use Rattle.std.specs.Prelude.{[]};
+    ghost use Rattle.publish.specs.Sights.{IsInRoom};
+
+    ghost holds = { IsInRoom J.book };
+
+    ghost first = { [] };
+}
+
+/// A step of a reader, which sees the programs of the table.
+pub(crate) struct Looks<J: Room> {
+    of: PhantomData<J>,
+}
+
+impl<J: Room> Outcome<Table, Sight> for Looks<J> {
+    ghost use Rattle.publish.specs.Sights.{Sees};
+
+    ghost then = { Sees J.book };
+}
+
+/// A step of the publisher, which sees nothing.
+pub(crate) struct Shows;
+
+impl Outcome<Table, Sight> for Shows {
+    ghost use Rattle.std.specs.Prelude.{◌≡◌};
+
+    ghost then = { λ before old new after. after ≡ before };
+}

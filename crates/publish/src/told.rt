@@ -1,0 +1,54 @@
+//! What a publisher tells.
+
+ghost use Rattle.std.specs.Prelude.{◌≡◌, ◌<◌, ◌≤◌, ◌+◌, ◌^◌, length};
+ghost use Rattle.publish.specs.Reached.{reached};
+
+use crate::history::{Front, Room};
+use std::marker::{Model, PhantomData};
+
+/// How far the history went when a program was published. Contracts see it as the programs.
+#[derive(Drop)]
+pub struct Told<J: Room> {
+    front: Front,
+    of: PhantomData<J>,
+}
+
+impl<J: Room> Model for Told<J> {
+    ghost use Rattle.std.specs.Prelude.{◌≡◌, ◌<◌, ◌≤◌, ◌^◌, List, length};
+    ghost use Rattle.publish.specs.declared.history.Publish.{Publish};
+
+    ghost Value = { List Publish };
+
+    ghost view = { λ t. t.front.programs };
+
+    ghost invariant = { λ t. (t.front.room ≡ J.book) × (0 < length t.front.programs) × (length t.front.programs ≤ 2 ^ 32) };
+}
+
+impl<J: Room> Told<J> {
+    /// What tells so much.
+    pub(crate) fn new(front: Front) -> Told<J>
+        requires room { front.room ≡ J.book }
+        requires some { 0 < length front.programs }
+        requires few { length front.programs ≤ 2 ^ 32 }
+        ensures { result ≡ front.programs }
+    {
+        Told {
+            front,
+            of: PhantomData,
+        }
+    }
+
+    /// The generation of the program that was published: its place in the history.
+    pub fn generation(&self) -> u32
+        ensures { result + 1 ≡ length self.now }
+    {
+        (self.front.len() - 1) as u32
+    }
+
+    /// How far.
+    pub(crate) fn front(&self) -> &Front
+        ensures { result.now ≡ reached J.book self.now }
+    {
+        &self.front
+    }
+}

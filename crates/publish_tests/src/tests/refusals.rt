@@ -1,0 +1,83 @@
+//! Memory that is refused. Run with `--fail-alloc N`, each allocation in turn is the one that is refused.
+
+ghost use Rattle.std.specs.Prelude.{◌≡◌};
+
+use crate::tests::program;
+use bver::MapSizes;
+use publish::{Opened, Programs, PublishFault, Room, Staging};
+use std::alloc::Global;
+use std::marker::Brand;
+use std::process::Abort;
+use std::sync::Wait;
+use std::test::*;
+
+/// A node's programs are made, or memory was refused, and then they are made.
+#[test]
+fn memory_refused_while_made(rt: HostRuntime) -> Result<(), Fail> {
+    made::<Brand, _>(&rt, rt.alloc(), Opened::new())?;
+    let again = made::<Brand, _>(&rt, rt.alloc(), Opened::new())?;
+    assert!(&rt; again);
+    Ok(())
+}
+
+/// A program is published, or memory was refused and nothing is, and then it is published.
+#[test]
+fn memory_refused_to_install(rt: HostRuntime) -> Result<(), Fail> {
+    installed::<Brand, _>(&rt, rt.alloc(), Opened::new())
+}
+
+#[test]
+fn memory_refused_to_stage(rt: HostRuntime) -> Result<(), Fail> {
+    drop(Staging::new(rt.alloc()));
+    Staging::new(rt.alloc())?;
+    Ok(())
+}
+
+/// Whether a node's programs were made.
+fn made<J: Room, R: Wait + Abort>(rt: &R, alloc: Global, opened: Opened) -> Result<bool, Fail>
+    requires { opened ≡ J.book }
+{
+    let sizes = MapSizes::new(&[])?;
+    let Some(factory) = program(alloc, &sizes, 2) else {
+        return Ok(false);
+    };
+    let Ok((_publisher, mut readers)) = Programs::new::<J, _>(alloc, rt, opened, factory, 2) else {
+        return Ok(false);
+    };
+    let mut reader = readers.pop().ok_or("two readers")?;
+    assert_eq!(rt; reader.take(0).map(|taken| taken.generation()), Some(0));
+    Ok(true)
+}
+
+fn installed<J: Room, R: Wait + Abort>(rt: &R, alloc: Global, opened: Opened) -> Result<(), Fail>
+    requires { opened ≡ J.book }
+{
+    let sizes = MapSizes::new(&[])?;
+    let Some(factory) = program(alloc, &sizes, 2) else {
+        return Ok(());
+    };
+    let Ok((mut publisher, mut readers)) = Programs::new::<J, _>(alloc, rt, opened, factory, 1)
+    else {
+        return Ok(());
+    };
+    let mut reader = readers.pop().ok_or("a reader")?;
+    let mut generation = 0u32;
+    for budget in 3..7u8 {
+        let Some(program) = program(alloc, &publisher.sizes(), budget) else {
+            continue;
+        };
+        match publisher.install(1, program) {
+            Ok(told) => {
+                generation = generation.wrapping_add(1);
+                assert_eq!(rt; told.generation(), generation);
+            }
+            Err(fault) => assert_eq!(rt; fault, PublishFault::Memory),
+        }
+        assert_eq!(rt;
+            reader.take(1).map(|taken| taken.generation()),
+            Some(generation)
+        );
+    }
+    assert!(rt; generation >= 3);
+    Ok(())
+}

@@ -1,0 +1,159 @@
+//! `takes`: how often a second programs are taken and published. Without an argument it does few rounds
+//! and prints what was done; with a number of rounds it prints the rates too.
+#![tactic(auto)]
+
+ghost use Rattle.std.specs.Prelude.{◌≡◌, IfSome};
+
+use anyhow::{Context, Result};
+use bpf::Image;
+use bver::{Accepted, MapSizes, verify};
+use publish::{Opened, Programs, Publisher, Reader, Room};
+use std::alloc::Global;
+use std::env;
+use std::marker::Brand;
+use std::rt::{Clock, Env};
+use std::sync::Wait;
+use std::thread::{Threads, for_each_mut, join};
+use std::time::Instant;
+
+/// The rounds where none are asked for.
+const FEW: u32 = 1000;
+
+/// The most threads that take.
+const THREADS: usize = 4;
+
+/// So many takes to one publish.
+const TAKES: u32 = 100;
+
+/// `mov r0, 0; exit`.
+const YES: &[u8; 32] = b"BPFA\x01\x00\x02\x00\x02\x00\x00\x00\x00\x00\x00\x00\
+    \xb7\x00\x00\x00\x00\x00\x00\x00\x95\x00\x00\x00\x00\x00\x00\x00";
+
+/// The program that says yes.
+fn yes(alloc: Global, sizes: &MapSizes) -> Option<Accepted>
+    ensures { IfSome result (λ a. a.sizes ≡ sizes.now) }
+{
+    verify(alloc, Image::read(alloc, YES).ok()?, sizes).ok()
+}
+
+/// A reader, and how many programs it took.
+#[derive(Drop)]
+struct Taker<J: Room> {
+    reader: Reader<J>,
+    taken: u64,
+}
+
+impl<J: Room> Taker<J> {
+    /// Takes so often.
+    fn take(&mut self, rounds: u32) {
+        for _ in 0..rounds {
+            if let Some(taken) = self.reader.take(0) {
+                self.taken = self
+                    .taken
+                    .wrapping_add(u64::from(taken.accepted().budget() / 2));
+            }
+        }
+    }
+}
+
+/// Publishes so often, and counts the publishes.
+fn publish<J: Room, R: Wait + Drop>(
+    alloc: Global,
+    publisher: &mut Publisher<J, R>,
+    rounds: u32,
+) -> u64 {
+    let mut published = 0u64;
+    for _ in 0..rounds {
+        if let Some(program) = yes(alloc, &publisher.sizes()) {
+            if publisher.install(0, program).is_ok() {
+                published = published.wrapping_add(1);
+            }
+        }
+    }
+    published
+}
+
+/// Takes so often with each of some takers, in a thread of its own each, beside a thread that publishes.
+/// How many programs were taken.
+fn take_beside<J: Room + Send + Sync, R: Threads + Wait + Sync>(
+    rt: &R,
+    alloc: Global,
+    publisher: &mut Publisher<J, &R>,
+    takers: &mut [Taker<J>],
+    rounds: u32,
+) -> u64 {
+    join(
+        rt,
+        || publish(alloc, publisher, rounds / TAKES),
+        || for_each_mut(
+            rt,
+            takers,
+            THREADS,
+            &|_, taker: &mut Taker<J>| taker.take(rounds),
+        ),
+    );
+    takers
+        .iter()
+        .fold(0, |sum: u64, taker| sum.wrapping_add(taker.taken))
+}
+
+/// Prints what was done, or how often a second.
+fn print<R: Clock + Print>(
+    rt: &R,
+    what: &str,
+    done: u64,
+    start: &Instant,
+    is_timed: bool,
+) -> Result<()> {
+    let nanos = start.elapsed(rt)?.as_nanos().max(1);
+    if is_timed {
+        let rate = u128::from(done) * 1_000_000_000 / nanos;
+        println!(rt; "{what}: {rate} a second")?;
+    } else {
+        println!(rt; "{what}: {done}")?;
+    }
+    Ok(())
+}
+
+/// Takes on one thread and on four beside a publisher, and publishes beside idle readers.
+fn measure<J: Room + Send + Sync, R: Threads + Wait + Clock + Print + Sync>(
+    rt: &R,
+    alloc: Global,
+    opened: Opened,
+    rounds: Option<u32>,
+) -> Result<()>
+    requires { opened ≡ J.book }
+{
+    let is_timed = rounds.is_some();
+    let rounds = rounds.unwrap_or(FEW);
+    let factory = yes(alloc, &MapSizes::new(&[])?).context("the program")?;
+    let (mut publisher, mut readers) = Programs::new::<J, _>(alloc, rt, opened, factory, 5)?;
+    let mut takers = Vec::new(alloc);
+    for _ in 0..=THREADS {
+        let reader = readers.pop().context("five readers")?;
+        takers.push(Taker { reader, taken: 0 })?;
+    }
+    let (one, four) = takers.split_at_mut_checked(1).context("five readers")?;
+    let start = Instant::now(rt)?;
+    let taken = take_beside(rt, alloc, &mut publisher, one, rounds);
+    print(rt, "takes on one thread", taken, &start, is_timed)?;
+    let start = Instant::now(rt)?;
+    let taken = take_beside(rt, alloc, &mut publisher, four, rounds);
+    print(rt, "takes on four threads", taken, &start, is_timed)?;
+    let start = Instant::now(rt)?;
+    let published = publish(alloc, &mut publisher, rounds / TAKES);
+    print(rt, "publishes", published, &start, is_timed)
+}
+
+/// The rounds that the command line asks for, if any.
+fn rounds_given<R: Env + AllocGlobal>(rt: &R) -> Result<Option<u32>> {
+    match env::args(rt)?.nth(1) {
+        Some(word) => Ok(Some(word.parse::<u32>().context("the rounds are a number")?)),
+        None => Ok(None),
+    }
+}
+
+fn main(rt: HostRuntime) -> Result<()> {
+    let rounds = rounds_given(&rt)?;
+    measure::<Brand, _>(&rt, rt.alloc(), Opened::new(), rounds)
+}
