@@ -1,6 +1,6 @@
 -- A bank is still one after a judged command.
-use Rattle.std.proofs.Common.{◌≡◌, ℕ, ◌+◌, ◌<◌, ◌++◌, ◌∷◌, [], List, Bool, true, false, cond, eqb, ltb, ◌&&◌, length, get_or, set, refl, sym, ap, ◌∙◌, arith, inl, inr}
-use Rattle.std.specs.Prelude.{map, filter, fold, if◌then◌else◌}
+use Rattle.std.proofs.Common.{◌≡◌, ℕ, ◌+◌, ◌<◌, ◌++◌, ◌∷◌, [], List, Bool, true, false, eqb, ltb, ◌&&◌, length, get_or, set, refl, sym, ap, ◌∙◌, arith, inl, inr}
+use Rattle.std.specs.Prelude.{if◌then◌else◌}
 use Rattle.std.specs.List.{range_with_len}
 use Rattle.std.proofs.lemmas.List.{length-set, get_or-set_same, get_or-set_other, map-append, map-id, append-nil}
 use Rattle.std.proofs.lemmas.List.Elements.{filter-append}
@@ -11,9 +11,8 @@ use Rattle.std.proofs.lemmas.Bool.Decides.{nat_tests}
 use Rattle.rmap.specs.declared.kind.Kind.{Kind}
 use Rattle.rmap.specs.declared.kind.Kind.TheVariants.{Read, Write, Rmw, Unused}
 use Rattle.rmap.specs.declared.status.Status.{Status}
-use Rattle.rmap.specs.Command.{Parts, command_kind}
+use Rattle.rmap.specs.Command.{Parts, command_kind, command_of}
 use Rattle.rmap.specs.Ranges.{lies_inside}
-use Rattle.bank.specs.Reading.{command_of}
 use Rattle.bank.specs.Effect.{Memory, effect_of, effect}
 use Rattle.bank.specs.Answer.{is_success, effect_at}
 use Rattle.bank.specs.Records.{Contents, Turn, Judgement, Logged, IsBank, memory_of, base_of, replay, redone, numbers_of, logged, fits, is_next}

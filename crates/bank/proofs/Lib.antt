@@ -1,3 +1,3 @@
-pub mod Readings
+pub mod Admissions
 pub mod Effects
 pub mod Banks

@@ -1,4 +1,4 @@
-pub mod Reading
+pub mod Admission
 pub mod Effect
 pub mod Answer
 pub mod Records

@@ -10,6 +10,10 @@ is_room room = nat_le 1 room && nat_le room 65536
 abbrev pub is_range : (base size : ℕ) → Bool
 is_range base size = nat_le 1 size && nat_le size 1048576 && nat_le (base + size) (2 ^ 32)
 
+-- a bank may have that many bytes from that address on, and a journal of that room
+abbrev pub is_bank_size : (base size room : ℕ) → Bool
+is_bank_size base size room = is_range base size && is_room room
+
 -- 1 to 32 ports share a bank
 abbrev pub is_ports : ℕ → Bool
 is_ports ports = nat_le 1 ports && nat_le ports 32

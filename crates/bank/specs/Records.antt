@@ -4,11 +4,17 @@ use Rattle.spw.specs.Cargo.{Cargo}
 use Rattle.rmap.specs.declared.places.Place.{Place}
 use Rattle.rmap.specs.declared.status.Status.{Status}
 use Rattle.rmap.specs.Ranges.{lies_inside}
-use Rattle.bank.specs.Reading.{command_of, IsAdmitted}
+use Rattle.rmap.specs.Command.{command_of}
+use Rattle.bank.specs.Admission.{IsAdmitted}
 use Rattle.bank.specs.Effect.{Memory}
 use Rattle.std.specs.List.{range_with_len}
 use Rattle.bank.specs.Answer.{Answer, answer, effect_at, is_success}
 use Rattle.rmap.specs.Checks.{body_line}
+
+-- a command that the checks of its header let pass: its packet, and where its bytes lie
+pub record AdmittedValue : Type 0 where
+  pub packet : Cargo
+  pub place : Place
 
 -- a judged command: its packet, where its bytes lie, and who judged what
 pub record Judgement : Type 0 where
@@ -100,6 +106,16 @@ pub record IsBank (b : Contents) : Type 0 where
   pub few_ports : length b.counts ≤ 32
   pub replayed : memory_of b ≡ replay (base_of b) b.journal.entries
   pub numbered : (port : ℕ) → port < length b.counts → numbers_of port b.journal.entries ≡ range_with_len 0 (slice_index b.counts port)
+
+-- an admitted command with a verdict on it
+abbrev pub judgement : AdmittedValue → (port generation verdict : ℕ) → Judgement
+judgement admitted port generation verdict = record {
+  packet = admitted.packet;
+  place = admitted.place;
+  port = port;
+  generation = generation;
+  verdict = verdict;
+}
 
 -- the share of a port that has sent a bank no command
 abbrev pub first_share : ℕ → Turn

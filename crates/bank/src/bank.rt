@@ -2,29 +2,27 @@
 
 ghost use Rattle.std.specs.Prelude.{◌≡◌, ◌≤◌, ◌<◌, ◌+◌, ◌-◌, ◌^◌, ◌⊎◌, ◌↔◌, [], ◌∷◌, ◌++◌, length, true, Some, None, IfOk, IsErrOf, slice_index, map, false};
 ghost use Rattle.rmap.specs.Ranges.{lies_inside};
-ghost use Rattle.bank.specs.Reading.{command_of};
+ghost use Rattle.rmap.specs.Command.{command_of};
 ghost use Rattle.rmap.specs.Reply.{reply_of};
 ghost use Rattle.bank.specs.Effect.{Memory};
 ghost use Rattle.bank.specs.Answer.{judged_line, status_of, effect_at};
 ghost use Rattle.std.specs.List.{range_with_len};
-ghost use Rattle.bank.specs.Limits.{is_range, is_bank};
+ghost use Rattle.bank.specs.Limits.{is_bank_size, is_range, is_bank};
 ghost use Rattle.bank.specs.Records.{first_share, fresh_bank, byte_in, fits, is_next, has_room, IsBank, IsExecutable, memory_of, answer_of, applied, number_left, next_share};
 
 use crate::effect::execute;
 use crate::entry::Entry;
 use crate::faults::BankFault;
-use crate::journal::Journal;
+use crate::journal::{Journal, is_room};
 use crate::judged::Judged;
 use crate::share::Share;
 use rmap::{Command, ReplyBuf, Status, body_fault, put_reply};
+use spw::PORTS;
 use std::alloc::{AllocError, Global};
 use std::marker::Model;
 
 /// The most bytes that a bank has.
-const MAX_SIZE: u32 = 1_048_576;
-
-/// The most ports that share a bank.
-const MAX_PORTS: u8 = 32;
+pub const MAX_SIZE: u32 = 1_048_576;
 
 /// How a judged command ended at a bank.
 #[derive(Clone, Copy, Debug, PartialEq, Eq)]
@@ -61,6 +59,14 @@ fn is_range(base: u32, size: u32) -> bool
 {
     let end = u64::from(base) + u64::from(size);
     1 <= size && size <= MAX_SIZE && end <= 1 << 32
+}
+
+/// Whether a bank may have that many bytes from that address on, and a journal of that room: 1 to
+/// 1,048,576 bytes, none past the last address, and a room of 1 to 65,536 entries.
+pub fn is_bank_size(base: u32, size: u32, room: u32) -> bool
+    ensures { result ≡ is_bank_size base size room }
+{
+    is_range(base, size) && is_room(room)
 }
 
 /// The share of each port, in order.
@@ -104,7 +110,7 @@ impl Bank {
     {
         if !is_range(base, size)
             || ports == 0
-            || ports > MAX_PORTS
+            || ports > PORTS
             || !journal.entries().is_empty()
         {
             return Err(BankFault::Size);
@@ -156,7 +162,7 @@ impl Bank {
     /// How many ports share the bank.
     pub fn ports(&self) -> u8
         ensures value { result ≡ length self.now.counts }
-        ensures few { result ≤ 32 }
+        ensures few { result ≤ PORTS }
     {
         self.counts.len() as u8
     }
@@ -174,7 +180,10 @@ impl Bank {
     pub fn fits(&self, share: &Share, judged: &Judged) -> bool
         ensures { result ≡ fits self.now share.now judged.now }
     {
-        share.port() == judged.port() && self.is_next(share) && self.holds(&judged.command())
+        let size = self.bytes.len() as u32;
+        share.port() == judged.port()
+            && self.is_next(share)
+            && judged.command().lies_inside(self.first, size)
     }
 
     /// Whether the share's number is the bank's count of its port.
@@ -183,18 +192,6 @@ impl Bank {
     {
         let port = usize::from(share.port());
         port < self.counts.len() && share.number() == self.counts[port]
-    }
-
-    /// Whether the command's bytes lie in this bank.
-    fn holds(&self, command: &Command) -> bool
-        ensures { result ≡ lies_inside self.now.first (length self.now.bytes) command.now }
-    {
-        let address = u64::from(command.address());
-        let base = u64::from(self.first);
-        let end = base + self.bytes.len() as u64;
-        base <= address
-            && address < end
-            && (!command.increments() || address + u64::from(command.length()) <= end)
     }
 
     /// Whether the journal has room for another entry of the port.

@@ -5,13 +5,10 @@ ghost use Rattle.rmap.specs.declared.status.Status.TheVariants.{Success as Succe
 ghost use Rattle.rmap.specs.Ranges.{lies_inside};
 ghost use Rattle.rmap.specs.Checks.{body_line};
 ghost use Rattle.rmap.specs.Reply.{reply_of};
-ghost use Rattle.bank.specs.Reading.{IsAdmissible};
+ghost use Rattle.bank.specs.Admission.{IsAdmissible};
 ghost use Rattle.bank.specs.Effect.{IsWithin, effect, bytes_read, written, modified};
 
-use rmap::{Command, Kind, ReplyBuf, Status, put_reply};
-
-/// The most bytes of data that a command has.
-const MAX_DATA: usize = 4096;
+use rmap::{Command, Kind, MAX_DATA, ReplyBuf, Status, put_reply};
 
 /// The most bytes that a read-modify-write changes.
 const MAX_MODIFIED: usize = 4;
@@ -19,7 +16,7 @@ const MAX_MODIFIED: usize = 4;
 /// Replies with `count` bytes of the memory that begins at the address `first`: those from the
 /// command's address on, or the one there again and again.
 fn reply_read(reply: &mut ReplyBuf, command: &Command, memory: &[u8], first: u32, count: usize)
-    requires few { count ≤ 4096 }
+    requires few { count ≤ MAX_DATA }
     requires within { IsWithin first (length memory.now) command.now count }
     ensures { reply.new ≡ reply_of command.now Succeeds (bytes_read (record { first = first; bytes = memory.now }) command.now count) }
 {
@@ -32,7 +29,7 @@ fn reply_read(reply: &mut ReplyBuf, command: &Command, memory: &[u8], first: u32
             &memory[offset..offset + count],
         );
     } else {
-        let repeated: [u8; MAX_DATA] = [memory[offset]; MAX_DATA];
+        let repeated = [memory[offset]; MAX_DATA as usize];
         put_reply(reply, command, Status::Success, &repeated[..count]);
     }
 }

@@ -1,7 +1,6 @@
 //! The entries of a journal.
 
 ghost use Rattle.std.specs.Prelude.{◌≡◌};
-ghost use Rattle.bank.specs.Reading.{IsAdmitted};
 
 use crate::judged::Judged;
 use rmap::Status;

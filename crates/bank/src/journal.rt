@@ -1,6 +1,7 @@
 //! The journal of a bank.
 
 ghost use Rattle.std.specs.Prelude.{◌≡◌, ◌≤◌, ◌<◌, ◌⊎◌, ◌↔◌, [], ◌∷◌, ◌++◌, length, nat_le, IfOk, IsErrOf};
+ghost use Rattle.bank.specs.Limits.{is_room};
 
 use crate::entry::Entry;
 use crate::faults::BankFault;
@@ -8,7 +9,7 @@ use std::alloc::Global;
 use std::marker::Model;
 
 /// The most entries that a journal has room for.
-const MAX_ROOM: u32 = 65_536;
+pub const MAX_ROOM: u32 = 65_536;
 
 /// The entries of a bank's judged commands, oldest first. Its room is taken once, when it is made.
 #[derive(Debug, Drop)]
@@ -28,14 +29,21 @@ impl Model for Journal {
     ghost invariant = { λ j. (vec_len j.entries ≤ j.room) × (j.room ≤ vec_capacity j.entries) × (j.room ≤ 65536) };
 }
 
+/// Whether a journal may have that room.
+pub(crate) fn is_room(room: u32) -> bool
+    ensures { result ≡ is_room room }
+{
+    1 <= room && room <= MAX_ROOM
+}
+
 impl Journal {
     /// An empty journal with room for that many entries. `Size` for a room of 0 or over 65,536,
     /// `Memory` where memory was refused.
     pub fn new(alloc: Global, room: u32) -> Result<Journal, BankFault>
         ensures ok { IfOk result (λ j. j ≡ record { entries = []; room = room }) }
-        ensures size { IsErrOf result BankFault.Size ↔ ((room ≡ 0) ⊎ (65536 < room)) }
+        ensures size { IsErrOf result BankFault.Size ↔ ((room ≡ 0) ⊎ (MAX_ROOM < room)) }
     {
-        if room == 0 || room > MAX_ROOM {
+        if !is_room(room) {
             return Err(BankFault::Size);
         }
         Ok(Journal {

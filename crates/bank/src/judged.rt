@@ -1,46 +1,42 @@
 //! A command with a verdict.
 
 ghost use Rattle.std.specs.Prelude.{◌≡◌, [], None, Some};
-ghost use Rattle.spw.specs.Cargo.{Cargo};
-ghost use Rattle.rmap.specs.Command.{discard_of};
+ghost use Rattle.rmap.specs.Command.{command_of, discard_of};
 ghost use Rattle.rmap.specs.Ranges.{place_of};
 ghost use Rattle.rmap.specs.Checks.{header_line};
 ghost use Rattle.rmap.specs.Reply.{reply_of};
 ghost use Rattle.rmap.specs.declared.status.Status.TheVariants.{GeneralError as Fails};
-ghost use Rattle.bank.specs.Reading.{command_of, IsAdmitted};
+ghost use Rattle.bank.specs.Admission.{IsAdmitted, IsPlaced, LiesAt};
+ghost use Rattle.bank.specs.Records.{judgement};
 
-use crate::reading::command_in;
-use rmap::{Command, Place, ReplyBuf, Status, Windows, place, put_reply};
+use crate::admitted::Admitted;
+use rmap::{Command, Place, ReplyBuf, Status, Windows, checked_place, put_reply};
 use spw::Packet;
 use std::marker::Model;
 
-/// A command that the checks of its header let pass, with the verdict of the application on it: the
-/// packet, the place of its bytes, the port that it came in at and the generation of the program that
-/// judged it. It must be spent, so that a command which was judged is also answered: by
+/// An admitted command with the verdict of the application on it, the port that it came in at and the
+/// generation of the program that judged it. It must be spent, so that a command which was judged is also answered: by
 /// [`Bank::apply`](crate::Bank::apply), or by [`Judged::answer_error`].
 #[derive(Debug)]
 pub struct Judged {
-    packet: Packet,
-    place: Place,
+    admitted: Admitted,
     port: u8,
     generation: u32,
     verdict: u64,
 }
 
 impl Model for Judged {
-    ghost use Rattle.bank.specs.Reading.{IsAdmitted};
-    ghost use Rattle.bank.specs.Records.{Judgement};
+    ghost use Rattle.bank.specs.Records.{Judgement, judgement};
 
     ghost Value = { Judgement };
 
-    ghost view = { λ j. record { packet = j.packet; place = j.place; port = j.port; generation = j.generation; verdict = j.verdict } };
-
-    ghost invariant = { λ j. IsAdmitted j.packet };
+    ghost view = { λ j. judgement j.admitted j.port j.generation j.verdict };
 }
 
 impl Judged {
     /// The command of the packet with that verdict. The verdict was given by the program of that
-    /// generation, for the port at which the packet came in.
+    /// generation, for the port at which the packet came in. Conditions: the packet is a command, and
+    /// the windows let it pass.
     pub fn new(packet: Packet, windows: &Windows, port: u8, generation: u32, verdict: u64) -> Judged
         requires command { discard_of packet.bytes ≡ None }
         requires allowed { header_line (command_of packet) windows.now ≡ None }
@@ -51,10 +47,18 @@ impl Judged {
         ensures generation { result.generation ≡ generation }
         ensures verdict { result.verdict ≡ verdict }
     {
-        let place = place_in(&packet, windows);
+        let place = checked_place(&Command::again(&packet), windows).unwrap();
+        let admitted = Admitted::new(packet, place, windows);
+        Judged::of(admitted, port, generation, verdict)
+    }
+
+    /// The admitted command with that verdict, which the program of that generation gave for the port
+    /// at which the packet came in.
+    pub fn of(admitted: Admitted, port: u8, generation: u32, verdict: u64) -> Judged
+        ensures { result ≡ judgement admitted port generation verdict }
+    {
         Judged {
-            packet,
-            place,
+            admitted,
             port,
             generation,
             verdict,
@@ -66,18 +70,16 @@ impl Judged {
         ensures command { result ≡ command_of self.now.packet }
         ensures admitted { IsAdmitted self.now.packet }
     {
-        let packet = &self.packet;
-        match command_in(packet) {
-            Ok(command) => command,
-            Err(_) => unreachable!(),
-        }
+        self.admitted.command()
     }
 
     /// Where the command's bytes lie.
     pub fn place(&self) -> Place
-        ensures { result ≡ self.now.place }
+        ensures value { result ≡ self.now.place }
+        ensures placed { IsPlaced self.now.packet self.now.place }
+        ensures lies { LiesAt self.now.place (command_of self.now.packet) }
     {
-        self.place
+        self.admitted.place()
     }
 
     /// The port at which the packet came in.
@@ -117,28 +119,11 @@ impl Judged {
         ensures { result ≡ self.packet }
     {
         let Judged {
-            packet,
-            place: _,
+            admitted,
             port: _,
             generation: _,
             verdict: _,
         } = self;
-        packet
-    }
-}
-
-/// The place of the command that the packet is.
-fn place_in(packet: &Packet, windows: &Windows) -> Place
-    requires command { discard_of packet.now.bytes ≡ None }
-    requires allowed { header_line (command_of packet.now) windows.now ≡ None }
-    ensures place { place_of (command_of packet.now) windows.now ≡ Some result }
-    ensures admitted { IsAdmitted packet.now }
-{
-    match command_in(packet) {
-        Ok(command) => match place(&command, windows) {
-            Some(place) => place,
-            None => unreachable!(),
-        },
-        Err(_) => unreachable!(),
+        admitted.into_packet()
     }
 }

@@ -6,5 +6,5 @@ mod lines;
 mod packets;
 
 pub use crate::faults::LineFault;
-pub use crate::lines::{line_is_unambiguous, read_line};
+pub use crate::lines::{PORTS, line_is_unambiguous, read_line};
 pub use crate::packets::{End, MAX_PACKET, Packet};

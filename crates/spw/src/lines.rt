@@ -10,8 +10,8 @@ use crate::faults::LineFault;
 use crate::packets::{End, Packet};
 use std::alloc::{AllocError, Global};
 
-/// How many ports there are.
-const PORTS: u8 = 32;
+/// How many ports there are: their numbers are 0 to 31.
+pub const PORTS: u8 = 32;
 
 /// The words of a line: what stands between its spaces.
 fn words_of(alloc: Global, line: &str) -> Result<Vec<&str>, AllocError>

@@ -2,9 +2,8 @@
 use Rattle.std.specs.Prelude.{◌≡◌, ℕ, true, false, List, [], Some}
 use Rattle.spw.specs.Cargo.{Cargo}
 use Rattle.rmap.specs.declared.status.Status.TheVariants.{GeneralError}
-use Rattle.rmap.specs.Command.{discard_of}
+use Rattle.rmap.specs.Command.{command_of, discard_of}
 use Rattle.rmap.specs.Reply.{reply_of}
-use Rattle.bank.specs.Reading.{command_of}
 use Rattle.target.specs.declared.judging.Decision.{Decision}
 use Rattle.target.specs.declared.judging.Decision.TheVariants.{Discarded, Answered, Unread, Verdict}
 use Rattle.target.specs.Steps.{is_served, IsAllowed, IsStopped, IsVerdict}

@@ -3,9 +3,9 @@ use Rattle.std.specs.Prelude.{◌≡◌, ℕ, List, [], None, slice_index_or, sl
 use Rattle.rmap.specs.declared.places.Place.{Place}
 use Rattle.rmap.specs.declared.places.Place.TheVariants.{Bank, Staging, LoadResult, Control}
 use Rattle.rmap.specs.declared.status.Status.TheVariants.{GeneralError}
+use Rattle.rmap.specs.Command.{command_of}
 use Rattle.rmap.specs.Reply.{reply_of}
 use Rattle.bank.specs.declared.bank.Applied.{Applied}
-use Rattle.bank.specs.Reading.{command_of}
 use Rattle.bank.specs.Records.{Contents, Turn, Judgement, first_share, memory_of, answer_of, applied, number_left, next_share}
 use Rattle.target.specs.Passes.{Holder}
 

@@ -3,7 +3,7 @@ use Rattle.std.specs.Prelude.{◌≡◌, ◌<◌, ◌≤◌, ℕ, List, [], ◌�
 use Rattle.rmap.specs.Ranges.{Ranges}
 use Rattle.std.specs.List.{list_all}
 use Rattle.bver.specs.Justified.{Judge}
-use Rattle.bank.specs.Limits.{is_room, is_range, is_ports}
+use Rattle.bank.specs.Limits.{is_bank_size, is_ports}
 use Rattle.bank.specs.Records.{Contents, Turn, first_share, fresh_bank}
 use Rattle.target.specs.Passes.{Holder}
 use Rattle.target.specs.declared.config.BankConfig.{BankConfig}
@@ -42,7 +42,7 @@ first_pass address banks program port = record {
 
 -- whether a bank is within its limits
 abbrev pub is_within : BankConfig → Bool
-is_within bank = is_range bank.base bank.size && is_room bank.room
+is_within bank = is_bank_size bank.base bank.size bank.room
 
 -- whether a node may have those banks: 1 to 8, each within its limits
 abbrev pub are_within : List BankConfig → Bool

@@ -3,9 +3,8 @@ use Rattle.std.specs.Prelude.{◌≡◌, ◌<◌, ℕ, true, false, List, [], le
 use Rattle.spw.specs.Cargo.{Cargo}
 use Rattle.rmap.specs.declared.places.Place.TheVariants.{Bank}
 use Rattle.rmap.specs.declared.status.Status.TheVariants.{GeneralError}
-use Rattle.rmap.specs.Command.{discard_of}
+use Rattle.rmap.specs.Command.{command_of, discard_of}
 use Rattle.rmap.specs.Reply.{reply_of}
-use Rattle.bank.specs.Reading.{command_of}
 use Rattle.bank.specs.declared.bank.Applied.{Applied}
 use Rattle.bank.specs.Records.{Contents, Judgement, fits}
 use Rattle.target.specs.declared.serving.Served.{Served}

@@ -8,11 +8,10 @@ use Rattle.rmap.specs.declared.places.Place.TheVariants.{Bank, Staging, LoadResu
 use Rattle.rmap.specs.declared.status.Status.{Status}
 use Rattle.rmap.specs.declared.status.Status.TheVariants.{GeneralError}
 use Rattle.rmap.specs.declared.discard.Discard.{Discard}
-use Rattle.rmap.specs.Command.{Parts, command_kind, discard_of}
+use Rattle.rmap.specs.Command.{Parts, command_kind, command_of, discard_of}
 use Rattle.rmap.specs.Ranges.{Ranges, place_of}
 use Rattle.rmap.specs.Checks.{header_line}
 use Rattle.rmap.specs.Reply.{reply_of}
-use Rattle.bank.specs.Reading.{command_of}
 use Rattle.bank.specs.Records.{Judgement}
 use Rattle.brun.specs.Running.{header, RunsWithin}
 use Rattle.target.specs.Passes.{Holder}

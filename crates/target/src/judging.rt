@@ -6,7 +6,7 @@ ghost use Rattle.target.specs.Steps.{is_served, IsStep};
 ghost use Rattle.target.specs.Decisions.{IsDecision};
 
 use crate::pass::Pass;
-use bank::{Judged, command_in};
+use bank::Judged;
 use brun::run;
 use rmap::{
     Command, Discard, Kind, Place, ReplyBuf, Status, Windows, header_fault, place, put_reply,
@@ -63,7 +63,7 @@ fn decide(pass: &mut Pass, packet: &Packet, reply: &mut ReplyBuf) -> Decision
     ensures pass { pass.new ≡ pass.old }
     ensures decision { IsDecision result packet.now pass.old reply.new }
 {
-    let command = match command_in(packet) {
+    let command = match Command::view(packet) {
         Ok(command) => command,
         Err(discard) => return Decision::Discarded(discard),
     };

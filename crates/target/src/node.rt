@@ -10,23 +10,12 @@ use crate::config::{BankConfig, NodeConfig};
 use crate::faults::NodeFault;
 use crate::hand::Hand;
 use crate::pass::{Pass, STACK};
-use bank::{Bank, Journal, Share};
+use bank::{Bank, Journal, Share, is_bank_size};
 use bver::Accepted;
-use rmap::Windows;
+use rmap::{MAX_BANKS, Windows};
+use spw::PORTS;
 use std::alloc::{AllocError, Global};
 use std::marker::Model;
-
-/// The most ports of a node.
-const MAX_PORTS: u8 = 32;
-
-/// The most banks of a node.
-const MAX_BANKS: usize = 8;
-
-/// The most bytes of a bank.
-const MAX_SIZE: u32 = 1_048_576;
-
-/// The most entries that a journal has room for.
-const MAX_ROOM: u32 = 65_536;
 
 /// A node: its banks. What belongs to one port is in the port's [`Pass`].
 #[derive(Debug, Drop)]
@@ -47,12 +36,7 @@ impl Model for Node {
 fn is_within(bank: &BankConfig) -> bool
     ensures { result ≡ is_within bank.now }
 {
-    let end = u64::from(bank.base) + u64::from(bank.size);
-    1 <= bank.size
-        && bank.size <= MAX_SIZE
-        && end <= 1 << 32
-        && 1 <= bank.room
-        && bank.room <= MAX_ROOM
+    is_bank_size(bank.base, bank.size, bank.room)
 }
 
 /// Whether all banks are within their limits.
@@ -184,7 +168,7 @@ impl Node {
         ensures bad_banks { is_ports config.now.ports ≡ true → are_within config.now.banks.now ≡ false → result ≡ Err NodeFault.Banks }
         ensures memory { is_ports config.now.ports ≡ true → are_within config.now.banks.now ≡ true → IfErr result (λ fault. fault ≡ NodeFault.Memory) }
     {
-        if config.ports == 0 || config.ports > MAX_PORTS {
+        if config.ports == 0 || config.ports > PORTS {
             return Err(NodeFault::Ports);
         }
         if !are_within(config.banks) {

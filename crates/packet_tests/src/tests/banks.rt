@@ -1,7 +1,7 @@
 //! `bank`: outside rows, each call once, and memory that is refused.
 
-use bank::{Applied, Bank, BankFault, Journal, Judged, Share, command_in};
-use rmap::{ReplyBuf, Status, Windows, header_fault};
+use bank::{Applied, Bank, BankFault, Journal, Judged, Share};
+use rmap::{Command, ReplyBuf, Status, Windows, header_fault};
 use std::alloc::Global;
 use std::test::Fail;
 use trial::{BASE, PLAIN_READ, PLAIN_WRITE, packet};
@@ -22,7 +22,7 @@ fn applied(
 ) -> Result<Option<Applied>, Fail> {
     let packet = packet(alloc, line)?;
     let windows = Windows::new(0xFE, &[(BASE, 65_536)]);
-    let is_judged = match command_in(&packet) {
+    let is_judged = match Command::view(&packet) {
         Ok(command) => header_fault(&command, &windows).is_none(),
         Err(_) => false,
     };

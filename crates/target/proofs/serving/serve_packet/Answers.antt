@@ -1,6 +1,6 @@
 use Rattle.std.proofs.Common.{◌≡◌, length, sym, ◌∙◌, arith}
 use Rattle.rmap.specs.declared.places.Place.{Place}
-use Rattle.bank.specs.Reading.{command_of}
+use Rattle.rmap.specs.Command.{command_of}
 use Rattle.target.specs.Steps.{IsBankBelow}
 use Rattle.target.proofs.Places.{served_bank, below}
 use Rattle.target.proofs.serving.serve_packet.Goals as goal
@@ -11,7 +11,7 @@ bank_mut-requires c =
     let windows = c.args.pass.now.windows in
     let bank : IsBankBelow c.in-Judged.judged.place (length windows.banks) = served_bank windows (command_of c.args.packet) c.in-Judged.judged.place step.1 step.2.place in
     let same : length windows.banks ≡ length c.args.node.now = omega (arith, c.banks-banks.ensures.holder.shares, c.requires) in
-    below _ _ _ (sym c.place.ensures ∙ c.in-Bank.is) (rw (← same) bank)
+    below _ _ _ (sym c.place.ensures.value ∙ c.in-Bank.is) (rw (← same) bank)
 
 pub finish-requires : goal.finish-requires
 finish-requires c =
