@@ -87,7 +87,7 @@ slots_length (Some i ∷ xs) false [] h are =
 pub half_again : (n : ℕ) → n < 65536 → n % 256 + n / 256 % 256 * 256 ≡ n
 half_again n h = omega arith
 
-test_again : (slots least : ℕ) (l : Loop) → least ≤ l.head → IsLoop slots l → is_loop slots least l.head l.back l.bound l.register 0 ≡ true
+pub test_again : (slots least : ℕ) (l : Loop) → least ≤ l.head → IsLoop slots l → is_loop slots least l.head l.back l.bound l.register 0 ≡ true
 test_again slots least l h is =
     let a : nat_le least l.head ≡ true = grind (arith, nat_tests) in
     let b : nat_lt l.head l.back ≡ true = grind (arith, nat_tests, is.ordered) in

@@ -6,3 +6,4 @@ pub mod Again
 pub mod WholeAgain
 pub mod Weighed
 pub mod Parted
+pub mod Named

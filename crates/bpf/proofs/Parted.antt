@@ -11,6 +11,7 @@ use Rattle.bpf.specs.declared.fault.ImageFault.{ImageFault}
 use Rattle.bpf.specs.declared.fault.ImageFault.TheVariants as faults
 use Rattle.bpf.specs.Program.{program, AreLoops, AreSlots, IsBudget, IsLoop, IsProgram, IsSlotCount}
 use Rattle.bpf.specs.Reading.{is_budget, is_count, is_loop}
+use Rattle.bpf.proofs.Again.{test_again}
 use Rattle.bpf.specs.Parts.{are_loops, header_of, parts_fault, placed, second_slots, unless}
 
 -- ---- the slots
@@ -128,3 +129,9 @@ kept budget loops slots h are =
 pub parts_kept : (insns : List Insn) (given loops : List Loop) (budget : ℕ) (h : Header) (slots : List (Option Insn)) → Ok h ≡ header_of insns given budget → loops ≡ given → slots ≡ flat_map placed insns → AreSlots false slots → IsProgram (program budget loops slots)
 parts_kept insns given loops budget h slots made same is are =
     kept budget loops slots (ap (λ (s : List (Option Insn)). parts_fault (length s) loops budget) is ∙ ap (λ (ls : List Loop). parts_fault (length (flat_map placed insns)) ls budget) same ∙ header_made insns given budget h made) are
+
+-- ---- a loop that fits
+
+pub fits_exactly : (slots : ℕ) (l : Loop) (b : Bool) → b ≡ is_loop slots 0 l.head l.back l.bound l.register 0 → (b ≡ true → IsLoop slots l) × (IsLoop slots l → b ≡ true)
+fits_exactly slots l b is =
+    (λ holds. (loop_kept slots 0 l (sym is ∙ holds)).1, λ fits. is ∙ test_again slots 0 l (omega arith) fits)

@@ -1,9 +1,10 @@
 -- A whole image is read as the program that it spells.
-use Rattle.std.proofs.Common.{◌≡◌, ℕ, ◌+◌, ◌*◌, ◌/◌, ◌%◌, ◌≤◌, ◌<◌, Bool, true, false, List, [], ◌++◌, Option, Ok, refl, sym, ap, ◌∙◌, append_assoc, arith, length, nat_lt, nat_le, subst, if◌then◌else◌, length-append}
+use Rattle.std.proofs.Common.{◌≡◌, ℕ, ◌+◌, ◌*◌, ◌/◌, ◌%◌, ◌≤◌, ◌<◌, Bool, true, false, List, [], ◌++◌, Option, Ok, refl, sym, ap, ◌∙◌, append_assoc, arith, length, take, nat_lt, nat_le, subst, if◌then◌else◌, length-append}
 use Rattle.std.proofs.lemmas.Bool.Decides.{nat_tests}
 use Rattle.std.proofs.lemmas.Nat.{from_le_bytes-to_le_bytes_4}
 use Rattle.std.specs.List.{flat_map}
 use Rattle.bpf_insn.specs.declared.insn.Insn.{Insn}
+use Rattle.bpf.specs.declared.header.Header.{Header}
 use Rattle.bpf.specs.declared.loops.Loop.{Loop}
 use Rattle.bpf.specs.Program.{Program, program, IsProgram, IsSlotCount, IsBudget, header_bytes, loop_bytes, slot_bytes, image_bytes}
 use Rattle.bpf.specs.Reading.{is_count, is_budget, header_reading, counts_reading, image_reading}
@@ -79,3 +80,43 @@ image_again law p is =
     let same = in_version p is.version in
     let again = program_again law p.budget p.loops p.slots (subst IsProgram same is) in
     ap (λ (q : Program). image_reading (image_bytes q)) same ∙ again ∙ ap (λ (q : Program). Ok q) (sym same)
+
+-- ---- no bytes are two images', and no image's bytes begin another's
+
+pub one_program : IsRead → (p q : Program) → IsProgram p → IsProgram q → image_bytes p ≡ image_bytes q → p ≡ q
+one_program law p q is_p is_q same =
+    let both : Ok p ≡ Ok q = sym (image_again law p is_p) ∙ ap image_reading same ∙ image_again law q is_q in
+    cc
+
+-- the header that stands before those bytes
+abbrev made : Program → Header
+made p = record { loops = length p.loops; slots = length p.slots; budget = p.budget }
+
+header_seen : (budget : ℕ) (loops : List Loop) (slots : List (Option Insn)) (after : List ℕ) → IsProgram (program budget loops slots) → header_reading (image_bytes (program budget loops slots) ++ after) ≡ Ok (made (program budget loops slots))
+unfolding image_bytes
+header_seen budget loops slots after is =
+    header_again (length loops) (length slots) budget ((flat_map loop_bytes loops ++ flat_map slot_bytes slots) ++ after) is.few_loops is.slots is.budget
+
+header_in : (p : Program) (after : List ℕ) → IsProgram p → header_reading (image_bytes p ++ after) ≡ Ok (made p)
+header_in p after is =
+    let same = in_version p is.version in
+    ap (λ (q : Program). header_reading (image_bytes q ++ after)) same ∙ header_seen p.budget p.loops p.slots after (subst IsProgram same is)
+
+image_length : (p : Program) → IsProgram p → length (image_bytes p) ≡ 16 + 8 * length p.loops + 8 * length p.slots
+image_length p is =
+    let same = in_version p is.version in
+    let cut = cut_again p.budget p.loops p.slots (subst IsProgram same is) in
+    ap (λ (q : Program). length (image_bytes q)) same ∙ cut.len
+
+pub apart : IsRead → (p q : Program) (after more : List ℕ) → IsProgram p → IsProgram q → image_bytes p ++ after ≡ image_bytes q ++ more → p ≡ q
+apart law p q after more is_p is_q e =
+    let heads : Ok (made p) ≡ Ok (made q) = sym (header_in p after is_p) ∙ ap header_reading e ∙ header_in q more is_q in
+    let head : made p ≡ made q = cc in
+    let few : length p.loops ≡ length q.loops = ap (λ (h : Header). h.loops) head in
+    let many : length p.slots ≡ length q.slots = ap (λ (h : Header). h.slots) head in
+    let long : length (image_bytes q) ≡ length (image_bytes p) = omega (arith, image_length p is_p, image_length q is_q, few, many) in
+    let same : image_bytes p ≡ image_bytes q =
+    sym (take_front (image_bytes p) after (length (image_bytes p)) refl)
+    ∙ ap (take (length (image_bytes p))) e
+    ∙ take_front (image_bytes q) more (length (image_bytes p)) long in
+    one_program law p q is_p is_q same

@@ -3,6 +3,7 @@ use Rattle.std.specs.Prelude.{◌≡◌, ℕ, zero, suc, ◌+◌, ◌*◌, Bool,
 use Rattle.std.specs.List.{starts_with}
 use Rattle.bpf_insn.specs.declared.insn.Insn.{Insn}
 use Rattle.bpf_insn.specs.declared.decoding.BadInsn.{BadInsn}
+use Rattle.bpf_insn.specs.Faults.{IsFault}
 use Rattle.bpf_insn.specs.Spelling.{second_immediate, Spells}
 use Rattle.bpf_insn.specs.Reading.{reading}
 use Rattle.bpf.specs.declared.header.Header.{Header}
@@ -147,3 +148,19 @@ image_reading bytes =
     slots_reading h.slots 0 false (drop (16 + 8 * h.loops) bytes) >>= (λ slots.
     Ok (program h.budget loops slots))))
     else Err faults.Length)
+
+-- the bytes from a slot on, which stand after the header and as many loops as it counts
+abbrev pub bytes_at : List ℕ → ℕ → List ℕ
+bytes_at bytes slot = drop (8 * slot) (drop (16 + 8 * slice_index bytes 5) bytes)
+
+-- the fault of an instruction stands in the bytes of its slot and the next one
+abbrev pub IsFaultAt : List ℕ → ImageFault → Type 0
+IsFaultAt bytes (faults.BadSlot slot fault) =
+    IsFault (take 8 (bytes_at bytes slot)) (slot_in (drop 8 (bytes_at bytes slot))) fault
+IsFaultAt bytes faults.Memory = Unit {0}
+IsFaultAt bytes faults.Magic = Unit {0}
+IsFaultAt bytes faults.Version = Unit {0}
+IsFaultAt bytes faults.Length = Unit {0}
+IsFaultAt bytes faults.Count = Unit {0}
+IsFaultAt bytes faults.Budget = Unit {0}
+IsFaultAt bytes faults.BadLoop = Unit {0}

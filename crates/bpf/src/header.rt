@@ -1,6 +1,6 @@
 //! The first 16 bytes of an image.
 
-ghost use Rattle.std.specs.Prelude.{◌≡◌, ◌≤◌, ◌==◌, ◌&&◌, nat_lt, slice_index, length, take, drop, IfOk};
+ghost use Rattle.std.specs.Prelude.{◌≡◌, ◌≤◌, ◌==◌, ◌&&◌, ◌↔◌, IsTrue, nat_lt, slice_index, length, take, drop, IfOk};
 ghost use Rattle.bpf.specs.Program.{IsBudget, IsSlotCount, header_bytes};
 ghost use Rattle.bpf.specs.Reading.{counts_reading, declared, header_reading, is_budget, is_count};
 
@@ -91,9 +91,10 @@ fn is_count(loops: usize, slots: usize, reserved: u32) -> bool
     loops <= MAX_LOOPS && 1 <= slots && slots <= usize::from(MAX_SLOTS) && reserved == 0
 }
 
-/// Whether this is a budget of an image.
-fn is_budget(budget: u32) -> bool
-    ensures { result ≡ is_budget budget }
+/// Whether this is a budget of an image: 1 to 65,536.
+pub fn is_budget(budget: u32) -> bool
+    ensures value { result ≡ is_budget budget }
+    ensures exact { IsTrue result ↔ IsBudget budget }
 {
     1 <= budget && budget <= MAX_BUDGET
 }

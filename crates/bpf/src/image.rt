@@ -1,13 +1,14 @@
 //! An image.
 
-ghost use Rattle.std.specs.Prelude.{◌≡◌, ◌≤◌, length, IfOk};
+ghost use Rattle.std.specs.Prelude.{◌≡◌, ◌≤◌, length, IfErr, IfOk, Ok};
 ghost use Rattle.bpf.specs.Parts.{parts_reading};
-ghost use Rattle.bpf.specs.Program.{IsProgram, image_bytes, insn_at, program};
+ghost use Rattle.bpf.specs.Program.{IsProgram, Program, image_bytes, insn_at, program};
 ghost use Rattle.bpf.specs.Weight.{saturated, weight_of};
-ghost use Rattle.bpf.specs.Reading.{Gives, image_reading};
+ghost use Rattle.bpf.specs.Reading.{Gives, IsFaultAt, image_reading};
 
 use crate::fault::ImageFault;
 use crate::header::{Header, VERSION, header_bytes, read_header};
+use crate::laws::image_laws;
 use crate::loops::{Loop, read_loops};
 use crate::parts::{header_of, place_insns};
 use crate::slots::read_slots;
@@ -45,7 +46,22 @@ impl Image {
         // What is read is spelled so.
         ensures found { IfOk result (λ image. IsProgram image × (bytes.now ≡ image_bytes image)) }
 
+        // What spells a program is read as it, unless memory is refused.
+        ensures only { (p : Program) → IsProgram p → bytes.now ≡ image_bytes p → Gives (λ image. image) result (Ok p) }
+
         // The first fault, or the image, unless memory is refused.
+        ensures exact { Gives (λ image. image) result (image_reading bytes.now) }
+
+        // The fault of an instruction stands in the bytes of its slot.
+        ensures fault { IfErr result (IsFaultAt bytes.now) }
+    {
+        image_laws();
+        Image::of_bytes(alloc, bytes)
+    }
+
+    /// The image that the bytes spell.
+    fn of_bytes(alloc: Global, bytes: &[u8]) -> Result<Image, ImageFault>
+        ensures found { IfOk result (λ image. IsProgram image × (bytes.now ≡ image_bytes image)) }
         ensures exact { Gives (λ image. image) result (image_reading bytes.now) }
     {
         let header = read_header(bytes)?;

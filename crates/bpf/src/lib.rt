@@ -16,7 +16,7 @@ mod writing;
 
 pub use bpf_insn;
 pub use fault::ImageFault;
-pub use header::{MAX_BUDGET, MAX_LOOPS, MAX_SLOTS};
+pub use header::{MAX_BUDGET, MAX_LOOPS, MAX_SLOTS, is_budget};
 pub use image::Image;
 pub use laws::image_laws;
 pub use loops::{Loop, MAX_BOUND};

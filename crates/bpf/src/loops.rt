@@ -1,6 +1,6 @@
 //! The loops of an image.
 
-ghost use Rattle.std.specs.Prelude.{◌≡◌, ◌≤◌, ◌*◌, length, take, IfOk};
+ghost use Rattle.std.specs.Prelude.{◌≡◌, ◌≤◌, ◌*◌, ◌↔◌, IsTrue, length, take, IfOk};
 ghost use Rattle.bpf.specs.Program.{IsLoop, AreLoops, loop_bytes};
 ghost use Rattle.std.specs.List.{flat_map};
 ghost use Rattle.bpf.specs.Reading.{Gives, is_loop, loop_reading, loops_reading};
@@ -22,6 +22,17 @@ pub struct Loop {
     pub bound: u16,
     /// r0 to r9.
     pub register: Register,
+}
+
+impl Loop {
+    /// Whether the loop is within the limits of an image of so many slots: its head is before its back,
+    /// that before the end, its bound 1 to 4,096, and its register r0 to r9.
+    pub fn fits(&self, slots: u16) -> bool
+        ensures value { result ≡ is_loop slots 0 self.now.head self.now.back self.now.bound self.now.register 0 }
+        ensures exact { IsTrue result ↔ IsLoop slots self.now }
+    {
+        is_loop(slots, 0, self.head, self.back, self.bound, self.register.number(), 0)
+    }
 }
 
 /// The loops that the bytes spell, 8 bytes each, in an image of so many slots.

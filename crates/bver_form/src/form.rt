@@ -2,47 +2,20 @@
 
 ghost use Rattle.std.specs.Prelude.{◌≡◌, ◌≤◌, ◌-◌, Ok, Some, OnOk, IfSome, length};
 ghost use Rattle.bpf.specs.Weight.{weight_of};
-ghost use Rattle.bver_form.specs.Form.{IsFormed, IsPassed, IsAllowed, IsSupported, IsJump, LeavesFrame, slot_at, first_slot, target, written_register, jump_distance, ends_loop};
+ghost use Rattle.bver_form.specs.Form.{IsFormed, IsPassed, IsAllowed, IsSupported, IsJump, LeavesFrame, slot_at, first_slot, target, jump_distance, ends_loop};
 
 use crate::refusal::{Refusal, Refused};
 use bpf::Image;
-use bpf_insn::{Callee, Distance, Insn, Register};
-
-/// The frame pointer, which no instruction may write.
-const FRAME: u8 = 10;
+use bpf_insn::{Callee, FRAME_POINTER, Flow, Insn};
 
 /// Tests that the instruction is supported. So far no helper is known.
 fn check_supported(insn: &Insn) -> Result<(), Refusal>
     ensures { OnOk result (IsSupported insn.now) }
 {
-    match insn {
-        Insn::LoadAddress { .. } => Err(Refusal::Unsupported),
-        Insn::Call { callee, .. } => match callee {
-            Callee::Helper => Err(Refusal::Helper),
-            Callee::Local | Callee::ByTypeId => Err(Refusal::Unsupported),
-        },
-        _ => Ok(()),
-    }
-}
-
-/// The register that the instruction names as the one that it writes.
-fn written_register(insn: &Insn) -> Option<Register>
-    ensures { result ≡ written_register insn.now }
-{
-    match insn {
-        Insn::Alu { dst, .. }
-        | Insn::Negate { dst, .. }
-        | Insn::MoveSigned { dst, .. }
-        | Insn::ByteSwap { dst, .. }
-        | Insn::Load { dst, .. }
-        | Insn::Wide { dst, .. }
-        | Insn::LoadMap { dst, .. }
-        | Insn::LoadAddress { dst, .. } => Some(*dst),
-        Insn::Store { .. }
-        | Insn::Jump { .. }
-        | Insn::Goto { .. }
-        | Insn::Call { .. }
-        | Insn::Exit => None,
+    match insn.flow() {
+        Flow::GoesOn | Flow::Branches(_) | Flow::Jumps(_) | Flow::Ends => Ok(()),
+        Flow::Calls(Callee::Helper, _) => Err(Refusal::Helper),
+        Flow::Calls(_, _) | Flow::Unsupported => Err(Refusal::Unsupported),
     }
 }
 
@@ -50,9 +23,9 @@ fn written_register(insn: &Insn) -> Option<Register>
 fn check_frame(insn: &Insn) -> Result<(), Refusal>
     ensures { OnOk result (LeavesFrame insn.now) }
 {
-    match written_register(insn) {
+    match insn.written() {
         Some(register) => {
-            if register.number() == FRAME {
+            if register.number() == FRAME_POINTER {
                 return Err(Refusal::FrameWrite);
             }
             Ok(())
@@ -65,13 +38,9 @@ fn check_frame(insn: &Insn) -> Result<(), Refusal>
 fn jump_distance(insn: &Insn) -> Option<i32>
     ensures { result ≡ jump_distance insn.now }
 {
-    match insn {
-        Insn::Jump { offset, .. } => Some(i32::from(*offset)),
-        Insn::Goto { distance } => match distance {
-            Distance::Short(offset) => Some(i32::from(*offset)),
-            Distance::Long(immediate) => Some(*immediate),
-        },
-        _ => None,
+    match insn.flow() {
+        Flow::Branches(distance) | Flow::Jumps(distance) => Some(distance),
+        Flow::GoesOn | Flow::Calls(_, _) | Flow::Ends | Flow::Unsupported => None,
     }
 }
 
