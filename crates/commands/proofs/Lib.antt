@@ -1,3 +1,3 @@
 mod Matching
-mod Benching
+mod OnePort
 mod Stopped

@@ -9,8 +9,8 @@ use Rattle.clap.proofs.OnLiterals.{clap_on_literals}
 use Rattle.clap.specs.declared.error.kind.ErrorKind.TheVariants.{OutOfMemory}
 use Rattle.clap.specs.declared.error.Error.{Error}
 use Rattle.commands.specs.CommandLine.{rmapctl_app, found_in, NamesNone, LacksJob, TellsRefusal}
-use Rattle.commands.specs.declared.jobs.UsageFault.{UsageFault}
-use Rattle.commands.specs.declared.jobs.UsageFault.TheVariants.{Parse, BadOption, Memory}
+use Rattle.commands.specs.declared.usage.UsageFault.{UsageFault}
+use Rattle.commands.specs.declared.usage.UsageFault.TheVariants.{Parse, BadOption, Memory}
 
 pub is_simple-rmapctl_app : is_simple rmapctl_app ≡ true
 unfolding clap_on_literals rmapctl_app

@@ -1,8 +1,11 @@
-pub mod Accepting
-pub mod Assembly
-pub mod Benches
+pub mod Arguments
+pub mod AsmJob
 pub mod CommandLine
+pub mod DisJob
+pub mod JobNode
+pub mod JudgeJob
 pub mod Printed
 pub mod Reading
 pub mod Statuses
 pub mod Stopping
+pub mod VerifyJob

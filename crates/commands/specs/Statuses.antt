@@ -1,7 +1,7 @@
 -- Exit statuses.
 use Rattle.std.specs.Prelude.{ℕ}
-use Rattle.commands.specs.declared.jobs.UsageFault.{UsageFault}
-use Rattle.commands.specs.declared.jobs.UsageFault.TheVariants.{Parse, BadOption, Memory}
+use Rattle.commands.specs.declared.usage.UsageFault.{UsageFault}
+use Rattle.commands.specs.declared.usage.UsageFault.TheVariants.{Parse, BadOption, Memory}
 
 -- the exit status of a command line that names no job
 abbrev pub usage_status : UsageFault → ℕ

@@ -1,11 +1,15 @@
-//! The jobs of `rmapctl`, and why a command line names none.
+//! The jobs of `rmapctl`.
 
-ghost use Rattle.std.specs.Prelude.{◌≡◌};
-ghost use Rattle.commands.specs.Statuses.{usage_status};
-ghost use Rattle.commands.specs.declared.jobs.UsageFault.TheVariants.{Memory};
+ghost use Rattle.std.specs.Prelude.{◌≤◌, IfOk};
 
-use std::alloc::AllocError;
-use thiserror::Error;
+use crate::asm::assemble_file;
+use crate::dis::disassemble_file;
+use crate::judge::judge_file;
+use crate::stops::{Stop, WriteFault};
+use crate::storage::Files;
+use crate::verify::verify_file;
+use std::alloc::Global;
+use std::io::Write;
 
 /// A job, as a command line names it.
 #[derive(Debug, PartialEq, Eq, Drop)]
@@ -36,36 +40,35 @@ pub enum Job {
     },
 }
 
-/// Why a command line names no job.
-#[derive(Debug, PartialEq, Eq, Drop, Error)]
-pub enum UsageFault {
-    /// The words fit no subcommand, or ask for help: the text for the user, with its line feeds.
-    #[error("{0}")]
-    Parse(String),
-    /// The value of an option is none that it may have.
-    #[error("bad option")]
-    BadOption,
-    /// Memory was refused.
-    #[error("no memory")]
-    Memory,
-}
-
-impl UsageFault {
-    /// The exit status of a program whose command line has this fault.
-    pub fn status(&self) -> u8
-        ensures { result ≡ usage_status self.now }
-    {
-        match self {
-            UsageFault::Parse(_) | UsageFault::BadOption => 2,
-            UsageFault::Memory => 1,
+/// Does a job over any files and any writer, and gives the exit status: 1 where an image was
+/// refused or a fault was printed, else 0. What the writer holds back is not flushed.
+///
+/// `WriteFault` where the writer failed; nothing is written after that.
+pub fn perform<F: Files, W: Write>(
+    alloc: Global,
+    job: &Job,
+    files: &mut F,
+    out: &mut W,
+) -> Result<u8, WriteFault>
+    ensures { IfOk result (λ status. status ≤ 1) }
+{
+    let done = match job {
+        Job::Judge { lines, image } => {
+            let image = image.as_ref().map(|name| name.as_str());
+            judge_file(alloc, lines.as_str(), image, files, out)
         }
-    }
-}
-
-impl From<AllocError> for UsageFault {
-    ghost from_gives = { λ _ fault. fault ≡ Memory };
-
-    fn from(_refused: AllocError) -> UsageFault {
-        UsageFault::Memory
+        Job::Assemble { text, image } => {
+            assemble_file(alloc, text.as_str(), image.as_str(), files, out)
+        }
+        Job::Disassemble { image } => disassemble_file(alloc, image.as_str(), files, out),
+        Job::Verify { image } => verify_file(alloc, image.as_str(), files, out),
+    };
+    match done {
+        Ok(()) => Ok(0),
+        Err(Stop::Ended(fault)) => {
+            writeln!(out, "{fault}")?;
+            Ok(1)
+        }
+        Err(Stop::Unwritten(fault)) => Err(fault),
     }
 }

@@ -1,6 +1,6 @@
-//! The program that judges.
+//! The images and programs of files.
 
-ghost use Rattle.std.specs.Prelude.{◌≡◌, IfErr, IfOk, MatchOption, ℕ, List, []};
+ghost use Rattle.std.specs.Prelude.{◌≡◌, IfErr, IfOk, ℕ, List, []};
 ghost use Rattle.bpf.specs.Program.{IsProgram};
 ghost use Rattle.commands.specs.Reading.{IsNoImage, IsNoProgram};
 ghost use Rattle.commands.specs.declared.faults.Fault.TheVariants.{CannotRead};
@@ -10,13 +10,6 @@ use crate::storage::Files;
 use bpf::Image;
 use bver::{Accepted, MapSizes, verify};
 use std::alloc::Global;
-
-/// The image that judges where no other is named. Its program is `mov r0, 0; exit`: yes to every
-/// command.
-const FACTORY: [u8; 32] = [
-    0x42, 0x50, 0x46, 0x41, 0x01, 0x00, 0x02, 0x00, 0x02, 0x00, 0x00, 0x00, 0x00, 0x00, 0x00, 0x00,
-    0xb7, 0x00, 0x00, 0x00, 0x00, 0x00, 0x00, 0x00, 0x95, 0x00, 0x00, 0x00, 0x00, 0x00, 0x00, 0x00,
-];
 
 /// The sizes of no counter maps.
 pub fn no_maps() -> MapSizes
@@ -50,7 +43,7 @@ pub fn image_in<'a, F: Files>(
 }
 
 /// The program of an image, for a node without counter maps.
-fn accepted<'a>(alloc: Global, image: Image) -> Result<Accepted, Fault<'a>>
+pub fn accepted<'a>(alloc: Global, image: Image) -> Result<Accepted, Fault<'a>>
     ensures program { IfOk result (λ program. program.sizes ≡ []) }
     ensures refused { IfErr result (λ fault. (name : List ℕ) → IsNoProgram name fault) }
 {
@@ -68,19 +61,4 @@ pub fn program_in<'a, F: Files>(
 {
     let image = image_in(alloc, files, name)?;
     accepted(alloc, image)
-}
-
-/// The program of the image file of this name, or of the factory image where there is no name.
-pub fn judging_program<'a, F: Files>(
-    alloc: Global,
-    files: &mut F,
-    image: Option<&'a str>,
-) -> Result<Accepted, Fault<'a>>
-    ensures program { IfOk result (λ program. program.sizes ≡ []) }
-    ensures refused { IfErr result (λ fault. MatchOption image.entry ((name : List ℕ) → IsNoProgram name fault) (λ name. IsNoProgram name.now fault)) }
-{
-    match image {
-        Some(name) => program_in(alloc, files, name),
-        None => accepted(alloc, Image::read(alloc, &FACTORY)?),
-    }
 }

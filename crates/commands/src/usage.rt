@@ -1,83 +1,55 @@
 //! The command line.
 
-ghost use Rattle.std.specs.Prelude.{◌≡◌, Some, IfOk, IfErr, codes, false, option_map, string_bytes};
+ghost use Rattle.std.specs.Prelude.{◌≡◌, IfOk, IfErr};
 ghost use Rattle.clap.specs.Simple.{app_of, subcommand_rows_of};
 ghost use Rattle.clap.specs.Values.{kind_of};
-ghost use Rattle.clap.specs.declared.builder.command.Command.TheViews.{out-Command as fields_of};
-ghost use Rattle.clap.specs.Walk.{first_of, rows_of, rule_of, texts};
-ghost use Rattle.clap.specs.Matches.{found_of};
-ghost use Rattle.commands.specs.CommandLine.{file_rule, asm_app, dis_app, verify_app, judge_app, rmapctl_app, found_in, Names, NamesAsm, NamesDis, NamesVerify, NamesJudge, NamesNone, Lacks, LacksEither, LacksJob, TellsRefusal};
+ghost use Rattle.clap.specs.Walk.{texts};
+ghost use Rattle.commands.specs.CommandLine.{rmapctl_app, found_in, Names, NamesNone, LacksJob, TellsRefusal};
+ghost use Rattle.commands.specs.Statuses.{usage_status};
+ghost use Rattle.commands.specs.declared.usage.UsageFault.TheVariants.{Memory};
 
-use crate::jobs::{Job, UsageFault};
+use crate::asm::{asm_command, asm_job};
+use crate::dis::{dis_command, dis_job};
+use crate::jobs::Job;
+use crate::judge::{judge_command, judge_job};
+use crate::verify::{verify_command, verify_job};
 use clap::error::ErrorKind;
-use clap::{Arg, ArgMatches, Command, Error};
+use clap::{ArgMatches, Command, Error};
 use std::alloc::{AllocError, Global};
+use thiserror::Error as ThisError;
 
-/// The name of a file that has to be given.
-fn file<'a>(alloc: Global, id: &'a str, name: &'a str, help: &'a str) -> Arg<'a>
-    ensures rule { rule_of result ≡ file_rule id.now }
-    ensures local { result.global ≡ false }
-{
-    Arg::new(alloc, id)
-        .value_name(name)
-        .help(help)
-        .required(true)
+/// Why a command line names no job.
+#[derive(Debug, PartialEq, Eq, Drop, ThisError)]
+pub enum UsageFault {
+    /// The words fit no subcommand, or ask for help: the text for the user, with its line feeds.
+    #[error("{0}")]
+    Parse(String),
+    /// The value of an option is none that it may have.
+    #[error("bad option")]
+    BadOption,
+    /// Memory was refused.
+    #[error("no memory")]
+    Memory,
 }
 
-/// `judge LINES [--image FILE]`.
-fn judge_command<'a>(alloc: Global) -> Result<Command<'a>, AllocError>
-    ensures shape { IfOk result (λ c. app_of c ≡ judge_app) }
-    ensures local { IfOk result (λ c. (fields_of c).has_globals ≡ false) }
-{
-    let help = "The file of packet lines, or - for standard input";
-    let lines = file(alloc, "lines", "LINES", help);
-    let image = Arg::new(alloc, "image")
-        .long("image")
-        .value_name("FILE")
-        .help("The file of the BPF image that judges, in place of the factory image");
-    Command::new(alloc, "judge")
-        .about("Judges each packet line and prints its reply")
-        .arg(lines)?
-        .arg(image)
+impl UsageFault {
+    /// The exit status of a program whose command line has this fault.
+    pub fn status(&self) -> u8
+        ensures { result ≡ usage_status self.now }
+    {
+        match self {
+            UsageFault::Parse(_) | UsageFault::BadOption => 2,
+            UsageFault::Memory => 1,
+        }
+    }
 }
 
-/// `asm FILE OUT`.
-fn asm_command<'a>(alloc: Global) -> Result<Command<'a>, AllocError>
-    ensures shape { IfOk result (λ c. app_of c ≡ asm_app) }
-    ensures local { IfOk result (λ c. (fields_of c).has_globals ≡ false) }
-{
-    let help = "The file of the text, or - for standard input";
-    let text = file(alloc, "text", "FILE", help);
-    let help = "The file that the BPF image is written to";
-    let image = file(alloc, "image", "OUT", help);
-    Command::new(alloc, "asm")
-        .about("Assembles a text to a BPF image")
-        .arg(text)?
-        .arg(image)
-}
+impl From<AllocError> for UsageFault {
+    ghost from_gives = { λ _ fault. fault ≡ Memory };
 
-/// `dis FILE`.
-fn dis_command<'a>(alloc: Global) -> Result<Command<'a>, AllocError>
-    ensures shape { IfOk result (λ c. app_of c ≡ dis_app) }
-    ensures local { IfOk result (λ c. (fields_of c).has_globals ≡ false) }
-{
-    let help = "The file of the BPF image, or - for standard input";
-    let image = file(alloc, "image", "FILE", help);
-    Command::new(alloc, "dis")
-        .about("Prints the text of a BPF image")
-        .arg(image)
-}
-
-/// `verify FILE`.
-fn verify_command<'a>(alloc: Global) -> Result<Command<'a>, AllocError>
-    ensures shape { IfOk result (λ c. app_of c ≡ verify_app) }
-    ensures local { IfOk result (λ c. (fields_of c).has_globals ≡ false) }
-{
-    let help = "The file of the BPF image, or - for standard input";
-    let image = file(alloc, "image", "FILE", help);
-    Command::new(alloc, "verify")
-        .about("Tells whether a BPF image may judge, or why it is refused")
-        .arg(image)
+    fn from(_refused: AllocError) -> UsageFault {
+        UsageFault::Memory
+    }
 }
 
 /// The whole command line.
@@ -111,65 +83,6 @@ fn told(alloc: Global, refusal: &Error) -> UsageFault
         Ok(text) => UsageFault::Parse(text),
         Err(_) => UsageFault::Memory,
     }
-}
-
-/// The text that the matches have for an argument.
-fn text_of<'a>(found: &ArgMatches<'a>, id: &str) -> Option<&'a str>
-    ensures { option_map (λ s. s.now) result ≡ first_of id.now (rows_of (found_of found.now)) }
-{
-    found.get_str(id)
-}
-
-/// The name of a file that has to be given.
-fn name_of(alloc: Global, found: &ArgMatches, id: &str) -> Result<String, UsageFault>
-    ensures ok { IfOk result (λ name. first_of id.now (rows_of (found_of found.now)) ≡ Some (string_bytes name)) }
-    ensures err { IfErr result (Lacks id.now (rows_of (found_of found.now))) }
-{
-    match text_of(found, id) {
-        Some(name) => Ok(String::from_str(alloc, name)?),
-        None => Err(UsageFault::BadOption),
-    }
-}
-
-/// The job of `asm` with these matches.
-fn asm_job(alloc: Global, found: &ArgMatches) -> Result<Job, UsageFault>
-    ensures ok { IfOk result (NamesAsm (rows_of (found_of found.now))) }
-    ensures err { IfErr result (LacksEither (rows_of (found_of found.now))) }
-{
-    let text = name_of(alloc, found, "text")?;
-    let image = name_of(alloc, found, "image")?;
-    Ok(Job::Assemble { text, image })
-}
-
-/// The job of `dis` with these matches.
-fn dis_job(alloc: Global, found: &ArgMatches) -> Result<Job, UsageFault>
-    ensures ok { IfOk result (NamesDis (rows_of (found_of found.now))) }
-    ensures err { IfErr result (Lacks (codes "image") (rows_of (found_of found.now))) }
-{
-    let image = name_of(alloc, found, "image")?;
-    Ok(Job::Disassemble { image })
-}
-
-/// The job of `verify` with these matches.
-fn verify_job(alloc: Global, found: &ArgMatches) -> Result<Job, UsageFault>
-    ensures ok { IfOk result (NamesVerify (rows_of (found_of found.now))) }
-    ensures err { IfErr result (Lacks (codes "image") (rows_of (found_of found.now))) }
-{
-    let image = name_of(alloc, found, "image")?;
-    Ok(Job::Verify { image })
-}
-
-/// The job of `judge` with these matches.
-fn judge_job(alloc: Global, found: &ArgMatches) -> Result<Job, UsageFault>
-    ensures ok { IfOk result (NamesJudge (rows_of (found_of found.now))) }
-    ensures err { IfErr result (Lacks (codes "lines") (rows_of (found_of found.now))) }
-{
-    let lines = name_of(alloc, found, "lines")?;
-    let image = match text_of(found, "image") {
-        Some(name) => Some(String::from_str(alloc, name)?),
-        None => None,
-    };
-    Ok(Job::Judge { lines, image })
 }
 
 /// The job of the subcommand that was found.

@@ -2,8 +2,8 @@ use Rattle.std.proofs.Common.{rules, ap, ap₂, codes, ◌≡◌, ◌∙◌}
 use Rattle.std.proofs.lemmas.Result.{IfOk-weaker}
 use Rattle.clap.specs.Walk.{rule_of}
 use Rattle.clap.specs.Simple.{app_of, app_of_fields, new_app, with_rule}
-use Rattle.commands.specs.CommandLine.{image_rule}
-use Rattle.commands.proofs.usage.judge_command.Goals as goal
+use Rattle.commands.specs.JudgeJob.{image_rule}
+use Rattle.commands.proofs.judge.judge_command.Goals as goal
 
 pub returns-clause-shape : goal.returns-clause-shape
 returns-clause-shape c =

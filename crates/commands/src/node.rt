@@ -2,7 +2,7 @@
 
 ghost use Rattle.std.specs.Prelude.{◌≡◌, ◌≢◌, [], None, IfErr, IfOk, IfSome};
 ghost use Rattle.target.specs.Serving.{IsServed};
-ghost use Rattle.commands.specs.Benches.{fresh_setup};
+ghost use Rattle.commands.specs.JobNode.{fresh_job_node};
 ghost use Rattle.commands.specs.declared.faults.Fault.TheVariants.{NoMemory};
 
 use crate::faults::Fault;
@@ -26,27 +26,27 @@ const BANK: BankConfig = BankConfig {
 
 /// A node of one bank and one port, with room for one reply.
 #[derive(Drop)]
-pub struct Bench {
+pub struct JobNode {
     node: Node,
     pass: Pass,
     reply: ReplyBuf,
 }
 
-impl Model for Bench {
-    ghost use Rattle.commands.specs.Benches.{Setup, IsSetup};
+impl Model for JobNode {
+    ghost use Rattle.commands.specs.JobNode.{JobNodeValue, IsJobNode};
 
-    ghost Value = { Setup };
+    ghost Value = { JobNodeValue };
 
     ghost view = { λ b. record { banks = b.node; holder = b.pass; reply = b.reply } };
 
-    ghost invariant = { λ b. IsSetup (record { banks = b.node; holder = b.pass; reply = b.reply }) };
+    ghost invariant = { λ b. IsJobNode (record { banks = b.node; holder = b.pass; reply = b.reply }) };
 }
 
-impl Bench {
+impl JobNode {
     /// A node of zero bytes whose commands this program judges.
-    pub fn new<'a>(alloc: Global, program: Accepted) -> Result<Bench, Fault<'a>>
+    pub fn new<'a>(alloc: Global, program: Accepted) -> Result<JobNode, Fault<'a>>
         requires { program.sizes ≡ [] }
-        ensures made { IfOk result (λ bench. bench ≡ fresh_setup program) }
+        ensures made { IfOk result (λ node. node ≡ fresh_job_node program) }
         ensures refused { IfErr result (λ fault. fault ≡ NoMemory) }
     {
         let config = NodeConfig {
@@ -59,7 +59,7 @@ impl Bench {
         let Some(pass) = passes.pop() else {
             unreachable!()
         };
-        Ok(Bench {
+        Ok(JobNode {
             node,
             pass,
             reply: ReplyBuf::new(),

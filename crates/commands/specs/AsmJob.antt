@@ -1,0 +1,41 @@
+-- The job `asm`: its words, and what it prints.
+use Rattle.std.specs.Prelude.{◌≡◌, ◌⊎◌, ℕ, List, [], ◌∷◌, ◌++◌, Option, Some, None, codes, decimal, length, string_bytes}
+use Rattle.std.specs.Io.KnownBytes.{Appends}
+use Rattle.clap.specs.Walk.{Row, first_of}
+use Rattle.clap.specs.Simple.{App, new_app, with_rule}
+use Rattle.bpf.specs.Program.{Program, IsProgram}
+use Rattle.commands.specs.Arguments.{file_rule}
+use Rattle.commands.specs.declared.jobs.Job.{Job}
+use Rattle.commands.specs.declared.jobs.Job.TheVariants.{Assemble, Disassemble, Verify, Judge}
+use Rattle.commands.specs.declared.usage.UsageFault.{UsageFault}
+use Rattle.commands.specs.declared.usage.UsageFault.TheVariants.{Parse, BadOption, Memory}
+
+-- asm FILE OUT
+abbrev pub asm_app : App
+asm_app = with_rule (with_rule (new_app (codes "asm")) (file_rule (codes "text"))) (file_rule (codes "image"))
+
+-- the job is that of asm with these matches
+abbrev pub NamesAsm : List Row → Job → Type 0
+NamesAsm rows (Assemble text image) = (first_of (codes "text") rows ≡ Some (string_bytes text))
+    × (first_of (codes "image") rows ≡ Some (string_bytes image))
+NamesAsm rows (Disassemble image) = ⊥
+NamesAsm rows (Verify image) = ⊥
+NamesAsm rows (Judge lines image) = ⊥
+
+-- matches of asm without one of its files, or memory was refused
+abbrev pub LacksEither : List Row → UsageFault → Type 0
+LacksEither rows Memory = Unit {0}
+LacksEither rows BadOption = (first_of (codes "text") rows ≡ None) ⊎ (first_of (codes "image") rows ≡ None)
+LacksEither rows (Parse text) = ⊥
+
+-- the line of an image that was assembled
+abbrev pub parts_line : Program → List ℕ
+parts_line p =
+    codes "slots " ++ decimal (length p.slots) ++ codes " loops " ++ decimal (length p.loops) ++ codes " budget " ++ decimal p.budget
+    ++ 10 ∷ []
+
+-- the line of an image
+pub record PrintsParts (old new : Option (List ℕ)) : Type 0 where
+  pub program : Program
+  pub limits : IsProgram program
+  pub line : Appends old new (parts_line program)

@@ -1,0 +1,89 @@
+//! The job `asm`.
+
+ghost use Rattle.std.specs.Prelude.{◌≡◌, IfErr, IfOk, OnOk, false};
+ghost use Rattle.std.specs.Io.KnownBytes.{Appends};
+ghost use Rattle.clap.specs.Simple.{app_of};
+ghost use Rattle.clap.specs.declared.builder.command.Command.TheViews.{out-Command as fields_of};
+ghost use Rattle.clap.specs.Walk.{rows_of};
+ghost use Rattle.clap.specs.Matches.{found_of};
+ghost use Rattle.bpf.specs.Program.{IsProgram};
+ghost use Rattle.commands.specs.AsmJob.{LacksEither, NamesAsm, PrintsParts, asm_app, parts_line};
+ghost use Rattle.commands.specs.Stopping.{IsNoText, IsNotAssembled, StopsBy};
+
+use crate::arguments::{file, name_of};
+use crate::faults::Fault;
+use crate::jobs::Job;
+use crate::programs::bytes_in;
+use crate::stops::Stop;
+use crate::storage::Files;
+use crate::usage::UsageFault;
+use basm::assemble;
+use bpf::Image;
+use clap::{ArgMatches, Command};
+use std::alloc::{AllocError, Global};
+use std::io::{self, Write};
+
+/// `asm FILE OUT`.
+pub fn asm_command<'a>(alloc: Global) -> Result<Command<'a>, AllocError>
+    ensures shape { IfOk result (λ c. app_of c ≡ asm_app) }
+    ensures local { IfOk result (λ c. (fields_of c).has_globals ≡ false) }
+{
+    let help = "The file of the text, or - for standard input";
+    let text = file(alloc, "text", "FILE", help);
+    let help = "The file that the BPF image is written to";
+    let image = file(alloc, "image", "OUT", help);
+    Command::new(alloc, "asm")
+        .about("Assembles a text to a BPF image")
+        .arg(text)?
+        .arg(image)
+}
+
+/// The job of `asm` with these matches.
+pub fn asm_job(alloc: Global, found: &ArgMatches) -> Result<Job, UsageFault>
+    ensures ok { IfOk result (NamesAsm (rows_of (found_of found.now))) }
+    ensures err { IfErr result (LacksEither (rows_of (found_of found.now))) }
+{
+    let text = name_of(alloc, found, "text")?;
+    let image = name_of(alloc, found, "image")?;
+    Ok(Job::Assemble { text, image })
+}
+
+/// The image that the text of a file writes.
+fn assembled<'a, F: Files>(alloc: Global, text: &'a str, files: &mut F) -> Result<Image, Fault<'a>>
+    ensures image { IfOk result IsProgram }
+    ensures refused { IfErr result (IsNoText text.entry.now) }
+{
+    let bytes = bytes_in(alloc, files, text)?;
+    let source = str::from_utf8(bytes.as_slice()).map_err(|_| Fault::CannotRead(text))?;
+    Ok(assemble(alloc, source)?)
+}
+
+/// Prints how large an image is: `slots S loops L budget B`.
+fn print_parts<W: Write>(out: &mut W, image: &Image) -> io::Result<()>
+    ensures { OnOk result (Appends (W.contents out.old) (W.contents out.new) (parts_line image.now)) }
+{
+    let slots = image.slots();
+    let loops = image.loops().len();
+    let budget = image.budget();
+    writeln!(out, "slots {slots} loops {loops} budget {budget}")
+}
+
+/// Assembles the text of a file, writes the image to another, and prints how large it is.
+///
+/// Faults are found in this order: the file of the text (`CannotRead`, also where it is not UTF-8), the
+/// text (`BadText`), and the file of the image (`CannotWrite`).
+pub fn assemble_file<'a, F: Files, W: Write>(
+    alloc: Global,
+    text: &'a str,
+    image: &'a str,
+    files: &mut F,
+    out: &mut W,
+) -> Result<(), Stop<'a>>
+    ensures printed { OnOk result (PrintsParts (W.contents out.old) (W.contents out.new)) }
+    ensures stops { IfErr result (StopsBy (IsNotAssembled text.now image.now)) }
+{
+    let made = assembled(alloc, text, files)?;
+    let written = files.write(image, made.write()?.as_slice());
+    written.map_err(|_| Fault::CannotWrite(image))?;
+    Ok(print_parts(out, &made)?)
+}

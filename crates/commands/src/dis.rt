@@ -1,0 +1,67 @@
+//! The job `dis`.
+
+ghost use Rattle.std.specs.Prelude.{◌≡◌, IfErr, IfOk, OnOk, codes, false};
+ghost use Rattle.std.specs.Io.KnownBytes.{Appends};
+ghost use Rattle.clap.specs.Simple.{app_of};
+ghost use Rattle.clap.specs.declared.builder.command.Command.TheViews.{out-Command as fields_of};
+ghost use Rattle.clap.specs.Walk.{rows_of};
+ghost use Rattle.clap.specs.Matches.{found_of};
+ghost use Rattle.commands.specs.Arguments.{Lacks};
+ghost use Rattle.commands.specs.DisJob.{NamesDis, PrintsText, dis_app};
+ghost use Rattle.commands.specs.Stopping.{IsNotPrinted, StopsBy};
+
+use crate::arguments::{file, name_of};
+use crate::jobs::Job;
+use crate::programs::image_in;
+use crate::stops::Stop;
+use crate::storage::Files;
+use crate::usage::UsageFault;
+use basm::disassemble;
+use clap::{ArgMatches, Command};
+use std::alloc::{AllocError, Global};
+use std::io::{self, Write};
+
+/// `dis FILE`.
+pub fn dis_command<'a>(alloc: Global) -> Result<Command<'a>, AllocError>
+    ensures shape { IfOk result (λ c. app_of c ≡ dis_app) }
+    ensures local { IfOk result (λ c. (fields_of c).has_globals ≡ false) }
+{
+    let help = "The file of the BPF image, or - for standard input";
+    let image = file(alloc, "image", "FILE", help);
+    Command::new(alloc, "dis")
+        .about("Prints the text of a BPF image")
+        .arg(image)
+}
+
+/// The job of `dis` with these matches.
+pub fn dis_job(alloc: Global, found: &ArgMatches) -> Result<Job, UsageFault>
+    ensures ok { IfOk result (NamesDis (rows_of (found_of found.now))) }
+    ensures err { IfErr result (Lacks (codes "image") (rows_of (found_of found.now))) }
+{
+    let image = name_of(alloc, found, "image")?;
+    Ok(Job::Disassemble { image })
+}
+
+/// Prints the text of an image, which has its line feeds.
+fn print_text<W: Write>(out: &mut W, text: &str) -> io::Result<()>
+    ensures { OnOk result (Appends (W.contents out.old) (W.contents out.new) text.now) }
+{
+    write!(out, "{text}")
+}
+
+/// Prints the text of the image of a file.
+///
+/// Faults are found in this order: the file (`CannotRead`), its image (`BadImage`).
+pub fn disassemble_file<'a, F: Files, W: Write>(
+    alloc: Global,
+    image: &'a str,
+    files: &mut F,
+    out: &mut W,
+) -> Result<(), Stop<'a>>
+    ensures printed { OnOk result (PrintsText (W.contents out.old) (W.contents out.new)) }
+    ensures stops { IfErr result (StopsBy (IsNotPrinted image.now)) }
+{
+    let image = image_in(alloc, files, image)?;
+    let text = disassemble(alloc, &image)?;
+    Ok(print_text(out, text.as_str())?)
+}

@@ -1,0 +1,162 @@
+//! The job `judge`.
+
+ghost use Rattle.std.specs.Prelude.{◌≡◌, ◌⊎◌, IfErr, IfOk, MatchOption, OnOk, ℕ, List, [], codes, false};
+ghost use Rattle.std.specs.Io.KnownBytes.{Appends};
+ghost use Rattle.clap.specs.Simple.{app_of};
+ghost use Rattle.clap.specs.declared.builder.command.Command.TheViews.{out-Command as fields_of};
+ghost use Rattle.clap.specs.Walk.{rows_of};
+ghost use Rattle.clap.specs.Matches.{found_of};
+ghost use Rattle.commands.specs.Arguments.{Lacks};
+ghost use Rattle.commands.specs.JudgeJob.{NamesJudge, discard_line, judge_app, reply_line};
+ghost use Rattle.commands.specs.Reading.{IsNoProgram};
+ghost use Rattle.commands.specs.Stopping.{IsBadLines, IsBadPacket, StopsBy};
+ghost use Rattle.commands.specs.declared.faults.Fault.TheVariants.{NoMemory};
+
+use crate::arguments::{file, name_of, text_of};
+use crate::faults::Fault;
+use crate::jobs::Job;
+use crate::node::JobNode;
+use crate::programs::{accepted, bytes_in, program_in};
+use crate::stops::Stop;
+use crate::storage::Files;
+use crate::usage::UsageFault;
+use bpf::Image;
+use bver::Accepted;
+use clap::{Arg, ArgMatches, Command};
+use rmap::Discard;
+use spw::read_line;
+use std::alloc::{AllocError, Global};
+use std::io::{self, Write};
+use target::Served;
+
+/// The image that judges where no other is named. Its program is `mov r0, 0; exit`: yes to every
+/// command.
+const FACTORY: [u8; 32] = [
+    0x42, 0x50, 0x46, 0x41, 0x01, 0x00, 0x02, 0x00, 0x02, 0x00, 0x00, 0x00, 0x00, 0x00, 0x00, 0x00,
+    0xb7, 0x00, 0x00, 0x00, 0x00, 0x00, 0x00, 0x00, 0x95, 0x00, 0x00, 0x00, 0x00, 0x00, 0x00, 0x00,
+];
+
+/// `judge LINES [--image FILE]`.
+pub fn judge_command<'a>(alloc: Global) -> Result<Command<'a>, AllocError>
+    ensures shape { IfOk result (λ c. app_of c ≡ judge_app) }
+    ensures local { IfOk result (λ c. (fields_of c).has_globals ≡ false) }
+{
+    let help = "The file of packet lines, or - for standard input";
+    let lines = file(alloc, "lines", "LINES", help);
+    let image = Arg::new(alloc, "image")
+        .long("image")
+        .value_name("FILE")
+        .help("The file of the BPF image that judges, in place of the factory image");
+    Command::new(alloc, "judge")
+        .about("Judges each packet line and prints its reply")
+        .arg(lines)?
+        .arg(image)
+}
+
+/// The job of `judge` with these matches.
+pub fn judge_job(alloc: Global, found: &ArgMatches) -> Result<Job, UsageFault>
+    ensures ok { IfOk result (NamesJudge (rows_of (found_of found.now))) }
+    ensures err { IfErr result (Lacks (codes "lines") (rows_of (found_of found.now))) }
+{
+    let lines = name_of(alloc, found, "lines")?;
+    let image = match text_of(found, "image") {
+        Some(name) => Some(String::from_str(alloc, name)?),
+        None => None,
+    };
+    Ok(Job::Judge { lines, image })
+}
+
+/// The program of the image file of this name, or of the factory image where there is no name.
+fn judging_program<'a, F: Files>(
+    alloc: Global,
+    files: &mut F,
+    image: Option<&'a str>,
+) -> Result<Accepted, Fault<'a>>
+    ensures program { IfOk result (λ program. program.sizes ≡ []) }
+    ensures refused { IfErr result (λ fault. MatchOption image.entry ((name : List ℕ) → IsNoProgram name fault) (λ name. IsNoProgram name.now fault)) }
+{
+    match image {
+        Some(name) => program_in(alloc, files, name),
+        None => accepted(alloc, Image::read(alloc, &FACTORY)?),
+    }
+}
+
+/// Prints that a packet was discarded: `PORT discard C`.
+fn print_discard<W: Write>(out: &mut W, port: u8, discard: Discard) -> io::Result<()>
+    ensures { OnOk result (Appends (W.contents out.old) (W.contents out.new) (discard_line port discard)) }
+{
+    let code = discard.code();
+    writeln!(out, "{port} discard {code}")
+}
+
+/// Prints a reply: `PORT HEX EOP`, or `PORT -` where none is due and it has no bytes.
+fn print_reply<'a, W: Write>(
+    alloc: Global,
+    out: &mut W,
+    port: u8,
+    reply: &[u8],
+) -> Result<(), Stop<'a>>
+    ensures printed { OnOk result (Appends (W.contents out.old) (W.contents out.new) (reply_line port reply.now)) }
+    ensures stops { IfErr result (StopsBy (λ fault. fault ≡ NoMemory)) }
+{
+    if reply.is_empty() {
+        writeln!(out, "{port} -")?;
+        return Ok(());
+    }
+    let hex = hex::encode_upper(alloc, reply)?;
+    writeln!(out, "{port} {hex} EOP")?;
+    Ok(())
+}
+
+/// Judges the packet of one line, and prints what comes of it. `number` is that of the line.
+fn judge_line<'a, W: Write>(
+    alloc: Global,
+    node: &mut JobNode,
+    line: &str,
+    number: usize,
+    out: &mut W,
+) -> Result<(), Stop<'a>>
+    ensures stops { IfErr result (StopsBy (IsBadPacket number)) }
+{
+    let (port, packet) = read_line(alloc, line).map_err(|fault| Fault::unread(number, fault))?;
+    let served = node.serve(port, packet).ok_or(Fault::no_port(number))?;
+    match served {
+        Served::Discarded(discard) => Ok(print_discard(out, port, discard)?),
+        _ => print_reply(alloc, out, port, node.reply()),
+    }
+}
+
+/// Judges each line of a text in turn. A line is ended by a line feed, which the last may lack.
+fn judge_text<'a, W: Write>(
+    alloc: Global,
+    node: &mut JobNode,
+    text: &str,
+    out: &mut W,
+) -> Result<(), Stop<'a>>
+    ensures stops { (name : List ℕ) → IfErr result (StopsBy (IsBadLines name)) }
+{
+    for (index, line) in text.split_terminator('\n').enumerate() {
+        judge_line(alloc, node, line, index.saturating_add(1), out)?;
+    }
+    Ok(())
+}
+
+/// Judges the packet lines of a file by the program of an image file, or by the factory program.
+///
+/// Faults are found in this order: the file of lines (`CannotRead`, also where it is not UTF-8),
+/// the image file, its image, and then each line.
+pub fn judge_file<'a, F: Files, W: Write>(
+    alloc: Global,
+    lines: &'a str,
+    image: Option<&'a str>,
+    files: &mut F,
+    out: &mut W,
+) -> Result<(), Stop<'a>>
+    ensures stops { IfErr result (StopsBy (λ fault. IsBadLines lines.now fault ⊎ MatchOption image.entry ((name : List ℕ) → IsNoProgram name fault) (λ name. IsNoProgram name.now fault))) }
+{
+    let bytes = bytes_in(alloc, files, lines)?;
+    let text = str::from_utf8(bytes.as_slice()).map_err(|_| Fault::CannotRead(lines))?;
+    let program = judging_program(alloc, files, image)?;
+    let mut node = JobNode::new(alloc, program)?;
+    judge_text(alloc, &mut node, text, out)
+}

@@ -1,0 +1,67 @@
+//! The job `verify`.
+
+ghost use Rattle.std.specs.Prelude.{◌≡◌, IfErr, IfOk, OnOk, codes, false};
+ghost use Rattle.std.specs.Io.KnownBytes.{Appends};
+ghost use Rattle.clap.specs.Simple.{app_of};
+ghost use Rattle.clap.specs.declared.builder.command.Command.TheViews.{out-Command as fields_of};
+ghost use Rattle.clap.specs.Walk.{rows_of};
+ghost use Rattle.clap.specs.Matches.{found_of};
+ghost use Rattle.commands.specs.Arguments.{Lacks};
+ghost use Rattle.commands.specs.Reading.{IsNoProgram};
+ghost use Rattle.commands.specs.Stopping.{StopsBy};
+ghost use Rattle.commands.specs.VerifyJob.{NamesVerify, PrintsAccepted, accepted_line, verify_app};
+
+use crate::arguments::{file, name_of};
+use crate::jobs::Job;
+use crate::programs::program_in;
+use crate::stops::Stop;
+use crate::storage::Files;
+use crate::usage::UsageFault;
+use clap::{ArgMatches, Command};
+use std::alloc::{AllocError, Global};
+use std::io::{self, Write};
+
+/// `verify FILE`.
+pub fn verify_command<'a>(alloc: Global) -> Result<Command<'a>, AllocError>
+    ensures shape { IfOk result (λ c. app_of c ≡ verify_app) }
+    ensures local { IfOk result (λ c. (fields_of c).has_globals ≡ false) }
+{
+    let help = "The file of the BPF image, or - for standard input";
+    let image = file(alloc, "image", "FILE", help);
+    Command::new(alloc, "verify")
+        .about("Tells whether a BPF image may judge, or why it is refused")
+        .arg(image)
+}
+
+/// The job of `verify` with these matches.
+pub fn verify_job(alloc: Global, found: &ArgMatches) -> Result<Job, UsageFault>
+    ensures ok { IfOk result (NamesVerify (rows_of (found_of found.now))) }
+    ensures err { IfErr result (Lacks (codes "image") (rows_of (found_of found.now))) }
+{
+    let image = name_of(alloc, found, "image")?;
+    Ok(Job::Verify { image })
+}
+
+/// Prints that a program may judge: `accepted weight W budget B`.
+fn print_accepted<W: Write>(out: &mut W, weight: u64, budget: u32) -> io::Result<()>
+    ensures { OnOk result (Appends (W.contents out.old) (W.contents out.new) (accepted_line weight budget)) }
+{
+    writeln!(out, "accepted weight {weight} budget {budget}")
+}
+
+/// Verifies the image of a file, and prints its weight and its budget where it may judge.
+///
+/// Faults are found in this order: the file (`CannotRead`), its image (`BadImage`), the program
+/// (`Unfit`).
+pub fn verify_file<'a, F: Files, W: Write>(
+    alloc: Global,
+    image: &'a str,
+    files: &mut F,
+    out: &mut W,
+) -> Result<(), Stop<'a>>
+    ensures printed { OnOk result (PrintsAccepted (W.contents out.old) (W.contents out.new)) }
+    ensures stops { IfErr result (StopsBy (IsNoProgram image.now)) }
+{
+    let program = program_in(alloc, files, image)?;
+    Ok(print_accepted(out, program.image().weight(), program.budget())?)
+}
