@@ -14,9 +14,10 @@ use std::test::*;
 /// A node's programs are made, or memory was refused, and then they are made.
 #[test]
 fn memory_refused_while_made(rt: HostRuntime) -> Result<(), Fail> {
-    made::<Brand, _>(&rt, rt.alloc(), Opened::new())?;
-    let again = made::<Brand, _>(&rt, rt.alloc(), Opened::new())?;
-    assert!(&rt; again);
+    if !made::<Brand, _>(&rt, rt.alloc(), Opened::new())? {
+        let is_made = made::<Brand, _>(&rt, rt.alloc(), Opened::new())?;
+        assert!(&rt; is_made);
+    }
     Ok(())
 }
 
@@ -28,8 +29,9 @@ fn memory_refused_to_install(rt: HostRuntime) -> Result<(), Fail> {
 
 #[test]
 fn memory_refused_to_stage(rt: HostRuntime) -> Result<(), Fail> {
-    drop(Staging::new(rt.alloc()));
-    Staging::new(rt.alloc())?;
+    if Staging::new(rt.alloc()).is_err() {
+        Staging::new(rt.alloc())?;
+    }
     Ok(())
 }
 
