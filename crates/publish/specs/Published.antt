@@ -16,9 +16,11 @@ abbrev pub published : List Publish → ℕ → Option (Judge × ℕ)
 published [] slot = None
 published (f ∷ ps) slot = Some (published_from (f.program, 0) 1 ps slot)
 
+-- the program that judges at a slot
 abbrev pub program_at : List Publish → ℕ → Option Judge
 program_at history slot = option_map (λ p. p.0) (published history slot)
 
+-- the generation of the program that judges at a slot
 abbrev pub generation_at : List Publish → ℕ → Option ℕ
 generation_at history slot = option_map (λ p. p.1) (published history slot)
 

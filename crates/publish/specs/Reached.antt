@@ -8,6 +8,7 @@ pub record Reached : Type 0 where
   pub room : Book
   pub programs : List Publish
 
+-- a room, and the programs with which its history begins
 abbrev pub reached : Book → List Publish → Reached
 reached room programs = record { room = room; programs = programs }
 
@@ -16,6 +17,7 @@ pub record Known : Type 0 where
   pub programs : List Publish
   pub inside : Option (List Publish)
 
+-- what is known of the history, and the programs of the table that was entered, if one was
 abbrev pub known : List Publish → Option (List Publish) → Known
 known programs inside = record { programs = programs; inside = inside }
 

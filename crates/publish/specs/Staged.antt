@@ -6,5 +6,6 @@ pub record Staged : Type 0 where
   pub bytes : List ℕ
   pub load_result : List ℕ
 
+-- those bytes, with that load result
 abbrev pub staged : (bytes load_result : List ℕ) → Staged
 staged bytes load_result = record { bytes = bytes; load_result = load_result }

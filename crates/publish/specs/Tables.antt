@@ -10,6 +10,7 @@ use Rattle.publish.specs.Published.{published, sizes_of, AreFor}
 abbrev pub shown : Shown → Judge × ℕ
 shown s = (arc_value s.program, s.generation)
 
+-- the program of each slot with its generation
 abbrev pub all_shown : List Shown → List (Option (Judge × ℕ))
 all_shown slots = map (λ s. Some (shown s)) slots
 
