@@ -108,11 +108,7 @@ impl Bank {
         ensures shares { IfOk result (λ made. made.1.items ≡ map first_share (range_with_len 0 ports)) }
         ensures size { IsErrOf result BankFault.Size ↔ (is_bank base size journal ports ≡ false) }
     {
-        if !is_range(base, size)
-            || ports == 0
-            || ports > PORTS
-            || !journal.entries().is_empty()
-        {
+        if !is_range(base, size) || ports == 0 || ports > PORTS || !journal.entries().is_empty() {
             return Err(BankFault::Size);
         }
         let shares = shares(alloc, ports)?;

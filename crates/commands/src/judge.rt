@@ -121,7 +121,7 @@ fn judge_line<'a, W: Write>(
     let (port, packet) = read_line(alloc, line).map_err(|fault| Fault::unread(number, fault))?;
     let served = node.serve(port, packet).ok_or(Fault::no_port(number))?;
     match served {
-        Served::Discarded(discard) => Ok(print_discard(out, port, discard)?),
+        Served::Stopped(target::Stop::Discarded(discard)) => Ok(print_discard(out, port, discard)?),
         _ => print_reply(alloc, out, port, node.reply()),
     }
 }

@@ -2,7 +2,6 @@ pub mod Codes
 pub mod Passes
 pub mod Steps
 pub mod Making
-pub mod Decisions
 pub mod Endings
 pub mod Lending
 pub mod Serving

@@ -1,9 +1,9 @@
 -- How a node is made of its configuration.
-use Rattle.std.specs.Prelude.{◌≡◌, ◌<◌, ◌≤◌, ℕ, List, [], ◌∷◌, ◌++◌, map, length, slice_index_or, replicate, Bool, ◌&&◌, nat_le}
+use Rattle.std.specs.Prelude.{◌≡◌, ◌<◌, ℕ, List, [], ◌∷◌, ◌++◌, map, length, slice_index_or, replicate, Bool, ◌&&◌, nat_le}
 use Rattle.rmap.specs.Ranges.{Ranges}
 use Rattle.std.specs.List.{list_all}
 use Rattle.bver.specs.Justified.{Judge}
-use Rattle.bank.specs.Limits.{is_bank_size, is_ports}
+use Rattle.bank.specs.Limits.{is_bank_size}
 use Rattle.bank.specs.Records.{Contents, Turn, first_share, fresh_bank}
 use Rattle.target.specs.Passes.{Holder}
 use Rattle.target.specs.declared.config.BankConfig.{BankConfig}

@@ -1,8 +1,13 @@
 -- What a node and a port's pass are to those who read them.
-use Rattle.std.specs.Prelude.{◌≡◌, ◌<◌, ◌≤◌, ℕ, List, length}
+use Rattle.std.specs.Prelude.{◌≡◌, ◌<◌, ℕ, List, length}
 use Rattle.bver.specs.Justified.{Judge}
 use Rattle.rmap.specs.Ranges.{Ranges}
 use Rattle.bank.specs.Records.{Turn}
+
+-- what a run needs of a port: its number, and the windows of its node
+pub record BearingValue : Type 0 where
+  pub port : ℕ
+  pub windows : Ranges
 
 -- what a port has of its node: the node's windows, the program that judges with its generation, and
 -- a share of each bank

@@ -1,16 +1,14 @@
 -- The whole way of a packet, from its bytes to its reply.
-use Rattle.std.specs.Prelude.{◌≡◌, ◌<◌, ℕ, true, false, List, [], length, slice_get, slice_set, Some}
+use Rattle.std.specs.Prelude.{◌≡◌, ℕ, true, false, List, slice_get, slice_set, Some}
 use Rattle.spw.specs.Cargo.{Cargo}
 use Rattle.rmap.specs.declared.places.Place.TheVariants.{Bank}
-use Rattle.rmap.specs.declared.status.Status.TheVariants.{GeneralError}
-use Rattle.rmap.specs.Command.{command_of, discard_of}
-use Rattle.rmap.specs.Reply.{reply_of}
+use Rattle.rmap.specs.Command.{command_of}
 use Rattle.bank.specs.declared.bank.Applied.{Applied}
 use Rattle.bank.specs.Records.{Contents, Judgement, fits}
 use Rattle.target.specs.declared.serving.Served.{Served}
-use Rattle.target.specs.declared.serving.Served.TheVariants.{Discarded, Answered, Unread, Done}
+use Rattle.target.specs.declared.serving.Served.TheVariants.{Stopped, Unread, Done}
 use Rattle.target.specs.Passes.{Holder}
-use Rattle.target.specs.Steps.{is_served, IsAllowed, IsStopped, IsJudgedFor}
+use Rattle.target.specs.Steps.{is_served, IsStopped, IsUnread, IsJudgedFor}
 use Rattle.target.specs.Endings.{share_of, IsApplied, IsRefused}
 
 -- node and port are as they were
@@ -24,7 +22,7 @@ pub record IsDone (old new : List Contents) (holder after : Holder) (p : Cargo) 
   pub number : ℕ
   pub before : Contents
   pub behind : Contents
-  pub judged_for : IsJudgedFor holder p judged
+  pub judged_for : IsJudgedFor holder.program holder.generation holder.port holder.windows p judged
   pub place : judged.place ≡ Bank number
   pub bank : slice_get old number ≡ Some before
   pub node : new ≡ slice_set old number behind
@@ -33,7 +31,6 @@ pub record IsDone (old new : List Contents) (holder after : Holder) (p : Cargo) 
 
 -- what becomes of a packet, of the node and of the port, and the reply that is due
 abbrev pub IsServed : Served → Cargo → (old new : List Contents) → (holder after : Holder) → List ℕ → Type 0
-IsServed (Discarded d) p old new h after reply = (discard_of p.bytes ≡ Some d) × (reply ≡ []) × IsUntouched old new h after
-IsServed (Answered status) p old new h after reply = IsStopped p h.windows status × (reply ≡ reply_of (command_of p) status []) × IsUntouched old new h after
-IsServed Unread p old new h after reply = IsAllowed p h.windows × (is_served (command_of p) h.windows ≡ false) × (reply ≡ reply_of (command_of p) GeneralError []) × IsUntouched old new h after
-IsServed (Done result) p old new h after reply = IsAllowed p h.windows × (is_served (command_of p) h.windows ≡ true) × IsDone old new h after p result reply
+IsServed (Stopped stop) p old new h after reply = IsStopped stop p h.windows reply × IsUntouched old new h after
+IsServed Unread p old new h after reply = IsUnread p h.windows reply × IsUntouched old new h after
+IsServed (Done result) p old new h after reply = (is_served (command_of p) h.windows ≡ true) × IsDone old new h after p result reply

@@ -7,16 +7,19 @@ use Rattle.rmap.specs.declared.places.Place.{Place}
 use Rattle.rmap.specs.declared.places.Place.TheVariants.{Bank, Staging, LoadResult, Control}
 use Rattle.rmap.specs.declared.status.Status.{Status}
 use Rattle.rmap.specs.declared.status.Status.TheVariants.{GeneralError}
-use Rattle.rmap.specs.declared.discard.Discard.{Discard}
 use Rattle.rmap.specs.Command.{Parts, command_kind, command_of, discard_of}
 use Rattle.rmap.specs.Ranges.{Ranges, place_of}
 use Rattle.rmap.specs.Checks.{header_line}
 use Rattle.rmap.specs.Reply.{reply_of}
-use Rattle.bank.specs.Records.{Judgement}
+use Rattle.bver.specs.Justified.{Judge}
+use Rattle.bank.specs.Admission.{IsPlacedBy}
+use Rattle.bank.specs.Records.{AdmittedValue, Judgement, judgement}
 use Rattle.brun.specs.Running.{header, RunsWithin}
 use Rattle.target.specs.Passes.{Holder}
-use Rattle.target.specs.declared.judging.Step.{Step}
-use Rattle.target.specs.declared.judging.Step.TheVariants.{Discarded, Answered, Unread, Judged}
+use Rattle.target.specs.declared.step.Step.{Step}
+use Rattle.target.specs.declared.step.Step.TheVariants.{Discarded, Answered, Unread, Judged}
+use Rattle.target.specs.declared.stop.Stop.{Stop}
+use Rattle.target.specs.declared.stop.Stop.TheVariants.{Discarded as NoCommand, Answered as Fault}
 
 -- whether it is a read
 abbrev pub is_read : Kind → Bool
@@ -37,36 +40,56 @@ is_in_bank None = false
 abbrev pub is_served : Parts → Ranges → Bool
 is_served c w = is_read (command_kind c) && is_in_bank (place_of c w)
 
--- the packet is a command with which no check of its header stops
+-- the packet is a command, and no check of its header holds
 pub record IsAllowed (p : Cargo) (w : Ranges) : Type 0 where
   pub command : discard_of p.bytes ≡ None
   pub allowed : header_line (command_of p) w ≡ None
 
 -- the packet is a command, and the first check of its header that holds has that status
-pub record IsStopped (p : Cargo) (w : Ranges) (status : Status) : Type 0 where
+pub record IsFaulty (p : Cargo) (w : Ranges) (status : Status) : Type 0 where
   pub command : discard_of p.bytes ≡ None
   pub stopped : header_line (command_of p) w ≡ Some status
+
+-- the packet goes no further than its header, and that reply is due
+abbrev pub IsStopped : Stop → Cargo → Ranges → List ℕ → Type 0
+IsStopped (NoCommand d) p w reply = (discard_of p.bytes ≡ Some d) × (reply ≡ [])
+IsStopped (Fault status) p w reply = IsFaulty p w status × (reply ≡ reply_of (command_of p) status [])
+
+-- nothing serves the command of the packet: the reply is a general error
+pub record IsUnread (p : Cargo) (w : Ranges) (reply : List ℕ) : Type 0 where
+  pub allowed : IsAllowed p w
+  pub unserved : is_served (command_of p) w ≡ false
+  pub error : reply ≡ reply_of (command_of p) GeneralError []
 
 -- the place is a bank below n
 abbrev pub IsBankBelow : Place → ℕ → Type 0
 IsBankBelow place n = (k : ℕ) × (place ≡ Bank k) × (k < n)
 
--- the program of the port has a run within its budget on the packet's header that ends with that
+-- the program has a run within its budget on the packet's header, for that port, that ends with that
 -- verdict
-abbrev pub IsVerdict : Holder → Cargo → ℕ → Type 0
-IsVerdict h p verdict = RunsWithin h.program.program (header (command_of p).front (command_of p).tail) h.port verdict
+abbrev pub IsVerdict : Judge → ℕ → Cargo → ℕ → Type 0
+IsVerdict program port p verdict =
+    RunsWithin program.program (header (command_of p).front (command_of p).tail) port verdict
 
--- the command of the packet as it came, judged for that port by its program
-pub record IsJudgedFor (holder : Holder) (p : Cargo) (j : Judgement) : Type 0 where
+-- the admitted command, judged for that port by the program of that generation
+pub record IsJudgedBy (program : Judge) (generation port : ℕ) (admitted : AdmittedValue) (j : Judgement) : Type 0 where
+  pub judged : j ≡ judgement admitted port generation j.verdict
+  pub verdict : IsVerdict program port admitted.packet j.verdict
+
+-- the command of the packet as it came, with its place under those windows, judged for that port by
+-- the program of that generation
+pub record IsJudgedFor (program : Judge) (generation port : ℕ) (w : Ranges) (p : Cargo) (j : Judgement) : Type 0 where
   pub packet : j.packet ≡ p
-  pub place : place_of (command_of p) holder.windows ≡ Some j.place
-  pub port : j.port ≡ holder.port
-  pub generation : j.generation ≡ holder.generation
-  pub verdict : IsVerdict holder p j.verdict
+  pub placed : IsPlacedBy w p j.place
+  pub port_of : j.port ≡ port
+  pub generation_of : j.generation ≡ generation
+  pub verdict : IsVerdict program port p j.verdict
 
 -- how far a packet comes by itself, and the reply that is due then
 abbrev pub IsStep : Step → Cargo → Holder → List ℕ → Type 0
-IsStep (Discarded d back) p h reply = (discard_of p.bytes ≡ Some d) × (back ≡ p) × (reply ≡ [])
-IsStep (Answered status back) p h reply = IsStopped p h.windows status × (back ≡ p) × (reply ≡ reply_of (command_of p) status [])
-IsStep (Unread back) p h reply = IsAllowed p h.windows × (is_served (command_of p) h.windows ≡ false) × (back ≡ p) × (reply ≡ reply_of (command_of p) GeneralError [])
-IsStep (Judged j) p h reply = IsAllowed p h.windows × (is_served (command_of p) h.windows ≡ true) × IsJudgedFor h p j × (reply ≡ [])
+IsStep (Discarded d back) p h reply = (back ≡ p) × IsStopped (NoCommand d) p h.windows reply
+IsStep (Answered status back) p h reply = (back ≡ p) × IsStopped (Fault status) p h.windows reply
+IsStep (Unread back) p h reply = (back ≡ p) × IsUnread p h.windows reply
+IsStep (Judged j) p h reply =
+    IsJudgedFor h.program h.generation h.port h.windows p j
+    × (is_served (command_of p) h.windows ≡ true) × (reply ≡ [])

@@ -6,10 +6,11 @@ ghost use Rattle.bank.specs.Limits.{is_ports};
 ghost use Rattle.bank.specs.Records.{first_share};
 ghost use Rattle.target.specs.Making.{AreDealt, AreHands, windows_of, bank_of, first_pass, is_within, are_within};
 
+use crate::bearing::Bearing;
 use crate::config::{BankConfig, NodeConfig};
 use crate::faults::NodeFault;
 use crate::hand::Hand;
-use crate::pass::{Pass, STACK};
+use crate::pass::Pass;
 use bank::{Bank, Journal, Share, is_bank_size};
 use bver::Accepted;
 use rmap::{MAX_BANKS, Windows};
@@ -131,19 +132,17 @@ fn passes(
     factory: &Accepted,
 ) -> Result<Vec<Pass>, AllocError>
     requires banks { length config.now.banks.now ≤ 8 }
-    requires ports { config.now.ports ≤ 32 }
+    requires ports { config.now.ports ≤ PORTS }
     requires hands { AreHands (length config.now.banks.now) config.now.ports hands.old.items }
     ensures { IfOk result (λ passes. passes.items ≡ map (first_pass config.now.address config.now.banks.now factory.now) (range_with_len 0 config.now.ports)) }
 {
     let mut passes = Vec::with_capacity(alloc, hands.len())?;
     for port in 0..config.ports {
         let pass = Pass {
-            port,
-            windows: windows(config),
+            bearing: Bearing::new(port, windows(config)),
             program: factory.copy()?,
             generation: 0,
             shares: hands[usize::from(port)].take(alloc),
-            stack: [0; STACK],
         };
         passes.push(pass)?;
     }

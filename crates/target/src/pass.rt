@@ -3,24 +3,20 @@
 ghost use Rattle.std.specs.Prelude.{◌≡◌, ◌<◌, length, slice_get, Some};
 ghost use Rattle.target.specs.Passes.{IsHolder};
 
+use crate::bearing::Bearing;
 use bank::Share;
 use bver::Accepted;
-use rmap::Windows;
+use spw::PORTS;
 use std::marker::Model;
 
-/// The bytes of a program's stack.
-pub(crate) const STACK: usize = 512;
-
-/// What one port has of its node: the windows, the program that judges its commands, a share of each
-/// bank, and the stack of the program. Only [`Node::new`](crate::Node::new) makes passes.
+/// What one port has of its node: its bearing, the program that judges its commands, and a share of
+/// each bank. Only [`Node::new`](crate::Node::new) makes passes.
 #[derive(Debug, Drop)]
 pub struct Pass {
-    pub(crate) port: u8,
-    pub(crate) windows: Windows,
+    pub(crate) bearing: Bearing,
     pub(crate) program: Accepted,
     pub(crate) generation: u32,
     pub(crate) shares: Vec<Share>,
-    pub(crate) stack: [u8; STACK],
 }
 
 impl Model for Pass {
@@ -28,18 +24,18 @@ impl Model for Pass {
 
     ghost Value = { Holder };
 
-    ghost view = { λ p. record { port = p.port; windows = p.windows; program = p.program; generation = p.generation; shares = p.shares.items } };
+    ghost view = { λ p. record { port = p.bearing.port; windows = p.bearing.windows; program = p.program; generation = p.generation; shares = p.shares.items } };
 
-    ghost invariant = { λ p. IsHolder (record { port = p.port; windows = p.windows; program = p.program; generation = p.generation; shares = p.shares.items }) };
+    ghost invariant = { λ p. IsHolder (record { port = p.bearing.port; windows = p.bearing.windows; program = p.program; generation = p.generation; shares = p.shares.items }) };
 }
 
 impl Pass {
     /// The port's number.
     pub fn port(&self) -> u8
         ensures value { result ≡ self.now.port }
-        ensures few { result < 32 }
+        ensures few { result < PORTS }
     {
-        self.port
+        self.bearing.port()
     }
 
     /// How many banks the node has.

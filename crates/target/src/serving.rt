@@ -4,20 +4,19 @@ ghost use Rattle.std.specs.Prelude.{◌≡◌, length};
 ghost use Rattle.target.specs.Serving.{IsServed};
 
 use crate::finishing::finish;
-use crate::judging::{Step, judge};
 use crate::node::Node;
 use crate::pass::Pass;
+use crate::step::{Step, judge};
+use crate::stop::Stop;
 use bank::Applied;
-use rmap::{Discard, Place, ReplyBuf, Status};
+use rmap::{Place, ReplyBuf};
 use spw::Packet;
 
 /// What became of a packet.
 #[derive(Clone, Copy, Debug, PartialEq, Eq)]
 pub enum Served {
-    /// It is no command, and gets no reply.
-    Discarded(Discard),
-    /// A check of its header holds.
-    Answered(Status),
+    /// It went no further than its header.
+    Stopped(Stop),
     /// The node has nothing that serves it.
     Unread,
     /// It was judged, and applied to its bank.
@@ -39,8 +38,8 @@ pub fn serve_packet(
 {
     let _banks = pass.banks();
     match judge(pass, packet, reply) {
-        Step::Discarded(discard, _packet) => Served::Discarded(discard),
-        Step::Answered(status, _packet) => Served::Answered(status),
+        Step::Discarded(discard, _packet) => Served::Stopped(Stop::Discarded(discard)),
+        Step::Answered(status, _packet) => Served::Stopped(Stop::Answered(status)),
         Step::Unread(_packet) => Served::Unread,
         Step::Judged(judged) => {
             let Place::Bank(k) = judged.place() else {

@@ -7,7 +7,7 @@ use hex::decode;
 use rmap::{Discard, ReplyBuf, Status};
 use std::alloc::Global;
 use std::test::Fail;
-use target::{BankConfig, NodeFault, Served};
+use target::{BankConfig, NodeFault, Served, Stop};
 use trial::{PLAIN_READ, PLAIN_REPLY, bank, node, packet, program, served};
 
 /// What becomes of the packet of a line at port 0 of a fresh node.
@@ -46,7 +46,7 @@ fn packets_and_what_becomes_of_them(rt: HostRuntime) -> Result<(), Fail> {
         (
             0,
             "0 FE014C0067000901A000000000001095 EOP",
-            Served::Answered(Status::NotAuthorised),
+            Served::Stopped(Stop::Answered(Status::NotAuthorised)),
             "0 67010C0AFE000900000000EA00 EOP",
         ),
         (
@@ -58,7 +58,7 @@ fn packets_and_what_becomes_of_them(rt: HostRuntime) -> Result<(), Fail> {
         (
             0,
             "0 FE014C0067000100A000 EOP",
-            Served::Discarded(Discard::Short),
+            Served::Stopped(Stop::Discarded(Discard::Short)),
             "0 EOP",
         ),
     ] {

@@ -1,4 +1,3 @@
-use Rattle.std.proofs.Common.{◌≡◌, ◌<◌, ◌≤◌, ℕ, [], length, get_or}
 use Rattle.target.specs.Making.{AreHands}
 use Rattle.target.proofs.node.empty_hands.Given as goal
 

@@ -19,8 +19,8 @@ invariant_of-pass c =
     let shares : c.take.result.items ≡ replicate (length banks) (first_share c.loop-port.port) =
     taken c.loop-port.hands.items (length banks) c.args.config.now.ports c.loop-port.port c.from.result c.take.result.items c.index_mut.result.now c.loop-port.invariant.count c.loop-port-test.true c.from.ensures c.take.ensures.shares c.index_mut.ensures.value c.loop-port.invariant.rest in
     record {
-      port = omega (arith, c.requires.ports, c.loop-port-test.true);
-      shares = rw (shares, c.windows.ensures, length-map banks range_of) (length-replicate (length banks) (first_share c.loop-port.port));
+      port = rw (c.new.ensures) (omega (arith, c.requires.ports, c.loop-port-test.true));
+      shares = rw (shares, c.new.ensures, c.windows.ensures, length-map banks range_of) (length-replicate (length banks) (first_share c.loop-port.port));
     }
 
 pub loop-port-preserved : goal.loop-port-preserved
@@ -31,6 +31,6 @@ loop-port-preserved c =
     let more = map-range_with_len_more (first_pass c.args.config.now.address banks c.args.factory.now) 0 c.loop-port.port c.loop-port.port (omega arith) in
     record {
       count = search rules;
-      passes = c.in_ok-push.ensures.items ∙ rw (c.loop-port.invariant.passes, c.windows.ensures, c.in_ok-copy.ensures, shares) (sym more);
+      passes = c.in_ok-push.ensures.items ∙ rw (c.loop-port.invariant.passes, c.new.ensures, c.windows.ensures, c.in_ok-copy.ensures, shares) (sym more);
       rest = λ k above below. grind (arith, common_steps);
     }

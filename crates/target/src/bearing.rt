@@ -1,0 +1,60 @@
+//! What a run needs of a port.
+
+ghost use Rattle.std.specs.Prelude.{◌≡◌, ◌<◌};
+
+use rmap::Windows;
+use spw::PORTS;
+use std::marker::Model;
+
+/// The bytes of a program's stack.
+pub(crate) const STACK: usize = 512;
+
+/// What a run needs of a port: its number, the windows of its node, and the stack of the programs
+/// that run for it.
+#[derive(Debug, Drop)]
+pub struct Bearing {
+    pub(crate) port: u8,
+    pub(crate) windows: Windows,
+    pub(crate) stack: [u8; STACK],
+}
+
+impl Model for Bearing {
+    ghost use Rattle.std.specs.Prelude.{◌<◌};
+    ghost use Rattle.target.specs.Passes.{BearingValue};
+
+    ghost Value = { BearingValue };
+
+    ghost view = { λ b. record { port = b.port; windows = b.windows } };
+
+    ghost invariant = { λ b. b.port < 32 };
+}
+
+impl Bearing {
+    /// The bearing of the port of that number in a node with those windows. The condition is a port
+    /// below 32.
+    pub fn new(port: u8, windows: Windows) -> Bearing
+        requires { port < PORTS }
+        ensures { result ≡ record { port = port; windows = windows } }
+    {
+        Bearing {
+            port,
+            windows,
+            stack: [0; STACK],
+        }
+    }
+
+    /// The port's number.
+    pub fn port(&self) -> u8
+        ensures value { result ≡ self.now.port }
+        ensures few { result < PORTS }
+    {
+        self.port
+    }
+
+    /// The windows of the node.
+    pub fn windows(&self) -> &Windows
+        ensures { result.now ≡ self.now.windows }
+    {
+        &self.windows
+    }
+}

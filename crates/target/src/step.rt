@@ -1,0 +1,83 @@
+//! The first half of a packet's way: its verdict.
+
+ghost use Rattle.std.specs.Prelude.{◌≡◌, ◌&&◌, Some};
+ghost use Rattle.rmap.specs.Command.{command_of, command_kind};
+ghost use Rattle.brun.specs.Running.{header, RunsWithin};
+ghost use Rattle.target.specs.Steps.{is_read, is_in_bank, IsJudgedBy, IsStep};
+
+use crate::bearing::Bearing;
+use crate::pass::Pass;
+use crate::stop::{Stop, admit};
+use bank::{Admitted, Judged};
+use brun::run;
+use bver::Accepted;
+use rmap::{Command, Discard, Kind, Place, ReplyBuf, Status, put_reply};
+use spw::Packet;
+
+/// How far a packet came by itself. Each step but `Judged` hands the packet back as it came.
+#[derive(Debug)]
+pub enum Step {
+    /// The packet is no command: no reply.
+    Discarded(Discard, Packet),
+    /// A check of the header holds: its status is the reply's, and no program was run.
+    Answered(Status, Packet),
+    /// The node has nothing that serves the command: the reply is a general error, and no program
+    /// was run. So far these are writes, read-modify-writes and the boot window.
+    Unread(Packet),
+    /// The program gave its verdict; the reply is still to come.
+    Judged(Judged),
+}
+
+/// Whether the node serves the command: so far, whether it is a read of a bank.
+fn is_served(admitted: &Admitted) -> bool
+    ensures { result ≡ (is_read (command_kind (command_of admitted.now.packet)) && is_in_bank (Some admitted.now.place)) }
+{
+    matches!(admitted.command().kind(), Kind::Read) && matches!(admitted.place(), Place::Bank(_))
+}
+
+/// The verdict of the program on the header of the command.
+fn verdict(bearing: &mut Bearing, program: &Accepted, command: &Command) -> u64
+    ensures bearing { bearing.new ≡ bearing.old }
+    ensures verdict { RunsWithin program.now.program (header command.now.front command.now.tail) bearing.old.port result }
+{
+    run(
+        program,
+        command.front(),
+        command.tail(),
+        bearing.port,
+        &mut bearing.stack,
+    )
+}
+
+/// Judges an admitted command by the program of that generation: one run on its header, for the
+/// bearing's port.
+pub fn judge_by(
+    bearing: &mut Bearing,
+    program: &Accepted,
+    generation: u32,
+    admitted: Admitted,
+) -> Judged
+    ensures bearing { bearing.new ≡ bearing.old }
+    ensures judged { IsJudgedBy program.now generation bearing.old.port admitted result }
+{
+    let verdict = verdict(bearing, program, &admitted.command());
+    Judged::of(admitted, bearing.port, generation, verdict)
+}
+
+/// Judges a packet: discards it, answers it by its header, or runs the port's program on the header
+/// of its command. `reply` holds the reply that is due then, if any.
+pub fn judge(pass: &mut Pass, packet: Packet, reply: &mut ReplyBuf) -> Step
+    ensures pass { pass.new ≡ pass.old }
+    ensures step { IsStep result packet pass.old reply.new }
+{
+    let admitted = match admit(packet, &pass.bearing.windows, reply) {
+        Ok(admitted) => admitted,
+        Err((Stop::Discarded(discard), packet)) => return Step::Discarded(discard, packet),
+        Err((Stop::Answered(status), packet)) => return Step::Answered(status, packet),
+    };
+    if !is_served(&admitted) {
+        put_reply(reply, &admitted.command(), Status::GeneralError, &[]);
+        return Step::Unread(admitted.into_packet());
+    }
+    Step::Judged(judge_by(&mut pass.bearing, &pass.program, pass.generation, admitted))
+}
