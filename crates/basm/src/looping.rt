@@ -12,7 +12,7 @@ use crate::choice::both;
 use crate::faults::AsmCode;
 use crate::survey::Survey;
 use basm_lex::{NumberFault, is_name, number, register};
-use bpf::{Loop, MAX_BOUND, MAX_BUDGET, MAX_SLOTS};
+use bpf::{Loop, MAX_BOUND, MAX_SLOTS, is_budget};
 use bpf_insn::Register;
 
 /// The budget that the operands of `.budget` declare.
@@ -24,7 +24,7 @@ pub fn read_budget(operands: &[&str]) -> Result<u32, AsmCode>
         return Err(AsmCode::BadOperand);
     };
     let budget = field(budget, AsmCode::BadBudget)?;
-    if 1 <= budget && budget as u32 <= MAX_BUDGET {
+    if 0 <= budget && is_budget(budget as u32) {
         Ok(budget as u32)
     } else {
         Err(AsmCode::BadBudget)
