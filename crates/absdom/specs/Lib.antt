@@ -8,3 +8,4 @@ pub mod Edges
 pub mod Fits
 pub mod Laws
 pub mod Growth
+pub mod Bits

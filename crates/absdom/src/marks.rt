@@ -1,6 +1,6 @@
 //! Which bytes of the stack are set.
 
-ghost use Rattle.std.specs.Prelude.{◌≡◌, ℕ, ◌+◌, ◌-◌, ◌<◌, ◌≤◌, ◌↔◌, ◌&&◌, IsTrue, true, false, length};
+ghost use Rattle.std.specs.Prelude.{◌≡◌, ℕ, ◌+◌, ◌-◌, ◌<◌, ◌≤◌, ◌↔◌, ◌&&◌, IsTrue, true, false, length, slice_set};
 ghost use Rattle.absdom.specs.Marks.{mark_at, all_marked, marked};
 
 use std::marker::Model;
@@ -8,22 +8,29 @@ use std::marker::Model;
 /// How many bytes the stack has.
 const STACK: usize = 512;
 
-/// A mark for each byte of the stack that is known to be set. Place 0 is the byte at offset -512.
-#[derive(Clone, Copy, Debug, PartialEq, Eq)]
+/// How many words hold a mark for each.
+const WORDS: usize = STACK / 64;
+
+/// A mark for each byte of the stack that is known to be set: the bits of words, the lowest first. Place 0 is
+/// the byte at offset -512.
+#[derive(Clone, Copy, Debug)]
 pub(crate) struct Marks {
-    set: [bool; STACK],
+    words: [u64; WORDS],
 }
 
 impl Model for Marks {
     ghost use Rattle.std.specs.Prelude.{◌≡◌, List, Bool, length};
+    ghost use Rattle.absdom.specs.Bits.{AreWords, marks_of, words_of, words_from_marks};
 
     ghost Value = { List Bool };
 
-    ghost view = { λ m. m.set };
+    ghost view = { λ m. marks_of m.words };
 
-    ghost invariant = { λ m. length m.set ≡ 512 };
+    ghost invariant = { λ m. AreWords m.words };
 
-    ghost inverse = { λ list. record { set = list } };
+    ghost inverse = { λ marks. record { words = words_of 8 marks } };
+
+    ghost inverse_ok = { λ m h i. record { words = words_from_marks m.words h i } };
 }
 
 impl Marks {
@@ -32,9 +39,15 @@ impl Marks {
         ensures none { (place : ℕ) → mark_at result place ≡ false }
         ensures length { length result ≡ 512 }
     {
-        Marks {
-            set: [false; STACK],
-        }
+        Marks { words: [0; WORDS] }
+    }
+
+    /// Whether the byte at a place is set.
+    fn is_set(&self, place: usize) -> bool
+        requires { place < 512 }
+        ensures { result ≡ mark_at self.now place }
+    {
+        self.words[place / 64] >> (place % 64) & 1 == 1
     }
 
     /// Whether all bytes from `first` to before `end` are set.
@@ -44,9 +57,18 @@ impl Marks {
     {
         let mut all = true;
         for place in first..end {
-            all = all && self.set[place];
+            all = all && self.is_set(place);
         }
         all
+    }
+
+    /// Marks the byte at a place.
+    fn set(&mut self, place: usize)
+        requires { place < 512 }
+        ensures { self.new ≡ slice_set self.old place true }
+    {
+        let word = self.words[place / 64] | 1 << (place % 64);
+        self.words[place / 64] = word;
     }
 
     /// Marks the bytes from `first` to before `end`.
@@ -56,7 +78,7 @@ impl Marks {
         ensures { self.new ≡ marked self.old first (end - first) }
     {
         for place in first..end {
-            self.set[place] = true;
+            self.set(place);
         }
     }
 
@@ -65,8 +87,9 @@ impl Marks {
         ensures both { (place : ℕ) → mark_at self.new place ≡ (mark_at self.old place && mark_at other.now place) }
         ensures length { length self.new ≡ 512 }
     {
-        for place in 0..STACK {
-            self.set[place] = self.set[place] && other.set[place];
+        for k in 0..WORDS {
+            let word = self.words[k] & other.words[k];
+            self.words[k] = word;
         }
     }
 
@@ -74,8 +97,9 @@ impl Marks {
     pub(crate) fn leq(&self, other: &Marks) -> bool
         ensures { IsTrue result ↔ ((place : ℕ) → mark_at other.now place ≡ true → mark_at self.now place ≡ true) }
     {
+        let _ = &other.words;
         for place in 0..STACK {
-            if other.set[place] && !self.set[place] {
+            if other.is_set(place) && !self.is_set(place) {
                 return false;
             }
         }

@@ -18,7 +18,7 @@ use std::marker::Model;
 const REGISTERS: usize = 11;
 
 /// What is known at a slot: the kind of each register, and which bytes of the stack are set.
-#[derive(Clone, Copy, Debug, PartialEq, Eq)]
+#[derive(Clone, Copy, Debug)]
 pub struct State {
     kinds: [AbsKind; REGISTERS],
     marks: Marks,

@@ -1,4 +1,4 @@
-use Rattle.std.proofs.Common.{◌≡◌, ◌-◌, arith, sym, rules}
+use Rattle.std.proofs.Common.{arith, sym, rules}
 use Rattle.absdom.proofs.MarkSteps.{all_marked-more, all_marked-none}
 use Rattle.absdom.proofs.marks.Marks.are_set.Goals as goal
 
@@ -8,11 +8,6 @@ loop-place-init c = record { so_far = sym (all_marked-none _ _ _ (omega arith));
 pub loop-place-preserved : goal.loop-place-preserved
 loop-place-preserved c = record {
   so_far =
-      rw (all_marked-more c.self.inside.set c.args.first c.loop-place.place (omega arith), ← c.loop-place.invariant.so_far) (search rules);
+      rw (all_marked-more c.args.self.now c.args.first c.loop-place.place (omega arith), ← c.loop-place.invariant.so_far) (search rules);
   near = omega arith;
 }
-
-pub returns : goal.returns
-returns c =
-    let e : c.loop-place.place - c.args.first ≡ c.args.end - c.args.first = omega arith in
-    rw (← c.self.view_is, ← e) c.loop-place.invariant.so_far

@@ -3,4 +3,4 @@ use Rattle.absdom.specs.Marks.{marked}
 use Rattle.absdom.proofs.marks.Marks.mark.Given as goal
 
 abbrev pub invariant-loop-place : goal.invariant-loop-place
-invariant-loop-place l = l.self-inside.set ≡ marked l.initial.self-inside.set l.first (l.place - l.first)
+invariant-loop-place l = l.self ≡ marked l.initial.self l.first (l.place - l.first)
