@@ -13,11 +13,10 @@ use Rattle.bpf_insn.specs.Codes.{address_subtype, address_first, address_second}
 use Rattle.bpf_insn.specs.Text.{insn_name}
 use Rattle.basm_lex.specs.Numbers.{WritesNumber, WritesWide}
 use Rattle.basm_lex.specs.Places.{WritesPlace, WritesRegister}
-use Rattle.basm.specs.declared.mnemonics.Mnemonic.{Mnemonic}
-use Rattle.basm.specs.declared.mnemonics.Mnemonic.TheVariants.{Arithmetic, Negation, SignedMove, Swapping, Loading, Storing, StoringRegister, Jumping, ShortGoto, LongGoto, WideLoad, MapLoad, AddressLoad, Calling, Exiting}
-use Rattle.basm.specs.Mnemonics.{mnemonic_word}
+use Rattle.basm_lex.specs.declared.mnemonics.Mnemonic.{Mnemonic}
+use Rattle.basm_lex.specs.declared.mnemonics.Mnemonic.TheVariants.{Arithmetic, Negation, SignedMove, Swapping, Loading, Storing, StoringRegister, Jumping, ShortGoto, LongGoto, WideLoad, MapLoad, AddressLoad, Calling, Exiting}
+use Rattle.basm_lex.specs.Mnemonics.{mnemonic_word}
 use Rattle.basm.specs.Relation.{Four, One, Three, Two, WritesInsn, WritesOperand, WritesOperands, WritesTarget}
-use Rattle.basm.proofs.MnemonicWords.{mnemonics_apart}
 
 abbrev pub mnemonic_of : Insn → Mnemonic
 mnemonic_of (Alu op width dst src) = Arithmetic op width
@@ -53,7 +52,7 @@ insn_named (LoadAddress dst address) = refl
 insn_named (Call callee number) = refl
 insn_named Exit = refl
 
-module _ {X E : Type 0} (text : X → List ℕ) (names : List ℕ → Option ℕ) (slot : ℕ) (xs : List X) (r : Result Insn E) where
+module _ {X E : Type 0} (text : X → List ℕ) (names : List ℕ → Option ℕ) (slot : ℕ) (xs : List X) (r : Result Insn E) (apart : (m n : Mnemonic) → mnemonic_word m ≡ mnemonic_word n → m ≡ n) where
   -- the operands are read where the mnemonic is known
   abbrev pub Reads : Mnemonic → Type 0
   Reads (Arithmetic op width) = (dst : ℕ) (src : Operand) → Two text xs (λ a. WritesRegister a dst) (λ b. WritesOperand b src) → r ≡ Ok (Alu op width dst src)
@@ -91,4 +90,4 @@ module _ {X E : Type 0} (text : X → List ℕ) (names : List ℕ → Option ℕ
 
   pub insn_read : (found m : Mnemonic) → found ≡ m → Reads m → (insn : Insn) → WritesInsn text names slot (mnemonic_word found) xs insn → r ≡ Ok insn
   insn_read found m same read insn w =
-      reads insn (subst Reads (mnemonics_apart m (mnemonic_of insn) (ap mnemonic_word (sym same) ∙ w.name ∙ insn_named insn)) read) w.operands
+      reads insn (subst Reads (apart m (mnemonic_of insn) (ap mnemonic_word (sym same) ∙ w.name ∙ insn_named insn)) read) w.operands

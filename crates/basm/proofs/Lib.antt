@@ -6,8 +6,6 @@ pub mod Items
 pub mod Lookups
 pub mod LoopReadings
 pub mod Loops
-pub mod MnemonicTables
-pub mod MnemonicWords
 pub mod OperandReadings
 pub mod Printed
 pub mod Rooms

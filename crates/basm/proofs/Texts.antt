@@ -19,7 +19,7 @@ use Rattle.basm.specs.Relation.{budget_in, AreApart, Defines, AreLines, Budget, 
 use Rattle.basm.proofs.Items.{not_nil, slots_are}
 use Rattle.basm.proofs.Lookups.{slot_named-Defines}
 use Rattle.basm.proofs.Surveys.{label_named}
-use Rattle.basm.proofs.Words.{Takes, insn_takes}
+use Rattle.basm.proofs.Words.{AreNamed, Takes, insn_takes}
 
 -- the labels and the slots of a first word
 abbrev pub SaysWord : ℕ → List (List ℕ × ℕ) → ℕ → List ℕ → Type 0
@@ -44,13 +44,13 @@ other_word : (slot slots : ℕ) (word : List ℕ) → Takes slots word → SaysW
 other_word slot slots word takes = rw takes.no_label (refl, takes.slots_are)
 
 -- a right line's first word says what its item says
-pub line_says : (names : List ℕ → Option ℕ) (slot : ℕ) (line : List ℕ) (item : Item) → IsLine names slot line item → SaysWord slot (name_of slot item) (slots_in item) (word_of line)
-line_says names slot line Nothing says = let P : List ℕ → Type 0 = SaysWord slot [] 0 in subst P (sym says.0) (no_word slot)
-line_says names slot line (Label name) says = label_word slot (word_of line) name (label_named (word_of line) name says.0 says.1)
-line_says names slot line (Budget n) says = let P : List ℕ → Type 0 = SaysWord slot [] 0 in subst P (sym says.0) (budget_word slot)
-line_says names slot line (OneLoop l) says = let P : List ℕ → Type 0 = SaysWord slot [] 0 in subst P (sym says.0) (loop_word slot)
-line_says names slot line (Code insn) says =
-    let P : List ℕ → Type 0 = SaysWord slot [] (slots_in (Code insn)) in subst P (sym says.name) (other_word slot (slots_in (Code insn)) _ (insn_takes insn))
+line_says : AreNamed → (names : List ℕ → Option ℕ) (slot : ℕ) (line : List ℕ) (item : Item) → IsLine names slot line item → SaysWord slot (name_of slot item) (slots_in item) (word_of line)
+line_says named names slot line Nothing says = let P : List ℕ → Type 0 = SaysWord slot [] 0 in subst P (sym says.0) (no_word slot)
+line_says named names slot line (Label name) says = label_word slot (word_of line) name (label_named (word_of line) name says.0 says.1)
+line_says named names slot line (Budget n) says = let P : List ℕ → Type 0 = SaysWord slot [] 0 in subst P (sym says.0) (budget_word slot)
+line_says named names slot line (OneLoop l) says = let P : List ℕ → Type 0 = SaysWord slot [] 0 in subst P (sym says.0) (loop_word slot)
+line_says named names slot line (Code insn) says =
+    let P : List ℕ → Type 0 = SaysWord slot [] (slots_in (Code insn)) in subst P (sym says.name) (other_word slot (slots_in (Code insn)) _ (insn_takes named insn))
 
 -- whether something stands behind the word counts for a label alone
 unless_none : (operands : List (List ℕ)) (o : Option (List ℕ)) → o ≡ None → alone operands o ≡ o
@@ -64,34 +64,34 @@ unlabelled slot word pairs slots says none = at (label_of word) (says.0 ∙ none
     at None h = refl
     at (Some name) h = absurd (not_nil _ _ h)
 
-label_same : (names : List ℕ → Option ℕ) (slot : ℕ) (line : List ℕ) (item : Item) → IsLine names slot line item → label_in line ≡ label_of (word_of line)
-label_same names slot line Nothing says = rw says.1 refl
-label_same names slot line (Label name) says = rw says.2 refl
-label_same names slot line (Budget n) says = unless_none _ _ (unlabelled slot _ _ _ (line_says names slot line (Budget n) says) refl)
-label_same names slot line (OneLoop l) says = unless_none _ _ (unlabelled slot _ _ _ (line_says names slot line (OneLoop l) says) refl)
-label_same names slot line (Code insn) says = unless_none _ _ (unlabelled slot _ _ _ (line_says names slot line (Code insn) says) refl)
+label_same : AreNamed → (names : List ℕ → Option ℕ) (slot : ℕ) (line : List ℕ) (item : Item) → IsLine names slot line item → label_in line ≡ label_of (word_of line)
+label_same named names slot line Nothing says = rw says.1 refl
+label_same named names slot line (Label name) says = rw says.2 refl
+label_same named names slot line (Budget n) says = unless_none _ _ (unlabelled slot _ _ _ (line_says named names slot line (Budget n) says) refl)
+label_same named names slot line (OneLoop l) says = unless_none _ _ (unlabelled slot _ _ _ (line_says named names slot line (OneLoop l) says) refl)
+label_same named names slot line (Code insn) says = unless_none _ _ (unlabelled slot _ _ _ (line_says named names slot line (Code insn) says) refl)
 
 -- and so do all lines, as long as there are not too many slots
-pub labels_are : (names : List ℕ → Option ℕ) (slot : ℕ) (lines : List (List ℕ)) (items : List Item) → AreLines names slot lines items → slot + slots_of_items items ≤ 512
+pub labels_are : AreNamed → (names : List ℕ → Option ℕ) (slot : ℕ) (lines : List (List ℕ)) (items : List Item) → AreLines names slot lines items → slot + slots_of_items items ≤ 512
     → (labels_from slot lines ≡ names_from slot items) × (slots_from slot lines ≡ slot + slots_of_items items)
-labels_are names slot [] [] says few = (refl, omega arith)
-labels_are names slot [] (item ∷ items) says few = absurd says
-labels_are names slot (line ∷ lines) [] says few = absurd says
-labels_are names slot (line ∷ lines) (item ∷ items) says few =
-    let same = label_same names slot line item says.0 in
+labels_are named names slot [] [] says few = (refl, omega arith)
+labels_are named names slot [] (item ∷ items) says few = absurd says
+labels_are named names slot (line ∷ lines) [] says few = absurd says
+labels_are named names slot (line ∷ lines) (item ∷ items) says few =
+    let same = label_same named names slot line item says.0 in
     let P : Option (List ℕ) → Type 0 = λ o. (labelled o slot ≡ name_of slot item) × (slots_unless o (word_of line) ≡ slots_in item) in
-    let one = subst P (sym same) (line_says names slot line item says.0) in
+    let one = subst P (sym same) (line_says named names slot line item says.0) in
     let slots = one.1 in
     let next : slot_after slot line ≡ slot + slots_in item = omega arith in
-    let rest = labels_are names (slot + slots_in item) lines items says.1 (omega arith) in
+    let rest = labels_are named names (slot + slots_in item) lines items says.1 (omega arith) in
     (rw (one.0, next) (ap (λ (pairs : List (List ℕ × ℕ)). name_of slot item ++ pairs) rest.0), rw next (rest.1 ∙ omega arith))
 
-pub text_is : (text : List ℕ) (survey : Survey) (parts : Parts) (p : Program) → IsSurvey (slice_split (λ c. c == 10) text) survey → survey.repeated ≡ None
+pub text_is : AreNamed → (text : List ℕ) (survey : Survey) (parts : Parts) (p : Program) → IsSurvey (slice_split (λ c. c == 10) text) survey → survey.repeated ≡ None
     → SayParts (slot_named survey.names) (slice_split (λ c. c == 10) text) parts → IsImageOf parts p → IsText text p
-text_is text survey parts p is unrepeated say image =
+text_is named text survey parts p is unrepeated say image =
     let lines = slice_split (λ c. c == 10) text in
     let few : 0 + slots_of_items say.items ≤ 512 = let same = say.parts_of.slots in let low = say.few in omega arith in
-    let labels = (labels_are (slot_named survey.names) 0 lines say.items say.says few).0 in
+    let labels = (labels_are named (slot_named survey.names) 0 lines say.items say.says few).0 in
     let P : List (List ℕ × ℕ) → Type 0 = AreApart in
     let apart : AreApart (names_from 0 say.items) = subst P labels (is.apart.0 unrepeated) in
     let Q : List Loop → Type 0 = λ ls. IsPermutation ls p.loops in
@@ -132,11 +132,11 @@ declared names slot (line ∷ lines) (Budget m ∷ items) n ns says budget = or_
 declared names slot (line ∷ lines) (OneLoop l ∷ items) n ns says budget = or_right (declares_budget line) _ (declared names (slot + 0) lines items n ns says.1 budget)
 declared names slot (line ∷ lines) (Code insn ∷ items) n ns says budget = or_right (declares_budget line) _ (declared names (slot + slots_in (Code insn)) lines items n ns says.1 budget)
 
-pub surveys_text : {text : List ℕ} {p : Program} (t : IsText text p) (survey : Survey) → IsSurvey (slice_split (λ c. c == 10) text) survey → SurveysText t survey
-surveys_text {text} {p} t survey is =
+pub surveys_text : AreNamed → {text : List ℕ} {p : Program} (t : IsText text p) (survey : Survey) → IsSurvey (slice_split (λ c. c == 10) text) survey → SurveysText t survey
+surveys_text named {text} {p} t survey is =
     let lines = slice_split (λ c. c == 10) text in
     let slots : slots_of_items t.items ≡ length p.slots = sym (ap length t.code ∙ slots_are t.items) in
-    let labels = labels_are t.names 0 lines t.items t.lines (let few = t.program.slots in omega arith) in
+    let labels = labels_are named t.names 0 lines t.items t.lines (let few = t.program.slots in omega arith) in
     let pairs = names_from 0 t.items in
     let P : List (List ℕ × ℕ) → Type 0 = AreApart in
     record {

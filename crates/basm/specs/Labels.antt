@@ -1,9 +1,11 @@
 -- What the first words of lines say of names and slots, whether or not the lines are right.
-use Rattle.std.specs.Prelude.{◌≡◌, ◌↔◌, ℕ, ◌+◌, ◌-◌, min, Bool, ◌&&◌, ◌||◌, ◌==◌, if◌then◌else◌, List, [], ◌∷◌, ◌++◌, length, take, codes, Option, Some, None}
+use Rattle.std.specs.Prelude.{◌≡◌, ◌↔◌, ℕ, ◌+◌, ◌-◌, min, Bool, ◌&&◌, ◌==◌, if◌then◌else◌, List, [], ◌∷◌, ◌++◌, length, take, codes, Option, Some, None}
 use Rattle.std.specs.List.{list_any}
 use Rattle.std.specs.Str.{bytes_eq}
 use Rattle.basm_lex.specs.Lines.{operands_of, word_of}
 use Rattle.basm_lex.specs.Names.{is_name}
+use Rattle.basm_lex.specs.declared.mnemonics.Mnemonic.{Mnemonic}
+use Rattle.basm_lex.specs.Mnemonics.{mnemonic_slots, named}
 use Rattle.basm.specs.declared.survey.Survey.{Survey}
 use Rattle.basm.specs.Naming.{slot_named}
 use Rattle.basm.specs.Relation.{AreApart}
@@ -23,13 +25,15 @@ alone (operand ∷ operands) name = None
 abbrev pub label_in : List ℕ → Option (List ℕ)
 label_in line = alone (operands_of line) (label_of (word_of line))
 
--- how many slots a word that is no label stands for: a directive and no word stand for none, an unknown word for one
+-- how many slots a mnemonic stands for; an unknown word for one
+abbrev pub slots_named : Option Mnemonic → ℕ
+slots_named None = 1
+slots_named (Some found) = mnemonic_slots found
+
+-- how many slots a word that is no label stands for: a directive and no word for none
 unfoldable pub word_slots : List ℕ → ℕ
 word_slots [] = 0
-word_slots (c ∷ cs) =
-    if c == 46
-    then 0
-    else (if bytes_eq (c ∷ cs) (codes "lddw") || bytes_eq (c ∷ cs) (codes "ldmap") || bytes_eq (c ∷ cs) (codes "ldimm") then 2 else 1)
+word_slots (c ∷ cs) = if c == 46 then 0 else slots_named (named (c ∷ cs))
 
 -- the same of a word that may be a label
 abbrev pub slots_unless : Option (List ℕ) → List ℕ → ℕ

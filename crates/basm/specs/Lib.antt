@@ -1,7 +1,6 @@
 pub mod Adding
 pub mod Codes
 pub mod Labels
-pub mod Mnemonics
 pub mod Naming
 pub mod Outcomes
 pub mod Printed

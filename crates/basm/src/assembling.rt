@@ -12,6 +12,7 @@ ghost use Rattle.basm.specs.declared.faults.AsmCode.TheVariants.{Memory};
 use crate::faults::{AsmCode, AsmFault};
 use crate::parts::Parts;
 use crate::survey::Survey;
+use basm_lex::mnemonic_laws;
 use bpf::Image;
 use std::alloc::Global;
 
@@ -28,6 +29,7 @@ pub fn assemble(alloc: Global, text: &str) -> Result<Image, AsmFault>
     // A text of an image gives that image, unless memory is refused.
     ensures exact { (p : Program) → IsText text.now p → Makes p result }
 {
+    mnemonic_laws();
     let survey = Survey::of(alloc, text)?;
     if survey.slots == 0 {
         return Err(AsmFault::of_text(AsmCode::TooMany));

@@ -8,16 +8,15 @@ ghost use Rattle.bpf_insn.specs.Spelling.{slots_of};
 ghost use Rattle.basm_lex.specs.Numbers.{WritesNumber, WritesWide};
 ghost use Rattle.basm_lex.specs.Places.{WritesPlace, WritesRegister};
 ghost use Rattle.basm.specs.Adding.{PushesInsn, UnlessMemory};
-ghost use Rattle.basm.specs.Mnemonics.{mnemonic_word};
+ghost use Rattle.basm_lex.specs.Mnemonics.{mnemonic_word};
 ghost use Rattle.basm.specs.Naming.{slot_named};
 ghost use Rattle.basm.specs.Relation.{Four, One, Three, Two, WritesInsn, WritesOperand, WritesTarget};
 
 use crate::choice::both;
 use crate::faults::AsmCode;
-use crate::mnemonics::Mnemonic;
 use crate::names::Names;
 use crate::targets::{read_long_target, read_short_target};
-use basm_lex::{Place, number, read_place, register, wide_number};
+use basm_lex::{Mnemonic, Place, mnemonic_laws, number, read_place, register, wide_number};
 use bpf::MAX_SLOTS;
 use bpf_insn::{
     Address, AluOp, Callee, Condition, Distance, Extension, Insn, LoadSize, Operand, Register,
@@ -68,6 +67,7 @@ fn read_insn(found: Mnemonic, operands: &[&str], names: &Names, slot: u32) -> Re
     ensures writes { IfOk result (WritesInsn (λ operand. operand.now) (slot_named names.now) slot (mnemonic_word found) operands.now) }
     ensures exact { (insn : Insn) → WritesInsn (λ operand. operand.now) (slot_named names.now) slot (mnemonic_word found) operands.now insn → result ≡ Ok insn }
 {
+    mnemonic_laws();
     match found {
         Mnemonic::Arithmetic(op, width) => arithmetic(op, width, operands),
         Mnemonic::Negation(width) => negation(width, operands),

@@ -10,7 +10,6 @@ mod faults;
 mod instructions;
 mod laws;
 mod looping;
-mod mnemonics;
 mod names;
 mod parts;
 mod printing;

@@ -8,7 +8,7 @@ ghost use Rattle.bpf_insn.specs.Spelling.{slots_of};
 ghost use Rattle.basm_lex.specs.Lines.{IsLabel};
 ghost use Rattle.basm_lex.specs.Numbers.{WritesNumber};
 ghost use Rattle.basm.specs.Adding.{AddsItem, AddsLine, ArePartsOf, HasRoom, IsImageOf, UnlessMemory, WritesLoop, has_head};
-ghost use Rattle.basm.specs.Mnemonics.{mnemonic_word};
+ghost use Rattle.basm_lex.specs.Mnemonics.{mnemonic_word};
 ghost use Rattle.basm.specs.Naming.{slot_named};
 ghost use Rattle.basm.specs.Outcomes.{Makes};
 ghost use Rattle.basm.specs.Relation.{Budget, Code, IsLine, Item, One, OneLoop, WritesInsn};
@@ -17,9 +17,8 @@ use crate::choice::both;
 use crate::faults::{AsmCode, AsmFault};
 use crate::instructions::add_insn;
 use crate::looping::{read_budget, read_loop};
-use crate::mnemonics::{Mnemonic, read_mnemonic};
 use crate::survey::Survey;
-use basm_lex::{label, read_statement};
+use basm_lex::{Mnemonic, label, read_mnemonic, read_statement};
 use bpf::{Image, Loop, MAX_LOOPS};
 use bpf_insn::Insn;
 use std::alloc::Global;
@@ -55,13 +54,13 @@ impl Parts {
     {
         let statement = read_statement(alloc, line)?;
         let operands = statement.operands.as_slice();
-        match statement.word {
-            "" => Ok(()),
-            ".budget" => self.add_budget(operands),
-            ".loop" => self.add_loop(operands, survey),
-            word => match read_mnemonic(word) {
-                Some(found) => self.add_insn(found, operands, survey),
-                None => read_label(line),
+        match read_mnemonic(statement.word) {
+            Some(found) => self.add_insn(found, operands, survey),
+            None => match statement.word {
+                "" => Ok(()),
+                ".budget" => self.add_budget(operands),
+                ".loop" => self.add_loop(operands, survey),
+                _ => read_label(line),
             },
         }
     }

@@ -3,11 +3,10 @@
 ghost use Rattle.std.specs.Prelude.{◌≡◌, ◌==◌, ◌++◌, ◌∷◌, [], ℕ, List, IfOk};
 ghost use Rattle.std.specs.List.{slice_split};
 ghost use Rattle.basm_lex.specs.Lines.{word_of};
-ghost use Rattle.basm.specs.Labels.{AddsName, IsSurvey};
+ghost use Rattle.basm.specs.Labels.{AddsName, IsSurvey, word_slots};
 
-use crate::mnemonics::slots_of_word;
 use crate::names::Names;
-use basm_lex::{first_word, label};
+use basm_lex::{first_word, label, read_mnemonic};
 use std::alloc::{AllocError, Global};
 
 /// What the whole text says before its lines are read one by one.
@@ -50,7 +49,7 @@ impl<'a> Survey<'a> {
             None => {
                 let word = first_word(line);
                 self.has_budget = self.has_budget || word == ".budget";
-                self.slots = self.slots.saturating_add(slots_of_word(word));
+                self.slots = self.slots.saturating_add(slots_of(word));
                 Ok(())
             }
         }
@@ -63,5 +62,20 @@ impl<'a> Survey<'a> {
             self.repeated = self.repeated.or(Some(number));
         }
         Ok(())
+    }
+}
+
+/// How many slots a line with this first word takes, where it is no label. An unknown word counts as an
+/// instruction.
+#[tactic(auto, unfolding(crate::specs::Labels::word_slots))]
+fn slots_of(word: &str) -> u32
+    ensures { result ≡ word_slots word.now }
+{
+    if word.is_empty() || word.starts_with('.') {
+        return 0;
+    }
+    match read_mnemonic(word) {
+        Some(found) => u32::from(found.slots()),
+        None => 1,
     }
 }

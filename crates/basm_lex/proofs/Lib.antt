@@ -4,3 +4,4 @@ pub mod Decimals
 pub mod PlaceTexts
 pub mod PlaceReadings
 pub mod Readings
+pub mod MnemonicWords

@@ -1,9 +1,10 @@
-use Rattle.std.proofs.Common.{◌≡◌, map, ap, sym, ◌∙◌}
+use Rattle.std.proofs.Common.{◌≡◌, ℕ, List, map, ap, sym, ◌∙◌, subst}
 use Rattle.std.proofs.lemmas.Option.{none-some}
 use Rattle.std.proofs.lemmas.Result.{IfOk-weaker}
 use Rattle.basm_lex.specs.Lines.{operands_of}
+use Rattle.basm_lex.specs.Names.{IsName}
 use Rattle.basm.specs.Adding.{AddsItem, HasRoom, UnlessMemory}
-use Rattle.basm.specs.Mnemonics.{mnemonic_word}
+use Rattle.basm_lex.specs.Mnemonics.{mnemonic_word}
 use Rattle.basm.specs.Naming.{slot_named}
 use Rattle.basm.specs.Relation.{Item}
 use Rattle.basm.proofs.Arms.{budget_item, empty_adds, insn_item, label_item, loop_item}
@@ -16,14 +17,14 @@ returns-in-empty-clause-adds c =
 
 pub returns-in-empty-clause-exact : goal.returns-in-empty-clause-exact
 returns-in-empty-clause-exact c = λ item says room.
-    empty_adds (slot_named c.args.survey.now.names) c.args.self.now.slots c.args.line.now c.args.self.now item (sym c.in_ok-statement.ensures.word ∙ c.in-empty.is) says
+    empty_adds (slot_named c.args.survey.now.names) c.args.self.now.slots c.args.line.now c.args.self.now item (λ found is. none-some found (c.in-None.ensures.exact found (c.in_ok-statement.ensures.word ∙ is))) (sym c.in_ok-statement.ensures.word ∙ c.in-empty.is) says
 
 pub returns-in-text-clause-exact : goal.returns-in-text-clause-exact
 returns-in-text-clause-exact c = λ item says room.
     let operands : map (λ operand. operand.now) c.as_slice-operands.result.now ≡ operands_of c.args.line.now = ap (map (λ operand. operand.now)) c.as_slice-operands.ensures.value ∙ c.in_ok-statement.ensures.operands in
     let Q : Item → Type 0 = λ item. HasRoom c.args.survey.now.slots item c.args.self.now → UnlessMemory c.add_budget.result (λ _. AddsItem item c.args.self.now c.add_budget.new.self) in
     budget_item (λ operand. operand.now) c.as_slice-operands.result.now (slot_named c.args.survey.now.names) c.args.self.now.slots c.args.line.now item Q
-    (sym c.in_ok-statement.ensures.word ∙ c.in-text.is) operands says (λ n one room. c.add_budget.ensures.exact n one room.0 room.1) room
+    (λ found is. none-some found (c.in-None.ensures.exact found (c.in_ok-statement.ensures.word ∙ is))) (sym c.in_ok-statement.ensures.word ∙ c.in-text.is) operands says (λ n one room. c.add_budget.ensures.exact n one room.0 room.1) room
 
 pub returns-in-text-2-clause-adds : goal.returns-in-text-2-clause-adds
 returns-in-text-2-clause-adds c =
@@ -36,7 +37,7 @@ returns-in-text-2-clause-exact c = λ item says room.
     let operands : map (λ operand. operand.now) c.as_slice-operands.result.now ≡ operands_of c.args.line.now = ap (map (λ operand. operand.now)) c.as_slice-operands.ensures.value ∙ c.in_ok-statement.ensures.operands in
     let Q : Item → Type 0 = λ item. HasRoom c.args.survey.now.slots item c.args.self.now → UnlessMemory c.add_loop.result (λ _. AddsItem item c.args.self.now c.add_loop.new.self) in
     loop_item (λ operand. operand.now) c.as_slice-operands.result.now (slot_named c.args.survey.now.names) c.args.self.now.slots c.args.line.now item Q
-    (sym c.in_ok-statement.ensures.word ∙ c.in-text-2.is) operands says (λ l four room. c.add_loop.ensures.exact l four room) room
+    (λ found is. none-some found (c.in-None.ensures.exact found (c.in_ok-statement.ensures.word ∙ is))) (sym c.in_ok-statement.ensures.word ∙ c.in-text-2.is) operands says (λ l four room. c.add_loop.ensures.exact l four room) room
 
 pub returns-in-Some-clause-adds : goal.returns-in-Some-clause-adds
 returns-in-Some-clause-adds c =
@@ -49,7 +50,7 @@ returns-in-Some-clause-exact c = λ item says room.
     let operands : map (λ operand. operand.now) c.as_slice-operands.result.now ≡ operands_of c.args.line.now = ap (map (λ operand. operand.now)) c.as_slice-operands.ensures.value ∙ c.in_ok-statement.ensures.operands in
     let Q : Item → Type 0 = λ item. HasRoom c.args.survey.now.slots item c.args.self.now → UnlessMemory c.add_insn.result (λ _. AddsItem item c.args.self.now c.add_insn.new.self) in
     insn_item (λ operand. operand.now) c.as_slice-operands.result.now (slot_named c.args.survey.now.names) c.args.self.now.slots c.args.line.now item c.in-Some.found Q
-    (sym c.in_ok-statement.ensures.word ∙ c.in-Some.ensures.names) operands says (λ insn writes room. c.add_insn.ensures.exact insn writes room) room
+    (let P : List ℕ → Type 0 = IsName in subst P c.in_ok-statement.ensures.word c.in-Some.ensures.plain) (sym c.in_ok-statement.ensures.word ∙ c.in-Some.ensures.names) operands says (λ insn writes room. c.add_insn.ensures.exact insn writes room) room
 
 pub returns-clause-adds : goal.returns-clause-adds
 returns-clause-adds c =

@@ -16,4 +16,4 @@ returns-after-self c = λ lines is.
       | then-self w ↦ w.self-is ∙ rw w.if-self.true refl
       | else-self w ↦ w.self-is ∙ w.eq-self.ensures ∙ rw (c.first_word-word.ensures, w.if-self.false) refl
     ] in
-    survey_word lines c.args.line.now c.args.self.now _ c.in-None.ensures refl refl (c.saturating_add-self.ensures ∙ rw (c.slots_of_word.ensures, c.first_word-word.ensures) refl) budget is
+    survey_word lines c.args.line.now c.args.self.now _ c.in-None.ensures refl refl (c.saturating_add-self.ensures ∙ rw (c.slots_of.ensures, c.first_word-word.ensures) refl) budget is

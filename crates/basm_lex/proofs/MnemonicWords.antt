@@ -1,0 +1,95 @@
+-- The words of the table are those of its mnemonics, and apart.
+use Rattle.std.proofs.Common.{◌≡◌, ℕ, Bool, true, List, [], ◌∷◌, map, Option, Some, None, refl, sym, ap, ◌∙◌, subst}
+use Rattle.std.specs.Prelude.{IfSome}
+use Rattle.std.specs.List.{list_all}
+use Rattle.std.specs.Map.{lookup}
+use Rattle.std.specs.Str.{bytes_eq}
+use Rattle.std.proofs.lemmas.Bool.{and_parts, cond_both}
+use Rattle.std.proofs.lemmas.Slice.Eq.{bytes_eq-Decides}
+use Rattle.bpf_insn.specs.declared.operation.Width.TheVariants.{Bits32, Bits64}
+use Rattle.bpf_insn.specs.declared.operation.AluOp.TheVariants.{Add}
+use Rattle.bpf_insn.specs.declared.operation.Extension.TheVariants.{ByteTo32}
+use Rattle.bpf_insn.specs.declared.operation.Swap.TheVariants.{ToLittle}
+use Rattle.bpf_insn.specs.declared.operation.SwapBits.TheVariants.{Swap16, Swap32, Swap64}
+use Rattle.bpf_insn.specs.declared.operation.Condition.TheVariants.{Equal}
+use Rattle.bpf_insn.specs.declared.memory.Size.TheVariants.{Byte}
+use Rattle.bpf_insn.specs.declared.memory.LoadSize.TheVariants.{LoadByte}
+use Rattle.bpf_insn.specs.declared.insn.Callee.TheVariants.{Helper}
+use Rattle.basm_lex.specs.Names.{IsName, is_name}
+use Rattle.basm_lex.specs.declared.mnemonics.Mnemonic.{Mnemonic}
+use Rattle.basm_lex.specs.declared.mnemonics.Mnemonic.TheVariants.{Arithmetic, Negation, SignedMove, Swapping, Loading, Storing, StoringRegister, Jumping, ShortGoto, LongGoto, WideLoad, MapLoad, AddressLoad, Calling, Exiting}
+use Rattle.basm_lex.specs.declared.mnemonics.TheConstants.{MNEMONICS}
+use Rattle.basm_lex.specs.Mnemonics.{mnemonic_word, named}
+
+abbrev rows : List (List ℕ × Mnemonic)
+rows = map (λ row. (row.0.now, row.1)) MNEMONICS
+
+-- what all rows pass, a row that is found passes
+found_passes : (test : List ℕ → Mnemonic → Bool) (rows : List (List ℕ × Mnemonic)) (word : List ℕ) → list_all (λ row. test row.0 row.1) rows ≡ true
+    → IfSome (lookup (bytes_eq word) rows) (λ found. test word found ≡ true)
+found_passes test [] word all = tt
+found_passes test (row ∷ rows) word all =
+    let parts = and_parts (test row.0 row.1) (list_all (λ row. test row.0 row.1) rows) all in
+    let P : Option Mnemonic → Type 0 = λ o. IfSome o (λ found. test word found ≡ true) in
+    cond_both (bytes_eq word row.0) (Some row.1) (lookup (bytes_eq word) rows) P
+    (λ same. ap (λ w. test w row.1) ((bytes_eq-Decides word row.0).0 same) ∙ parts.0) (λ other. found_passes test rows word parts.1)
+
+-- each word is its mnemonic's
+pub named_word : (word : List ℕ) (o : Option Mnemonic) → o ≡ named word → IfSome o (λ found. word ≡ mnemonic_word found)
+unfolding named
+named_word word None same = tt
+named_word word (Some found) same =
+    let P : Option Mnemonic → Type 0 = λ o. IfSome o (λ found. bytes_eq word (mnemonic_word found) ≡ true) in
+    (bytes_eq-Decides word (mnemonic_word found)).0 (subst P (sym same) (found_passes (λ word found. bytes_eq word (mnemonic_word found)) rows word refl))
+
+-- each word is a name
+pub named_plain : (word : List ℕ) (o : Option Mnemonic) → o ≡ named word → IfSome o (λ _. IsName word)
+unfolding named
+named_plain word None same = tt
+named_plain word (Some found) same =
+    let P : Option Mnemonic → Type 0 = λ o. IfSome o (λ _. is_name word ≡ true) in subst P (sym same) (found_passes (λ word found. is_name word) rows word refl)
+
+-- and each mnemonic has its word
+pub word_named : (found : Mnemonic) → named (mnemonic_word found) ≡ Some found
+unfolding named
+word_named (Arithmetic Add Bits32) = refl
+word_named (Arithmetic _ Bits32) = refl
+word_named (Arithmetic Add Bits64) = refl
+word_named (Arithmetic _ Bits64) = refl
+word_named (Negation Bits32) = refl
+word_named (Negation _) = refl
+word_named (SignedMove ByteTo32) = refl
+word_named (SignedMove _) = refl
+word_named (Swapping ToLittle Swap16) = refl
+word_named (Swapping _ Swap16) = refl
+word_named (Swapping ToLittle Swap32) = refl
+word_named (Swapping _ Swap32) = refl
+word_named (Swapping ToLittle Swap64) = refl
+word_named (Swapping _ Swap64) = refl
+word_named (Loading LoadByte) = refl
+word_named (Loading _) = refl
+word_named (Storing Byte) = refl
+word_named (Storing _) = refl
+word_named (StoringRegister Byte) = refl
+word_named (StoringRegister _) = refl
+word_named (Jumping Equal Bits32) = refl
+word_named (Jumping _ Bits32) = refl
+word_named (Jumping Equal Bits64) = refl
+word_named (Jumping _ Bits64) = refl
+word_named ShortGoto = refl
+word_named LongGoto = refl
+word_named WideLoad = refl
+word_named MapLoad = refl
+word_named AddressLoad = refl
+word_named (Calling Helper) = refl
+word_named (Calling _) = refl
+word_named Exiting = refl
+
+pub named_exact : (word : List ℕ) (o : Option Mnemonic) → o ≡ named word → (found : Mnemonic) → word ≡ mnemonic_word found → o ≡ Some found
+named_exact word o same found is = same ∙ ap named is ∙ word_named found
+
+pub word_plain : (found : Mnemonic) → IsName (mnemonic_word found)
+word_plain found = named_plain (mnemonic_word found) (Some found) (sym (word_named found))
+
+pub words_apart : (m n : Mnemonic) → mnemonic_word m ≡ mnemonic_word n → m ≡ n
+words_apart m n same = let both : Some m ≡ Some n = sym (word_named m) ∙ ap named same ∙ word_named n in cc both

@@ -1,0 +1,48 @@
+-- The words that begin an instruction.
+use Rattle.std.specs.Prelude.{ℕ, List, ◌++◌, Option, codes, map}
+use Rattle.std.specs.Map.{lookup}
+use Rattle.std.specs.Str.{bytes_eq}
+use Rattle.bpf_insn.specs.Text.{alu_name, callee_name, condition_name, extension_name, load_suffix, store_suffix, swap_bits_name, swap_name, width_suffix}
+use Rattle.basm_lex.specs.declared.mnemonics.Mnemonic.{Mnemonic}
+use Rattle.basm_lex.specs.declared.mnemonics.Mnemonic.TheVariants.{Arithmetic, Negation, SignedMove, Swapping, Loading, Storing, StoringRegister, Jumping, ShortGoto, LongGoto, WideLoad, MapLoad, AddressLoad, Calling, Exiting}
+use Rattle.basm_lex.specs.declared.mnemonics.TheConstants.{MNEMONICS}
+
+-- the word of a mnemonic
+abbrev pub mnemonic_word : Mnemonic → List ℕ
+mnemonic_word (Arithmetic op width) = alu_name op ++ width_suffix width
+mnemonic_word (Negation width) = codes "neg" ++ width_suffix width
+mnemonic_word (SignedMove extension) = extension_name extension
+mnemonic_word (Swapping swap bits) = swap_name swap ++ swap_bits_name bits
+mnemonic_word (Loading size) = codes "ldx" ++ load_suffix size
+mnemonic_word (Storing size) = codes "st" ++ store_suffix size
+mnemonic_word (StoringRegister size) = codes "stx" ++ store_suffix size
+mnemonic_word (Jumping condition width) = condition_name condition ++ width_suffix width
+mnemonic_word ShortGoto = codes "ja"
+mnemonic_word LongGoto = codes "ja32"
+mnemonic_word WideLoad = codes "lddw"
+mnemonic_word MapLoad = codes "ldmap"
+mnemonic_word AddressLoad = codes "ldimm"
+mnemonic_word (Calling callee) = callee_name callee
+mnemonic_word Exiting = codes "exit"
+
+-- how many slots its instruction takes
+abbrev pub mnemonic_slots : Mnemonic → ℕ
+mnemonic_slots (Arithmetic op width) = 1
+mnemonic_slots (Negation width) = 1
+mnemonic_slots (SignedMove extension) = 1
+mnemonic_slots (Swapping swap bits) = 1
+mnemonic_slots (Loading size) = 1
+mnemonic_slots (Storing size) = 1
+mnemonic_slots (StoringRegister size) = 1
+mnemonic_slots (Jumping condition width) = 1
+mnemonic_slots ShortGoto = 1
+mnemonic_slots LongGoto = 1
+mnemonic_slots WideLoad = 2
+mnemonic_slots MapLoad = 2
+mnemonic_slots AddressLoad = 2
+mnemonic_slots (Calling callee) = 1
+mnemonic_slots Exiting = 1
+
+-- the mnemonic of a word, by the table
+unfoldable pub named : List ℕ → Option Mnemonic
+named word = lookup (bytes_eq word) (map (λ row. (row.0.now, row.1)) MNEMONICS)
