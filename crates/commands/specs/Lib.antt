@@ -1,11 +1,16 @@
 pub mod Arguments
 pub mod AsmJob
+pub mod Assembled
 pub mod CommandLine
 pub mod DisJob
+pub mod Disassembled
+pub mod Files
 pub mod JobNode
 pub mod JudgeJob
+pub mod Judging
 pub mod Printed
 pub mod Reading
 pub mod Statuses
 pub mod Stopping
+pub mod Verified
 pub mod VerifyJob

@@ -6,14 +6,14 @@ ghost use Rattle.clap.specs.Simple.{app_of};
 ghost use Rattle.clap.specs.declared.builder.command.Command.TheViews.{out-Command as fields_of};
 ghost use Rattle.clap.specs.Walk.{rows_of};
 ghost use Rattle.clap.specs.Matches.{found_of};
-ghost use Rattle.bpf.specs.Program.{IsProgram};
-ghost use Rattle.commands.specs.AsmJob.{LacksEither, NamesAsm, PrintsParts, asm_app, parts_line};
-ghost use Rattle.commands.specs.Stopping.{IsNoText, IsNotAssembled, StopsBy};
+ghost use Rattle.commands.specs.AsmJob.{LacksEither, NamesAsm, asm_app, parts_line};
+ghost use Rattle.commands.specs.Assembled.{Assembles, HoldsText, IsNoText, IsNotAssembled};
+ghost use Rattle.commands.specs.Stopping.{StopsBy};
 
 use crate::arguments::{file, name_of};
 use crate::faults::Fault;
 use crate::jobs::Job;
-use crate::programs::bytes_in;
+use crate::programs::text_in;
 use crate::stops::Stop;
 use crate::storage::Files;
 use crate::usage::UsageFault;
@@ -49,13 +49,12 @@ pub fn asm_job(alloc: Global, found: &ArgMatches) -> Result<Job, UsageFault>
 }
 
 /// The image that the text of a file writes.
-fn assembled<'a, F: Files>(alloc: Global, text: &'a str, files: &mut F) -> Result<Image, Fault<'a>>
-    ensures image { IfOk result IsProgram }
-    ensures refused { IfErr result (IsNoText text.entry.now) }
+fn assembled<'a, F: Files>(alloc: Global, files: &mut F, name: &'a str) -> Result<Image, Fault<'a>>
+    ensures image { IfOk result (λ image. HoldsText F.reads files.old name.now image files.new) }
+    ensures refused { IfErr result (IsNoText F.reads files.old name.now files.new) }
 {
-    let bytes = bytes_in(alloc, files, text)?;
-    let source = str::from_utf8(bytes.as_slice()).map_err(|_| Fault::CannotRead(text))?;
-    Ok(assemble(alloc, source)?)
+    let text = text_in(alloc, files, name)?;
+    Ok(assemble(alloc, text.as_str())?)
 }
 
 /// Prints how large an image is: `slots S loops L budget B`.
@@ -79,10 +78,11 @@ pub fn assemble_file<'a, F: Files, W: Write>(
     files: &mut F,
     out: &mut W,
 ) -> Result<(), Stop<'a>>
-    ensures printed { OnOk result (PrintsParts (W.contents out.old) (W.contents out.new)) }
-    ensures stops { IfErr result (StopsBy (IsNotAssembled text.now image.now)) }
+    ensures done { OnOk result (Assembles F.reads F.writes files.old text.now image.now files.new (W.contents out.old) (W.contents out.new)) }
+    ensures stops { IfErr result (StopsBy (IsNotAssembled F.reads F.writes files.old text.now image.now files.new)) }
+    ensures quiet { IfErr result (StopsBy (λ _. W.contents out.new ≡ W.contents out.old)) }
 {
-    let made = assembled(alloc, text, files)?;
+    let made = assembled(alloc, files, text)?;
     let written = files.write(image, made.write()?.as_slice());
     written.map_err(|_| Fault::CannotWrite(image))?;
     Ok(print_parts(out, &made)?)

@@ -7,8 +7,9 @@ ghost use Rattle.clap.specs.declared.builder.command.Command.TheViews.{out-Comma
 ghost use Rattle.clap.specs.Walk.{rows_of};
 ghost use Rattle.clap.specs.Matches.{found_of};
 ghost use Rattle.commands.specs.Arguments.{Lacks};
-ghost use Rattle.commands.specs.DisJob.{NamesDis, PrintsText, dis_app};
-ghost use Rattle.commands.specs.Stopping.{IsNotPrinted, StopsBy};
+ghost use Rattle.commands.specs.DisJob.{NamesDis, dis_app};
+ghost use Rattle.commands.specs.Disassembled.{Disassembles, IsNotPrinted};
+ghost use Rattle.commands.specs.Stopping.{StopsBy};
 
 use crate::arguments::{file, name_of};
 use crate::jobs::Job;
@@ -58,8 +59,9 @@ pub fn disassemble_file<'a, F: Files, W: Write>(
     files: &mut F,
     out: &mut W,
 ) -> Result<(), Stop<'a>>
-    ensures printed { OnOk result (PrintsText (W.contents out.old) (W.contents out.new)) }
-    ensures stops { IfErr result (StopsBy (IsNotPrinted image.now)) }
+    ensures done { OnOk result (Disassembles F.reads files.old image.now files.new (W.contents out.old) (W.contents out.new)) }
+    ensures stops { IfErr result (StopsBy (IsNotPrinted F.reads files.old image.now files.new)) }
+    ensures quiet { IfErr result (StopsBy (λ _. W.contents out.new ≡ W.contents out.old)) }
 {
     let image = image_in(alloc, files, image)?;
     let text = disassemble(alloc, &image)?;

@@ -1,27 +1,28 @@
 //! The job `judge`.
 
-ghost use Rattle.std.specs.Prelude.{◌≡◌, ◌⊎◌, IfErr, IfOk, MatchOption, OnOk, ℕ, List, [], codes, false};
+ghost use Rattle.std.specs.Prelude.{◌≡◌, IfErr, IfOk, OnOk, [], codes, false};
 ghost use Rattle.std.specs.Io.KnownBytes.{Appends};
 ghost use Rattle.clap.specs.Simple.{app_of};
 ghost use Rattle.clap.specs.declared.builder.command.Command.TheViews.{out-Command as fields_of};
 ghost use Rattle.clap.specs.Walk.{rows_of};
 ghost use Rattle.clap.specs.Matches.{found_of};
+ghost use Rattle.bpf.specs.Program.{image_bytes};
 ghost use Rattle.commands.specs.Arguments.{Lacks};
 ghost use Rattle.commands.specs.JudgeJob.{NamesJudge, discard_line, judge_app, reply_line};
-ghost use Rattle.commands.specs.Reading.{IsNoProgram};
-ghost use Rattle.commands.specs.Stopping.{IsBadLines, IsBadPacket, StopsBy};
+ghost use Rattle.commands.specs.Judging.{HoldsNoProgram, HoldsProgram, IsLineFault, IsNoFactory, IsNotJudged, factory_image};
+ghost use Rattle.commands.specs.Stopping.{IsBadPacket, StopsBy};
 ghost use Rattle.commands.specs.declared.faults.Fault.TheVariants.{NoMemory};
 
 use crate::arguments::{file, name_of, text_of};
 use crate::faults::Fault;
 use crate::jobs::Job;
 use crate::node::JobNode;
-use crate::programs::{accepted, bytes_in, program_in};
+use crate::programs::{no_maps, program_in, text_in};
 use crate::stops::Stop;
 use crate::storage::Files;
 use crate::usage::UsageFault;
 use bpf::Image;
-use bver::Accepted;
+use bver::{Accepted, verify};
 use clap::{Arg, ArgMatches, Command};
 use rmap::Discard;
 use spw::read_line;
@@ -66,18 +67,29 @@ pub fn judge_job(alloc: Global, found: &ArgMatches) -> Result<Job, UsageFault>
     Ok(Job::Judge { lines, image })
 }
 
+/// The program of the factory image.
+fn factory_program<'a>(alloc: Global) -> Result<Accepted, Fault<'a>>
+    ensures program { IfOk result (λ program. factory_image ≡ image_bytes program.program) }
+    ensures sizes { IfOk result (λ program. program.sizes ≡ []) }
+    ensures refused { IfErr result IsNoFactory }
+{
+    let image = Image::read(alloc, &FACTORY)?;
+    Ok(verify(alloc, image, &no_maps())?)
+}
+
 /// The program of the image file of this name, or of the factory image where there is no name.
 fn judging_program<'a, F: Files>(
     alloc: Global,
     files: &mut F,
     image: Option<&'a str>,
 ) -> Result<Accepted, Fault<'a>>
-    ensures program { IfOk result (λ program. program.sizes ≡ []) }
-    ensures refused { IfErr result (λ fault. MatchOption image.entry ((name : List ℕ) → IsNoProgram name fault) (λ name. IsNoProgram name.now fault)) }
+    ensures program { IfOk result (λ program. HoldsProgram F.reads files.old image.entry program.program files.new) }
+    ensures sizes { IfOk result (λ program. program.sizes ≡ []) }
+    ensures refused { IfErr result (HoldsNoProgram F.reads files.old image.entry files.new) }
 {
     match image {
         Some(name) => program_in(alloc, files, name),
-        None => accepted(alloc, Image::read(alloc, &FACTORY)?),
+        None => factory_program(alloc),
     }
 }
 
@@ -133,7 +145,7 @@ fn judge_text<'a, W: Write>(
     text: &str,
     out: &mut W,
 ) -> Result<(), Stop<'a>>
-    ensures stops { (name : List ℕ) → IfErr result (StopsBy (IsBadLines name)) }
+    ensures stops { IfErr result (StopsBy IsLineFault) }
 {
     for (index, line) in text.split_terminator('\n').enumerate() {
         judge_line(alloc, node, line, index.saturating_add(1), out)?;
@@ -152,11 +164,10 @@ pub fn judge_file<'a, F: Files, W: Write>(
     files: &mut F,
     out: &mut W,
 ) -> Result<(), Stop<'a>>
-    ensures stops { IfErr result (StopsBy (λ fault. IsBadLines lines.now fault ⊎ MatchOption image.entry ((name : List ℕ) → IsNoProgram name fault) (λ name. IsNoProgram name.now fault))) }
+    ensures stops { IfErr result (StopsBy (IsNotJudged F.reads files.old lines.now image.entry files.new)) }
 {
-    let bytes = bytes_in(alloc, files, lines)?;
-    let text = str::from_utf8(bytes.as_slice()).map_err(|_| Fault::CannotRead(lines))?;
+    let text = text_in(alloc, files, lines)?;
     let program = judging_program(alloc, files, image)?;
     let mut node = JobNode::new(alloc, program)?;
-    judge_text(alloc, &mut node, text, out)
+    judge_text(alloc, &mut node, text.as_str(), out)
 }

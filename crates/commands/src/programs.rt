@@ -1,7 +1,7 @@
-//! The images and programs of files.
+//! The texts, images and programs of files.
 
-ghost use Rattle.std.specs.Prelude.{◌≡◌, IfErr, IfOk, ℕ, List, []};
-ghost use Rattle.bpf.specs.Program.{IsProgram};
+ghost use Rattle.std.specs.Prelude.{◌≡◌, IfErr, IfOk, MatchResult, None, Some, [], string_bytes};
+ghost use Rattle.commands.specs.Files.{HoldsImage, HoldsNoText};
 ghost use Rattle.commands.specs.Reading.{IsNoImage, IsNoProgram};
 ghost use Rattle.commands.specs.declared.faults.Fault.TheVariants.{CannotRead};
 
@@ -19,14 +19,27 @@ pub fn no_maps() -> MapSizes
 }
 
 /// The bytes of the file of this name.
-pub fn bytes_in<'a, F: Files>(
+fn bytes_in<'a, F: Files>(alloc: Global, files: &mut F, name: &'a str) -> Result<Vec<u8>, Fault<'a>>
+    ensures gave { MatchResult result (λ bytes. F.reads files.old name.now (Some bytes.items) files.new) (λ _. F.reads files.old name.now None files.new) }
+    ensures refused { IfErr result (λ fault. fault ≡ CannotRead name.entry) }
+{
+    files.read(alloc, name).map_err(|_| Fault::CannotRead(name))
+}
+
+/// The text of the file of this name.
+pub fn text_in<'a, F: Files>(
     alloc: Global,
     files: &mut F,
     name: &'a str,
-) -> Result<Vec<u8>, Fault<'a>>
-    ensures { IfErr result (λ fault. fault ≡ CannotRead name.entry) }
+) -> Result<String, Fault<'a>>
+    ensures gave { MatchResult result (λ text. F.reads files.old name.now (Some (string_bytes text)) files.new) (λ _. HoldsNoText F.reads files.old name.now files.new) }
+    ensures refused { IfErr result (λ fault. fault ≡ CannotRead name.entry) }
 {
-    files.read(alloc, name).map_err(|_| Fault::CannotRead(name))
+    let bytes = bytes_in(alloc, files, name)?;
+    match String::from_utf8(bytes) {
+        Ok(text) => Ok(text),
+        Err(_) => Err(Fault::CannotRead(name)),
+    }
 }
 
 /// The image in the file of this name.
@@ -35,30 +48,23 @@ pub fn image_in<'a, F: Files>(
     files: &mut F,
     name: &'a str,
 ) -> Result<Image, Fault<'a>>
-    ensures image { IfOk result IsProgram }
-    ensures refused { IfErr result (IsNoImage name.now) }
+    ensures image { IfOk result (λ image. HoldsImage F.reads files.old name.now image files.new) }
+    ensures refused { IfErr result (IsNoImage F.reads files.old name.now files.new) }
 {
     let bytes = bytes_in(alloc, files, name)?;
     Ok(Image::read(alloc, bytes.as_slice())?)
 }
 
-/// The program of an image, for a node without counter maps.
-pub fn accepted<'a>(alloc: Global, image: Image) -> Result<Accepted, Fault<'a>>
-    ensures program { IfOk result (λ program. program.sizes ≡ []) }
-    ensures refused { IfErr result (λ fault. (name : List ℕ) → IsNoProgram name fault) }
-{
-    Ok(verify(alloc, image, &no_maps())?)
-}
-
-/// The program of the image file of this name.
+/// The program of the image file of this name, for a node without counter maps.
 pub fn program_in<'a, F: Files>(
     alloc: Global,
     files: &mut F,
     name: &'a str,
 ) -> Result<Accepted, Fault<'a>>
-    ensures program { IfOk result (λ program. program.sizes ≡ []) }
-    ensures refused { IfErr result (IsNoProgram name.now) }
+    ensures program { IfOk result (λ program. HoldsImage F.reads files.old name.now program.program files.new) }
+    ensures sizes { IfOk result (λ program. program.sizes ≡ []) }
+    ensures refused { IfErr result (IsNoProgram F.reads files.old name.now files.new) }
 {
     let image = image_in(alloc, files, name)?;
-    accepted(alloc, image)
+    Ok(verify(alloc, image, &no_maps())?)
 }

@@ -9,7 +9,8 @@ ghost use Rattle.clap.specs.Matches.{found_of};
 ghost use Rattle.commands.specs.Arguments.{Lacks};
 ghost use Rattle.commands.specs.Reading.{IsNoProgram};
 ghost use Rattle.commands.specs.Stopping.{StopsBy};
-ghost use Rattle.commands.specs.VerifyJob.{NamesVerify, PrintsAccepted, accepted_line, verify_app};
+ghost use Rattle.commands.specs.Verified.{Verifies};
+ghost use Rattle.commands.specs.VerifyJob.{NamesVerify, accepted_line, verify_app};
 
 use crate::arguments::{file, name_of};
 use crate::jobs::Job;
@@ -59,8 +60,9 @@ pub fn verify_file<'a, F: Files, W: Write>(
     files: &mut F,
     out: &mut W,
 ) -> Result<(), Stop<'a>>
-    ensures printed { OnOk result (PrintsAccepted (W.contents out.old) (W.contents out.new)) }
-    ensures stops { IfErr result (StopsBy (IsNoProgram image.now)) }
+    ensures done { OnOk result (Verifies F.reads files.old image.now files.new (W.contents out.old) (W.contents out.new)) }
+    ensures stops { IfErr result (StopsBy (IsNoProgram F.reads files.old image.now files.new)) }
+    ensures quiet { IfErr result (StopsBy (λ _. W.contents out.new ≡ W.contents out.old)) }
 {
     let program = program_in(alloc, files, image)?;
     Ok(print_accepted(out, program.image().weight(), program.budget())?)

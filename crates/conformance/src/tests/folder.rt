@@ -1,5 +1,7 @@
 //! Files in memory.
 
+ghost use Rattle.std.specs.Prelude.{⊤};
+
 use commands::{Cannot, Files};
 use std::alloc::Global;
 
@@ -14,6 +16,10 @@ pub struct Folder<'a> {
 }
 
 impl Files for Folder<'_> {
+    ghost reads = { λ _ _ _ _. ⊤ };
+
+    ghost writes = { λ _ _ _ _ _. ⊤ };
+
     fn read(&mut self, alloc: Global, name: &str) -> Result<Vec<u8>, Cannot> {
         for (file, bytes) in self.files {
             if *file == name {
