@@ -16,6 +16,10 @@ head_of b = record { tracked = true; key = 0; book = b }
 abbrev pub entry : ℕ → Judge → Publish
 entry slot program = record { slot = slot; program = program }
 
+-- the history with one publish more
+abbrev pub extended : List Publish → ℕ → Judge → List Publish
+extended history slot program = history ++ entry slot program ∷ []
+
 -- the program was added to all that had been seen; or the history was longer
 abbrev pub Adds : Step Publish → View Publish ℕ → ℕ → View Publish ℕ → Type 0
 Adds s v found w = MatchBool (found == s.old) (w.0 ≡ v.0 ++ s.ask ∷ []) (Unit {0})

@@ -2,13 +2,13 @@
 use Rattle.std.specs.Prelude.{◌≡◌, ◌≢◌, ◌<◌, ◌⊎◌, ℕ, ◌==◌, List, [], ◌∷◌, ◌++◌, length, Some, cond}
 use Rattle.bver.specs.Justified.{Judge}
 use Rattle.publish.specs.declared.history.Publish.{Publish}
-use Rattle.publish.specs.Histories.{entry}
+use Rattle.publish.specs.Histories.{extended}
 use Rattle.publish.specs.Published.{published}
 
 -- one publish more sets its own slot, with its place for a generation, and leaves the others
 abbrev pub IsSetByNext : Type 0
 IsSetByNext = (history : List Publish) (slot : ℕ) (program : Judge) (k : ℕ) → 0 < length history
-    → published (history ++ entry slot program ∷ []) k ≡ cond (slot == k) (Some (program, length history)) (published history k)
+    → published (extended history slot program) k ≡ cond (slot == k) (Some (program, length history)) (published history k)
 
 -- none of these was published for the slot
 abbrev pub AreOthers : ℕ → List Publish → Type 0

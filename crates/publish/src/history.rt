@@ -1,9 +1,9 @@
 //! The history of a node's programs. It exists in proofs alone: what is kept is its length.
 
-ghost use Rattle.std.specs.Prelude.{◌≡◌, ◌<◌, ◌≤◌, ◌^◌, ◌++◌, ◌∷◌, [], length, MatchBool};
+ghost use Rattle.std.specs.Prelude.{◌≡◌, ◌<◌, ◌≤◌, ◌^◌, [], length, true, false};
 ghost use Rattle.std.specs.Arc.{arc_value};
 ghost use mathlib.Core.List.{IsPrefix};
-ghost use Rattle.publish.specs.Histories.{entry};
+ghost use Rattle.publish.specs.Histories.{extended};
 ghost use Rattle.publish.specs.Reached.{reached};
 
 use bver::Accepted;
@@ -194,7 +194,9 @@ impl Front {
     pub(crate) fn add(&mut self, history: &History, publish: &(u8, Arc<Accepted>)) -> bool
         requires here { history.now ≡ self.old.room }
         requires room { length self.old.programs < 2 ^ 62 }
-        ensures { MatchBool result (self.new ≡ reached self.old.room (self.old.programs ++ entry publish.now.0 (arc_value publish.now.1) ∷ [])) (self.new ≡ self.old) }
+        ensures room { self.new.room ≡ self.old.room }
+        ensures added { result ≡ true → self.new.programs ≡ extended self.old.programs publish.now.0 (arc_value publish.now.1) }
+        ensures same { result ≡ false → self.new ≡ self.old }
     {
         let mut seen = self.seen.again();
         let mut offer: Offer<Publish, u64, Counted, Nothing> = seen.plain::<

@@ -1,8 +1,8 @@
 //! What changes the table of programs.
 
-ghost use Rattle.std.specs.Prelude.{◌≡◌, ◌<◌, ◌≤◌, ◌^◌, ◌++◌, ◌∷◌, [], length, drop, fold, MatchResult, IfErr, Err};
+ghost use Rattle.std.specs.Prelude.{◌≡◌, ◌<◌, ◌≤◌, ◌^◌, [], length, drop, fold, IfOk, OnOk, OnErr, IfErr, Err};
 ghost use mathlib.Core.List.{IsPrefix};
-ghost use Rattle.publish.specs.Histories.{entry};
+ghost use Rattle.publish.specs.Histories.{extended};
 ghost use Rattle.publish.specs.Published.{sizes_of};
 ghost use Rattle.publish.specs.Reached.{reached};
 
@@ -69,7 +69,9 @@ impl<J: Room, R: Wait + Drop> Publisher<J, R> {
     /// refused. What is published stays as it was.
     pub fn install(&mut self, slot: u8, program: Accepted) -> Result<Told<J>, PublishFault>
         requires { program.sizes ≡ sizes_of self.old }
-        ensures published { MatchResult result (λ told. (self.new ≡ self.old ++ entry slot program ∷ []) × (told ≡ self.new)) (λ _. self.new ≡ self.old) }
+        ensures published { OnOk result (self.new ≡ extended self.old slot program) }
+        ensures told { IfOk result (λ told. told ≡ self.new) }
+        ensures same { OnErr result (self.new ≡ self.old) }
         ensures slot { 3 < slot → result ≡ Err PublishFault.Slot }
         ensures full { slot ≤ 3 → 2 ^ 32 ≤ length self.old → result ≡ Err PublishFault.GenerationsFull }
         ensures memory { slot ≤ 3 → length self.old < 2 ^ 32 → IfErr result (λ fault. fault ≡ PublishFault.Memory) }

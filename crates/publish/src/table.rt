@@ -1,8 +1,8 @@
 //! The table of programs that readers take.
 
-ghost use Rattle.std.specs.Prelude.{◌≡◌, ◌<◌, ◌≤◌, ◌^◌, ◌++◌, ◌∷◌, [], length, IfOk, Some};
+ghost use Rattle.std.specs.Prelude.{◌≡◌, ◌<◌, ◌≤◌, ◌^◌, ◌∷◌, [], length, IfOk, Some};
 ghost use Rattle.std.specs.Arc.{arc_value};
-ghost use Rattle.publish.specs.Histories.{entry};
+ghost use Rattle.publish.specs.Histories.{entry, extended};
 ghost use Rattle.publish.specs.Published.{published, sizes_of};
 ghost use Rattle.publish.specs.Tables.{all_shown, shown};
 
@@ -86,7 +86,7 @@ impl Table {
     pub(crate) fn put(&mut self, slot: u8, program: Arc<Accepted>, front: Front)
         requires slot { slot < 4 }
         requires few { length self.old.programs < 2 ^ 32 }
-        requires front { front.programs ≡ self.old.programs ++ entry slot (arc_value program) ∷ [] }
+        requires front { front.programs ≡ extended self.old.programs slot (arc_value program) }
         requires sizes { (arc_value program).sizes ≡ sizes_of self.old.programs }
         ensures { self.new ≡ front }
     {
