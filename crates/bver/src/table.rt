@@ -1,8 +1,9 @@
 //! What is known at each slot of a program.
 
-ghost use Rattle.std.specs.Prelude.{◌≡◌, ◌≢◌, ◌<◌, ℕ, IfOk, Some, None, length, if◌then◌else◌};
+ghost use Rattle.std.specs.Prelude.{◌≡◌, ◌≢◌, ◌<◌, ℕ, IfOk, IfSome, Some, None, length, if◌then◌else◌};
 ghost use Rattle.bver.specs.Justified.{IsCovered, IsCoveredIfAny};
-ghost use Rattle.bver.specs.Passing.{IsGrown, IsLeast, known_in};
+ghost use Rattle.absdom.specs.Growth.{IsWhole};
+ghost use Rattle.bver.specs.Passing.{AreWhole, IsGrown, IsLeast, known_in};
 
 use absdom::{State, join_is_least, order_of_states};
 use std::alloc::{AllocError, Global};
@@ -40,9 +41,11 @@ impl Known {
         ensures state { IsCovered state.now self.new }
         ensures known { IsCoveredIfAny self.old self.new }
         ensures least { IsLeast self.old state.now self.new }
+        ensures whole { IfSome self.new IsWhole }
     {
         order_of_states();
         join_is_least();
+        state.stands_whole();
         if self.is_known {
             self.state.join(state);
         } else {
@@ -104,6 +107,8 @@ impl Table {
         ensures least { IsLeast (known_in self.old slot) state.now (known_in self.new slot) }
         ensures grown { IsGrown self.old self.new }
         ensures others { (k : ℕ) → k ≢ slot → known_in self.new k ≡ known_in self.old k }
+        ensures whole { IfSome (known_in self.new slot) IsWhole }
+        ensures all_whole { AreWhole self.old → AreWhole self.new }
     {
         order_of_states();
         self.states[usize::from(slot)].include(state);
