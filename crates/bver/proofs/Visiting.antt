@@ -22,6 +22,7 @@ extended_twice transitive p slot old mid new f g = record {
   };
   kept = λ k before. g.kept k before ∙ f.kept k before;
   placed = λ placed. g.placed (f.placed placed);
+  whole = λ whole. g.whole (f.whole whole);
 }
 
 -- after the visit of a slot
@@ -30,6 +31,7 @@ visited_next transitive p sizes old new regions slot region v f permitted access
   size = f.grown.size ∙ v.size;
   entered = subst IsEntered (sym (f.kept 0 (omega arith))) v.entered;
   placed = f.placed v.placed;
+  whole = f.whole v.whole;
   permitted = below_more (λ (k : ℕ). IsPermittedAt sizes (known_in new) k (known_in new k) (insn_at p k)) slot (λ k below. earlier k below) permitted;
   resolved = below_more (λ (k : ℕ). slice_index_or (slice_set regions slot region) k None ≡ accessed_at (known_in new k) (insn_at p k)) slot
       (λ k below.
@@ -60,6 +62,7 @@ judged p sizes table regions limits form v = record {
     formed = form;
     table = known_in table;
     entered = v.entered;
+    whole = v.whole;
     permitted = λ slot.
         elim (cases_lt slot (length p.slots)) [
           | inl below ↦ v.permitted slot below

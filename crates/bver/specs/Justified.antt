@@ -1,7 +1,7 @@
 -- When a program may judge (a choice of this project, since RFC 9669 leaves verification to the
 -- implementation): it has its form, and there is a table of what is known at its slots under which no
 -- instruction can go wrong.
-use Rattle.std.specs.Prelude.{◌≡◌, ℕ, ◌+◌, ℤ, pos, negsuc, List, Option, Some, None, Result, Ok, Err, IsTrue, slice_index_or}
+use Rattle.std.specs.Prelude.{◌≡◌, ℕ, ◌+◌, ℤ, pos, negsuc, List, Option, Some, None, Result, Ok, Err, IsTrue, IfSome, slice_index_or}
 use Rattle.bpf.specs.Program.{Program, IsProgram}
 use Rattle.bpf_insn.specs.declared.insn.Insn.{Insn}
 use Rattle.bpf_insn.specs.declared.insn.Insn.TheVariants.{Alu, Negate, MoveSigned, ByteSwap, Load, Store, Jump, Goto, Wide, LoadMap, LoadAddress, Call, Exit}
@@ -14,6 +14,7 @@ use Rattle.absdom.specs.declared.kinds.AbsKind.TheVariants.{Unset, Num, Ptr, Map
 use Rattle.absdom.specs.Knowledge.{Knowledge, IsEntry, IsBelow, kind_at}
 use Rattle.absdom.specs.Effect.{applied}
 use Rattle.absdom.specs.Edges.{Edges, refined_edges}
+use Rattle.absdom.specs.Growth.{IsWhole}
 use Rattle.bver_form.specs.Form.{IsFormed, target}
 
 -- ---- what is known along an edge, and where it leads
@@ -89,13 +90,14 @@ pub record IsEntered (there : Option Knowledge) : Type 0 where
 
 -- ---- justified
 
--- the program has its form, and there is a table that covers the entry and permits the instruction at
--- each of its states
+-- the program has its form, and there is a table of whole states that covers the entry and permits the
+-- instruction at each of them
 pub record IsJustified (program : Program) (sizes : List ℕ) : Type 0 where
   pub limits : IsProgram program
   pub formed : IsFormed program
   pub table : ℕ → Option Knowledge
   pub entered : IsEntered (table 0)
+  pub whole : (slot : ℕ) → IfSome (table slot) IsWhole
   pub permitted : (slot : ℕ) → IsPermittedAt sizes table slot (table slot) (insn_at program slot)
 
 -- ---- the region of an access

@@ -1,5 +1,5 @@
 -- How the verifier's table grows while it passes over the slots.
-use Rattle.std.specs.Prelude.{◌≡◌, ◌<◌, ◌≤◌, ℕ, ◌+◌, List, length, slice_index_or, Option, Some, None, IsSome}
+use Rattle.std.specs.Prelude.{◌≡◌, ◌<◌, ◌≤◌, ℕ, ◌+◌, List, length, slice_index_or, Option, Some, None, IsSome, IfSome}
 use Rattle.bpf.specs.Program.{Program}
 use Rattle.bpf_insn.specs.declared.insn.Insn.{Insn}
 use Rattle.bpf_insn.specs.declared.insn.Insn.TheVariants.{Alu, Negate, MoveSigned, ByteSwap, Load, Store, Jump, Goto, Wide, LoadMap, LoadAddress, Call, Exit}
@@ -7,6 +7,7 @@ use Rattle.bpf_insn.specs.Spelling.{slots_of}
 use Rattle.machine.specs.declared.regions.Region.{Region}
 use Rattle.machine.specs.Step.{insn_at}
 use Rattle.absdom.specs.Knowledge.{Knowledge, IsBelow}
+use Rattle.absdom.specs.Growth.{IsWhole}
 use Rattle.bver.specs.Justified.{IsCoveredIfAny, IsEntered, IsPermittedAt, accessed_at}
 
 -- what is known at a slot, in a list by slot
@@ -26,11 +27,16 @@ IsLeast old edge new = (above : Knowledge) → IsCoveredIfAny old (Some above) �
 abbrev pub IsPlaced : Program → List (Option Knowledge) → Type 0
 IsPlaced p table = (slot : ℕ) → IsSome (known_in table slot) → IsSome (insn_at p slot)
 
+-- what is known is whole
+abbrev pub AreWhole : List (Option Knowledge) → Type 0
+AreWhole table = (slot : ℕ) → IfSome (known_in table slot) IsWhole
+
 -- the table grew at slots after this one alone, where instructions begin
 pub record IsExtended (p : Program) (slot : ℕ) (old new : List (Option Knowledge)) : Type 0 where
   pub grown : IsGrown old new
   pub kept : (k : ℕ) → k ≤ slot → known_in new k ≡ known_in old k
   pub placed : IsPlaced p old → IsPlaced p new
+  pub whole : AreWhole old → AreWhole new
 
 -- a slot of the table, after this one, where an instruction begins. A program has at most 512 slots
 pub record IsLater (p : Program) (slot : ℕ) (table : List (Option Knowledge)) (later : ℕ) : Type 0 where
@@ -64,12 +70,14 @@ pub record AreEntered (p : Program) (table : List (Option Knowledge)) : Type 0 w
   pub size : length table ≡ length p.slots
   pub entered : IsEntered (known_in table 0)
   pub placed : IsPlaced p table
+  pub whole : AreWhole table
 
 -- the slots before this one were visited: what is permitted there, and which regions they access
 pub record AreVisited (p : Program) (sizes : List ℕ) (table : List (Option Knowledge)) (regions : List (Option Region)) (slot : ℕ) : Type 0 where
   pub size : length table ≡ length p.slots
   pub entered : IsEntered (known_in table 0)
   pub placed : IsPlaced p table
+  pub whole : AreWhole table
   pub permitted : (k : ℕ) → k < slot → IsPermittedAt sizes (known_in table) k (known_in table k) (insn_at p k)
   pub resolved : (k : ℕ) → k < slot → slice_index_or regions k None ≡ accessed_at (known_in table k) (insn_at p k)
   pub ahead : (k : ℕ) → slot ≤ k → slice_index_or regions k None ≡ None
