@@ -25,56 +25,51 @@ pub fn disassemble(alloc: Global, image: &Image) -> Result<String, AllocError>
     ensures text { IfOk result (λ text. IsText (string_bytes text) image.now) }
 {
     let mut text = String::new(alloc);
-    print_budget(alloc, &mut text, image.budget())?;
-    print_loops(alloc, &mut text, image.loops())?;
-    print_slots(alloc, &mut text, image)?;
+    print_budget(&mut text, image.budget())?;
+    print_loops(&mut text, image.loops())?;
+    print_slots(&mut text, image)?;
     Ok(text)
 }
 
-fn print_budget(alloc: Global, text: &mut String, budget: u32) -> Result<(), AllocError>
+fn print_budget(text: &mut String, budget: u32) -> Result<(), AllocError>
     ensures { OnOk result (string_bytes text.new ≡ string_bytes text.old ++ budget_line budget) }
 {
-    let line = format!(in alloc; ".budget {budget}\n")?;
-    text.push_str(&line)
+    writeln!(text, ".budget {budget}")
 }
 
-fn print_loops(alloc: Global, text: &mut String, loops: &[Loop]) -> Result<(), AllocError>
+fn print_loops(text: &mut String, loops: &[Loop]) -> Result<(), AllocError>
     ensures { OnOk result (string_bytes text.new ≡ string_bytes text.old ++ flat_map loop_line loops.now) }
 {
     for found in loops {
-        print_loop(alloc, text, found)?;
+        print_loop(text, found)?;
     }
     Ok(())
 }
 
-fn print_loop(alloc: Global, text: &mut String, found: &Loop) -> Result<(), AllocError>
+fn print_loop(text: &mut String, found: &Loop) -> Result<(), AllocError>
     ensures { OnOk result (string_bytes text.new ≡ string_bytes text.old ++ loop_line found.now) }
 {
     let head = found.head;
     let back = found.back;
     let bound = found.bound;
     let register = found.register;
-    let line = format!(in alloc; ".loop {head}, {back}, {bound}, {register}\n")?;
-    text.push_str(&line)
+    writeln!(text, ".loop {head}, {back}, {bound}, {register}")
 }
 
-fn print_slots(alloc: Global, text: &mut String, image: &Image) -> Result<(), AllocError>
+fn print_slots(text: &mut String, image: &Image) -> Result<(), AllocError>
     ensures { OnOk result (string_bytes text.new ≡ string_bytes text.old ++ flat_map slot_line image.now.slots) }
 {
     for slot in 0..image.slots() {
-        print_slot(alloc, text, image.insn(slot))?;
+        print_slot(text, image.insn(slot))?;
     }
     Ok(())
 }
 
-fn print_slot(alloc: Global, text: &mut String, insn: Option<Insn>) -> Result<(), AllocError>
+fn print_slot(text: &mut String, insn: Option<Insn>) -> Result<(), AllocError>
     ensures { OnOk result (string_bytes text.new ≡ string_bytes text.old ++ slot_line insn) }
 {
     match insn {
-        Some(insn) => {
-            let line = format!(in alloc; "{insn}\n")?;
-            text.push_str(&line)
-        }
+        Some(insn) => writeln!(text, "{insn}"),
         None => Ok(()),
     }
 }
