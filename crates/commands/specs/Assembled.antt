@@ -1,5 +1,5 @@
 -- What the job `asm` reads, writes and prints.
-use Rattle.std.specs.Prelude.{◌≡◌, ℕ, List, Option, Some, None, Bool, true, false}
+use Rattle.std.specs.Prelude.{◌≡◌, ℕ, List, Option, Some, Bool, true, false}
 use Rattle.std.specs.Io.KnownBytes.{Appends}
 use Rattle.bpf.specs.Program.{Program, image_bytes}
 use Rattle.basm.specs.Outcomes.{out_of_memory}

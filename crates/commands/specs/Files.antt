@@ -1,5 +1,5 @@
 -- Files as a job sees them: what its reads gave, and what its writes took.
-use Rattle.std.specs.Prelude.{◌≡◌, ℕ, List, Option, Some, None, IfSome, Bool}
+use Rattle.std.specs.Prelude.{◌≡◌, ℕ, List, Option, Some, IfSome, Bool}
 use Rattle.std.specs.Str.{IsUtf8}
 use Rattle.bpf.specs.Program.{Program, IsProgram, image_bytes}
 

@@ -8,6 +8,7 @@ pub mod Files
 pub mod JobNode
 pub mod JudgeJob
 pub mod Judging
+pub mod Lines
 pub mod Printed
 pub mod Reading
 pub mod Statuses

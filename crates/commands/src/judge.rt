@@ -10,7 +10,8 @@ ghost use Rattle.bpf.specs.Program.{image_bytes};
 ghost use Rattle.commands.specs.Arguments.{Lacks};
 ghost use Rattle.commands.specs.JudgeJob.{NamesJudge, discard_line, judge_app, reply_line};
 ghost use Rattle.commands.specs.Judging.{HoldsNoProgram, HoldsProgram, IsLineFault, IsNoFactory, IsNotJudged, factory_image};
-ghost use Rattle.commands.specs.Stopping.{IsBadPacket, StopsBy};
+ghost use Rattle.commands.specs.Lines.{IsBadPacket, Judges, served_line};
+ghost use Rattle.commands.specs.Stopping.{StopsBy};
 ghost use Rattle.commands.specs.declared.faults.Fault.TheVariants.{NoMemory};
 
 use crate::arguments::{file, name_of, text_of};
@@ -28,7 +29,7 @@ use rmap::Discard;
 use spw::read_line;
 use std::alloc::{AllocError, Global};
 use std::io::{self, Write};
-use target::Served;
+use target::{Served, Stop as Header};
 
 /// The image that judges where no other is named. Its program is `mov r0, 0; exit`: yes to every
 /// command.
@@ -120,6 +121,25 @@ fn print_reply<'a, W: Write>(
     Ok(())
 }
 
+/// Prints what became of a packet, with the reply that was due.
+fn print_served<'a, W: Write>(
+    alloc: Global,
+    out: &mut W,
+    port: u8,
+    served: Served,
+    reply: &[u8],
+) -> Result<(), Stop<'a>>
+    ensures printed { OnOk result (Appends (W.contents out.old) (W.contents out.new) (served_line port served reply.now)) }
+    ensures stops { IfErr result (StopsBy (λ fault. fault ≡ NoMemory)) }
+{
+    match served {
+        Served::Stopped(Header::Discarded(discard)) => Ok(print_discard(out, port, discard)?),
+        Served::Stopped(Header::Answered(_)) | Served::Unread | Served::Done(_) => {
+            print_reply(alloc, out, port, reply)
+        }
+    }
+}
+
 /// Judges the packet of one line, and prints what comes of it. `number` is that of the line.
 fn judge_line<'a, W: Write>(
     alloc: Global,
@@ -128,14 +148,12 @@ fn judge_line<'a, W: Write>(
     number: usize,
     out: &mut W,
 ) -> Result<(), Stop<'a>>
-    ensures stops { IfErr result (StopsBy (IsBadPacket number)) }
+    ensures judged { OnOk result (Judges line.now node.old node.new (W.contents out.old) (W.contents out.new)) }
+    ensures stops { IfErr result (StopsBy (IsBadPacket line.now number node.old node.new (W.contents out.old) (W.contents out.new))) }
 {
     let (port, packet) = read_line(alloc, line).map_err(|fault| Fault::unread(number, fault))?;
     let served = node.serve(port, packet).ok_or(Fault::no_port(number))?;
-    match served {
-        Served::Stopped(target::Stop::Discarded(discard)) => Ok(print_discard(out, port, discard)?),
-        _ => print_reply(alloc, out, port, node.reply()),
-    }
+    Ok(print_served(alloc, out, port, served, node.reply())?)
 }
 
 /// Judges each line of a text in turn. A line is ended by a line feed, which the last may lack.

@@ -1,0 +1,87 @@
+-- The packet lines of a text, and what is printed of each.
+use Rattle.std.specs.Prelude.{◌≡◌, ◌≢◌, ◌⊎◌, ℕ, ◌+◌, ◌^◌, ◌-◌, min, List, [], ◌∷◌, ◌++◌, length, Option}
+use Rattle.std.specs.Io.KnownBytes.{Appends}
+use Rattle.spw.specs.Cargo.{Cargo}
+use Rattle.spw.specs.Fault.{code_of}
+use Rattle.spw.specs.Line.{HasFault, IsPacketLine}
+use Rattle.spw.specs.declared.faults.LineFault.{LineFault}
+use Rattle.spw.specs.declared.faults.LineFault.TheVariants as line_faults
+use Rattle.target.specs.Serving.{IsServed}
+use Rattle.target.specs.declared.serving.Served.{Served}
+use Rattle.target.specs.declared.serving.Served.TheVariants.{Stopped, Unread, Done}
+use Rattle.target.specs.declared.stop.Stop.TheVariants.{Discarded, Answered}
+use Rattle.commands.specs.JobNode.{JobNodeValue}
+use Rattle.commands.specs.JudgeJob.{discard_line, reply_line}
+use Rattle.commands.specs.declared.faults.Fault.{Fault}
+use Rattle.commands.specs.declared.faults.Fault.TheVariants.{CannotRead, CannotWrite, NoMemory, BadText, BadImage, Unfit, BadLine}
+
+-- the line that is printed of what became of a packet, with the reply that was due
+abbrev pub served_line : (port : ℕ) → Served → (reply : List ℕ) → List ℕ
+served_line port (Stopped (Discarded discard)) reply = discard_line port discard
+served_line port (Stopped (Answered status)) reply = reply_line port reply
+served_line port Unread reply = reply_line port reply
+served_line port (Done applied) reply = reply_line port reply
+
+-- the line writes a packet of the node's port, the node served it, and what came of it was printed
+pub record Judges (line : List ℕ) (before after : JobNodeValue) (old new : Option (List ℕ)) : Type 0 where
+  pub port : ℕ
+  pub packet : Cargo
+  pub served : Served
+  pub written : IsPacketLine line port packet
+  pub own_port : port ≡ before.holder.port
+  pub step : IsServed served packet before.banks after.banks before.holder after.holder after.reply
+  pub printed : Appends old new (served_line port served after.reply)
+
+-- the lines were judged in turn, each on the node that the earlier ones left
+abbrev pub JudgesAll : List (List ℕ) → (before after : JobNodeValue) → (old new : Option (List ℕ)) → Type 0
+JudgesAll [] before after old new = (after ≡ before) × (new ≡ old)
+JudgesAll (line ∷ lines) before after old new =
+    (next : JobNodeValue) × (between : Option (List ℕ)) × Judges line before next old between × JudgesAll lines next after between new
+
+-- the number of the line behind so many, from 1 to the largest that there is
+abbrev pub line_number : ℕ → ℕ
+line_number count = min (count + 1) (2 ^ 64 - 1)
+
+-- the line writes a packet of a port that the node does not have
+pub record HasNoPort (line : List ℕ) (node : JobNodeValue) : Type 0 where
+  pub port : ℕ
+  pub packet : Cargo
+  pub written : IsPacketLine line port packet
+  pub other : port ≢ node.holder.port
+
+-- the number of the fault of a line: it is no packet line, or it has no port of the node
+abbrev pub IsBad : List ℕ → JobNodeValue → ℕ → Type 0
+IsBad line node code =
+    ((fault : LineFault) × (code ≡ code_of fault) × ((fault ≡ line_faults.Memory) ⊎ HasFault line fault))
+    ⊎ ((code ≡ 6) × HasNoPort line node)
+
+-- the line of this number is bad, and nothing came of it; or memory was refused
+abbrev pub IsBadPacket : List ℕ → ℕ → (before after : JobNodeValue) → (old new : Option (List ℕ)) → Fault → Type 0
+IsBadPacket line count before after old new (CannotRead file) = ⊥
+IsBadPacket line count before after old new (CannotWrite file) = ⊥
+IsBadPacket line count before after old new NoMemory = Unit {0}
+IsBadPacket line count before after old new (BadText fault) = ⊥
+IsBadPacket line count before after old new (BadImage fault) = ⊥
+IsBadPacket line count before after old new (Unfit refused) = ⊥
+IsBadPacket line count before after old new (BadLine number code) =
+    (number ≡ count) × IsBad line before code × (after ≡ before) × (new ≡ old)
+
+-- the lines up to a bad one were judged in turn, and the bad one, whose number and fault these are, was not
+pub record StopsAt (lines : List (List ℕ)) (before after : JobNodeValue) (old new : Option (List ℕ)) (number code : ℕ) : Type 0 where
+  pub judged : List (List ℕ)
+  pub line : List ℕ
+  pub rest : List (List ℕ)
+  pub lines_are : lines ≡ judged ++ line ∷ rest
+  pub all : JudgesAll judged before after old new
+  pub counted : number ≡ line_number (length judged)
+  pub bad : IsBad line after code
+
+-- a line is bad, or memory was refused
+abbrev pub IsBadLine : List (List ℕ) → (before after : JobNodeValue) → (old new : Option (List ℕ)) → Fault → Type 0
+IsBadLine lines before after old new (CannotRead file) = ⊥
+IsBadLine lines before after old new (CannotWrite file) = ⊥
+IsBadLine lines before after old new NoMemory = Unit {0}
+IsBadLine lines before after old new (BadText fault) = ⊥
+IsBadLine lines before after old new (BadImage fault) = ⊥
+IsBadLine lines before after old new (Unfit refused) = ⊥
+IsBadLine lines before after old new (BadLine number code) = StopsAt lines before after old new number code
