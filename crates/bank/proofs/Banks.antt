@@ -14,8 +14,8 @@ use Rattle.rmap.specs.declared.status.Status.{Status}
 use Rattle.rmap.specs.Command.{Parts, command_kind, command_of}
 use Rattle.rmap.specs.Ranges.{lies_inside}
 use Rattle.bank.specs.Effect.{Memory, effect_of, effect}
-use Rattle.bank.specs.Answer.{is_success, effect_at}
-use Rattle.bank.specs.Records.{Contents, Turn, Judgement, Logged, IsBank, memory_of, base_of, replay, redone, numbers_of, logged, fits, is_next}
+use Rattle.bank.specs.Answer.{is_success, effect_at, status_of}
+use Rattle.bank.specs.Records.{Contents, Turn, Judgement, Logged, IsBank, memory_of, base_of, replay, redone, numbers_of, logged, fits, is_next, extent_of, applied, recorded, answer_of, has_room}
 
 -- a command leaves as many bytes as there were
 effect_of-length : (kind : Kind) (m : Memory) (c : Parts) → length (effect_of kind m c).memory.bytes ≡ length m.bytes
@@ -27,6 +27,14 @@ effect_of-length Unused m c = refl
 effect_at-length : (status : Status) (m : Memory) (c : Parts) → length (effect_at status m c).memory.bytes ≡ length m.bytes
 effect_at-length status m c =
     elim (is_success status) as (λ b. length (if b then effect m c else record { memory = m; reply = [] }).memory.bytes ≡ length m.bytes) [ true ↦ effect_of-length (command_kind c) m c | false ↦ refl ]
+
+pub extent_stays : (b : Contents) (share : Turn) (judged : Judgement) → extent_of (applied b share judged) ≡ extent_of b
+extent_stays b share judged =
+    let status = status_of (has_room b judged.port) (command_of judged.packet) judged.verdict in
+    elim (has_room b judged.port) as (λ room. extent_of (if room then recorded b share judged (answer_of b judged) else b) ≡ extent_of b) [
+      | true ↦ ap (λ (n : ℕ). (b.first, n)) (effect_at-length status (memory_of b) (command_of judged.packet))
+      | false ↦ refl
+    ]
 
 -- one more entry is one more step of the replay
 replay_more : (base m : Memory) (entries : List Logged) (e : Logged) → m ≡ replay base entries → redone m e ≡ replay base (entries ++ e ∷ [])

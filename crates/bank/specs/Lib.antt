@@ -4,3 +4,4 @@ pub mod Answer
 pub mod Records
 pub mod Codes
 pub mod Limits
+pub mod Laws

@@ -64,6 +64,10 @@ replay base entries = fold redone base entries
 abbrev pub memory_of : Contents → Memory
 memory_of b = record { first = b.first; bytes = b.bytes }
 
+-- where a bank lies: the address of its first byte, and how many bytes it has
+abbrev pub extent_of : Contents → ℕ × ℕ
+extent_of b = (b.first, length b.bytes)
+
 -- the byte at an address, of the bytes from the first address on
 abbrev pub byte_in : (first : ℕ) → List ℕ → (address : ℕ) → Option ℕ
 byte_in first bytes address = if nat_le first address then slice_get bytes (address - first) else None

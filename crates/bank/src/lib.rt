@@ -12,6 +12,7 @@ mod entry;
 mod faults;
 mod journal;
 mod judged;
+mod laws;
 mod share;
 
 pub use admitted::Admitted;
@@ -20,4 +21,5 @@ pub use entry::Entry;
 pub use faults::BankFault;
 pub use journal::{Journal, MAX_ROOM};
 pub use judged::Judged;
+pub use laws::extents_stay;
 pub use share::Share;

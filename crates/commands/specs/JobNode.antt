@@ -1,10 +1,11 @@
 -- The node that the jobs run, with its one port.
-use Rattle.std.specs.Prelude.{◌≡◌, ℕ, List, [], ◌∷◌, length}
+use Rattle.std.specs.Prelude.{ℕ, List, [], ◌∷◌}
 use Rattle.bank.specs.Records.{Contents}
 use Rattle.bver.specs.Justified.{Judge}
 use Rattle.target.specs.declared.config.BankConfig.{BankConfig}
 use Rattle.target.specs.Making.{bank_of, first_pass}
 use Rattle.target.specs.Passes.{Holder}
+use Rattle.target.specs.Pairs.{IsPaired}
 
 -- the node's banks, what its port has of it, and the reply to the last packet
 pub record JobNodeValue : Type 0 where
@@ -12,9 +13,9 @@ pub record JobNodeValue : Type 0 where
   pub holder : Holder
   pub reply : List ℕ
 
--- the port has a share of each bank of this node
+-- banks and port were made together, or are as packets left them
 pub record IsJobNode (s : JobNodeValue) : Type 0 where
-  pub shares : length s.holder.shares ≡ length s.banks
+  pub paired : IsPaired s.banks s.holder
 
 -- logical address FE, and one bank of 65,536 zero bytes at A0000000 with room for 1,024 entries
 abbrev pub own_bank : BankConfig

@@ -6,7 +6,7 @@ use Rattle.spw.specs.Fault.{code_of}
 use Rattle.spw.specs.Line.{HasFault, IsPacketLine}
 use Rattle.spw.specs.declared.faults.LineFault.{LineFault}
 use Rattle.spw.specs.declared.faults.LineFault.TheVariants as line_faults
-use Rattle.target.specs.Serving.{IsServed}
+use Rattle.target.specs.Serving.{IsAnswered}
 use Rattle.target.specs.declared.serving.Served.{Served}
 use Rattle.target.specs.declared.serving.Served.TheVariants.{Stopped, Unread, Done}
 use Rattle.target.specs.declared.stop.Stop.TheVariants.{Discarded, Answered}
@@ -29,7 +29,7 @@ pub record Judges (line : List ℕ) (before after : JobNodeValue) (old new : Opt
   pub served : Served
   pub written : IsPacketLine line port packet
   pub own_port : port ≡ before.holder.port
-  pub step : IsServed served packet before.banks after.banks before.holder after.holder after.reply
+  pub step : IsAnswered served packet before.banks after.banks before.holder after.holder after.reply
   pub printed : Appends old new (served_line port served after.reply)
 
 -- the lines were judged in turn, each on the node that the earlier ones left

@@ -1,7 +1,7 @@
 //! The node that the jobs run.
 
 ghost use Rattle.std.specs.Prelude.{◌≡◌, ◌≢◌, [], None, IfErr, IfOk, IfSome};
-ghost use Rattle.target.specs.Serving.{IsServed};
+ghost use Rattle.target.specs.Serving.{IsAnswered};
 ghost use Rattle.commands.specs.JobNode.{fresh_job_node};
 ghost use Rattle.commands.specs.declared.faults.Fault.TheVariants.{NoMemory};
 
@@ -68,14 +68,15 @@ impl JobNode {
 
     /// What becomes of a packet that comes in at a port, or `None` where there is no such port.
     pub fn serve(&mut self, port: u8, packet: Packet) -> Option<Served>
-        ensures served { IfSome result (λ served. IsServed served packet self.old.banks self.new.banks self.old.holder self.new.holder self.new.reply) }
+        ensures served { IfSome result (λ served. IsAnswered served packet self.old.banks self.new.banks self.old.holder self.new.holder self.new.reply) }
         ensures no_port { port ≢ self.old.holder.port → (result ≡ None) × (self.new ≡ self.old) }
         ensures own_port { port ≡ self.old.holder.port → result ≢ None }
     {
         if port != self.pass.port() {
             return None;
         }
-        Some(serve_packet(&mut self.node, &mut self.pass, packet, &mut self.reply))
+        let banks = self.node.plain_banks_mut();
+        Some(serve_packet(banks, &mut self.pass, packet, &mut self.reply))
     }
 
     /// The reply to the last packet that was served; no bytes where none is due.

@@ -65,7 +65,7 @@ pub extern "C" fn speed_judge(alloc: Global, image: &[u8], bytes: &[u8], count: 
     let mut reply = ReplyBuf::new();
     let mut sum: u64 = 0;
     for packet in packets {
-        let _served = serve_packet(&mut node, &mut pass, packet, &mut reply);
+        let _served = serve_packet(node.plain_banks_mut(), &mut pass, packet, &mut reply);
         sum = sum.wrapping_add(reply.bytes().len() as u64);
     }
     sum

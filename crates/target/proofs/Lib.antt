@@ -1,2 +1,4 @@
 pub mod Places
 pub mod Makings
+pub mod Pairings
+pub mod Services

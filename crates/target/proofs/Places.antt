@@ -21,7 +21,7 @@ no_register Rmw c = refl
 no_register Unused c = refl
 
 -- the boot window is no bank
-no_bank : (c : Parts) → is_in_bank (bank_place None c) ≡ false
+pub no_bank : (c : Parts) → is_in_bank (bank_place None c) ≡ false
 no_bank c = either (eqb (extended_of c) 255) (boot_place c) None (either (is_staged c) (Some Staging) (register_of (command_kind c) c) refl (no_register (command_kind c) c)) refl
 
 in_bank : (k : ℕ) (b : Bool) (place : Place) → cond b (Some (Bank k)) None ≡ Some place → place ≡ Bank k
@@ -44,6 +44,10 @@ number_of (Bank k) = k
 number_of Staging = 0
 number_of LoadResult = 0
 number_of Control = 0
+
+pub same_bank : (n k : ℕ) → Bank n ≡ Bank k → n ≡ k
+unfolding number_of
+same_bank n k e = ap number_of e
 
 pub below : (place : Place) (k n : ℕ) → place ≡ Bank k → IsBankBelow place n → k < n
 unfolding number_of

@@ -5,3 +5,4 @@ pub mod Making
 pub mod Endings
 pub mod Lending
 pub mod Serving
+pub mod Pairs

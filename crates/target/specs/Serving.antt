@@ -4,7 +4,7 @@ use Rattle.spw.specs.Cargo.{Cargo}
 use Rattle.rmap.specs.declared.places.Place.TheVariants.{Bank}
 use Rattle.rmap.specs.Command.{command_of}
 use Rattle.bank.specs.declared.bank.Applied.{Applied}
-use Rattle.bank.specs.Records.{Contents, Judgement, fits}
+use Rattle.bank.specs.Records.{Contents, Turn, Judgement, fits}
 use Rattle.target.specs.declared.serving.Served.{Served}
 use Rattle.target.specs.declared.serving.Served.TheVariants.{Stopped, Unread, Done}
 use Rattle.target.specs.Passes.{Holder}
@@ -16,8 +16,17 @@ pub record IsUntouched (old new : List Contents) (holder after : Holder) : Type 
   pub node : new ≡ old
   pub holder_after : after ≡ holder
 
--- the command was judged, and applied to the bank of its place alone
-pub record IsDone (old new : List Contents) (holder after : Holder) (p : Cargo) (result : Applied) (bytes : List ℕ) : Type 0 where
+-- a way in which a command can end at its bank
+abbrev pub Ending : Type 1
+Ending = Contents → Contents → Turn → Holder → Holder → Judgement → Applied → List ℕ → Type 0
+
+-- the command is applied where it fits, else refused
+pub record IsEnded (before behind : Contents) (share : Turn) (holder after : Holder) (judged : Judgement) (result : Applied) (bytes : List ℕ) : Type 0 where
+  pub applied : fits before share judged ≡ true → IsApplied before behind share holder after judged result bytes
+  pub refused : fits before share judged ≡ false → IsRefused before behind holder after judged result bytes
+
+-- the command was judged, and ended so at the bank of its place alone
+pub record IsDone (Ends : Ending) (old new : List Contents) (holder after : Holder) (p : Cargo) (result : Applied) (bytes : List ℕ) : Type 0 where
   pub judged : Judgement
   pub number : ℕ
   pub before : Contents
@@ -26,11 +35,19 @@ pub record IsDone (old new : List Contents) (holder after : Holder) (p : Cargo) 
   pub place : judged.place ≡ Bank number
   pub bank : slice_get old number ≡ Some before
   pub node : new ≡ slice_set old number behind
-  pub applied : fits before (share_of holder judged.place) judged ≡ true → IsApplied before behind (share_of holder judged.place) holder after judged result bytes
-  pub refused : fits before (share_of holder judged.place) judged ≡ false → IsRefused before behind holder after judged result bytes
+  pub ended : Ends before behind (share_of holder judged.place) holder after judged result bytes
 
--- what becomes of a packet, of the node and of the port, and the reply that is due
+-- what becomes of a packet, of the banks and of the port, and the reply that is due, where commands
+-- end so
+abbrev pub IsServedBy : Ending → Served → Cargo → (old new : List Contents) → (holder after : Holder) → List ℕ → Type 0
+IsServedBy Ends (Stopped stop) p old new h after reply = IsStopped stop p h.windows reply × IsUntouched old new h after
+IsServedBy Ends Unread p old new h after reply = IsUnread p h.windows reply × IsUntouched old new h after
+IsServedBy Ends (Done result) p old new h after reply = (is_served (command_of p) h.windows ≡ true) × IsDone Ends old new h after p result reply
+
+-- what becomes of a packet, whatever the banks and the port
 abbrev pub IsServed : Served → Cargo → (old new : List Contents) → (holder after : Holder) → List ℕ → Type 0
-IsServed (Stopped stop) p old new h after reply = IsStopped stop p h.windows reply × IsUntouched old new h after
-IsServed Unread p old new h after reply = IsUnread p h.windows reply × IsUntouched old new h after
-IsServed (Done result) p old new h after reply = (is_served (command_of p) h.windows ≡ true) × IsDone old new h after p result reply
+IsServed = IsServedBy IsEnded
+
+-- what becomes of a packet where banks and port are paired: each command that is judged is applied
+abbrev pub IsAnswered : Served → Cargo → (old new : List Contents) → (holder after : Holder) → List ℕ → Type 0
+IsAnswered = IsServedBy IsApplied

@@ -7,9 +7,9 @@ use std::alloc::{AllocError, Global};
 use std::marker::Model;
 use std::mem;
 
-/// The shares of one port, by the number of the bank, while they are dealt.
+/// The shares of one port, by the number of the bank. Only [`Banks::new`](crate::Banks::new) deals them.
 #[derive(Debug, Drop)]
-pub(crate) struct Hand {
+pub struct Hand {
     shares: Vec<Share>,
 }
 
@@ -41,7 +41,7 @@ impl Hand {
     }
 
     /// Takes the shares, and leaves none.
-    pub(crate) fn take(&mut self, alloc: Global) -> Vec<Share>
+    pub fn take(&mut self, alloc: Global) -> Vec<Share>
         ensures shares { result.items ≡ self.old }
         ensures empty { self.new ≡ [] }
     {

@@ -4,21 +4,26 @@
 //! runs the port's program on it ([`judge_by`]), and [`finish`] applies the verdict to the bank that it names.
 #![tactic(auto)]
 
+mod banks;
 mod bearing;
 mod config;
 mod faults;
 mod finishing;
 mod hand;
+mod laws;
 mod node;
 mod pass;
 mod serving;
 mod step;
 mod stop;
 
+pub use banks::Banks;
 pub use bearing::Bearing;
 pub use config::{BankConfig, NodeConfig};
 pub use faults::NodeFault;
 pub use finishing::finish;
+pub use hand::Hand;
+pub use laws::{made_are_paired, paired_commands_fit, pairs_stay};
 pub use node::Node;
 pub use pass::Pass;
 pub use serving::{Served, serve_packet};

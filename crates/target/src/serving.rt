@@ -1,14 +1,16 @@
 //! The whole way of a packet.
 
-ghost use Rattle.std.specs.Prelude.{◌≡◌, length};
-ghost use Rattle.target.specs.Serving.{IsServed};
+ghost use Rattle.std.specs.Prelude.{◌≡◌, ◌≢◌, length};
+ghost use Rattle.target.specs.Serving.{IsServed, IsAnswered};
+ghost use Rattle.target.specs.Passes.{Holder};
+ghost use Rattle.target.specs.Pairs.{IsPaired};
 
+use crate::banks::Banks;
 use crate::finishing::finish;
-use crate::node::Node;
 use crate::pass::Pass;
 use crate::step::{Step, judge};
 use crate::stop::Stop;
-use bank::Applied;
+use bank::{Applied, extents_stay};
 use rmap::{Place, ReplyBuf};
 use spw::Packet;
 
@@ -23,17 +25,11 @@ pub enum Served {
     Done(Applied),
 }
 
-/// Serves one packet that came in at the pass's port: judges it, and applies the verdict to the bank
-/// that it names. `reply` holds the reply that is due then, if any.
-pub fn serve_packet(
-    node: &mut Node,
-    pass: &mut Pass,
-    packet: Packet,
-    reply: &mut ReplyBuf,
-) -> Served
-    requires { length pass.old.shares ≡ length node.old }
-    ensures served { IsServed result packet node.old node.new pass.old pass.new reply.new }
-    ensures node { length node.new ≡ length node.old }
+/// What becomes of a packet, whatever the banks and the port.
+fn serve(banks: &mut Banks, pass: &mut Pass, packet: Packet, reply: &mut ReplyBuf) -> Served
+    requires { length pass.old.shares ≡ length banks.old }
+    ensures served { IsServed result packet banks.old banks.new pass.old pass.new reply.new }
+    ensures banks { length banks.new ≡ length banks.old }
     ensures pass { length pass.new.shares ≡ length pass.old.shares }
 {
     let _banks = pass.banks();
@@ -45,7 +41,30 @@ pub fn serve_packet(
             let Place::Bank(k) = judged.place() else {
                 unreachable!()
             };
-            Served::Done(finish(pass, node.bank_mut(k), judged, reply))
+            Served::Done(finish(pass, banks.bank_mut(k), judged, reply))
         }
     }
+}
+
+/// Serves one packet that came in at the pass's port: judges it, and applies the verdict to the bank
+/// that it names. `reply` holds the reply that is due then, if any. The condition is a pass with the
+/// number of banks; where banks and pass were made together each command that is judged is applied.
+pub fn serve_packet(
+    banks: &mut Banks,
+    pass: &mut Pass,
+    packet: Packet,
+    reply: &mut ReplyBuf,
+) -> Served
+    requires { length pass.old.shares ≡ length banks.old }
+    ensures served { IsServed result packet banks.old banks.new pass.old pass.new reply.new }
+    ensures banks { length banks.new ≡ length banks.old }
+    ensures pass { length pass.new.shares ≡ length pass.old.shares }
+
+    // Where banks and pass are paired no command is refused, and they stay so; so do all others.
+    ensures answered { IsPaired banks.old pass.old → IsAnswered result packet banks.old banks.new pass.old pass.new reply.new }
+    ensures paired { IsPaired banks.old pass.old → IsPaired banks.new pass.new }
+    ensures others { (other : Holder) → other.port ≢ pass.old.port → IsPaired banks.old other → IsPaired banks.new other }
+{
+    extents_stay();
+    serve(banks, pass, packet, reply)
 }

@@ -69,5 +69,5 @@ pub fn served(
     if pass.banks() != node.banks() {
         return Err("another number of banks".into());
     }
-    Ok(serve_packet(node, pass, packet, reply))
+    Ok(serve_packet(node.plain_banks_mut(), pass, packet, reply))
 }

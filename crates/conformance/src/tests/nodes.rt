@@ -11,7 +11,7 @@ fn recorded(node: &Node) -> Result<(usize, u64), Fail> {
     if node.banks() == 0 {
         return Err("no bank".into());
     }
-    let bank = node.bank(0);
+    let bank = node.plain_banks().bank(0);
     if bank.ports() == 0 {
         return Err("no port".into());
     }

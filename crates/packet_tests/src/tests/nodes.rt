@@ -7,7 +7,7 @@ use hex::decode;
 use rmap::{Discard, ReplyBuf, Status};
 use std::alloc::Global;
 use std::test::Fail;
-use target::{BankConfig, NodeFault, Served, Stop};
+use target::{BankConfig, Node, NodeFault, Served, Stop};
 use trial::{PLAIN_READ, PLAIN_REPLY, bank, node, packet, program, served};
 
 /// What becomes of the packet of a line at port 0 of a fresh node.
@@ -66,6 +66,64 @@ fn packets_and_what_becomes_of_them(rt: HostRuntime) -> Result<(), Fail> {
         assert_eq!(rt; found, what, "at {line}");
         assert_eq!(rt; reply.bytes(), packet(alloc, answer)?.bytes(), "at {line}");
     }
+    Ok(())
+}
+
+/// Reads of the first bytes of the banks 0, 1 and 2, as packet lines.
+const READS: [&str; 3] = [
+    "0 FE014C0067000100A0000000000010C9 EOP",
+    "0 FE014C0067000101A000000000001034 EOP",
+    "0 FE014C0067000102A0000000000010F2 EOP",
+];
+
+/// The ports of a bank's entries and their numbers, oldest first.
+fn entries(alloc: Global, node: &Node, k: u8) -> Result<Vec<(u8, u64)>, Fail> {
+    let banks = node.plain_banks();
+    if usize::from(k) >= banks.len() {
+        return Err("no bank".into());
+    }
+    let mut entries = Vec::new(alloc);
+    for entry in banks.bank(k).entries() {
+        entries.push((entry.port(), entry.number()))?;
+    }
+    Ok(entries)
+}
+
+#[test]
+fn numbers_of_three_ports_at_three_banks(rt: HostRuntime) -> Result<(), Fail> {
+    let alloc = rt.alloc();
+    let banks = [bank(16), bank(16), bank(16)];
+    let (mut node, mut passes) = node(alloc, 3, &banks, program(alloc, 0)?)?;
+    let mut reply = ReplyBuf::new();
+    for (port, k, number) in [
+        (0, 0, 0),
+        (2, 1, 0),
+        (0, 0, 1),
+        (1, 0, 0),
+        (2, 1, 1),
+        (0, 2, 0),
+        (2, 0, 0),
+        (1, 0, 1),
+        (0, 0, 2),
+        (1, 1, 0),
+        (2, 1, 2),
+        (1, 2, 0),
+    ] {
+        let pass = passes.get_mut(port).ok_or("no pass")?;
+        let line = READS.get(k).copied().ok_or("no line")?;
+        let what = served(&mut node, pass, packet(alloc, line)?, &mut reply)?;
+        let counted = Applied {
+            status: Status::Success,
+            number: Some(number),
+        };
+        assert_eq!(rt; what, Served::Done(counted), "port {port} at bank {k}");
+    }
+    let first = [(0, 0), (0, 1), (1, 0), (2, 0), (1, 1), (0, 2)];
+    let second = [(2, 0), (2, 1), (1, 0), (2, 2)];
+    let third = [(0, 0), (1, 0)];
+    assert_eq!(rt; entries(alloc, &node, 0)?.as_slice(), first.as_slice());
+    assert_eq!(rt; entries(alloc, &node, 1)?.as_slice(), second.as_slice());
+    assert_eq!(rt; entries(alloc, &node, 2)?.as_slice(), third.as_slice());
     Ok(())
 }
 

@@ -5,7 +5,7 @@ use Rattle.std.proofs.lemmas.List.{map_more}
 use Rattle.target.specs.declared.config.BankConfig.{BankConfig}
 use Rattle.target.specs.Making.{bank_of}
 use Rattle.target.proofs.Makings.{dealt_hands}
-use Rattle.target.proofs.node.banks.Goals as goal
+use Rattle.target.proofs.banks.make_banks.Goals as goal
 
 pub deal-requires : goal.deal-requires
 deal-requires c =

@@ -1,7 +1,7 @@
 use Rattle.std.proofs.Common.{◌≡◌, ◌<◌, ◌≤◌, ℕ, [], ◌∷◌, ◌++◌, length, take, get_or}
 use Rattle.std.specs.Prelude.{vec_len}
 use Rattle.bank.specs.Records.{first_share}
-use Rattle.target.proofs.node.deal.Given as goal
+use Rattle.target.proofs.banks.deal.Given as goal
 
 abbrev pub invariant-loop-share : goal.invariant-loop-share
 invariant-loop-share l = record {

@@ -1,0 +1,163 @@
+//! The banks of a node.
+
+ghost use Rattle.std.specs.Prelude.{◌≡◌, ◌<◌, ◌≤◌, length, slice_get, Some, OnOk, IfOk, IfErr, Err, true, false, map};
+ghost use Rattle.std.specs.List.{range_with_len, list_all};
+ghost use Rattle.bank.specs.Limits.{is_ports};
+ghost use Rattle.bank.specs.Records.{first_share};
+ghost use Rattle.target.specs.Making.{AreDealt, AreHands, bank_of, is_within, are_within};
+
+use crate::config::{BankConfig, NodeConfig};
+use crate::faults::NodeFault;
+use crate::hand::Hand;
+use bank::{Bank, Journal, Share, is_bank_size};
+use rmap::MAX_BANKS;
+use spw::PORTS;
+use std::alloc::{AllocError, Global};
+use std::marker::Model;
+
+/// The banks of a node, by number.
+#[derive(Debug, Drop)]
+pub struct Banks {
+    banks: Vec<Bank>,
+}
+
+impl Model for Banks {
+    ghost use Rattle.std.specs.Prelude.{List};
+    ghost use Rattle.bank.specs.Records.{Contents};
+
+    ghost Value = { List Contents };
+
+    ghost view = { λ b. b.banks.items };
+}
+
+/// Whether a bank is within its limits.
+fn is_within(bank: &BankConfig) -> bool
+    ensures { result ≡ is_within bank.now }
+{
+    is_bank_size(bank.base, bank.size, bank.room)
+}
+
+/// Whether all banks are within their limits.
+fn are_all_within(banks: &[BankConfig]) -> bool
+    ensures { result ≡ list_all is_within banks.now }
+{
+    banks.iter().all(is_within)
+}
+
+/// Whether a node may have those banks.
+fn are_within(banks: &[BankConfig]) -> bool
+    ensures { result ≡ are_within banks.now }
+{
+    1 <= banks.len() && banks.len() <= MAX_BANKS && are_all_within(banks)
+}
+
+/// One hand for each port, all empty.
+fn empty_hands(alloc: Global, ports: u8) -> Result<Vec<Hand>, AllocError>
+    ensures { IfOk result (λ hands. AreHands 0 ports hands.items) }
+{
+    let mut hands = Vec::with_capacity(alloc, usize::from(ports))?;
+    for _port in 0..ports {
+        hands.push(Hand::new(alloc))?;
+    }
+    Ok(hands)
+}
+
+/// Gives each hand its share of a bank.
+fn deal(hands: &mut Vec<Hand>, mut shares: Vec<Share>) -> Result<(), AllocError>
+    requires { length shares.items ≡ length hands.old.items }
+    ensures { OnOk result (AreDealt hands.old.items shares.items hands.new.items) }
+{
+    while let Some(share) = shares.pop() {
+        let port = shares.len();
+        hands[port].push(share)?;
+    }
+    Ok(())
+}
+
+/// A bank, and the share of each port.
+fn bank_with_shares(
+    alloc: Global,
+    bank: &BankConfig,
+    ports: u8,
+) -> Result<(Bank, Vec<Share>), NodeFault>
+    requires within { is_within bank.now ≡ true }
+    requires ports { is_ports ports ≡ true }
+    ensures bank { IfOk result (λ made. made.0 ≡ bank_of ports bank.now) }
+    ensures shares { IfOk result (λ made. made.1.items ≡ map first_share (range_with_len 0 ports)) }
+    ensures memory { IfErr result (λ fault. fault ≡ NodeFault.Memory) }
+{
+    let journal = Journal::new(alloc, bank.room)?;
+    Ok(Bank::new(alloc, bank.base, bank.size, journal, ports)?)
+}
+
+/// The banks, and in `hands` the shares of them.
+fn make_banks(
+    alloc: Global,
+    config: &NodeConfig,
+    hands: &mut Vec<Hand>,
+) -> Result<Vec<Bank>, NodeFault>
+    requires within { list_all is_within config.now.banks.now ≡ true }
+    requires ports { is_ports config.now.ports ≡ true }
+    requires hands { AreHands 0 config.now.ports hands.old.items }
+    ensures banks { IfOk result (λ banks. banks.items ≡ map (bank_of config.now.ports) config.now.banks.now) }
+    ensures memory { IfErr result (λ fault. fault ≡ NodeFault.Memory) }
+    ensures hands { OnOk result (AreHands (length config.now.banks.now) config.now.ports hands.new.items) }
+{
+    let mut banks = Vec::with_capacity(alloc, config.banks.len())?;
+    for bank in config.banks {
+        let (bank, shares) = bank_with_shares(alloc, bank, config.ports)?;
+        deal(hands, shares)?;
+        banks.push(bank)?;
+    }
+    Ok(banks)
+}
+
+impl Banks {
+    ghost use Rattle.std.specs.Borrow.{sem};
+    ghost use Rattle.target.specs.Lending.{LendsBank};
+
+    /// Banks of zero bytes, and for each port, in order, its share of each. `Ports` and then `Banks`
+    /// where a number is outside its limits; `Memory` where memory was refused.
+    pub fn new(alloc: Global, config: &NodeConfig) -> Result<(Banks, Vec<Hand>), NodeFault>
+        ensures banks { IfOk result (λ made. made.0 ≡ map (bank_of config.now.ports) config.now.banks.now) }
+        ensures hands { IfOk result (λ made. AreHands (length config.now.banks.now) config.now.ports made.1.items) }
+        ensures limits { IfOk result (λ _. (config.now.ports ≤ PORTS) × (length config.now.banks.now ≤ MAX_BANKS)) }
+        ensures bad_ports { is_ports config.now.ports ≡ false → result ≡ Err NodeFault.Ports }
+        ensures bad_banks { is_ports config.now.ports ≡ true → are_within config.now.banks.now ≡ false → result ≡ Err NodeFault.Banks }
+        ensures memory { is_ports config.now.ports ≡ true → are_within config.now.banks.now ≡ true → IfErr result (λ fault. fault ≡ NodeFault.Memory) }
+    {
+        if config.ports == 0 || config.ports > PORTS {
+            return Err(NodeFault::Ports);
+        }
+        if !are_within(config.banks) {
+            return Err(NodeFault::Banks);
+        }
+        let mut hands = empty_hands(alloc, config.ports)?;
+        let banks = make_banks(alloc, config, &mut hands)?;
+        Ok((Banks { banks }, hands))
+    }
+
+    /// How many banks there are.
+    pub fn len(&self) -> usize
+        ensures { result ≡ length self.now }
+    {
+        self.banks.len()
+    }
+
+    /// The bank of that number.
+    pub fn bank(&self, k: u8) -> &Bank
+        requires { k < length self.now }
+        ensures { slice_get self.now k ≡ Some result.now }
+    {
+        &self.banks[usize::from(k)]
+    }
+
+    /// The bank of that number, to apply commands to.
+    pub fn bank_mut(&mut self, k: u8) -> &mut Bank
+        requires { k < length self.old }
+        ensures* writes_back { sem 𝓛 (LendsBank self.entry k result) }
+        ensures value { slice_get self.old k ≡ Some result.now }
+    {
+        &mut self.banks[usize::from(k)]
+    }
+}
