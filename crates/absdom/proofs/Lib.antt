@@ -10,6 +10,5 @@ pub mod FitsEdges
 pub mod GrowAlu
 pub mod GrowState
 pub mod GrowEdges
-
 pub mod Narrowing
 pub mod MarkBits

@@ -29,18 +29,18 @@ pub mark_of : (words : List ℕ) (place : ℕ) → mark_at (marks_of words) plac
 unfolding marks_of
 mark_of [] place = ap (λ x. x == 1) (sym (bit_at-zero (place % 64)))
 mark_of (word ∷ words) place = elim (cases_lt place 64) [
-    | inl below ↦
-        let first : place / 64 ≡ 0 = omega arith in
-        let same : place % 64 ≡ place = omega arith in
-        let inside : place < length (bits_of 64 word) = omega (arith, length-bits 64 word) in
-        get_or_append_left (bits_of 64 word) (marks_of words) false place inside ∙ bit_of 64 word place below
-        ∙ ap (λ i. is_bit word i) (sym same) ∙ ap (λ k. is_bit (get_or (word ∷ words) k 0) (place % 64)) (sym first)
-    | inr past ↦
-        let later : place / 64 ≡ suc ((place - 64) / 64) = omega arith in
-        let same : place % 64 ≡ (place - 64) % 64 = omega arith in
-        get_or-append_right (bits_of 64 word) (marks_of words) 64 place false (length-bits 64 word) past ∙ mark_of words (place - 64)
-        ∙ ap (λ i. is_bit (get_or words ((place - 64) / 64) 0) i) (sym same) ∙ ap (λ k. is_bit (get_or (word ∷ words) k 0) (place % 64)) (sym later)
-  ]
+  | inl below ↦
+      let first : place / 64 ≡ 0 = omega arith in
+      let same : place % 64 ≡ place = omega arith in
+      let inside : place < length (bits_of 64 word) = omega (arith, length-bits 64 word) in
+      get_or_append_left (bits_of 64 word) (marks_of words) false place inside ∙ bit_of 64 word place below
+      ∙ ap (λ i. is_bit word i) (sym same) ∙ ap (λ k. is_bit (get_or (word ∷ words) k 0) (place % 64)) (sym first)
+  | inr past ↦
+      let later : place / 64 ≡ suc ((place - 64) / 64) = omega arith in
+      let same : place % 64 ≡ (place - 64) % 64 = omega arith in
+      get_or-append_right (bits_of 64 word) (marks_of words) 64 place false (length-bits 64 word) past ∙ mark_of words (place - 64)
+      ∙ ap (λ i. is_bit (get_or words ((place - 64) / 64) 0) i) (sym same) ∙ ap (λ k. is_bit (get_or (word ∷ words) k 0) (place % 64)) (sym later)
+]
 
 -- each word is a word after one was written
 pub each_after : (words : List ℕ) (written word : ℕ) → word < 2 ^ 64 → ((k : ℕ) → get_or words k 0 < 2 ^ 64) → (k : ℕ) → get_or (set words written word) k 0 < 2 ^ 64
@@ -63,14 +63,14 @@ marked_at words place q inside =
     mark_of (set words (place / 64) new) q ∙ elim (cases_lt q place) [
       | inl before ↦ other q within (λ e. omega arith)
       | inr after ↦ elim (cases_lt place q) [
-          | inl behind ↦ other q within (λ e. omega arith)
-          | inr there ↦
-              let e : q ≡ place = omega arith in
-              let P : ℕ → Type 0 = λ x. is_bit (get_or (set words (place / 64) new) (x / 64) 0) (x % 64) ≡ mark_at (set (marks_of words) place true) x in
-              subst P (sym e)
-              (ap (λ w. is_bit w (place % 64)) (get_or-set_same words (place / 64) new 0 inside) ∙ ap (λ x. x == 1) (bit_at_set_same w64 word (place % 64) within)
-              ∙ sym (get_or-set_same (marks_of words) place true false size))
-        ]
+        | inl behind ↦ other q within (λ e. omega arith)
+        | inr there ↦
+            let e : q ≡ place = omega arith in
+            let P : ℕ → Type 0 = λ x. is_bit (get_or (set words (place / 64) new) (x / 64) 0) (x % 64) ≡ mark_at (set (marks_of words) place true) x in
+            subst P (sym e)
+            (ap (λ w. is_bit w (place % 64)) (get_or-set_same words (place / 64) new 0 inside) ∙ ap (λ x. x == 1) (bit_at_set_same w64 word (place % 64) within)
+            ∙ sym (get_or-set_same (marks_of words) place true false size))
+      ]
     ]
   where
     other : (q : ℕ) → place % 64 < 64 → q ≢ place → is_bit (get_or (set words (place / 64) (with_bit (get_or words (place / 64) 0) (place % 64))) (q / 64) 0) (q % 64) ≡ mark_at (set (marks_of words) place true) q
@@ -81,15 +81,15 @@ marked_at words place q inside =
         sym (old ∙ sym (elim (cases_lt (q / 64) (place / 64)) [
           | inl before ↦ ap (λ w. is_bit w (q % 64)) (get_or-set_other words (place / 64) (q / 64) new 0 (λ e. omega arith))
           | inr after ↦ elim (cases_lt (place / 64) (q / 64)) [
-              | inl behind ↦ ap (λ w. is_bit w (q % 64)) (get_or-set_other words (place / 64) (q / 64) new 0 (λ e. omega arith))
-              | inr there ↦
-                  let e : q / 64 ≡ place / 64 = omega arith in
-                  let differs : q % 64 ≢ place % 64 = λ same. ne (omega arith) in
-                  ap (λ k. is_bit (get_or (set words (place / 64) new) k 0) (q % 64)) e
-                  ∙ ap (λ w. is_bit w (q % 64)) (get_or-set_same words (place / 64) new 0 inside)
-                  ∙ ap (λ x. x == 1) (bit_at_set_other w64 word (place % 64) within (q % 64) differs)
-                  ∙ ap (λ k. is_bit (get_or words k 0) (q % 64)) (sym e)
-            ]
+            | inl behind ↦ ap (λ w. is_bit w (q % 64)) (get_or-set_other words (place / 64) (q / 64) new 0 (λ e. omega arith))
+            | inr there ↦
+                let e : q / 64 ≡ place / 64 = omega arith in
+                let differs : q % 64 ≢ place % 64 = λ same. ne (omega arith) in
+                ap (λ k. is_bit (get_or (set words (place / 64) new) k 0) (q % 64)) e
+                ∙ ap (λ w. is_bit w (q % 64)) (get_or-set_same words (place / 64) new 0 inside)
+                ∙ ap (λ x. x == 1) (bit_at_set_other w64 word (place % 64) within (q % 64) differs)
+                ∙ ap (λ k. is_bit (get_or words k 0) (q % 64)) (sym e)
+          ]
         ]))
 
 -- the marks after one bit was set are those with one mark more
@@ -97,7 +97,7 @@ pub marks_more : (words : List ℕ) (place : ℕ) → place / 64 < length words 
 marks_more words place inside =
     let new = with_bit (get_or words (place / 64) 0) (place % 64) in
     let size : length (marks_of (set words (place / 64) new)) ≡ length (set (marks_of words) place true) =
-        omega (arith, length-marks (set words (place / 64) new), length-set words (place / 64) new, length-marks words, length-set (marks_of words) place true) in
+    omega (arith, length-marks (set words (place / 64) new), length-set words (place / 64) new, length-marks words, length-set (marks_of words) place true) in
     same_lists (marks_of (set words (place / 64) new)) (set (marks_of words) place true) size
     (λ k d below. any_default (marks_of (set words (place / 64) new)) k d false below ∙ marked_at words place k inside ∙ any_default (set (marks_of words) place true) k false d (omega (arith, size)))
   where

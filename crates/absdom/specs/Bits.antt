@@ -53,12 +53,12 @@ words_back zero (word ∷ words) e each = absurd (omega arith)
 words_back (suc count) [] e each = absurd (omega arith)
 words_back (suc count) (word ∷ words) e each =
     let front : take 64 (bits_of 64 word ++ marks_of words) ≡ bits_of 64 word =
-        ap (λ n. take n (bits_of 64 word ++ marks_of words)) (sym (length-bits 64 word)) ∙ take-append_seam (bits_of 64 word) (marks_of words) in
+    ap (λ n. take n (bits_of 64 word ++ marks_of words)) (sym (length-bits 64 word)) ∙ take-append_seam (bits_of 64 word) (marks_of words) in
     let rest : drop 64 (bits_of 64 word ++ marks_of words) ≡ marks_of words =
-        ap (λ n. drop n (bits_of 64 word ++ marks_of words)) (sym (length-bits 64 word)) ∙ drop-append_seam (bits_of 64 word) (marks_of words) in
+    ap (λ n. drop n (bits_of 64 word ++ marks_of words)) (sym (length-bits 64 word)) ∙ drop-append_seam (bits_of 64 word) (marks_of words) in
     let first : word_of (take 64 (bits_of 64 word ++ marks_of words)) ≡ word = ap word_of front ∙ word_back 64 word (each 0) in
     let others : words_of count (drop 64 (bits_of 64 word ++ marks_of words)) ≡ words =
-        ap (words_of count) rest ∙ words_back count words (omega arith) (λ k. each (suc k)) in
+    ap (words_of count) rest ∙ words_back count words (omega arith) (λ k. each (suc k)) in
     ap (λ x. x ∷ words_of count (drop 64 (bits_of 64 word ++ marks_of words))) first ∙ ap (λ xs. word ∷ xs) others
 
 -- eight words are those of their marks

@@ -58,8 +58,8 @@ edges_of condition width a dst src left right =
 abbrev pub ranges_of : Condition → Width → (dst : ℕ) → Operand → Range → Range → RangeEdges
 ranges_of condition width dst src left right =
     if is_itself dst src
-      then record { taken = Some (record { dst = left; src = right }); not_taken = Some (record { dst = left; src = right }) }
-      else refined condition width left right
+    then record { taken = Some (record { dst = left; src = right }); not_taken = Some (record { dst = left; src = right }) }
+    else refined condition width left right
 
 -- the edges of a comparison of two numbers
 abbrev pub compared_edges : Condition → Width → Knowledge → (dst : ℕ) → Operand → Result Range Cause → Result Range Cause → Result Edges Cause

@@ -140,7 +140,16 @@ fn compare(
     order_of_states();
     match refine(state, condition, width, dst, src) {
         Ok(edges) => {
-            branch(table, image, slot, state, dst, src, i32::from(offset), &edges);
+            branch(
+                table,
+                image,
+                slot,
+                state,
+                dst,
+                src,
+                i32::from(offset),
+                &edges,
+            );
             Ok(())
         }
         Err(cause) => Err(refusal_of(cause)),

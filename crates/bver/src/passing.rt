@@ -84,7 +84,10 @@ pub(crate) fn pass(
     order_of_states();
     let mut state = State::entry();
     for slot in 0..image.slots() {
-        let region = visit(table, image, sizes, slot, &mut state).map_err(|code| Refused { code, slot })?;
+        let region = visit(table, image, sizes, slot, &mut state).map_err(|code| Refused {
+            code,
+            slot,
+        })?;
         regions[usize::from(slot)] = region;
     }
     Ok(())
