@@ -9,8 +9,8 @@ ghost use Rattle.basm.specs.Outcomes.{Makes, out_of_memory};
 ghost use Rattle.basm.specs.Relation.{IsText};
 ghost use Rattle.basm.specs.declared.faults.AsmCode.TheVariants.{Memory};
 
-use crate::faults::{AsmCode, AsmFault};
 use crate::draft::Draft;
+use crate::faults::{AsmCode, AsmFault};
 use crate::survey::Survey;
 use basm_lex::mnemonic_laws;
 use bpf::Image;

@@ -13,9 +13,9 @@ ghost use Rattle.basm.specs.Naming.{slot_named};
 ghost use Rattle.basm.specs.Outcomes.{Makes};
 ghost use Rattle.basm.specs.Relation.{Budget, Code, IsLine, Item, One, OneLoop, WritesInsn};
 
+use crate::directives::{read_budget, read_loop};
 use crate::faults::{AsmCode, AsmFault, both};
 use crate::instructions::add_insn;
-use crate::directives::{read_budget, read_loop};
 use crate::survey::Survey;
 use basm_lex::{Mnemonic, label, read_mnemonic, read_statement};
 use bpf::{Image, Loop, MAX_LOOPS};
