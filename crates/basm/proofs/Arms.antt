@@ -1,21 +1,20 @@
 -- Which item a right line has, by its first word.
-use Rattle.std.proofs.Common.{true, false, ◌≡◌, ℕ, suc, pos, ◌≤◌, List, [], ◌∷◌, map, Option, Some, None, refl, sym, ap, ◌∙◌, subst, arith}
-use Rattle.std.specs.Prelude.{◌≢◌, ℤ, codes}
+use Rattle.std.proofs.Common.{true, false, ◌≡◌, ℕ, pos, List, [], ◌∷◌, map, Option, None, refl, sym, ap, ◌∙◌, subst, arith}
+use Rattle.std.specs.Prelude.{◌≢◌, codes}
 use Rattle.std.proofs.lemmas.Bool.{true≢false}
 use Rattle.std.proofs.lemmas.Option.{none-some}
 use Rattle.bpf.specs.declared.loops.Loop.{Loop}
 use Rattle.bpf_insn.specs.declared.insn.Insn.{Insn}
-use Rattle.bpf_insn.specs.Spelling.{second_immediate, slots_in as immediate_slots, slots_of}
 use Rattle.basm_lex.specs.Lines.{IsLabel, operands_of, word_of}
 use Rattle.basm_lex.specs.Names.{is_name}
 use Rattle.basm_lex.specs.Numbers.{WritesNumber}
 use Rattle.basm_lex.specs.Places.{WritesRegister}
 use Rattle.basm_lex.specs.declared.mnemonics.Mnemonic.{Mnemonic}
-use Rattle.basm.specs.declared.parts.Parts.{Parts}
+use Rattle.basm.specs.declared.draft.Draft.{Draft}
 use Rattle.basm.specs.Adding.{AddsItem}
 use Rattle.basm.specs.Labels.{label_of}
 use Rattle.basm_lex.specs.Mnemonics.{mnemonic_word}
-use Rattle.basm.specs.Relation.{Budget, Code, Four, IsLine, Item, Label, Nothing, One, OneLoop, WritesEnd, WritesInsn, name_of, slots_in}
+use Rattle.basm.specs.Relation.{Budget, Code, Four, IsLine, Item, Label, Nothing, One, OneLoop, WritesEnd, WritesInsn}
 use Rattle.basm.proofs.InsnReadings.{insn_named, mnemonic_of}
 use Rattle.basm.proofs.Items.{adds_label, adds_nothing, four_unmap, insn_unmap, not_nil, one_unmap}
 use Rattle.basm.proofs.Surveys.{label_named}
@@ -31,7 +30,7 @@ not_plain line word plain same none = true≢false (sym plain ∙ ap is_name sam
 
 -- ---- no word
 
-pub empty_adds : (names : List ℕ → Option ℕ) (slot : ℕ) (line : List ℕ) (parts : Parts) (item : Item) → ((found : Mnemonic) → word_of line ≢ mnemonic_word found) → word_of line ≡ [] → IsLine names slot line item → AddsItem item parts parts
+pub empty_adds : (names : List ℕ → Option ℕ) (slot : ℕ) (line : List ℕ) (parts : Draft) (item : Item) → ((found : Mnemonic) → word_of line ≢ mnemonic_word found) → word_of line ≡ [] → IsLine names slot line item → AddsItem item parts parts
 empty_adds names slot line parts Nothing unknown same says = adds_nothing parts
 empty_adds names slot line parts (Label name) unknown same says = adds_label name parts
 empty_adds names slot line parts (Budget n) unknown same says = absurd (not_nil _ _ (sym says.0 ∙ same))

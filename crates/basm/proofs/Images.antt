@@ -14,7 +14,7 @@ use Rattle.bpf.specs.Parts.{are_loops, parts_fault, parts_reading, placed, unles
 use Rattle.bpf.specs.Program.{AreLoops, IsBudget, IsLoop, IsProgram, IsSlotCount, Program, program}
 use Rattle.bpf.specs.Reading.{Fails, is_budget, is_count, is_loop}
 use Rattle.basm.specs.declared.faults.AsmFault.{AsmFault}
-use Rattle.basm.specs.declared.parts.Parts.{Parts}
+use Rattle.basm.specs.declared.draft.Draft.{Draft}
 use Rattle.basm.specs.Adding.{IsImageOf}
 use Rattle.basm.specs.Outcomes.{Makes, image_code, text_fault}
 use Rattle.basm.proofs.Loops.{sorted_loops}
@@ -73,7 +73,7 @@ program_made p insns is code =
     ap (λ (f : Option ImageFault). unless f (program p.budget p.loops slots)) fault ∙ ap (λ (q : Program). Ok q) (is_made p slots is.version code)
 
 -- where parts have an image, nothing is wrong with them once their loops are sorted
-pub image_reading : (parts : Parts) (sorted : List Loop) (budget : ℕ) (p : Program) → parts.budget ≡ Some budget → IsPermutation parts.loops.items sorted → IsNonDecreasingBy (λ l. l.head) sorted → IsImageOf parts p → parts_reading parts.insns.items sorted budget ≡ Ok p
+pub image_reading : (parts : Draft) (sorted : List Loop) (budget : ℕ) (p : Program) → parts.budget ≡ Some budget → IsPermutation parts.loops.items sorted → IsNonDecreasingBy (λ l. l.head) sorted → IsImageOf parts p → parts_reading parts.insns.items sorted budget ≡ Ok p
 image_reading parts sorted budget p declared moved heads image =
     let loops = sorted_loops (length p.slots) parts.loops.items sorted p.loops moved heads image.loops image.program.loops in
     let same : budget ≡ p.budget = same_Some budget p.budget (sym declared ∙ image.budget) in

@@ -14,7 +14,7 @@ use Rattle.bpf_insn.specs.Spelling.{second_immediate, slots_in as immediate_slot
 use Rattle.basm_lex.specs.Lines.{IsLabel, code_of, drop_spaces, is_semicolon, is_space, operands_of, rest_of, skip_spaces, trimmed, unless_space, word_of}
 use Rattle.basm_lex.specs.Numbers.{WritesNumber}
 use Rattle.basm_lex.specs.Places.{WritesRegister}
-use Rattle.basm.specs.declared.parts.Parts.{Parts}
+use Rattle.basm.specs.declared.draft.Draft.{Draft}
 use Rattle.basm.specs.Adding.{AddsItem, AddsLine, ArePartsOf, SayParts, slots_of_items}
 use Rattle.basm.specs.Relation.{Item, Nothing, Label, Budget, OneLoop, Code, WritesEnd, AreLines, Four, IsLine, One, Three, Two, WritesInsn, WritesOperands, budget_in, insn_in, loop_in, slots_in}
 
@@ -143,13 +143,13 @@ unfolding word_of rest_of code_of
 no_operands line none = rw (no_word (before_first is_semicolon line) none) refl
 
 -- an item that declares nothing
-pub adds_nothing : (parts : Parts) → AddsItem Nothing parts parts
+pub adds_nothing : (parts : Draft) → AddsItem Nothing parts parts
 adds_nothing parts = record { budget = sym (append-nil _); loops = sym (append-nil _); insns = sym (append-nil _); slots = omega arith }
 
-pub adds_label : (name : List ℕ) (parts : Parts) → AddsItem (Label name) parts parts
+pub adds_label : (name : List ℕ) (parts : Draft) → AddsItem (Label name) parts parts
 adds_label name parts = record { budget = sym (append-nil _); loops = sym (append-nil _); insns = sym (append-nil _); slots = omega arith }
 
-pub line_nothing : (names : List ℕ → Option ℕ) (line : List ℕ) (parts : Parts) → word_of line ≡ [] → AddsLine names line parts parts
+pub line_nothing : (names : List ℕ → Option ℕ) (line : List ℕ) (parts : Draft) → word_of line ≡ [] → AddsLine names line parts parts
 line_nothing names line parts word = record {
   item = Nothing;
   says = (word, no_operands line word);
@@ -157,7 +157,7 @@ line_nothing names line parts word = record {
   few = λ h. h;
 }
 
-pub line_label : (names : List ℕ → Option ℕ) (line : List ℕ) (parts : Parts) (name : List ℕ)
+pub line_label : (names : List ℕ → Option ℕ) (line : List ℕ) (parts : Draft) (name : List ℕ)
     → IsLabel line name → AddsLine names line parts parts
 line_label names line parts name label = record {
   item = Label name;
@@ -166,7 +166,7 @@ line_label names line parts name label = record {
   few = λ h. h;
 }
 
-pub line_loop : {X : Type 0} (text : X → List ℕ) (xs : List X) (names : List ℕ → Option ℕ) (line : List ℕ) (old new : Parts) (l : Loop)
+pub line_loop : {X : Type 0} (text : X → List ℕ) (xs : List X) (names : List ℕ → Option ℕ) (line : List ℕ) (old new : Draft) (l : Loop)
     → word_of line ≡ codes ".loop" → map text xs ≡ operands_of line
     → Four text xs (λ a. WritesEnd names a l.head) (λ b. WritesEnd names b l.back) (λ c. WritesNumber c (pos l.bound)) (λ d. WritesRegister d l.register)
     → AddsItem (OneLoop l) old new → AddsLine names line old new
@@ -179,7 +179,7 @@ line_loop text xs names line old new l word operands four adds =
       few = λ h. let same = adds.slots in omega arith;
     }
 
-pub line_insn : {X : Type 0} (text : X → List ℕ) (xs : List X) (names : List ℕ → Option ℕ) (line word : List ℕ) (old new : Parts) (insn : Insn)
+pub line_insn : {X : Type 0} (text : X → List ℕ) (xs : List X) (names : List ℕ → Option ℕ) (line word : List ℕ) (old new : Draft) (insn : Insn)
     → word_of line ≡ word → map text xs ≡ operands_of line → WritesInsn text names old.slots word xs insn
     → AddsItem (Code insn) old new → new.slots ≤ 512 → AddsLine names line old new
 line_insn text xs names line word old new insn same operands writes adds few =
@@ -211,7 +211,7 @@ flat_push : {A : Type 0} (f : Item → List A) (items : List Item) (item : Item)
 flat_push f [] item = sym (append-nil (f item))
 flat_push f (i ∷ items) item = append_assoc (f i) (flat_map f items) (f item) ∙ ap (λ rest. f i ++ rest) (flat_push f items item)
 
-pub parts_push : (items : List Item) (item : Item) (old new : Parts) → ArePartsOf items old → AddsItem item old new → ArePartsOf (items ++ item ∷ []) new
+pub parts_push : (items : List Item) (item : Item) (old new : Draft) → ArePartsOf items old → AddsItem item old new → ArePartsOf (items ++ item ∷ []) new
 parts_push items item old new are adds = record {
   budget = adds.budget ∙ rw are.budget (flat_push budget_in items item);
   loops = adds.loops ∙ rw are.loops (flat_push loop_in items item);
@@ -219,7 +219,7 @@ parts_push items item old new are adds = record {
   slots = adds.slots ∙ rw are.slots (sym (slots_push items item));
 }
 
-pub say_push : (names : List ℕ → Option ℕ) (lines : List (List ℕ)) (line : List ℕ) (old new : Parts)
+pub say_push : (names : List ℕ → Option ℕ) (lines : List (List ℕ)) (line : List ℕ) (old new : Draft)
     → SayParts names lines old → AddsLine names line old new → SayParts names (lines ++ line ∷ []) new
 say_push names lines line old new say adds =
     let P : ℕ → Type 0 = λ slot. IsLine names slot line adds.item in

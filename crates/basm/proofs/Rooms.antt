@@ -13,7 +13,7 @@ use Rattle.std.proofs.lemmas.List.Sums.{sum_by-append, sum_by-cons}
 use Rattle.bpf.specs.declared.loops.Loop.{Loop}
 use Rattle.bpf.specs.Parts.{placed}
 use Rattle.bpf.specs.Program.{AreLoops, IsLoop, IsProgram, Program}
-use Rattle.basm.specs.declared.parts.Parts.{Parts}
+use Rattle.basm.specs.declared.draft.Draft.{Draft}
 use Rattle.basm.specs.declared.survey.Survey.{Survey}
 use Rattle.basm.specs.Naming.{slot_named}
 use Rattle.basm.specs.Adding.{AddsItem, ArePartsOf, HasRoom, IsImageOf, SurveysText, has_head, slots_of_items}
@@ -78,7 +78,7 @@ all_loops slots least (l ∷ ls) are = All-cons (IsLoop slots) l ls are.1 (all_l
 
 -- ---- room behind the items before
 
-room_for : (before after : List Item) (item : Item) (p : Program) (parts : Parts)
+room_for : (before after : List Item) (item : Item) (p : Program) (parts : Draft)
     → flat_map budget_in (before ++ item ∷ after) ≡ p.budget ∷ [] → IsPermutation (flat_map loop_in (before ++ item ∷ after)) p.loops
     → slots_of_items (before ++ item ∷ after) ≡ length p.slots → IsProgram p → ArePartsOf before parts → HasRoom (length p.slots) item parts
 room_for before after Nothing p parts budget loops slots is are = tt
@@ -113,7 +113,7 @@ room_for before after (Code insn) p parts budget loops slots is are =
 cut_at : (items : List Item) (n : ℕ) → n < length items → items ≡ take n items ++ get_or items n Nothing ∷ drop (n + 1) items
 cut_at items n low = sym (take-append-drop n items) ∙ ap (λ (rest : List Item). take n items ++ rest) (drop_more items n Nothing low)
 
-pub room_at : {text : List ℕ} {p : Program} (t : IsText text p) (n : ℕ) (parts : Parts) → n < length t.items → ArePartsOf (take n t.items) parts
+pub room_at : {text : List ℕ} {p : Program} (t : IsText text p) (n : ℕ) (parts : Draft) → n < length t.items → ArePartsOf (take n t.items) parts
     → HasRoom (length p.slots) (get_or t.items n Nothing) parts
 room_at {p} t n parts low are =
     let cut = cut_at t.items n low in
@@ -138,12 +138,12 @@ line_at names slot (l ∷ lines) (item ∷ items) (suc n) line says low same =
     (subst Q (omega arith) rest.0, let far = rest.1 in omega arith)
 
 -- the line of this turn says the text's next item, which has room
-pub record IsTurn {text : List ℕ} {p : Program} (t : IsText text p) (survey : Survey) (parts : Parts) (n : ℕ) (line : List ℕ) : Type 0 where
+pub record IsTurn {text : List ℕ} {p : Program} (t : IsText text p) (survey : Survey) (parts : Draft) (n : ℕ) (line : List ℕ) : Type 0 where
   pub low : n < length t.items
   pub says : IsLine (slot_named survey.names) parts.slots line (get_or t.items n Nothing)
   pub room : HasRoom survey.slots (get_or t.items n Nothing) parts
 
-pub turn_at : {text : List ℕ} {p : Program} (t : IsText text p) (survey : Survey) (parts : Parts) (n : ℕ) (line : List ℕ) → SurveysText t survey → ArePartsOf (take n t.items) parts
+pub turn_at : {text : List ℕ} {p : Program} (t : IsText text p) (survey : Survey) (parts : Draft) (n : ℕ) (line : List ℕ) → SurveysText t survey → ArePartsOf (take n t.items) parts
     → n < length (slice_split (λ c. c == 10) text) → line ≡ get_or (slice_split (λ c. c == 10) text) n line → IsTurn t survey parts n line
 turn_at {text} {p} t survey parts n line surveys are low same =
     let item = get_or t.items n Nothing in
@@ -158,7 +158,7 @@ turn_at {text} {p} t survey parts n line surveys are low same =
       room = subst R (sym surveys.slots) (room_at t n parts found.1 are);
     }
 
-pub turn_adds : {text : List ℕ} {p : Program} (t : IsText text p) (survey : Survey) (old new : Parts) (n : ℕ) (line : List ℕ) → IsTurn t survey old n line → ArePartsOf (take n t.items) old
+pub turn_adds : {text : List ℕ} {p : Program} (t : IsText text p) (survey : Survey) (old new : Draft) (n : ℕ) (line : List ℕ) → IsTurn t survey old n line → ArePartsOf (take n t.items) old
     → AddsItem (get_or t.items n Nothing) old new → ArePartsOf (take (n + 1) t.items) new
 turn_adds t survey old new n line turn are adds =
     let low = turn.low in
@@ -177,7 +177,7 @@ some_from_list : {X : Type 0} (o : Option X) (x : X) → option_to_list o ≡ x 
 some_from_list None x same = absurd (not_nil x [] (sym same))
 some_from_list (Some y) x same = cc
 
-pub image_of : {text : List ℕ} {p : Program} (t : IsText text p) (parts : Parts) → ArePartsOf t.items parts → IsImageOf parts p
+pub image_of : {text : List ℕ} {p : Program} (t : IsText text p) (parts : Draft) → ArePartsOf t.items parts → IsImageOf parts p
 image_of {p} t parts are =
     let P : List Loop → Type 0 = λ ls. IsPermutation ls p.loops in
     record {

@@ -10,7 +10,7 @@ use Rattle.bpf.specs.declared.loops.Loop.{Loop}
 use Rattle.bpf.specs.Parts.{placed}
 use Rattle.bpf.specs.Program.{Program}
 use Rattle.basm_lex.specs.Lines.{word_of}
-use Rattle.basm.specs.declared.parts.Parts.{Parts}
+use Rattle.basm.specs.declared.draft.Draft.{Draft}
 use Rattle.basm.specs.declared.survey.Survey.{Survey}
 use Rattle.basm.specs.Adding.{IsImageOf, SayParts, SurveysText, slots_of_items}
 use Rattle.basm.specs.Labels.{IsSurvey, alone, declares_budget, label_in, label_of, labelled, labels_from, slot_after, slots_from, slots_unless, word_slots}
@@ -86,7 +86,7 @@ labels_are named names slot (line ∷ lines) (item ∷ items) says few =
     let rest = labels_are named names (slot + slots_in item) lines items says.1 (omega arith) in
     (rw (one.0, next) (ap (λ (pairs : List (List ℕ × ℕ)). name_of slot item ++ pairs) rest.0), rw next (rest.1 ∙ omega arith))
 
-pub text_is : AreNamed → (text : List ℕ) (survey : Survey) (parts : Parts) (p : Program) → IsSurvey (slice_split (λ c. c == 10) text) survey → survey.repeated ≡ None
+pub text_is : AreNamed → (text : List ℕ) (survey : Survey) (parts : Draft) (p : Program) → IsSurvey (slice_split (λ c. c == 10) text) survey → survey.repeated ≡ None
     → SayParts (slot_named survey.names) (slice_split (λ c. c == 10) text) parts → IsImageOf parts p → IsText text p
 text_is named text survey parts p is unrepeated say image =
     let lines = slice_split (λ c. c == 10) text in

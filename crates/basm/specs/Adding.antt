@@ -12,7 +12,7 @@ use Rattle.basm_lex.specs.Numbers.{WritesNumber}
 use Rattle.basm_lex.specs.Places.{WritesRegister}
 use Rattle.basm.specs.declared.faults.AsmCode.{AsmCode}
 use Rattle.basm.specs.declared.faults.AsmCode.TheVariants.{Memory}
-use Rattle.basm.specs.declared.parts.Parts.{Parts}
+use Rattle.basm.specs.declared.draft.Draft.{Draft}
 use Rattle.basm.specs.declared.survey.Survey.{Survey}
 use Rattle.basm.specs.Naming.{slot_named}
 use Rattle.basm.specs.Relation.{Four, Item, Nothing, Label, Budget, OneLoop, Code, AreLines, IsLine, IsText, WritesEnd, budget_in, loop_in, insn_in, slots_in}
@@ -29,7 +29,7 @@ pub record PushesInsn (old new : List Insn) (slot : ℕ) (insn : Insn) (after : 
   pub few : after ≤ 512
 
 -- the item is added behind the others
-pub record AddsItem (item : Item) (old new : Parts) : Type 0 where
+pub record AddsItem (item : Item) (old new : Draft) : Type 0 where
   pub budget : option_to_list new.budget ≡ option_to_list old.budget ++ budget_in item
   pub loops : new.loops.items ≡ old.loops.items ++ loop_in item
   pub insns : new.insns.items ≡ old.insns.items ++ insn_in item
@@ -44,7 +44,7 @@ abbrev pub has_head : ℕ → List Loop → Bool
 has_head head loops = list_any (λ l. l.head == head) loops
 
 -- the item may stand behind the parts, in a text of so many slots
-abbrev pub HasRoom : (slots : ℕ) → Item → Parts → Type 0
+abbrev pub HasRoom : (slots : ℕ) → Item → Draft → Type 0
 HasRoom slots Nothing parts = Unit {0}
 HasRoom slots (Label name) parts = Unit {0}
 HasRoom slots (Budget n) parts = IsBudget n × (parts.budget ≡ None)
@@ -53,7 +53,7 @@ HasRoom slots (OneLoop l) parts =
 HasRoom slots (Code insn) parts = parts.slots + slots_of insn ≤ 512
 
 -- what the line says was added
-pub record AddsLine (names : List ℕ → Option ℕ) (line : List ℕ) (old new : Parts) : Type 0 where
+pub record AddsLine (names : List ℕ → Option ℕ) (line : List ℕ) (old new : Draft) : Type 0 where
   pub item : Item
   pub says : IsLine names old.slots line item
   pub adds : AddsItem item old new
@@ -65,21 +65,21 @@ slots_of_items [] = 0
 slots_of_items (item ∷ items) = slots_in item + slots_of_items items
 
 -- the parts are those of the items
-pub record ArePartsOf (items : List Item) (parts : Parts) : Type 0 where
+pub record ArePartsOf (items : List Item) (parts : Draft) : Type 0 where
   pub budget : option_to_list parts.budget ≡ flat_map budget_in items
   pub loops : parts.loops.items ≡ flat_map loop_in items
   pub insns : parts.insns.items ≡ flat_map insn_in items
   pub slots : parts.slots ≡ slots_of_items items
 
 -- the lines say the parts
-pub record SayParts (names : List ℕ → Option ℕ) (lines : List (List ℕ)) (parts : Parts) : Type 0 where
+pub record SayParts (names : List ℕ → Option ℕ) (lines : List (List ℕ)) (parts : Draft) : Type 0 where
   pub items : List Item
   pub says : AreLines names 0 lines items
   pub parts_of : ArePartsOf items parts
   pub few : parts.slots ≤ 512
 
 -- the image of the parts, its loops by rising head
-pub record IsImageOf (parts : Parts) (p : Program) : Type 0 where
+pub record IsImageOf (parts : Draft) (p : Program) : Type 0 where
   pub program : IsProgram p
   pub budget : parts.budget ≡ Some p.budget
   pub loops : IsPermutation parts.loops.items p.loops

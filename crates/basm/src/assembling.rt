@@ -9,8 +9,8 @@ ghost use Rattle.basm.specs.Outcomes.{Makes, out_of_memory};
 ghost use Rattle.basm.specs.Relation.{IsText};
 ghost use Rattle.basm.specs.declared.faults.AsmCode.TheVariants.{Memory};
 
+use crate::draft::Draft;
 use crate::faults::{AsmCode, AsmFault};
-use crate::parts::Parts;
 use crate::survey::Survey;
 use basm_lex::mnemonic_laws;
 use bpf::Image;
@@ -45,11 +45,11 @@ pub fn assemble(alloc: Global, text: &str) -> Result<Image, AsmFault>
 }
 
 /// What the lines declare.
-fn read_lines(alloc: Global, text: &str, survey: &Survey) -> Result<Parts, AsmFault>
+fn read_lines(alloc: Global, text: &str, survey: &Survey) -> Result<Draft, AsmFault>
     ensures parts { IfOk result (SayParts (slot_named survey.now.names) (slice_split (λ c. c == 10) text.now)) }
     ensures exact { (p : Program) (t : IsText text.now p) → SurveysText t survey.now → MatchResult result (ArePartsOf t.items) (λ fault. fault ≡ out_of_memory) }
 {
-    let mut parts = Parts::new(alloc);
+    let mut parts = Draft::new(alloc);
     let mut number: u32 = 0;
     for line in text.split('\n') {
         number = number.saturating_add(1);

@@ -1,6 +1,6 @@
 //! Why a text is no image.
 
-ghost use Rattle.std.specs.Prelude.{◌≡◌};
+ghost use Rattle.std.specs.Prelude.{◌≡◌, Ok, IfOk};
 ghost use Rattle.basm.specs.Codes.{asm_code, lower_code};
 ghost use Rattle.basm.specs.Outcomes.{image_code, line_fault, out_of_memory, text_fault};
 ghost use Rattle.basm.specs.declared.faults.AsmCode.TheVariants.{Memory};
@@ -69,6 +69,26 @@ impl AsmCode {
         } else {
             self
         }
+    }
+}
+
+/// Both values, or the lowest fault.
+pub fn both<A: Drop, B: Drop>(
+    first: Result<A, AsmCode>,
+    second: Result<B, AsmCode>,
+) -> Result<(A, B), AsmCode>
+    ensures both { IfOk result (λ both. (first ≡ Ok both.0) × (second ≡ Ok both.1)) }
+    ensures exact { IfOk first (λ a. IfOk second (λ b. result ≡ Ok (a, b))) }
+{
+    match first {
+        Ok(a) => match second {
+            Ok(b) => Ok((a, b)),
+            Err(fault) => Err(fault),
+        },
+        Err(fault) => match second {
+            Ok(_) => Err(fault),
+            Err(other) => Err(fault.lower(other)),
+        },
     }
 }
 

@@ -12,8 +12,7 @@ ghost use Rattle.basm_lex.specs.Mnemonics.{mnemonic_word};
 ghost use Rattle.basm.specs.Naming.{slot_named};
 ghost use Rattle.basm.specs.Relation.{Four, One, Three, Two, WritesInsn, WritesOperand, WritesTarget};
 
-use crate::choice::both;
-use crate::faults::AsmCode;
+use crate::faults::{AsmCode, both};
 use crate::names::Names;
 use crate::targets::{read_long_target, read_short_target};
 use basm_lex::{Mnemonic, Place, mnemonic_laws, number, read_place, register, wide_number};

@@ -5,13 +5,12 @@
 #![tactic(auto)]
 
 mod assembling;
-mod choice;
+mod directives;
+mod draft;
 mod faults;
 mod instructions;
 mod laws;
-mod looping;
 mod names;
-mod parts;
 mod printing;
 mod survey;
 mod targets;

@@ -8,8 +8,7 @@ ghost use Rattle.basm.specs.Adding.{WritesLoop};
 ghost use Rattle.basm.specs.Naming.{slot_named};
 ghost use Rattle.basm.specs.Relation.{One, WritesEnd};
 
-use crate::choice::both;
-use crate::faults::AsmCode;
+use crate::faults::{AsmCode, both};
 use crate::survey::Survey;
 use basm_lex::{NumberFault, is_name, number, register};
 use bpf::{Loop, MAX_BOUND, MAX_SLOTS, is_budget};

@@ -3,8 +3,8 @@ use Rattle.std.specs.Prelude.{FitsSigned}
 use Rattle.std.specs.Int.{w32}
 use Rattle.basm.proofs.LoopReadings.{counted, not_high, not_low}
 use Rattle.basm.proofs.OperandReadings.{no_value, one_value}
-use Rattle.basm.proofs.looping.read_bound.Goals.{else-bound-ge1-via-then-bound-ge1+else-bound-from, else-bound-ge1-via-else-bound-ge1}
-use Rattle.basm.proofs.looping.read_bound.Goals as goal
+use Rattle.basm.proofs.directives.read_bound.Goals.{else-bound-ge1-via-then-bound-ge1+else-bound-from, else-bound-ge1-via-else-bound-ge1}
+use Rattle.basm.proofs.directives.read_bound.Goals as goal
 
 pub returns-in_err-bound-clause-exact : goal.returns-in_err-bound-clause-exact
 returns-in_err-bound-clause-exact c = λ bound low high w. absurd (no_value c.in_err-bound.field-0.0 (pos bound) (c.in_err-bound.ensures.exact (pos bound) w))

@@ -5,8 +5,8 @@ use Rattle.std.proofs.Math.IntN.{nat_abs}
 use Rattle.basm.specs.Naming.{slot_named}
 use Rattle.basm.proofs.LoopReadings.{end_number, not_above, not_below, slot_of_name, slot_of_number}
 use Rattle.basm.proofs.OperandReadings.{no_value}
-use Rattle.basm.proofs.looping.read_end.Goals.{then-is_name+in_ok-ok_or, else-is_name+in_ok-field, else-slot-ge0-via-then-slot-ge0+else-slot-from, else-slot-ge0-via-else-slot-ge0}
-use Rattle.basm.proofs.looping.read_end.Goals as goal
+use Rattle.basm.proofs.directives.read_end.Goals.{then-is_name+in_ok-ok_or, else-is_name+in_ok-field, else-slot-ge0-via-then-slot-ge0+else-slot-from, else-slot-ge0-via-else-slot-ge0}
+use Rattle.basm.proofs.directives.read_end.Goals as goal
 
 pub returns-in_err-field-clause-exact : goal.returns-in_err-field-clause-exact
 returns-in_err-field-clause-exact c = λ slot within low w.

@@ -13,10 +13,9 @@ ghost use Rattle.basm.specs.Naming.{slot_named};
 ghost use Rattle.basm.specs.Outcomes.{Makes};
 ghost use Rattle.basm.specs.Relation.{Budget, Code, IsLine, Item, One, OneLoop, WritesInsn};
 
-use crate::choice::both;
-use crate::faults::{AsmCode, AsmFault};
+use crate::directives::{read_budget, read_loop};
+use crate::faults::{AsmCode, AsmFault, both};
 use crate::instructions::add_insn;
-use crate::looping::{read_budget, read_loop};
 use crate::survey::Survey;
 use basm_lex::{Mnemonic, label, read_mnemonic, read_statement};
 use bpf::{Image, Loop, MAX_LOOPS};
@@ -25,7 +24,7 @@ use std::alloc::Global;
 
 /// The parts of an image that the lines so far declare.
 #[derive(Drop)]
-pub struct Parts {
+pub struct Draft {
     budget: Option<u32>,
     /// In the order of their lines.
     loops: Vec<Loop>,
@@ -34,12 +33,12 @@ pub struct Parts {
     slots: u32,
 }
 
-impl Parts {
+impl Draft {
     /// The parts of no lines.
-    pub fn new(alloc: Global) -> Parts
+    pub fn new(alloc: Global) -> Draft
         ensures { ArePartsOf [] result }
     {
-        Parts {
+        Draft {
             budget: None,
             loops: Vec::new(alloc),
             insns: Vec::new(alloc),

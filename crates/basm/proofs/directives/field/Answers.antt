@@ -1,5 +1,5 @@
 use Rattle.basm.proofs.OperandReadings.{no_value}
-use Rattle.basm.proofs.looping.field.Goals as goal
+use Rattle.basm.proofs.directives.field.Goals as goal
 
 pub returns-in-Err-Form-clause-exact : goal.returns-in-Err-Form-clause-exact
 returns-in-Err-Form-clause-exact c = λ value w. absurd (no_value c.in-Err-Form.field-0 value (c.in-Err-Form.ensures.exact value w))

@@ -9,7 +9,7 @@ use Rattle.basm.specs.Naming.{slot_named}
 use Rattle.basm.specs.Relation.{Item}
 use Rattle.basm.proofs.Arms.{budget_item, empty_adds, insn_item, label_item, loop_item}
 use Rattle.basm.proofs.Items.{adds_label, line_insn, line_label, line_loop, line_nothing}
-use Rattle.basm.proofs.parts.Parts.add_line.Goals as goal
+use Rattle.basm.proofs.draft.Draft.add_line.Goals as goal
 
 pub returns-in-empty-clause-adds : goal.returns-in-empty-clause-adds
 returns-in-empty-clause-adds c =

@@ -4,7 +4,7 @@ use Rattle.basm.specs.Naming.{slot_named}
 use Rattle.basm.proofs.Items.{four_from}
 use Rattle.basm.proofs.LoopReadings.{loop_read, same_ends, same_loop}
 use Rattle.basm.proofs.OperandReadings.{no_value}
-use Rattle.basm.proofs.looping.read_loop.Goals as goal
+use Rattle.basm.proofs.directives.read_loop.Goals as goal
 
 pub returns-then-head-back-clause-writes : goal.returns-then-head-back-clause-writes
 returns-then-head-back-clause-writes c =

@@ -6,7 +6,7 @@ use Rattle.bpf.specs.declared.loops.Loop.{Loop}
 use Rattle.bpf.specs.Parts.{parts_reading}
 use Rattle.bpf.specs.Program.{Program}
 use Rattle.basm.proofs.Images.{image_reading, refused}
-use Rattle.basm.proofs.parts.Parts.into_image.Goals as goal
+use Rattle.basm.proofs.draft.Draft.into_image.Goals as goal
 
 -- lent parts are the parts
 lent : (insns given : List Insn) (loops sorted : List Loop) (budget : ℕ) → insns ≡ given → loops ≡ sorted → parts_reading insns loops budget ≡ parts_reading given sorted budget

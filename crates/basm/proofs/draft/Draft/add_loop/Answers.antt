@@ -5,7 +5,7 @@ use Rattle.std.proofs.lemmas.Bool.{true≢false}
 use Rattle.std.proofs.lemmas.Result.{IfOk-at_ok}
 use Rattle.bpf.specs.declared.loops.Loop.{Loop}
 use Rattle.basm.specs.declared.faults.AsmCode.{AsmCode}
-use Rattle.basm.proofs.parts.Parts.add_loop.Goals as goal
+use Rattle.basm.proofs.draft.Draft.add_loop.Goals as goal
 
 -- the loop that was read
 loop_of : Loop → Result (Loop × Unit {0}) AsmCode → Loop
