@@ -1,3 +1,4 @@
 mod Matching
 mod OnePort
 mod Stopped
+mod LinesInTurn

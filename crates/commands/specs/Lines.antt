@@ -1,5 +1,5 @@
 -- The packet lines of a text, and what is printed of each.
-use Rattle.std.specs.Prelude.{◌≡◌, ◌≢◌, ◌⊎◌, ℕ, ◌+◌, ◌^◌, ◌-◌, min, List, [], ◌∷◌, ◌++◌, length, Option}
+use Rattle.std.specs.Prelude.{◌≡◌, ◌≢◌, ◌⊎◌, ℕ, List, [], ◌∷◌, ◌++◌, Option}
 use Rattle.std.specs.Io.KnownBytes.{Appends}
 use Rattle.spw.specs.Cargo.{Cargo}
 use Rattle.spw.specs.Fault.{code_of}
@@ -38,10 +38,6 @@ JudgesAll [] before after old new = (after ≡ before) × (new ≡ old)
 JudgesAll (line ∷ lines) before after old new =
     (next : JobNodeValue) × (between : Option (List ℕ)) × Judges line before next old between × JudgesAll lines next after between new
 
--- the number of the line behind so many, from 1 to the largest that there is
-abbrev pub line_number : ℕ → ℕ
-line_number count = min (count + 1) (2 ^ 64 - 1)
-
 -- the line writes a packet of a port that the node does not have
 pub record HasNoPort (line : List ℕ) (node : JobNodeValue) : Type 0 where
   pub port : ℕ
@@ -66,14 +62,13 @@ IsBadPacket line count before after old new (Unfit refused) = ⊥
 IsBadPacket line count before after old new (BadLine number code) =
     (number ≡ count) × IsBad line before code × (after ≡ before) × (new ≡ old)
 
--- the lines up to a bad one were judged in turn, and the bad one, whose number and fault these are, was not
-pub record StopsAt (lines : List (List ℕ)) (before after : JobNodeValue) (old new : Option (List ℕ)) (number code : ℕ) : Type 0 where
+-- the lines up to a bad one were judged in turn, and the bad one, whose fault this is, was not
+pub record StopsAt (lines : List (List ℕ)) (before after : JobNodeValue) (old new : Option (List ℕ)) (code : ℕ) : Type 0 where
   pub judged : List (List ℕ)
   pub line : List ℕ
   pub rest : List (List ℕ)
   pub lines_are : lines ≡ judged ++ line ∷ rest
   pub all : JudgesAll judged before after old new
-  pub counted : number ≡ line_number (length judged)
   pub bad : IsBad line after code
 
 -- a line is bad, or memory was refused
@@ -84,4 +79,4 @@ IsBadLine lines before after old new NoMemory = Unit {0}
 IsBadLine lines before after old new (BadText fault) = ⊥
 IsBadLine lines before after old new (BadImage fault) = ⊥
 IsBadLine lines before after old new (Unfit refused) = ⊥
-IsBadLine lines before after old new (BadLine number code) = StopsAt lines before after old new number code
+IsBadLine lines before after old new (BadLine number code) = StopsAt lines before after old new code

@@ -1,7 +1,8 @@
 //! The job `judge`.
 
-ghost use Rattle.std.specs.Prelude.{◌≡◌, IfErr, IfOk, OnOk, [], codes, false};
+ghost use Rattle.std.specs.Prelude.{◌≡◌, ◌==◌, IfErr, IfOk, OnOk, [], codes, false};
 ghost use Rattle.std.specs.Io.KnownBytes.{Appends};
+ghost use Rattle.std.specs.List.{slice_split};
 ghost use Rattle.clap.specs.Simple.{app_of};
 ghost use Rattle.clap.specs.declared.builder.command.Command.TheViews.{out-Command as fields_of};
 ghost use Rattle.clap.specs.Walk.{rows_of};
@@ -10,7 +11,7 @@ ghost use Rattle.bpf.specs.Program.{image_bytes};
 ghost use Rattle.commands.specs.Arguments.{Lacks};
 ghost use Rattle.commands.specs.JudgeJob.{NamesJudge, discard_line, judge_app, reply_line};
 ghost use Rattle.commands.specs.Judging.{HoldsNoProgram, HoldsProgram, IsLineFault, IsNoFactory, IsNotJudged, factory_image};
-ghost use Rattle.commands.specs.Lines.{IsBadPacket, Judges, served_line};
+ghost use Rattle.commands.specs.Lines.{IsBadLine, IsBadPacket, Judges, JudgesAll, served_line};
 ghost use Rattle.commands.specs.Stopping.{StopsBy};
 ghost use Rattle.commands.specs.declared.faults.Fault.TheVariants.{NoMemory};
 
@@ -156,6 +157,24 @@ fn judge_line<'a, W: Write>(
     Ok(print_served(alloc, out, port, served, node.reply())?)
 }
 
+/// Judges each line of a text in turn. Lines are separated by line feeds.
+fn judge_lines<'a, W: Write>(
+    alloc: Global,
+    node: &mut JobNode,
+    text: &str,
+    out: &mut W,
+) -> Result<(), Stop<'a>>
+    ensures judged { OnOk result (JudgesAll (slice_split (λ c. c == 10) text.now) node.old node.new (W.contents out.old) (W.contents out.new)) }
+    ensures stops { IfErr result (StopsBy (IsBadLine (slice_split (λ c. c == 10) text.now) node.old node.new (W.contents out.old) (W.contents out.new))) }
+{
+    let mut number: usize = 0;
+    for line in text.split('\n') {
+        number = number.saturating_add(1);
+        judge_line(alloc, node, line, number, out)?;
+    }
+    Ok(())
+}
+
 /// Judges each line of a text in turn. A line is ended by a line feed, which the last may lack.
 fn judge_text<'a, W: Write>(
     alloc: Global,
@@ -165,10 +184,10 @@ fn judge_text<'a, W: Write>(
 ) -> Result<(), Stop<'a>>
     ensures stops { IfErr result (StopsBy IsLineFault) }
 {
-    for (index, line) in text.split_terminator('\n').enumerate() {
-        judge_line(alloc, node, line, index.saturating_add(1), out)?;
+    if text.is_empty() {
+        return Ok(());
     }
-    Ok(())
+    Ok(judge_lines(alloc, node, text.strip_suffix('\n').unwrap_or(text), out)?)
 }
 
 /// Judges the packet lines of a file by the program of an image file, or by the factory program.
