@@ -150,6 +150,7 @@ impl Bank {
     pub fn range(&self) -> (u32, u32)
         ensures first { result.0 ≡ self.now.first }
         ensures size { result.1 ≡ length self.now.bytes }
+        ensures few { result.1 ≤ MAX_SIZE }
         ensures bank { IsBank self.now }
     {
         (self.first, self.bytes.len() as u32)

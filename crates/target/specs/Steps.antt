@@ -55,6 +55,11 @@ abbrev pub IsStopped : Stop → Cargo → Ranges → List ℕ → Type 0
 IsStopped (NoCommand d) p w reply = (discard_of p.bytes ≡ Some d) × (reply ≡ [])
 IsStopped (Fault status) p w reply = IsFaulty p w status × (reply ≡ reply_of (command_of p) status [])
 
+-- the packet was admitted as it came, with its place under those windows
+pub record IsAdmission (admitted : AdmittedValue) (p : Cargo) (w : Ranges) : Type 0 where
+  pub packet : admitted.packet ≡ p
+  pub placed : IsPlacedBy w p admitted.place
+
 -- nothing serves the command of the packet: the reply is a general error
 pub record IsUnread (p : Cargo) (w : Ranges) (reply : List ℕ) : Type 0 where
   pub allowed : IsAllowed p w

@@ -10,7 +10,8 @@ use bank::{Applied, Bank, Judged};
 use rmap::{Place, ReplyBuf};
 
 /// Applies a judged command to the bank of its place, with the port's share of it, and leaves the
-/// reply. Where [`Bank::fits`] says no, it is a general error, and nothing changes.
+/// reply. Where [`Bank::fits`] says no, it is a general error, and nothing changes: that does not
+/// happen where bank and pass were made together ([`paired_commands_fit`](crate::paired_commands_fit)).
 pub fn finish(pass: &mut Pass, bank: &mut Bank, judged: Judged, reply: &mut ReplyBuf) -> Applied
     requires { IsBankBelow judged.place (length pass.old.shares) }
 

@@ -35,7 +35,7 @@ impl Model for Node {
 
 /// The windows of the node.
 fn windows(config: &NodeConfig) -> Windows
-    requires { length config.now.banks.now ≤ 8 }
+    requires { length config.now.banks.now ≤ MAX_BANKS }
     ensures { result ≡ windows_of config.now.address config.now.banks.now }
 {
     let mut ranges = [(0, 0); MAX_BANKS];
@@ -53,7 +53,7 @@ fn passes(
     hands: &mut Vec<Hand>,
     factory: &Accepted,
 ) -> Result<Vec<Pass>, AllocError>
-    requires banks { length config.now.banks.now ≤ 8 }
+    requires banks { length config.now.banks.now ≤ MAX_BANKS }
     requires ports { config.now.ports ≤ PORTS }
     requires hands { AreHands (length config.now.banks.now) config.now.ports hands.old.items }
     ensures { IfOk result (λ passes. passes.items ≡ map (first_pass config.now.address config.now.banks.now factory.now) (range_with_len 0 config.now.ports)) }

@@ -61,9 +61,11 @@ pub fn serve_packet(
     ensures pass { length pass.new.shares ≡ length pass.old.shares }
 
     // Where banks and pass are paired no command is refused, and they stay so; so do all others.
-    ensures answered { IsPaired banks.old pass.old → IsAnswered result packet banks.old banks.new pass.old pass.new reply.new }
+    ensures answered { IsPaired banks.old pass.old
+        → IsAnswered result packet banks.old banks.new pass.old pass.new reply.new }
     ensures paired { IsPaired banks.old pass.old → IsPaired banks.new pass.new }
-    ensures others { (other : Holder) → other.port ≢ pass.old.port → IsPaired banks.old other → IsPaired banks.new other }
+    ensures others { (other : Holder) → other.port ≢ pass.old.port
+        → IsPaired banks.old other → IsPaired banks.new other }
 {
     extents_stay();
     serve(banks, pass, packet, reply)

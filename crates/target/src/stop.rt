@@ -2,7 +2,7 @@
 
 ghost use Rattle.std.specs.Prelude.{◌≡◌, [], MatchResult};
 ghost use Rattle.bank.specs.Admission.{IsPlacedBy};
-ghost use Rattle.target.specs.Steps.{IsStopped};
+ghost use Rattle.target.specs.Steps.{IsAdmission, IsStopped};
 
 use bank::Admitted;
 use rmap::{Command, Discard, Place, ReplyBuf, Status, Windows, checked_place, put_reply};
@@ -20,7 +20,9 @@ pub enum Stop {
 /// The place of the packet's command, or why the packet stops, with the reply that is due then.
 fn checked(packet: &Packet, windows: &Windows, reply: &mut ReplyBuf) -> Result<Place, Stop>
     requires { reply.old ≡ [] }
-    ensures { MatchResult result (λ place. IsPlacedBy windows.now packet.now place × (reply.new ≡ [])) (λ stop. IsStopped stop packet.now windows.now reply.new) }
+    ensures { MatchResult result
+        (λ place. IsPlacedBy windows.now packet.now place × (reply.new ≡ []))
+        (λ stop. IsStopped stop packet.now windows.now reply.new) }
 {
     let command = match Command::view(packet) {
         Ok(command) => command,
@@ -43,7 +45,7 @@ pub fn admit(
     reply: &mut ReplyBuf,
 ) -> Result<Admitted, (Stop, Packet)>
     ensures { MatchResult result
-        (λ admitted. (admitted.packet ≡ packet) × IsPlacedBy windows.now packet admitted.place × (reply.new ≡ []))
+        (λ admitted. IsAdmission admitted packet windows.now × (reply.new ≡ []))
         (λ stopped. (stopped.1 ≡ packet) × IsStopped stopped.0 packet windows.now reply.new) }
 {
     reply.clear();
