@@ -91,6 +91,7 @@ loops_no_slot slots (suc n) least bytes slot fault e =
     by_rest : (l : Loop) → (loops_reading slots n (l.head + 1) (drop 8 bytes) ≡ Err (faults.BadSlot slot fault) → ⊥) → (loops_reading slots n (l.head + 1) (drop 8 bytes) ≡ Err (faults.BadSlot slot fault)) ⊎ ((ls : List Loop) × (loops_reading slots n (l.head + 1) (drop 8 bytes) ≡ Ok ls) × ((let r : Result (List Loop) ImageFault = Ok (l ∷ ls) in r) ≡ Err (faults.BadSlot slot fault))) → ⊥
     by_rest l later (inl e) = later e
     by_rest l later (inr p) = let never = p.2 in cc
+
     by_first : ((l : Loop) → loops_reading slots n (l.head + 1) (drop 8 bytes) ≡ Err (faults.BadSlot slot fault) → ⊥) → (loop_reading slots least bytes ≡ Err (faults.BadSlot slot fault)) ⊎ ((l : Loop) × (loop_reading slots least bytes ≡ Ok l) × ((loops_reading slots n (l.head + 1) (drop 8 bytes) >>= (λ ls. Ok (l ∷ ls))) ≡ Err (faults.BadSlot slot fault))) → ⊥
     by_first later (inl e) = loop_no_slot slots least bytes slot fault e
     by_first later (inr p) = by_rest p.0 (later p.0) (came_from (loops_reading slots n (p.0.head + 1) (drop 8 bytes)) _ (faults.BadSlot slot fault) p.2)
@@ -125,6 +126,7 @@ slots_fault (suc n) slot second bytes named fault e =
     by_rest : (x : Option Insn) → (slots_reading n (slot + 1) (begins_two x) (drop 8 bytes) ≡ Err (faults.BadSlot named fault) → IsRead (slot + 1) (drop 8 bytes) named fault) → (slots_reading n (slot + 1) (begins_two x) (drop 8 bytes) ≡ Err (faults.BadSlot named fault)) ⊎ ((xs : List (Option Insn)) × (slots_reading n (slot + 1) (begins_two x) (drop 8 bytes) ≡ Ok xs) × ((let r : Result (List (Option Insn)) ImageFault = Ok (x ∷ xs) in r) ≡ Err (faults.BadSlot named fault))) → IsRead slot bytes named fault
     by_rest x later (inl e) = read_later slot bytes named fault (later e)
     by_rest x later (inr p) = let never = p.2 in cc
+
     by_first : (second : Bool) → ((x : Option Insn) → slots_reading n (slot + 1) (begins_two x) (drop 8 bytes) ≡ Err (faults.BadSlot named fault) → IsRead (slot + 1) (drop 8 bytes) named fault) → (slot_reading slot second bytes ≡ Err (faults.BadSlot named fault)) ⊎ ((x : Option Insn) × (slot_reading slot second bytes ≡ Ok x) × ((slots_reading n (slot + 1) (begins_two x) (drop 8 bytes) >>= (λ xs. Ok (x ∷ xs))) ≡ Err (faults.BadSlot named fault))) → IsRead slot bytes named fault
     by_first true later (inl e) = cc
     by_first false later (inl e) =
@@ -166,12 +168,15 @@ fault_named law bytes named fault bounds e = by_header (came_from (header_readin
     by_slots : (h : Header) (loops : List Loop) → slice_index bytes 5 ≡ h.loops → (slots_reading h.slots 0 false (drop (16 + 8 * h.loops) bytes) ≡ Err (faults.BadSlot named fault)) ⊎ ((slots : List (Option Insn)) × (slots_reading h.slots 0 false (drop (16 + 8 * h.loops) bytes) ≡ Ok slots) × ((let r : Result Program ImageFault = Ok (program h.budget loops slots) in r) ≡ Err (faults.BadSlot named fault))) → IsFaultAt bytes (faults.BadSlot named fault)
     by_slots h loops count (inl e) = named_at law bytes h named fault bounds count (slots_fault h.slots 0 false _ named fault e)
     by_slots h loops count (inr p) = let never = p.2 in cc
+
     by_loops : (h : Header) → slice_index bytes 5 ≡ h.loops → (loops_reading h.slots h.loops 0 (drop 16 (take (16 + 8 * h.loops) bytes)) ≡ Err (faults.BadSlot named fault)) ⊎ ((loops : List Loop) × (loops_reading h.slots h.loops 0 (drop 16 (take (16 + 8 * h.loops) bytes)) ≡ Ok loops) × ((slots_reading h.slots 0 false (drop (16 + 8 * h.loops) bytes) >>= (λ slots. Ok (program h.budget loops slots))) ≡ Err (faults.BadSlot named fault))) → IsFaultAt bytes (faults.BadSlot named fault)
     by_loops h count (inl e) = absurd (loops_no_slot _ _ _ _ named fault e)
     by_loops h count (inr p) = by_slots h p.0 count (came_from (slots_reading h.slots 0 false (drop (16 + 8 * h.loops) bytes)) _ (faults.BadSlot named fault) p.2)
+
     by_length : (h : Header) (b : Bool) (r : Result Program ImageFault) → (r ≡ Err (faults.BadSlot named fault) → IsFaultAt bytes (faults.BadSlot named fault)) → (if b then r else Err faults.Length) ≡ Err (faults.BadSlot named fault) → IsFaultAt bytes (faults.BadSlot named fault)
     by_length h true r k e = k e
     by_length h false r k e = cc
+
     by_header : (header_reading bytes ≡ Err (faults.BadSlot named fault)) ⊎ ((h : Header) × (header_reading bytes ≡ Ok h) × (rest_of bytes h ≡ Err (faults.BadSlot named fault))) → IsFaultAt bytes (faults.BadSlot named fault)
     by_header (inl e) = absurd (header_no_slot bytes named fault e)
     by_header (inr p) = by_length p.0 _ _ (λ e. by_loops p.0 (header_loops bytes p.0 p.1) (came_from (loops_reading p.0.slots p.0.loops 0 (drop 16 (take (16 + 8 * p.0.loops) bytes))) _ (faults.BadSlot named fault) e)) p.2

@@ -31,7 +31,15 @@ impl Loop {
         ensures value { result ≡ is_loop slots 0 self.now.head self.now.back self.now.bound self.now.register 0 }
         ensures exact { IsTrue result ↔ IsLoop slots self.now }
     {
-        is_loop(slots, 0, self.head, self.back, self.bound, self.register.number(), 0)
+        is_loop(
+            slots,
+            0,
+            self.head,
+            self.back,
+            self.bound,
+            self.register.number(),
+            0,
+        )
     }
 }
 

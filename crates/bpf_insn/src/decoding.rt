@@ -12,8 +12,8 @@ use crate::fields::Fields;
 use crate::insn::{Address, Callee, Distance, Insn};
 use crate::memory::{LoadSize, Size};
 use crate::opcode::{
-    ALU, CALL, CONSTANT, END, EXIT, GOTO_LONG, GOTO_SHORT, JMP, JMP32, LD, LDX, LOAD_WIDE, MAP_BY_INDEX,
-    MOV, NEG, ST, STX,
+    ALU, CALL, CONSTANT, END, EXIT, GOTO_LONG, GOTO_SHORT, JMP, JMP32, LD, LDX, LOAD_WIDE,
+    MAP_BY_INDEX, MOV, NEG, ST, STX,
 };
 use crate::operation::{AluOp, Condition, Extension, Operand, Swap, SwapBits, Width};
 use crate::register::Register;

@@ -9,8 +9,8 @@ use crate::fields::Fields;
 use crate::insn::{Address, Distance, Insn};
 use crate::memory::{LoadSize, Size};
 use crate::opcode::{
-    CALL, CONSTANT, END, EXIT, GOTO_LONG, GOTO_SHORT, K, LDX, LOAD_WIDE, MAP_BY_INDEX, MOV, NEG, ST,
-    STX, X,
+    CALL, CONSTANT, END, EXIT, GOTO_LONG, GOTO_SHORT, K, LDX, LOAD_WIDE, MAP_BY_INDEX, MOV, NEG,
+    ST, STX, X,
 };
 use crate::operation::{AluOp, Condition, Extension, Operand, Swap, SwapBits, Width};
 use crate::register::Register;

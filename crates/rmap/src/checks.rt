@@ -27,7 +27,9 @@ pub fn place(command: &Command, windows: &Windows) -> Option<Place>
 {
     let extended = command.extended();
     match windows.bank(extended) {
-        Some((base, size)) => command.lies_inside(base, size).then_some(Place::Bank(extended)),
+        Some((base, size)) => command
+            .lies_inside(base, size)
+            .then_some(Place::Bank(extended)),
         None if extended == BOOT_WINDOW => boot_place(command),
         None => None,
     }
