@@ -31,6 +31,7 @@ pub record AreWords (words : List ℕ) : Type 0 where
   pub count : length words ≡ 8
   pub each : (k : ℕ) → slice_index_or words k 0 < 2 ^ 64
 
+-- there is a bit for each place
 pub length-bits : (count word : ℕ) → length (bits_of count word) ≡ count
 unfolding bits_of
 length-bits zero word = refl
