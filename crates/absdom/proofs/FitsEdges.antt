@@ -21,7 +21,7 @@ use Rattle.absdom.specs.declared.cause.Cause.{Cause}
 use Rattle.absdom.specs.declared.kinds.AbsKind.{AbsKind}
 use Rattle.absdom.specs.declared.kinds.AbsKind.TheVariants.{Unset, Num, Ptr, Map}
 use Rattle.absdom.specs.Kinds.{number_of}
-use Rattle.absdom.specs.Knowledge.{Knowledge, kind_in, kind_at, with_kind}
+use Rattle.absdom.specs.State.{StateValue, kind_in, kind_at, with_kind}
 use Rattle.absdom.specs.Edges.{compared, with_source, on_edge, on_edges, unrefined, is_itself, edges_of, compared_edges}
 use Rattle.absdom.specs.Fits.{FitsKind, Fits, FitsEdge, edge_where, TakesEdge}
 use Rattle.absdom.specs.Laws.{RefineFits}
@@ -63,7 +63,7 @@ source_of_number : (s : State) (width : Width) (r : ℕ) (result : Result Range 
 source_of_number s width r (Err cause) h = tt
 source_of_number s width r (Ok range) h = h
 
-has_source : (s : State) (a : Knowledge) (width : Width) (src : Operand) → Fits s a → HasSource s width src (compared width a src)
+has_source : (s : State) (a : StateValue) (width : Width) (src : Operand) → Fits s a → HasSource s width src (compared width a src)
 has_source s a width (FromRegister r) fits =
     source_of_number s width r (number_of (kind_at a r)) (has_number (s.registers r) (kind_at a r) (fits.registers r))
 has_source s a width (Immediate z) fits =
@@ -85,7 +85,7 @@ kind_refined regs kinds r k f g q true e =
     let P : ℕ → Type 0 = λ x. FitsKind (regs x) (kind_in (set kinds r k) x) in
     subst P (sym eq) (at_place kinds r (regs r) k f)
 
-pub fits_refined : (s : State) (a : Knowledge) (r : ℕ) (k : AbsKind) → FitsKind (s.registers r) k → Fits s a → Fits s (with_kind a r k)
+pub fits_refined : (s : State) (a : StateValue) (r : ℕ) (k : AbsKind) → FitsKind (s.registers r) k → Fits s a → Fits s (with_kind a r k)
 fits_refined s a r k f fits =
     record {
       registers = λ q. kind_refined s.registers a.kinds r k f fits.registers q (q == r) refl;
@@ -95,26 +95,26 @@ fits_refined s a r k f fits =
 number_fits : (v : Value) (n : ℕ) (range : Range) → v ≡ Number n → IsIn n range → FitsKind v (Num range)
 number_fits v n range e h = let P : Value → Type 0 = λ x. FitsKind x (Num range) in subst P (sym e) h
 
-with_source_fits : (s : State) (a : Knowledge) (width : Width) (src : Operand) (m : ℕ) (range : Range) → SourceIs s width src m → IsIn m range → Fits s a → Fits s (with_source a src range)
+with_source_fits : (s : State) (a : StateValue) (width : Width) (src : Operand) (m : ℕ) (range : Range) → SourceIs s width src m → IsIn m range → Fits s a → Fits s (with_source a src range)
 with_source_fits s a width (FromRegister r) m range e h fits =
     fits_refined s a r (Num range) (number_fits (s.registers r) m range e h) fits
 with_source_fits s a width (Immediate z) m range e h fits = fits
 
-on_edge_fits : (s : State) (a : Knowledge) (width : Width) (dst : ℕ) (src : Operand) (n m : ℕ) (new : Option Operands) → s.registers dst ≡ Number n → SourceIs s width src m → AreIn n m new → Fits s a → FitsEdge s (on_edge a dst src new)
+on_edge_fits : (s : State) (a : StateValue) (width : Width) (dst : ℕ) (src : Operand) (n m : ℕ) (new : Option Operands) → s.registers dst ≡ Number n → SourceIs s width src m → AreIn n m new → Fits s a → FitsEdge s (on_edge a dst src new)
 on_edge_fits s a width dst src n m None e d h fits = absurd h
 on_edge_fits s a width dst src n m (Some new) e d h fits =
     with_source_fits s (with_kind a dst (Num new.dst)) width src m new.src d h.1
     (fits_refined s a dst (Num new.dst) (number_fits (s.registers dst) n new.dst e h.0) fits)
 
-edge_fits : (s : State) (a : Knowledge) (width : Width) (dst : ℕ) (src : Operand) (n m : ℕ) (new : RangeEdges) (holds : Bool) → s.registers dst ≡ Number n → SourceIs s width src m → AreIn n m (followed holds new) → Fits s a → FitsEdge s (edge_where holds (on_edges a dst src new))
+edge_fits : (s : State) (a : StateValue) (width : Width) (dst : ℕ) (src : Operand) (n m : ℕ) (new : RangeEdges) (holds : Bool) → s.registers dst ≡ Number n → SourceIs s width src m → AreIn n m (followed holds new) → Fits s a → FitsEdge s (edge_where holds (on_edges a dst src new))
 edge_fits s a width dst src n m new true e d h fits = on_edge_fits s a width dst src n m new.taken e d h fits
 edge_fits s a width dst src n m new false e d h fits = on_edge_fits s a width dst src n m new.not_taken e d h fits
 
-unrefined_fits : (s : State) (a : Knowledge) (holds : Bool) → Fits s a → FitsEdge s (edge_where holds (unrefined a))
+unrefined_fits : (s : State) (a : StateValue) (holds : Bool) → Fits s a → FitsEdge s (edge_where holds (unrefined a))
 unrefined_fits s a true fits = fits
 unrefined_fits s a false fits = fits
 
-edges_fit : RangesFit → (s : State) (a : Knowledge) (condition : Condition) (width : Width) (dst : ℕ) (src : Operand) (left right : Range) (n m : ℕ) → s.registers dst ≡ Number n → SourceIs s width src m → IsIn n left → IsIn m right → Fits s a → FitsEdge s (edge_where (holds_words condition width n m) (edges_of condition width a dst src left right))
+edges_fit : RangesFit → (s : State) (a : StateValue) (condition : Condition) (width : Width) (dst : ℕ) (src : Operand) (left right : Range) (n m : ℕ) → s.registers dst ≡ Number n → SourceIs s width src m → IsIn n left → IsIn m right → Fits s a → FitsEdge s (edge_where (holds_words condition width n m) (edges_of condition width a dst src left right))
 edges_fit ranges s a condition width dst src left right n m e d g h fits =
     elim (is_itself dst src) as (λ t. FitsEdge s (edge_where (holds_words condition width n m) (if t then unrefined a else on_edges a dst src (refined condition width left right)))) [
       | true ↦ unrefined_fits s a (holds_words condition width n m) fits
@@ -123,7 +123,7 @@ edges_fit ranges s a condition width dst src left right n m e d g h fits =
           (ranges condition width left right n m g h) fits
     ]
 
-compared_fit : RangesFit → (s : State) (a : Knowledge) (condition : Condition) (width : Width) (dst : ℕ) (src : Operand) (offset : ℤ) (left right : Result Range Cause) → HasNumber (s.registers dst) left → HasSource s width src right → Fits s a → TakesEdge s offset (compares condition width s offset (s.registers dst) (operand s src)) (compared_edges condition width a dst src left right)
+compared_fit : RangesFit → (s : State) (a : StateValue) (condition : Condition) (width : Width) (dst : ℕ) (src : Operand) (offset : ℤ) (left right : Result Range Cause) → HasNumber (s.registers dst) left → HasSource s width src right → Fits s a → TakesEdge s offset (compares condition width s offset (s.registers dst) (operand s src)) (compared_edges condition width a dst src left right)
 compared_fit ranges s a condition width dst src offset (Err cause) right g h fits = tt
 compared_fit ranges s a condition width dst src offset (Ok left) (Err cause) g h fits = tt
 compared_fit ranges s a condition width dst src offset (Ok left) (Ok right) g h fits = (

@@ -9,7 +9,7 @@ use Rattle.machine.specs.State.{State, state, entry_register, register_after, re
 use Rattle.absdom_num.specs.Tables.{whole}
 use Rattle.absdom.specs.declared.kinds.AbsKind.{AbsKind}
 use Rattle.absdom.specs.declared.kinds.AbsKind.TheVariants.{Unset, Num}
-use Rattle.absdom.specs.Knowledge.{Knowledge, entry_kinds, kind_in, kind_at, after_call}
+use Rattle.absdom.specs.State.{StateValue, entry_kinds, kind_in, kind_at, after_call}
 use Rattle.absdom.specs.Fits.{IsAmong, FitsKind, Fits}
 use Rattle.absdom.specs.Laws.{EntryFits, CallFits}
 use Rattle.absdom.proofs.FitsState.{fits_after}
@@ -64,7 +64,7 @@ same_after_call r answer (suc (suc (suc (suc zero)))) = refl
 same_after_call r answer (suc (suc (suc (suc (suc zero))))) = refl
 same_after_call r answer (suc (suc (suc (suc (suc (suc k)))))) = same_above r answer (suc (suc (suc (suc (suc (suc k)))))) (omega arith)
 
-called_fits : (s : State) (a : Knowledge) (answer : ℕ) → answer < 2 ^ 64 → Fits s a → Fits (state (s.slot + 1) (one_by_one s.registers answer) s.stack) (after_call a)
+called_fits : (s : State) (a : StateValue) (answer : ℕ) → answer < 2 ^ 64 → Fits s a → Fits (state (s.slot + 1) (one_by_one s.registers answer) s.stack) (after_call a)
 unfolding one_by_one
 called_fits s a answer h fits =
     let w : FitsKind (Number answer) (Num (whole Bits64)) = record { above = omega arith; below = omega arith; word = h } in

@@ -19,7 +19,7 @@ use Rattle.absdom_num.specs.Ranges.{IsIn}
 use Rattle.absdom.specs.declared.cause.Cause.TheVariants.{UnsetStack}
 use Rattle.absdom.specs.declared.kinds.AbsKind.{AbsKind}
 use Rattle.absdom.specs.declared.kinds.AbsKind.TheVariants.{Unset, Num, Ptr, Map}
-use Rattle.absdom.specs.Knowledge.{Knowledge}
+use Rattle.absdom.specs.State.{StateValue}
 use Rattle.absdom.specs.Marks.{mark_at, all_marked}
 use Rattle.absdom.specs.Effect.{both_places, access_places, is_set, loaded_range, read_kind, load_kind}
 use Rattle.absdom.specs.Fits.{IsAmong, FitsKind, IsByte, Fits}
@@ -138,7 +138,7 @@ value_fits size None h = absurd h
 value_fits size (Some n) h = loaded_fits size n h
 
 -- the bytes that a load reads are set: those of the header always, those of the stack where they are marked
-pub bytes_set : (header : Header) (s : State) (a : Knowledge) (region : Region) (bytes first last place : ℕ) → IsHeader header → Fits s a → is_set region a.marks bytes (first, last) ≡ true → IsBetween (region_size region) bytes first last place → (k : ℕ) → k < bytes → IsByte (byte_of header s.stack region (place + k))
+pub bytes_set : (header : Header) (s : State) (a : StateValue) (region : Region) (bytes first last place : ℕ) → IsHeader header → Fits s a → is_set region a.marks bytes (first, last) ≡ true → IsBetween (region_size region) bytes first last place → (k : ℕ) → k < bytes → IsByte (byte_of header s.stack region (place + k))
 bytes_set header s a Front bytes first last place known fits e between k h =
     byte_in header.front (place + k) known.front_bytes (omega (arith, known.front, between.room))
 bytes_set header s a Tail bytes first last place known fits e between k h =
@@ -151,20 +151,20 @@ bytes_set header s a Stack bytes first last place known fits e between k h =
     subst P d (fits.bytes (first + (place + k - first)) m)
 
 -- by whether all of them are set
-read_by_test : (header : Header) (s : State) (a : Knowledge) (size : LoadSize) (region : Region) (first last place : ℕ) → IsHeader header → Fits s a → IsBetween (region_size region) (load_bytes size) first last place → (t : Bool) → is_set region a.marks (load_bytes size) (first, last) ≡ t → FitsResult (load_value size (little (byte_of header s.stack region) (load_bytes size) place)) (if t then Ok (Num (loaded_range size)) else Err UnsetStack)
+read_by_test : (header : Header) (s : State) (a : StateValue) (size : LoadSize) (region : Region) (first last place : ℕ) → IsHeader header → Fits s a → IsBetween (region_size region) (load_bytes size) first last place → (t : Bool) → is_set region a.marks (load_bytes size) (first, last) ≡ t → FitsResult (load_value size (little (byte_of header s.stack region) (load_bytes size) place)) (if t then Ok (Num (loaded_range size)) else Err UnsetStack)
 read_by_test header s a size region first last place known fits between false e = tt
 read_by_test header s a size region first last place known fits between true e =
     value_fits size (little (byte_of header s.stack region) (load_bytes size) place)
     (little_fits (byte_of header s.stack region) (load_bytes size) place (bytes_set header s a region (load_bytes size) first last place known fits e between))
 
-read_fits : (header : Header) (s : State) (a : Knowledge) (size : LoadSize) (region : Region) (places : Option (ℕ × ℕ)) (place : Option ℕ) → IsHeader header → Fits s a → HasPlace (region_size region) (load_bytes size) places place → FitsResult (load_value size (bytes_at header s.stack region (load_bytes size) place)) (read_kind a size region places)
+read_fits : (header : Header) (s : State) (a : StateValue) (size : LoadSize) (region : Region) (places : Option (ℕ × ℕ)) (place : Option ℕ) → IsHeader header → Fits s a → HasPlace (region_size region) (load_bytes size) places place → FitsResult (load_value size (bytes_at header s.stack region (load_bytes size) place)) (read_kind a size region places)
 read_fits header s a size region None place known fits h = tt
 read_fits header s a size region (Some places) None known fits h = absurd h
 read_fits header s a size region (Some places) (Some place) known fits h =
     read_by_test header s a size region places.0 places.1 place known fits h (is_set region a.marks (load_bytes size) places) refl
 
 -- a load through a pointer
-pub load_fits : (header : Header) (s : State) (a : Knowledge) (size : LoadSize) (u : Value) (p : AbsKind) (offset : ℤ) → IsHeader header → Fits s a → FitsKind u p → FitsResult (loads header s size u offset) (load_kind a size p offset)
+pub load_fits : (header : Header) (s : State) (a : StateValue) (size : LoadSize) (u : Value) (p : AbsKind) (offset : ℤ) → IsHeader header → Fits s a → FitsKind u p → FitsResult (loads header s size u offset) (load_kind a size p offset)
 load_fits header s a size u Unset offset known fits g = tt
 load_fits header s a size u (Num n) offset known fits g = tt
 load_fits header s a size u (Map i) offset known fits g = tt

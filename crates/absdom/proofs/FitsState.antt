@@ -20,7 +20,7 @@ use Rattle.absdom.specs.declared.cause.Cause.{Cause}
 use Rattle.absdom.specs.declared.kinds.AbsKind.{AbsKind}
 use Rattle.absdom.specs.declared.kinds.AbsKind.TheVariants.{Unset, Num, Ptr, Map}
 use Rattle.absdom.specs.Kinds.{number_of}
-use Rattle.absdom.specs.Knowledge.{Knowledge, kind_in, kind_at, with_kind, with_marks}
+use Rattle.absdom.specs.State.{StateValue, kind_in, kind_at, with_kind, with_marks}
 use Rattle.absdom.specs.Marks.{mark_at, marked}
 use Rattle.absdom.specs.Effect.{operand_kind, alu_kind, computed_alone, load_kind, access_places, wrote_at, stored, written, map_kind}
 use Rattle.absdom.specs.Fits.{FitsKind, IsByte, Fits, GoesOn, IsSound, IsIndex}
@@ -45,7 +45,7 @@ kind_after_by_place regs kinds r v k f g q true e =
     let P : ℕ → Type 0 = λ x. FitsKind v (kind_in (set kinds r k) x) in
     subst P (sym eq) (at_place kinds r v k f)
 
-pub fits_after : (s : State) (a : Knowledge) (next r : ℕ) (v : Value) (k : AbsKind) → FitsKind v k → Fits s a → Fits (state next (register_after s.registers r v) s.stack) (with_kind a r k)
+pub fits_after : (s : State) (a : StateValue) (next r : ℕ) (v : Value) (k : AbsKind) → FitsKind v k → Fits s a → Fits (state next (register_after s.registers r v) s.stack) (with_kind a r k)
 fits_after s a next r v k f fits =
     record {
       registers = λ q. kind_after_by_place s.registers a.kinds r v k f fits.registers q (q == r) refl;
@@ -53,11 +53,11 @@ fits_after s a next r v k f fits =
     }
 
 -- a register that may be written is
-written_by_test : (s : State) (a : Knowledge) (next r : ℕ) (v : Value) (k : AbsKind) → r ≢ 10 → FitsKind v k → Fits s a → (t : Bool) → (r == 10) ≡ t → GoesOn (if t then Trap else Next (state next (register_after s.registers r v) s.stack)) next (with_kind a r k)
+written_by_test : (s : State) (a : StateValue) (next r : ℕ) (v : Value) (k : AbsKind) → r ≢ 10 → FitsKind v k → Fits s a → (t : Bool) → (r == 10) ≡ t → GoesOn (if t then Trap else Next (state next (register_after s.registers r v) s.stack)) next (with_kind a r k)
 written_by_test s a next r v k ne f fits true e = let eq : r ≡ 10 = grind (arith, nat_tests) in absurd (ne eq)
 written_by_test s a next r v k ne f fits false e = (refl, fits_after s a next r v k f fits)
 
-pub writes_sound : (s : State) (a : Knowledge) (next r : ℕ) (value : Option Value) (result : Result AbsKind Cause) → r ≢ 10 → Fits s a → FitsResult value result → IsSound (writes s next r value) next (written a r result)
+pub writes_sound : (s : State) (a : StateValue) (next r : ℕ) (value : Option Value) (result : Result AbsKind Cause) → r ≢ 10 → Fits s a → FitsResult value result → IsSound (writes s next r value) next (written a r result)
 writes_sound s a next r value (Err cause) ne fits f = tt
 writes_sound s a next r None (Ok k) ne fits f = absurd f
 writes_sound s a next r (Some v) (Ok k) ne fits f = written_by_test s a next r v k ne f fits (r == 10) refl
@@ -97,7 +97,7 @@ mark_is_new marks first (suc bytes) place e =
     equal_or_not m n = grind (arith, nat_tests)
 
 -- after a store at a place between the two that are known
-wrote_by_test : (s : State) (a : Knowledge) (bytes first last place n : ℕ) → IsBetween 512 bytes first last place → Fits s a → (t : Bool) → (first == last) ≡ t → Fits (state (s.slot + 1) s.registers (byte_after s.stack bytes place n)) (if t then with_marks a (marked a.marks first bytes) else a)
+wrote_by_test : (s : State) (a : StateValue) (bytes first last place n : ℕ) → IsBetween 512 bytes first last place → Fits s a → (t : Bool) → (first == last) ≡ t → Fits (state (s.slot + 1) s.registers (byte_after s.stack bytes place n)) (if t then with_marks a (marked a.marks first bytes) else a)
 wrote_by_test s a bytes first last place n between fits false e =
     record { registers = fits.registers; bytes = λ p m. byte_stays s.stack bytes place n p (fits.bytes p m) }
 wrote_by_test s a bytes first last place n between fits true e =
@@ -112,14 +112,14 @@ wrote_by_test s a bytes first last place n between fits true e =
           ];
     }
 
-puts_sound : (s : State) (a : Knowledge) (bytes : ℕ) (places : Option (ℕ × ℕ)) (place : Option ℕ) (n : ℕ) → HasPlace 512 bytes places place → Fits s a → IsSound (puts s bytes place (Number n)) (s.slot + 1) (wrote_at a bytes places)
+puts_sound : (s : State) (a : StateValue) (bytes : ℕ) (places : Option (ℕ × ℕ)) (place : Option ℕ) (n : ℕ) → HasPlace 512 bytes places place → Fits s a → IsSound (puts s bytes place (Number n)) (s.slot + 1) (wrote_at a bytes places)
 puts_sound s a bytes None place n h fits = tt
 puts_sound s a bytes (Some places) None n h fits = absurd h
 puts_sound s a bytes (Some places) (Some place) n h fits =
     (refl, wrote_by_test s a bytes places.0 places.1 place n h fits (places.0 == places.1) refl)
 
 -- a store of a number through a pointer
-pub store_fits : (s : State) (a : Knowledge) (size : Size) (u v : Value) (p q : AbsKind) (offset : ℤ) → FitsKind u p → FitsKind v q → Fits s a → IsSound (stores s size u offset v) (s.slot + 1) (stored a (size_bytes size) p offset (number_of q))
+pub store_fits : (s : State) (a : StateValue) (size : Size) (u v : Value) (p q : AbsKind) (offset : ℤ) → FitsKind u p → FitsKind v q → Fits s a → IsSound (stores s size u offset v) (s.slot + 1) (stored a (size_bytes size) p offset (number_of q))
 store_fits s a size u v Unset q offset g h fits = tt
 store_fits s a size u v (Num b) q offset g h fits = tt
 store_fits s a size u v (Map i) q offset g h fits = tt
@@ -141,7 +141,7 @@ store_fits s a size (Pointer r z) (Number n) (Ptr Stack o) (Num b) offset g h fi
 
 -- ---- instructions
 
-pub operand_fits : (s : State) (a : Knowledge) (src : Operand) → Fits s a → FitsKind (operand s src) (operand_kind a src)
+pub operand_fits : (s : State) (a : StateValue) (src : Operand) → Fits s a → FitsKind (operand s src) (operand_kind a src)
 operand_fits s a (FromRegister r) fits = fits.registers r
 operand_fits s a (Immediate z) fits = record { above = omega arith; below = omega arith; word = word_below z }
 

@@ -15,7 +15,7 @@ use Rattle.absdom.specs.declared.cause.Cause.{Cause}
 use Rattle.absdom.specs.declared.kinds.AbsKind.{AbsKind}
 use Rattle.absdom.specs.declared.kinds.AbsKind.TheVariants.{Unset, Num, Ptr, Map}
 use Rattle.absdom.specs.Kinds.{number_of, IsKindBelow}
-use Rattle.absdom.specs.Knowledge.{Knowledge, IsBelow, kind_at, with_kind}
+use Rattle.absdom.specs.State.{StateValue, IsBelow, kind_at, with_kind}
 use Rattle.absdom.specs.Edges.{compared, with_source, on_edge, on_edges, unrefined, is_itself, edges_of, compared_edges}
 use Rattle.absdom.specs.Growth.{IsProper, IsWhole, IsEdgeBelow, AreEdgesGrown}
 use Rattle.absdom.specs.Laws.{RefineGrows}
@@ -41,16 +41,16 @@ low_below : (width : Width) (n : ℕ) → n < 2 ^ 64 → low width n < 2 ^ 64
 low_below Bits32 n h = omega arith
 low_below Bits64 n h = h
 
-source_grows : (width : Width) (a b : Knowledge) (src : Operand) → IsWhole a → IsBelow a b → IsRangeGrown (compared width a src) (compared width b src)
+source_grows : (width : Width) (a b : StateValue) (src : Operand) → IsWhole a → IsBelow a b → IsRangeGrown (compared width a src) (compared width b src)
 source_grows width a b (FromRegister r) p below = number_grows (kind_at a r) (kind_at b r) (p.kinds r) (below.kinds r)
 source_grows width a b (Immediate z) p below =
     (record { in_order = omega arith; words = low_below width (word z) (word_below z) }, record { above = omega arith; below = omega arith })
 
-with_source_grows : (a b : Knowledge) (src : Operand) (x y : Range) → length a.kinds ≡ length b.kinds → IsWithin x y → IsBelow a b → IsBelow (with_source a src x) (with_source b src y)
+with_source_grows : (a b : StateValue) (src : Operand) (x y : Range) → length a.kinds ≡ length b.kinds → IsWithin x y → IsBelow a b → IsBelow (with_source a src x) (with_source b src y)
 with_source_grows a b (FromRegister r) x y e h below = with_kind_grows a b r (Num x) (Num y) e h below
 with_source_grows a b (Immediate z) x y e h below = below
 
-on_edge_grows : (a b : Knowledge) (dst : ℕ) (src : Operand) (new old : Option Operands) → length a.kinds ≡ length b.kinds → AreRangesBelow new old → IsBelow a b → IsEdgeBelow (on_edge a dst src new) (on_edge b dst src old)
+on_edge_grows : (a b : StateValue) (dst : ℕ) (src : Operand) (new old : Option Operands) → length a.kinds ≡ length b.kinds → AreRangesBelow new old → IsBelow a b → IsEdgeBelow (on_edge a dst src new) (on_edge b dst src old)
 on_edge_grows a b dst src None old e h below = tt
 on_edge_grows a b dst src (Some new) None e h below = absurd h
 on_edge_grows a b dst src (Some new) (Some old) e h below =
@@ -58,7 +58,7 @@ on_edge_grows a b dst src (Some new) (Some old) e h below =
     (length-set a.kinds dst (Num new.dst) ∙ e ∙ sym (length-set b.kinds dst (Num old.dst))) h.1
     (with_kind_grows a b dst (Num new.dst) (Num old.dst) e h.0 below)
 
-edges_grow : RangesGrow → (a b : Knowledge) (condition : Condition) (width : Width) (dst : ℕ) (src : Operand) (l r l' r' : Range) → length a.kinds ≡ length b.kinds → IsBelow a b → IsRange l × IsWithin l l' → IsRange r × IsWithin r r' → AreEdgesGrown (Ok (edges_of condition width a dst src l r)) (Ok (edges_of condition width b dst src l' r'))
+edges_grow : RangesGrow → (a b : StateValue) (condition : Condition) (width : Width) (dst : ℕ) (src : Operand) (l r l' r' : Range) → length a.kinds ≡ length b.kinds → IsBelow a b → IsRange l × IsWithin l l' → IsRange r × IsWithin r r' → AreEdgesGrown (Ok (edges_of condition width a dst src l r)) (Ok (edges_of condition width b dst src l' r'))
 edges_grow ranges a b condition width dst src l r l' r' e below g h =
     elim (is_itself dst src) as (λ t. AreEdgesGrown (Ok (if t then unrefined a else on_edges a dst src (refined condition width l r))) (Ok (if t then unrefined b else on_edges b dst src (refined condition width l' r')))) [
       | true ↦ (below, below)
@@ -69,7 +69,7 @@ edges_grow ranges a b condition width dst src l r l' r' e below g h =
           )
     ]
 
-compared_grow : RangesGrow → (a b : Knowledge) (condition : Condition) (width : Width) (dst : ℕ) (src : Operand) (l r l' r' : Result Range Cause) → length a.kinds ≡ length b.kinds → IsBelow a b → IsRangeGrown l l' → IsRangeGrown r r' → AreEdgesGrown (compared_edges condition width a dst src l r) (compared_edges condition width b dst src l' r')
+compared_grow : RangesGrow → (a b : StateValue) (condition : Condition) (width : Width) (dst : ℕ) (src : Operand) (l r l' r' : Result Range Cause) → length a.kinds ≡ length b.kinds → IsBelow a b → IsRangeGrown l l' → IsRangeGrown r r' → AreEdgesGrown (compared_edges condition width a dst src l r) (compared_edges condition width b dst src l' r')
 compared_grow ranges a b condition width dst src l r (Err cause) r' e below g h = tt
 compared_grow ranges a b condition width dst src (Err cause) r (Ok l') r' e below g h = absurd g
 compared_grow ranges a b condition width dst src (Ok l) r (Ok l') (Err cause) e below g h = tt

@@ -19,7 +19,7 @@ use Rattle.absdom.specs.declared.kinds.AbsKind.{AbsKind}
 use Rattle.absdom.specs.declared.kinds.AbsKind.TheVariants.{Unset, Num, Ptr, Map}
 use Rattle.absdom.specs.Offsets.{AreAmong}
 use Rattle.absdom.specs.Kinds.{number_of, IsKindBelow}
-use Rattle.absdom.specs.Knowledge.{Knowledge, IsBelow, kind_in, kind_at, with_kind, with_marks}
+use Rattle.absdom.specs.State.{StateValue, IsBelow, kind_in, kind_at, with_kind, with_marks}
 use Rattle.absdom.specs.Marks.{mark_at, all_marked, marked}
 use Rattle.absdom.specs.Effect.{operand_kind, alu_kind, computed_alone, both_places, access_places, is_set, loaded_range, read_kind, load_kind, wrote_at, wrote_to, stored, written, map_kind}
 use Rattle.absdom.specs.Growth.{IsProper, IsWhole, IsGrown}
@@ -49,14 +49,14 @@ below_by_test xs ys r k l e h g q true t =
     let P : ℕ → Type 0 = λ x. IsKindBelow (kind_in (set xs r k) x) (kind_in (set ys r l) x) in
     subst P (sym eq) (below_at_place xs ys r k l e h)
 
-pub with_kind_grows : (a b : Knowledge) (r : ℕ) (k l : AbsKind) → length a.kinds ≡ length b.kinds → IsKindBelow k l → IsBelow a b → IsBelow (with_kind a r k) (with_kind b r l)
+pub with_kind_grows : (a b : StateValue) (r : ℕ) (k l : AbsKind) → length a.kinds ≡ length b.kinds → IsKindBelow k l → IsBelow a b → IsBelow (with_kind a r k) (with_kind b r l)
 with_kind_grows a b r k l e h below =
     record { kinds = λ q. below_by_test a.kinds b.kinds r k l e h below.kinds q (q == r) refl; marks = below.marks }
 
-same_size : (a b : Knowledge) → IsWhole a → IsWhole b → length a.kinds ≡ length b.kinds
+same_size : (a b : StateValue) → IsWhole a → IsWhole b → length a.kinds ≡ length b.kinds
 same_size a b p q = p.sizes.registers ∙ sym q.sizes.registers
 
-written_grows : (a b : Knowledge) (r : ℕ) (small large : Result AbsKind Cause) → IsWhole a → IsWhole b → IsBelow a b → IsKindGrown small large → IsGrown (written a r small) (written b r large)
+written_grows : (a b : StateValue) (r : ℕ) (small large : Result AbsKind Cause) → IsWhole a → IsWhole b → IsBelow a b → IsKindGrown small large → IsGrown (written a r small) (written b r large)
 written_grows a b r small (Err cause) p q below h = tt
 written_grows a b r (Err cause) (Ok l) p q below h = absurd h
 written_grows a b r (Ok k) (Ok l) p q below h = with_kind_grows a b r k l (same_size a b p q) h below
@@ -105,7 +105,7 @@ still_set Stack xs ys size bytes large small m w e =
     let P : ℕ → Type 0 = λ p. mark_at xs p ≡ true in
     subst P d (m (large.0 + (small.0 + k - large.0)) b))
 
-read_by_test : (a b : Knowledge) (size : LoadSize) (region : Region) (large small : ℕ × ℕ) → IsBelow a b → AreWithin (region_size region) (load_bytes size) large small → (t : Bool) → is_set region b.marks (load_bytes size) large ≡ t → IsKindGrown (read_kind a size region (Some small)) (if t then Ok (Num (loaded_range size)) else Err UnsetStack)
+read_by_test : (a b : StateValue) (size : LoadSize) (region : Region) (large small : ℕ × ℕ) → IsBelow a b → AreWithin (region_size region) (load_bytes size) large small → (t : Bool) → is_set region b.marks (load_bytes size) large ≡ t → IsKindGrown (read_kind a size region (Some small)) (if t then Ok (Num (loaded_range size)) else Err UnsetStack)
 read_by_test a b size region large small below w false e = tt
 read_by_test a b size region large small below w true e =
     let yes : is_set region a.marks (load_bytes size) small ≡ true
@@ -113,13 +113,13 @@ read_by_test a b size region large small below w true e =
     let P : Bool → Type 0 = λ t. IsKindGrown (if t then Ok (Num (loaded_range size)) else Err UnsetStack) (Ok (Num (loaded_range size))) in
     subst P (sym yes) (kind_below-refl (Num (loaded_range size)))
 
-read_grows : (a b : Knowledge) (size : LoadSize) (region : Region) (large small : Option (ℕ × ℕ)) → IsBelow a b → HasPlaces (region_size region) (load_bytes size) large small → IsKindGrown (read_kind a size region small) (read_kind b size region large)
+read_grows : (a b : StateValue) (size : LoadSize) (region : Region) (large small : Option (ℕ × ℕ)) → IsBelow a b → HasPlaces (region_size region) (load_bytes size) large small → IsKindGrown (read_kind a size region small) (read_kind b size region large)
 read_grows a b size region None small below h = tt
 read_grows a b size region (Some large) None below h = absurd h
 read_grows a b size region (Some large) (Some small) below h =
     read_by_test a b size region large small below h (is_set region b.marks (load_bytes size) large) refl
 
-load_grows : (a b : Knowledge) (size : LoadSize) (p q : AbsKind) (offset : ℤ) → IsBelow a b → IsProper p → IsKindBelow p q → IsKindGrown (load_kind a size p offset) (load_kind b size q offset)
+load_grows : (a b : StateValue) (size : LoadSize) (p q : AbsKind) (offset : ℤ) → IsBelow a b → IsProper p → IsKindBelow p q → IsKindGrown (load_kind a size p offset) (load_kind b size q offset)
 load_grows a b size p Unset offset below k h = tt
 load_grows a b size p (Num n) offset below k h = tt
 load_grows a b size p (Map i) offset below k h = tt
@@ -165,7 +165,7 @@ mark_made marks first (suc bytes) p room g h =
     ]
 
 -- by whether the accesses have one place
-wrote_by_tests : (a b : Knowledge) (bytes : ℕ) (large small : ℕ × ℕ) → length a.marks ≡ 512 → IsBelow a b → AreWithin 512 bytes large small → (t u : Bool) → (large.0 == large.1) ≡ t → (small.0 == small.1) ≡ u → IsBelow (if u then with_marks a (marked a.marks small.0 bytes) else a) (if t then with_marks b (marked b.marks large.0 bytes) else b)
+wrote_by_tests : (a b : StateValue) (bytes : ℕ) (large small : ℕ × ℕ) → length a.marks ≡ 512 → IsBelow a b → AreWithin 512 bytes large small → (t u : Bool) → (large.0 == large.1) ≡ t → (small.0 == small.1) ≡ u → IsBelow (if u then with_marks a (marked a.marks small.0 bytes) else a) (if t then with_marks b (marked b.marks large.0 bytes) else b)
 wrote_by_tests a b bytes large small size below w false false e f = below
 wrote_by_tests a b bytes large small size below w false true e f =
     record { kinds = below.kinds; marks = λ p m. mark_stays a.marks small.0 bytes p (below.marks p m) }
@@ -186,13 +186,13 @@ wrote_by_tests a b bytes large small size below w true true e f =
           ];
     }
 
-wrote_at_grows : (a b : Knowledge) (bytes : ℕ) (large small : Option (ℕ × ℕ)) → length a.marks ≡ 512 → IsBelow a b → HasPlaces 512 bytes large small → IsGrown (wrote_at a bytes small) (wrote_at b bytes large)
+wrote_at_grows : (a b : StateValue) (bytes : ℕ) (large small : Option (ℕ × ℕ)) → length a.marks ≡ 512 → IsBelow a b → HasPlaces 512 bytes large small → IsGrown (wrote_at a bytes small) (wrote_at b bytes large)
 wrote_at_grows a b bytes None small size below h = tt
 wrote_at_grows a b bytes (Some large) None size below h = absurd h
 wrote_at_grows a b bytes (Some large) (Some small) size below h =
     wrote_by_tests a b bytes large small size below h (large.0 == large.1) (small.0 == small.1) refl refl
 
-store_grows : (a b : Knowledge) (bytes : ℕ) (p q p' q' : AbsKind) (offset : ℤ) → length a.marks ≡ 512 → IsBelow a b → IsProper p → IsKindBelow p p' → IsKindBelow q q' → IsGrown (stored a bytes p offset (number_of q)) (stored b bytes p' offset (number_of q'))
+store_grows : (a b : StateValue) (bytes : ℕ) (p q p' q' : AbsKind) (offset : ℤ) → length a.marks ≡ 512 → IsBelow a b → IsProper p → IsKindBelow p p' → IsKindBelow q q' → IsGrown (stored a bytes p offset (number_of q)) (stored b bytes p' offset (number_of q'))
 store_grows a b bytes p q Unset q' offset size below k g h = tt
 store_grows a b bytes p q (Num n) q' offset size below k g h = tt
 store_grows a b bytes p q (Map i) q' offset size below k g h = tt
@@ -215,11 +215,11 @@ store_grows a b bytes (Ptr r o) (Num m) (Ptr Stack x) (Num n) offset size below 
 
 -- ---- instructions
 
-operand_below : (a b : Knowledge) (src : Operand) → IsBelow a b → IsKindBelow (operand_kind a src) (operand_kind b src)
+operand_below : (a b : StateValue) (src : Operand) → IsBelow a b → IsKindBelow (operand_kind a src) (operand_kind b src)
 operand_below a b (FromRegister r) below = below.kinds r
 operand_below a b (Immediate z) below = kind_below-refl (operand_kind a (Immediate z))
 
-operand_proper : (a : Knowledge) (src : Operand) → IsWhole a → IsProper (operand_kind a src)
+operand_proper : (a : StateValue) (src : Operand) → IsWhole a → IsProper (operand_kind a src)
 operand_proper a (FromRegister r) p = p.kinds r
 operand_proper a (Immediate z) p = record { in_order = omega arith; words = word_below z }
 

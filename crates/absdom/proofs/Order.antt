@@ -8,7 +8,7 @@ use Rattle.machine.specs.declared.values.Value.TheVariants.{Unset as Nothing, Nu
 use Rattle.absdom.specs.declared.kinds.AbsKind.{AbsKind}
 use Rattle.absdom.specs.declared.kinds.AbsKind.TheVariants.{Unset, Num, Ptr, Map}
 use Rattle.absdom.specs.Kinds.{same_region, IsKindBelow}
-use Rattle.absdom.specs.Knowledge.{kind_at}
+use Rattle.absdom.specs.State.{kind_at}
 use Rattle.absdom.specs.Marks.{mark_at}
 use Rattle.absdom.specs.Fits.{FitsKind}
 use Rattle.absdom.specs.Laws.{BelowFits, BelowIsReflexive, BelowIsTransitive, BelowIsAntisymmetric}

@@ -23,11 +23,11 @@ use Rattle.absdom.specs.declared.kinds.AbsKind.{AbsKind}
 use Rattle.absdom.specs.declared.kinds.AbsKind.TheVariants.{Unset, Num, Ptr, Map}
 use Rattle.absdom.specs.Offsets.{offsets_within}
 use Rattle.absdom.specs.Kinds.{number_of}
-use Rattle.absdom.specs.Knowledge.{Knowledge, kind_at, with_kind, with_marks}
+use Rattle.absdom.specs.State.{StateValue, kind_at, with_kind, with_marks}
 use Rattle.absdom.specs.Marks.{all_marked, marked}
 
 -- a register's kind, or the number of an immediate
-abbrev pub operand_kind : Knowledge → Operand → AbsKind
+abbrev pub operand_kind : StateValue → Operand → AbsKind
 operand_kind a (FromRegister register) = kind_at a register
 operand_kind a (Immediate value) = Num (only (word value))
 
@@ -152,13 +152,13 @@ loaded_range SignedHalf = (0, 2 ^ 64 - 1)
 loaded_range SignedWord = (0, 2 ^ 64 - 1)
 
 -- a load at these places
-abbrev pub read_kind : Knowledge → LoadSize → Region → Option (ℕ × ℕ) → Result AbsKind Cause
+abbrev pub read_kind : StateValue → LoadSize → Region → Option (ℕ × ℕ) → Result AbsKind Cause
 read_kind a size region None = Err OutOfRegion
 read_kind a size region (Some places) =
     if is_set region a.marks (load_bytes size) places then Ok (Num (loaded_range size)) else Err UnsetStack
 
 -- a load through a pointer
-abbrev pub load_kind : Knowledge → LoadSize → (base : AbsKind) → (offset : ℤ) → Result AbsKind Cause
+abbrev pub load_kind : StateValue → LoadSize → (base : AbsKind) → (offset : ℤ) → Result AbsKind Cause
 load_kind a size Unset offset = Err UnsetOperand
 load_kind a size (Num n) offset = Err KindMismatch
 load_kind a size (Ptr region offsets) offset =
@@ -166,22 +166,22 @@ load_kind a size (Ptr region offsets) offset =
 load_kind a size (Map index) offset = Err KindMismatch
 
 -- a store of so many bytes sets them where it has one place, and no byte else
-abbrev pub wrote : Knowledge → (bytes : ℕ) → ℕ × ℕ → Knowledge
+abbrev pub wrote : StateValue → (bytes : ℕ) → ℕ × ℕ → StateValue
 wrote a bytes places = if places.0 == places.1 then with_marks a (marked a.marks places.0 bytes) else a
 
 -- a store at these places
-abbrev pub wrote_at : Knowledge → (bytes : ℕ) → Option (ℕ × ℕ) → Result Knowledge Cause
+abbrev pub wrote_at : StateValue → (bytes : ℕ) → Option (ℕ × ℕ) → Result StateValue Cause
 wrote_at a bytes None = Err OutOfRegion
 wrote_at a bytes (Some places) = Ok (wrote a bytes places)
 
 -- a store to a region: the header is read-only
-abbrev pub wrote_to : Knowledge → (bytes : ℕ) → Region → ℤ × ℤ → (offset : ℤ) → Result Knowledge Cause
+abbrev pub wrote_to : StateValue → (bytes : ℕ) → Region → ℤ × ℤ → (offset : ℤ) → Result StateValue Cause
 wrote_to a bytes Front offsets offset = Err HeaderWrite
 wrote_to a bytes Tail offsets offset = Err HeaderWrite
 wrote_to a bytes Stack offsets offset = wrote_at a bytes (access_places Stack bytes offsets offset)
 
 -- a store of a number through a pointer
-abbrev pub stored : Knowledge → (bytes : ℕ) → (base : AbsKind) → (offset : ℤ) → Result Range Cause → Result Knowledge Cause
+abbrev pub stored : StateValue → (bytes : ℕ) → (base : AbsKind) → (offset : ℤ) → Result Range Cause → Result StateValue Cause
 stored a bytes Unset offset value = Err UnsetOperand
 stored a bytes (Num n) offset value = Err KindMismatch
 stored a bytes (Ptr region offsets) offset (Err cause) = Err cause
@@ -191,7 +191,7 @@ stored a bytes (Map index) offset value = Err KindMismatch
 -- ---- instructions
 
 -- the register is written
-abbrev pub written : Knowledge → (register : ℕ) → Result AbsKind Cause → Result Knowledge Cause
+abbrev pub written : StateValue → (register : ℕ) → Result AbsKind Cause → Result StateValue Cause
 written a register (Err cause) = Err cause
 written a register (Ok kind) = Ok (with_kind a register kind)
 
@@ -201,7 +201,7 @@ map_kind (pos index) = if nat_lt index 256 then Map index else Unset
 map_kind (negsuc n) = Unset
 
 -- what an instruction does that goes on to the next one. All others leave what is known as it is.
-abbrev pub applied : Knowledge → Insn → Result Knowledge Cause
+abbrev pub applied : StateValue → Insn → Result StateValue Cause
 applied a (Alu op width dst src) = written a dst (alu_kind op width (kind_at a dst) (operand_kind a src))
 applied a (Negate width dst) = written a dst (computed_alone (negated_range width) (number_of (kind_at a dst)))
 applied a (MoveSigned extension dst src) = written a dst (computed_alone (extended_range extension) (number_of (kind_at a src)))
@@ -218,6 +218,6 @@ applied a (Call callee number) = Ok a
 applied a Exit = Ok a
 
 -- a change in place: the state becomes what is given, or stays what it was where it is refused
-abbrev pub Becomes : Result (Unit {0}) Cause → (old new : Knowledge) → (given : Result Knowledge Cause) → Type 0
+abbrev pub Becomes : Result (Unit {0}) Cause → (old new : StateValue) → (given : Result StateValue Cause) → Type 0
 Becomes (Ok done) old new given = given ≡ Ok new
 Becomes (Err cause) old new given = (given ≡ Err cause) × (new ≡ old)

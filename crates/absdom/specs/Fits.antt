@@ -10,7 +10,7 @@ use Rattle.absdom_num.specs.Ranges.{IsIn}
 use Rattle.absdom.specs.declared.cause.Cause.{Cause}
 use Rattle.absdom.specs.declared.kinds.AbsKind.{AbsKind}
 use Rattle.absdom.specs.declared.kinds.AbsKind.TheVariants.{Unset, Num, Ptr, Map}
-use Rattle.absdom.specs.Knowledge.{Knowledge, kind_at}
+use Rattle.absdom.specs.State.{StateValue, kind_at}
 use Rattle.absdom.specs.Marks.{mark_at}
 use Rattle.absdom.specs.Edges.{Edges}
 
@@ -42,29 +42,29 @@ IsByte None = ⊥
 IsByte (Some byte) = byte < 256
 
 -- each register is of its kind, and each byte that is marked is set
-pub record Fits (s : State) (a : Knowledge) : Type 0 where
+pub record Fits (s : State) (a : StateValue) : Type 0 where
   pub registers : (register : ℕ) → FitsKind (s.registers register) (kind_at a register)
   pub bytes : (place : ℕ) → mark_at a.marks place ≡ true → IsByte (s.stack place)
 
 -- the machine goes on at that slot, in a state that fits: it neither traps nor ends
-abbrev pub GoesOn : Outcome → (slot : ℕ) → Knowledge → Type 0
+abbrev pub GoesOn : Outcome → (slot : ℕ) → StateValue → Type 0
 GoesOn (Next t) slot a = (t.slot ≡ slot) × Fits t a
 GoesOn (Ask helper map key on) slot a = ⊥
 GoesOn (Verdict n) slot a = ⊥
 GoesOn Trap slot a = ⊥
 
 -- where an instruction is not refused, the machine goes on in a state that fits
-abbrev pub IsSound : Outcome → (slot : ℕ) → Result Knowledge Cause → Type 0
+abbrev pub IsSound : Outcome → (slot : ℕ) → Result StateValue Cause → Type 0
 IsSound outcome slot (Err cause) = Unit {0}
 IsSound outcome slot (Ok a) = GoesOn outcome slot a
 
 -- the state fits what is known on an edge; none does where the edge is not followed
-abbrev pub FitsEdge : State → Option Knowledge → Type 0
+abbrev pub FitsEdge : State → Option StateValue → Type 0
 FitsEdge s None = ⊥
 FitsEdge s (Some a) = Fits s a
 
 -- the edge that is followed where a comparison is true or false
-abbrev pub edge_where : Bool → Edges → Option Knowledge
+abbrev pub edge_where : Bool → Edges → Option StateValue
 edge_where true edges = edges.taken
 edge_where false edges = edges.not_taken
 

@@ -4,7 +4,7 @@ use Rattle.absdom_num.specs.Ranges.{IsRange}
 use Rattle.absdom.specs.declared.cause.Cause.{Cause}
 use Rattle.absdom.specs.declared.kinds.AbsKind.{AbsKind}
 use Rattle.absdom.specs.declared.kinds.AbsKind.TheVariants.{Unset, Num, Ptr, Map}
-use Rattle.absdom.specs.Knowledge.{Knowledge, IsKnowledge, IsBelow, kind_at}
+use Rattle.absdom.specs.State.{StateValue, IsState, IsBelow, kind_at}
 use Rattle.absdom.specs.Edges.{Edges}
 
 -- the ends of a range, or of offsets, stand in order
@@ -15,18 +15,18 @@ IsProper (Ptr region offsets) = offsets.0 ≤ℤ offsets.1
 IsProper (Map index) = Unit {0}
 
 -- what every state is: eleven registers, each of a proper kind, and 512 bytes
-pub record IsWhole (a : Knowledge) : Type 0 where
-  pub sizes : IsKnowledge a
+pub record IsWhole (a : StateValue) : Type 0 where
+  pub sizes : IsState a
   pub kinds : (register : ℕ) → IsProper (kind_at a register)
 
 -- where the larger result is not refused, neither is the smaller, and it is below
-abbrev pub IsGrown : (small large : Result Knowledge Cause) → Type 0
+abbrev pub IsGrown : (small large : Result StateValue Cause) → Type 0
 IsGrown small (Err cause) = Unit {0}
 IsGrown (Err cause) (Ok large) = ⊥
 IsGrown (Ok small) (Ok large) = IsBelow small large
 
 -- where the smaller edge is followed, so is the larger, and it is above
-abbrev pub IsEdgeBelow : (small large : Option Knowledge) → Type 0
+abbrev pub IsEdgeBelow : (small large : Option StateValue) → Type 0
 IsEdgeBelow None large = Unit {0}
 IsEdgeBelow (Some small) None = ⊥
 IsEdgeBelow (Some small) (Some large) = IsBelow small large

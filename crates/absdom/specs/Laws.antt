@@ -9,7 +9,7 @@ use Rattle.bpf_insn.specs.Spelling.{slots_of}
 use Rattle.machine.specs.Memory.{Header, IsHeader}
 use Rattle.machine.specs.State.{State, entry_state}
 use Rattle.machine.specs.Step.{perform, answered}
-use Rattle.absdom.specs.Knowledge.{Knowledge, IsBelow, IsJoin, IsEntry, AreAlike, after_call}
+use Rattle.absdom.specs.State.{StateValue, IsBelow, IsJoin, IsEntry, AreAlike, after_call}
 use Rattle.absdom.specs.Effect.{applied}
 use Rattle.absdom.specs.Edges.{refined_edges}
 use Rattle.absdom.specs.Growth.{IsWhole, IsGrown, AreEdgesGrown}
@@ -17,61 +17,61 @@ use Rattle.absdom.specs.Fits.{Fits, IsSound, GoesStraight, TakesEdge}
 
 -- whatever fits the first fits the second, where the first is below it
 abbrev pub BelowFits : Type 0
-BelowFits = (s : State) (a b : Knowledge) → IsBelow a b → Fits s a → Fits s b
+BelowFits = (s : State) (a b : StateValue) → IsBelow a b → Fits s a → Fits s b
 
 -- each state is below itself
 abbrev pub BelowIsReflexive : Type 0
-BelowIsReflexive = (a : Knowledge) → IsBelow a a
+BelowIsReflexive = (a : StateValue) → IsBelow a a
 
 -- a state below one that is below a third is below the third
 abbrev pub BelowIsTransitive : Type 0
-BelowIsTransitive = (a b c : Knowledge) → IsBelow a b → IsBelow b c → IsBelow a c
+BelowIsTransitive = (a b c : StateValue) → IsBelow a b → IsBelow b c → IsBelow a c
 
 -- a joint state is above both
 abbrev pub JoinIsAbove : Type 0
-JoinIsAbove = (a b joint : Knowledge) → IsJoin a b joint → IsBelow a joint × IsBelow b joint
+JoinIsAbove = (a b joint : StateValue) → IsJoin a b joint → IsBelow a joint × IsBelow b joint
 
 -- and below every state that is above both
 abbrev pub JoinIsLeast : Type 0
-JoinIsLeast = (a b joint c : Knowledge) → IsJoin a b joint → IsBelow a c → IsBelow b c → IsBelow joint c
+JoinIsLeast = (a b joint c : StateValue) → IsJoin a b joint → IsBelow a c → IsBelow b c → IsBelow joint c
 
 -- two states that are below each other have the same kinds and marks
 abbrev pub BelowIsAntisymmetric : Type 0
-BelowIsAntisymmetric = (a b : Knowledge) → IsBelow a b → IsBelow b a → AreAlike a b
+BelowIsAntisymmetric = (a b : StateValue) → IsBelow a b → IsBelow b a → AreAlike a b
 
 -- the state of the machine at entry fits the entry state
 abbrev pub EntryFits : Type 0
-EntryFits = (a : Knowledge) (port : ℕ) → IsEntry a → port < 32 → Fits (entry_state port) a
+EntryFits = (a : StateValue) (port : ℕ) → IsEntry a → port < 32 → Fits (entry_state port) a
 
 -- whatever a helper answers, the state after its call fits
 abbrev pub CallFits : Type 0
-CallFits = (s : State) (a : Knowledge) (answer : ℕ) → answer < 2 ^ 64 → Fits s a → Fits (answered s answer) (after_call a)
+CallFits = (s : State) (a : StateValue) (answer : ℕ) → answer < 2 ^ 64 → Fits s a → Fits (answered s answer) (after_call a)
 
 -- where an instruction is not refused, the machine goes on to the next one in a state that fits the result,
 -- from every state that fits
 abbrev pub ApplyFits : Type 0
 ApplyFits =
-    (header : Header) (s : State) (a : Knowledge) (insn : Insn) → IsHeader header → GoesStraight insn → Fits s a
+    (header : Header) (s : State) (a : StateValue) (insn : Insn) → IsHeader header → GoesStraight insn → Fits s a
     → IsSound (perform header s insn) (s.slot + slots_of insn) (applied a insn)
 
 -- where a comparison is not refused, every state that fits fits the edge that it takes
 abbrev pub RefineFits : Type 0
 RefineFits =
-    (header : Header) (s : State) (a : Knowledge) (condition : Condition) (width : Width) (dst : ℕ) (src : Operand) (offset : ℤ)
+    (header : Header) (s : State) (a : StateValue) (condition : Condition) (width : Width) (dst : ℕ) (src : Operand) (offset : ℤ)
     → Fits s a → TakesEdge s offset (perform header s (Jump condition width dst src offset)) (refined_edges a condition width dst src)
 
 -- of a smaller state an instruction gives a smaller one, and it is not refused where that of the larger is not
 abbrev pub ApplyGrows : Type 0
 ApplyGrows =
-    (a b : Knowledge) (insn : Insn) → IsWhole a → IsWhole b → IsBelow a b → IsGrown (applied a insn) (applied b insn)
+    (a b : StateValue) (insn : Insn) → IsWhole a → IsWhole b → IsBelow a b → IsGrown (applied a insn) (applied b insn)
 
 -- and a comparison: an edge that is followed from the smaller is followed from the larger
 abbrev pub RefineGrows : Type 0
 RefineGrows =
-    (a b : Knowledge) (condition : Condition) (width : Width) (dst : ℕ) (src : Operand) → IsWhole a → IsWhole b → IsBelow a b
+    (a b : StateValue) (condition : Condition) (width : Width) (dst : ℕ) (src : Operand) → IsWhole a → IsWhole b → IsBelow a b
     → AreEdgesGrown (refined_edges a condition width dst src) (refined_edges b condition width dst src)
 
 -- and a join
 abbrev pub JoinGrows : Type 0
 JoinGrows =
-    (a b c d first second : Knowledge) → IsJoin a b first → IsJoin c d second → IsBelow a c → IsBelow b d → IsBelow first second
+    (a b c d first second : StateValue) → IsJoin a b first → IsJoin c d second → IsBelow a c → IsBelow b d → IsBelow first second

@@ -1,6 +1,6 @@
 pub mod Codes
 pub mod Kinds
-pub mod Knowledge
+pub mod State
 pub mod Marks
 pub mod Offsets
 pub mod Effect

@@ -2,7 +2,7 @@
 
 ghost use Rattle.std.specs.Prelude.{◌≡◌, Ok, Err, MatchResult};
 ghost use Rattle.machine.specs.Words.{word, low};
-ghost use Rattle.absdom.specs.Knowledge.{with_kind};
+ghost use Rattle.absdom.specs.State.{with_kind};
 ghost use Rattle.absdom.specs.Edges.{compared, with_source, on_edges, is_itself, ranges_of, refined_edges};
 
 use crate::cause::Cause;

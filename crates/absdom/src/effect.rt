@@ -3,7 +3,7 @@
 ghost use Rattle.std.specs.Prelude.{◌≡◌};
 ghost use Rattle.machine.specs.Memory.{size_bytes};
 ghost use Rattle.absdom.specs.Kinds.{number_of};
-ghost use Rattle.absdom.specs.Knowledge.{kind_at};
+ghost use Rattle.absdom.specs.State.{kind_at};
 ghost use Rattle.absdom.specs.Effect.{operand_kind, alu_kind, map_kind, stored, written, applied, Becomes};
 
 use crate::access::{load, store};

@@ -2,7 +2,7 @@
 
 ghost use Rattle.std.specs.Prelude.{◌≡◌, ◌<◌, ◌≤◌, ◌-◌, ℕ, ◌↔◌, IsTrue, false, length};
 ghost use Rattle.absdom.specs.Kinds.{joined, IsKindBelow};
-ghost use Rattle.absdom.specs.Knowledge.{IsKnowledge, IsBelow, IsJoin, IsEntry, kind_at, kind_in, with_kind, with_marks, after_call, entry_kinds, AreJoined, AreBelow};
+ghost use Rattle.absdom.specs.State.{IsState, IsBelow, IsJoin, IsEntry, kind_at, kind_in, with_kind, with_marks, after_call, entry_kinds, AreJoined, AreBelow};
 ghost use Rattle.absdom.specs.Marks.{mark_at, all_marked, marked};
 ghost use Rattle.absdom.specs.Growth.{IsWhole};
 
@@ -25,9 +25,9 @@ pub struct State {
 }
 
 impl Model for State {
-    ghost use Rattle.absdom.specs.Knowledge.{Knowledge};
+    ghost use Rattle.absdom.specs.State.{StateValue};
 
-    ghost Value = { Knowledge };
+    ghost Value = { StateValue };
 
     ghost use Rattle.absdom.specs.Growth.{IsWhole};
 
@@ -43,7 +43,7 @@ impl State {
     /// the end of the stack, r3 is a port, 0 to 31. All else is unset.
     pub fn entry() -> State
         ensures entry { IsEntry result }
-        ensures known { IsKnowledge result }
+        ensures known { IsState result }
         ensures whole { IsWhole result }
     {
         State {
@@ -77,7 +77,7 @@ impl State {
     /// Grows to the least state above both: register by register, and a byte is set where it is in both.
     pub fn join(&mut self, other: &State)
         ensures joint { IsJoin self.old other.now self.new }
-        ensures known { IsKnowledge self.new }
+        ensures known { IsState self.new }
         ensures whole { IsWhole self.new }
     {
         join_kinds(&mut self.kinds, &other.kinds);

@@ -11,61 +11,61 @@ use Rattle.std.proofs.lemmas.Bool.Decides.{nat_tests}
 use Rattle.rmap.specs.declared.kind.Kind.{Kind}
 use Rattle.rmap.specs.declared.kind.Kind.TheVariants.{Read, Write, Rmw, Unused}
 use Rattle.rmap.specs.declared.status.Status.{Status}
-use Rattle.rmap.specs.Command.{Parts, command_kind, command_of}
-use Rattle.rmap.specs.Ranges.{lies_inside}
+use Rattle.rmap.specs.Command.{CommandValue, command_kind, command_of}
+use Rattle.rmap.specs.Windows.{lies_inside}
 use Rattle.bank.specs.Effect.{Memory, effect_of, effect}
 use Rattle.bank.specs.Answer.{is_success, effect_at, status_of}
-use Rattle.bank.specs.Records.{Contents, Turn, Judgement, Logged, IsBank, memory_of, base_of, replay, redone, numbers_of, logged, fits, is_next, extent_of, applied, recorded, answer_of, has_room}
+use Rattle.bank.specs.Records.{BankValue, ShareValue, JudgedValue, EntryValue, IsBank, memory_of, base_of, replay, after_entry, numbers_of, entry_of, fits, is_next, extent_of, after_command, after_record, answer_of, has_room}
 
 -- a command leaves as many bytes as there were
-effect_of-length : (kind : Kind) (m : Memory) (c : Parts) → length (effect_of kind m c).memory.bytes ≡ length m.bytes
+effect_of-length : (kind : Kind) (m : Memory) (c : CommandValue) → length (effect_of kind m c).memory.bytes ≡ length m.bytes
 effect_of-length Read m c = refl
 effect_of-length Write m c = length-map-range_with_len _ 0 (length m.bytes)
 effect_of-length Rmw m c = length-map-range_with_len _ 0 (length m.bytes)
 effect_of-length Unused m c = refl
 
-effect_at-length : (status : Status) (m : Memory) (c : Parts) → length (effect_at status m c).memory.bytes ≡ length m.bytes
+effect_at-length : (status : Status) (m : Memory) (c : CommandValue) → length (effect_at status m c).memory.bytes ≡ length m.bytes
 effect_at-length status m c =
     elim (is_success status) as (λ b. length (if b then effect m c else record { memory = m; reply = [] }).memory.bytes ≡ length m.bytes) [ true ↦ effect_of-length (command_kind c) m c | false ↦ refl ]
 
-pub extent_stays : (b : Contents) (share : Turn) (judged : Judgement) → extent_of (applied b share judged) ≡ extent_of b
+pub extent_stays : (b : BankValue) (share : ShareValue) (judged : JudgedValue) → extent_of (after_command b share judged) ≡ extent_of b
 extent_stays b share judged =
     let status = status_of (has_room b judged.port) (command_of judged.packet) judged.verdict in
-    elim (has_room b judged.port) as (λ room. extent_of (if room then recorded b share judged (answer_of b judged) else b) ≡ extent_of b) [
+    elim (has_room b judged.port) as (λ room. extent_of (if room then after_record b share judged (answer_of b judged) else b) ≡ extent_of b) [
       | true ↦ ap (λ (n : ℕ). (b.first, n)) (effect_at-length status (memory_of b) (command_of judged.packet))
       | false ↦ refl
     ]
 
 -- one more entry is one more step of the replay
-replay_more : (base m : Memory) (entries : List Logged) (e : Logged) → m ≡ replay base entries → redone m e ≡ replay base (entries ++ e ∷ [])
-replay_more base m entries e h = rw h (sym (fold-append redone base entries (e ∷ [])))
+replay_more : (base m : Memory) (entries : List EntryValue) (e : EntryValue) → m ≡ replay base entries → after_entry m e ≡ replay base (entries ++ e ∷ [])
+replay_more base m entries e h = rw h (sym (fold-append after_entry base entries (e ∷ [])))
 
 range_more : (n : ℕ) → range_with_len 0 n ++ n ∷ [] ≡ range_with_len 0 (n + 1)
 range_more n =
     sym (sym (map-id (range_with_len 0 (n + 1))) ∙ map-range_with_len_more (λ (x : ℕ). x) 0 n n (omega arith) ∙ ap (λ (l : List ℕ). l ++ n ∷ []) (map-id (range_with_len 0 n)))
 
 -- the numbers of a port with one more entry
-numbers_of-same : (port : ℕ) (entries : List Logged) (e : Logged) → e.port ≡ port → numbers_of port (entries ++ e ∷ []) ≡ numbers_of port entries ++ e.number ∷ []
+numbers_of-same : (port : ℕ) (entries : List EntryValue) (e : EntryValue) → e.port ≡ port → numbers_of port (entries ++ e ∷ []) ≡ numbers_of port entries ++ e.number ∷ []
 numbers_of-same port entries e same =
     let test : eqb e.port port ≡ true = grind (arith, nat_tests) in
-    rw (filter-append (λ (x : Logged). eqb x.port port) entries (e ∷ []), test, map-append) refl
+    rw (filter-append (λ (x : EntryValue). eqb x.port port) entries (e ∷ []), test, map-append) refl
 
-numbers_of-other : (port : ℕ) (entries : List Logged) (e : Logged) → (e.port ≡ port → ⊥) → numbers_of port (entries ++ e ∷ []) ≡ numbers_of port entries
+numbers_of-other : (port : ℕ) (entries : List EntryValue) (e : EntryValue) → (e.port ≡ port → ⊥) → numbers_of port (entries ++ e ∷ []) ≡ numbers_of port entries
 numbers_of-other port entries e other =
     let test : eqb e.port port ≡ false = grind (arith, nat_tests) in
-    rw (filter-append (λ (x : Logged). eqb x.port port) entries (e ∷ []), test, append-nil) refl
+    rw (filter-append (λ (x : EntryValue). eqb x.port port) entries (e ∷ []), test, append-nil) refl
 
 both : (a b : Bool) → (a && b) ≡ true → (a ≡ true) × (b ≡ true)
 both true b e = (refl, e)
 both false b e = absurd cc
 
 -- what a share that fits says
-record Fitting (b : Contents) (share : Turn) (judged : Judgement) : Type 0 where
+record Fitting (b : BankValue) (share : ShareValue) (judged : JudgedValue) : Type 0 where
   pub port : share.port ≡ judged.port
   pub below : judged.port < length b.counts
   pub number : share.number ≡ get_or b.counts judged.port 0
 
-fitting : (b : Contents) (share : Turn) (judged : Judgement) → fits b share judged ≡ true → Fitting b share judged
+fitting : (b : BankValue) (share : ShareValue) (judged : JudgedValue) → fits b share judged ≡ true → Fitting b share judged
 fitting b share judged h =
     let inside = both (eqb share.port judged.port && is_next b share) (lies_inside b.first (length b.bytes) (command_of judged.packet)) h in
     let ports = both (eqb share.port judged.port) (is_next b share) inside.0 in
@@ -78,10 +78,10 @@ fitting b share judged h =
     let number : share.number ≡ get_or b.counts share.port 0 = grind (arith, nat_tests) in
     record { port = port; below = rw (← port) below; number = rw (← port) number }
 
-pub still_bank : (b : Contents) (share : Turn) (judged : Judgement) (status : Status) (bytes counts : List ℕ) → IsBank b → fits b share judged ≡ true → record { first = b.first; bytes = bytes } ≡ (effect_at status (memory_of b) (command_of judged.packet)).memory → counts ≡ set b.counts judged.port (share.number + 1) → IsBank (record { first = b.first; bytes = bytes; base = b.base; journal = record { entries = b.journal.entries ++ logged share judged status ∷ []; room = b.journal.room }; counts = counts })
+pub still_bank : (b : BankValue) (share : ShareValue) (judged : JudgedValue) (status : Status) (bytes counts : List ℕ) → IsBank b → fits b share judged ≡ true → record { first = b.first; bytes = bytes } ≡ (effect_at status (memory_of b) (command_of judged.packet)).memory → counts ≡ set b.counts judged.port (share.number + 1) → IsBank (record { first = b.first; bytes = bytes; base = b.base; journal = record { entries = b.journal.entries ++ entry_of share judged status ∷ []; room = b.journal.room }; counts = counts })
 still_bank b share judged status bytes counts bank fit memory new =
     let fitted = fitting b share judged fit in
-    let entry : Logged = logged share judged status in
+    let entry : EntryValue = entry_of share judged status in
     let size : length bytes ≡ length b.bytes = ap (λ (m : Memory). length m.bytes) memory ∙ effect_at-length status (memory_of b) (command_of judged.packet) in
     let ports : length counts ≡ length b.counts = ap (λ (l : List ℕ). length l) new ∙ length-set b.counts judged.port (share.number + 1) in
     record {

@@ -8,11 +8,11 @@ use Rattle.std.proofs.lemmas.List.FromFn.{fill_by_all}
 use Rattle.std.proofs.lemmas.Bool.{cases_lt, cases_eq}
 use Rattle.std.proofs.lemmas.Bool.Decides.{nat_tests}
 use borrow.Rule.Slice.PartMut.{put_mid}
-use Rattle.rmap.specs.Command.{Parts, address_of, increments}
-use Rattle.bank.specs.Effect.{Memory, IsWithin, byte_at, byte_after, bytes_read, written}
+use Rattle.rmap.specs.Command.{CommandValue, address_of, increments}
+use Rattle.bank.specs.Effect.{Memory, IsWithin, byte_at, byte_after, bytes_read, after_write}
 
 -- with increment the bytes that are read stand behind each other
-pub read_next : (m : Memory) (c : Parts) (n offset : ℕ) → address_of c - m.first ≡ offset → IsWithin m.first (length m.bytes) c n → increments c ≡ true → take (offset + n - offset) (drop offset m.bytes) ≡ bytes_read m c n
+pub read_next : (m : Memory) (c : CommandValue) (n offset : ℕ) → address_of c - m.first ≡ offset → IsWithin m.first (length m.bytes) c n → increments c ≡ true → take (offset + n - offset) (drop offset m.bytes) ≡ bytes_read m c n
 read_next m c n offset place within next =
     let above : m.first ≤ address_of c = within.above in
     let all : address_of c + n ≤ m.first + length m.bytes = within.all next in
@@ -23,42 +23,42 @@ read_next m c n offset place within next =
     get_or-take (offset + n - offset) (drop offset m.bytes) k 0 (omega arith) ∙ get_or-drop offset m.bytes k 0 ∙ rw (next, same) refl)
 
 -- without it the byte of the one address is read again and again
-pub read_again : (m : Memory) (c : Parts) (n size offset byte : ℕ) → address_of c - m.first ≡ offset → n ≤ size → byte ≡ get_or m.bytes offset 0 → increments c ≡ false → take n (replicate size byte) ≡ bytes_read m c n
+pub read_again : (m : Memory) (c : CommandValue) (n size offset byte : ℕ) → address_of c - m.first ≡ offset → n ≤ size → byte ≡ get_or m.bytes offset 0 → increments c ≡ false → take n (replicate size byte) ≡ bytes_read m c n
 read_again m c n size offset byte place few value again =
     let long : length (take n (replicate size byte)) ≡ n = omega (arith, length-take n (replicate size byte), length-replicate size byte) in
     fill_by_all _ (take n (replicate size byte)) n 0 long (λ k below.
     rw (take-replicate n size byte few, get_or-replicate n k byte 0 below, again, place) value)
 
 -- the byte at an address after data was written, case by case
-after_inside : (m : Memory) (c : Parts) (bytes : List ℕ) (x : ℕ) → increments c ≡ true → address_of c ≤ x → x < address_of c + length bytes → byte_after m c bytes x ≡ get_or bytes (x - address_of c) 0
+after_inside : (m : Memory) (c : CommandValue) (bytes : List ℕ) (x : ℕ) → increments c ≡ true → address_of c ≤ x → x < address_of c + length bytes → byte_after m c bytes x ≡ get_or bytes (x - address_of c) 0
 after_inside m c bytes x next above below =
     let is_above : leb (address_of c) x ≡ true = grind (arith, nat_tests) in
     let is_below : ltb x (address_of c + length bytes) ≡ true = grind (arith, nat_tests) in
     rw (next, is_above, is_below) refl
 
-after_below : (m : Memory) (c : Parts) (bytes : List ℕ) (x : ℕ) → increments c ≡ true → x < address_of c → byte_after m c bytes x ≡ byte_at m x
+after_below : (m : Memory) (c : CommandValue) (bytes : List ℕ) (x : ℕ) → increments c ≡ true → x < address_of c → byte_after m c bytes x ≡ byte_at m x
 after_below m c bytes x next below =
     let is_below : leb (address_of c) x ≡ false = grind (arith, nat_tests) in
     rw (next, is_below) refl
 
-after_above : (m : Memory) (c : Parts) (bytes : List ℕ) (x : ℕ) → increments c ≡ true → address_of c ≤ x → address_of c + length bytes ≤ x → byte_after m c bytes x ≡ byte_at m x
+after_above : (m : Memory) (c : CommandValue) (bytes : List ℕ) (x : ℕ) → increments c ≡ true → address_of c ≤ x → address_of c + length bytes ≤ x → byte_after m c bytes x ≡ byte_at m x
 after_above m c bytes x next above past =
     let is_above : leb (address_of c) x ≡ true = grind (arith, nat_tests) in
     let is_past : ltb x (address_of c + length bytes) ≡ false = grind (arith, nat_tests) in
     rw (next, is_above, is_past) refl
 
-after_last : (m : Memory) (c : Parts) (bytes : List ℕ) (x : ℕ) → increments c ≡ false → x ≡ address_of c → 0 < length bytes → byte_after m c bytes x ≡ get_or bytes (length bytes - 1) 0
+after_last : (m : Memory) (c : CommandValue) (bytes : List ℕ) (x : ℕ) → increments c ≡ false → x ≡ address_of c → 0 < length bytes → byte_after m c bytes x ≡ get_or bytes (length bytes - 1) 0
 after_last m c bytes x again here some =
     let is_here : eqb x (address_of c) ≡ true = grind (arith, nat_tests) in
     let is_some : ltb 0 (length bytes) ≡ true = grind (arith, nat_tests) in
     rw (again, is_here, is_some) refl
 
-after_other : (m : Memory) (c : Parts) (bytes : List ℕ) (x : ℕ) → increments c ≡ false → (x ≡ address_of c → ⊥) → byte_after m c bytes x ≡ byte_at m x
+after_other : (m : Memory) (c : CommandValue) (bytes : List ℕ) (x : ℕ) → increments c ≡ false → (x ≡ address_of c → ⊥) → byte_after m c bytes x ≡ byte_at m x
 after_other m c bytes x again other =
     let is_other : eqb x (address_of c) ≡ false = grind (arith, nat_tests) in
     rw (again, is_other) refl
 
-after_none : (m : Memory) (c : Parts) (bytes : List ℕ) (x : ℕ) → increments c ≡ false → length bytes ≡ 0 → byte_after m c bytes x ≡ byte_at m x
+after_none : (m : Memory) (c : CommandValue) (bytes : List ℕ) (x : ℕ) → increments c ≡ false → length bytes ≡ 0 → byte_after m c bytes x ≡ byte_at m x
 after_none m c bytes x again none =
     let is_none : ltb 0 (length bytes) ≡ false = grind (arith, nat_tests) in
     rw (again, is_none) (elim (eqb x (address_of c)) as (λ b. (if b && false then get_or bytes (length bytes - 1) 0 else byte_at m x) ≡ byte_at m x) [ true ↦ refl | false ↦ refl ])
@@ -68,7 +68,7 @@ byte_at-first : (m : Memory) (k : ℕ) → byte_at m (m.first + k) ≡ get_or m.
 byte_at-first m k = let same : m.first + k - m.first ≡ k = omega arith in rw same refl
 
 -- with increment the bytes stand behind each other
-pub write_next : (m : Memory) (c : Parts) (bytes new : List ℕ) (offset : ℕ) → address_of c - m.first ≡ offset → IsWithin m.first (length m.bytes) c (length bytes) → increments c ≡ true → new ≡ bytes → put_mid offset (offset + length bytes - offset) m.bytes new ≡ (written m c bytes).bytes
+pub write_next : (m : Memory) (c : CommandValue) (bytes new : List ℕ) (offset : ℕ) → address_of c - m.first ≡ offset → IsWithin m.first (length m.bytes) c (length bytes) → increments c ≡ true → new ≡ bytes → put_mid offset (offset + length bytes - offset) m.bytes new ≡ (after_write m c bytes).bytes
 write_next m c bytes new offset place within next same =
     let above : m.first ≤ address_of c = within.above in
     let all : address_of c + length bytes ≤ m.first + length m.bytes = within.all next in
@@ -101,7 +101,7 @@ write_next m c bytes new offset place within next same =
     ])
 
 -- without it the last byte stays
-pub write_again : (m : Memory) (c : Parts) (bytes : List ℕ) (offset last : ℕ) → address_of c - m.first ≡ offset → IsWithin m.first (length m.bytes) c (length bytes) → increments c ≡ false → 0 < length bytes → last ≡ get_or bytes (length bytes - 1) 0 → set m.bytes offset last ≡ (written m c bytes).bytes
+pub write_again : (m : Memory) (c : CommandValue) (bytes : List ℕ) (offset last : ℕ) → address_of c - m.first ≡ offset → IsWithin m.first (length m.bytes) c (length bytes) → increments c ≡ false → 0 < length bytes → last ≡ get_or bytes (length bytes - 1) 0 → set m.bytes offset last ≡ (after_write m c bytes).bytes
 write_again m c bytes offset last place within again some value =
     let above : m.first ≤ address_of c = within.above in
     let below : address_of c < m.first + length m.bytes = within.below in
@@ -112,7 +112,7 @@ write_again m c bytes offset last place within again some value =
     ])
 
 -- no bytes change nothing
-pub write_none : (m : Memory) (c : Parts) (bytes : List ℕ) → increments c ≡ false → length bytes ≡ 0 → m.bytes ≡ (written m c bytes).bytes
+pub write_none : (m : Memory) (c : CommandValue) (bytes : List ℕ) → increments c ≡ false → length bytes ≡ 0 → m.bytes ≡ (after_write m c bytes).bytes
 write_none m c bytes again none =
     fill_by_all (λ k. byte_after m c bytes (m.first + k)) m.bytes (length m.bytes) 0 refl (λ k inside. sym (after_none m c bytes (m.first + k) again none ∙ byte_at-first m k))
 

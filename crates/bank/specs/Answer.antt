@@ -3,7 +3,7 @@
 use Rattle.std.specs.Prelude.{ℕ, Bool, ◌==◌, if◌then◌else◌, List, [], Option, None, Some}
 use Rattle.rmap.specs.declared.status.Status.{Status}
 use Rattle.rmap.specs.declared.status.Status.TheVariants.{Success, GeneralError, InvalidKey, NotAuthorised, InvalidLogicalAddress}
-use Rattle.rmap.specs.Command.{Parts}
+use Rattle.rmap.specs.Command.{CommandValue}
 use Rattle.rmap.specs.Codes.{status_code}
 use Rattle.rmap.specs.Checks.{body_line}
 use Rattle.rmap.specs.Reply.{reply_of}
@@ -23,7 +23,7 @@ first_line None second = second
 first_line (Some status) second = Some status
 
 -- what stops a judged command before memory is touched
-abbrev pub judged_line : Parts → ℕ → Option Status
+abbrev pub judged_line : CommandValue → ℕ → Option Status
 judged_line c v = first_line (verdict_line v) (body_line c)
 
 -- where nothing stops it, it is executed if there is room
@@ -32,7 +32,7 @@ status_with room None = if room then Success else GeneralError
 status_with room (Some status) = status
 
 -- the status of a judged command with verdict v, where there is room or not
-abbrev pub status_of : (room : Bool) → Parts → ℕ → Status
+abbrev pub status_of : (room : Bool) → CommandValue → ℕ → Status
 status_of room c v = status_with room (judged_line c v)
 
 -- whether the status is success
@@ -40,7 +40,7 @@ abbrev pub is_success : Status → Bool
 is_success status = status_code status == 0
 
 -- a command that is not executed leaves memory, and its reply has no data
-abbrev pub effect_at : Status → Memory → Parts → Effect
+abbrev pub effect_at : Status → Memory → CommandValue → Effect
 effect_at status m c = if is_success status then effect m c else record { memory = m; reply = [] }
 
 -- status, memory and reply of a judged command with verdict v
@@ -50,7 +50,7 @@ pub record Answer : Type 0 where
   pub reply : List ℕ
 
 -- the answer of that status: the effect under success, else memory stays and the reply has no data
-abbrev pub answer_at : Status → Memory → Parts → Answer
+abbrev pub answer_at : Status → Memory → CommandValue → Answer
 answer_at status m c = record {
   status = status;
   memory = (effect_at status m c).memory;
@@ -58,5 +58,5 @@ answer_at status m c = record {
 }
 
 -- the answer of a judged command with verdict v, where there is room or not
-abbrev pub answer : Memory → (room : Bool) → Parts → ℕ → Answer
+abbrev pub answer : Memory → (room : Bool) → CommandValue → ℕ → Answer
 answer m room c v = answer_at (status_of room c v) m c

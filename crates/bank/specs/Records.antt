@@ -3,7 +3,7 @@ use Rattle.std.specs.Prelude.{◌≡◌, ◌≤◌, ℕ, ◌+◌, ◌-◌, ◌^�
 use Rattle.spw.specs.Cargo.{Cargo}
 use Rattle.rmap.specs.declared.places.Place.{Place}
 use Rattle.rmap.specs.declared.status.Status.{Status}
-use Rattle.rmap.specs.Ranges.{lies_inside}
+use Rattle.rmap.specs.Windows.{lies_inside}
 use Rattle.rmap.specs.Command.{command_of}
 use Rattle.bank.specs.Admission.{IsAdmitted}
 use Rattle.bank.specs.Effect.{Memory}
@@ -17,7 +17,7 @@ pub record AdmittedValue : Type 0 where
   pub place : Place
 
 -- a judged command: its packet, where its bytes lie, and who judged what
-pub record Judgement : Type 0 where
+pub record JudgedValue : Type 0 where
   pub packet : Cargo
   pub place : Place
   pub port : ℕ
@@ -25,7 +25,7 @@ pub record Judgement : Type 0 where
   pub verdict : ℕ
 
 -- one line of a journal: the command of that number of a port at this bank, and how it ended
-pub record Logged : Type 0 where
+pub record EntryValue : Type 0 where
   pub port : ℕ
   pub number : ℕ
   pub packet : Cargo
@@ -34,38 +34,38 @@ pub record Logged : Type 0 where
   pub status : Status
 
 -- a port, and the number of its next command at a bank
-pub record Turn : Type 0 where
+pub record ShareValue : Type 0 where
   pub port : ℕ
   pub number : ℕ
 
 -- a journal: its entries, oldest first, and how many it has room for
-pub record Log : Type 0 where
-  pub entries : List Logged
+pub record JournalValue : Type 0 where
+  pub entries : List EntryValue
   pub room : ℕ
 
 -- a bank: the address of its first byte, its bytes and those that its journal begins with, the
 -- journal, and for each port the number of its next command
-pub record Contents : Type 0 where
+pub record BankValue : Type 0 where
   pub first : ℕ
   pub bytes : List ℕ
   pub base : List ℕ
-  pub journal : Log
+  pub journal : JournalValue
   pub counts : List ℕ
 
 -- memory after an entry: the command's effect where it was executed
-abbrev pub redone : Memory → Logged → Memory
-redone m entry = (effect_at entry.status m (command_of entry.packet)).memory
+abbrev pub after_entry : Memory → EntryValue → Memory
+after_entry m entry = (effect_at entry.status m (command_of entry.packet)).memory
 
 -- memory after the entries of a journal, in order
-abbrev pub replay : Memory → List Logged → Memory
-replay base entries = fold redone base entries
+abbrev pub replay : Memory → List EntryValue → Memory
+replay base entries = fold after_entry base entries
 
 -- the memory of a bank
-abbrev pub memory_of : Contents → Memory
+abbrev pub memory_of : BankValue → Memory
 memory_of b = record { first = b.first; bytes = b.bytes }
 
 -- where a bank lies: the address of its first byte, and how many bytes it has
-abbrev pub extent_of : Contents → ℕ × ℕ
+abbrev pub extent_of : BankValue → ℕ × ℕ
 extent_of b = (b.first, length b.bytes)
 
 -- the byte at an address, of the bytes from the first address on
@@ -73,24 +73,24 @@ abbrev pub byte_in : (first : ℕ) → List ℕ → (address : ℕ) → Option �
 byte_in first bytes address = if nat_le first address then slice_get bytes (address - first) else None
 
 -- what the journal of a bank begins with
-abbrev pub base_of : Contents → Memory
+abbrev pub base_of : BankValue → Memory
 base_of b = record { first = b.first; bytes = b.base }
 
 -- the numbers of a port's entries, in order
-abbrev pub numbers_of : ℕ → List Logged → List ℕ
-numbers_of port entries = map (λ (e : Logged). e.number) (filter (λ (e : Logged). e.port == port) entries)
+abbrev pub numbers_of : ℕ → List EntryValue → List ℕ
+numbers_of port entries = map (λ (e : EntryValue). e.number) (filter (λ (e : EntryValue). e.port == port) entries)
 
 -- the journal has room for an entry, and the port's next number has a successor
-abbrev pub has_room : Contents → ℕ → Bool
+abbrev pub has_room : BankValue → ℕ → Bool
 has_room b port = nat_lt (length b.journal.entries) b.journal.room && nat_lt (slice_index b.counts port) (2 ^ 64 - 1)
 
 -- the share's number is the bank's count of its port
-abbrev pub is_next : Contents → Turn → Bool
+abbrev pub is_next : BankValue → ShareValue → Bool
 is_next b share = nat_lt share.port (length b.counts) && share.number == slice_index b.counts share.port
 
 -- the share is the command's port's with the bank's count of that port, and the command's bytes lie
 -- in this bank
-abbrev pub fits : Contents → Turn → Judgement → Bool
+abbrev pub fits : BankValue → ShareValue → JudgedValue → Bool
 fits b share judged =
     share.port == judged.port && is_next b share
     && lies_inside b.first (length b.bytes) (command_of judged.packet)
@@ -101,7 +101,7 @@ IsExecutable status p = is_success status ≡ true → IsAdmitted p × (body_lin
 
 -- a bank has between 1 and 1,048,576 bytes below 2^32 and between 1 and 32 ports. Its memory is the
 -- replay of its journal, in which the numbers of each port are 0, 1, 2 and so on
-pub record IsBank (b : Contents) : Type 0 where
+pub record IsBank (b : BankValue) : Type 0 where
   pub some : 1 ≤ length b.bytes
   pub few : length b.bytes ≤ 1048576
   pub below : b.first + length b.bytes ≤ 2 ^ 32
@@ -112,7 +112,7 @@ pub record IsBank (b : Contents) : Type 0 where
   pub numbered : (port : ℕ) → port < length b.counts → numbers_of port b.journal.entries ≡ range_with_len 0 (slice_index b.counts port)
 
 -- an admitted command with a verdict on it
-abbrev pub judgement : AdmittedValue → (port generation verdict : ℕ) → Judgement
+abbrev pub judgement : AdmittedValue → (port generation verdict : ℕ) → JudgedValue
 judgement admitted port generation verdict = record {
   packet = admitted.packet;
   place = admitted.place;
@@ -122,11 +122,11 @@ judgement admitted port generation verdict = record {
 }
 
 -- the share of a port that has sent a bank no command
-abbrev pub first_share : ℕ → Turn
+abbrev pub first_share : ℕ → ShareValue
 first_share port = record { port = port; number = 0 }
 
 -- a bank of zeros, to which no command was applied
-abbrev pub fresh_bank : (base size : ℕ) → Log → ℕ → Contents
+abbrev pub fresh_bank : (base size : ℕ) → JournalValue → ℕ → BankValue
 fresh_bank base size journal ports = record {
   first = base;
   bytes = replicate size 0;
@@ -136,12 +136,12 @@ fresh_bank base size journal ports = record {
 }
 
 -- what a judged command is answered at a bank
-abbrev pub answer_of : Contents → Judgement → Answer
+abbrev pub answer_of : BankValue → JudgedValue → Answer
 answer_of b judged = answer (memory_of b) (has_room b judged.port) (command_of judged.packet) judged.verdict
 
 -- the entry of a judged command that ended with that status
-abbrev pub logged : Turn → Judgement → Status → Logged
-logged share judged status = record {
+abbrev pub entry_of : ShareValue → JudgedValue → Status → EntryValue
+entry_of share judged status = record {
   port = judged.port;
   number = share.number;
   packet = judged.packet;
@@ -151,24 +151,24 @@ logged share judged status = record {
 }
 
 -- a bank with the answer's memory, the command's entry behind the others, and the port's next number
-abbrev pub recorded : Contents → Turn → Judgement → Answer → Contents
-recorded b share judged a = record {
+abbrev pub after_record : BankValue → ShareValue → JudgedValue → Answer → BankValue
+after_record b share judged a = record {
   first = b.first;
   bytes = a.memory.bytes;
   base = b.base;
-  journal = record { entries = b.journal.entries ++ logged share judged a.status ∷ []; room = b.journal.room };
+  journal = record { entries = b.journal.entries ++ entry_of share judged a.status ∷ []; room = b.journal.room };
   counts = slice_set b.counts judged.port (share.number + 1);
 }
 
 -- a bank after a judged command: as it was where there is no room
-abbrev pub applied : Contents → Turn → Judgement → Contents
-applied b share judged = if has_room b judged.port then recorded b share judged (answer_of b judged) else b
+abbrev pub after_command : BankValue → ShareValue → JudgedValue → BankValue
+after_command b share judged = if has_room b judged.port then after_record b share judged (answer_of b judged) else b
 
 -- the number of the entry that a judged command leaves
-abbrev pub number_left : Contents → Turn → Judgement → Option ℕ
+abbrev pub number_left : BankValue → ShareValue → JudgedValue → Option ℕ
 number_left b share judged = if has_room b judged.port then Some share.number else None
 
 -- a share after a judged command
-abbrev pub next_share : Contents → Turn → Judgement → Turn
+abbrev pub next_share : BankValue → ShareValue → JudgedValue → ShareValue
 next_share b share judged =
     if has_room b judged.port then record { port = share.port; number = share.number + 1 } else share

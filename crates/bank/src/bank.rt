@@ -1,14 +1,14 @@
 //! Banks of memory.
 
 ghost use Rattle.std.specs.Prelude.{◌≡◌, ◌≤◌, ◌<◌, ◌+◌, ◌-◌, ◌^◌, ◌⊎◌, ◌↔◌, [], ◌∷◌, ◌++◌, length, true, Some, None, IfOk, IsErrOf, slice_index, map, false};
-ghost use Rattle.rmap.specs.Ranges.{lies_inside};
+ghost use Rattle.rmap.specs.Windows.{lies_inside};
 ghost use Rattle.rmap.specs.Command.{command_of};
 ghost use Rattle.rmap.specs.Reply.{reply_of};
 ghost use Rattle.bank.specs.Effect.{Memory};
 ghost use Rattle.bank.specs.Answer.{judged_line, status_of, effect_at};
 ghost use Rattle.std.specs.List.{range_with_len};
 ghost use Rattle.bank.specs.Limits.{is_bank_size, is_range, is_bank};
-ghost use Rattle.bank.specs.Records.{first_share, fresh_bank, byte_in, fits, is_next, has_room, IsBank, IsExecutable, memory_of, answer_of, applied, number_left, next_share};
+ghost use Rattle.bank.specs.Records.{first_share, fresh_bank, byte_in, fits, is_next, has_room, IsBank, IsExecutable, memory_of, answer_of, after_command, number_left, next_share};
 
 use crate::effect::execute;
 use crate::entry::Entry;
@@ -44,9 +44,9 @@ pub struct Bank {
 }
 
 impl Model for Bank {
-    ghost use Rattle.bank.specs.Records.{Contents, IsBank};
+    ghost use Rattle.bank.specs.Records.{BankValue, IsBank};
 
-    ghost Value = { Contents };
+    ghost Value = { BankValue };
 
     ghost view = { λ b. record { first = b.first; bytes = b.bytes.items; base = b.base.items; journal = b.journal; counts = b.counts.items } };
 
@@ -210,7 +210,7 @@ impl Bank {
 
         // Where there is room it leaves one entry, the others stay, and bank and share count it.
         ensures number { result.number ≡ number_left self.old share.old judged }
-        ensures bank { self.new ≡ applied self.old share.old judged }
+        ensures bank { self.new ≡ after_command self.old share.old judged }
         ensures share { share.new ≡ next_share self.old share.old judged }
     {
         let room = self.has_room(judged.port());

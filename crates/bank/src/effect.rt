@@ -2,11 +2,11 @@
 
 ghost use Rattle.std.specs.Prelude.{◌≡◌, ◌≤◌, ◌<◌, ◌+◌, length, take, true, None};
 ghost use Rattle.rmap.specs.declared.status.Status.TheVariants.{Success as Succeeds};
-ghost use Rattle.rmap.specs.Ranges.{lies_inside};
+ghost use Rattle.rmap.specs.Windows.{lies_inside};
 ghost use Rattle.rmap.specs.Checks.{body_line};
 ghost use Rattle.rmap.specs.Reply.{reply_of};
 ghost use Rattle.bank.specs.Admission.{IsAdmissible};
-ghost use Rattle.bank.specs.Effect.{IsWithin, effect, bytes_read, written, modified};
+ghost use Rattle.bank.specs.Effect.{IsWithin, effect, bytes_read, after_write, modified_bytes};
 
 use rmap::{Command, Kind, MAX_DATA, ReplyBuf, Status, put_reply};
 
@@ -38,7 +38,7 @@ fn reply_read(reply: &mut ReplyBuf, command: &Command, memory: &[u8], first: u32
 /// command's on, or all at that one.
 fn store(memory: &mut [u8], first: u32, command: &Command, bytes: &[u8])
     requires within { IsWithin first (length memory.old) command.now (length bytes.now) }
-    ensures { memory.new ≡ (written (record { first = first; bytes = memory.old }) command.now bytes.now).bytes }
+    ensures { memory.new ≡ (after_write (record { first = first; bytes = memory.old }) command.now bytes.now).bytes }
 {
     let offset = (command.address() - first) as usize;
     if command.increments() {
@@ -54,7 +54,7 @@ fn modified(memory: &[u8], first: u32, command: &Command, half: usize) -> [u8; M
     requires few { half ≤ 4 }
     requires body { half + half ≤ length command.now.body }
     requires within { IsWithin first (length memory.now) command.now half }
-    ensures { take half result ≡ modified (record { first = first; bytes = memory.now }) command.now half }
+    ensures { take half result ≡ modified_bytes (record { first = first; bytes = memory.now }) command.now half }
 {
     let offset = (command.address() - first) as usize;
     let increments = command.increments();

@@ -20,9 +20,9 @@ pub struct Entry {
 }
 
 impl Model for Entry {
-    ghost use Rattle.bank.specs.Records.{Logged, IsExecutable};
+    ghost use Rattle.bank.specs.Records.{EntryValue, IsExecutable};
 
-    ghost Value = { Logged };
+    ghost Value = { EntryValue };
 
     ghost view = { λ e. record { port = e.port; number = e.number; packet = e.packet; generation = e.generation; verdict = e.verdict; status = e.status } };
 

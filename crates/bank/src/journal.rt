@@ -20,9 +20,9 @@ pub struct Journal {
 
 impl Model for Journal {
     ghost use Rattle.std.specs.Prelude.{◌≡◌, ◌≤◌, vec_len, vec_capacity};
-    ghost use Rattle.bank.specs.Records.{Log};
+    ghost use Rattle.bank.specs.Records.{JournalValue};
 
-    ghost Value = { Log };
+    ghost Value = { JournalValue };
 
     ghost view = { λ j. record { entries = j.entries.items; room = j.room } };
 

@@ -2,7 +2,7 @@
 
 ghost use Rattle.std.specs.Prelude.{◌≡◌, [], None, Some};
 ghost use Rattle.rmap.specs.Command.{command_of, discard_of};
-ghost use Rattle.rmap.specs.Ranges.{place_of};
+ghost use Rattle.rmap.specs.Windows.{place_of};
 ghost use Rattle.rmap.specs.Checks.{header_line};
 ghost use Rattle.rmap.specs.Reply.{reply_of};
 ghost use Rattle.rmap.specs.declared.status.Status.TheVariants.{GeneralError as Fails};
@@ -26,9 +26,9 @@ pub struct Judged {
 }
 
 impl Model for Judged {
-    ghost use Rattle.bank.specs.Records.{Judgement, judgement};
+    ghost use Rattle.bank.specs.Records.{JudgedValue, judgement};
 
-    ghost Value = { Judgement };
+    ghost Value = { JudgedValue };
 
     ghost view = { λ j. judgement j.admitted j.port j.generation j.verdict };
 }

@@ -11,7 +11,7 @@ use Rattle.basm_lex.specs.Numbers.{WritesNumber}
 use Rattle.basm_lex.specs.Places.{WritesRegister}
 use Rattle.basm_lex.specs.declared.mnemonics.Mnemonic.{Mnemonic}
 use Rattle.basm.specs.declared.draft.Draft.{Draft}
-use Rattle.basm.specs.Adding.{AddsItem}
+use Rattle.basm.specs.Draft.{AddsItem}
 use Rattle.basm.specs.Labels.{label_of}
 use Rattle.basm_lex.specs.Mnemonics.{mnemonic_word}
 use Rattle.basm.specs.Relation.{Budget, Code, Four, IsLine, Item, Label, Nothing, One, OneLoop, WritesEnd, WritesInsn}

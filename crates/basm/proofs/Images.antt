@@ -15,7 +15,7 @@ use Rattle.bpf.specs.Program.{AreLoops, IsBudget, IsLoop, IsProgram, IsSlotCount
 use Rattle.bpf.specs.Reading.{Fails, is_budget, is_count, is_loop}
 use Rattle.basm.specs.declared.faults.AsmFault.{AsmFault}
 use Rattle.basm.specs.declared.draft.Draft.{Draft}
-use Rattle.basm.specs.Adding.{IsImageOf}
+use Rattle.basm.specs.Draft.{IsImageOf}
 use Rattle.basm.specs.Outcomes.{Makes, image_code, text_fault}
 use Rattle.basm.proofs.Loops.{sorted_loops}
 
@@ -88,8 +88,8 @@ only_memory faults.Version p fails = cc
 only_memory faults.Length p fails = cc
 only_memory faults.Count p fails = cc
 only_memory faults.Budget p fails = cc
-only_memory faults.BadLoop p fails = cc
-only_memory (faults.BadSlot slot fault) p fails = cc
+only_memory faults.Loop p fails = cc
+only_memory (faults.Insn slot fault) p fails = cc
 
 -- and then what is refused is memory
 pub refused : (r : Result Program AsmFault) (fault : ImageFault) (p : Program) (read : Result Program ImageFault) → read ≡ Ok p → Fails fault read → IsErrAnd r (λ given. given ≡ text_fault (image_code fault)) → Makes p r

@@ -15,7 +15,7 @@ use Rattle.basm_lex.specs.Lines.{IsLabel, code_of, drop_spaces, is_semicolon, is
 use Rattle.basm_lex.specs.Numbers.{WritesNumber}
 use Rattle.basm_lex.specs.Places.{WritesRegister}
 use Rattle.basm.specs.declared.draft.Draft.{Draft}
-use Rattle.basm.specs.Adding.{AddsItem, AddsLine, ArePartsOf, SayParts, slots_of_items}
+use Rattle.basm.specs.Draft.{AddsItem, AddsLine, ArePartsOf, SayParts, slots_of_items}
 use Rattle.basm.specs.Relation.{Item, Nothing, Label, Budget, OneLoop, Code, WritesEnd, AreLines, Four, IsLine, One, Three, Two, WritesInsn, WritesOperands, budget_in, insn_in, loop_in, slots_in}
 
 pub not_nil : {X : Type 0} (c : X) (cs : List X) → c ∷ cs ≡ [] → ⊥

@@ -15,8 +15,8 @@ use Rattle.bpf.specs.Parts.{placed}
 use Rattle.bpf.specs.Program.{AreLoops, IsLoop, IsProgram, Program}
 use Rattle.basm.specs.declared.draft.Draft.{Draft}
 use Rattle.basm.specs.declared.survey.Survey.{Survey}
-use Rattle.basm.specs.Naming.{slot_named}
-use Rattle.basm.specs.Adding.{AddsItem, ArePartsOf, HasRoom, IsImageOf, SurveysText, has_head, slots_of_items}
+use Rattle.basm.specs.Names.{slot_named}
+use Rattle.basm.specs.Draft.{AddsItem, ArePartsOf, HasRoom, IsImageOf, SurveysText, has_head, slots_of_items}
 use Rattle.basm.specs.Relation.{AreLines, Budget, Code, IsLine, IsText, Item, Label, Nothing, OneLoop, budget_in, loop_in, slots_in}
 use Rattle.basm.proofs.Items.{not_nil, parts_push, slots_are}
 

@@ -11,7 +11,7 @@ use Rattle.basm_lex.specs.Lines.{IsLabel, operands_of, word_of}
 use Rattle.basm_lex.specs.Names.{IsName, is_name}
 use Rattle.basm.specs.declared.survey.Survey.{Survey}
 use Rattle.basm.specs.Labels.{AddsName, IsSurvey, counted, alone, declares_budget, label_in, label_of, labelled, labels_from, slot_after, slots_from, word_slots}
-use Rattle.basm.specs.Naming.{slot_named}
+use Rattle.basm.specs.Names.{slot_named}
 use Rattle.basm.proofs.Lookups.{apart_more, same_bytes, slot_named-push}
 
 -- ---- labels

@@ -12,9 +12,9 @@ use Rattle.bpf.specs.Program.{Program}
 use Rattle.basm_lex.specs.Lines.{word_of}
 use Rattle.basm.specs.declared.draft.Draft.{Draft}
 use Rattle.basm.specs.declared.survey.Survey.{Survey}
-use Rattle.basm.specs.Adding.{IsImageOf, SayParts, SurveysText, slots_of_items}
+use Rattle.basm.specs.Draft.{IsImageOf, SayParts, SurveysText, slots_of_items}
 use Rattle.basm.specs.Labels.{IsSurvey, alone, declares_budget, label_in, label_of, labelled, labels_from, slot_after, slots_from, slots_unless, word_slots}
-use Rattle.basm.specs.Naming.{slot_named}
+use Rattle.basm.specs.Names.{slot_named}
 use Rattle.basm.specs.Relation.{budget_in, AreApart, Defines, AreLines, Budget, Code, IsLine, IsText, Item, Label, Nothing, OneLoop, name_of, names_from, slots_in}
 use Rattle.basm.proofs.Items.{not_nil, slots_are}
 use Rattle.basm.proofs.Lookups.{slot_named-Defines}

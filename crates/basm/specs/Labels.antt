@@ -7,7 +7,7 @@ use Rattle.basm_lex.specs.Names.{is_name}
 use Rattle.basm_lex.specs.declared.mnemonics.Mnemonic.{Mnemonic}
 use Rattle.basm_lex.specs.Mnemonics.{mnemonic_slots, named}
 use Rattle.basm.specs.declared.survey.Survey.{Survey}
-use Rattle.basm.specs.Naming.{slot_named}
+use Rattle.basm.specs.Names.{slot_named}
 use Rattle.basm.specs.Relation.{AreApart}
 
 -- the name of a word that is a label

@@ -1,7 +1,7 @@
-pub mod Adding
+pub mod Draft
 pub mod Codes
 pub mod Labels
-pub mod Naming
+pub mod Names
 pub mod Outcomes
 pub mod Printed
 pub mod Relation

@@ -34,8 +34,8 @@ image_code image.Version = TooMany
 image_code image.Length = TooMany
 image_code image.Count = TooMany
 image_code image.Budget = BadBudget
-image_code image.BadLoop = BadLoop
-image_code (image.BadSlot slot fault) = TooMany
+image_code image.Loop = BadLoop
+image_code (image.Insn slot fault) = TooMany
 image_code image.Memory = Memory
 
 -- the image, unless memory was refused

@@ -4,8 +4,8 @@ ghost use Rattle.std.specs.Prelude.{◌≡◌, ◌≤◌, ◌<◌, ℕ, ℤ, pos
 ghost use Rattle.basm_lex.specs.Numbers.{WritesNumber};
 ghost use Rattle.basm_lex.specs.Places.{WritesRegister};
 ghost use Rattle.bpf.specs.Program.{IsBudget, IsLoop};
-ghost use Rattle.basm.specs.Adding.{WritesLoop};
-ghost use Rattle.basm.specs.Naming.{slot_named};
+ghost use Rattle.basm.specs.Draft.{WritesLoop};
+ghost use Rattle.basm.specs.Names.{slot_named};
 ghost use Rattle.basm.specs.Relation.{One, WritesEnd};
 
 use crate::faults::{AsmCode, both};

@@ -7,9 +7,9 @@ ghost use Rattle.bpf_insn.specs.declared.insn.Insn.{Insn as AnInsn};
 ghost use Rattle.bpf_insn.specs.Spelling.{slots_of};
 ghost use Rattle.basm_lex.specs.Lines.{IsLabel};
 ghost use Rattle.basm_lex.specs.Numbers.{WritesNumber};
-ghost use Rattle.basm.specs.Adding.{AddsItem, AddsLine, ArePartsOf, HasRoom, IsImageOf, UnlessMemory, WritesLoop, has_head};
+ghost use Rattle.basm.specs.Draft.{AddsItem, AddsLine, ArePartsOf, HasRoom, IsImageOf, UnlessMemory, WritesLoop, has_head};
 ghost use Rattle.basm_lex.specs.Mnemonics.{mnemonic_word};
-ghost use Rattle.basm.specs.Naming.{slot_named};
+ghost use Rattle.basm.specs.Names.{slot_named};
 ghost use Rattle.basm.specs.Outcomes.{Makes};
 ghost use Rattle.basm.specs.Relation.{Budget, Code, IsLine, Item, One, OneLoop, WritesInsn};
 

@@ -168,7 +168,7 @@ impl From<ImageFault> for AsmFault {
     fn from(fault: ImageFault) -> AsmFault {
         AsmFault::of_text(match fault {
             ImageFault::Budget => AsmCode::BadBudget,
-            ImageFault::BadLoop => AsmCode::BadLoop,
+            ImageFault::Loop => AsmCode::BadLoop,
             ImageFault::Memory => AsmCode::Memory,
             _ => AsmCode::TooMany,
         })

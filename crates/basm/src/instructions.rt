@@ -7,9 +7,9 @@ ghost use Rattle.bpf_insn.specs.declared.insn.Insn.{Insn as AnInsn};
 ghost use Rattle.bpf_insn.specs.Spelling.{slots_of};
 ghost use Rattle.basm_lex.specs.Numbers.{WritesNumber, WritesWide};
 ghost use Rattle.basm_lex.specs.Places.{WritesPlace, WritesRegister};
-ghost use Rattle.basm.specs.Adding.{PushesInsn, UnlessMemory};
+ghost use Rattle.basm.specs.Draft.{PushesInsn, UnlessMemory};
 ghost use Rattle.basm_lex.specs.Mnemonics.{mnemonic_word};
-ghost use Rattle.basm.specs.Naming.{slot_named};
+ghost use Rattle.basm.specs.Names.{slot_named};
 ghost use Rattle.basm.specs.Relation.{Four, One, Three, Two, WritesInsn, WritesOperand, WritesTarget};
 
 use crate::faults::{AsmCode, both};

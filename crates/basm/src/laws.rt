@@ -2,7 +2,7 @@
 
 ghost use Rattle.basm.specs.Outcomes.{Makes};
 
-use crate::assembling::assemble;
+use crate::assembly::assemble;
 use crate::faults::AsmFault;
 use crate::printing::disassemble;
 use bpf::Image;

@@ -4,7 +4,7 @@
 //! directive (`.budget N`, `.loop HEAD, BACK, N, rK`) or an instruction.
 #![tactic(auto)]
 
-mod assembling;
+mod assembly;
 mod directives;
 mod draft;
 mod faults;
@@ -15,7 +15,7 @@ mod printing;
 mod survey;
 mod targets;
 
-pub use assembling::assemble;
+pub use assembly::assemble;
 pub use faults::{AsmCode, AsmFault};
 pub use laws::printed_again;
 pub use printing::disassemble;

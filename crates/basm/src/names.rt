@@ -1,7 +1,7 @@
 //! The names of slots.
 
 ghost use Rattle.std.specs.Prelude.{◌≡◌, ◌↔◌, ◌++◌, ◌∷◌, [], ℕ, List, IfOk, IsTrue};
-ghost use Rattle.basm.specs.Naming.{slot_named};
+ghost use Rattle.basm.specs.Names.{slot_named};
 
 use std::alloc::{AllocError, Global};
 use std::collections::BTreeMap;

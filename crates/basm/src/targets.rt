@@ -2,7 +2,7 @@
 
 ghost use Rattle.std.specs.Prelude.{◌≡◌, ℤ, IfOk, FitsSigned};
 ghost use Rattle.std.specs.Int.{w16, w32};
-ghost use Rattle.basm.specs.Naming.{slot_named};
+ghost use Rattle.basm.specs.Names.{slot_named};
 ghost use Rattle.basm.specs.Relation.{WritesTarget};
 
 use crate::faults::AsmCode;

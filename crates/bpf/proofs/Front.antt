@@ -23,8 +23,8 @@ fails_all faults.Version part total h same = sym same ∙ h
 fails_all faults.Length part total h same = sym same ∙ h
 fails_all faults.Count part total h same = sym same ∙ h
 fails_all faults.Budget part total h same = sym same ∙ h
-fails_all faults.BadLoop part total h same = sym same ∙ h
-fails_all (faults.BadSlot slot fault) part total h same = sym same ∙ h
+fails_all faults.Loop part total h same = sym same ∙ h
+fails_all (faults.Insn slot fault) part total h same = sym same ∙ h
 
 pub fails_first : {X Y : Type 0} (e : ImageFault) (first : Result X ImageFault) (k : X → Result Y ImageFault) → Fails e first → Fails e (first >>= k)
 fails_first faults.Memory first k h = tt
@@ -33,8 +33,8 @@ fails_first faults.Version first k h = rw h refl
 fails_first faults.Length first k h = rw h refl
 fails_first faults.Count first k h = rw h refl
 fails_first faults.Budget first k h = rw h refl
-fails_first faults.BadLoop first k h = rw h refl
-fails_first (faults.BadSlot slot fault) first k h = rw h refl
+fails_first faults.Loop first k h = rw h refl
+fails_first (faults.Insn slot fault) first k h = rw h refl
 
 -- ---- loops
 
@@ -70,8 +70,8 @@ is_failure faults.Version total h = h
 is_failure faults.Length total h = h
 is_failure faults.Count total h = h
 is_failure faults.Budget total h = h
-is_failure faults.BadLoop total h = h
-is_failure (faults.BadSlot slot fault) total h = h
+is_failure faults.Loop total h = h
+is_failure (faults.Insn slot fault) total h = h
 
 -- ---- slots
 

@@ -35,18 +35,18 @@ is_counted bytes = is_count (slice_index bytes 5) (half_at 6 bytes) (word_at 12 
 abbrev header_at : List ℕ → Header
 header_at bytes = record { loops = slice_index bytes 5; slots = half_at 6 bytes; budget = word_at 8 bytes }
 
-declared_no_slot : (a b : Bool) (h : Header) (slot : ℕ) (fault : BadInsn) → (if a then (if b then Ok h else Err faults.Budget) else Err faults.Count) ≡ Err (faults.BadSlot slot fault) → ⊥
+declared_no_slot : (a b : Bool) (h : Header) (slot : ℕ) (fault : BadInsn) → (if a then (if b then Ok h else Err faults.Budget) else Err faults.Count) ≡ Err (faults.Insn slot fault) → ⊥
 declared_no_slot true true h slot fault e = cc
 declared_no_slot true false h slot fault e = cc
 declared_no_slot false b h slot fault e = cc
 
-header_no_slot : (bytes : List ℕ) (slot : ℕ) (fault : BadInsn) → header_reading bytes ≡ Err (faults.BadSlot slot fault) → ⊥
+header_no_slot : (bytes : List ℕ) (slot : ℕ) (fault : BadInsn) → header_reading bytes ≡ Err (faults.Insn slot fault) → ⊥
 unfolding header_reading counts_reading
 header_no_slot bytes slot fault e =
     by_tests (starts_with nat_eq bytes magic) (nat_lt 4 (length bytes) && slice_index bytes 4 == 1) (nat_lt (length bytes) 16) (counts_reading bytes)
     (declared_no_slot (is_counted bytes) (is_budget (word_at 8 bytes)) (header_at bytes) slot fault) e
   where
-    by_tests : (a b c : Bool) (r : Result Header ImageFault) → (r ≡ Err (faults.BadSlot slot fault) → ⊥) → (if a then (if b then (if c then Err faults.Length else r) else Err faults.Version) else Err faults.Magic) ≡ Err (faults.BadSlot slot fault) → ⊥
+    by_tests : (a b c : Bool) (r : Result Header ImageFault) → (r ≡ Err (faults.Insn slot fault) → ⊥) → (if a then (if b then (if c then Err faults.Length else r) else Err faults.Version) else Err faults.Magic) ≡ Err (faults.Insn slot fault) → ⊥
     by_tests true true true r never e = cc
     by_tests true true false r never e = never e
     by_tests true false c r never e = cc
@@ -74,27 +74,27 @@ header_loops bytes h e =
 
 -- ---- loops
 
-loop_no_slot : (slots least : ℕ) (bytes : List ℕ) (slot : ℕ) (fault : BadInsn) → loop_reading slots least bytes ≡ Err (faults.BadSlot slot fault) → ⊥
+loop_no_slot : (slots least : ℕ) (bytes : List ℕ) (slot : ℕ) (fault : BadInsn) → loop_reading slots least bytes ≡ Err (faults.Insn slot fault) → ⊥
 unfolding loop_reading
 loop_no_slot slots least bytes slot fault e = by_test _ _ e
   where
-    by_test : (b : Bool) (l : Loop) → (if b then Ok l else Err faults.BadLoop) ≡ Err (faults.BadSlot slot fault) → ⊥
+    by_test : (b : Bool) (l : Loop) → (if b then Ok l else Err faults.Loop) ≡ Err (faults.Insn slot fault) → ⊥
     by_test true l e = cc
     by_test false l e = cc
 
-loops_no_slot : (slots count least : ℕ) (bytes : List ℕ) (slot : ℕ) (fault : BadInsn) → loops_reading slots count least bytes ≡ Err (faults.BadSlot slot fault) → ⊥
+loops_no_slot : (slots count least : ℕ) (bytes : List ℕ) (slot : ℕ) (fault : BadInsn) → loops_reading slots count least bytes ≡ Err (faults.Insn slot fault) → ⊥
 unfolding loops_reading
 loops_no_slot slots zero least bytes slot fault e = cc
 loops_no_slot slots (suc n) least bytes slot fault e =
-    by_first (λ l. loops_no_slot slots n (l.head + 1) (drop 8 bytes) slot fault) (came_from (loop_reading slots least bytes) _ (faults.BadSlot slot fault) e)
+    by_first (λ l. loops_no_slot slots n (l.head + 1) (drop 8 bytes) slot fault) (came_from (loop_reading slots least bytes) _ (faults.Insn slot fault) e)
   where
-    by_rest : (l : Loop) → (loops_reading slots n (l.head + 1) (drop 8 bytes) ≡ Err (faults.BadSlot slot fault) → ⊥) → (loops_reading slots n (l.head + 1) (drop 8 bytes) ≡ Err (faults.BadSlot slot fault)) ⊎ ((ls : List Loop) × (loops_reading slots n (l.head + 1) (drop 8 bytes) ≡ Ok ls) × ((let r : Result (List Loop) ImageFault = Ok (l ∷ ls) in r) ≡ Err (faults.BadSlot slot fault))) → ⊥
+    by_rest : (l : Loop) → (loops_reading slots n (l.head + 1) (drop 8 bytes) ≡ Err (faults.Insn slot fault) → ⊥) → (loops_reading slots n (l.head + 1) (drop 8 bytes) ≡ Err (faults.Insn slot fault)) ⊎ ((ls : List Loop) × (loops_reading slots n (l.head + 1) (drop 8 bytes) ≡ Ok ls) × ((let r : Result (List Loop) ImageFault = Ok (l ∷ ls) in r) ≡ Err (faults.Insn slot fault))) → ⊥
     by_rest l later (inl e) = later e
     by_rest l later (inr p) = let never = p.2 in cc
 
-    by_first : ((l : Loop) → loops_reading slots n (l.head + 1) (drop 8 bytes) ≡ Err (faults.BadSlot slot fault) → ⊥) → (loop_reading slots least bytes ≡ Err (faults.BadSlot slot fault)) ⊎ ((l : Loop) × (loop_reading slots least bytes ≡ Ok l) × ((loops_reading slots n (l.head + 1) (drop 8 bytes) >>= (λ ls. Ok (l ∷ ls))) ≡ Err (faults.BadSlot slot fault))) → ⊥
+    by_first : ((l : Loop) → loops_reading slots n (l.head + 1) (drop 8 bytes) ≡ Err (faults.Insn slot fault) → ⊥) → (loop_reading slots least bytes ≡ Err (faults.Insn slot fault)) ⊎ ((l : Loop) × (loop_reading slots least bytes ≡ Ok l) × ((loops_reading slots n (l.head + 1) (drop 8 bytes) >>= (λ ls. Ok (l ∷ ls))) ≡ Err (faults.Insn slot fault))) → ⊥
     by_first later (inl e) = loop_no_slot slots least bytes slot fault e
-    by_first later (inr p) = by_rest p.0 (later p.0) (came_from (loops_reading slots n (p.0.head + 1) (drop 8 bytes)) _ (faults.BadSlot slot fault) p.2)
+    by_first later (inr p) = by_rest p.0 (later p.0) (came_from (loops_reading slots n (p.0.head + 1) (drop 8 bytes)) _ (faults.Insn slot fault) p.2)
 
 -- ---- slots
 
@@ -109,30 +109,30 @@ read_later slot bytes named fault p =
     let at : drop (8 * p.0) (drop 8 bytes) ≡ drop (8 * suc p.0) bytes = drop-drop (8 * p.0) 8 bytes ∙ ap (λ (n : ℕ). drop n bytes) further in
     (suc p.0, omega (arith, p.1), subst (λ (b : List ℕ). reading (take 8 b) (slot_in (drop 8 b)) ≡ Err fault) at p.2)
 
-found_fault : (slot : ℕ) (r : Result Insn BadInsn) (named : ℕ) (fault : BadInsn) → found_at slot r ≡ Err (faults.BadSlot named fault) → (named ≡ slot) × (r ≡ Err fault)
+found_fault : (slot : ℕ) (r : Result Insn BadInsn) (named : ℕ) (fault : BadInsn) → found_at slot r ≡ Err (faults.Insn named fault) → (named ≡ slot) × (r ≡ Err fault)
 found_fault slot (Ok insn) named fault e = cc
 found_fault slot (Err f) named fault e =
-    let same : faults.BadSlot slot f ≡ faults.BadSlot named fault = cc in
+    let same : faults.Insn slot f ≡ faults.Insn named fault = cc in
     let here : slot ≡ named = cc in
     let what : f ≡ fault = cc in
     (sym here, ap (λ (x : BadInsn). Err x) what)
 
-slots_fault : (count slot : ℕ) (second : Bool) (bytes : List ℕ) (named : ℕ) (fault : BadInsn) → slots_reading count slot second bytes ≡ Err (faults.BadSlot named fault) → IsRead slot bytes named fault
+slots_fault : (count slot : ℕ) (second : Bool) (bytes : List ℕ) (named : ℕ) (fault : BadInsn) → slots_reading count slot second bytes ≡ Err (faults.Insn named fault) → IsRead slot bytes named fault
 unfolding slots_reading slot_reading
 slots_fault zero slot second bytes named fault e = cc
 slots_fault (suc n) slot second bytes named fault e =
-    by_first second (λ x. slots_fault n (slot + 1) (begins_two x) (drop 8 bytes) named fault) (came_from (slot_reading slot second bytes) _ (faults.BadSlot named fault) e)
+    by_first second (λ x. slots_fault n (slot + 1) (begins_two x) (drop 8 bytes) named fault) (came_from (slot_reading slot second bytes) _ (faults.Insn named fault) e)
   where
-    by_rest : (x : Option Insn) → (slots_reading n (slot + 1) (begins_two x) (drop 8 bytes) ≡ Err (faults.BadSlot named fault) → IsRead (slot + 1) (drop 8 bytes) named fault) → (slots_reading n (slot + 1) (begins_two x) (drop 8 bytes) ≡ Err (faults.BadSlot named fault)) ⊎ ((xs : List (Option Insn)) × (slots_reading n (slot + 1) (begins_two x) (drop 8 bytes) ≡ Ok xs) × ((let r : Result (List (Option Insn)) ImageFault = Ok (x ∷ xs) in r) ≡ Err (faults.BadSlot named fault))) → IsRead slot bytes named fault
+    by_rest : (x : Option Insn) → (slots_reading n (slot + 1) (begins_two x) (drop 8 bytes) ≡ Err (faults.Insn named fault) → IsRead (slot + 1) (drop 8 bytes) named fault) → (slots_reading n (slot + 1) (begins_two x) (drop 8 bytes) ≡ Err (faults.Insn named fault)) ⊎ ((xs : List (Option Insn)) × (slots_reading n (slot + 1) (begins_two x) (drop 8 bytes) ≡ Ok xs) × ((let r : Result (List (Option Insn)) ImageFault = Ok (x ∷ xs) in r) ≡ Err (faults.Insn named fault))) → IsRead slot bytes named fault
     by_rest x later (inl e) = read_later slot bytes named fault (later e)
     by_rest x later (inr p) = let never = p.2 in cc
 
-    by_first : (second : Bool) → ((x : Option Insn) → slots_reading n (slot + 1) (begins_two x) (drop 8 bytes) ≡ Err (faults.BadSlot named fault) → IsRead (slot + 1) (drop 8 bytes) named fault) → (slot_reading slot second bytes ≡ Err (faults.BadSlot named fault)) ⊎ ((x : Option Insn) × (slot_reading slot second bytes ≡ Ok x) × ((slots_reading n (slot + 1) (begins_two x) (drop 8 bytes) >>= (λ xs. Ok (x ∷ xs))) ≡ Err (faults.BadSlot named fault))) → IsRead slot bytes named fault
+    by_first : (second : Bool) → ((x : Option Insn) → slots_reading n (slot + 1) (begins_two x) (drop 8 bytes) ≡ Err (faults.Insn named fault) → IsRead (slot + 1) (drop 8 bytes) named fault) → (slot_reading slot second bytes ≡ Err (faults.Insn named fault)) ⊎ ((x : Option Insn) × (slot_reading slot second bytes ≡ Ok x) × ((slots_reading n (slot + 1) (begins_two x) (drop 8 bytes) >>= (λ xs. Ok (x ∷ xs))) ≡ Err (faults.Insn named fault))) → IsRead slot bytes named fault
     by_first true later (inl e) = cc
     by_first false later (inl e) =
         let found = found_fault slot (reading (take 8 bytes) (slot_in (drop 8 bytes))) named fault e in
         (0, omega (arith, found.0), found.1)
-    by_first second later (inr p) = by_rest p.0 (later p.0) (came_from (slots_reading n (slot + 1) (begins_two p.0) (drop 8 bytes)) _ (faults.BadSlot named fault) p.2)
+    by_first second later (inr p) = by_rest p.0 (later p.0) (came_from (slots_reading n (slot + 1) (begins_two p.0) (drop 8 bytes)) _ (faults.Insn named fault) p.2)
 
 -- ---- the image
 
@@ -142,7 +142,7 @@ first_below zero (b ∷ bytes) h = h 0
 first_below (suc k) [] h = lit< tt
 first_below (suc k) (b ∷ bytes) h = first_below k bytes (λ i. h (suc i))
 
-named_at : IsExplained → (bytes : List ℕ) (h : Header) (named : ℕ) (fault : BadInsn) → ((i : ℕ) → slice_index bytes i < 256) → slice_index bytes 5 ≡ h.loops → IsRead 0 (drop (16 + 8 * h.loops) bytes) named fault → IsFaultAt bytes (faults.BadSlot named fault)
+named_at : IsExplained → (bytes : List ℕ) (h : Header) (named : ℕ) (fault : BadInsn) → ((i : ℕ) → slice_index bytes i < 256) → slice_index bytes 5 ≡ h.loops → IsRead 0 (drop (16 + 8 * h.loops) bytes) named fault → IsFaultAt bytes (faults.Insn named fault)
 named_at law bytes h named fault bounds loops p =
     let here : p.0 ≡ named = omega (arith, p.1) in
     let start : drop (16 + 8 * h.loops) bytes ≡ drop (16 + 8 * slice_index bytes 5) bytes = ap (λ (n : ℕ). drop (16 + 8 * n) bytes) (sym loops) in
@@ -161,29 +161,29 @@ rest_of bytes h =
     Ok (program h.budget loops slots))))
     else Err faults.Length
 
-pub fault_named : IsExplained → (bytes : List ℕ) (named : ℕ) (fault : BadInsn) → ((i : ℕ) → slice_index bytes i < 256) → image_reading bytes ≡ Err (faults.BadSlot named fault) → IsFaultAt bytes (faults.BadSlot named fault)
+pub fault_named : IsExplained → (bytes : List ℕ) (named : ℕ) (fault : BadInsn) → ((i : ℕ) → slice_index bytes i < 256) → image_reading bytes ≡ Err (faults.Insn named fault) → IsFaultAt bytes (faults.Insn named fault)
 unfolding image_reading
-fault_named law bytes named fault bounds e = by_header (came_from (header_reading bytes) (rest_of bytes) (faults.BadSlot named fault) e)
+fault_named law bytes named fault bounds e = by_header (came_from (header_reading bytes) (rest_of bytes) (faults.Insn named fault) e)
   where
-    by_slots : (h : Header) (loops : List Loop) → slice_index bytes 5 ≡ h.loops → (slots_reading h.slots 0 false (drop (16 + 8 * h.loops) bytes) ≡ Err (faults.BadSlot named fault)) ⊎ ((slots : List (Option Insn)) × (slots_reading h.slots 0 false (drop (16 + 8 * h.loops) bytes) ≡ Ok slots) × ((let r : Result Program ImageFault = Ok (program h.budget loops slots) in r) ≡ Err (faults.BadSlot named fault))) → IsFaultAt bytes (faults.BadSlot named fault)
+    by_slots : (h : Header) (loops : List Loop) → slice_index bytes 5 ≡ h.loops → (slots_reading h.slots 0 false (drop (16 + 8 * h.loops) bytes) ≡ Err (faults.Insn named fault)) ⊎ ((slots : List (Option Insn)) × (slots_reading h.slots 0 false (drop (16 + 8 * h.loops) bytes) ≡ Ok slots) × ((let r : Result Program ImageFault = Ok (program h.budget loops slots) in r) ≡ Err (faults.Insn named fault))) → IsFaultAt bytes (faults.Insn named fault)
     by_slots h loops count (inl e) = named_at law bytes h named fault bounds count (slots_fault h.slots 0 false _ named fault e)
     by_slots h loops count (inr p) = let never = p.2 in cc
 
-    by_loops : (h : Header) → slice_index bytes 5 ≡ h.loops → (loops_reading h.slots h.loops 0 (drop 16 (take (16 + 8 * h.loops) bytes)) ≡ Err (faults.BadSlot named fault)) ⊎ ((loops : List Loop) × (loops_reading h.slots h.loops 0 (drop 16 (take (16 + 8 * h.loops) bytes)) ≡ Ok loops) × ((slots_reading h.slots 0 false (drop (16 + 8 * h.loops) bytes) >>= (λ slots. Ok (program h.budget loops slots))) ≡ Err (faults.BadSlot named fault))) → IsFaultAt bytes (faults.BadSlot named fault)
+    by_loops : (h : Header) → slice_index bytes 5 ≡ h.loops → (loops_reading h.slots h.loops 0 (drop 16 (take (16 + 8 * h.loops) bytes)) ≡ Err (faults.Insn named fault)) ⊎ ((loops : List Loop) × (loops_reading h.slots h.loops 0 (drop 16 (take (16 + 8 * h.loops) bytes)) ≡ Ok loops) × ((slots_reading h.slots 0 false (drop (16 + 8 * h.loops) bytes) >>= (λ slots. Ok (program h.budget loops slots))) ≡ Err (faults.Insn named fault))) → IsFaultAt bytes (faults.Insn named fault)
     by_loops h count (inl e) = absurd (loops_no_slot _ _ _ _ named fault e)
-    by_loops h count (inr p) = by_slots h p.0 count (came_from (slots_reading h.slots 0 false (drop (16 + 8 * h.loops) bytes)) _ (faults.BadSlot named fault) p.2)
+    by_loops h count (inr p) = by_slots h p.0 count (came_from (slots_reading h.slots 0 false (drop (16 + 8 * h.loops) bytes)) _ (faults.Insn named fault) p.2)
 
-    by_length : (h : Header) (b : Bool) (r : Result Program ImageFault) → (r ≡ Err (faults.BadSlot named fault) → IsFaultAt bytes (faults.BadSlot named fault)) → (if b then r else Err faults.Length) ≡ Err (faults.BadSlot named fault) → IsFaultAt bytes (faults.BadSlot named fault)
+    by_length : (h : Header) (b : Bool) (r : Result Program ImageFault) → (r ≡ Err (faults.Insn named fault) → IsFaultAt bytes (faults.Insn named fault)) → (if b then r else Err faults.Length) ≡ Err (faults.Insn named fault) → IsFaultAt bytes (faults.Insn named fault)
     by_length h true r k e = k e
     by_length h false r k e = cc
 
-    by_header : (header_reading bytes ≡ Err (faults.BadSlot named fault)) ⊎ ((h : Header) × (header_reading bytes ≡ Ok h) × (rest_of bytes h ≡ Err (faults.BadSlot named fault))) → IsFaultAt bytes (faults.BadSlot named fault)
+    by_header : (header_reading bytes ≡ Err (faults.Insn named fault)) ⊎ ((h : Header) × (header_reading bytes ≡ Ok h) × (rest_of bytes h ≡ Err (faults.Insn named fault))) → IsFaultAt bytes (faults.Insn named fault)
     by_header (inl e) = absurd (header_no_slot bytes named fault e)
-    by_header (inr p) = by_length p.0 _ _ (λ e. by_loops p.0 (header_loops bytes p.0 p.1) (came_from (loops_reading p.0.slots p.0.loops 0 (drop 16 (take (16 + 8 * p.0.loops) bytes))) _ (faults.BadSlot named fault) e)) p.2
+    by_header (inr p) = by_length p.0 _ _ (λ e. by_loops p.0 (header_loops bytes p.0 p.1) (came_from (loops_reading p.0.slots p.0.loops 0 (drop 16 (take (16 + 8 * p.0.loops) bytes))) _ (faults.Insn named fault) e)) p.2
 
 -- ---- what `Image::read` says
 
-pub is_fault_at : (bytes : List ℕ) → ((slot : ℕ) (fault : BadInsn) → image_reading bytes ≡ Err (faults.BadSlot slot fault) → IsFaultAt bytes (faults.BadSlot slot fault)) → (r : Result Program ImageFault) → Gives (λ image. image) r (image_reading bytes) → IfErr r (IsFaultAt bytes)
+pub is_fault_at : (bytes : List ℕ) → ((slot : ℕ) (fault : BadInsn) → image_reading bytes ≡ Err (faults.Insn slot fault) → IsFaultAt bytes (faults.Insn slot fault)) → (r : Result Program ImageFault) → Gives (λ image. image) r (image_reading bytes) → IfErr r (IsFaultAt bytes)
 is_fault_at bytes named (Ok p) h = tt
 is_fault_at bytes named (Err faults.Memory) h = tt
 is_fault_at bytes named (Err faults.Magic) h = tt
@@ -191,8 +191,8 @@ is_fault_at bytes named (Err faults.Version) h = tt
 is_fault_at bytes named (Err faults.Length) h = tt
 is_fault_at bytes named (Err faults.Count) h = tt
 is_fault_at bytes named (Err faults.Budget) h = tt
-is_fault_at bytes named (Err faults.BadLoop) h = tt
-is_fault_at bytes named (Err (faults.BadSlot slot fault)) h = named slot fault h
+is_fault_at bytes named (Err faults.Loop) h = tt
+is_fault_at bytes named (Err (faults.Insn slot fault)) h = named slot fault h
 
 pub is_only : (bytes : List ℕ) (r : Result Program ImageFault) (p : Program) → Gives (λ image. image) r (image_reading bytes) → image_reading bytes ≡ Ok p → Gives (λ image. image) r (Ok p)
 is_only bytes r p gives read = subst (λ (x : Result Program ImageFault). Gives (λ image. image) r x) read gives

@@ -1,7 +1,7 @@
 -- The numbers of the faults of an image.
 use Rattle.std.specs.Prelude.{ℕ}
 use Rattle.bpf.specs.declared.fault.ImageFault.{ImageFault}
-use Rattle.bpf.specs.declared.fault.ImageFault.TheVariants.{Magic, Version, Length, Count, Budget, BadLoop, BadSlot, Memory}
+use Rattle.bpf.specs.declared.fault.ImageFault.TheVariants.{Magic, Version, Length, Count, Budget, Loop, Insn, Memory}
 
 -- the number of a fault
 abbrev pub image_fault_code : ImageFault → ℕ
@@ -10,8 +10,8 @@ image_fault_code Version = 2
 image_fault_code Length = 3
 image_fault_code Count = 4
 image_fault_code Budget = 5
-image_fault_code BadLoop = 6
-image_fault_code (BadSlot slot fault) = 7
+image_fault_code Loop = 6
+image_fault_code (Insn slot fault) = 7
 image_fault_code Memory = 8
 
 -- the slot of a faulty instruction, 0 for every other fault
@@ -21,6 +21,6 @@ image_fault_slot Version = 0
 image_fault_slot Length = 0
 image_fault_slot Count = 0
 image_fault_slot Budget = 0
-image_fault_slot BadLoop = 0
-image_fault_slot (BadSlot slot fault) = slot
+image_fault_slot Loop = 0
+image_fault_slot (Insn slot fault) = slot
 image_fault_slot Memory = 0

@@ -30,7 +30,7 @@ unfoldable pub parts_fault : (slots : ℕ) → List Loop → (budget : ℕ) → 
 parts_fault slots loops budget =
     if is_count (length loops) slots 0
     then (if is_budget budget
-    then (if are_loops slots 0 loops then None else Some faults.BadLoop)
+    then (if are_loops slots 0 loops then None else Some faults.Loop)
     else Some faults.Budget)
     else Some faults.Count
 

@@ -26,8 +26,8 @@ Fails faults.Version read = read ≡ Err faults.Version
 Fails faults.Length read = read ≡ Err faults.Length
 Fails faults.Count read = read ≡ Err faults.Count
 Fails faults.Budget read = read ≡ Err faults.Budget
-Fails faults.BadLoop read = read ≡ Err faults.BadLoop
-Fails (faults.BadSlot slot fault) read = read ≡ Err (faults.BadSlot slot fault)
+Fails faults.Loop read = read ≡ Err faults.Loop
+Fails (faults.Insn slot fault) read = read ≡ Err (faults.Insn slot fault)
 
 -- what a function returned, seen by `view`, is what reading gives, unless memory was refused
 abbrev pub Gives : {X Y : Type 0} → (X → Y) → Result X ImageFault → Result Y ImageFault → Type 0
@@ -87,7 +87,7 @@ unfoldable pub loop_reading : (slots least : ℕ) → List ℕ → Result Loop I
 loop_reading slots least bytes =
     if is_loop slots least (half_at 0 bytes) (half_at 2 bytes) (half_at 4 bytes) (slice_index bytes 6) (slice_index bytes 7)
     then Ok (record { head = half_at 0 bytes; back = half_at 2 bytes; bound = half_at 4 bytes; register = slice_index bytes 6 })
-    else Err faults.BadLoop
+    else Err faults.Loop
 
 -- so many loops, by rising head, or the first fault
 unfoldable pub loops_reading : (slots count least : ℕ) → List ℕ → Result (List Loop) ImageFault
@@ -104,7 +104,7 @@ slot_in bytes = if nat_lt (length bytes) 8 then None else Some (take 8 bytes)
 -- an instruction at the slot, or the fault with its slot
 abbrev pub found_at : ℕ → Result Insn BadInsn → Result (Option Insn) ImageFault
 found_at slot (Ok insn) = Ok (Some insn)
-found_at slot (Err fault) = Err (faults.BadSlot slot fault)
+found_at slot (Err fault) = Err (faults.Insn slot fault)
 
 -- a slot, where it is known whether it is the second of an instruction
 unfoldable pub slot_reading : (slot : ℕ) (second : Bool) → List ℕ → Result (Option Insn) ImageFault
@@ -155,7 +155,7 @@ bytes_at bytes slot = drop (8 * slot) (drop (16 + 8 * slice_index bytes 5) bytes
 
 -- the fault of an instruction stands in the bytes of its slot and the next one
 abbrev pub IsFaultAt : List ℕ → ImageFault → Type 0
-IsFaultAt bytes (faults.BadSlot slot fault) =
+IsFaultAt bytes (faults.Insn slot fault) =
     IsFault (take 8 (bytes_at bytes slot)) (slot_in (drop 8 (bytes_at bytes slot))) fault
 IsFaultAt bytes faults.Memory = Unit {0}
 IsFaultAt bytes faults.Magic = Unit {0}
@@ -163,4 +163,4 @@ IsFaultAt bytes faults.Version = Unit {0}
 IsFaultAt bytes faults.Length = Unit {0}
 IsFaultAt bytes faults.Count = Unit {0}
 IsFaultAt bytes faults.Budget = Unit {0}
-IsFaultAt bytes faults.BadLoop = Unit {0}
+IsFaultAt bytes faults.Loop = Unit {0}

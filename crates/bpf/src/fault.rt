@@ -30,10 +30,10 @@ pub enum ImageFault {
     Budget,
     /// A loop's field is out of range, or the heads do not rise.
     #[error("a loop of the image is out of range")]
-    BadLoop,
+    Loop,
     /// The bytes of a slot spell no instruction.
     #[error("slot {slot}: {fault}")]
-    BadSlot { slot: u16, fault: BadInsn },
+    Insn { slot: u16, fault: BadInsn },
     /// Memory was refused.
     #[error("no memory")]
     Memory,
@@ -50,8 +50,8 @@ impl ImageFault {
             ImageFault::Length => 3,
             ImageFault::Count => 4,
             ImageFault::Budget => 5,
-            ImageFault::BadLoop => 6,
-            ImageFault::BadSlot { .. } => 7,
+            ImageFault::Loop => 6,
+            ImageFault::Insn { .. } => 7,
             ImageFault::Memory => 8,
         }
     }
@@ -61,7 +61,7 @@ impl ImageFault {
         ensures { result ≡ image_fault_slot self }
     {
         match self {
-            ImageFault::BadSlot { slot, .. } => slot,
+            ImageFault::Insn { slot, .. } => slot,
             _ => 0,
         }
     }

@@ -12,7 +12,7 @@ use crate::laws::image_laws;
 use crate::loops::{Loop, read_loops};
 use crate::parts::{header_of, place_insns};
 use crate::slots::read_slots;
-use crate::weighing::weight;
+use crate::weight::weight;
 use crate::writing::{write_loops, write_slots};
 use bpf_insn::Insn;
 use std::alloc::{AllocError, Global};
@@ -81,7 +81,7 @@ impl Image {
     ///
     /// # Errors
     ///
-    /// `Count`, `Budget` or `BadLoop`, in this order, or `Memory`.
+    /// `Count`, `Budget` or `Loop`, in this order, or `Memory`.
     pub fn new(
         alloc: Global,
         insns: &[Insn],

@@ -2,7 +2,7 @@
 
 ghost use Rattle.std.specs.Prelude.{◌≡◌, ◌<◌, ℕ, List, ◌++◌, Ok, Err, slice_index};
 ghost use Rattle.bpf_insn.specs.declared.decoding.BadInsn.{BadInsn};
-ghost use Rattle.bpf.specs.declared.fault.ImageFault.TheVariants.{BadSlot};
+ghost use Rattle.bpf.specs.declared.fault.ImageFault.TheVariants.{Insn};
 ghost use Rattle.bpf.specs.Program.{IsProgram, Program, image_bytes};
 ghost use Rattle.bpf.specs.Reading.{IsFaultAt, image_reading};
 
@@ -20,7 +20,7 @@ pub fn image_laws()
     ensures apart { (p q : Program) (after more : List ℕ) → IsProgram p → IsProgram q → image_bytes p ++ after ≡ image_bytes q ++ more → p ≡ q }
 
     // The fault of an instruction that is read stands in the bytes of its slot.
-    ensures fault { (bytes : List ℕ) (slot : ℕ) (fault : BadInsn) → ((i : ℕ) → slice_index bytes i < 256) → image_reading bytes ≡ Err (BadSlot slot fault) → IsFaultAt bytes (BadSlot slot fault) }
+    ensures fault { (bytes : List ℕ) (slot : ℕ) (fault : BadInsn) → ((i : ℕ) → slice_index bytes i < 256) → image_reading bytes ≡ Err (Insn slot fault) → IsFaultAt bytes (Insn slot fault) }
 {
     spelling_laws();
 }

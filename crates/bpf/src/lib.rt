@@ -11,7 +11,7 @@ mod laws;
 mod loops;
 mod parts;
 mod slots;
-mod weighing;
+mod weight;
 mod writing;
 
 pub use bpf_insn;

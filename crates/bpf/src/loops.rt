@@ -81,7 +81,7 @@ fn read_loop(bytes: &[u8], slots: u16, least: u16) -> Result<Loop, ImageFault>
     let head = u16::from_le_bytes([bytes[0], bytes[1]]);
     let back = u16::from_le_bytes([bytes[2], bytes[3]]);
     let bound = u16::from_le_bytes([bytes[4], bytes[5]]);
-    let register = Register::new(bytes[6]).ok_or(ImageFault::BadLoop)?;
+    let register = Register::new(bytes[6]).ok_or(ImageFault::Loop)?;
     if is_loop(slots, least, head, back, bound, bytes[6], bytes[7]) {
         Ok(Loop {
             head,
@@ -90,7 +90,7 @@ fn read_loop(bytes: &[u8], slots: u16, least: u16) -> Result<Loop, ImageFault>
             register,
         })
     } else {
-        Err(ImageFault::BadLoop)
+        Err(ImageFault::Loop)
     }
 }
 

@@ -17,7 +17,7 @@ use std::alloc::{AllocError, Global};
 ///
 /// # Errors
 ///
-/// `Count`, `Budget` or `BadLoop`, the first of them.
+/// `Count`, `Budget` or `Loop`, the first of them.
 #[tactic(auto, unfolding(crate::specs::Parts::parts_fault))]
 pub fn header_of(insns: &[Insn], loops: &[Loop], budget: u32) -> Result<Header, ImageFault>
     ensures { result ≡ header_of insns.now loops.now budget }
@@ -30,7 +30,7 @@ pub fn header_of(insns: &[Insn], loops: &[Loop], budget: u32) -> Result<Header, 
     if are_loops(header.slots, loops) {
         Ok(header)
     } else {
-        Err(ImageFault::BadLoop)
+        Err(ImageFault::Loop)
     }
 }
 

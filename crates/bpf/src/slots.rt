@@ -65,7 +65,7 @@ fn read_insn(slot: u16, bytes: &[u8]) -> Result<(Insn, bool), ImageFault>
             let two = insn.is_wide();
             Ok((insn, two))
         }
-        Err(fault) => Err(ImageFault::BadSlot { slot, fault }),
+        Err(fault) => Err(ImageFault::Insn { slot, fault }),
     }
 }
 

@@ -1,4 +1,4 @@
-pub mod Refining
+pub mod Refinement
 pub mod Words
-pub mod Simulating
-pub mod Running
+pub mod Simulation
+pub mod Runs

@@ -5,7 +5,7 @@ use Rattle.bpf_insn.specs.declared.insn.Insn.TheVariants.{Alu, Negate, MoveSigne
 use Rattle.bpf_insn.specs.Spelling.{slots_of}
 use Rattle.machine.specs.Step.{distance_of}
 use Rattle.absdom.specs.declared.cause.Cause.{Cause}
-use Rattle.absdom.specs.Knowledge.{Knowledge}
+use Rattle.absdom.specs.State.{StateValue}
 use Rattle.absdom.specs.Effect.{applied}
 use Rattle.absdom.specs.Edges.{Edges, refined_edges}
 use Rattle.absdom.specs.Laws.{BelowIsReflexive, BelowIsTransitive}
@@ -13,41 +13,41 @@ use Rattle.bver_form.specs.Form.{target}
 use Rattle.bver.specs.Justified.{IsCovered, IsCoveredIfAny, IsResultCovered, AreEdgesCovered, Proceeds, IsPermitted, IsPermittedAt, known_at}
 
 -- all that one table knows is covered by the other
-abbrev pub AreCovered : (old new : ℕ → Option Knowledge) → Type 0
+abbrev pub AreCovered : (old new : ℕ → Option StateValue) → Type 0
 AreCovered old new = (slot : ℕ) → IsCoveredIfAny (old slot) (new slot)
 
-pub covers_itself : BelowIsReflexive → (o : Option Knowledge) → IsCoveredIfAny o o
+pub covers_itself : BelowIsReflexive → (o : Option StateValue) → IsCoveredIfAny o o
 covers_itself reflexive None = tt
 covers_itself reflexive (Some a) = reflexive a
 
-pub covered_more : BelowIsTransitive → (a : Knowledge) (x y : Option Knowledge) → IsCovered a x → IsCoveredIfAny x y → IsCovered a y
+pub covered_more : BelowIsTransitive → (a : StateValue) (x y : Option StateValue) → IsCovered a x → IsCoveredIfAny x y → IsCovered a y
 covered_more transitive a None y h g = absurd h
 covered_more transitive a (Some b) None h g = absurd g
 covered_more transitive a (Some b) (Some d) h g = transitive a b d h g
 
-pub any_covered_more : BelowIsTransitive → (o x y : Option Knowledge) → IsCoveredIfAny o x → IsCoveredIfAny x y → IsCoveredIfAny o y
+pub any_covered_more : BelowIsTransitive → (o x y : Option StateValue) → IsCoveredIfAny o x → IsCoveredIfAny x y → IsCoveredIfAny o y
 any_covered_more transitive None x y h g = tt
 any_covered_more transitive (Some a) x y h g = covered_more transitive a x y h g
 
-result_covered_more : BelowIsTransitive → (r : Result Knowledge Cause) (x y : Option Knowledge) → IsResultCovered r x → IsCoveredIfAny x y → IsResultCovered r y
+result_covered_more : BelowIsTransitive → (r : Result StateValue Cause) (x y : Option StateValue) → IsResultCovered r x → IsCoveredIfAny x y → IsResultCovered r y
 result_covered_more transitive (Err cause) x y h g = absurd h
 result_covered_more transitive (Ok a) x y h g = covered_more transitive a x y h g
 
-edges_covered_more : BelowIsTransitive → (r : Result Edges Cause) (x y z w : Option Knowledge) → AreEdgesCovered r x z → IsCoveredIfAny x y → IsCoveredIfAny z w → AreEdgesCovered r y w
+edges_covered_more : BelowIsTransitive → (r : Result Edges Cause) (x y z w : Option StateValue) → AreEdgesCovered r x z → IsCoveredIfAny x y → IsCoveredIfAny z w → AreEdgesCovered r y w
 edges_covered_more transitive (Err cause) x y z w h g f = absurd h
 edges_covered_more transitive (Ok edges) x y z w h g f =
     (any_covered_more transitive edges.taken x y h.0 g, any_covered_more transitive edges.not_taken z w h.1 f)
 
-pub known_covered : (old new : ℕ → Option Knowledge) → AreCovered old new → (z : ℤ) → IsCoveredIfAny (known_at old z) (known_at new z)
+pub known_covered : (old new : ℕ → Option StateValue) → AreCovered old new → (z : ℤ) → IsCoveredIfAny (known_at old z) (known_at new z)
 known_covered old new grown (pos slot) = grown slot
 known_covered old new grown (negsuc n) = tt
 
-proceeds_more : BelowIsTransitive → (old new : ℕ → Option Knowledge) (slot : ℕ) (a : Knowledge) (insn : Insn) → AreCovered old new → Proceeds old slot a insn → Proceeds new slot a insn
+proceeds_more : BelowIsTransitive → (old new : ℕ → Option StateValue) (slot : ℕ) (a : StateValue) (insn : Insn) → AreCovered old new → Proceeds old slot a insn → Proceeds new slot a insn
 proceeds_more transitive old new slot a insn grown h =
     result_covered_more transitive (applied a insn) (old (slot + slots_of insn)) (new (slot + slots_of insn)) h (grown (slot + slots_of insn))
 
 -- what is permitted stays so where the table knows more
-permitted_more : BelowIsTransitive → (sizes : List ℕ) (old new : ℕ → Option Knowledge) (slot : ℕ) (a : Knowledge) (insn : Insn) → AreCovered old new → IsPermitted sizes old slot a insn → IsPermitted sizes new slot a insn
+permitted_more : BelowIsTransitive → (sizes : List ℕ) (old new : ℕ → Option StateValue) (slot : ℕ) (a : StateValue) (insn : Insn) → AreCovered old new → IsPermitted sizes old slot a insn → IsPermitted sizes new slot a insn
 permitted_more transitive sizes old new slot a (Alu op width dst src) grown h = proceeds_more transitive old new slot a (Alu op width dst src) grown h
 permitted_more transitive sizes old new slot a (Negate width dst) grown h = proceeds_more transitive old new slot a (Negate width dst) grown h
 permitted_more transitive sizes old new slot a (MoveSigned extension dst src) grown h = proceeds_more transitive old new slot a (MoveSigned extension dst src) grown h
@@ -64,7 +64,7 @@ permitted_more transitive sizes old new slot a (LoadAddress dst address) grown h
 permitted_more transitive sizes old new slot a (Call callee number) grown h = absurd h
 permitted_more transitive sizes old new slot a Exit grown h = h
 
-pub permitted_at_more : BelowIsTransitive → (sizes : List ℕ) (old new : ℕ → Option Knowledge) (slot : ℕ) (o : Option Knowledge) (i : Option Insn) → AreCovered old new → IsPermittedAt sizes old slot o i → IsPermittedAt sizes new slot o i
+pub permitted_at_more : BelowIsTransitive → (sizes : List ℕ) (old new : ℕ → Option StateValue) (slot : ℕ) (o : Option StateValue) (i : Option Insn) → AreCovered old new → IsPermittedAt sizes old slot o i → IsPermittedAt sizes new slot o i
 permitted_at_more transitive sizes old new slot None i grown h = tt
 permitted_at_more transitive sizes old new slot (Some a) None grown h = absurd h
 permitted_at_more transitive sizes old new slot (Some a) (Some insn) grown h = permitted_more transitive sizes old new slot a insn grown h

@@ -20,7 +20,7 @@ use Rattle.absdom.specs.declared.cause.Cause.{Cause}
 use Rattle.absdom.specs.declared.kinds.AbsKind.{AbsKind}
 use Rattle.absdom.specs.declared.kinds.AbsKind.TheVariants.{Unset, Num, Ptr, Map}
 use Rattle.absdom.specs.Edges.{Edges}
-use Rattle.absdom.specs.Knowledge.{Knowledge, kind_at}
+use Rattle.absdom.specs.State.{StateValue, kind_at}
 use Rattle.absdom.specs.Effect.{applied}
 use Rattle.absdom.specs.Fits.{Fits, FitsKind, FitsEdge, IsSound, IsIndex, GoesStraight, TakesEdge, edge_where}
 use Rattle.absdom.specs.Laws.{BelowFits, EntryFits, ApplyFits, RefineFits}
@@ -37,25 +37,25 @@ pub record Laws : Type 0 where
   pub refine : RefineFits
 
 -- where a path of n steps stands
-pub record Stands (p : Program) (table : ℕ → Option Knowledge) (n : ℕ) (s : State) : Type 0 where
-  pub known : Knowledge
+pub record Stands (p : Program) (table : ℕ → Option StateValue) (n : ℕ) (s : State) : Type 0 where
+  pub known : StateValue
   pub is : table s.slot ≡ Some known
   pub fits : Fits s known
   pub steps : n ≤ firsts p.slots s.slot
 
 -- what the n-th step may give there
-abbrev pub Continues : Program → (ℕ → Option Knowledge) → ℕ → Outcome → Type 0
+abbrev pub Continues : Program → (ℕ → Option StateValue) → ℕ → Outcome → Type 0
 Continues p table n (Next t) = Stands p table n t
 Continues p table n (Ask helper map key on) = ⊥
 Continues p table n (Verdict v) = Unit {0}
 Continues p table n Trap = ⊥
 
 -- a state that fits what is covered at its slot stands there
-stands_by : BelowFits → (p : Program) (table : ℕ → Option Knowledge) (n : ℕ) (t : State) (a : Knowledge) (o : Option Knowledge) → table t.slot ≡ o → Fits t a → IsCovered a o → n ≤ firsts p.slots t.slot → Stands p table n t
+stands_by : BelowFits → (p : Program) (table : ℕ → Option StateValue) (n : ℕ) (t : State) (a : StateValue) (o : Option StateValue) → table t.slot ≡ o → Fits t a → IsCovered a o → n ≤ firsts p.slots t.slot → Stands p table n t
 stands_by below p table n t a None is fits covered steps = absurd covered
 stands_by below p table n t a (Some b) is fits covered steps = record { known = b; is = is; fits = below t a b covered fits; steps = steps }
 
-arrives : BelowFits → (p : Program) (table : ℕ → Option Knowledge) (n : ℕ) (t : State) (a : Knowledge) → Fits t a → IsCovered a (table t.slot) → n ≤ firsts p.slots t.slot → Stands p table n t
+arrives : BelowFits → (p : Program) (table : ℕ → Option StateValue) (n : ℕ) (t : State) (a : StateValue) → Fits t a → IsCovered a (table t.slot) → n ≤ firsts p.slots t.slot → Stands p table n t
 arrives below p table n t a fits covered steps = stands_by below p table n t a (table t.slot) refl fits covered steps
 
 -- ---- from a slot where an instruction begins
@@ -69,7 +69,7 @@ more_steps p n s insn later at after =
     let steps = at.steps in omega (arith, firsts_grow p.slots s.slot later insn after at.is)
 
 -- on to a later slot
-goes_on : BelowFits → (p : Program) (table : ℕ → Option Knowledge) (n : ℕ) (s : State) (insn : Insn) (later : ℕ) (o : Outcome) (r : Result Knowledge Cause) → From p n s insn → s.slot < later → IsSound o later r → IsResultCovered r (table later) → Continues p table (n + 1) o
+goes_on : BelowFits → (p : Program) (table : ℕ → Option StateValue) (n : ℕ) (s : State) (insn : Insn) (later : ℕ) (o : Outcome) (r : Result StateValue Cause) → From p n s insn → s.slot < later → IsSound o later r → IsResultCovered r (table later) → Continues p table (n + 1) o
 goes_on below p table n s insn later o (Err cause) at after sound covered = absurd covered
 goes_on below p table n s insn later (Next t) (Ok a) at after sound covered =
     arrives below p table (n + 1) t a sound.1
@@ -80,20 +80,20 @@ goes_on below p table n s insn later (Verdict v) (Ok a) at after sound covered =
 goes_on below p table n s insn later Trap (Ok a) at after sound covered = absurd sound
 
 -- the same registers and stack at another slot
-fits_at : (s : State) (a : Knowledge) (slot : ℕ) → Fits s a → Fits (state slot s.registers s.stack) a
+fits_at : (s : State) (a : StateValue) (slot : ℕ) → Fits s a → Fits (state slot s.registers s.stack) a
 fits_at s a slot fits = record { registers = fits.registers; bytes = fits.bytes }
 
-steps_to : BelowFits → (p : Program) (table : ℕ → Option Knowledge) (n : ℕ) (s : State) (insn : Insn) (later : ℕ) (a : Knowledge) → From p n s insn → s.slot < later → Fits s a → IsCovered a (table later) → Stands p table (n + 1) (state later s.registers s.stack)
+steps_to : BelowFits → (p : Program) (table : ℕ → Option StateValue) (n : ℕ) (s : State) (insn : Insn) (later : ℕ) (a : StateValue) → From p n s insn → s.slot < later → Fits s a → IsCovered a (table later) → Stands p table (n + 1) (state later s.registers s.stack)
 steps_to below p table n s insn later a at after fits covered =
     arrives below p table (n + 1) (state later s.registers s.stack) a (fits_at s a later fits) covered (more_steps p n s insn later at after)
 
 -- a jump
-lands_on : BelowFits → (p : Program) (table : ℕ → Option Knowledge) (n : ℕ) (s : State) (insn : Insn) (z : ℤ) (a : Knowledge) → From p n s insn → IsAfter s.slot z → Fits s a → IsCovered a (known_at table z) → Continues p table (n + 1) (lands s z)
+lands_on : BelowFits → (p : Program) (table : ℕ → Option StateValue) (n : ℕ) (s : State) (insn : Insn) (z : ℤ) (a : StateValue) → From p n s insn → IsAfter s.slot z → Fits s a → IsCovered a (known_at table z) → Continues p table (n + 1) (lands s z)
 lands_on below p table n s insn (pos later) a at after fits covered = steps_to below p table n s insn later a at after fits covered
 lands_on below p table n s insn (negsuc m) a at after fits covered = absurd covered
 
 -- a comparison
-takes : BelowFits → (p : Program) (table : ℕ → Option Knowledge) (n : ℕ) (s : State) (insn : Insn) (offset : ℤ) (taken not_taken : Option Knowledge) (holds : Bool) → From p n s insn → IsAfter s.slot (target s.slot offset) → FitsEdge s (if holds then taken else not_taken) → IsCoveredIfAny taken (known_at table (target s.slot offset)) → IsCoveredIfAny not_taken (table (s.slot + 1)) → Continues p table (n + 1) (branches s offset holds)
+takes : BelowFits → (p : Program) (table : ℕ → Option StateValue) (n : ℕ) (s : State) (insn : Insn) (offset : ℤ) (taken not_taken : Option StateValue) (holds : Bool) → From p n s insn → IsAfter s.slot (target s.slot offset) → FitsEdge s (if holds then taken else not_taken) → IsCoveredIfAny taken (known_at table (target s.slot offset)) → IsCoveredIfAny not_taken (table (s.slot + 1)) → Continues p table (n + 1) (branches s offset holds)
 takes below p table n s insn offset None not_taken true at after fits h g = absurd fits
 takes below p table n s insn offset (Some a) not_taken true at after fits h g = lands_on below p table n s insn (target s.slot offset) a at after fits h
 takes below p table n s insn offset taken None false at after fits h g = absurd fits
@@ -103,14 +103,14 @@ edge_is : (holds : Bool) (edges : Edges) (s : State) → FitsEdge s (edge_where 
 edge_is true edges s fits = fits
 edge_is false edges s fits = fits
 
-compares_on : BelowFits → (p : Program) (table : ℕ → Option Knowledge) (n : ℕ) (s : State) (insn : Insn) (offset : ℤ) (o : Outcome) (r : Result Edges Cause) → From p n s insn → IsAfter s.slot (target s.slot offset) → TakesEdge s offset o r → AreEdgesCovered r (known_at table (target s.slot offset)) (table (s.slot + 1)) → Continues p table (n + 1) o
+compares_on : BelowFits → (p : Program) (table : ℕ → Option StateValue) (n : ℕ) (s : State) (insn : Insn) (offset : ℤ) (o : Outcome) (r : Result Edges Cause) → From p n s insn → IsAfter s.slot (target s.slot offset) → TakesEdge s offset o r → AreEdgesCovered r (known_at table (target s.slot offset)) (table (s.slot + 1)) → Continues p table (n + 1) o
 compares_on below p table n s insn offset o (Err cause) at after edge covered = absurd covered
 compares_on below p table n s insn offset o (Ok edges) at after edge covered =
     subst (λ (w : Outcome). Continues p table (n + 1) w) (sym edge.1)
     (takes below p table n s insn offset edges.taken edges.not_taken edge.0 at after (edge_is edge.0 edges s edge.2) covered.0 covered.1)
 
 -- an exit
-exits_with : (p : Program) (table : ℕ → Option Knowledge) (n : ℕ) (v : Value) (k : AbsKind) → FitsKind v k → IsNumber k → Continues p table n (exits v)
+exits_with : (p : Program) (table : ℕ → Option StateValue) (n : ℕ) (v : Value) (k : AbsKind) → FitsKind v k → IsNumber k → Continues p table n (exits v)
 exits_with p table n v Unset fits number = absurd number
 exits_with p table n Nothing (Num range) fits number = absurd fits
 exits_with p table n (Number m) (Num range) fits number = tt
@@ -126,7 +126,7 @@ index_of sizes (negsuc n) h = absurd cc
 -- ---- the step at an instruction
 
 -- one that goes on to the next
-proceeds : Laws → (p : Program) (table : ℕ → Option Knowledge) (header : Header) (n : ℕ) (s : State) (a : Knowledge) (insn : Insn) → IsHeader header → From p n s insn → Fits s a → GoesStraight insn → Proceeds table s.slot a insn → Continues p table (n + 1) (perform header s insn)
+proceeds : Laws → (p : Program) (table : ℕ → Option StateValue) (header : Header) (n : ℕ) (s : State) (a : StateValue) (insn : Insn) → IsHeader header → From p n s insn → Fits s a → GoesStraight insn → Proceeds table s.slot a insn → Continues p table (n + 1) (perform header s insn)
 proceeds laws p table header n s a insn good at fits straight h =
     goes_on laws.below p table n s insn (s.slot + slots_of insn) (perform header s insn) (applied a insn) at (later (second_immediate insn)) (laws.apply header s a insn good straight fits) h
   where
@@ -134,7 +134,7 @@ proceeds laws p table header n s a insn good at fits straight h =
     later None = omega arith
     later (Some immediate) = omega arith
 
-continues_at : Laws → (p : Program) (sizes : List ℕ) (table : ℕ → Option Knowledge) (header : Header) (n : ℕ) (s : State) (a : Knowledge) (insn : Insn) → IsHeader header → From p n s insn → Fits s a → IsAllowed p s.slot insn → IsInsn insn → IsPermitted sizes table s.slot a insn → Continues p table (n + 1) (perform header s insn)
+continues_at : Laws → (p : Program) (sizes : List ℕ) (table : ℕ → Option StateValue) (header : Header) (n : ℕ) (s : State) (a : StateValue) (insn : Insn) → IsHeader header → From p n s insn → Fits s a → IsAllowed p s.slot insn → IsInsn insn → IsPermitted sizes table s.slot a insn → Continues p table (n + 1) (perform header s insn)
 continues_at laws p sizes table header n s a (Alu op width dst src) good at fits allowed is_insn h = proceeds laws p table header n s a (Alu op width dst src) good at fits allowed.leaves_frame h
 continues_at laws p sizes table header n s a (Negate width dst) good at fits allowed is_insn h = proceeds laws p table header n s a (Negate width dst) good at fits allowed.leaves_frame h
 continues_at laws p sizes table header n s a (MoveSigned extension dst src) good at fits allowed is_insn h = proceeds laws p table header n s a (MoveSigned extension dst src) good at fits allowed.leaves_frame h
@@ -162,7 +162,7 @@ continues_from laws p sizes h header n s at (Some insn) good is permitted =
 -- what is known where a path stands permits its instruction
 pub permitted_here : (p : Program) (sizes : List ℕ) (h : IsJustified p sizes) (n : ℕ) (s : State) (at : Stands p h.table n s) → IsPermittedAt sizes h.table s.slot (Some at.known) (insn_at p s.slot)
 permitted_here p sizes h n s at =
-    subst (λ (k : Option Knowledge). IsPermittedAt sizes h.table s.slot k (insn_at p s.slot)) at.is (h.permitted s.slot)
+    subst (λ (k : Option StateValue). IsPermittedAt sizes h.table s.slot k (insn_at p s.slot)) at.is (h.permitted s.slot)
 
 continues : Laws → (p : Program) (sizes : List ℕ) (h : IsJustified p sizes) (header : Header) (n : ℕ) (s : State) → IsHeader header → Stands p h.table n s → Continues p h.table (n + 1) (step p header s)
 continues laws p sizes h header n s good at =
@@ -183,11 +183,11 @@ stands laws p sizes h header port calls n s good low (answered {n = m} {s = r} a
 
 -- ---- safe
 
-no_trap_of : (p : Program) (table : ℕ → Option Knowledge) (n : ℕ) (o : Outcome) → Continues p table n o → o ≢ Trap
+no_trap_of : (p : Program) (table : ℕ → Option StateValue) (n : ℕ) (o : Outcome) → Continues p table n o → o ≢ Trap
 no_trap_of p table n o c e = subst (λ (w : Outcome). Continues p table n w) e c
 
 -- a permitted instruction finds its map
-finds : (sizes : List ℕ) (table : ℕ → Option Knowledge) (s : State) (a : Knowledge) (o : Option Insn) → IsPermittedAt sizes table s.slot (Some a) o → finds_maps sizes s o ≡ true
+finds : (sizes : List ℕ) (table : ℕ → Option StateValue) (s : State) (a : StateValue) (o : Option Insn) → IsPermittedAt sizes table s.slot (Some a) o → finds_maps sizes s o ≡ true
 finds sizes table s a None h = absurd h
 finds sizes table s a (Some (Alu op width dst src)) h = refl
 finds sizes table s a (Some (Negate width dst)) h = refl

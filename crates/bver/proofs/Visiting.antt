@@ -6,15 +6,15 @@ use Rattle.std.proofs.lemmas.List.{get_or_past}
 use Rattle.bpf.specs.Program.{Program, IsProgram}
 use Rattle.machine.specs.declared.regions.Region.{Region}
 use Rattle.machine.specs.Step.{insn_at}
-use Rattle.absdom.specs.Knowledge.{Knowledge}
+use Rattle.absdom.specs.State.{StateValue}
 use Rattle.absdom.specs.Laws.{BelowIsTransitive}
 use Rattle.bver_form.specs.Form.{IsFormed}
 use Rattle.bver.specs.Justified.{IsEntered, IsPermittedAt, IsJudged, accessed_at}
-use Rattle.bver.specs.Passing.{IsExtended, AreVisited, known_in}
+use Rattle.bver.specs.Visit.{IsExtended, AreVisited, known_in}
 use Rattle.bver.proofs.Covering.{any_covered_more, permitted_at_more}
 
 -- a table that grew twice
-pub extended_twice : BelowIsTransitive → (p : Program) (slot : ℕ) (old mid new : List (Option Knowledge)) → IsExtended p slot old mid → IsExtended p slot mid new → IsExtended p slot old new
+pub extended_twice : BelowIsTransitive → (p : Program) (slot : ℕ) (old mid new : List (Option StateValue)) → IsExtended p slot old mid → IsExtended p slot mid new → IsExtended p slot old new
 extended_twice transitive p slot old mid new f g = record {
   grown = record {
     size = g.grown.size ∙ f.grown.size;
@@ -26,7 +26,7 @@ extended_twice transitive p slot old mid new f g = record {
 }
 
 -- after the visit of a slot
-pub visited_next : BelowIsTransitive → (p : Program) (sizes : List ℕ) (old new : List (Option Knowledge)) (regions : List (Option Region)) (slot : ℕ) (region : Option Region) → AreVisited p sizes old regions slot → IsExtended p slot old new → IsPermittedAt sizes (known_in new) slot (known_in new slot) (insn_at p slot) → region ≡ accessed_at (known_in new slot) (insn_at p slot) → slot < length regions → AreVisited p sizes new (slice_set regions slot region) (slot + 1)
+pub visited_next : BelowIsTransitive → (p : Program) (sizes : List ℕ) (old new : List (Option StateValue)) (regions : List (Option Region)) (slot : ℕ) (region : Option Region) → AreVisited p sizes old regions slot → IsExtended p slot old new → IsPermittedAt sizes (known_in new) slot (known_in new slot) (insn_at p slot) → region ≡ accessed_at (known_in new slot) (insn_at p slot) → slot < length regions → AreVisited p sizes new (slice_set regions slot region) (slot + 1)
 visited_next transitive p sizes old new regions slot region v f permitted accessed inside = record {
   size = f.grown.size ∙ v.size;
   entered = subst IsEntered (sym (f.kept 0 (omega arith))) v.entered;
@@ -35,7 +35,7 @@ visited_next transitive p sizes old new regions slot region v f permitted access
   permitted = below_more (λ (k : ℕ). IsPermittedAt sizes (known_in new) k (known_in new k) (insn_at p k)) slot (λ k below. earlier k below) permitted;
   resolved = below_more (λ (k : ℕ). slice_index_or (slice_set regions slot region) k None ≡ accessed_at (known_in new k) (insn_at p k)) slot
       (λ k below.
-      get_or-set_other regions slot k region None (differs k below) ∙ v.resolved k below ∙ ap (λ (o : Option Knowledge). accessed_at o (insn_at p k)) (sym (f.kept k (omega arith))))
+      get_or-set_other regions slot k region None (differs k below) ∙ v.resolved k below ∙ ap (λ (o : Option StateValue). accessed_at o (insn_at p k)) (sym (f.kept k (omega arith))))
       (get_or-set_same regions slot region None inside ∙ accessed);
   ahead = λ k above. get_or-set_other regions slot k region None (past k above) ∙ v.ahead k (omega arith);
 }
@@ -48,14 +48,14 @@ visited_next transitive p sizes old new regions slot region v f permitted access
 
     earlier : (k : ℕ) → k < slot → IsPermittedAt sizes (known_in new) k (known_in new k) (insn_at p k)
     earlier k below =
-        subst (λ (o : Option Knowledge). IsPermittedAt sizes (known_in new) k o (insn_at p k)) (sym (f.kept k (omega arith)))
+        subst (λ (o : Option StateValue). IsPermittedAt sizes (known_in new) k o (insn_at p k)) (sym (f.kept k (omega arith)))
         (permitted_at_more transitive sizes (known_in old) (known_in new) k (known_in old k) (insn_at p k) f.grown.covered (v.permitted k below))
 
 -- after all visits
-past_none : (table : List (Option Knowledge)) (n slot : ℕ) → length table ≡ n → n ≤ slot → known_in table slot ≡ None
+past_none : (table : List (Option StateValue)) (n slot : ℕ) → length table ≡ n → n ≤ slot → known_in table slot ≡ None
 past_none table n slot size past = get_or_past table slot None (omega arith)
 
-pub judged : (p : Program) (sizes : List ℕ) (table : List (Option Knowledge)) (regions : List (Option Region)) → IsProgram p → IsFormed p → AreVisited p sizes table regions (length p.slots) → IsJudged p sizes regions
+pub judged : (p : Program) (sizes : List ℕ) (table : List (Option StateValue)) (regions : List (Option Region)) → IsProgram p → IsFormed p → AreVisited p sizes table regions (length p.slots) → IsJudged p sizes regions
 judged p sizes table regions limits form v = record {
   justified = record {
     limits = limits;
@@ -66,12 +66,12 @@ judged p sizes table regions limits form v = record {
     permitted = λ slot.
         elim (cases_lt slot (length p.slots)) [
           | inl below ↦ v.permitted slot below
-          | inr past ↦ subst (λ (o : Option Knowledge). IsPermittedAt sizes (known_in table) slot o (insn_at p slot)) (sym (past_none table (length p.slots) slot v.size past)) tt
+          | inr past ↦ subst (λ (o : Option StateValue). IsPermittedAt sizes (known_in table) slot o (insn_at p slot)) (sym (past_none table (length p.slots) slot v.size past)) tt
         ];
   };
   resolved = λ slot.
       elim (cases_lt slot (length p.slots)) [
         | inl below ↦ v.resolved slot below
-        | inr past ↦ v.ahead slot past ∙ ap (λ (o : Option Knowledge). accessed_at o (insn_at p slot)) (sym (past_none table (length p.slots) slot v.size past))
+        | inr past ↦ v.ahead slot past ∙ ap (λ (o : Option StateValue). accessed_at o (insn_at p slot)) (sym (past_none table (length p.slots) slot v.size past))
       ];
 }

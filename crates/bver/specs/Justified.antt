@@ -11,7 +11,7 @@ use Rattle.machine.specs.Step.{insn_at, distance_of, is_map}
 use Rattle.absdom.specs.declared.cause.Cause.{Cause}
 use Rattle.absdom.specs.declared.kinds.AbsKind.{AbsKind}
 use Rattle.absdom.specs.declared.kinds.AbsKind.TheVariants.{Unset, Num, Ptr, Map}
-use Rattle.absdom.specs.Knowledge.{Knowledge, IsEntry, IsBelow, kind_at}
+use Rattle.absdom.specs.State.{StateValue, IsEntry, IsBelow, kind_at}
 use Rattle.absdom.specs.Effect.{applied}
 use Rattle.absdom.specs.Edges.{Edges, refined_edges}
 use Rattle.absdom.specs.Growth.{IsWhole}
@@ -20,34 +20,34 @@ use Rattle.bver_form.specs.Form.{IsFormed, target}
 -- ---- what is known along an edge, and where it leads
 
 -- whoever knows this knows all that the slot's state says, so a run may go there with it
-abbrev pub IsCovered : Knowledge → (there : Option Knowledge) → Type 0
+abbrev pub IsCovered : StateValue → (there : Option StateValue) → Type 0
 IsCovered a None = ⊥
 IsCovered a (Some b) = IsBelow a b
 
 -- the same, where there is anything to cover: nothing is known on an edge that no run takes
-abbrev pub IsCoveredIfAny : Option Knowledge → (there : Option Knowledge) → Type 0
+abbrev pub IsCoveredIfAny : Option StateValue → (there : Option StateValue) → Type 0
 IsCoveredIfAny None there = Unit {0}
 IsCoveredIfAny (Some a) there = IsCovered a there
 
 -- an instruction is not refused, and what it leaves is covered where it goes on
-abbrev pub IsResultCovered : Result Knowledge Cause → (there : Option Knowledge) → Type 0
+abbrev pub IsResultCovered : Result StateValue Cause → (there : Option StateValue) → Type 0
 IsResultCovered (Err cause) there = ⊥
 IsResultCovered (Ok a) there = IsCovered a there
 
 -- a comparison is not refused, and each edge that a run may take is covered
-abbrev pub AreEdgesCovered : Result Edges Cause → (taken next : Option Knowledge) → Type 0
+abbrev pub AreEdgesCovered : Result Edges Cause → (taken next : Option StateValue) → Type 0
 AreEdgesCovered (Err cause) taken next = ⊥
 AreEdgesCovered (Ok edges) taken next = IsCoveredIfAny edges.taken taken × IsCoveredIfAny edges.not_taken next
 
 -- what is known at a place of the code; nothing is before it
-abbrev pub known_at : (table : ℕ → Option Knowledge) → ℤ → Option Knowledge
+abbrev pub known_at : (table : ℕ → Option StateValue) → ℤ → Option StateValue
 known_at table (pos slot) = table slot
 known_at table (negsuc n) = None
 
 -- ---- what is permitted
 
 -- an instruction that goes on to the next one: it is not refused, and what it leaves is covered there
-abbrev pub Proceeds : (table : ℕ → Option Knowledge) (slot : ℕ) → Knowledge → Insn → Type 0
+abbrev pub Proceeds : (table : ℕ → Option StateValue) (slot : ℕ) → StateValue → Insn → Type 0
 Proceeds table slot a insn = IsResultCovered (applied a insn) (table (slot + slots_of insn))
 
 -- a register holds a number
@@ -59,7 +59,7 @@ IsNumber (Map index) = ⊥
 
 -- with what is known at its slot an instruction cannot go wrong, and on every edge that a run may take
 -- what it leaves is covered: a map that is loaded exists, and EXIT has a number for its answer
-abbrev pub IsPermitted : (sizes : List ℕ) (table : ℕ → Option Knowledge) (slot : ℕ) → Knowledge → Insn → Type 0
+abbrev pub IsPermitted : (sizes : List ℕ) (table : ℕ → Option StateValue) (slot : ℕ) → StateValue → Insn → Type 0
 IsPermitted sizes table slot a (Alu op width dst src) = Proceeds table slot a (Alu op width dst src)
 IsPermitted sizes table slot a (Negate width dst) = Proceeds table slot a (Negate width dst)
 IsPermitted sizes table slot a (MoveSigned extension dst src) = Proceeds table slot a (MoveSigned extension dst src)
@@ -77,14 +77,14 @@ IsPermitted sizes table slot a (Call callee number) = ⊥
 IsPermitted sizes table slot a Exit = IsNumber (kind_at a 0)
 
 -- the same at a slot: a table has states only where instructions begin, and where it has none no run comes
-abbrev pub IsPermittedAt : (sizes : List ℕ) (table : ℕ → Option Knowledge) (slot : ℕ) → Option Knowledge → Option Insn → Type 0
+abbrev pub IsPermittedAt : (sizes : List ℕ) (table : ℕ → Option StateValue) (slot : ℕ) → Option StateValue → Option Insn → Type 0
 IsPermittedAt sizes table slot None insn = Unit {0}
 IsPermittedAt sizes table slot (Some a) None = ⊥
 IsPermittedAt sizes table slot (Some a) (Some insn) = IsPermitted sizes table slot a insn
 
 -- what is known at entry is covered
-pub record IsEntered (there : Option Knowledge) : Type 0 where
-  pub known : Knowledge
+pub record IsEntered (there : Option StateValue) : Type 0 where
+  pub known : StateValue
   pub entry : IsEntry known
   pub covered : IsCovered known there
 
@@ -95,7 +95,7 @@ pub record IsEntered (there : Option Knowledge) : Type 0 where
 pub record IsJustified (program : Program) (sizes : List ℕ) : Type 0 where
   pub limits : IsProgram program
   pub formed : IsFormed program
-  pub table : ℕ → Option Knowledge
+  pub table : ℕ → Option StateValue
   pub entered : IsEntered (table 0)
   pub whole : (slot : ℕ) → IfSome (table slot) IsWhole
   pub permitted : (slot : ℕ) → IsPermittedAt sizes table slot (table slot) (insn_at program slot)
@@ -110,7 +110,7 @@ pointed (Ptr region offsets) = Some region
 pointed (Map index) = None
 
 -- the region that an instruction accesses
-abbrev pub accessed : Knowledge → Insn → Option Region
+abbrev pub accessed : StateValue → Insn → Option Region
 accessed a (Load size dst base offset) = pointed (kind_at a base)
 accessed a (Store size base offset src) = pointed (kind_at a base)
 accessed a (Alu op width dst src) = None
@@ -126,7 +126,7 @@ accessed a (Call callee number) = None
 accessed a Exit = None
 
 -- the region that is accessed at a slot; none where no run comes
-abbrev pub accessed_at : Option Knowledge → Option Insn → Option Region
+abbrev pub accessed_at : Option StateValue → Option Insn → Option Region
 accessed_at None insn = None
 accessed_at (Some a) None = None
 accessed_at (Some a) (Some insn) = accessed a insn
@@ -134,7 +134,7 @@ accessed_at (Some a) (Some insn) = accessed a insn
 -- ---- an accepted program
 
 -- the program, the sizes of the maps that it was accepted for, and the region that each slot accesses
-pub record Judge : Type 0 where
+pub record AcceptedValue : Type 0 where
   pub program : Program
   pub sizes : List ℕ
   pub regions : List (Option Region)

@@ -1,5 +1,5 @@
 pub mod Codes
 pub mod Justified
 pub mod Resolved
-pub mod Passing
+pub mod Visit
 pub mod Laws

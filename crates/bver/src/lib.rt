@@ -7,10 +7,10 @@
 #![tactic(auto)]
 
 mod accepted;
-mod flowing;
+mod edges;
 mod laws;
-mod passing;
 mod table;
+mod visit;
 
 pub use absdom::Region;
 pub use accepted::{Accepted, verify};

@@ -3,7 +3,7 @@
 ghost use Rattle.std.specs.Prelude.{◌≡◌, ◌≢◌, ◌<◌, ℕ, IfOk, IfSome, Some, None, length, if◌then◌else◌};
 ghost use Rattle.bver.specs.Justified.{IsCovered, IsCoveredIfAny};
 ghost use Rattle.absdom.specs.Growth.{IsWhole};
-ghost use Rattle.bver.specs.Passing.{AreWhole, IsGrown, IsLeast, known_in};
+ghost use Rattle.bver.specs.Visit.{AreWhole, IsGrown, IsLeast, known_in};
 
 use absdom::{State, join_is_least, order_of_states};
 use std::alloc::{AllocError, Global};
@@ -18,9 +18,9 @@ struct Known {
 
 impl Model for Known {
     ghost use Rattle.std.specs.Prelude.{Option, Some, None, if◌then◌else◌};
-    ghost use Rattle.absdom.specs.Knowledge.{Knowledge};
+    ghost use Rattle.absdom.specs.State.{StateValue};
 
-    ghost Value = { Option Knowledge };
+    ghost Value = { Option StateValue };
 
     ghost view = { λ k. if k.is_known then Some k.state else None };
 }
@@ -73,9 +73,9 @@ pub(crate) struct Table {
 
 impl Model for Table {
     ghost use Rattle.std.specs.Prelude.{List, Option};
-    ghost use Rattle.absdom.specs.Knowledge.{Knowledge};
+    ghost use Rattle.absdom.specs.State.{StateValue};
 
-    ghost Value = { List (Option Knowledge) };
+    ghost Value = { List (Option StateValue) };
 
     ghost view = { λ t. t.states.items };
 }

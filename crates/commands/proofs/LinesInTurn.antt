@@ -2,7 +2,7 @@
 use Rattle.std.proofs.Common.{◌≡◌, ◌<◌, ℕ, zero, suc, List, [], ◌∷◌, ◌++◌, length, take, drop, get_or, Option, refl, sym, ap, subst, arith}
 use Rattle.commands.specs.JobNode.{JobNodeValue}
 use Rattle.commands.specs.Lines.{Judges, JudgesAll, IsBad, IsBadPacket, IsBadLine}
-use Rattle.commands.specs.Stopping.{StopsBy}
+use Rattle.commands.specs.Stops.{StopsBy}
 use Rattle.commands.specs.declared.faults.Fault.TheVariants.{CannotRead, CannotWrite, NoMemory, BadText, BadImage, Unfit, BadLine}
 use Rattle.commands.specs.declared.stops.Stop.{Stop}
 use Rattle.commands.specs.declared.stops.Stop.TheVariants.{Ended, Unwritten}

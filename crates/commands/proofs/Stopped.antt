@@ -5,7 +5,7 @@ use Rattle.std.specs.declared.result.Result.TheVariants.{Ok, Err}
 use Rattle.commands.specs.declared.faults.Fault.{Fault}
 use Rattle.commands.specs.declared.stops.Stop.{Stop}
 use Rattle.commands.specs.declared.stops.Stop.TheVariants.{Ended, Unwritten}
-use Rattle.commands.specs.Stopping.{StopsBy}
+use Rattle.commands.specs.Stops.{StopsBy}
 
 pub widened : {A : Type 0} (Narrow Wide : Fault → Type 0) → ((fault : Fault) → Narrow fault → Wide fault)
     → (r : Result A Stop) → IfErr r (StopsBy Narrow) → IfErr r (StopsBy Wide)

@@ -1,16 +1,16 @@
 -- The node that the jobs run, with its one port.
 use Rattle.std.specs.Prelude.{ℕ, List, [], ◌∷◌}
-use Rattle.bank.specs.Records.{Contents}
-use Rattle.bver.specs.Justified.{Judge}
+use Rattle.bank.specs.Records.{BankValue}
+use Rattle.bver.specs.Justified.{AcceptedValue}
 use Rattle.target.specs.declared.config.BankConfig.{BankConfig}
-use Rattle.target.specs.Making.{bank_of, first_pass}
-use Rattle.target.specs.Passes.{Holder}
+use Rattle.target.specs.Nodes.{bank_of, first_pass}
+use Rattle.target.specs.Passes.{PassValue}
 use Rattle.target.specs.Pairs.{IsPaired}
 
 -- the node's banks, what its port has of it, and the reply to the last packet
 pub record JobNodeValue : Type 0 where
-  pub banks : List Contents
-  pub holder : Holder
+  pub banks : List BankValue
+  pub holder : PassValue
   pub reply : List ℕ
 
 -- banks and port were made together, or are as packets left them
@@ -22,7 +22,7 @@ abbrev pub own_bank : BankConfig
 own_bank = record { base = 2684354560; size = 65536; room = 1024 }
 
 -- a fresh node whose commands the program judges
-abbrev pub fresh_job_node : Judge → JobNodeValue
+abbrev pub fresh_job_node : AcceptedValue → JobNodeValue
 fresh_job_node program = record {
   banks = bank_of 1 own_bank ∷ [];
   holder = first_pass 254 (own_bank ∷ []) program 0;

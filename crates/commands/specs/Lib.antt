@@ -7,11 +7,11 @@ pub mod Disassembled
 pub mod Files
 pub mod JobNode
 pub mod JudgeJob
-pub mod Judging
+pub mod Factory
 pub mod Lines
 pub mod Printed
 pub mod Reading
 pub mod Statuses
-pub mod Stopping
+pub mod Stops
 pub mod Verified
 pub mod VerifyJob

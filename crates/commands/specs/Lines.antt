@@ -6,9 +6,9 @@ use Rattle.spw.specs.Fault.{code_of}
 use Rattle.spw.specs.Line.{HasFault, IsPacketLine}
 use Rattle.spw.specs.declared.faults.LineFault.{LineFault}
 use Rattle.spw.specs.declared.faults.LineFault.TheVariants as line_faults
-use Rattle.target.specs.Serving.{IsAnswered}
-use Rattle.target.specs.declared.serving.Served.{Served}
-use Rattle.target.specs.declared.serving.Served.TheVariants.{Stopped, Unread, Done}
+use Rattle.target.specs.Served.{IsAnswered}
+use Rattle.target.specs.declared.served.Served.{Served}
+use Rattle.target.specs.declared.served.Served.TheVariants.{Stopped, Unread, Done}
 use Rattle.target.specs.declared.stop.Stop.TheVariants.{Discarded, Answered}
 use Rattle.commands.specs.JobNode.{JobNodeValue}
 use Rattle.commands.specs.JudgeJob.{discard_line, reply_line}

@@ -8,7 +8,7 @@ ghost use Rattle.clap.specs.Walk.{rows_of};
 ghost use Rattle.clap.specs.Matches.{found_of};
 ghost use Rattle.commands.specs.AsmJob.{LacksEither, NamesAsm, asm_app, parts_line};
 ghost use Rattle.commands.specs.Assembled.{Assembles, HoldsText, IsNoText, IsNotAssembled};
-ghost use Rattle.commands.specs.Stopping.{StopsBy};
+ghost use Rattle.commands.specs.Stops.{StopsBy};
 
 use crate::arguments::{file, name_of};
 use crate::faults::Fault;

@@ -9,7 +9,7 @@ ghost use Rattle.clap.specs.Matches.{found_of};
 ghost use Rattle.commands.specs.Arguments.{Lacks};
 ghost use Rattle.commands.specs.DisJob.{NamesDis, dis_app};
 ghost use Rattle.commands.specs.Disassembled.{Disassembles, IsNotPrinted};
-ghost use Rattle.commands.specs.Stopping.{StopsBy};
+ghost use Rattle.commands.specs.Stops.{StopsBy};
 
 use crate::arguments::{file, name_of};
 use crate::jobs::Job;

@@ -10,9 +10,9 @@ ghost use Rattle.clap.specs.Matches.{found_of};
 ghost use Rattle.bpf.specs.Program.{image_bytes};
 ghost use Rattle.commands.specs.Arguments.{Lacks};
 ghost use Rattle.commands.specs.JudgeJob.{NamesJudge, discard_line, judge_app, reply_line};
-ghost use Rattle.commands.specs.Judging.{HoldsNoProgram, HoldsProgram, IsLineFault, IsNoFactory, IsNotJudged, factory_image};
+ghost use Rattle.commands.specs.Factory.{HoldsNoProgram, HoldsProgram, IsLineFault, IsNoFactory, IsNotJudged, factory_image};
 ghost use Rattle.commands.specs.Lines.{IsBadLine, IsBadPacket, Judges, JudgesAll, served_line};
-ghost use Rattle.commands.specs.Stopping.{StopsBy};
+ghost use Rattle.commands.specs.Stops.{StopsBy};
 ghost use Rattle.commands.specs.declared.faults.Fault.TheVariants.{NoMemory};
 
 use crate::arguments::{file, name_of, text_of};

@@ -1,7 +1,7 @@
 //! The node that the jobs run.
 
 ghost use Rattle.std.specs.Prelude.{◌≡◌, ◌≢◌, [], None, IfErr, IfOk, IfSome};
-ghost use Rattle.target.specs.Serving.{IsAnswered};
+ghost use Rattle.target.specs.Served.{IsAnswered};
 ghost use Rattle.commands.specs.JobNode.{fresh_job_node};
 ghost use Rattle.commands.specs.declared.faults.Fault.TheVariants.{NoMemory};
 

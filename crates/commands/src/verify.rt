@@ -8,7 +8,7 @@ ghost use Rattle.clap.specs.Walk.{rows_of};
 ghost use Rattle.clap.specs.Matches.{found_of};
 ghost use Rattle.commands.specs.Arguments.{Lacks};
 ghost use Rattle.commands.specs.Reading.{IsNoProgram};
-ghost use Rattle.commands.specs.Stopping.{StopsBy};
+ghost use Rattle.commands.specs.Stops.{StopsBy};
 ghost use Rattle.commands.specs.Verified.{Verifies};
 ghost use Rattle.commands.specs.VerifyJob.{NamesVerify, accepted_line, verify_app};
 

@@ -2,7 +2,7 @@
 use Rattle.std.proofs.Common.{◌≡◌, ◌≢◌, inl, inr, ℕ, ◌+◌, ◌==◌, Bool, true, false, List, [], ◌∷◌, ◌++◌, length, cond, refl, ap, sym, ◌∙◌, subst, arith, append_assoc, length-append}
 use Rattle.std.proofs.lemmas.Bool.Decides.{nat_tests}
 use Rattle.std.proofs.lemmas.List.{append-nil}
-use Rattle.bver.specs.Justified.{Judge}
+use Rattle.bver.specs.Justified.{AcceptedValue}
 use Rattle.publish.specs.declared.history.Publish.{Publish}
 use Rattle.publish.specs.Published.{published_from}
 use Rattle.publish.specs.Laws.{AreOthers, IsLast, IsSetByNext, IsLastFor, IsBelow}
@@ -17,7 +17,7 @@ others_snoc k [] p are other = (other, tt)
 others_snoc k (q ∷ ps) p are other = (are.0, others_snoc k ps p are.1 other)
 
 -- one program more
-last_next : (pre : List Publish) (p : Publish) (k : ℕ) (best : Judge × ℕ) → IsLast pre k best.0 best.1 → (b : Bool) → (p.slot == k) ≡ b
+last_next : (pre : List Publish) (p : Publish) (k : ℕ) (best : AcceptedValue × ℕ) → IsLast pre k best.0 best.1 → (b : Bool) → (p.slot == k) ≡ b
     → IsLast (pre ++ p ∷ []) k (cond b (p.program, length pre) best).0 (cond b (p.program, length pre) best).1
 last_next pre p k best is true test = record {
   before = pre;
@@ -40,7 +40,7 @@ last_next pre p k best is false test = record {
   others = others_snoc k is.after p is.others (let other : p.slot ≢ k = grind (arith, nat_tests) in other);
 }
 
-last_from : (pre ps : List Publish) (k : ℕ) (best : Judge × ℕ) (next : ℕ) → length pre ≡ next → IsLast pre k best.0 best.1
+last_from : (pre ps : List Publish) (k : ℕ) (best : AcceptedValue × ℕ) (next : ℕ) → length pre ≡ next → IsLast pre k best.0 best.1
     → IsLast (pre ++ ps) k (published_from best next ps k).0 (published_from best next ps k).1
 last_from pre [] k best next len is = subst (λ (w : List Publish). IsLast w k best.0 best.1) (sym (append-nil pre)) is
 last_from pre (p ∷ ps) k best next len is =
@@ -56,7 +56,7 @@ last_for [] slot program generation is = absurd (cc is)
 last_for (f ∷ ps) slot program generation is =
     let same : published_from (f.program, 0) 1 ps slot ≡ (program, generation) = cc is in
     let first : IsLast (f ∷ []) slot f.program 0 = record { before = []; last = f; after = []; parts = refl; count = refl; program = refl; slot = inl refl; others = tt } in
-    subst (λ (x : Judge × ℕ). IsLast (f ∷ ps) slot x.0 x.1) same (last_from (f ∷ []) ps slot (f.program, 0) 1 refl first)
+    subst (λ (x : AcceptedValue × ℕ). IsLast (f ∷ ps) slot x.0 x.1) same (last_from (f ∷ []) ps slot (f.program, 0) 1 refl first)
 
 pub below : IsBelow
 below history slot program generation is =

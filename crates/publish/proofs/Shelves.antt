@@ -1,7 +1,7 @@
 -- What a table of programs shows.
 use mathlib.Core.List.{IsPrefix}
 use Rattle.std.proofs.Common.{◌≡◌, ℕ, zero, suc, ◌+◌, ◌<◌, ◌==◌, Bool, true, false, List, [], ◌∷◌, ◌++◌, length, Option, Some, slice_index_or, slice_set, cond, refl, ap, sym, ◌∙◌, subst, arith}
-use Rattle.bver.specs.Justified.{Judge}
+use Rattle.bver.specs.Justified.{AcceptedValue}
 use Rattle.publish.specs.declared.history.Publish.{Publish}
 use Rattle.publish.specs.declared.table.Shown.{Shown}
 use Rattle.publish.specs.Histories.{entry}
@@ -25,14 +25,14 @@ shelf_at (a ∷ b ∷ c ∷ d ∷ []) h (suc (suc (suc zero))) s few is = cc is
 shelf_at (a ∷ b ∷ c ∷ d ∷ []) h (suc (suc (suc (suc n)))) s few is = absurd (omega arith)
 
 -- one more publish
-pub from_snoc : (best : Judge × ℕ) (next : ℕ) (ps : List Publish) (slot : ℕ) (program : Judge) (k : ℕ)
+pub from_snoc : (best : AcceptedValue × ℕ) (next : ℕ) (ps : List Publish) (slot : ℕ) (program : AcceptedValue) (k : ℕ)
     → published_from best next (ps ++ entry slot program ∷ []) k ≡ cond (slot == k) (program, next + length ps) (published_from best next ps k)
 from_snoc best next [] slot program k = ap (λ n. cond (slot == k) (program, n) best) (omega arith)
 from_snoc best next (p ∷ ps) slot program k =
     from_snoc (cond (p.slot == k) (p.program, next) best) (next + 1) ps slot program k
     ∙ ap (λ n. cond (slot == k) (program, n) (published_from (cond (p.slot == k) (p.program, next) best) (next + 1) ps k)) (omega arith)
 
-pub published_snoc : (f : Publish) (ps : List Publish) (slot : ℕ) (program : Judge) (k : ℕ)
+pub published_snoc : (f : Publish) (ps : List Publish) (slot : ℕ) (program : AcceptedValue) (k : ℕ)
     → published ((f ∷ ps) ++ entry slot program ∷ []) k ≡ cond (slot == k) (Some (program, length (f ∷ ps))) (published (f ∷ ps) k)
 published_snoc f ps slot program k = pick (slot == k) (from_snoc (f.program, 0) 1 ps slot program k)
   where
@@ -42,7 +42,7 @@ published_snoc f ps slot program k = pick (slot == k) (from_snoc (f.program, 0) 
     pick false e = ap Some e
 
 -- four slots, one of which is set
-four_set : (a b c d : Shown) (a' b' c' d' : Option (Judge × ℕ)) (slot : ℕ) (s : Shown) (x : Option (Judge × ℕ)) → slot < 4 → Some (shown s) ≡ x
+four_set : (a b c d : Shown) (a' b' c' d' : Option (AcceptedValue × ℕ)) (slot : ℕ) (s : Shown) (x : Option (AcceptedValue × ℕ)) → slot < 4 → Some (shown s) ≡ x
     → all_shown (a ∷ b ∷ c ∷ d ∷ []) ≡ a' ∷ b' ∷ c' ∷ d' ∷ []
     → all_shown (slice_set (a ∷ b ∷ c ∷ d ∷ []) slot s) ≡ cond (slot == 0) x a' ∷ cond (slot == 1) x b' ∷ cond (slot == 2) x c' ∷ cond (slot == 3) x d' ∷ []
 four_set a b c d a' b' c' d' zero s x few own is = cc (own, is)
@@ -64,12 +64,12 @@ shelf_next (a ∷ b ∷ []) (f ∷ ps) slot s few is gen = absurd (cc is)
 shelf_next (a ∷ b ∷ c ∷ []) (f ∷ ps) slot s few is gen = absurd (cc is)
 shelf_next (a ∷ b ∷ c ∷ d ∷ e ∷ es) (f ∷ ps) slot s few is gen = absurd (cc is)
 shelf_next (a ∷ b ∷ c ∷ d ∷ []) (f ∷ ps) slot s few is gen =
-    let p : Judge = (shown s).0 in
+    let p : AcceptedValue = (shown s).0 in
     let q0 = published_snoc f ps slot p 0 in
     let q1 = published_snoc f ps slot p 1 in
     let q2 = published_snoc f ps slot p 2 in
     let q3 = published_snoc f ps slot p 3 in
-    let x : Option (Judge × ℕ) = Some (p, length (f ∷ ps)) in
+    let x : Option (AcceptedValue × ℕ) = Some (p, length (f ∷ ps)) in
     let own : Some (shown s) ≡ x = ap (λ n. Some (p, n)) gen in
     let set : all_shown (slice_set (a ∷ b ∷ c ∷ d ∷ []) slot s) ≡ cond (slot == 0) x (published (f ∷ ps) 0) ∷ cond (slot == 1) x (published (f ∷ ps) 1) ∷ cond (slot == 2) x (published (f ∷ ps) 2) ∷ cond (slot == 3) x (published (f ∷ ps) 3) ∷ []
     = four_set a b c d (published (f ∷ ps) 0) (published (f ∷ ps) 1) (published (f ∷ ps) 2) (published (f ∷ ps) 3) slot s x few own is in
@@ -85,7 +85,7 @@ pub for_snoc : (sizes : List ℕ) (ps : List Publish) (p : Publish) → AreFor s
 for_snoc sizes [] p are is = (is, tt)
 for_snoc sizes (q ∷ ps) p are is = (are.0, for_snoc sizes ps p are.1 is)
 
-from_for : (sizes : List ℕ) (best : Judge × ℕ) (next : ℕ) (ps : List Publish) (k : ℕ) → best.0.sizes ≡ sizes → AreFor sizes ps → (published_from best next ps k).0.sizes ≡ sizes
+from_for : (sizes : List ℕ) (best : AcceptedValue × ℕ) (next : ℕ) (ps : List Publish) (k : ℕ) → best.0.sizes ≡ sizes → AreFor sizes ps → (published_from best next ps k).0.sizes ≡ sizes
 from_for sizes best next [] k is are = is
 from_for sizes best next (p ∷ ps) k is are = from_for sizes (cond (p.slot == k) (p.program, next) best) (next + 1) ps k (pick (p.slot == k)) are.1
   where
@@ -93,11 +93,11 @@ from_for sizes best next (p ∷ ps) k is are = from_for sizes (cond (p.slot == k
     pick true = are.0
     pick false = is
 
-pub published_for : (h : List Publish) (k : ℕ) (x : Judge × ℕ) → AreFor (sizes_of h) h → published h k ≡ Some x → x.0.sizes ≡ sizes_of h
+pub published_for : (h : List Publish) (k : ℕ) (x : AcceptedValue × ℕ) → AreFor (sizes_of h) h → published h k ≡ Some x → x.0.sizes ≡ sizes_of h
 published_for [] k x are is = absurd (cc is)
 published_for (f ∷ ps) k x are is =
     let same : published_from (f.program, 0) 1 ps k ≡ x = cc is in
-    subst (λ (y : Judge × ℕ). y.0.sizes ≡ f.program.sizes) same (from_for f.program.sizes (f.program, 0) 1 ps k refl are.1)
+    subst (λ (y : AcceptedValue × ℕ). y.0.sizes ≡ f.program.sizes) same (from_for f.program.sizes (f.program, 0) 1 ps k refl are.1)
 
 -- ---- the table
 

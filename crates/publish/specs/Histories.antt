@@ -1,7 +1,7 @@
 -- The rule of the history of programs, and what its steps tell.
 use Rattle.std.specs.Prelude.{ℕ, ◌≡◌, ◌==◌, true, List, [], ◌∷◌, ◌++◌, length, MatchBool}
 use Rattle.logbook.specs.Pages.{Cell, Step, View, Book, Named}
-use Rattle.bver.specs.Justified.{Judge}
+use Rattle.bver.specs.Justified.{AcceptedValue}
 use Rattle.publish.specs.declared.history.Publish.{Publish}
 
 -- the first word is the length of the history; the second is not used
@@ -13,11 +13,11 @@ abbrev pub head_of : Book → Named
 head_of b = record { tracked = true; key = 0; book = b }
 
 -- that program, published for that slot
-abbrev pub entry : ℕ → Judge → Publish
+abbrev pub entry : ℕ → AcceptedValue → Publish
 entry slot program = record { slot = slot; program = program }
 
 -- the history with one publish more
-abbrev pub extended : List Publish → ℕ → Judge → List Publish
+abbrev pub extended : List Publish → ℕ → AcceptedValue → List Publish
 extended history slot program = history ++ entry slot program ∷ []
 
 -- the program was added to all that had been seen; or the history was longer

@@ -1,13 +1,13 @@
 -- Laws of published programs.
 use Rattle.std.specs.Prelude.{◌≡◌, ◌≢◌, ◌<◌, ◌⊎◌, ℕ, ◌==◌, List, [], ◌∷◌, ◌++◌, length, Some, cond}
-use Rattle.bver.specs.Justified.{Judge}
+use Rattle.bver.specs.Justified.{AcceptedValue}
 use Rattle.publish.specs.declared.history.Publish.{Publish}
 use Rattle.publish.specs.Histories.{extended}
 use Rattle.publish.specs.Published.{published}
 
 -- one publish more sets its own slot, with its place for a generation, and leaves the others
 abbrev pub IsSetByNext : Type 0
-IsSetByNext = (history : List Publish) (slot : ℕ) (program : Judge) (k : ℕ) → 0 < length history
+IsSetByNext = (history : List Publish) (slot : ℕ) (program : AcceptedValue) (k : ℕ) → 0 < length history
     → published (extended history slot program) k ≡ cond (slot == k) (Some (program, length history)) (published history k)
 
 -- none of these was published for the slot
@@ -16,7 +16,7 @@ AreOthers k [] = Unit {0}
 AreOthers k (p ∷ ps) = (p.slot ≢ k) × AreOthers k ps
 
 -- the history has that program at that place, the factory's or one for the slot, and behind it none for the slot
-pub record IsLast (history : List Publish) (k : ℕ) (judge : Judge) (place : ℕ) : Type 0 where
+pub record IsLast (history : List Publish) (k : ℕ) (judge : AcceptedValue) (place : ℕ) : Type 0 where
   pub before : List Publish
   pub last : Publish
   pub after : List Publish
@@ -28,8 +28,8 @@ pub record IsLast (history : List Publish) (k : ℕ) (judge : Judge) (place : �
 
 -- what is published for a slot is the last of it
 abbrev pub IsLastFor : Type 0
-IsLastFor = (history : List Publish) (slot : ℕ) (program : Judge) (generation : ℕ) → published history slot ≡ Some (program, generation) → IsLast history slot program generation
+IsLastFor = (history : List Publish) (slot : ℕ) (program : AcceptedValue) (generation : ℕ) → published history slot ≡ Some (program, generation) → IsLast history slot program generation
 
 -- its generation is a place in the history
 abbrev pub IsBelow : Type 0
-IsBelow = (history : List Publish) (slot : ℕ) (program : Judge) (generation : ℕ) → published history slot ≡ Some (program, generation) → generation < length history
+IsBelow = (history : List Publish) (slot : ℕ) (program : AcceptedValue) (generation : ℕ) → published history slot ≡ Some (program, generation) → generation < length history

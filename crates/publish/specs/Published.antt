@@ -1,23 +1,23 @@
 -- Which program judges.
 use Rattle.std.specs.Prelude.{ℕ, ◌≡◌, ◌==◌, ◌+◌, List, [], ◌∷◌, Option, Some, None, cond}
 use Rattle.core.specs.Option.{option_map}
-use Rattle.bver.specs.Justified.{Judge}
+use Rattle.bver.specs.Justified.{AcceptedValue}
 use Rattle.publish.specs.declared.history.Publish.{Publish}
 
 -- the last program for a slot, with its generation, where `best` judged before these and `next` is the
 -- generation of the first of them
-abbrev pub published_from : Judge × ℕ → ℕ → List Publish → ℕ → Judge × ℕ
+abbrev pub published_from : AcceptedValue × ℕ → ℕ → List Publish → ℕ → AcceptedValue × ℕ
 published_from best next [] slot = best
 published_from best next (p ∷ ps) slot = published_from (cond (p.slot == slot) (p.program, next) best) (next + 1) ps slot
 
 -- the program that judges at a slot, with its generation: the last that was published for it, else the
 -- factory program, with which each history begins, and 0
-abbrev pub published : List Publish → ℕ → Option (Judge × ℕ)
+abbrev pub published : List Publish → ℕ → Option (AcceptedValue × ℕ)
 published [] slot = None
 published (f ∷ ps) slot = Some (published_from (f.program, 0) 1 ps slot)
 
 -- the program that judges at a slot
-abbrev pub program_at : List Publish → ℕ → Option Judge
+abbrev pub program_at : List Publish → ℕ → Option AcceptedValue
 program_at history slot = option_map (λ p. p.0) (published history slot)
 
 -- the generation of the program that judges at a slot

@@ -7,14 +7,14 @@ use Rattle.std.proofs.lemmas.Bool.{ne_eqb}
 use Rattle.std.specs.Prelude.{not, if◌then◌else◌}
 use Rattle.rcrc.specs.Crc.{crc_of}
 use Rattle.rcrc.specs.Polynomial.{IsRemainder}
-use Rattle.rmap.specs.Command.{Parts, IsHeader, IsCommand, bytes_of, header_of, header_crc_of, discard_of}
+use Rattle.rmap.specs.Command.{CommandValue, IsHeader, IsCommand, bytes_of, header_of, header_crc_of, discard_of}
 use Rattle.rmap.specs.Laws.{IsReadAs}
 use Rattle.spw.specs.declared.packets.End.{End}
 use Rattle.rmap.specs.declared.discard.Discard.{Discard}
 use Rattle.rmap.specs.declared.discard.Discard.TheVariants.{Short, Protocol, Reply, HeaderCrc}
 
 -- the parts are cut where a reply address of n bytes puts them
-pub record IsCut (bytes : List ℕ) (n : ℕ) (c : Parts) : Type 0 where
+pub record IsCut (bytes : List ℕ) (n : ℕ) (c : CommandValue) : Type 0 where
   pub front : c.front ≡ take 4 bytes
   pub path : c.path ≡ take n (drop 4 bytes)
   pub tail : c.tail ≡ take 12 (drop n (drop 4 bytes))
@@ -22,7 +22,7 @@ pub record IsCut (bytes : List ℕ) (n : ℕ) (c : Parts) : Type 0 where
   pub long : 16 + n ≤ length bytes
 
 -- joined again they are the bytes
-bytes_of-cut : (bytes : List ℕ) (n : ℕ) (c : Parts) → IsCut bytes n c → bytes ≡ bytes_of c
+bytes_of-cut : (bytes : List ℕ) (n : ℕ) (c : CommandValue) → IsCut bytes n c → bytes ≡ bytes_of c
 bytes_of-cut bytes n c h =
     let rest : drop n (drop 4 bytes) ≡ drop (4 + n) bytes = drop-drop n 4 bytes in
     let front : c.front ++ c.path ≡ take (4 + n) bytes = rw (h.front, h.path) (sym (take-add 4 n bytes)) in
@@ -31,7 +31,7 @@ bytes_of-cut bytes n c h =
     sym (rw (header, body) (take-append-drop (4 + n + 12) bytes))
 
 -- the header without its CRC
-pub header_of-cut : (bytes : List ℕ) (n : ℕ) (c : Parts) → IsCut bytes n c → header_of c ≡ take (15 + n) bytes
+pub header_of-cut : (bytes : List ℕ) (n : ℕ) (c : CommandValue) → IsCut bytes n c → header_of c ≡ take (15 + n) bytes
 header_of-cut bytes n c h =
     let rest : drop n (drop 4 bytes) ≡ drop (4 + n) bytes = drop-drop n 4 bytes in
     let front : c.front ++ c.path ≡ take (4 + n) bytes = rw (h.front, h.path) (sym (take-add 4 n bytes)) in
@@ -40,22 +40,22 @@ header_of-cut bytes n c h =
     rw (front, tail, count) (sym (take-add (4 + n) 11 bytes))
 
 -- the byte of the header CRC
-pub header_crc_of-cut : (bytes : List ℕ) (n : ℕ) (c : Parts) → IsCut bytes n c → header_crc_of c ≡ get_or bytes (15 + n) 0
+pub header_crc_of-cut : (bytes : List ℕ) (n : ℕ) (c : CommandValue) → IsCut bytes n c → header_crc_of c ≡ get_or bytes (15 + n) 0
 header_crc_of-cut bytes n c h =
     let rest : drop n (drop 4 bytes) ≡ drop (4 + n) bytes = drop-drop n 4 bytes in
     let count : 15 + n ≡ 4 + n + 11 = omega arith in
     rw (h.tail, rest, count) (get_or-take 12 (drop (4 + n) bytes) 11 0 (omega arith) ∙ get_or-drop (4 + n) bytes 11 0)
 
 -- the header CRC is the remainder of the header
-pub right_crc : (bytes : List ℕ) (n : ℕ) (c : Parts) → IsCut bytes n c → (crc : ℕ) → IsRemainder (take (15 + n) bytes) crc → header_crc_of c ≡ crc → IsRemainder (header_of c) (header_crc_of c)
+pub right_crc : (bytes : List ℕ) (n : ℕ) (c : CommandValue) → IsCut bytes n c → (crc : ℕ) → IsRemainder (take (15 + n) bytes) crc → header_crc_of c ≡ crc → IsRemainder (header_of c) (header_crc_of c)
 right_crc bytes n c cut crc h same = rw (same, header_of-cut bytes n c cut) h
 
 -- the parts are the command that the bytes are
-pub is_command : (bytes : List ℕ) (n : ℕ) (c : Parts) → IsCut bytes n c → IsHeader c → IsCommand bytes c
+pub is_command : (bytes : List ℕ) (n : ℕ) (c : CommandValue) → IsCut bytes n c → IsHeader c → IsCommand bytes c
 is_command bytes n c cut header = record { header = header; parts = bytes_of-cut bytes n c cut }
 
 -- a wrong header CRC is the last reason to discard
-pub discard_of-crc : (bytes : List ℕ) (n : ℕ) (c : Parts) → IsCut bytes n c → n ≡ 4 * (get_or bytes 2 0 % 4) → get_or bytes 1 0 ≡ 1 → (get_or bytes 2 0 / 64 ≡ 0 → ⊥) → (header_crc_of c ≡ crc_of (take (15 + n) bytes) → ⊥) → discard_of bytes ≡ Some HeaderCrc
+pub discard_of-crc : (bytes : List ℕ) (n : ℕ) (c : CommandValue) → IsCut bytes n c → n ≡ 4 * (get_or bytes 2 0 % 4) → get_or bytes 1 0 ≡ 1 → (get_or bytes 2 0 / 64 ≡ 0 → ⊥) → (header_crc_of c ≡ crc_of (take (15 + n) bytes) → ⊥) → discard_of bytes ≡ Some HeaderCrc
 discard_of-crc bytes n c cut count protocol type wrong =
     let long : 16 + n ≤ length bytes = cut.long in
     let place : 16 + 4 * (get_or bytes 2 0 % 4) - 1 ≡ 15 + n = omega arith in
@@ -67,7 +67,7 @@ discard_of-crc bytes n c cut count protocol type wrong =
     rw (short, is_rmap, no_reply, whole, place, differs) refl
 
 -- the parts are a header
-pub is_header : (bytes : List ℕ) (n : ℕ) (c : Parts) → IsCut bytes n c → n ≡ 4 * (get_or bytes 2 0 % 4) → get_or bytes 1 0 ≡ 1 → (get_or bytes 2 0 / 64 ≡ 0 → ⊥) → header_crc_of c ≡ crc_of (take (15 + n) bytes) → IsHeader c
+pub is_header : (bytes : List ℕ) (n : ℕ) (c : CommandValue) → IsCut bytes n c → n ≡ 4 * (get_or bytes 2 0 % 4) → get_or bytes 1 0 ≡ 1 → (get_or bytes 2 0 / 64 ≡ 0 → ⊥) → header_crc_of c ≡ crc_of (take (15 + n) bytes) → IsHeader c
 is_header bytes n c cut count protocol type crc =
     let long : 16 + n ≤ length bytes = cut.long in
     let second : get_or c.front 1 0 ≡ get_or bytes 1 0 = rw (cut.front) (get_or-take 4 bytes 1 0 (omega arith)) in
@@ -85,7 +85,7 @@ is_header bytes n c cut count protocol type crc =
     }
 
 -- a command is cut from the front of its bytes
-pub cut_of : (bytes : List ℕ) (c : Parts) → IsCommand bytes c → IsCut bytes (length c.path) c
+pub cut_of : (bytes : List ℕ) (c : CommandValue) → IsCommand bytes c → IsCut bytes (length c.path) c
 cut_of bytes c h =
     let whole : bytes ≡ c.front ++ (c.path ++ (c.tail ++ c.body)) = h.parts ∙ append_assoc (c.front ++ c.path) c.tail c.body ∙ append_assoc c.front c.path (c.tail ++ c.body) in
     let behind_front : drop 4 bytes ≡ c.path ++ (c.tail ++ c.body) = rw whole (drop_at c.front (c.path ++ (c.tail ++ c.body)) 4 h.header.front) in
@@ -101,7 +101,7 @@ cut_of bytes c h =
     }
 
 -- a command is not discarded
-pub not_discarded : (bytes : List ℕ) (c : Parts) → IsCommand bytes c → discard_of bytes ≡ None
+pub not_discarded : (bytes : List ℕ) (c : CommandValue) → IsCommand bytes c → discard_of bytes ≡ None
 not_discarded bytes c h =
     let n = length c.path in
     let cut : IsCut bytes n c = cut_of bytes c h in
@@ -121,9 +121,9 @@ not_discarded bytes c h =
     rw (short, is_rmap, no_reply, whole, place, right) refl
 
 -- commands with the same parts are the same
-pub same_parts : (c d : Parts) → c.front ≡ d.front → c.path ≡ d.path → c.tail ≡ d.tail → c.body ≡ d.body → c.end ≡ d.end → c ≡ d
+pub same_parts : (c d : CommandValue) → c.front ≡ d.front → c.path ≡ d.path → c.tail ≡ d.tail → c.body ≡ d.body → c.end ≡ d.end → c ≡ d
 same_parts c d front path tail body end =
-    let parts : List ℕ → List ℕ → List ℕ → List ℕ → End → Parts = λ f p t b e. record { front = f; path = p; tail = t; body = b; end = e } in
+    let parts : List ℕ → List ℕ → List ℕ → List ℕ → End → CommandValue = λ f p t b e. record { front = f; path = p; tail = t; body = b; end = e } in
     ap (λ (f : List ℕ). parts f c.path c.tail c.body c.end) front
     ∙ ap (λ (p : List ℕ). parts d.front p c.tail c.body c.end) path
     ∙ ap (λ (t : List ℕ). parts d.front d.path t c.body c.end) tail
@@ -131,7 +131,7 @@ same_parts c d front path tail body end =
     ∙ ap (λ (e : End). parts d.front d.path d.tail d.body e) end
 
 -- bytes and an end marker are at most one command
-pub only_command : (bytes : List ℕ) (c d : Parts) → IsCommand bytes c → IsCommand bytes d → c.end ≡ d.end → c ≡ d
+pub only_command : (bytes : List ℕ) (c d : CommandValue) → IsCommand bytes c → IsCommand bytes d → c.end ≡ d.end → c ≡ d
 only_command bytes c d h k end =
     let cut : IsCut bytes (length c.path) c = cut_of bytes c h in
     let cut' : IsCut bytes (length d.path) d = cut_of bytes d k in
@@ -143,7 +143,7 @@ only_command bytes c d h k end =
     same_parts c d front path tail body end
 
 -- where bytes are discarded, no command stands to them
-pub refused : (bytes : List ℕ) (d : Discard) → discard_of bytes ≡ Some d → (c : Parts) → IsCommand bytes c → ⊥
+pub refused : (bytes : List ℕ) (d : Discard) → discard_of bytes ≡ Some d → (c : CommandValue) → IsCommand bytes c → ⊥
 refused bytes d h c command = let e : None ≡ Some d = sym (not_discarded bytes c command) ∙ h in cc
 
 -- the tests of a discard where none holds
@@ -171,7 +171,7 @@ read_as bytes end h =
     let protocol : get_or bytes 1 0 ≡ 1 = grind (arith, nat_tests, tests.rmap) in
     let type : get_or bytes 2 0 / 64 ≡ 0 → ⊥ = grind (arith, nat_tests, tests.command) in
     let place : 16 + n - 1 ≡ 15 + n = omega arith in
-    let parts : Parts = record { front = take 4 bytes; path = take n (drop 4 bytes); tail = take 12 (drop n (drop 4 bytes)); body = drop 12 (drop n (drop 4 bytes)); end = end } in
+    let parts : CommandValue = record { front = take 4 bytes; path = take n (drop 4 bytes); tail = take 12 (drop n (drop 4 bytes)); body = drop 12 (drop n (drop 4 bytes)); end = end } in
     let cut : IsCut bytes n parts = record { front = refl; path = refl; tail = refl; body = refl; long = long } in
     let crc : get_or bytes (15 + n) 0 ≡ crc_of (take (15 + n) bytes) = rw (← place) (grind (arith, nat_tests, tests.right)) in
     record {

@@ -3,7 +3,7 @@ use Rattle.std.proofs.Common.{◌≡◌, ℕ, ◌+◌, ◌*◌, ◌/◌, ◌%◌
 use Rattle.std.proofs.lemmas.List.{get_or_append_left, get_or-append-add}
 use Rattle.std.specs.Prelude.{All}
 use Rattle.byteorder.specs.Endian.{big_bytes, big_number}
-use Rattle.rmap.specs.Command.{Parts, IsCommand, front_fields, tail_fields}
+use Rattle.rmap.specs.Command.{CommandValue, IsCommand, front_fields, tail_fields}
 
 abbrev IsByte : ℕ → Type 0
 IsByte b = b < 256
@@ -70,7 +70,7 @@ of_twelve (x0 ∷ x1 ∷ x2 ∷ x3 ∷ x4 ∷ x5 ∷ x6 ∷ x7 ∷ x8 ∷ x9 ∷
 of_twelve (x0 ∷ x1 ∷ x2 ∷ x3 ∷ x4 ∷ x5 ∷ x6 ∷ x7 ∷ x8 ∷ x9 ∷ x10 ∷ []) h b = let no : ⊥ = omega arith in absurd no
 
 -- the bytes of a command are its fields
-pub laid_out : (bytes : List ℕ) (c : Parts) → IsCommand bytes c → All (λ b. b < 256) bytes → bytes ≡ front_fields c ++ c.path ++ tail_fields c ++ c.body
+pub laid_out : (bytes : List ℕ) (c : CommandValue) → IsCommand bytes c → All (λ b. b < 256) bytes → bytes ≡ front_fields c ++ c.path ++ tail_fields c ++ c.body
 laid_out bytes c h small =
     let parts : All IsByte (c.front ++ c.path ++ c.tail ++ c.body) = rw (← h.parts) small in
     let tail_bytes : All IsByte c.tail = all_right (c.front ++ c.path) c.tail (all_left (c.front ++ c.path ++ c.tail) c.body parts) in

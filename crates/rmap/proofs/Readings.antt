@@ -2,11 +2,11 @@
 use Rattle.std.proofs.Common.{◌≡◌, ℕ, ◌+◌, ◌++◌, List, length, get_or, take, drop, None, refl, sym, ap, ◌∙◌, arith, append_assoc}
 use Rattle.std.proofs.lemmas.List.{drop-drop, take_at, drop_at, get_or_append_left}
 use Rattle.spw.specs.Cargo.{Cargo}
-use Rattle.rmap.specs.Command.{Parts, IsCommand, IsHeader, discard_of, path_length, command_of}
+use Rattle.rmap.specs.Command.{CommandValue, IsCommand, IsHeader, discard_of, path_length, command_of}
 use Rattle.rmap.proofs.Cuts.{IsCut, read_as, same_parts}
 
 -- the third byte is that of the front
-path_length-of : (bytes : List ℕ) (c : Parts) → IsCommand bytes c → path_length bytes ≡ length c.path
+path_length-of : (bytes : List ℕ) (c : CommandValue) → IsCommand bytes c → path_length bytes ≡ length c.path
 path_length-of bytes c h =
     let front : length c.front ≡ 4 = h.header.front in
     let third : get_or bytes 2 0 ≡ get_or c.front 2 0 =
@@ -14,15 +14,15 @@ path_length-of bytes c h =
     rw third (sym h.header.path)
 
 -- what follows the front
-after_front : (bytes : List ℕ) (c : Parts) → IsCommand bytes c → drop 4 bytes ≡ c.path ++ (c.tail ++ c.body)
+after_front : (bytes : List ℕ) (c : CommandValue) → IsCommand bytes c → drop 4 bytes ≡ c.path ++ (c.tail ++ c.body)
 after_front bytes c h = rw (h.parts, append_assoc, append_assoc) (drop_at c.front _ 4 h.header.front)
 
 -- what follows the reply address
-after_path : (bytes : List ℕ) (c : Parts) (n : ℕ) → IsCommand bytes c → n ≡ length c.path → drop (4 + n) bytes ≡ c.tail ++ c.body
+after_path : (bytes : List ℕ) (c : CommandValue) (n : ℕ) → IsCommand bytes c → n ≡ length c.path → drop (4 + n) bytes ≡ c.tail ++ c.body
 after_path bytes c n h e =
     sym (drop-drop n 4 bytes) ∙ rw (after_front bytes c h) (drop_at c.path _ n (sym e))
 
-pub command_of-is : (p : Cargo) (c : Parts) → IsCommand p.bytes c → c.end ≡ p.end → c ≡ command_of p
+pub command_of-is : (p : Cargo) (c : CommandValue) → IsCommand p.bytes c → c.end ≡ p.end → c ≡ command_of p
 command_of-is p c h same =
     let n = path_length p.bytes in
     let count : n ≡ length c.path = path_length-of p.bytes c h in
@@ -41,7 +41,7 @@ header_in p kept =
     rw (← command_of-is p found.parts found.command found.ended) found.command.header
 
 -- parts that are cut from a packet's bytes are those of the command there
-pub cut_is : (p : Cargo) (n : ℕ) (c : Parts) → IsCut p.bytes n c → n ≡ path_length p.bytes → c.end ≡ p.end → c ≡ command_of p
+pub cut_is : (p : Cargo) (n : ℕ) (c : CommandValue) → IsCut p.bytes n c → n ≡ path_length p.bytes → c.end ≡ p.end → c ≡ command_of p
 cut_is p n c cut count end =
     let rest : drop n (drop 4 p.bytes) ≡ drop (4 + n) p.bytes = drop-drop n 4 p.bytes in
     let place : 4 + n + 12 ≡ 16 + n = omega arith in

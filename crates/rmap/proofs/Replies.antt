@@ -6,7 +6,7 @@ use Rattle.rcrc.specs.Crc.{crc_of}
 use Rattle.rcrc.specs.Polynomial.{IsRemainder}
 use Rattle.rmap.specs.declared.status.Status.{Status}
 use Rattle.rmap.specs.Codes.{status_code}
-use Rattle.rmap.specs.Command.{Parts, IsHeader, target_of, instruction_of, initiator_of, writes, wants_reply, transaction_of}
+use Rattle.rmap.specs.Command.{CommandValue, IsHeader, target_of, instruction_of, initiator_of, writes, wants_reply, transaction_of}
 use Rattle.rmap.specs.Reply.{HasRemainders, without_leading_zeros, path_or_zero, reply_path_of, reply_header, reply_body, reply_of, with_crc, read_fields, reply_instruction}
 
 length-without_leading_zeros : (address : List ℕ) → length (without_leading_zeros address) ≤ length address
@@ -31,7 +31,7 @@ length-joined : (path header body : List ℕ) (crc : ℕ) → length (path ++ (h
 length-joined path header body crc = omega (arith, length-append (path ++ (header ++ crc ∷ [])) body, length-append path (header ++ crc ∷ []), length-append header (crc ∷ []))
 
 -- the longest reply has 4,121 bytes
-pub length-reply_of : (c : Parts) (status : Status) (bytes : List ℕ) → IsHeader c → length bytes ≤ 4096 → length (reply_of c status bytes) ≤ 4121
+pub length-reply_of : (c : CommandValue) (status : Status) (bytes : List ℕ) → IsHeader c → length bytes ≤ 4096 → length (reply_of c status bytes) ≤ 4121
 length-reply_of c status bytes h few =
     let words : instruction_of c % 4 ≤ 3 = omega arith in
     let path : length (reply_path_of c.path) ≤ 12 = omega (arith, length-reply_path_of c.path, h.path) in
@@ -42,7 +42,7 @@ length-reply_of c status bytes h few =
     elim (wants_reply c) as (λ b. length (cond b (reply_path_of c.path ++ with_crc (reply_header c status bytes) ++ reply_body c bytes) []) ≤ 4121) [ true ↦ whole | false ↦ omega arith ]
 
 -- the CRCs of a reply are remainders where those of its header and of its data are
-pub has_remainders : (c : Parts) (status : Status) (bytes reply : List ℕ) → wants_reply c ≡ true → reply ≡ reply_of c status bytes → IsRemainder (reply_header c status bytes) (crc_of (reply_header c status bytes)) → (writes c ≡ false → IsRemainder bytes (crc_of bytes)) → HasRemainders c bytes reply
+pub has_remainders : (c : CommandValue) (status : Status) (bytes reply : List ℕ) → wants_reply c ≡ true → reply ≡ reply_of c status bytes → IsRemainder (reply_header c status bytes) (crc_of (reply_header c status bytes)) → (writes c ≡ false → IsRemainder bytes (crc_of bytes)) → HasRemainders c bytes reply
 has_remainders c status bytes reply wanted is header read = record {
   header = reply_header c status bytes;
   header_crc = crc_of (reply_header c status bytes);

@@ -10,8 +10,8 @@ use Rattle.rmap.specs.declared.kind.Kind.TheVariants.{Read, Write, Rmw, Unused}
 use Rattle.rmap.specs.declared.status.Status.{Status}
 use Rattle.rmap.specs.declared.status.Status.TheVariants.{UnusedCode, InvalidDataCrc, EarlyEndOfPacket, TooMuchData, ErrorEndOfPacket, VerifyBufferOverrun, NotAuthorised, RmwDataLength, InvalidLogicalAddress}
 use Rattle.rmap.specs.Instruction.{is_used, carries_data}
-use Rattle.rmap.specs.Command.{Parts, target_of, length_of, command_kind, verifies}
-use Rattle.rmap.specs.Ranges.{Ranges, place_of}
+use Rattle.rmap.specs.Command.{CommandValue, target_of, length_of, command_kind, verifies}
+use Rattle.rmap.specs.Windows.{WindowsValue, place_of}
 
 -- whether data and mask have the same length, of at most four bytes (ECSS-E-ST-50-52C,
 -- read-modify-write command format, data length field)
@@ -27,7 +27,7 @@ has_wrong_rmw_length Unused n = false
 
 -- the first fault of the header; the verify buffer has 1,024 bytes, and a command at most 4,096
 -- bytes of data
-abbrev pub header_line : Parts → Ranges → Option Status
+abbrev pub header_line : CommandValue → WindowsValue → Option Status
 header_line c w =
     if not (is_used (command_kind c)) then Some UnusedCode
     else if not (target_of c == w.node_address) then Some InvalidLogicalAddress
@@ -37,20 +37,20 @@ header_line c w =
     else None
 
 -- how many bytes should follow the header: data and data CRC, or none
-abbrev pub wanted : Parts → ℕ
+abbrev pub wanted : CommandValue → ℕ
 wanted c = if carries_data (command_kind c) then length_of c + 1 else 0
 
 -- the data of a body, which the data CRC follows
-abbrev pub data_of : Parts → List ℕ
+abbrev pub data_of : CommandValue → List ℕ
 data_of c = take (length_of c) c.body
 
 -- whether the byte behind the data is not their CRC (ECSS-E-ST-50-52C, data CRC field)
-abbrev pub has_wrong_data_crc : Parts → Bool
+abbrev pub has_wrong_data_crc : CommandValue → Bool
 has_wrong_data_crc c =
     carries_data (command_kind c) && not (slice_index c.body (length_of c) == crc_of (data_of c))
 
 -- the first fault of the body, by how the packet ended
-abbrev pub body_line_at : End → Parts → Option Status
+abbrev pub body_line_at : End → CommandValue → Option Status
 body_line_at Eep c = Some ErrorEndOfPacket
 body_line_at Eop c =
     if nat_lt (length c.body) (wanted c) then Some EarlyEndOfPacket
@@ -59,5 +59,5 @@ body_line_at Eop c =
     else None
 
 -- the first fault of the body
-abbrev pub body_line : Parts → Option Status
+abbrev pub body_line : CommandValue → Option Status
 body_line c = body_line_at c.end c

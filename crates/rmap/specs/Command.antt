@@ -11,7 +11,7 @@ use Rattle.rmap.specs.declared.discard.Discard.TheVariants.{Short, Protocol, Rep
 use Rattle.rmap.specs.Instruction.{packet_type, kind_of, has_write_bit, has_verify_bit, has_reply_bit, has_increment_bit, reply_address_length}
 
 -- the parts of a command in the order of its bytes, and how its packet ended
-pub record Parts : Type 0 where
+pub record CommandValue : Type 0 where
   -- target logical address, protocol identifier, instruction, key
   pub front : List ℕ
   -- the reply address
@@ -23,75 +23,75 @@ pub record Parts : Type 0 where
   pub end : End
 
 -- the target logical address field, byte 0
-abbrev pub target_of : Parts → ℕ
+abbrev pub target_of : CommandValue → ℕ
 target_of c = slice_index c.front 0
 
 -- the protocol identifier field, byte 1
-abbrev pub protocol_of : Parts → ℕ
+abbrev pub protocol_of : CommandValue → ℕ
 protocol_of c = slice_index c.front 1
 
 -- the instruction field, byte 2
-abbrev pub instruction_of : Parts → ℕ
+abbrev pub instruction_of : CommandValue → ℕ
 instruction_of c = slice_index c.front 2
 
 -- the key field, byte 3
-abbrev pub key_of : Parts → ℕ
+abbrev pub key_of : CommandValue → ℕ
 key_of c = slice_index c.front 3
 
 -- the initiator logical address field, the first byte behind the reply address
-abbrev pub initiator_of : Parts → ℕ
+abbrev pub initiator_of : CommandValue → ℕ
 initiator_of c = slice_index c.tail 0
 
 -- the transaction identifier field, two bytes
-abbrev pub transaction_of : Parts → ℕ
+abbrev pub transaction_of : CommandValue → ℕ
 transaction_of c = big_number 2 (drop 1 c.tail)
 
 -- the extended address field, one byte
-abbrev pub extended_of : Parts → ℕ
+abbrev pub extended_of : CommandValue → ℕ
 extended_of c = slice_index c.tail 3
 
 -- the address field, four bytes
-abbrev pub address_of : Parts → ℕ
+abbrev pub address_of : CommandValue → ℕ
 address_of c = big_number 4 (drop 4 c.tail)
 
 -- the data length field, three bytes
-abbrev pub length_of : Parts → ℕ
+abbrev pub length_of : CommandValue → ℕ
 length_of c = big_number 3 (drop 8 c.tail)
 
 -- the header CRC field, the last byte of the header
-abbrev pub header_crc_of : Parts → ℕ
+abbrev pub header_crc_of : CommandValue → ℕ
 header_crc_of c = slice_index c.tail 11
 
 -- what the command asks for
-abbrev pub command_kind : Parts → Kind
+abbrev pub command_kind : CommandValue → Kind
 command_kind c = kind_of (instruction_of c)
 
 -- whether the instruction has the write bit
-abbrev pub writes : Parts → Bool
+abbrev pub writes : CommandValue → Bool
 writes c = has_write_bit (instruction_of c)
 
 -- whether the instruction has the verify bit
-abbrev pub verifies : Parts → Bool
+abbrev pub verifies : CommandValue → Bool
 verifies c = has_verify_bit (instruction_of c)
 
 -- whether the instruction has the reply bit
-abbrev pub wants_reply : Parts → Bool
+abbrev pub wants_reply : CommandValue → Bool
 wants_reply c = has_reply_bit (instruction_of c)
 
 -- whether the instruction has the increment bit
-abbrev pub increments : Parts → Bool
+abbrev pub increments : CommandValue → Bool
 increments c = has_increment_bit (instruction_of c)
 
 -- the bytes of the command
-abbrev pub bytes_of : Parts → List ℕ
+abbrev pub bytes_of : CommandValue → List ℕ
 bytes_of c = c.front ++ c.path ++ c.tail ++ c.body
 
 -- the header without its CRC
-abbrev pub header_of : Parts → List ℕ
+abbrev pub header_of : CommandValue → List ℕ
 header_of c = c.front ++ c.path ++ take 11 c.tail
 
 -- a header of RMAP: each part has its length, the protocol is 1, it is no reply, and its CRC is right
-pub record IsHeader (c : Parts) : Type 0 where
+pub record IsHeader (c : CommandValue) : Type 0 where
   pub front : length c.front ≡ 4
   pub path : length c.path ≡ reply_address_length (instruction_of c)
   pub tail : length c.tail ≡ 12
@@ -100,7 +100,7 @@ pub record IsHeader (c : Parts) : Type 0 where
   pub crc : header_crc_of c ≡ crc_of (header_of c)
 
 -- the bytes are the command: its header, then any body
-pub record IsCommand (bytes : List ℕ) (c : Parts) : Type 0 where
+pub record IsCommand (bytes : List ℕ) (c : CommandValue) : Type 0 where
   pub header : IsHeader c
   pub parts : bytes ≡ bytes_of c
 
@@ -124,11 +124,11 @@ discard_of bytes =
     else None
 
 -- the four fields in front of the reply address
-abbrev pub front_fields : Parts → List ℕ
+abbrev pub front_fields : CommandValue → List ℕ
 front_fields c = target_of c ∷ protocol_of c ∷ instruction_of c ∷ key_of c ∷ []
 
 -- the fields behind the reply address, each with its most significant byte first
-abbrev pub tail_fields : Parts → List ℕ
+abbrev pub tail_fields : CommandValue → List ℕ
 tail_fields c =
     initiator_of c ∷ [] ++ big_bytes 2 (transaction_of c) ++ extended_of c ∷ []
     ++ big_bytes 4 (address_of c) ++ big_bytes 3 (length_of c) ++ header_crc_of c ∷ []
@@ -138,7 +138,7 @@ abbrev pub path_length : List ℕ → ℕ
 path_length bytes = reply_address_length (slice_index bytes 2)
 
 -- the bytes of a packet, cut into the parts of a command
-abbrev pub command_of : Cargo → Parts
+abbrev pub command_of : Cargo → CommandValue
 command_of p = record {
   front = take 4 p.bytes;
   path = take (path_length p.bytes) (drop 4 p.bytes);

@@ -1,7 +1,7 @@
 pub mod Codes
 pub mod Instruction
 pub mod Command
-pub mod Ranges
+pub mod Windows
 pub mod Checks
 pub mod Reply
 pub mod Laws

@@ -6,7 +6,7 @@ use Rattle.rcrc.specs.Crc.{crc_of}
 use Rattle.rcrc.specs.Polynomial.{IsRemainder}
 use Rattle.rmap.specs.declared.status.Status.{Status}
 use Rattle.rmap.specs.Codes.{status_code}
-use Rattle.rmap.specs.Command.{Parts, target_of, instruction_of, initiator_of, transaction_of, writes, wants_reply}
+use Rattle.rmap.specs.Command.{CommandValue, target_of, instruction_of, initiator_of, transaction_of, writes, wants_reply}
 
 -- some bytes without the zeros that they begin with
 abbrev pub without_leading_zeros : List ℕ → List ℕ
@@ -29,11 +29,11 @@ abbrev pub reply_instruction : ℕ → ℕ
 reply_instruction instruction = instruction % 64
 
 -- what a read reply has beside a write reply: a zero byte and the length of its data
-abbrev pub read_fields : Parts → List ℕ → List ℕ
+abbrev pub read_fields : CommandValue → List ℕ → List ℕ
 read_fields c bytes = if writes c then [] else 0 ∷ big_bytes 3 (length bytes)
 
 -- the header of a reply without its CRC, from the initiator logical address on
-abbrev pub reply_header : Parts → Status → List ℕ → List ℕ
+abbrev pub reply_header : CommandValue → Status → List ℕ → List ℕ
 reply_header c status bytes =
     initiator_of c ∷ 1 ∷ reply_instruction (instruction_of c) ∷ status_code status ∷ target_of c ∷ []
     ++ big_bytes 2 (transaction_of c) ++ read_fields c bytes
@@ -43,18 +43,18 @@ abbrev pub with_crc : List ℕ → List ℕ
 with_crc bytes = bytes ++ crc_of bytes ∷ []
 
 -- what follows the header: data and data CRC in read form, nothing in write form
-abbrev pub reply_body : Parts → List ℕ → List ℕ
+abbrev pub reply_body : CommandValue → List ℕ → List ℕ
 reply_body c bytes = if writes c then [] else with_crc bytes
 
 -- the reply, or nothing where none is wanted
-abbrev pub reply_of : Parts → Status → List ℕ → List ℕ
+abbrev pub reply_of : CommandValue → Status → List ℕ → List ℕ
 reply_of c status bytes =
     if wants_reply c then reply_path_of c.path ++ with_crc (reply_header c status bytes) ++ reply_body c bytes
     else []
 
 -- the CRC of a reply's header is the remainder of the header, and in read form that of its data the
 -- remainder of the data (ECSS-E-ST-50-52C, header CRC field and data CRC field)
-pub record HasRemainders (c : Parts) (bytes reply : List ℕ) : Type 0 where
+pub record HasRemainders (c : CommandValue) (bytes reply : List ℕ) : Type 0 where
   pub header : List ℕ
   pub header_crc : ℕ
   pub data_crc : ℕ

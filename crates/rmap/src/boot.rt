@@ -2,7 +2,7 @@
 //! leaves what stands under an address to the target.
 
 ghost use Rattle.std.specs.Prelude.{◌≡◌};
-ghost use Rattle.rmap.specs.Ranges.{boot_place, is_register};
+ghost use Rattle.rmap.specs.Windows.{boot_place, is_register};
 
 use crate::command::Command;
 use crate::kind::Kind;

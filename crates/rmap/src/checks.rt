@@ -2,7 +2,7 @@
 
 ghost use Rattle.std.specs.Prelude.{◌≡◌, MatchResult, None, Some};
 ghost use Rattle.rmap.specs.Command.{length_of};
-ghost use Rattle.rmap.specs.Ranges.{place_of};
+ghost use Rattle.rmap.specs.Windows.{place_of};
 ghost use Rattle.rmap.specs.Checks.{header_line, body_line, wanted, has_wrong_rmw_length};
 
 use crate::boot::{BOOT_WINDOW, boot_place};

@@ -2,8 +2,8 @@
 
 ghost use Rattle.std.specs.Prelude.{◌≡◌, length, MatchResult, IfOk, None, Some};
 ghost use Rattle.rcrc.specs.Polynomial.{IsRemainder};
-ghost use Rattle.rmap.specs.Command.{Parts, IsCommand, IsHeader, discard_of, header_of, header_crc_of, target_of, instruction_of, key_of, initiator_of, transaction_of, extended_of, address_of, length_of, command_kind, writes, verifies, wants_reply, increments, header_length, command_of};
-ghost use Rattle.rmap.specs.Ranges.{lies_inside};
+ghost use Rattle.rmap.specs.Command.{CommandValue, IsCommand, IsHeader, discard_of, header_of, header_crc_of, target_of, instruction_of, key_of, initiator_of, transaction_of, extended_of, address_of, length_of, command_kind, writes, verifies, wants_reply, increments, header_length, command_of};
+ghost use Rattle.rmap.specs.Windows.{lies_inside};
 
 use crate::discard::Discard;
 use crate::field;
@@ -30,9 +30,9 @@ pub struct Command<'a> {
 
 impl<'a> Model for Command<'a> {
     ghost use Rattle.rcrc.specs.Polynomial.{IsRemainder};
-    ghost use Rattle.rmap.specs.Command.{Parts, IsHeader};
+    ghost use Rattle.rmap.specs.Command.{CommandValue, IsHeader};
 
-    ghost Value = { Parts };
+    ghost Value = { CommandValue };
 
     ghost view = { λ c. record { front = c.front.now; path = c.path.now; tail = c.tail.now; body = c.body.now; end = c.end } };
 
@@ -52,7 +52,7 @@ impl<'a> Command<'a> {
         ensures crc { IfOk result (λ c. IsRemainder (header_of c) (header_crc_of c)) }
         ensures kept { IfOk result (λ _. discard_of packet.now.bytes ≡ None) }
         ensures found { IfOk result (λ c. c ≡ command_of packet.now) }
-        ensures only { (c : Parts) → IsCommand packet.now.bytes c → c.end ≡ packet.now.end → result ≡ Ok c }
+        ensures only { (c : CommandValue) → IsCommand packet.now.bytes c → c.end ≡ packet.now.end → result ≡ Ok c }
     {
         let bytes = packet.bytes();
         let [_, protocol, instruction, ..] = bytes else {

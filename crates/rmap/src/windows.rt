@@ -18,9 +18,9 @@ pub struct Windows {
 
 impl Model for Windows {
     ghost use Rattle.std.specs.Prelude.{◌≡◌, ◌≤◌, take, length};
-    ghost use Rattle.rmap.specs.Ranges.{Ranges};
+    ghost use Rattle.rmap.specs.Windows.{WindowsValue};
 
-    ghost Value = { Ranges };
+    ghost Value = { WindowsValue };
 
     ghost view = { λ w. record { node_address = w.node_address; banks = take w.count w.banks } };
 

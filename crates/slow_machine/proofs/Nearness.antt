@@ -27,7 +27,7 @@ use Rattle.machine.specs.State.{State, register_after, register_after_call}
 use Rattle.slow_machine.specs.Effects.{perform_with, outcome_of, registers_in}
 use Rattle.slow_machine.specs.declared.effects.Effect.{Effect}
 use Rattle.machine.specs.Step.{alu, moved_by, copied_by, copied, operand, on_number, Outcome, Next, Ask, Verdict, Trap, writes, lands, branches, compares, load_value, loads, puts, stores, map_at, is_helper, asks, calls, exits, perform, finds_maps}
-use Rattle.slow_machine.specs.Standing.{IsTurn, state_with}
+use Rattle.slow_machine.specs.Machine.{IsTurn, state_with}
 use Rattle.slow_machine.specs.declared.turns.Turn.{Turn}
 use Rattle.machine.specs.Words.{holds_words}
 

@@ -20,30 +20,30 @@ use Rattle.machine.specs.State.{State, entry_state}
 use Rattle.machine.specs.Step.{Outcome, Next, Ask, Verdict, Trap, answered, writes, lands, branches, compares, puts, stores, is_helper, asks, calls, exits, perform, perform_at, insn_at, step, finds_maps, step_with}
 use Rattle.machine.specs.Runs.{Path, moves, Runs, call}
 use Rattle.machine.specs.Runs as runs
-use Rattle.slow_machine.specs.Standing.{Standing, state_of, step_of, IsTurn, IsAsk, IsSameRun}
+use Rattle.slow_machine.specs.Machine.{MachineValue, state_of, step_of, IsTurn, IsAsk, IsSameRun}
 use Rattle.slow_machine.specs.Endings.{answers_of, IsClear, Walk, WalkEnds, WalkTraps, WalkAsks}
 
 -- ---- what a turn tells of the outcome
 
-turn_moves : (o : Outcome) (s t : State) → IsTurn o turns.Moved s t → o ≡ Next t
+turn_moves : (o : Outcome) (s t : State) → IsTurn o turns.Next s t → o ≡ Next t
 turn_moves (Next u) s t h = ap Next (sym h.1)
 turn_moves (Ask helper map key on) s t h = let e = h.0 in cc
 turn_moves (Verdict verdict) s t h = let e = h.0 in cc
 turn_moves Trap s t h = let e = h.0 in cc
 
-turn_asks : (o : Outcome) (helper map key : ℕ) (s t : State) → IsTurn o (turns.Asked helper map key) s t → (on : ℕ → State) × (o ≡ Ask helper map key on) × (t ≡ s)
+turn_asks : (o : Outcome) (helper map key : ℕ) (s t : State) → IsTurn o (turns.Ask helper map key) s t → (on : ℕ → State) × (o ≡ Ask helper map key on) × (t ≡ s)
 turn_asks (Next u) helper map key s t h = let e = h.0 in absurd cc
 turn_asks (Ask helper2 map2 key2 on) helper map key s t h = let e = h.0 in (on, cc, h.1)
 turn_asks (Verdict verdict) helper map key s t h = let e = h.0 in absurd cc
 turn_asks Trap helper map key s t h = let e = h.0 in absurd cc
 
-turn_ends : (o : Outcome) (verdict : ℕ) (s t : State) → IsTurn o (turns.Ended verdict) s t → o ≡ Verdict verdict
+turn_ends : (o : Outcome) (verdict : ℕ) (s t : State) → IsTurn o (turns.Verdict verdict) s t → o ≡ Verdict verdict
 turn_ends (Next u) verdict s t h = let e = h.0 in cc
 turn_ends (Ask helper map key on) verdict s t h = let e = h.0 in cc
 turn_ends (Verdict v) verdict s t h = let e = h.0 in cc
 turn_ends Trap verdict s t h = let e = h.0 in cc
 
-turn_traps : (o : Outcome) (s t : State) → IsTurn o turns.Trapped s t → o ≡ Trap
+turn_traps : (o : Outcome) (s t : State) → IsTurn o turns.Trap s t → o ≡ Trap
 turn_traps (Next u) s t h = let e = h.0 in cc
 turn_traps (Ask helper map key on) s t h = let e = h.0 in cc
 turn_traps (Verdict verdict) s t h = let e = h.0 in cc
@@ -161,7 +161,7 @@ pub record ClearPath (program : Program) (header : Header) (sizes : List ℕ) (p
   pub clear : IsClear sizes program header port calls n last path
 
 -- after n steps, with some answers left
-pub record IsAt (program : Program) (header : Header) (sizes : List ℕ) (port : ℕ) (answers : List ℕ) (n : ℕ) (m : Standing) (left : List ℕ) : Type 0 where
+pub record IsAt (program : Program) (header : Header) (sizes : List ℕ) (port : ℕ) (answers : List ℕ) (n : ℕ) (m : MachineValue) (left : List ℕ) : Type 0 where
   pub same_program : m.program ≡ program
   pub same_header : m.header ≡ header
   pub same_sizes : m.sizes ≡ sizes
@@ -173,7 +173,7 @@ same_step : (sizes sizes' : List ℕ) (program program' : Program) (header heade
 same_step sizes sizes' program program' header header' s s' e f g h = rw (e, f, g, h) refl
 
 -- the question stands after the turn, which leaves the state
-pub still_asks : (m after : Standing) (helper map key : ℕ) → IsTurn (step_of m) (turns.Asked helper map key) (state_of m) (state_of after) → IsSameRun m after → IsAsk (step_of after)
+pub still_asks : (m after : MachineValue) (helper map key : ℕ) → IsTurn (step_of m) (turns.Ask helper map key) (state_of m) (state_of after) → IsSameRun m after → IsAsk (step_of after)
 still_asks m after helper map key turn same =
     let told = turn_asks _ helper map key _ _ turn in
     let again : step_of after ≡ Ask helper map key told.0 = same_step _ _ _ _ _ _ (state_of after) (state_of m) same.sizes same.program same.header told.2 ∙ told.1 in
@@ -181,10 +181,10 @@ still_asks m after helper map key turn same =
 
 module _ (program : Program) (header : Header) (sizes : List ℕ) (port : ℕ) (answers : List ℕ) where
   -- the next step, of the program that is run
-  here : (n : ℕ) (m : Standing) (left : List ℕ) (o : Outcome) → IsAt program header sizes port answers n m left → step_of m ≡ o → step_with sizes program header (state_of m) ≡ o
+  here : (n : ℕ) (m : MachineValue) (left : List ℕ) (o : Outcome) → IsAt program header sizes port answers n m left → step_of m ≡ o → step_with sizes program header (state_of m) ≡ o
   here n m left o at e = rw (at.same_program, at.same_header, at.same_sizes) at e
 
-  pub walk_moves : (n : ℕ) (m after : Standing) (left : List ℕ) → IsAt program header sizes port answers n m left → IsTurn (step_of m) turns.Moved (state_of m) (state_of after) → IsSameRun m after → IsAt program header sizes port answers (n + 1) after left
+  pub walk_moves : (n : ℕ) (m after : MachineValue) (left : List ℕ) → IsAt program header sizes port answers n m left → IsTurn (step_of m) turns.Next (state_of m) (state_of after) → IsSameRun m after → IsAt program header sizes port answers (n + 1) after left
   walk_moves n m after left at turn same =
       let with_sizes = here n m left (Next (state_of after)) at (turn_moves _ _ _ turn) in
       let no_trap : Next (state_of after) ≡ Trap → ⊥ = λ e. cc in
@@ -201,7 +201,7 @@ module _ (program : Program) (header : Header) (sizes : List ℕ) (port : ℕ) (
   more_given : (calls : List Call) (c : Call) (left : List ℕ) → answers ≡ answers_of calls ++ (c.answer ∷ left) → answers ≡ answers_of (calls ++ c ∷ []) ++ left
   more_given calls c left e = e ∙ sym (ap (λ xs. xs ++ left) (map-append (λ d. d.answer) calls (c ∷ [])) ∙ append_assoc (answers_of calls) (c.answer ∷ []) left)
 
-  pub walk_asks : (n : ℕ) (m asked after : Standing) (helper map key answer : ℕ) (left : List ℕ) → IsAt program header sizes port answers n m (answer ∷ left) → IsTurn (step_of m) (turns.Asked helper map key) (state_of m) (state_of asked) → IsSameRun m asked → answer < 2 ^ 64 → state_of after ≡ answered (state_of asked) answer → IsSameRun asked after → IsAt program header sizes port answers (n + 1) after left
+  pub walk_asks : (n : ℕ) (m asked after : MachineValue) (helper map key answer : ℕ) (left : List ℕ) → IsAt program header sizes port answers n m (answer ∷ left) → IsTurn (step_of m) (turns.Ask helper map key) (state_of m) (state_of asked) → IsSameRun m asked → answer < 2 ^ 64 → state_of after ≡ answered (state_of asked) answer → IsSameRun asked after → IsAt program header sizes port answers (n + 1) after left
   walk_asks n m asked after helper map key answer left at turn same small goes_on same_after =
       let told = turn_asks _ helper map key _ _ turn in
       let with_sizes = here n m (answer ∷ left) _ at told.1 in
@@ -221,7 +221,7 @@ module _ (program : Program) (header : Header) (sizes : List ℕ) (port : ℕ) (
         given = more_given at.calls (call helper map key answer) left at.given;
       }
 
-  pub walk_ends : (n limit verdict : ℕ) (m after : Standing) (left : List ℕ) → IsAt program header sizes port answers n m left → IsTurn (step_of m) (turns.Ended verdict) (state_of m) (state_of after) → n < limit → WalkEnds program header sizes port answers limit verdict
+  pub walk_ends : (n limit verdict : ℕ) (m after : MachineValue) (left : List ℕ) → IsAt program header sizes port answers n m left → IsTurn (step_of m) (turns.Verdict verdict) (state_of m) (state_of after) → n < limit → WalkEnds program header sizes port answers limit verdict
   walk_ends n limit verdict m after left at turn below =
       let with_sizes = here n m left (Verdict verdict) at (turn_ends _ _ _ _ turn) in
       let no_trap : Verdict verdict ≡ Trap → ⊥ = λ e. cc in
@@ -235,14 +235,14 @@ module _ (program : Program) (header : Header) (sizes : List ℕ) (port : ℕ) (
         within = omega arith;
       }
 
-  pub walk_traps : (n limit : ℕ) (m after : Standing) (left : List ℕ) → IsAt program header sizes port answers n m left → IsTurn (step_of m) turns.Trapped (state_of m) (state_of after) → n < limit → WalkTraps program header sizes port answers limit
+  pub walk_traps : (n limit : ℕ) (m after : MachineValue) (left : List ℕ) → IsAt program header sizes port answers n m left → IsTurn (step_of m) turns.Trap (state_of m) (state_of after) → n < limit → WalkTraps program header sizes port answers limit
   walk_traps n limit m after left at turn below =
       record { n = n; walk = record { calls = at.calls; left = left; last = state_of m; path = at.way.path; clear = at.way.clear; given = at.given }; trap = here n m left Trap at (turn_traps _ _ _ turn); within = below }
 
-  pub walk_stops : (limit : ℕ) (m : Standing) (left : List ℕ) → IsAt program header sizes port answers limit m left → Walk program header sizes port answers limit
+  pub walk_stops : (limit : ℕ) (m : MachineValue) (left : List ℕ) → IsAt program header sizes port answers limit m left → Walk program header sizes port answers limit
   walk_stops limit m left at = record { calls = at.calls; left = left; last = state_of m; path = at.way.path; clear = at.way.clear; given = at.given }
 
-  pub walk_lacks : (n limit : ℕ) (m asked : Standing) (helper map key : ℕ) → IsAt program header sizes port answers n m [] → IsTurn (step_of m) (turns.Asked helper map key) (state_of m) (state_of asked) → n < limit → WalkAsks program header sizes port answers limit
+  pub walk_lacks : (n limit : ℕ) (m asked : MachineValue) (helper map key : ℕ) → IsAt program header sizes port answers n m [] → IsTurn (step_of m) (turns.Ask helper map key) (state_of m) (state_of asked) → n < limit → WalkAsks program header sizes port answers limit
   walk_lacks n limit m asked helper map key at turn below =
       let told = turn_asks _ helper map key _ _ turn in
       record {
@@ -256,7 +256,7 @@ module _ (program : Program) (header : Header) (sizes : List ℕ) (port : ℕ) (
         within = below;
       }
 
-  pub walk_begins : (m : Standing) → m.program ≡ program → m.header ≡ header → m.sizes ≡ sizes → state_of m ≡ entry_state port → IsAt program header sizes port answers 0 m answers
+  pub walk_begins : (m : MachineValue) → m.program ≡ program → m.header ≡ header → m.sizes ≡ sizes → state_of m ≡ entry_state port → IsAt program header sizes port answers 0 m answers
   walk_begins m same_program same_header same_sizes entered =
       record {
         same_program = same_program;
@@ -268,5 +268,5 @@ module _ (program : Program) (header : Header) (sizes : List ℕ) (port : ℕ) (
       }
 
   -- the same machine, with the answers that are left in another form
-  pub along_left : (n : ℕ) (m : Standing) (left after : List ℕ) → left ≡ after → IsAt program header sizes port answers n m left → IsAt program header sizes port answers n m after
+  pub along_left : (n : ℕ) (m : MachineValue) (left after : List ℕ) → left ≡ after → IsAt program header sizes port answers n m left → IsAt program header sizes port answers n m after
   along_left n m left after e at = subst (λ (xs : List ℕ). IsAt program header sizes port answers n m xs) e at

@@ -26,8 +26,8 @@ outcome_of s (effects.Write register value slots) = Next (state (s.slot + slots)
 outcome_of s (effects.Put place bytes number) = Next (state (s.slot + 1) s.registers (byte_after s.stack bytes place number))
 outcome_of s (effects.Go slot) = Next (state slot s.registers s.stack)
 outcome_of s (effects.Ask helper map key) = Ask helper map key (answered s)
-outcome_of s (effects.End verdict) = Verdict verdict
-outcome_of s effects.Stop = Trap
+outcome_of s (effects.Verdict verdict) = Verdict verdict
+outcome_of s effects.Trap = Trap
 
 -- what it writes is there: the next slot is near, and the bytes lie in the stack
 abbrev pub IsPlaced : Effect → Type 0
@@ -35,8 +35,8 @@ IsPlaced (effects.Write register value slots) = slots ≤ 2
 IsPlaced (effects.Put place bytes number) = place + bytes ≤ 512
 IsPlaced (effects.Go slot) = Unit {0}
 IsPlaced (effects.Ask helper map key) = Unit {0}
-IsPlaced (effects.End verdict) = Unit {0}
-IsPlaced effects.Stop = Unit {0}
+IsPlaced (effects.Verdict verdict) = Unit {0}
+IsPlaced effects.Trap = Unit {0}
 
 -- the question of a helper whose number is known, with maps of these sizes
 abbrev pub asks_with : (sizes : List ℕ) → State → (helper : ℕ) → Outcome

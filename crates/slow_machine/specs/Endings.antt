@@ -7,7 +7,7 @@ use Rattle.slow_machine.specs.declared.endings.Ending.TheVariants as endings
 use Rattle.machine.specs.Memory.{Header}
 use Rattle.machine.specs.State.{State}
 use Rattle.machine.specs.Step.{Trap, step_with}
-use Rattle.slow_machine.specs.Standing.{IsAsk}
+use Rattle.slow_machine.specs.Machine.{IsAsk}
 use Rattle.machine.specs.Runs.{Path, entry, moves, answered, Runs}
 
 -- the answers that were given, in order

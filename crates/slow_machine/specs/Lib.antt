@@ -1,5 +1,5 @@
 pub mod Near
 pub mod Bytes
 pub mod Effects
-pub mod Standing
+pub mod Machine
 pub mod Endings

@@ -40,9 +40,9 @@ pub enum Effect {
         key: u16,
     },
     /// The program ends with a verdict.
-    End(u64),
+    Verdict(u64),
     /// A trap.
-    Stop,
+    Trap,
 }
 
 /// What an instruction sees: its own slot, the registers and the memory.
@@ -86,10 +86,10 @@ fn write(frame: Frame<'_>, register: Register, value: Option<Value>, slots: u32)
     ensures placed { IsPlaced result }
 {
     match value {
-        None => Effect::Stop,
+        None => Effect::Trap,
         Some(value) => {
             if register.number() == 10 {
-                Effect::Stop
+                Effect::Trap
             } else {
                 Effect::Write {
                     register,
@@ -126,7 +126,7 @@ fn land(frame: Frame<'_>, target: i64) -> Effect
     ensures placed { IsPlaced result }
 {
     if target < 0 {
-        Effect::Stop
+        Effect::Trap
     } else {
         Effect::Go(target as u32)
     }
@@ -163,9 +163,9 @@ fn compare(
                     Effect::Go(frame.slot + 1)
                 }
             }
-            Value::Unset | Value::Ptr { .. } | Value::Map(_) => Effect::Stop,
+            Value::Unset | Value::Ptr { .. } | Value::Map(_) => Effect::Trap,
         },
-        Value::Unset | Value::Ptr { .. } | Value::Map(_) => Effect::Stop,
+        Value::Unset | Value::Ptr { .. } | Value::Map(_) => Effect::Trap,
     }
 }
 
@@ -220,12 +220,12 @@ fn store(frame: Frame<'_>, size: Size, base: Register, offset: i16, src: &Operan
                         bytes,
                         number,
                     },
-                    None => Effect::Stop,
+                    None => Effect::Trap,
                 },
-                None => Effect::Stop,
+                None => Effect::Trap,
             }
         }
-        _ => Effect::Stop,
+        _ => Effect::Trap,
     }
 }
 
@@ -265,11 +265,11 @@ fn ask(frame: Frame<'_>, sizes: &MapSizes, helper: u8) -> Effect
         Value::Map(map) => match value_at(frame, 2) {
             Value::Num(key) => match key_in(sizes, map, key) {
                 Some(key) => Effect::Ask { helper, map, key },
-                None => Effect::Stop,
+                None => Effect::Trap,
             },
-            Value::Unset | Value::Ptr { .. } | Value::Map(_) => Effect::Stop,
+            Value::Unset | Value::Ptr { .. } | Value::Map(_) => Effect::Trap,
         },
-        Value::Unset | Value::Num(_) | Value::Ptr { .. } => Effect::Stop,
+        Value::Unset | Value::Num(_) | Value::Ptr { .. } => Effect::Trap,
     }
 }
 
@@ -282,9 +282,9 @@ fn call(frame: Frame<'_>, sizes: &MapSizes, callee: Callee, number: i32) -> Effe
         Callee::Helper => match number {
             1 => ask(frame, sizes, 1),
             2 => ask(frame, sizes, 2),
-            _ => Effect::Stop,
+            _ => Effect::Trap,
         },
-        Callee::Local | Callee::ByTypeId => Effect::Stop,
+        Callee::Local | Callee::ByTypeId => Effect::Trap,
     }
 }
 
@@ -294,8 +294,8 @@ fn exit(frame: Frame<'_>) -> Effect
     ensures placed { IsPlaced result }
 {
     match value_at(frame, 0) {
-        Value::Num(verdict) => Effect::End(verdict),
-        Value::Unset | Value::Ptr { .. } | Value::Map(_) => Effect::Stop,
+        Value::Num(verdict) => Effect::Verdict(verdict),
+        Value::Unset | Value::Ptr { .. } | Value::Map(_) => Effect::Trap,
     }
 }
 
@@ -342,7 +342,7 @@ pub fn perform(frame: Frame<'_>, sizes: &MapSizes, insn: &Insn) -> Effect
         Insn::Goto { distance } => jump(frame, distance_of(distance)),
         Insn::Wide { dst, value } => write(frame, dst, Some(Value::Num(value)), 2),
         Insn::LoadMap { dst, index } => write(frame, dst, map_at(sizes, index), 2),
-        Insn::LoadAddress { .. } => Effect::Stop,
+        Insn::LoadAddress { .. } => Effect::Trap,
         Insn::Call { callee, number } => call(frame, sizes, callee, number),
         Insn::Exit => exit(frame),
     }

@@ -3,7 +3,7 @@
 ghost use Rattle.std.specs.Prelude.{◌≡◌, ℕ};
 ghost use Rattle.machine.specs.Memory.{Header};
 ghost use Rattle.machine.specs.State.{entry_state};
-ghost use Rattle.slow_machine.specs.Standing.{state_of};
+ghost use Rattle.slow_machine.specs.Machine.{state_of};
 ghost use Rattle.slow_machine.specs.Endings.{IsEnding};
 
 use crate::machines::Machine;
@@ -32,16 +32,16 @@ fn walk(mut machine: Machine<'_>, answers: &[u64], limit: u32) -> Ending
     let mut left = answers;
     for _step in 0..limit {
         match machine.step() {
-            Turn::Moved => {}
-            Turn::Asked { .. } => {
+            Turn::Next => {}
+            Turn::Ask { .. } => {
                 let Some((answer, rest)) = left.split_first() else {
                     return Ending::Unanswered;
                 };
                 machine.answer(*answer);
                 left = rest;
             }
-            Turn::Ended(verdict) => return Ending::Verdict(verdict),
-            Turn::Trapped => return Ending::Trap,
+            Turn::Verdict(verdict) => return Ending::Verdict(verdict),
+            Turn::Trap => return Ending::Trap,
         }
     }
     Ending::OutOfSteps

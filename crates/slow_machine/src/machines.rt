@@ -6,7 +6,7 @@ ghost use Rattle.slow_machine.specs.Effects.{registers_in};
 ghost use Rattle.slow_machine.specs.Near.{AreNear};
 ghost use Rattle.machine.specs.State.{entry_state, entry_register, register_after_call};
 ghost use Rattle.machine.specs.Step.{insn_at, answered};
-ghost use Rattle.slow_machine.specs.Standing.{state_of, step_of, IsTurn, IsAsk, IsRunOf, IsSameRun};
+ghost use Rattle.slow_machine.specs.Machine.{state_of, step_of, IsTurn, IsAsk, IsRunOf, IsSameRun};
 
 use crate::effects::{Frame, perform};
 use crate::memory::Memory;
@@ -32,10 +32,10 @@ pub struct Machine<'a> {
 
 impl<'a> Model for Machine<'a> {
     ghost use Rattle.std.specs.Prelude.{◌*◌, ◌^◌};
-    ghost use Rattle.slow_machine.specs.Standing.{Standing};
+    ghost use Rattle.slow_machine.specs.Machine.{MachineValue};
     ghost use Rattle.slow_machine.specs.Near.{AreNear};
 
-    ghost Value = { Standing };
+    ghost Value = { MachineValue };
 
     ghost view = { λ m. record { program = m.image.now; header = record { front = m.front.now; tail = m.tail.now }; sizes = m.sizes.now; steps = m.steps; slot = m.slot; registers = m.registers; stack = m.stack } };
 
@@ -117,7 +117,7 @@ impl<'a> Machine<'a> {
         self.steps
     }
 
-    /// Makes a step: what the instruction at the machine's slot does. Where it is not `Turn::Moved`, the
+    /// Makes a step: what the instruction at the machine's slot does. Where it is not `Turn::Next`, the
     /// registers and the stack stay as they were.
     pub fn step(&mut self) -> Turn
         requires { self.old.steps + 1 < 2 ^ 32 }
@@ -127,7 +127,7 @@ impl<'a> Machine<'a> {
     {
         self.steps += 1;
         let Some(insn) = fetch(self.image, self.slot) else {
-            return Turn::Trapped;
+            return Turn::Trap;
         };
         let effect = {
             let memory = Memory {

@@ -4,7 +4,7 @@ ghost use Rattle.std.specs.Prelude.{◌≡◌, ◌+◌, ◌<◌, ◌≤◌};
 ghost use Rattle.slow_machine.specs.Bytes.{bytes_in};
 ghost use Rattle.machine.specs.Memory.{byte_after};
 ghost use Rattle.slow_machine.specs.Effects.{outcome_of, IsPlaced};
-ghost use Rattle.slow_machine.specs.Standing.{state_with, IsTurn};
+ghost use Rattle.slow_machine.specs.Machine.{state_with, IsTurn};
 
 use crate::effects::Effect;
 use machine::Value;
@@ -13,13 +13,13 @@ use machine::Value;
 #[derive(Clone, Copy, Debug, PartialEq, Eq)]
 pub enum Turn {
     /// The machine is at its next instruction.
-    Moved,
+    Next,
     /// The helper of this number asks the map of this index for a key; `Machine::answer` goes on.
-    Asked { helper: u8, map: u8, key: u16 },
+    Ask { helper: u8, map: u8, key: u16 },
     /// The program ended with this verdict.
-    Ended(u64),
+    Verdict(u64),
     /// A trap: the machine cannot go on.
-    Trapped,
+    Trap,
 }
 
 /// Writes so many low bytes of a number to the stack from a place on, the lowest first.
@@ -53,7 +53,7 @@ pub fn apply(
         } => {
             registers[usize::from(register.number())] = value;
             *slot += slots;
-            Turn::Moved
+            Turn::Next
         }
         Effect::Put {
             place,
@@ -62,14 +62,14 @@ pub fn apply(
         } => {
             put(stack, place, bytes, number);
             *slot += 1;
-            Turn::Moved
+            Turn::Next
         }
         Effect::Go(target) => {
             *slot = target;
-            Turn::Moved
+            Turn::Next
         }
-        Effect::Ask { helper, map, key } => Turn::Asked { helper, map, key },
-        Effect::End(verdict) => Turn::Ended(verdict),
-        Effect::Stop => Turn::Trapped,
+        Effect::Ask { helper, map, key } => Turn::Ask { helper, map, key },
+        Effect::Verdict(verdict) => Turn::Verdict(verdict),
+        Effect::Trap => Turn::Trap,
     }
 }

@@ -11,16 +11,16 @@ use Rattle.std.proofs.lemmas.Bool.{cases_eq}
 use Rattle.std.proofs.lemmas.Bool.Decides.{nat_tests}
 use Rattle.rmap.specs.declared.places.Place.{Place}
 use Rattle.rmap.specs.declared.places.Place.TheVariants.{Bank}
-use Rattle.rmap.specs.Command.{Parts, command_of, extended_of}
-use Rattle.rmap.specs.Ranges.{Ranges, bank_place, lies_inside}
-use Rattle.bver.specs.Justified.{Judge}
+use Rattle.rmap.specs.Command.{CommandValue, command_of, extended_of}
+use Rattle.rmap.specs.Windows.{WindowsValue, bank_place, lies_inside}
+use Rattle.bver.specs.Justified.{AcceptedValue}
 use Rattle.bank.specs.Laws.{ExtentsStay}
-use Rattle.bank.specs.Records.{Contents, Turn, Judgement, extent_of, applied, recorded, answer_of, has_room, next_share, first_share}
+use Rattle.bank.specs.Records.{BankValue, ShareValue, JudgedValue, extent_of, after_command, after_record, answer_of, has_room, next_share, first_share}
 use Rattle.target.specs.declared.config.BankConfig.{BankConfig}
-use Rattle.target.specs.Passes.{Holder}
-use Rattle.target.specs.Making.{bank_of, first_pass, range_of}
+use Rattle.target.specs.Passes.{PassValue}
+use Rattle.target.specs.Nodes.{bank_of, first_pass, range_of}
 use Rattle.target.specs.Steps.{is_in_bank}
-use Rattle.target.specs.Endings.{share_of, with_share}
+use Rattle.target.specs.Applied.{share_of, with_share}
 use Rattle.target.specs.Pairs.{IsShareOf, IsPaired, MadeArePaired, PairedCommandsFit, OwnStaysPaired, OthersStayPaired}
 use Rattle.target.proofs.Places.{no_bank, same_bank}
 
@@ -48,9 +48,9 @@ next_count counts port number h =
     grind (arith, nat_tests)
 
 -- the share that applied a command is the next one again
-own_share : (b : Contents) (share : Turn) (j : Judgement) (port : ℕ) → IsShareOf b port share → j.port ≡ port → IsShareOf (applied b share j) port (next_share b share j)
+own_share : (b : BankValue) (share : ShareValue) (j : JudgedValue) (port : ℕ) → IsShareOf b port share → j.port ≡ port → IsShareOf (after_command b share j) port (next_share b share j)
 own_share b share j port h same =
-    elim (has_room b j.port) as (λ room. IsShareOf (if room then recorded b share j (answer_of b j) else b) port (if room then record { port = share.port; number = share.number + 1 } else share)) [
+    elim (has_room b j.port) as (λ room. IsShareOf (if room then after_record b share j (answer_of b j) else b) port (if room then record { port = share.port; number = share.number + 1 } else share)) [
       | true ↦
           let below : share.port < length b.counts = next_below b.counts share.port share.number h.1 in
           let at : share.port ≡ j.port = h.0 ∙ sym same in
@@ -62,9 +62,9 @@ own_share b share j port h same =
     ]
 
 -- a share of another port is the next one still
-other_share : (b : Contents) (share : Turn) (j : Judgement) (port : ℕ) (other : Turn) → IsShareOf b port other → port ≢ j.port → IsShareOf (applied b share j) port other
+other_share : (b : BankValue) (share : ShareValue) (j : JudgedValue) (port : ℕ) (other : ShareValue) → IsShareOf b port other → port ≢ j.port → IsShareOf (after_command b share j) port other
 other_share b share j port other h apart =
-    elim (has_room b j.port) as (λ room. IsShareOf (if room then recorded b share j (answer_of b j) else b) port other) [
+    elim (has_room b j.port) as (λ room. IsShareOf (if room then after_record b share j (answer_of b j) else b) port other) [
       | true ↦
           let below : other.port < length b.counts = next_below b.counts other.port other.number h.1 in
           let far : other.port ≢ j.port = λ e. apart (sym (h.0) ∙ e) in
@@ -85,12 +85,12 @@ at_other xs k j new x other found =
     let below : j < length xs = rw (← length-set xs k new) inside in
     slice_get-get_or xs j x below ∙ ap (λ y. Some y) (sym (get_or-set_other xs k j new x other) ∙ get_or_from_slice_get (set xs k new) j x x found)
 
-windows_stay : (banks : List Contents) (k : ℕ) (b new : Contents) → slice_get banks k ≡ Some b → extent_of new ≡ extent_of b → map extent_of (set banks k new) ≡ map extent_of banks
+windows_stay : (banks : List BankValue) (k : ℕ) (b new : BankValue) → slice_get banks k ≡ Some b → extent_of new ≡ extent_of b → map extent_of (set banks k new) ≡ map extent_of banks
 windows_stay banks k b new at same =
     map-set_same extent_of banks k new b (same ∙ ap extent_of (sym (get_or_from_slice_get banks k b b at)))
 
 -- one bank was left with its extent, and the port's share of it is the next one
-pub pair_set : (banks : List Contents) (k : ℕ) (b new : Contents) (h : Holder) → slice_get banks k ≡ Some b → extent_of new ≡ extent_of b → IsPaired banks h → IsShareOf new h.port (share_of h (Bank k)) → IsPaired (set banks k new) h
+pub pair_set : (banks : List BankValue) (k : ℕ) (b new : BankValue) (h : PassValue) → slice_get banks k ≡ Some b → extent_of new ≡ extent_of b → IsPaired banks h → IsShareOf new h.port (share_of h (Bank k)) → IsPaired (set banks k new) h
 pair_set banks k b new h at same paired share = record {
   count = paired.count ∙ sym (length-set banks k new);
   windows = paired.windows ∙ sym (windows_stay banks k b new at same);
@@ -102,7 +102,7 @@ pair_set banks k b new h at same paired share = record {
   ];
 }
 
-own_set : (banks : List Contents) (k : ℕ) (b new : Contents) (h : Holder) (share : Turn) → slice_get banks k ≡ Some b → extent_of new ≡ extent_of b → IsPaired banks h → IsShareOf new h.port share → IsPaired (set banks k new) (with_share h (Bank k) share)
+own_set : (banks : List BankValue) (k : ℕ) (b new : BankValue) (h : PassValue) (share : ShareValue) → slice_get banks k ≡ Some b → extent_of new ≡ extent_of b → IsPaired banks h → IsShareOf new h.port share → IsPaired (set banks k new) (with_share h (Bank k) share)
 own_set banks k b new h share at same paired next =
     let within : k < length banks = slice_get_within banks k b at in
     let below : k < length h.shares = rw (paired.count) within in
@@ -122,14 +122,14 @@ own_set banks k b new h share at same paired next =
 
 pub own_stays_paired : ExtentsStay → OwnStaysPaired
 own_stays_paired keeps banks h k j b paired port place at =
-    rw place (own_set banks k b (applied b (share_of h (Bank k)) j) h (next_share b (share_of h (Bank k)) j) at (keeps b (share_of h (Bank k)) j) paired (own_share b (share_of h (Bank k)) j h.port (paired.shares k b at) port))
+    rw place (own_set banks k b (after_command b (share_of h (Bank k)) j) h (next_share b (share_of h (Bank k)) j) at (keeps b (share_of h (Bank k)) j) paired (own_share b (share_of h (Bank k)) j h.port (paired.shares k b at) port))
 
 pub others_stay_paired : ExtentsStay → OthersStayPaired
 others_stay_paired keeps banks h k share j b paired apart at =
-    pair_set banks k b (applied b share j) h at (keeps b share j) paired (other_share b share j h.port (share_of h (Bank k)) (paired.shares k b at) apart)
+    pair_set banks k b (after_command b share j) h at (keeps b share j) paired (other_share b share j h.port (share_of h (Bank k)) (paired.shares k b at) apart)
 
 -- a bank whose number is the place of a command has a window that the command lies in
-record IsInWindow (w : Ranges) (c : Parts) (k : ℕ) : Type 0 where
+record IsInWindow (w : WindowsValue) (c : CommandValue) (k : ℕ) : Type 0 where
   pub range : ℕ × ℕ
   pub window : slice_get w.banks k ≡ Some range
   pub inside : lies_inside range.0 range.1 c ≡ true
@@ -138,7 +138,7 @@ given : (b : Bool) (x place : Place) → cond b (Some x) None ≡ Some place →
 given true x place e = (refl, cc)
 given false x place e = absurd cc
 
-in_window : (w : Ranges) (c : Parts) (k : ℕ) (found : Option (ℕ × ℕ)) → slice_get w.banks (extended_of c) ≡ found → bank_place found c ≡ Some (Bank k) → IsInWindow w c k
+in_window : (w : WindowsValue) (c : CommandValue) (k : ℕ) (found : Option (ℕ × ℕ)) → slice_get w.banks (extended_of c) ≡ found → bank_place found c ≡ Some (Bank k) → IsInWindow w c k
 in_window w c k None e h = let clash : true ≡ false = sym (ap is_in_bank h) ∙ no_bank c in absurd cc
 in_window w c k (Some range) e h =
     let found = given (lies_inside range.0 range.1 c) (Bank (extended_of c)) (Bank k) h in
@@ -148,7 +148,7 @@ in_window w c k (Some range) e h =
 some_same : {A : Type 0} (x y : A) → Some x ≡ Some y → x ≡ y
 some_same x y e = cc
 
-extent_at : (banks : List Contents) (k : ℕ) (b : Contents) (range : ℕ × ℕ) → slice_get banks k ≡ Some b → slice_get (map extent_of banks) k ≡ Some range → range ≡ extent_of b
+extent_at : (banks : List BankValue) (k : ℕ) (b : BankValue) (range : ℕ × ℕ) → slice_get banks k ≡ Some b → slice_get (map extent_of banks) k ≡ Some range → range ≡ extent_of b
 extent_at banks k b range at window =
     some_same range (extent_of b) (sym window ∙ slice_get-map extent_of banks k ∙ ap (option_map extent_of) at)
 
@@ -178,7 +178,7 @@ fresh_share ports port bank below =
     let long : port < length (replicate ports 0) = rw (length-replicate {A = ℕ} ports 0) below in
     (refl, next_at (replicate ports 0) port 0 long (sym (get_or-replicate ports port 0 0 below)))
 
-share_made : (ports port k : ℕ) (banks : List BankConfig) (b : Contents) (found : Option BankConfig) → port < ports → slice_get banks k ≡ found → Some b ≡ option_map (bank_of ports) found → IsShareOf b port (get_or (replicate (length banks) (first_share port)) k (first_share port))
+share_made : (ports port k : ℕ) (banks : List BankConfig) (b : BankValue) (found : Option BankConfig) → port < ports → slice_get banks k ≡ found → Some b ≡ option_map (bank_of ports) found → IsShareOf b port (get_or (replicate (length banks) (first_share port)) k (first_share port))
 share_made ports port k banks b None below at e = absurd cc
 share_made ports port k banks b (Some bank) below at e =
     let is : b ≡ bank_of ports bank = some_same b (bank_of ports bank) e in
@@ -186,7 +186,7 @@ share_made ports port k banks b (Some bank) below at e =
     let share : get_or (replicate (length banks) (first_share port)) k (first_share port) ≡ first_share port = get_or-replicate (length banks) k (first_share port) (first_share port) within in
     rw (is, share) (fresh_share ports port bank below)
 
-one_paired : (address ports : ℕ) (banks : List BankConfig) (program : Judge) (port : ℕ) → port < ports → IsPaired (map (bank_of ports) banks) (first_pass address banks program port)
+one_paired : (address ports : ℕ) (banks : List BankConfig) (program : AcceptedValue) (port : ℕ) → port < ports → IsPaired (map (bank_of ports) banks) (first_pass address banks program port)
 one_paired address ports banks program port below = record {
   count = length-replicate (length banks) (first_share port) ∙ sym (length-map banks (bank_of ports));
   windows = windows_made ports banks;
@@ -194,11 +194,11 @@ one_paired address ports banks program port below = record {
 }
 
 -- the pass at a place is that of the port of that number
-record IsMade (f : ℕ → Holder) (ports k : ℕ) (h : Holder) : Type 0 where
+record IsMade (f : ℕ → PassValue) (ports k : ℕ) (h : PassValue) : Type 0 where
   pub pass : h ≡ f k
   pub below : k < ports
 
-made_at : (f : ℕ → Holder) (ports k : ℕ) (h : Holder) → slice_get (map f (range_with_len 0 ports)) k ≡ Some h → IsMade f ports k h
+made_at : (f : ℕ → PassValue) (ports k : ℕ) (h : PassValue) → slice_get (map f (range_with_len 0 ports)) k ≡ Some h → IsMade f ports k h
 made_at f ports k h found =
     let passes = map f (range_with_len 0 ports) in
     let below : k < ports = rw (← length-map-range_with_len f 0 ports) (slice_get_within passes k h found) in

@@ -6,29 +6,29 @@ use Rattle.rmap.specs.declared.kind.Kind.{Kind}
 use Rattle.rmap.specs.declared.kind.Kind.TheVariants.{Read, Write, Rmw, Unused}
 use Rattle.rmap.specs.declared.places.Place.{Place}
 use Rattle.rmap.specs.declared.places.Place.TheVariants.{Bank, Staging, LoadResult, Control}
-use Rattle.rmap.specs.Command.{Parts, extended_of, command_kind}
-use Rattle.rmap.specs.Ranges.{Ranges, place_of, bank_place, boot_place, register_of, is_register, is_staged, lies_inside}
+use Rattle.rmap.specs.Command.{CommandValue, extended_of, command_kind}
+use Rattle.rmap.specs.Windows.{WindowsValue, place_of, bank_place, boot_place, register_of, is_register, is_staged, lies_inside}
 use Rattle.target.specs.Steps.{is_in_bank, is_served, is_read, IsBankBelow}
 
 either : (b : Bool) (x y : Option Place) → is_in_bank x ≡ false → is_in_bank y ≡ false → is_in_bank (cond b x y) ≡ false
 either true x y h k = h
 either false x y h k = k
 
-no_register : (kind : Kind) (c : Parts) → is_in_bank (register_of kind c) ≡ false
+no_register : (kind : Kind) (c : CommandValue) → is_in_bank (register_of kind c) ≡ false
 no_register Read c = either (is_register 8 c) (Some LoadResult) None refl refl
 no_register Write c = either (is_register 4 c) (Some Control) None refl refl
 no_register Rmw c = refl
 no_register Unused c = refl
 
 -- the boot window is no bank
-pub no_bank : (c : Parts) → is_in_bank (bank_place None c) ≡ false
+pub no_bank : (c : CommandValue) → is_in_bank (bank_place None c) ≡ false
 no_bank c = either (eqb (extended_of c) 255) (boot_place c) None (either (is_staged c) (Some Staging) (register_of (command_kind c) c) refl (no_register (command_kind c) c)) refl
 
 in_bank : (k : ℕ) (b : Bool) (place : Place) → cond b (Some (Bank k)) None ≡ Some place → place ≡ Bank k
 in_bank k true place e = cc
 in_bank k false place e = absurd cc
 
-bank_below : (w : Ranges) (c : Parts) (place : Place) (found : Option (ℕ × ℕ)) → slice_get w.banks (extended_of c) ≡ found → bank_place found c ≡ Some place → is_in_bank (bank_place found c) ≡ true → IsBankBelow place (length w.banks)
+bank_below : (w : WindowsValue) (c : CommandValue) (place : Place) (found : Option (ℕ × ℕ)) → slice_get w.banks (extended_of c) ≡ found → bank_place found c ≡ Some place → is_in_bank (bank_place found c) ≡ true → IsBankBelow place (length w.banks)
 bank_below w c place None e h served = let both : true ≡ false = sym served ∙ no_bank c in absurd cc
 bank_below w c place (Some bank) e h served = (extended_of c, in_bank (extended_of c) (lies_inside bank.0 bank.1 c) place h, slice_get_within w.banks (extended_of c) bank e)
 
@@ -36,7 +36,7 @@ second : (a b : Bool) → (a && b) ≡ true → b ≡ true
 second true b e = e
 second false b e = absurd cc
 
-pub served_bank : (w : Ranges) (c : Parts) (place : Place) → is_served c w ≡ true → place_of c w ≡ Some place → IsBankBelow place (length w.banks)
+pub served_bank : (w : WindowsValue) (c : CommandValue) (place : Place) → is_served c w ≡ true → place_of c w ≡ Some place → IsBankBelow place (length w.banks)
 served_bank w c place served h = bank_below w c place (slice_get w.banks (extended_of c)) refl h (second (is_read (command_kind c)) (is_in_bank (place_of c w)) served)
 
 number_of : Place → ℕ

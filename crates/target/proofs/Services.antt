@@ -3,21 +3,21 @@ use Rattle.std.proofs.Common.{◌≡◌, ◌≢◌, ℕ, List, Bool, true, false
 use Rattle.spw.specs.Cargo.{Cargo}
 use Rattle.bank.specs.declared.bank.Applied.{Applied}
 use Rattle.bank.specs.Laws.{ExtentsStay}
-use Rattle.bank.specs.Records.{Contents, fits, applied, next_share}
-use Rattle.target.specs.declared.serving.Served.{Served}
-use Rattle.target.specs.declared.serving.Served.TheVariants.{Stopped, Unread, Done}
-use Rattle.target.specs.Passes.{Holder}
-use Rattle.target.specs.Endings.{share_of, with_share, IsApplied}
-use Rattle.target.specs.Serving.{IsServed, IsAnswered, IsDone, IsEnded, IsUntouched}
+use Rattle.bank.specs.Records.{BankValue, fits, after_command, next_share}
+use Rattle.target.specs.declared.served.Served.{Served}
+use Rattle.target.specs.declared.served.Served.TheVariants.{Stopped, Unread, Done}
+use Rattle.target.specs.Passes.{PassValue}
+use Rattle.target.specs.Applied.{share_of, with_share, IsApplied}
+use Rattle.target.specs.Served.{IsServed, IsAnswered, IsDone, IsEnded, IsUntouched}
 use Rattle.target.specs.Pairs.{IsPaired}
 use Rattle.target.proofs.Pairings.{paired_commands_fit, own_stays_paired, others_stay_paired, pair_set}
 
 -- the command was applied
-done_applied : (old new : List Contents) (h after : Holder) (p : Cargo) (result : Applied) (reply : List ℕ) → IsPaired old h → (done : IsDone IsEnded old new h after p result reply) → IsApplied done.before done.behind (share_of h done.judged.place) h after done.judged result reply
+done_applied : (old new : List BankValue) (h after : PassValue) (p : Cargo) (result : Applied) (reply : List ℕ) → IsPaired old h → (done : IsDone IsEnded old new h after p result reply) → IsApplied done.before done.behind (share_of h done.judged.place) h after done.judged result reply
 done_applied old new h after p result reply paired done =
     done.ended.applied (paired_commands_fit old h h.program h.generation done.number p done.judged done.before paired done.judged_for done.place done.bank)
 
-pub answered : (served : Served) (p : Cargo) (old new : List Contents) (h after : Holder) (reply : List ℕ) → IsServed served p old new h after reply → IsPaired old h → IsAnswered served p old new h after reply
+pub answered : (served : Served) (p : Cargo) (old new : List BankValue) (h after : PassValue) (reply : List ℕ) → IsServed served p old new h after reply → IsPaired old h → IsAnswered served p old new h after reply
 answered (Stopped stop) p old new h after reply s paired = s
 answered Unread p old new h after reply s paired = s
 answered (Done result) p old new h after reply s paired =
@@ -36,10 +36,10 @@ answered (Done result) p old new h after reply s paired =
       },
     )
 
-untouched : (old new : List Contents) (h after other : Holder) → IsUntouched old new h after → IsPaired old other → IsPaired new other
+untouched : (old new : List BankValue) (h after other : PassValue) → IsUntouched old new h after → IsPaired old other → IsPaired new other
 untouched old new h after other same paired = subst (λ banks. IsPaired banks other) (sym same.node) paired
 
-pub stays_paired : ExtentsStay → (served : Served) (p : Cargo) (old new : List Contents) (h after : Holder) (reply : List ℕ) → IsServed served p old new h after reply → IsPaired old h → IsPaired new after
+pub stays_paired : ExtentsStay → (served : Served) (p : Cargo) (old new : List BankValue) (h after : PassValue) (reply : List ℕ) → IsServed served p old new h after reply → IsPaired old h → IsPaired new after
 stays_paired keeps (Stopped stop) p old new h after reply s paired =
     subst (λ x. IsPaired new x) (sym s.1.holder_after) (untouched old new h after h s.1 paired)
 stays_paired keeps Unread p old new h after reply s paired =
@@ -49,11 +49,11 @@ stays_paired keeps (Done result) p old new h after reply s paired =
     let end = done_applied old new h after p result reply paired done in
     let share = share_of h done.judged.place in
     let own = own_stays_paired keeps old h done.number done.judged done.before paired done.judged_for.port_of done.place done.bank in
-    let banks : new ≡ set old done.number (applied done.before share done.judged) = done.node ∙ ap (λ b. set old done.number b) end.bank in
+    let banks : new ≡ set old done.number (after_command done.before share done.judged) = done.node ∙ ap (λ b. set old done.number b) end.bank in
     subst (λ x. IsPaired new x) (sym end.shares) (subst (λ l. IsPaired l (with_share h done.judged.place (next_share done.before share done.judged))) (sym banks) own)
 
 -- a command of another port leaves a port paired, whether it was applied or not
-behind_paired : ExtentsStay → (old new : List Contents) (h after other : Holder) (p : Cargo) (result : Applied) (reply : List ℕ) (done : IsDone IsEnded old new h after p result reply) (fit : Bool) → fits done.before (share_of h done.judged.place) done.judged ≡ fit → other.port ≢ h.port → IsPaired old other → IsPaired (set old done.number done.behind) other
+behind_paired : ExtentsStay → (old new : List BankValue) (h after other : PassValue) (p : Cargo) (result : Applied) (reply : List ℕ) (done : IsDone IsEnded old new h after p result reply) (fit : Bool) → fits done.before (share_of h done.judged.place) done.judged ≡ fit → other.port ≢ h.port → IsPaired old other → IsPaired (set old done.number done.behind) other
 behind_paired keeps old new h after other p result reply done true fit apart paired =
     let share = share_of h done.judged.place in
     let far : other.port ≢ done.judged.port = λ e. apart (e ∙ done.judged_for.port_of) in
@@ -61,7 +61,7 @@ behind_paired keeps old new h after other p result reply done true fit apart pai
 behind_paired keeps old new h after other p result reply done false fit apart paired =
     subst (λ b. IsPaired (set old done.number b) other) (sym (done.ended.refused fit).bank) (pair_set old done.number done.before done.before other done.bank refl paired (paired.shares done.number done.before done.bank))
 
-pub others_paired : ExtentsStay → (served : Served) (p : Cargo) (old new : List Contents) (h after : Holder) (reply : List ℕ) → IsServed served p old new h after reply → (other : Holder) → other.port ≢ h.port → IsPaired old other → IsPaired new other
+pub others_paired : ExtentsStay → (served : Served) (p : Cargo) (old new : List BankValue) (h after : PassValue) (reply : List ℕ) → IsServed served p old new h after reply → (other : PassValue) → other.port ≢ h.port → IsPaired old other → IsPaired new other
 others_paired keeps (Stopped stop) p old new h after reply s other apart paired = untouched old new h after other s.1 paired
 others_paired keeps Unread p old new h after reply s other apart paired = untouched old new h after other s.1 paired
 others_paired keeps (Done result) p old new h after reply s other apart paired =

@@ -1,8 +1,8 @@
 pub mod Codes
 pub mod Passes
 pub mod Steps
-pub mod Making
-pub mod Endings
-pub mod Lending
-pub mod Serving
+pub mod Nodes
+pub mod Applied
+pub mod Loans
+pub mod Served
 pub mod Pairs

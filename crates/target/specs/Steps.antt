@@ -7,15 +7,15 @@ use Rattle.rmap.specs.declared.places.Place.{Place}
 use Rattle.rmap.specs.declared.places.Place.TheVariants.{Bank, Staging, LoadResult, Control}
 use Rattle.rmap.specs.declared.status.Status.{Status}
 use Rattle.rmap.specs.declared.status.Status.TheVariants.{GeneralError}
-use Rattle.rmap.specs.Command.{Parts, command_kind, command_of, discard_of}
-use Rattle.rmap.specs.Ranges.{Ranges, place_of}
+use Rattle.rmap.specs.Command.{CommandValue, command_kind, command_of, discard_of}
+use Rattle.rmap.specs.Windows.{WindowsValue, place_of}
 use Rattle.rmap.specs.Checks.{header_line}
 use Rattle.rmap.specs.Reply.{reply_of}
-use Rattle.bver.specs.Justified.{Judge}
+use Rattle.bver.specs.Justified.{AcceptedValue}
 use Rattle.bank.specs.Admission.{IsPlacedBy}
-use Rattle.bank.specs.Records.{AdmittedValue, Judgement, judgement}
-use Rattle.brun.specs.Running.{header, RunsWithin}
-use Rattle.target.specs.Passes.{Holder}
+use Rattle.bank.specs.Records.{AdmittedValue, JudgedValue, judgement}
+use Rattle.brun.specs.Runs.{header, RunsWithin}
+use Rattle.target.specs.Passes.{PassValue}
 use Rattle.target.specs.declared.step.Step.{Step}
 use Rattle.target.specs.declared.step.Step.TheVariants.{Discarded, Answered, Unread, Judged}
 use Rattle.target.specs.declared.stop.Stop.{Stop}
@@ -37,31 +37,31 @@ is_in_bank (Some Control) = false
 is_in_bank None = false
 
 -- what the node serves so far: reads of banks
-abbrev pub is_served : Parts → Ranges → Bool
+abbrev pub is_served : CommandValue → WindowsValue → Bool
 is_served c w = is_read (command_kind c) && is_in_bank (place_of c w)
 
 -- the packet is a command, and no check of its header holds
-pub record IsAllowed (p : Cargo) (w : Ranges) : Type 0 where
+pub record IsAllowed (p : Cargo) (w : WindowsValue) : Type 0 where
   pub command : discard_of p.bytes ≡ None
   pub allowed : header_line (command_of p) w ≡ None
 
 -- the packet is a command, and the first check of its header that holds has that status
-pub record IsFaulty (p : Cargo) (w : Ranges) (status : Status) : Type 0 where
+pub record IsFaulty (p : Cargo) (w : WindowsValue) (status : Status) : Type 0 where
   pub command : discard_of p.bytes ≡ None
   pub stopped : header_line (command_of p) w ≡ Some status
 
 -- the packet goes no further than its header, and that reply is due
-abbrev pub IsStopped : Stop → Cargo → Ranges → List ℕ → Type 0
+abbrev pub IsStopped : Stop → Cargo → WindowsValue → List ℕ → Type 0
 IsStopped (NoCommand d) p w reply = (discard_of p.bytes ≡ Some d) × (reply ≡ [])
 IsStopped (Fault status) p w reply = IsFaulty p w status × (reply ≡ reply_of (command_of p) status [])
 
 -- the packet was admitted as it came, with its place under those windows
-pub record IsAdmission (admitted : AdmittedValue) (p : Cargo) (w : Ranges) : Type 0 where
+pub record IsAdmission (admitted : AdmittedValue) (p : Cargo) (w : WindowsValue) : Type 0 where
   pub packet : admitted.packet ≡ p
   pub placed : IsPlacedBy w p admitted.place
 
 -- nothing serves the command of the packet: the reply is a general error
-pub record IsUnread (p : Cargo) (w : Ranges) (reply : List ℕ) : Type 0 where
+pub record IsUnread (p : Cargo) (w : WindowsValue) (reply : List ℕ) : Type 0 where
   pub allowed : IsAllowed p w
   pub unserved : is_served (command_of p) w ≡ false
   pub error : reply ≡ reply_of (command_of p) GeneralError []
@@ -72,18 +72,18 @@ IsBankBelow place n = (k : ℕ) × (place ≡ Bank k) × (k < n)
 
 -- the program has a run within its budget on the packet's header, for that port, that ends with that
 -- verdict
-abbrev pub IsVerdict : Judge → ℕ → Cargo → ℕ → Type 0
+abbrev pub IsVerdict : AcceptedValue → ℕ → Cargo → ℕ → Type 0
 IsVerdict program port p verdict =
     RunsWithin program.program (header (command_of p).front (command_of p).tail) port verdict
 
 -- the admitted command, judged for that port by the program of that generation
-pub record IsJudgedBy (program : Judge) (generation port : ℕ) (admitted : AdmittedValue) (j : Judgement) : Type 0 where
+pub record IsJudgedBy (program : AcceptedValue) (generation port : ℕ) (admitted : AdmittedValue) (j : JudgedValue) : Type 0 where
   pub judged : j ≡ judgement admitted port generation j.verdict
   pub verdict : IsVerdict program port admitted.packet j.verdict
 
 -- the command of the packet as it came, with its place under those windows, judged for that port by
 -- the program of that generation
-pub record IsJudgedFor (program : Judge) (generation port : ℕ) (w : Ranges) (p : Cargo) (j : Judgement) : Type 0 where
+pub record IsJudgedFor (program : AcceptedValue) (generation port : ℕ) (w : WindowsValue) (p : Cargo) (j : JudgedValue) : Type 0 where
   pub packet : j.packet ≡ p
   pub placed : IsPlacedBy w p j.place
   pub port_of : j.port ≡ port
@@ -91,7 +91,7 @@ pub record IsJudgedFor (program : Judge) (generation port : ℕ) (w : Ranges) (p
   pub verdict : IsVerdict program port p j.verdict
 
 -- how far a packet comes by itself, and the reply that is due then
-abbrev pub IsStep : Step → Cargo → Holder → List ℕ → Type 0
+abbrev pub IsStep : Step → Cargo → PassValue → List ℕ → Type 0
 IsStep (Discarded d back) p h reply = (back ≡ p) × IsStopped (NoCommand d) p h.windows reply
 IsStep (Answered status back) p h reply = (back ≡ p) × IsStopped (Fault status) p h.windows reply
 IsStep (Unread back) p h reply = (back ≡ p) × IsUnread p h.windows reply

@@ -4,11 +4,11 @@ ghost use Rattle.std.specs.Prelude.{◌≡◌, ◌<◌, ◌≤◌, length, slice
 ghost use Rattle.std.specs.List.{range_with_len, list_all};
 ghost use Rattle.bank.specs.Limits.{is_ports};
 ghost use Rattle.bank.specs.Records.{first_share};
-ghost use Rattle.target.specs.Making.{AreDealt, AreHands, bank_of, is_within, are_within};
+ghost use Rattle.target.specs.Nodes.{AreDistributed, ArePortShares, bank_of, is_within, are_within};
 
 use crate::config::{BankConfig, NodeConfig};
 use crate::faults::NodeFault;
-use crate::hand::Hand;
+use crate::shares::PortShares;
 use bank::{Bank, Journal, Share, is_bank_size};
 use rmap::MAX_BANKS;
 use spw::PORTS;
@@ -23,9 +23,9 @@ pub struct Banks {
 
 impl Model for Banks {
     ghost use Rattle.std.specs.Prelude.{List};
-    ghost use Rattle.bank.specs.Records.{Contents};
+    ghost use Rattle.bank.specs.Records.{BankValue};
 
-    ghost Value = { List Contents };
+    ghost Value = { List BankValue };
 
     ghost view = { λ b. b.banks.items };
 }
@@ -51,25 +51,25 @@ fn are_within(banks: &[BankConfig]) -> bool
     1 <= banks.len() && banks.len() <= MAX_BANKS && are_all_within(banks)
 }
 
-/// One hand for each port, all empty.
-fn empty_hands(alloc: Global, ports: u8) -> Result<Vec<Hand>, AllocError>
-    ensures { IfOk result (λ hands. AreHands 0 ports hands.items) }
+/// The shares of each port, none yet.
+fn empty_shares(alloc: Global, ports: u8) -> Result<Vec<PortShares>, AllocError>
+    ensures { IfOk result (λ by_port. ArePortShares 0 ports by_port.items) }
 {
-    let mut hands = Vec::with_capacity(alloc, usize::from(ports))?;
+    let mut by_port = Vec::with_capacity(alloc, usize::from(ports))?;
     for _port in 0..ports {
-        hands.push(Hand::new(alloc))?;
+        by_port.push(PortShares::new(alloc))?;
     }
-    Ok(hands)
+    Ok(by_port)
 }
 
-/// Gives each hand its share of a bank.
-fn deal(hands: &mut Vec<Hand>, mut shares: Vec<Share>) -> Result<(), AllocError>
-    requires { length shares.items ≡ length hands.old.items }
-    ensures { OnOk result (AreDealt hands.old.items shares.items hands.new.items) }
+/// Gives each port its share of a bank.
+fn distribute(by_port: &mut Vec<PortShares>, mut shares: Vec<Share>) -> Result<(), AllocError>
+    requires { length shares.items ≡ length by_port.old.items }
+    ensures { OnOk result (AreDistributed by_port.old.items shares.items by_port.new.items) }
 {
     while let Some(share) = shares.pop() {
         let port = shares.len();
-        hands[port].push(share)?;
+        by_port[port].push(share)?;
     }
     Ok(())
 }
@@ -90,23 +90,23 @@ fn bank_with_shares(
     Ok(Bank::new(alloc, bank.base, bank.size, journal, ports)?)
 }
 
-/// The banks, and in `hands` the shares of them.
+/// The banks, and in `by_port` their shares.
 fn make_banks(
     alloc: Global,
     config: &NodeConfig,
-    hands: &mut Vec<Hand>,
+    by_port: &mut Vec<PortShares>,
 ) -> Result<Vec<Bank>, NodeFault>
     requires within { list_all is_within config.now.banks.now ≡ true }
     requires ports { is_ports config.now.ports ≡ true }
-    requires hands { AreHands 0 config.now.ports hands.old.items }
+    requires by_port { ArePortShares 0 config.now.ports by_port.old.items }
     ensures banks { IfOk result (λ banks. banks.items ≡ map (bank_of config.now.ports) config.now.banks.now) }
     ensures memory { IfErr result (λ fault. fault ≡ NodeFault.Memory) }
-    ensures hands { OnOk result (AreHands (length config.now.banks.now) config.now.ports hands.new.items) }
+    ensures by_port { OnOk result (ArePortShares (length config.now.banks.now) config.now.ports by_port.new.items) }
 {
     let mut banks = Vec::with_capacity(alloc, config.banks.len())?;
     for bank in config.banks {
         let (bank, shares) = bank_with_shares(alloc, bank, config.ports)?;
-        deal(hands, shares)?;
+        distribute(by_port, shares)?;
         banks.push(bank)?;
     }
     Ok(banks)
@@ -114,13 +114,13 @@ fn make_banks(
 
 impl Banks {
     ghost use Rattle.std.specs.Borrow.{sem};
-    ghost use Rattle.target.specs.Lending.{LendsBank};
+    ghost use Rattle.target.specs.Loans.{LendsBank};
 
     /// Banks of zero bytes, and for each port, in order, its share of each. `Ports` and then `Banks`
     /// where a number is outside its limits; `Memory` where memory was refused.
-    pub fn new(alloc: Global, config: &NodeConfig) -> Result<(Banks, Vec<Hand>), NodeFault>
+    pub fn new(alloc: Global, config: &NodeConfig) -> Result<(Banks, Vec<PortShares>), NodeFault>
         ensures banks { IfOk result (λ made. made.0 ≡ map (bank_of config.now.ports) config.now.banks.now) }
-        ensures hands { IfOk result (λ made. AreHands (length config.now.banks.now) config.now.ports made.1.items) }
+        ensures by_port { IfOk result (λ made. ArePortShares (length config.now.banks.now) config.now.ports made.1.items) }
         ensures limits { IfOk result (λ _. (config.now.ports ≤ PORTS) × (length config.now.banks.now ≤ MAX_BANKS)) }
         ensures bad_ports { is_ports config.now.ports ≡ false → result ≡ Err NodeFault.Ports }
         ensures bad_banks { is_ports config.now.ports ≡ true → are_within config.now.banks.now ≡ false → result ≡ Err NodeFault.Banks }
@@ -132,9 +132,9 @@ impl Banks {
         if !are_within(config.banks) {
             return Err(NodeFault::Banks);
         }
-        let mut hands = empty_hands(alloc, config.ports)?;
-        let banks = make_banks(alloc, config, &mut hands)?;
-        Ok((Banks { banks }, hands))
+        let mut by_port = empty_shares(alloc, config.ports)?;
+        let banks = make_banks(alloc, config, &mut by_port)?;
+        Ok((Banks { banks }, by_port))
     }
 
     /// How many banks there are.

@@ -4,28 +4,28 @@
 //! runs the port's program on it ([`judge_by`]), and [`finish`] applies the verdict to the bank that it names.
 #![tactic(auto)]
 
+mod applied;
 mod banks;
 mod bearing;
 mod config;
 mod faults;
-mod finishing;
-mod hand;
 mod laws;
 mod node;
 mod pass;
-mod serving;
+mod served;
+mod shares;
 mod step;
 mod stop;
 
+pub use applied::finish;
 pub use banks::Banks;
 pub use bearing::Bearing;
 pub use config::{BankConfig, NodeConfig};
 pub use faults::NodeFault;
-pub use finishing::finish;
-pub use hand::Hand;
 pub use laws::{made_are_paired, paired_commands_fit, pairs_stay};
 pub use node::Node;
 pub use pass::Pass;
-pub use serving::{Served, serve_packet};
+pub use served::{Served, serve_packet};
+pub use shares::PortShares;
 pub use step::{Step, judge, judge_by};
 pub use stop::{Stop, admit};

@@ -4,14 +4,14 @@ ghost use Rattle.std.specs.Prelude.{◌≡◌, ◌≤◌, length, IfOk, IfErr, E
 ghost use Rattle.std.specs.List.{range_with_len};
 ghost use Rattle.bank.specs.Limits.{is_ports};
 ghost use Rattle.target.specs.Pairs.{ArePaired};
-ghost use Rattle.target.specs.Making.{AreHands, windows_of, bank_of, first_pass, are_within};
+ghost use Rattle.target.specs.Nodes.{ArePortShares, windows_of, bank_of, first_pass, are_within};
 
 use crate::banks::Banks;
 use crate::bearing::Bearing;
 use crate::config::NodeConfig;
 use crate::faults::NodeFault;
-use crate::hand::Hand;
 use crate::pass::Pass;
+use crate::shares::PortShares;
 use bver::Accepted;
 use rmap::{MAX_BANKS, Windows};
 use spw::PORTS;
@@ -26,9 +26,9 @@ pub struct Node {
 
 impl Model for Node {
     ghost use Rattle.std.specs.Prelude.{List};
-    ghost use Rattle.bank.specs.Records.{Contents};
+    ghost use Rattle.bank.specs.Records.{BankValue};
 
-    ghost Value = { List Contents };
+    ghost Value = { List BankValue };
 
     ghost view = { λ n. n.banks };
 }
@@ -50,21 +50,21 @@ fn windows(config: &NodeConfig) -> Windows
 fn passes(
     alloc: Global,
     config: &NodeConfig,
-    hands: &mut Vec<Hand>,
+    by_port: &mut Vec<PortShares>,
     factory: &Accepted,
 ) -> Result<Vec<Pass>, AllocError>
     requires banks { length config.now.banks.now ≤ MAX_BANKS }
     requires ports { config.now.ports ≤ PORTS }
-    requires hands { AreHands (length config.now.banks.now) config.now.ports hands.old.items }
+    requires by_port { ArePortShares (length config.now.banks.now) config.now.ports by_port.old.items }
     ensures { IfOk result (λ passes. passes.items ≡ map (first_pass config.now.address config.now.banks.now factory.now) (range_with_len 0 config.now.ports)) }
 {
-    let mut passes = Vec::with_capacity(alloc, hands.len())?;
+    let mut passes = Vec::with_capacity(alloc, by_port.len())?;
     for port in 0..config.ports {
         let pass = Pass {
             bearing: Bearing::new(port, windows(config)),
             program: factory.copy()?,
             generation: 0,
-            shares: hands[usize::from(port)].take(alloc),
+            shares: by_port[usize::from(port)].take(alloc),
         };
         passes.push(pass)?;
     }
@@ -73,7 +73,7 @@ fn passes(
 
 impl Node {
     ghost use Rattle.std.specs.Borrow.{sem};
-    ghost use Rattle.target.specs.Lending.{LendsBanks};
+    ghost use Rattle.target.specs.Loans.{LendsBanks};
 
     /// A node of zero bytes, and a pass for each port, in order. Each port has its own copy of the
     /// factory program, of generation 0. `Ports` and then `Banks` where a number is outside its
@@ -90,8 +90,8 @@ impl Node {
         ensures bad_banks { is_ports config.now.ports ≡ true → are_within config.now.banks.now ≡ false → result ≡ Err NodeFault.Banks }
         ensures memory { is_ports config.now.ports ≡ true → are_within config.now.banks.now ≡ true → IfErr result (λ fault. fault ≡ NodeFault.Memory) }
     {
-        let (banks, mut hands) = Banks::new(alloc, config)?;
-        let passes = passes(alloc, config, &mut hands, &factory)?;
+        let (banks, mut by_port) = Banks::new(alloc, config)?;
+        let passes = passes(alloc, config, &mut by_port, &factory)?;
         Ok((Node { banks }, passes))
     }
 

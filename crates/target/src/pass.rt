@@ -1,7 +1,7 @@
 //! What a port has of its node.
 
 ghost use Rattle.std.specs.Prelude.{◌≡◌, ◌<◌, length, slice_get, Some};
-ghost use Rattle.target.specs.Passes.{IsHolder};
+ghost use Rattle.target.specs.Passes.{IsPass};
 
 use crate::bearing::Bearing;
 use bank::Share;
@@ -20,13 +20,13 @@ pub struct Pass {
 }
 
 impl Model for Pass {
-    ghost use Rattle.target.specs.Passes.{Holder, IsHolder};
+    ghost use Rattle.target.specs.Passes.{PassValue, IsPass};
 
-    ghost Value = { Holder };
+    ghost Value = { PassValue };
 
     ghost view = { λ p. record { port = p.bearing.port; windows = p.bearing.windows; program = p.program; generation = p.generation; shares = p.shares.items } };
 
-    ghost invariant = { λ p. IsHolder (record { port = p.bearing.port; windows = p.bearing.windows; program = p.program; generation = p.generation; shares = p.shares.items }) };
+    ghost invariant = { λ p. IsPass (record { port = p.bearing.port; windows = p.bearing.windows; program = p.program; generation = p.generation; shares = p.shares.items }) };
 }
 
 impl Pass {
@@ -41,7 +41,7 @@ impl Pass {
     /// How many banks the node has.
     pub fn banks(&self) -> usize
         ensures value { result ≡ length self.now.shares }
-        ensures holder { IsHolder self.now }
+        ensures holder { IsPass self.now }
     {
         self.shares.len()
     }

@@ -2,7 +2,7 @@
 
 ghost use Rattle.std.specs.Prelude.{◌≡◌, ◌&&◌, Some};
 ghost use Rattle.rmap.specs.Command.{command_of, command_kind};
-ghost use Rattle.brun.specs.Running.{header, RunsWithin};
+ghost use Rattle.brun.specs.Runs.{header, RunsWithin};
 ghost use Rattle.target.specs.Steps.{is_read, is_in_bank, IsJudgedBy, IsStep};
 
 use crate::bearing::Bearing;

@@ -1,6 +1,6 @@
 use Rattle.std.proofs.Common.{◌≡◌, rules, Ok}
 use Rattle.absdom.specs.Kinds.{number_of}
-use Rattle.absdom.specs.Knowledge.{kind_at}
+use Rattle.absdom.specs.State.{kind_at}
 use Rattle.absdom.specs.Edges.{compared}
 use Rattle.absdom.proofs.Narrowing.{edges_by_ranges}
 use Rattle.absdom.proofs.edges.refine.Goals as goal

@@ -1,6 +1,6 @@
 use Rattle.std.proofs.Common.{ℕ, ◌<◌}
 use Rattle.absdom.specs.Kinds.{IsKindBelow}
-use Rattle.absdom.specs.Knowledge.{kind_in}
+use Rattle.absdom.specs.State.{kind_in}
 use Rattle.absdom.proofs.state.are_below.Given as goal
 
 abbrev pub invariant-loop-register : goal.invariant-loop-register

@@ -1,6 +1,6 @@
 use Rattle.std.proofs.Common.{◌≡◌, ℕ, ◌<◌, ◌≤◌, length}
 use Rattle.absdom.specs.Kinds.{joined}
-use Rattle.absdom.specs.Knowledge.{kind_in}
+use Rattle.absdom.specs.State.{kind_in}
 use Rattle.absdom.proofs.state.join_kinds.Given as goal
 
 abbrev pub invariant-loop-register : goal.invariant-loop-register

@@ -2,7 +2,7 @@ use Rattle.std.proofs.Common.{◌≡◌, pos, sym, ap, ◌∙◌, to_z}
 use Rattle.std.specs.Prelude.{Ok}
 use Rattle.std.specs.Int.{w64}
 use Rattle.std.proofs.Math.IntN.{nat_abs}
-use Rattle.basm.specs.Naming.{slot_named}
+use Rattle.basm.specs.Names.{slot_named}
 use Rattle.basm.proofs.LoopReadings.{end_number, not_above, not_below, slot_of_name, slot_of_number}
 use Rattle.basm.proofs.OperandReadings.{no_value}
 use Rattle.basm.proofs.directives.read_end.Goals.{then-is_name+in_ok-ok_or, else-is_name+in_ok-field, else-slot-ge0-via-then-slot-ge0+else-slot-from, else-slot-ge0-via-else-slot-ge0}

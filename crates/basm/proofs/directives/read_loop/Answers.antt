@@ -1,6 +1,6 @@
 use Rattle.std.proofs.Common.{sym, ◌∙◌, arith}
 use Rattle.std.proofs.lemmas.Result.{IfOk-at_ok}
-use Rattle.basm.specs.Naming.{slot_named}
+use Rattle.basm.specs.Names.{slot_named}
 use Rattle.basm.proofs.Items.{four_from}
 use Rattle.basm.proofs.LoopReadings.{loop_read, same_ends, same_loop}
 use Rattle.basm.proofs.OperandReadings.{no_value}

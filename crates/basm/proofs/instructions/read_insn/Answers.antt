@@ -1,4 +1,4 @@
-use Rattle.basm.specs.Naming.{slot_named}
+use Rattle.basm.specs.Names.{slot_named}
 use Rattle.basm_lex.specs.declared.mnemonics.Mnemonic.TheVariants.{Arithmetic, Negation, SignedMove, Swapping, Loading, Storing, StoringRegister, Jumping, ShortGoto, LongGoto, WideLoad, MapLoad, AddressLoad, Calling, Exiting}
 use Rattle.basm.proofs.InsnReadings.{insn_read}
 use Rattle.basm.proofs.instructions.read_insn.Goals as goal

@@ -3,7 +3,7 @@ use Rattle.std.proofs.lemmas.List.{get_or_at}
 use Rattle.slow_machine.specs.Endings.{answers_of}
 use Rattle.slow_machine.proofs.Walking.{walk_begins, walk_moves, walk_asks, walk_ends, walk_traps, walk_stops, walk_lacks, still_asks, along_left}
 use Rattle.slow_machine.proofs.endings.walk.Goals as goal
-use Rattle.slow_machine.proofs.endings.walk.Goals.{in-Moved, in-Asked+in-Some}
+use Rattle.slow_machine.proofs.endings.walk.Goals.{in-Next, in-Ask+in-Some}
 
 none_left : (xs : List ℕ) → length xs ≡ 0 → xs ≡ []
 none_left [] e = refl
@@ -24,20 +24,20 @@ pub returns-in_default : goal.returns-in_default
 returns-in_default c =
     λ port entered.
     let at = along_left _ _ _ _ _ _ _ _ [] (none_left _ c.in_default.ensures.cases) (c.loop-step.invariant.at port entered) in
-    walk_lacks _ _ _ _ _ _ _ c.loop-step.machine c.step.new.self _ _ _ at c.in-Asked.ensures.turn c.loop-step-test.true
+    walk_lacks _ _ _ _ _ _ _ c.loop-step.machine c.step.new.self _ _ _ at c.in-Ask.ensures.turn c.loop-step-test.true
 
 pub answer-requires : goal.answer-requires
-answer-requires c = still_asks c.loop-step.machine c.step.new.self _ _ _ c.in-Asked.ensures.turn c.in-Asked.ensures.run
+answer-requires c = still_asks c.loop-step.machine c.step.new.self _ _ _ c.in-Ask.ensures.turn c.in-Ask.ensures.run
 
-pub returns-in-Ended : goal.returns-in-Ended
-returns-in-Ended c =
+pub returns-in-Verdict : goal.returns-in-Verdict
+returns-in-Verdict c =
     λ port entered.
-    walk_ends _ _ _ _ _ _ _ _ c.loop-step.machine c.step.new.self _ (c.loop-step.invariant.at port entered) c.in-Ended.ensures.turn c.loop-step-test.true
+    walk_ends _ _ _ _ _ _ _ _ c.loop-step.machine c.step.new.self _ (c.loop-step.invariant.at port entered) c.in-Verdict.ensures.turn c.loop-step-test.true
 
-pub returns-in-Trapped : goal.returns-in-Trapped
-returns-in-Trapped c =
+pub returns-in-Trap : goal.returns-in-Trap
+returns-in-Trap c =
     λ port entered.
-    walk_traps _ _ _ _ _ _ _ c.loop-step.machine c.step.new.self _ (c.loop-step.invariant.at port entered) c.in-Trapped.ensures.turn c.loop-step-test.true
+    walk_traps _ _ _ _ _ _ _ c.loop-step.machine c.step.new.self _ (c.loop-step.invariant.at port entered) c.in-Trap.ensures.turn c.loop-step-test.true
 
 pub loop-step-preserved : goal.loop-step-preserved
 loop-step-preserved c =
@@ -45,18 +45,18 @@ loop-step-preserved c =
     let asked = c.step.new.self in
     let one_more = ap (λ k. k + 1) c.loop-step.invariant.steps in
     elim c.match-step.branch [
-      | in-Moved w ↦
+      | in-Next w ↦
           rw (w.machine-is, w.left-is) (record {
-            steps = w.in-Moved.ensures.steps ∙ one_more;
-            at = λ port entered. walk_moves _ _ _ _ _ _ before asked _ (c.loop-step.invariant.at port entered) w.in-Moved.ensures.turn w.in-Moved.ensures.run;
+            steps = w.in-Next.ensures.steps ∙ one_more;
+            at = λ port entered. walk_moves _ _ _ _ _ _ before asked _ (c.loop-step.invariant.at port entered) w.in-Next.ensures.turn w.in-Next.ensures.run;
           })
-      | in-Asked+in-Some w ↦
+      | in-Ask+in-Some w ↦
           rw (w.machine-is, w.left-is) (record {
-            steps = w.answer.ensures.steps ∙ w.in-Asked.ensures.steps ∙ one_more;
+            steps = w.answer.ensures.steps ∙ w.in-Ask.ensures.steps ∙ one_more;
             at = λ port entered.
                 let at = along_left _ _ _ _ _ _ _ _ _ w.in-Some.ensures.cases.0 (c.loop-step.invariant.at port entered) in
                 let small = given_small c.args.answers.now (answers_of at.calls) _ _ at.given c.type_inv.answers in
-                walk_asks _ _ _ _ _ _ before asked w.answer.new.self _ _ _ _ _ at w.in-Asked.ensures.turn w.in-Asked.ensures.run small w.answer.ensures.state w.answer.ensures.run;
+                walk_asks _ _ _ _ _ _ before asked w.answer.new.self _ _ _ _ _ at w.in-Ask.ensures.turn w.in-Ask.ensures.run small w.answer.ensures.state w.answer.ensures.run;
           })
     ]
 

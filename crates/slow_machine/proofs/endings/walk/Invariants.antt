@@ -1,6 +1,6 @@
 use Rattle.std.proofs.Common.{◌≡◌, ℕ}
 use Rattle.machine.specs.State.{entry_state}
-use Rattle.slow_machine.specs.Standing.{state_of}
+use Rattle.slow_machine.specs.Machine.{state_of}
 use Rattle.slow_machine.proofs.Walking.{IsAt}
 use Rattle.slow_machine.proofs.endings.walk.Given as goal
 

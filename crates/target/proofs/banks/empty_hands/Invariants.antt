@@ -1,5 +1,5 @@
-use Rattle.target.specs.Making.{AreHands}
-use Rattle.target.proofs.banks.empty_hands.Given as goal
+use Rattle.target.specs.Nodes.{ArePortShares}
+use Rattle.target.proofs.banks.empty_shares.Given as goal
 
 abbrev pub invariant-loop-port : goal.invariant-loop-port
-invariant-loop-port l = AreHands 0 l._port l.hands.items
+invariant-loop-port l = ArePortShares 0 l._port l.by_port.items

@@ -3,8 +3,8 @@ use Rattle.std.proofs.lemmas.List.FromFn.{length-map-range_with_len}
 use Rattle.bank.specs.Records.{first_share}
 use Rattle.std.proofs.lemmas.List.{map_more}
 use Rattle.target.specs.declared.config.BankConfig.{BankConfig}
-use Rattle.target.specs.Making.{bank_of}
-use Rattle.target.proofs.Makings.{dealt_hands}
+use Rattle.target.specs.Nodes.{bank_of}
+use Rattle.target.proofs.Makings.{distributed_shares}
 use Rattle.target.proofs.banks.make_banks.Goals as goal
 
 pub deal-requires : goal.deal-requires
@@ -17,4 +17,4 @@ loop-bank-preserved c =
     let i = c.loop-bank.bank-index in
     let none : BankConfig = record { base = 0; size = 0; room = 0 } in
     let more = map_more (bank_of c.args.config.now.ports) banks i none c.loop-bank-test.true in
-    (c.in_ok-push.ensures.items ∙ rw (c.loop-bank.invariant.0, c.in_ok-bank.ensures.bank) (sym more), dealt_hands _ _ _ _ _ c.loop-bank.invariant.1 c.in_ok-deal.ensures c.in_ok-bank.ensures.shares)
+    (c.in_ok-push.ensures.items ∙ rw (c.loop-bank.invariant.0, c.in_ok-bank.ensures.bank) (sym more), distributed_shares _ _ _ _ _ c.loop-bank.invariant.1 c.in_ok-distribute.ensures c.in_ok-bank.ensures.shares)

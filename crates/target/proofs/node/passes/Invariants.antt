@@ -1,13 +1,13 @@
 use Rattle.std.proofs.Common.{◌≡◌, ◌<◌, ◌≤◌, ℕ, [], length, get_or}
 use Rattle.std.specs.Prelude.{map, replicate}
 use Rattle.std.specs.List.{range_with_len}
-use Rattle.target.specs.Making.{first_pass}
+use Rattle.target.specs.Nodes.{first_pass}
 use Rattle.bank.specs.Records.{first_share}
 use Rattle.target.proofs.node.passes.Given as goal
 
 abbrev pub invariant-loop-port : goal.invariant-loop-port
 invariant-loop-port l = record {
-  count : length l.hands.items ≡ l.config.ports;
+  count : length l.by_port.items ≡ l.config.ports;
   passes : l.passes.items ≡ map (first_pass l.config.address l.config.banks.now l.factory) (range_with_len 0 l.port);
-  rest : (k : ℕ) → l.port ≤ k → k < l.config.ports → get_or l.hands.items k [] ≡ replicate (length l.config.banks.now) (first_share k);
+  rest : (k : ℕ) → l.port ≤ k → k < l.config.ports → get_or l.by_port.items k [] ≡ replicate (length l.config.banks.now) (first_share k);
 }

@@ -1,6 +1,6 @@
 use Rattle.std.proofs.Common.{◌≡◌, length}
 use Rattle.std.specs.Prelude.{map, take}
-use Rattle.target.specs.Making.{range_of}
+use Rattle.target.specs.Nodes.{range_of}
 use Rattle.target.proofs.node.windows.Given as goal
 
 abbrev pub invariant-loop-k : goal.invariant-loop-k

@@ -3,9 +3,9 @@ use Rattle.std.proofs.lemmas.Option.{none-some}
 use Rattle.std.proofs.lemmas.Result.{IfOk-weaker}
 use Rattle.basm_lex.specs.Lines.{operands_of}
 use Rattle.basm_lex.specs.Names.{IsName}
-use Rattle.basm.specs.Adding.{AddsItem, HasRoom, UnlessMemory}
+use Rattle.basm.specs.Draft.{AddsItem, HasRoom, UnlessMemory}
 use Rattle.basm_lex.specs.Mnemonics.{mnemonic_word}
-use Rattle.basm.specs.Naming.{slot_named}
+use Rattle.basm.specs.Names.{slot_named}
 use Rattle.basm.specs.Relation.{Item}
 use Rattle.basm.proofs.Arms.{budget_item, empty_adds, insn_item, label_item, loop_item}
 use Rattle.basm.proofs.Items.{adds_label, line_insn, line_label, line_loop, line_nothing}

@@ -1,7 +1,7 @@
 use Rattle.std.proofs.Common.{refl, sym, ap, ◌∙◌, ℕ, Option}
 use Rattle.std.specs.Option.{is_some}
 use Rattle.std.proofs.lemmas.Bool.{false≢true}
-use Rattle.basm.specs.Naming.{slot_named}
+use Rattle.basm.specs.Names.{slot_named}
 use Rattle.basm.proofs.Lookups.{none_from_false, seen_is_some, seen_known, seen_new}
 use Rattle.basm.proofs.names.Names.define.Goals as goal
 use Rattle.basm.proofs.names.Names.define.Goals.{in-Ok, in-Err}

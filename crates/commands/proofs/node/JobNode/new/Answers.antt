@@ -1,11 +1,11 @@
 use Rattle.std.proofs.Common.{◌∙◌, ap, ap₂, sym, ℕ, List}
-use Rattle.bank.specs.Records.{Contents}
-use Rattle.target.specs.Passes.{Holder}
+use Rattle.bank.specs.Records.{BankValue}
+use Rattle.target.specs.Passes.{PassValue}
 use Rattle.commands.specs.JobNode.{JobNodeValue}
 use Rattle.commands.proofs.OnePort.{last_of_one}
 use Rattle.commands.proofs.node.JobNode.new.Goals as goal
 
-abbrev setup : List Contents → Holder → List ℕ → JobNodeValue
+abbrev setup : List BankValue → PassValue → List ℕ → JobNodeValue
 setup banks holder reply = record { banks = banks; holder = holder; reply = reply }
 
 pub returns-clause-made : goal.returns-clause-made

@@ -1,5 +1,5 @@
 use Rattle.std.proofs.Common.{rules, ◌≡◌, refl, sym, subst}
-use Rattle.rmap.specs.Command.{Parts, IsHeader, command_of}
+use Rattle.rmap.specs.Command.{CommandValue, IsHeader, command_of}
 use Rattle.rmap.proofs.Cuts.{IsCut}
 use Rattle.rmap.proofs.Readings.{cut_is, header_in}
 use Rattle.rmap.proofs.command.Command.again.Goals as goal
@@ -8,7 +8,7 @@ pub returns : goal.returns
 returns c =
     let p = c.args.packet.now in
     let n = c.reply_address_len-address.result in
-    let parts : Parts = record { front = c.unwrap.result.0.now; path = c.split_at.result.0.now; tail = c.unwrap-2.result.0.now; body = c.unwrap-2.result.1.now; end = c.end-end.result } in
+    let parts : CommandValue = record { front = c.unwrap.result.0.now; path = c.split_at.result.0.now; tail = c.unwrap-2.result.0.now; body = c.unwrap-2.result.1.now; end = c.end-end.result } in
     let cut : IsCut p.bytes n parts = record { front = search rules; path = search rules; tail = search rules; body = search rules; long = search rules } in
     cut_is p n parts cut (search rules) (search rules)
 

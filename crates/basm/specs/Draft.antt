@@ -1,0 +1,93 @@
+-- What a line adds to the parts of an image.
+use Rattle.std.specs.Prelude.{◌≡◌, ℕ, ◌+◌, ◌≤◌, ◌<◌, ◌==◌, Bool, true, false, List, ◌∷◌, [], ◌++◌, length, pos, Option, Some, None, Result, MatchResult}
+use Rattle.std.specs.Option.{option_to_list}
+use Rattle.std.specs.List.{flat_map, list_any}
+use Rattle.std.specs.List.Sorted.{IsPermutation}
+use Rattle.bpf.specs.Parts.{placed}
+use Rattle.bpf.specs.declared.loops.Loop.{Loop}
+use Rattle.bpf.specs.Program.{Program, IsBudget, IsLoop, IsProgram}
+use Rattle.bpf_insn.specs.declared.insn.Insn.{Insn}
+use Rattle.bpf_insn.specs.Spelling.{slots_of}
+use Rattle.basm_lex.specs.Numbers.{WritesNumber}
+use Rattle.basm_lex.specs.Places.{WritesRegister}
+use Rattle.basm.specs.declared.faults.AsmCode.{AsmCode}
+use Rattle.basm.specs.declared.faults.AsmCode.TheVariants.{Memory}
+use Rattle.basm.specs.declared.draft.Draft.{Draft}
+use Rattle.basm.specs.declared.survey.Survey.{Survey}
+use Rattle.basm.specs.Names.{slot_named}
+use Rattle.basm.specs.Relation.{Four, Item, Nothing, Label, Budget, OneLoop, Code, AreLines, IsLine, IsText, WritesEnd, budget_in, loop_in, insn_in, slots_in}
+
+-- the operands of `.loop` write the loop
+abbrev pub WritesLoop : {X : Type 0} (text : X → List ℕ) (names : List ℕ → Option ℕ) → List X → Loop → Type 0
+WritesLoop text names xs l =
+    Four text xs (λ a. WritesEnd names a l.head) (λ b. WritesEnd names b l.back) (λ c. WritesNumber c (pos l.bound)) (λ d. WritesRegister d l.register)
+
+-- the instruction is appended, and there are at most 512 slots after it
+pub record PushesInsn (old new : List Insn) (slot : ℕ) (insn : Insn) (after : ℕ) : Type 0 where
+  pub pushed : new ≡ old ++ insn ∷ []
+  pub next : after ≡ slot + slots_of insn
+  pub few : after ≤ 512
+
+-- the item is added behind the others
+pub record AddsItem (item : Item) (old new : Draft) : Type 0 where
+  pub budget : option_to_list new.budget ≡ option_to_list old.budget ++ budget_in item
+  pub loops : new.loops.items ≡ old.loops.items ++ loop_in item
+  pub insns : new.insns.items ≡ old.insns.items ++ insn_in item
+  pub slots : new.slots ≡ old.slots + slots_in item
+
+-- what is made has the property, unless memory was refused
+abbrev pub UnlessMemory : {X : Type 0} → Result X AsmCode → (X → Type 0) → Type 0
+UnlessMemory result P = MatchResult result P (λ code. code ≡ Memory)
+
+-- whether one of the loops has the head
+abbrev pub has_head : ℕ → List Loop → Bool
+has_head head loops = list_any (λ l. l.head == head) loops
+
+-- the item may stand behind the parts, in a text of so many slots
+abbrev pub HasRoom : (slots : ℕ) → Item → Draft → Type 0
+HasRoom slots Nothing parts = Unit {0}
+HasRoom slots (Label name) parts = Unit {0}
+HasRoom slots (Budget n) parts = IsBudget n × (parts.budget ≡ None)
+HasRoom slots (OneLoop l) parts =
+    IsLoop slots l × (slots ≤ 512) × (has_head l.head parts.loops.items ≡ false) × (length parts.loops.items < 8)
+HasRoom slots (Code insn) parts = parts.slots + slots_of insn ≤ 512
+
+-- what the line says was added
+pub record AddsLine (names : List ℕ → Option ℕ) (line : List ℕ) (old new : Draft) : Type 0 where
+  pub item : Item
+  pub says : IsLine names old.slots line item
+  pub adds : AddsItem item old new
+  pub few : old.slots ≤ 512 → new.slots ≤ 512
+
+-- how many slots the items take
+abbrev pub slots_of_items : List Item → ℕ
+slots_of_items [] = 0
+slots_of_items (item ∷ items) = slots_in item + slots_of_items items
+
+-- the parts are those of the items
+pub record ArePartsOf (items : List Item) (parts : Draft) : Type 0 where
+  pub budget : option_to_list parts.budget ≡ flat_map budget_in items
+  pub loops : parts.loops.items ≡ flat_map loop_in items
+  pub insns : parts.insns.items ≡ flat_map insn_in items
+  pub slots : parts.slots ≡ slots_of_items items
+
+-- the lines say the parts
+pub record SayParts (names : List ℕ → Option ℕ) (lines : List (List ℕ)) (parts : Draft) : Type 0 where
+  pub items : List Item
+  pub says : AreLines names 0 lines items
+  pub parts_of : ArePartsOf items parts
+  pub few : parts.slots ≤ 512
+
+-- the image of the parts, its loops by rising head
+pub record IsImageOf (parts : Draft) (p : Program) : Type 0 where
+  pub program : IsProgram p
+  pub budget : parts.budget ≡ Some p.budget
+  pub loops : IsPermutation parts.loops.items p.loops
+  pub code : p.slots ≡ flat_map placed parts.insns.items
+
+-- the survey of a right text
+pub record SurveysText {text : List ℕ} {p : Program} (t : IsText text p) (survey : Survey) : Type 0 where
+  pub names : slot_named survey.names ≡ t.names
+  pub repeated : survey.repeated ≡ None
+  pub slots : survey.slots ≡ length p.slots
+  pub budget : survey.has_budget ≡ true

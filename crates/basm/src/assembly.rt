@@ -1,0 +1,73 @@
+//! From a text to an image.
+
+ghost use Rattle.std.specs.Prelude.{◌≡◌, ◌==◌, IfOk, MatchResult};
+ghost use Rattle.std.specs.List.{slice_split};
+ghost use Rattle.bpf.specs.Program.{Program};
+ghost use Rattle.basm.specs.Draft.{ArePartsOf, SayParts, SurveysText};
+ghost use Rattle.basm.specs.Names.{slot_named};
+ghost use Rattle.basm.specs.Outcomes.{Makes, out_of_memory};
+ghost use Rattle.basm.specs.Relation.{IsText};
+ghost use Rattle.basm.specs.declared.faults.AsmCode.TheVariants.{Memory};
+
+use crate::draft::Draft;
+use crate::faults::{AsmCode, AsmFault};
+use crate::survey::Survey;
+use basm_lex::mnemonic_laws;
+use bpf::Image;
+use std::alloc::Global;
+
+/// The image that the text writes. Its loops are sorted by their heads.
+///
+/// # Errors
+///
+/// The fault of the lowest line that has one, and on that line the one with the lowest code. A text
+/// without instructions is `TooMany` and one without a budget `BadBudget` at line 0, and so is
+/// `Memory` wherever it was refused.
+pub fn assemble(alloc: Global, text: &str) -> Result<Image, AsmFault>
+    ensures text { IfOk result (IsText text.now) }
+
+    // A text of an image gives that image, unless memory is refused.
+    ensures exact { (p : Program) → IsText text.now p → Makes p result }
+{
+    mnemonic_laws();
+    let survey = Survey::of(alloc, text)?;
+    if survey.slots == 0 {
+        return Err(AsmFault::of_text(AsmCode::TooMany));
+    }
+    if !survey.has_budget {
+        return Err(AsmFault::of_text(AsmCode::BadBudget));
+    }
+    let parts = read_lines(alloc, text, &survey)?;
+    if let Some(line) = survey.repeated {
+        return Err(AsmFault::of_line(line, AsmCode::BadLabel));
+    }
+    parts.into_image(alloc)
+}
+
+/// What the lines declare.
+fn read_lines(alloc: Global, text: &str, survey: &Survey) -> Result<Draft, AsmFault>
+    ensures parts { IfOk result (SayParts (slot_named survey.now.names) (slice_split (λ c. c == 10) text.now)) }
+    ensures exact { (p : Program) (t : IsText text.now p) → SurveysText t survey.now → MatchResult result (ArePartsOf t.items) (λ fault. fault ≡ out_of_memory) }
+{
+    let mut parts = Draft::new(alloc);
+    let mut number: u32 = 0;
+    for line in text.split('\n') {
+        number = number.saturating_add(1);
+        if let Err(code) = parts.add_line(alloc, survey, line) {
+            return Err(first_fault(survey.repeated, number, code));
+        }
+    }
+    Ok(parts)
+}
+
+/// The fault of this line, or that of an earlier one which defines a name again.
+fn first_fault(repeated: Option<u32>, number: u32, code: AsmCode) -> AsmFault
+    ensures { code ≡ Memory → result ≡ out_of_memory }
+{
+    match repeated {
+        Some(line) if line < number && code != AsmCode::Memory => {
+            AsmFault::of_line(line, AsmCode::BadLabel)
+        }
+        _ => AsmFault::of_line(number, code),
+    }
+}

@@ -1,0 +1,49 @@
+-- Where the bytes of a command lie. The standard leaves open what is behind the addresses
+-- (ECSS-E-ST-50-52C, extended address field and address field): this is a choice of this target.
+use Rattle.std.specs.Prelude.{ℕ, ◌+◌, Bool, ◌==◌, ◌&&◌, ◌||◌, not, nat_le, nat_lt, if◌then◌else◌, List, slice_get, Option, None, Some}
+use Rattle.rmap.specs.declared.kind.Kind.{Kind}
+use Rattle.rmap.specs.declared.kind.Kind.TheVariants.{Read, Write, Rmw, Unused}
+use Rattle.rmap.specs.declared.places.Place.{Place}
+use Rattle.rmap.specs.declared.places.Place.TheVariants.{Bank, Staging, LoadResult, Control}
+use Rattle.rmap.specs.Instruction.{is_used}
+use Rattle.rmap.specs.Command.{CommandValue, extended_of, address_of, length_of, command_kind, increments}
+
+-- a node's logical address, and the base and size of each bank
+pub record WindowsValue : Type 0 where
+  pub node_address : ℕ
+  pub banks : List (ℕ × ℕ)
+
+-- the address lies inside, and with increment the data does not pass the end
+abbrev pub lies_inside : (base size : ℕ) → CommandValue → Bool
+lies_inside base size c =
+    nat_le base (address_of c) && nat_lt (address_of c) (base + size)
+    && (not (increments c) || nat_le (address_of c + length_of c) (base + size))
+
+-- staging is as a bank of 16,384 bytes at 0, for every kind that is used
+abbrev pub is_staged : CommandValue → Bool
+is_staged c = is_used (command_kind c) && lies_inside 0 16384 c
+
+-- exactly that many bytes at 0x10000, with increment
+abbrev pub is_register : ℕ → CommandValue → Bool
+is_register size c = address_of c == 0x10000 && length_of c == size && increments c
+
+-- at 0x10000 the load result is read whole, and a control write written whole
+abbrev pub register_of : Kind → CommandValue → Option Place
+register_of Read c = if is_register 8 c then Some LoadResult else None
+register_of Write c = if is_register 4 c then Some Control else None
+register_of Rmw c = None
+register_of Unused c = None
+
+-- the boot window: staging, the load result and control writes
+abbrev pub boot_place : CommandValue → Option Place
+boot_place c =
+    if is_staged c then Some Staging else register_of (command_kind c) c
+
+-- the bank of the extended address, where the command's bytes lie in it, or else the boot window
+abbrev pub bank_place : Option (ℕ × ℕ) → CommandValue → Option Place
+bank_place None c = if extended_of c == 0xFF then boot_place c else None
+bank_place (Some bank) c = if lies_inside bank.0 bank.1 c then Some (Bank (extended_of c)) else None
+
+-- the extended address names a bank, or the boot window; nothing else is allowed
+abbrev pub place_of : CommandValue → WindowsValue → Option Place
+place_of c w = bank_place (slice_get w.banks (extended_of c)) c

@@ -1,0 +1,49 @@
+-- How a node is made of its configuration.
+use Rattle.std.specs.Prelude.{◌≡◌, ◌<◌, ℕ, List, [], ◌∷◌, ◌++◌, map, length, slice_index_or, replicate, Bool, ◌&&◌, nat_le}
+use Rattle.rmap.specs.Windows.{WindowsValue}
+use Rattle.std.specs.List.{list_all}
+use Rattle.bver.specs.Justified.{AcceptedValue}
+use Rattle.bank.specs.Limits.{is_bank_size}
+use Rattle.bank.specs.Records.{BankValue, ShareValue, first_share, fresh_bank}
+use Rattle.target.specs.Passes.{PassValue}
+use Rattle.target.specs.declared.config.BankConfig.{BankConfig}
+
+-- where a bank lies
+abbrev pub range_of : BankConfig → ℕ × ℕ
+range_of bank = (bank.base, bank.size)
+
+-- the windows of a node with that address and those banks
+abbrev pub windows_of : ℕ → List BankConfig → WindowsValue
+windows_of address banks = record { node_address = address; banks = map range_of banks }
+
+-- each port has its share of the next bank after those that it had
+pub record AreDistributed (old : List (List ShareValue)) (shares : List ShareValue) (new : List (List ShareValue)) : Type 0 where
+  pub count : length new ≡ length old
+  pub by_port : (k : ℕ) → k < length old → slice_index_or new k [] ≡ slice_index_or old k [] ++ slice_index_or shares k (first_share k) ∷ []
+
+-- for each port, by its number, a first share of each of n banks
+pub record ArePortShares (n ports : ℕ) (by_port : List (List ShareValue)) : Type 0 where
+  pub count : length by_port ≡ ports
+  pub shares : (k : ℕ) → k < ports → slice_index_or by_port k [] ≡ replicate n (first_share k)
+
+-- the bank of that configuration, to which no command was applied
+abbrev pub bank_of : ℕ → BankConfig → BankValue
+bank_of ports bank = fresh_bank bank.base bank.size (record { entries = []; room = bank.room }) ports
+
+-- what a port has of its node at first: the factory program, of generation 0
+abbrev pub first_pass : ℕ → List BankConfig → AcceptedValue → ℕ → PassValue
+first_pass address banks program port = record {
+  port = port;
+  windows = windows_of address banks;
+  program = program;
+  generation = 0;
+  shares = replicate (length banks) (first_share port);
+}
+
+-- whether a bank is within its limits
+abbrev pub is_within : BankConfig → Bool
+is_within bank = is_bank_size bank.base bank.size bank.room
+
+-- whether a node may have those banks: 1 to 8, each within its limits
+abbrev pub are_within : List BankConfig → Bool
+are_within banks = nat_le 1 (length banks) && nat_le (length banks) 8 && list_all is_within banks

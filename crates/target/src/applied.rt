@@ -1,0 +1,33 @@
+//! The second half of a packet's way: its effect.
+
+ghost use Rattle.std.specs.Prelude.{◌≡◌, length, true, false};
+ghost use Rattle.bank.specs.Records.{fits};
+ghost use Rattle.target.specs.Steps.{IsBankBelow};
+ghost use Rattle.target.specs.Applied.{share_of, IsApplied, IsRefused};
+
+use crate::pass::Pass;
+use bank::{Applied, Bank, Judged};
+use rmap::{Place, ReplyBuf};
+
+/// Applies a judged command to the bank of its place, with the port's share of it, and leaves the
+/// reply. Where [`Bank::fits`] says no, it is a general error, and nothing changes: that does not
+/// happen where bank and pass were made together ([`paired_commands_fit`](crate::paired_commands_fit)).
+pub fn finish(pass: &mut Pass, bank: &mut Bank, judged: Judged, reply: &mut ReplyBuf) -> Applied
+    requires { IsBankBelow judged.place (length pass.old.shares) }
+
+    ensures applied { fits bank.old (share_of pass.old judged.place) judged ≡ true → IsApplied bank.old bank.new (share_of pass.old judged.place) pass.old pass.new judged result reply.new }
+    ensures refused { fits bank.old (share_of pass.old judged.place) judged ≡ false → IsRefused bank.old bank.new pass.old pass.new judged result reply.new }
+    ensures kept { length pass.new.shares ≡ length pass.old.shares }
+{
+    let Place::Bank(k) = judged.place() else {
+        unreachable!()
+    };
+    let k = usize::from(k);
+    if !bank.fits(&pass.shares[k], &judged) {
+        return Applied {
+            status: judged.answer_error(reply),
+            number: None,
+        };
+    }
+    bank.apply(&mut pass.shares[k], judged, reply)
+}

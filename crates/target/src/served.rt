@@ -1,0 +1,72 @@
+//! The whole way of a packet.
+
+ghost use Rattle.std.specs.Prelude.{◌≡◌, ◌≢◌, length};
+ghost use Rattle.target.specs.Served.{IsServed, IsAnswered};
+ghost use Rattle.target.specs.Passes.{PassValue};
+ghost use Rattle.target.specs.Pairs.{IsPaired};
+
+use crate::applied::finish;
+use crate::banks::Banks;
+use crate::pass::Pass;
+use crate::step::{Step, judge};
+use crate::stop::Stop;
+use bank::{Applied, extents_stay};
+use rmap::{Place, ReplyBuf};
+use spw::Packet;
+
+/// What became of a packet.
+#[derive(Clone, Copy, Debug, PartialEq, Eq)]
+pub enum Served {
+    /// It went no further than its header.
+    Stopped(Stop),
+    /// The node has nothing that serves it.
+    Unread,
+    /// It was judged, and applied to its bank.
+    Done(Applied),
+}
+
+/// What becomes of a packet, whatever the banks and the port.
+fn serve(banks: &mut Banks, pass: &mut Pass, packet: Packet, reply: &mut ReplyBuf) -> Served
+    requires { length pass.old.shares ≡ length banks.old }
+    ensures served { IsServed result packet banks.old banks.new pass.old pass.new reply.new }
+    ensures banks { length banks.new ≡ length banks.old }
+    ensures pass { length pass.new.shares ≡ length pass.old.shares }
+{
+    let _banks = pass.banks();
+    match judge(pass, packet, reply) {
+        Step::Discarded(discard, _packet) => Served::Stopped(Stop::Discarded(discard)),
+        Step::Answered(status, _packet) => Served::Stopped(Stop::Answered(status)),
+        Step::Unread(_packet) => Served::Unread,
+        Step::Judged(judged) => {
+            let Place::Bank(k) = judged.place() else {
+                unreachable!()
+            };
+            Served::Done(finish(pass, banks.bank_mut(k), judged, reply))
+        }
+    }
+}
+
+/// Serves one packet that came in at the pass's port: judges it, and applies the verdict to the bank
+/// that it names. `reply` holds the reply that is due then, if any. The condition is a pass with the
+/// number of banks; where banks and pass were made together each command that is judged is applied.
+pub fn serve_packet(
+    banks: &mut Banks,
+    pass: &mut Pass,
+    packet: Packet,
+    reply: &mut ReplyBuf,
+) -> Served
+    requires { length pass.old.shares ≡ length banks.old }
+    ensures served { IsServed result packet banks.old banks.new pass.old pass.new reply.new }
+    ensures banks { length banks.new ≡ length banks.old }
+    ensures pass { length pass.new.shares ≡ length pass.old.shares }
+
+    // Where banks and pass are paired no command is refused, and they stay so; so do all others.
+    ensures answered { IsPaired banks.old pass.old
+        → IsAnswered result packet banks.old banks.new pass.old pass.new reply.new }
+    ensures paired { IsPaired banks.old pass.old → IsPaired banks.new pass.new }
+    ensures others { (other : PassValue) → other.port ≢ pass.old.port
+        → IsPaired banks.old other → IsPaired banks.new other }
+{
+    extents_stay();
+    serve(banks, pass, packet, reply)
+}
