@@ -15,10 +15,6 @@ use Rattle.basm_lex.specs.Places.{WritesRegister}
 use Rattle.basm.specs.Relation.{Four, WritesEnd}
 use Rattle.basm.proofs.OperandReadings.{both_of, one_value}
 
--- a number that is read, as one without a sign
-pub counted : {E : Type 0} (x : ℤ) (n : ℕ) → FitsSigned w32 x → ◌≡◌ {A = Result ℤ E} (Ok x) (Ok (pos n)) → ◌≡◌ {A = Result ℕ E} (Ok (nat_abs (to_z w32 (of_z w32 x)))) (Ok n)
-counted x n fits same = ap (λ z. Ok (nat_abs z)) (to_z-of_z w32 x fits ∙ one_value x (pos n) same)
-
 -- an end that is no name is a number
 pub end_number : (names : List ℕ → Option ℕ) (word : List ℕ) (slot : ℕ) → is_name word ≡ false → WritesEnd names word slot → WritesNumber word (pos slot)
 end_number names word slot other (inl named) = absurd (true≢false (sym named.0 ∙ other))
@@ -53,11 +49,6 @@ pub same_loop : {E : Type 0} (head back bound register : ℕ) (l : Loop)
 same_loop head back bound register l same =
     ap (λ x. Ok (record { head = x.0.0; back = x.0.1; bound = x.1.0; register = x.1.1 })) (one_value ((head, back), (bound, register)) ((l.head, l.back), (l.bound, l.register)) same)
 
-pub same_ends : {E : Type 0} (head back bound register : ℕ) (l : Loop)
-    → ◌≡◌ {A = Result ((ℕ × ℕ) × (ℕ × ℕ)) E} (Ok ((head, back), (bound, register))) (Ok ((l.head, l.back), (l.bound, l.register))) → (head ≡ l.head) × (back ≡ l.back)
-same_ends head back bound register l same =
-    let one = one_value ((head, back), (bound, register)) ((l.head, l.back), (l.bound, l.register)) same in (ap (λ x. x.0.0) one, ap (λ x. x.0.1) one)
-
 -- a number begins with no letter
 letter_high : (c : ℕ) → is_ascii_alphabetic c ≡ true → 65 ≤ c
 letter_high c letter = grind arith
@@ -85,45 +76,6 @@ no_number (c ∷ cs) value (inr p) name =
     let same : c ≡ 48 = first_same c 48 cs (120 ∷ p.written.digits) p.written.prefix in
     absurd (omega arith)
 
-end_named : (names : List ℕ → Option ℕ) (word : List ℕ) (slot : ℕ) → is_name word ≡ true → WritesEnd names word slot → names word ≡ Some slot
+pub end_named : (names : List ℕ → Option ℕ) (word : List ℕ) (slot : ℕ) → is_name word ≡ true → WritesEnd names word slot → names word ≡ Some slot
 end_named names word slot name (inl named) = named.1
 end_named names word slot name (inr number) = absurd (no_number word (pos slot) number name)
-
--- a slot below 512 in 64 bits
-low_slot : (slot : ℕ) (read bits z : ℤ) → slot < 512 → read ≡ pos slot → bits ≡ to_z w64 (of_z w64 read) → bits ≡ z → z ≡ pos slot
-low_slot slot read bits z low is again same =
-    let fits : FitsSigned w64 (pos slot) = omega (arith, ints) in
-    sym same ∙ again ∙ ap (λ x. to_z w64 (of_z w64 x)) is ∙ to_z-of_z w64 (pos slot) fits
-
--- the slot that a name stands for, and the one that is written
-pub slot_of_name : (names : List ℕ → Option ℕ) (word : List ℕ) (slot found : ℕ) (o : Option ℕ) (read bits z : ℤ) → is_name word ≡ true → WritesEnd names word slot → slot < 512
-    → o ≡ names word → o ≡ Some found → read ≡ pos found → bits ≡ to_z w64 (of_z w64 read) → bits ≡ z → z ≡ pos slot
-slot_of_name names word slot found o read bits z name w low looked some is again same =
-    let one : Some found ≡ Some slot = sym some ∙ looked ∙ end_named names word slot name w in
-    let found_is : found ≡ slot = cc one in
-    low_slot slot read bits z low (is ∙ ap pos found_is) again same
-
-pub slot_of_number : {E : Type 0} (names : List ℕ → Option ℕ) (word : List ℕ) (slot : ℕ) (found read bits z : ℤ) → is_name word ≡ false → WritesEnd names word slot → slot < 512
-    → ((value : ℤ) → WritesNumber word value → ◌≡◌ {A = Result ℤ E} (Ok found) (Ok value)) → read ≡ to_z w32 (of_z w32 found) → bits ≡ to_z w64 (of_z w64 read) → bits ≡ z → z ≡ pos slot
-slot_of_number names word slot found read bits z other w low reads is again same =
-    let found_is : found ≡ pos slot = one_value found (pos slot) (reads (pos slot) (end_number names word slot other w)) in
-    let fits : FitsSigned w32 (pos slot) = omega (arith, ints) in
-    low_slot slot read bits z low (is ∙ ap (λ x. to_z w32 (of_z w32 x)) found_is ∙ to_z-of_z w32 (pos slot) fits) again same
-
--- tests that such a slot passes
-pub not_below : (n : ℕ) (z : ℤ) → z ≡ pos n → le_z (pos 0) z ≡ false → ⊥
-not_below n z same test = grind (arith, ints)
-
-pub not_above : (slot slots most : ℕ) (z read : ℤ) → z ≡ pos slot → slot < slots → slot < 512 → most ≡ min slots 512 → read ≡ pos most → lt_z z (to_z w64 (of_z w64 read)) ≡ false → ⊥
-not_above slot slots most z read same within low most_is is test =
-    let fits : FitsSigned w64 read = omega (arith, ints) in
-    let again : to_z w64 (of_z w64 read) ≡ read = to_z-of_z w64 read fits in
-    let tested : lt_z z read ≡ false = rw again at test in
-    grind (arith, ints)
-
--- and a bound
-pub not_low : (n : ℕ) (x : ℤ) → FitsSigned w32 x → x ≡ pos n → 1 ≤ n → le_z (pos 1) (to_z w32 (of_z w32 x)) ≡ false → ⊥
-not_low n x fits same low test = let tested : le_z (pos 1) x ≡ false = rw (to_z-of_z w32 x fits) at test in grind (arith, ints)
-
-pub not_high : (n : ℕ) (x : ℤ) → FitsSigned w32 x → x ≡ pos n → n ≤ 4096 → le_z (to_z w32 (of_z w32 x)) (pos 4096) ≡ false → ⊥
-not_high n x fits same high test = let tested : le_z x (pos 4096) ≡ false = rw (to_z-of_z w32 x fits) at test in grind (arith, ints)

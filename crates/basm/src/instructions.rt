@@ -86,7 +86,7 @@ fn read_insn(found: Mnemonic, operands: &[&str], names: &Names, slot: u32) -> Re
     }
 }
 
-fn reg(word: &str) -> Result<Register, AsmCode>
+pub fn reg(word: &str) -> Result<Register, AsmCode>
     ensures writes { IfOk result (WritesRegister word.now) }
     ensures exact { (number : ℕ) → WritesRegister word.now number → result ≡ Ok number }
 {

@@ -1,4 +1,3 @@
-pub mod LoopList
 pub mod Front
 pub mod Spelled
 pub mod Whole

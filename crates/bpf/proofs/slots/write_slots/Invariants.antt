@@ -1,7 +1,7 @@
 use Rattle.std.proofs.Common.{◌≡◌, ◌++◌, drop}
 use Rattle.std.specs.List.{flat_map}
 use Rattle.bpf.specs.Program.{slot_bytes}
-use Rattle.bpf.proofs.writing.write_slots.Given as goal
+use Rattle.bpf.proofs.slots.write_slots.Given as goal
 
 abbrev pub invariant-loop-slot : goal.invariant-loop-slot
 invariant-loop-slot l =
