@@ -6,3 +6,4 @@ pub mod WholeAgain
 pub mod Weighed
 pub mod Parted
 pub mod Named
+pub mod SlotReads

@@ -6,7 +6,7 @@ ghost use Rattle.std.specs.List.{flat_map};
 ghost use Rattle.bpf.specs.Reading.{Gives, are_loops, is_loop, loop_in, loops_in, loops_reading};
 
 use crate::fault::ImageFault;
-use bpf_insn::Register;
+use bpf_insn::{FRAME_POINTER, Register};
 use std::alloc::{AllocError, Global};
 
 /// The greatest bound of a loop.
@@ -35,7 +35,7 @@ impl Loop {
             && self.back < slots
             && 1 <= self.bound
             && self.bound <= MAX_BOUND
-            && self.register.number() <= 9
+            && self.register.number() < FRAME_POINTER
     }
 }
 

@@ -8,7 +8,7 @@ ghost use Rattle.bpf.specs.Program.{AreSlots, slot_bytes};
 ghost use Rattle.bpf.specs.Reading.{Fails, Gives, IsSlot, PushesSlot, begins_two, slot_in, slot_reading, slots_reading};
 
 use crate::fault::ImageFault;
-use bpf_insn::{Insn, decode, encode};
+use bpf_insn::{Insn, decode, encode, spelling_laws};
 use std::alloc::{AllocError, Global};
 
 /// The instructions that the bytes spell, each at its first slot; a second slot has none.
@@ -58,6 +58,7 @@ fn read_insn(slot: u16, bytes: &[u8]) -> Result<(Insn, bool), ImageFault>
     ensures two { IfOk result (λ p. p.1 ≡ begins_two (Some p.0)) }
     ensures spelled { IfOk result (λ p. IsSlot false bytes.now (Some p.0)) }
 {
+    spelling_laws();
     let Some((first, after)) = bytes.split_first_chunk::<8>() else {
         unreachable!();
     };
