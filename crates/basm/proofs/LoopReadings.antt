@@ -1,5 +1,5 @@
 -- The fields of loops.
-use Rattle.std.proofs.Common.{◌≡◌, ℕ, ◌<◌, ◌≤◌, min, ℤ, pos, List, [], ◌∷◌, get_or, Bool, true, false, ◌&&◌, inl, inr, refl, sym, ap, ◌∙◌, to_z, of_z, true≢false, ne_eqb, arith}
+use Rattle.std.proofs.Common.{◌≡◌, ℕ, ◌<◌, ◌≤◌, min, ℤ, pos, List, [], ◌∷◌, map, get_or, Bool, true, false, ◌&&◌, inl, inr, refl, sym, ap, ◌∙◌, to_z, of_z, true≢false, ne_eqb, arith}
 use Rattle.std.specs.Prelude.{Option, Some, FitsSigned, IfOk, Ok}
 use Rattle.std.specs.Char.{digit_value, is_ascii_alphabetic}
 use Rattle.std.specs.Int.{w32, w64}
@@ -21,7 +21,7 @@ end_number names word slot other (inl named) = absurd (true≢false (sym named.0
 end_number names word slot other (inr number) = number
 
 -- the four fields
-four_of : {X : Type 0} (text : X → List ℕ) (xs : List X) (d : X) (P Q R S : List ℕ → Type 0) → Four text xs P Q R S
+four_of : {X : Type 0} (text : X → List ℕ) (xs : List X) (d : X) (P Q R S : List ℕ → Type 0) → Four (map text xs) P Q R S
     → P (text (get_or xs 0 d)) × Q (text (get_or xs 1 d)) × R (text (get_or xs 2 d)) × S (text (get_or xs 3 d))
 four_of text [] d P Q R S w = absurd w
 four_of text (a ∷ []) d P Q R S w = absurd w.1
@@ -35,7 +35,7 @@ pub loop_read : {X E : Type 0} (text : X → List ℕ) (xs : List X) (d : X) (na
     → IfOk head (λ x. IfOk back (λ y. ends ≡ Ok (x, y))) → IfOk bound (λ x. IfOk register (λ y. counts ≡ Ok (x, y))) → IfOk ends (λ x. IfOk counts (λ y. r ≡ Ok (x, y)))
     → (WritesEnd names (text (get_or xs 0 d)) l.head → head ≡ Ok l.head) → (WritesEnd names (text (get_or xs 1 d)) l.back → back ≡ Ok l.back)
     → (WritesNumber (text (get_or xs 2 d)) (pos l.bound) → bound ≡ Ok l.bound) → (WritesRegister (text (get_or xs 3 d)) l.register → register ≡ Ok l.register)
-    → Four text xs (λ a. WritesEnd names a l.head) (λ b. WritesEnd names b l.back) (λ c. WritesNumber c (pos l.bound)) (λ e. WritesRegister e l.register)
+    → Four (map text xs) (λ a. WritesEnd names a l.head) (λ b. WritesEnd names b l.back) (λ c. WritesNumber c (pos l.bound)) (λ e. WritesRegister e l.register)
     → r ≡ Ok ((l.head, l.back), (l.bound, l.register))
 loop_read text xs d names l head back ends bound register counts r p q s head_is back_is bound_is register_is w =
     let parts = four_of text xs d (λ a. WritesEnd names a l.head) (λ b. WritesEnd names b l.back) (λ c. WritesNumber c (pos l.bound)) (λ e. WritesRegister e l.register) w in

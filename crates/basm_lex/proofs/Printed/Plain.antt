@@ -6,18 +6,7 @@ use Rattle.std.specs.Char.{digit_value}
 use Rattle.std.specs.Str.Parse.{AllDigits, IsNumeral}
 use Rattle.std.proofs.lemmas.Bool.{and_from, and_parts}
 use Rattle.std.proofs.lemmas.List.Folds.{list_all-append}
-
--- a character that ends no word, no operand and no line
-abbrev pub is_plain : ℕ → Bool
-is_plain c = not (c == 10) && (not (c == 32) && (not (c == 44) && not (c == 59)))
-
--- one such character or more
-abbrev pub is_word : List ℕ → Bool
-is_word [] = false
-is_word (c ∷ cs) = is_plain c && list_all is_plain cs
-
-abbrev pub IsWord : List ℕ → Type 0
-IsWord word = is_word word ≡ true
+use Rattle.basm_lex.specs.Printed.{IsWord, is_plain, is_word}
 
 abbrev pub ArePlain : List ℕ → Type 0
 ArePlain word = list_all is_plain word ≡ true

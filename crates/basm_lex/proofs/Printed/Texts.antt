@@ -9,8 +9,9 @@ use Rattle.bpf_insn.specs.declared.operation.Operand.TheVariants.{FromRegister, 
 use Rattle.bpf_insn.specs.Spelling.{IsOperand}
 use Rattle.bpf_insn.specs.declared.memory.Place.{Place}
 use Rattle.bpf_insn.specs.Text.{bits_text, operand_text, place_text, register_text, signed_text}
-use Rattle.basm.proofs.Printed.Numerals.{padded, padded_numeral}
-use Rattle.basm.proofs.Printed.Plain.{IsWord, plain_before, plain_word, word_append, word_numeral}
+use Rattle.basm_lex.proofs.Printed.Numerals.{padded, padded_numeral}
+use Rattle.basm_lex.specs.Printed.{IsWord}
+use Rattle.basm_lex.proofs.Printed.Plain.{plain_before, plain_word, word_append, word_numeral}
 
 pub decimal_word : (n : ℕ) → n < 2 ^ 64 → IsWord (decimal n)
 decimal_word n small = word_numeral 10 (lit≤ tt) (decimal n) (decimal_is_IsNumeral n small).0

@@ -5,12 +5,9 @@ use Rattle.std.specs.List.{after_first, before_first, slice_split}
 use Rattle.std.proofs.lemmas.Bool.{and_parts}
 use Rattle.bpf_insn.specs.Text.{more_operands, written}
 use Rattle.basm_lex.specs.Lines.{code_of, drop_spaces, is_comma, is_semicolon, is_space, operands_of, rest_of, separated, skip_spaces, trimmed, unless_space, word_of}
-use Rattle.basm.proofs.Printed.Plain.{ArePlain, IsWord, is_plain, plain_word}
-use Rattle.basm.proofs.Printed.Splits.{AllFail, after_at, after_none, before_at, before_none, fail_append, split_at, split_none}
-
-abbrev pub AreWords : List (List ℕ) → Type 0
-AreWords [] = Unit {0}
-AreWords (word ∷ words) = IsWord word × AreWords words
+use Rattle.basm_lex.specs.Printed.{AreWords, IsWord, is_plain}
+use Rattle.basm_lex.proofs.Printed.Plain.{ArePlain, plain_word}
+use Rattle.basm_lex.proofs.Printed.Splits.{AllFail, after_at, after_none, before_at, before_none, fail_append, split_at, split_none}
 
 -- ---- no plain character is a space, a comma, a semicolon or a line feed
 
@@ -180,3 +177,8 @@ operands_written name (x ∷ xs) is words = ap separated (rest_some name x xs is
 
 pub written_one_line : (name : List ℕ) (xs : List (List ℕ)) → IsWord name → AreWords xs → AllFail (λ c. c == 10) (written name xs)
 written_one_line name xs is words = written_fails (λ c. c == 10) (λ c plain. (apart c plain).line) refl refl name xs (plain_word name is) words
+
+-- a printed line is one line
+pub line_split : (name : List ℕ) (xs : List (List ℕ)) (rest : List ℕ) → IsWord name → AreWords xs
+    → slice_split (λ c. c == 10) (written name xs ++ 10 ∷ rest) ≡ written name xs ∷ slice_split (λ c. c == 10) rest
+line_split name xs rest is are = split_at (λ c. c == 10) (written name xs) 10 rest (written_one_line name xs is are) refl
