@@ -14,35 +14,6 @@ use absdom_num::Range;
 use bpf_insn::{LoadSize, Size};
 use machine::Region;
 
-/// How many bytes a store writes.
-fn size_bytes(size: Size) -> usize
-    ensures value { result ≡ size_bytes size }
-    ensures bound { result ≤ 8 }
-{
-    match size {
-        Size::Byte => 1,
-        Size::Half => 2,
-        Size::Word => 4,
-        Size::Double => 8,
-    }
-}
-
-/// How many bytes a load reads.
-fn load_bytes(size: LoadSize) -> usize
-    ensures value { result ≡ load_bytes size }
-    ensures bound { result ≤ 8 }
-{
-    match size {
-        LoadSize::LoadByte => 1,
-        LoadSize::LoadHalf => 2,
-        LoadSize::LoadWord => 4,
-        LoadSize::LoadDouble => 8,
-        LoadSize::SignedByte => 1,
-        LoadSize::SignedHalf => 2,
-        LoadSize::SignedWord => 4,
-    }
-}
-
 /// The place of the first of so many bytes, where all of them lie in memory of that size.
 fn place_within(size: usize, bytes: usize, place: i32) -> Option<usize>
     requires size { size ≤ 512 }
@@ -144,7 +115,7 @@ fn read(
 ) -> Result<AbsKind, Cause>
     ensures { result ≡ read_kind state.now size region (access_places region (load_bytes size) offsets offset) }
 {
-    let bytes = load_bytes(size);
+    let bytes = size.bytes();
     match access(region, bytes, offsets, offset) {
         Some((lowest, highest)) => {
             if is_set(state, region, bytes, lowest, highest) {
@@ -205,7 +176,7 @@ pub(crate) fn store(
         AbsKind::Num(_) => Err(Cause::KindMismatch),
         AbsKind::Ptr(region, offsets) => store_to(
             state,
-            size_bytes(size),
+            size.bytes(),
             *region,
             *offsets,
             offset,

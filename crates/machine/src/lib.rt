@@ -6,7 +6,6 @@
 #![tactic(auto)]
 
 mod calls;
-mod jumps;
 mod laws;
 mod memory;
 mod regions;
@@ -15,9 +14,8 @@ mod values;
 mod words;
 
 pub use calls::Call;
-pub use jumps::distance_of;
 pub use laws::{numbers_fit, results_fit, runs_agree, sizes_only_trap, steps_leave};
-pub use memory::{load_bytes, loaded, size_bytes};
+pub use memory::loaded;
 pub use regions::Region;
 pub use sizes::{MapSizes, TooMany};
 pub use values::Value;

@@ -10,11 +10,11 @@ ghost use Rattle.machine.specs.Step.{operand, writes, lands, jumps, compares, lo
 use crate::arithmetic::{alu, byte_swap, move_signed, negate, number};
 use crate::memory::{Memory, place_of, read};
 use bpf_insn::{
-    AluOp, Callee, Comparison, Condition, Insn, LoadSize, Operand, Register, Size, Swap, SwapBits,
+    AluOp, Callee, Comparison, Condition, FRAME_POINTER, Insn, LoadSize, Operand, REGISTERS, Register, Size, Swap, SwapBits,
     Width,
 };
 use machine::{
-    MapSizes, Region, Value, distance_of, holds_words, load_bytes, loaded, size_bytes, word,
+    MapSizes, Region, Value, holds_words, loaded, word,
 };
 
 /// What an instruction does.
@@ -50,7 +50,7 @@ pub enum Effect {
 #[derive(Clone, Copy)]
 pub struct Frame<'a> {
     pub slot: u32,
-    pub registers: &'a [Value; 11],
+    pub registers: &'a [Value; REGISTERS],
     pub memory: Memory<'a>,
 }
 
@@ -59,7 +59,7 @@ fn value_at(frame: Frame<'_>, number: u8) -> Value
     requires { number ≤ 10 }
     ensures { result ≡ slice_index_or frame.entry.registers.now number Value.Unset }
 {
-    let registers: &[Value; 11] = frame.registers;
+    let registers: &[Value; REGISTERS] = frame.registers;
     registers[usize::from(number)]
 }
 
@@ -89,7 +89,7 @@ fn write(frame: Frame<'_>, register: Register, value: Option<Value>, slots: u32)
     match value {
         None => Effect::Trap,
         Some(value) => {
-            if register.number() == 10 {
+            if register.number() == FRAME_POINTER {
                 Effect::Trap
             } else {
                 Effect::Write {
@@ -182,7 +182,7 @@ fn load(frame: Frame<'_>, size: LoadSize, base: Value, offset: i16) -> Option<Va
         } => match read(
             frame.memory,
             region,
-            load_bytes(size),
+            size.bytes(),
             start + i128::from(offset),
         ) {
             Some(number) => Some(Value::Num(loaded(size, number))),
@@ -213,7 +213,7 @@ fn store(frame: Frame<'_>, size: Size, base: Register, offset: i16, src: &Operan
             region: Region::Stack,
             offset: start,
         } => {
-            let bytes = size_bytes(size);
+            let bytes = size.bytes();
             match place_of(Region::Stack, bytes, start + i128::from(offset)) {
                 Some(place) => match number(operand(frame, src)) {
                     Some(number) => Effect::Put {
@@ -332,7 +332,7 @@ pub fn perform(frame: Frame<'_>, sizes: &MapSizes, insn: &Insn) -> Effect
             } = comparison;
             compare(frame, condition, width, dst, &src, offset)
         }
-        Insn::Goto { distance } => jump(frame, distance_of(distance)),
+        Insn::Goto { distance } => jump(frame, distance.slots()),
         Insn::Wide { dst, value } => write(frame, dst, Some(Value::Num(value)), 2),
         Insn::LoadMap { dst, index } => write(frame, dst, map_at(sizes, index), 2),
         Insn::LoadAddress { .. } => Effect::Trap,
