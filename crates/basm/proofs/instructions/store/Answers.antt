@@ -1,6 +1,6 @@
 use Rattle.std.proofs.Common.{sym, ◌∙◌, rules}
 use Rattle.std.specs.Prelude.{FitsSigned}
-use Rattle.std.specs.Int.{w16, w32}
+use Rattle.std.specs.Int.{w32}
 use Rattle.std.proofs.lemmas.Int.{to_z-of_z}
 use Rattle.basm_lex.specs.Numbers.{WritesNumber}
 use Rattle.basm_lex.specs.Places.{WritesPlace}
@@ -18,6 +18,5 @@ returns-clause-exact c = λ place value w.
     let x = c.in_ok-place in
     let read = two_read (λ operand. operand.now) c.args.operands.now _ (λ a. WritesPlace a place) (λ b. WritesNumber b value) c.memory.result c.immediate.result c.both.result place value
     c.both.ensures.exact (c.memory.ensures.exact place) (c.immediate.ensures.exact value) w in
-    let near : FitsSigned w16 x.place.offset = search rules in
     let small : FitsSigned w32 x.src = search rules in
-    rw (to_z-of_z w16 x.place.offset near, to_z-of_z w32 x.src small) (stored_number c.args.size x.place x.src place value (sym x.was ∙ read))
+    rw (to_z-of_z w32 x.src small) (stored_number c.args.size x.place x.src place value (sym x.was ∙ read))

@@ -1,7 +1,4 @@
-use Rattle.std.proofs.Common.{sym, ◌∙◌, rules}
-use Rattle.std.specs.Prelude.{FitsSigned}
-use Rattle.std.specs.Int.{w16}
-use Rattle.std.proofs.lemmas.Int.{to_z-of_z}
+use Rattle.std.proofs.Common.{sym, ◌∙◌}
 use Rattle.basm_lex.specs.Places.{WritesPlace, WritesRegister}
 use Rattle.basm.proofs.OperandReadings.{no_value, stored_register, two_read}
 use Rattle.basm.proofs.instructions.store_register.Goals as goal
@@ -17,5 +14,4 @@ returns-clause-exact c = λ place src w.
     let x = c.in_ok-place in
     let read = two_read (λ operand. operand.now) c.args.operands.now _ (λ a. WritesPlace a place) (λ b. WritesRegister b src) c.memory.result c.reg.result c.both.result place src
     c.both.ensures.exact (c.memory.ensures.exact place) (c.reg.ensures.exact src) w in
-    let near : FitsSigned w16 x.place.offset = search rules in
-    rw (to_z-of_z w16 x.place.offset near) (stored_register c.args.size x.place x.src place src (sym x.was ∙ read))
+    stored_register c.args.size x.place x.src place src (sym x.was ∙ read)
