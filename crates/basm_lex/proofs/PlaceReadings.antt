@@ -97,7 +97,7 @@ at_plus word inner outside x split place w = elim w.writes [
 pub at_minus : (word inner : List ℕ) → word ≡ 91 ∷ (inner ++ 93 ∷ []) → IsSplitOnceResult 43 inner None → (x : Bor (List ℕ) × Bor (List ℕ)) → IsSplitOnceResult 45 inner (Some x)
     → (place : Place) → WritesPlace word place → (x.0.now ≡ register_text place.base) × WritesDistance (45 ∷ x.1.now) place.offset
 at_minus word inner outside none x split place w = elim w.writes [
-  | inl f ↦ absurd (split_at_sign 43 (omega arith) word inner f.digits base offset None none outside w f.signed)
+  | inl f ↦ absurd (split_at_sign 43 (omega arith) word inner f.digits place None none outside w f.signed)
   | inr b ↦
       let parts = split_at_sign 45 (omega arith) word inner b.digits place (Some x) split outside w b.signed in
       (parts.0, inr (record { digits = x.1.now; forward = b.forward; signed = refl; magnitude = subst (λ d. WritesMagnitude d b.forward) (sym parts.1) b.magnitude; negated = b.negated }))
@@ -107,8 +107,8 @@ at_minus word inner outside none x split place w = elim w.writes [
 pub some_sign : (word inner : List ℕ) → word ≡ 91 ∷ (inner ++ 93 ∷ []) → IsSplitOnceResult 43 inner None → IsSplitOnceResult 45 inner None
     → (place : Place) → ¬ WritesPlace word place
 some_sign word inner outside none neither place w = elim w.writes [
-  | inl f ↦ split_at_sign 43 (omega arith) word inner f.digits base offset None none outside w f.signed
-  | inr b ↦ split_at_sign 45 (omega arith) word inner b.digits base offset None neither outside w b.signed
+  | inl f ↦ split_at_sign 43 (omega arith) word inner f.digits place None none outside w f.signed
+  | inr b ↦ split_at_sign 45 (omega arith) word inner b.digits place None neither outside w b.signed
 ]
 
 -- the brackets themselves

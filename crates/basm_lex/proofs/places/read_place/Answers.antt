@@ -44,7 +44,8 @@ returns-in_ok-offset-in-Some-clause-exact c = λ place w.
     λ i. Ok (record { base = base i; offset = offset i })
 
 pub returns-in_default-clause-exact : goal.returns-in_default-clause-exact
-returns-in_default-clause-exact c = some_sign c.args.word.now c.in_ok-inner.inner.now c.in_ok-inner.ensures c.in-None.ensures.cases c.in_default.ensures.cases
+returns-in_default-clause-exact c = λ place w.
+    absurd (some_sign c.args.word.now c.in_ok-inner.inner.now c.in_ok-inner.ensures c.in-None.ensures.cases c.in_default.ensures.cases place w)
 
 pub returns-in_err-base-in-None-clause-exact : goal.returns-in_err-base-in-None-clause-exact
 returns-in_err-base-in-None-clause-exact c = λ place w.
