@@ -1,5 +1,5 @@
 -- The fields of loops.
-use Rattle.std.proofs.Common.{◌≡◌, ℕ, ◌<◌, ◌≤◌, min, ℤ, pos, List, [], ◌∷◌, map, get_or, Bool, true, false, ◌&&◌, inl, inr, refl, sym, ap, ◌∙◌, to_z, of_z, true≢false, ne_eqb, arith}
+use Rattle.std.proofs.Common.{◌≡◌, ℕ, ◌<◌, ◌≤◌, min, ℤ, pos, List, [], ◌∷◌, map, length, get_or, Bool, true, false, ◌&&◌, inl, inr, refl, sym, ap, ◌∙◌, subst, true≢false, ne_eqb, arith}
 use Rattle.std.specs.Prelude.{Option, Some, FitsSigned, IfOk, Ok}
 use Rattle.std.specs.Char.{digit_value, is_ascii_alphabetic}
 use Rattle.std.specs.Int.{w32, w64}
@@ -9,6 +9,7 @@ use Rattle.std.specs.declared.result.Result.{Result}
 use Rattle.std.proofs.Math.IntN.{nat_abs}
 use Rattle.std.proofs.lemmas.Int.{ints, to_z-of_z}
 use Rattle.bpf.specs.declared.loops.Loop.{Loop}
+use Rattle.bpf.specs.Program.{IsLoop}
 use Rattle.basm_lex.specs.Names.{is_name, is_name_byte}
 use Rattle.basm_lex.specs.Numbers.{IsDecimal, WritesNumber}
 use Rattle.basm_lex.specs.Places.{WritesRegister}
@@ -48,6 +49,24 @@ pub same_loop : {E : Type 0} (head back bound register : ℕ) (l : Loop)
     → ◌≡◌ {A = Result Loop E} (Ok (record { head = head; back = back; bound = bound; register = register })) (Ok l)
 same_loop head back bound register l same =
     ap (λ x. Ok (record { head = x.0.0; back = x.0.1; bound = x.1.0; register = x.1.1 })) (one_value ((head, back), (bound, register)) ((l.head, l.back), (l.bound, l.register)) same)
+
+-- the loop that is read is one of a program of so many slots
+pub fitting : {E : Type 0} (slots given head back bound register : ℕ) (l : Loop)
+    → ◌≡◌ {A = Result ((ℕ × ℕ) × (ℕ × ℕ)) E} (Ok ((head, back), (bound, register))) (Ok ((l.head, l.back), (l.bound, l.register)))
+    → given ≡ slots → IsLoop slots l → IsLoop given (record { head = head; back = back; bound = bound; register = register })
+fitting slots given head back bound register l same is_given is =
+    let one = one_value ((head, back), (bound, register)) ((l.head, l.back), (l.bound, l.register)) same in
+    let found : record { head = head; back = back; bound = bound; register = register } ≡ l =
+    ap (λ x. record { head = x.0.0; back = x.0.1; bound = x.1.0; register = x.1.1 }) one in
+    subst (λ s. IsLoop s (record { head = head; back = back; bound = bound; register = register })) (sym is_given) (subst (λ x. IsLoop slots x) (sym found) is)
+
+pub four_long : {X : Type 0} (text : X → List ℕ) (xs : List X) (P Q R S : List ℕ → Type 0) → Four (map text xs) P Q R S → length xs ≡ 4
+four_long text [] P Q R S w = absurd w
+four_long text (a ∷ []) P Q R S w = absurd w.1
+four_long text (a ∷ b ∷ []) P Q R S w = absurd w.1.1
+four_long text (a ∷ b ∷ e ∷ []) P Q R S w = absurd w.1.1.1
+four_long text (a ∷ b ∷ e ∷ f ∷ []) P Q R S w = refl
+four_long text (a ∷ b ∷ e ∷ f ∷ g ∷ xs) P Q R S w = absurd w.1.1.1
 
 -- a number begins with no letter
 letter_high : (c : ℕ) → is_ascii_alphabetic c ≡ true → 65 ≤ c

@@ -47,7 +47,7 @@ pub fn read_loop(operands: &[&str], survey: &Survey) -> Result<Loop, AsmCode>
         bound,
         register,
     };
-    if found.fits(survey.slots.min(u32::from(MAX_SLOTS)) as u16) {
+    if found.fits(most_slots(survey)) {
         Ok(found)
     } else {
         Err(AsmCode::BadLoop)
@@ -66,6 +66,13 @@ fn field(word: &str, out_of_range: AsmCode) -> Result<i32, AsmCode>
     }
 }
 
+/// The slots of the program, where an image may have so many.
+fn most_slots(survey: &Survey) -> u16
+    ensures { survey.now.slots ≤ 512 → result ≡ survey.now.slots }
+{
+    survey.slots.min(u32::from(MAX_SLOTS)) as u16
+}
+
 /// A number of 16 bits in a field of `.loop`.
 fn read_short(word: &str) -> Result<u16, AsmCode>
     ensures writes { IfOk result (λ value. WritesNumber word.now (pos value)) }
@@ -80,9 +87,10 @@ fn read_end(word: &str, names: &Names) -> Result<u16, AsmCode>
     ensures writes { IfOk result (WritesEnd (slot_named names.now) word.now) }
     ensures exact { (slot : ℕ) → slot < 65536 → WritesEnd (slot_named names.now) word.now slot → result ≡ Ok slot }
 {
-    if !is_name(word) {
-        return read_short(word);
+    if is_name(word) {
+        let slot = names.slot_of(word).ok_or(AsmCode::BadLabel)?;
+        u16::try_from(slot).map_err(|_| AsmCode::BadLoop)
+    } else {
+        read_short(word)
     }
-    let slot = names.slot_of(word).ok_or(AsmCode::BadLabel)?;
-    u16::try_from(slot).map_err(|_| AsmCode::BadLoop)
 }

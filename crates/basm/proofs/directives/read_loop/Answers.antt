@@ -1,9 +1,11 @@
-use Rattle.std.proofs.Common.{sym, ◌∙◌, arith}
+use Rattle.std.proofs.Common.{◌≡◌, length, sym, ◌∙◌, true≢false, arith}
+use Rattle.std.proofs.lemmas.Bool.Decides.{nat_tests}
 use Rattle.std.proofs.lemmas.Result.{IfOk-at_ok}
 use Rattle.basm.specs.Names.{slot_named}
 use Rattle.basm.proofs.Items.{four_from}
-use Rattle.basm.proofs.LoopReadings.{loop_read, same_loop}
+use Rattle.basm.proofs.LoopReadings.{fitting, four_long, loop_read, same_loop}
 use Rattle.basm.proofs.OperandReadings.{no_value}
+use Rattle.basm.proofs.directives.read_loop.Goals.{in_default-via-then-operands-lt4, in_default-via-else-operands-lt4+else-operands-lt5}
 use Rattle.basm.proofs.directives.read_loop.Goals as goal
 
 pub returns-then-fits-clause-writes : goal.returns-then-fits-clause-writes
@@ -31,3 +33,21 @@ returns-then-fits-clause-exact c = λ l is few w.
     (c.read_end.ensures.exact l.head (omega (arith, is.ordered, is.within))) (c.read_end-2.ensures.exact l.back (omega (arith, is.within)))
     (c.read_short.ensures.exact l.bound (omega (arith, is.high))) (c.reg.ensures.exact l.register) w in
     let x = c.in_ok-head in same_loop x.head x.back x.bound x.register l (sym x.was ∙ read)
+
+pub returns-else-fits-clause-exact : goal.returns-else-fits-clause-exact
+returns-else-fits-clause-exact c = λ l is few w.
+    let read = loop_read (λ operand. operand.now) c.args.operands.now _ (slot_named c.args.survey.now.names) l c.read_end.result c.read_end-2.result c.both-ends.result
+    c.read_short.result c.reg.result c.both-counted.result c.both.result c.both-ends.ensures.exact c.both-counted.ensures.exact c.both.ensures.exact
+    (c.read_end.ensures.exact l.head (omega (arith, is.ordered, is.within))) (c.read_end-2.ensures.exact l.back (omega (arith, is.within)))
+    (c.read_short.ensures.exact l.bound (omega (arith, is.high))) (c.reg.ensures.exact l.register) w in
+    let x = c.in_ok-head in
+    let fits = fitting c.args.survey.now.slots c.most_slots.result x.head x.back x.bound x.register l (sym x.was ∙ read) (c.most_slots.ensures few) is in
+    absurd (true≢false (sym (c.fits.ensures.exact.1 fits) ∙ c.if-fits.false))
+
+pub returns-in_default-clause-exact : goal.returns-in_default-clause-exact
+returns-in_default-clause-exact c = λ l is few w.
+    let four : length c.args.operands.now ≡ 4 = four_long (λ operand. operand.now) c.args.operands.now _ _ _ _ w in
+    elim c.in_default.branch [
+      | in_default-via-then-operands-lt4 v ↦ absurd (grind (arith, nat_tests, four))
+      | in_default-via-else-operands-lt4+else-operands-lt5 v ↦ absurd (grind (arith, nat_tests, four))
+    ]

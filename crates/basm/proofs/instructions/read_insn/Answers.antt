@@ -2,6 +2,7 @@ use Rattle.basm.specs.Names.{slot_named}
 use Rattle.basm_lex.specs.declared.mnemonics.Mnemonic.TheVariants.{Arithmetic, Negation, SignedMove, Swapping, Loading, Storing, StoringRegister, Jumping, ShortGoto, LongGoto, WideLoad, MapLoad, AddressLoad, Calling, Exiting}
 use Rattle.basm.specs.Relation.{texts}
 use Rattle.basm.proofs.InsnReadings.{insn_read}
+use Rattle.basm.proofs.OperandReadings.{no_words}
 use Rattle.basm.proofs.instructions.read_insn.Goals as goal
 
 pub returns-in-Arithmetic-clause-exact : goal.returns-in-Arithmetic-clause-exact
@@ -62,4 +63,4 @@ returns-in-Calling-clause-exact c =
 
 pub returns-in-Exiting-clause-exact : goal.returns-in-Exiting-clause-exact
 returns-in-Exiting-clause-exact c =
-    insn_read (slot_named c.args.names.now) c.args.slot (texts c.args.operands.now) c.exit.result c.mnemonic_laws.ensures.apart c.args.found Exiting c.in-Exiting.is c.exit.ensures.exact
+    insn_read (slot_named c.args.names.now) c.args.slot (texts c.args.operands.now) c.exit.result c.mnemonic_laws.ensures.apart c.args.found Exiting c.in-Exiting.is (λ none. c.exit.ensures.exact (no_words c.args.operands.now none))
