@@ -13,7 +13,7 @@ pub record Memory : Type 0 where
   pub first : ℕ
   pub bytes : List ℕ
 
--- the byte at an address
+-- the byte at an address of memory; at others it says nothing
 abbrev pub byte_at : Memory → ℕ → ℕ
 byte_at m address = slice_index m.bytes (address - m.first)
 

@@ -99,8 +99,13 @@ fits b share judged =
 abbrev pub IsExecutable : Status → Cargo → Type 0
 IsExecutable status p = is_success status ≡ true → IsAdmitted p × (body_line (command_of p) ≡ None)
 
+-- the numbers are the last ones below that count, in order and without a gap
+pub record AreLastBelow (count : ℕ) (numbers : List ℕ) : Type 0 where
+  pub few : length numbers ≤ count
+  pub follow : numbers ≡ range_with_len (count - length numbers) (length numbers)
+
 -- a bank has between 1 and 1,048,576 bytes below 2^32 and between 1 and 32 ports. Its memory is the
--- replay of its journal, in which the numbers of each port are 0, 1, 2 and so on
+-- replay of its journal, in which the numbers of each port follow each other up to the port's count
 pub record IsBank (b : BankValue) : Type 0 where
   pub some : 1 ≤ length b.bytes
   pub few : length b.bytes ≤ 1048576
@@ -109,7 +114,7 @@ pub record IsBank (b : BankValue) : Type 0 where
   pub ports : 1 ≤ length b.counts
   pub few_ports : length b.counts ≤ 32
   pub replayed : memory_of b ≡ replay (base_of b) b.journal.entries
-  pub numbered : (port : ℕ) → port < length b.counts → numbers_of port b.journal.entries ≡ range_with_len 0 (slice_index b.counts port)
+  pub numbered : (port : ℕ) → port < length b.counts → AreLastBelow (slice_index b.counts port) (numbers_of port b.journal.entries)
 
 -- an admitted command with a verdict on it
 abbrev pub judgement : AdmittedValue → (port generation verdict : ℕ) → JudgedValue
@@ -163,6 +168,10 @@ after_record b share judged a = record {
 -- a bank after a judged command: as it was where there is no room
 abbrev pub after_command : BankValue → ShareValue → JudgedValue → BankValue
 after_command b share judged = if has_room b judged.port then after_record b share judged (answer_of b judged) else b
+
+-- a bank with a new journal, which begins with the memory of now
+abbrev pub after_rotation : BankValue → JournalValue → BankValue
+after_rotation b fresh = record b { base = b.bytes; journal = fresh }
 
 -- the number of the entry that a judged command leaves
 abbrev pub number_left : BankValue → ShareValue → JudgedValue → Option ℕ

@@ -8,7 +8,7 @@ ghost use Rattle.bank.specs.Effect.{Memory};
 ghost use Rattle.bank.specs.Answer.{judged_line, status_of, effect_at};
 ghost use Rattle.std.specs.List.{range_with_len};
 ghost use Rattle.bank.specs.Limits.{is_bank_size, is_range, is_bank};
-ghost use Rattle.bank.specs.Records.{first_share, fresh_bank, byte_in, fits, is_next, has_room, IsBank, IsExecutable, memory_of, answer_of, after_command, number_left, next_share};
+ghost use Rattle.bank.specs.Records.{first_share, fresh_bank, byte_in, fits, is_next, has_room, IsBank, IsExecutable, memory_of, base_of, replay, answer_of, after_command, after_rotation, number_left, next_share};
 
 use crate::effect::execute;
 use crate::entry::Entry;
@@ -20,6 +20,7 @@ use rmap::{Command, ReplyBuf, Status, body_fault, put_reply};
 use spw::PORTS;
 use std::alloc::{AllocError, Global};
 use std::marker::Model;
+use std::mem;
 
 /// The most bytes that a bank has.
 pub const MAX_SIZE: u32 = 1_048_576;
@@ -230,6 +231,19 @@ impl Bank {
             status,
             number: Some(number),
         }
+    }
+
+    /// Begins a new journal and hands the old one out. Memory, counts and shares stay, and the memory
+    /// of now is what the new journal begins with: the replay of the old journal on the base before.
+    /// Condition: `fresh` is empty.
+    pub fn rotate(&mut self, fresh: Journal) -> Journal
+        requires { fresh.entries ≡ [] }
+        ensures bank { self.new ≡ after_rotation self.old fresh }
+        ensures journal { result ≡ self.old.journal }
+        ensures replayed { base_of self.new ≡ replay (base_of self.old) result.entries }
+    {
+        self.base.copy_from_slice(&self.bytes);
+        mem::replace(&mut self.journal, fresh)
     }
 }
 

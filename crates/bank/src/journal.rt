@@ -1,10 +1,13 @@
-//! The journal of a bank.
+//! The journal of a bank, and its replay.
 
-ghost use Rattle.std.specs.Prelude.{◌≡◌, ◌≤◌, ◌<◌, ◌⊎◌, ◌↔◌, [], ◌∷◌, ◌++◌, length, nat_le, IfOk, IsErrOf};
+ghost use Rattle.std.specs.Prelude.{◌≡◌, ◌≤◌, ◌<◌, ◌+◌, ◌^◌, ◌⊎◌, ◌↔◌, [], ◌∷◌, ◌++◌, length, nat_le, IfOk, IsErrOf};
 ghost use Rattle.bank.specs.Limits.{is_room};
+ghost use Rattle.bank.specs.Records.{after_entry, replay};
 
+use crate::effect::change;
 use crate::entry::Entry;
 use crate::faults::BankFault;
+use rmap::{Command, Status};
 use std::alloc::Global;
 use std::marker::Model;
 
@@ -72,5 +75,27 @@ impl Journal {
         ensures { self.new ≡ record self.old { entries = self.old.entries ++ entry ∷ [] } }
     {
         self.entries.push_reserved(entry);
+    }
+}
+
+/// Does the executed commands of some entries again, in order, on the memory that begins at the address
+/// `base`: those of status 0, and of each the bytes whose addresses are there. Condition: `base` and
+/// the length are together at most 2^32.
+pub fn replay(entries: &[Entry], base: u32, memory: &mut [u8])
+    requires { base + length memory.old ≤ 2 ^ 32 }
+    ensures memory { record { first = base; bytes = memory.new } ≡ replay (record { first = base; bytes = memory.old }) entries.now }
+    ensures length { length memory.new ≡ length memory.old }
+{
+    for entry in entries {
+        replay_entry(entry, base, memory);
+    }
+}
+
+/// Does the command of an entry again, if it was executed.
+fn replay_entry(entry: &Entry, base: u32, memory: &mut [u8])
+    ensures { record { first = base; bytes = memory.new } ≡ after_entry (record { first = base; bytes = memory.old }) entry.now }
+{
+    if entry.status() == Status::Success {
+        change(memory, base, &Command::again(entry.packet()));
     }
 }
