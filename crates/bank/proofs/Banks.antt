@@ -15,7 +15,7 @@ use Rattle.rmap.specs.Command.{CommandValue, command_kind, command_of}
 use Rattle.rmap.specs.Windows.{lies_inside}
 use Rattle.bank.specs.Effect.{Memory, effect_of, effect}
 use Rattle.bank.specs.Answer.{is_success, effect_at, status_of}
-use Rattle.bank.specs.Records.{BankValue, ShareValue, JudgedValue, EntryValue, JournalValue, AreLastBelow, IsBank, memory_of, base_of, replay, after_entry, numbers_of, entry_of, fits, is_next, extent_of, after_command, after_record, after_rotation, answer_of, has_room}
+use Rattle.bank.specs.Records.{BankValue, ShareValue, JudgedValue, EntryValue, AreLastBelow, IsBank, memory_of, base_of, replay, after_entry, numbers_of, entry_of, fits, is_next, extent_of, after_command, after_record, answer_of, has_room}
 
 -- a command leaves as many bytes as there were
 effect_of-length : (kind : Kind) (m : Memory) (c : CommandValue) → length (effect_of kind m c).memory.bytes ≡ length m.bytes
@@ -43,10 +43,6 @@ replay_more base m entries e h = rw h (sym (fold-append after_entry base entries
 range_more : (start n next : ℕ) → start + n ≡ next → range_with_len start n ++ next ∷ [] ≡ range_with_len start (n + 1)
 range_more start n next last =
     sym (sym (map-id (range_with_len start (n + 1))) ∙ map-range_with_len_more (λ (x : ℕ). x) start n next last ∙ ap (λ (l : List ℕ). l ++ next ∷ []) (map-id (range_with_len start n)))
-
--- no numbers are the last ones below any count
-pub none_below : (count : ℕ) → AreLastBelow count []
-none_below count = record { few = omega arith; follow = refl }
 
 -- a count behind the last numbers below it
 more_below : (count : ℕ) (numbers : List ℕ) → AreLastBelow count numbers → AreLastBelow (count + 1) (numbers ++ count ∷ [])
@@ -121,16 +117,3 @@ still_bank b share judged status bytes counts bank fit memory new =
                 rw (count, numbers_of-other port b.journal.entries entry other) (bank.numbered port within)
           ];
     }
-
--- a bank whose journal was taken out is still one
-pub rotated_bank : (b : BankValue) (fresh : JournalValue) → IsBank b → fresh.entries ≡ [] → IsBank (after_rotation b fresh)
-rotated_bank b fresh bank empty = record {
-  some = bank.some;
-  few = bank.few;
-  below = bank.below;
-  base = refl;
-  ports = bank.ports;
-  few_ports = bank.few_ports;
-  replayed = rw empty refl;
-  numbered = λ port below. rw empty (none_below (get_or b.counts port 0));
-}

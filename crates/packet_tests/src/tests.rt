@@ -3,6 +3,7 @@
 
 mod banks;
 mod crc;
+mod journals;
 mod lines;
 mod nodes;
 mod protocol;
