@@ -5,6 +5,7 @@ use bank::{Bank, Entry, Journal, Share, extents_stay, parts_replay, replay};
 use hex::{decode, encode_upper};
 use rmap::ReplyBuf;
 use std::alloc::Global;
+use std::process::Abort;
 use std::test::Fail;
 use trial::{BASE, PLAIN_READ, PLAIN_WRITE, Row, packet};
 
@@ -143,10 +144,10 @@ rotate 2|0:0:0 1:0:0 0:1:0
 const THREE_JOURNALS: &str = "\
 0 write|67012C00FE0000ED 0
 rotate 4|0:0:0
-0 modify|67015C00FE0032000000023001234C 1
-0 wrong_crc|67012C04FE000048 2
+0 modify|67011C00FE00320000000282012327 1
+0 wrong_crc|67012C04FE00009E 2
 rotate 4|0:1:0 0:2:4
-0 one_address|67012800FE0008BC 3
+0 one_address|67012800FE0008C5 3
 ";
 
 /// The same with nothing before the first rotation, and two rotations at once.
@@ -158,6 +159,7 @@ rotate 2|
 ";
 
 /// A bank, its shares, and the journals that were handed out, oldest first.
+#[derive(Drop)]
 struct Turning {
     bank: Bank,
     shares: Vec<Share>,
