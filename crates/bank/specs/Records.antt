@@ -6,10 +6,11 @@ use Rattle.rmap.specs.declared.status.Status.{Status}
 use Rattle.rmap.specs.Windows.{lies_inside}
 use Rattle.rmap.specs.Command.{command_of}
 use Rattle.bank.specs.Admission.{IsAdmitted}
-use Rattle.bank.specs.Effect.{Memory}
+use Rattle.bank.specs.Effect.{Memory, Effect, memory_at}
 use Rattle.std.specs.List.{range_with_len}
 use Rattle.bank.specs.Answer.{Answer, answer, effect_at, is_success}
 use Rattle.rmap.specs.Checks.{body_line}
+use Rattle.rmap.specs.Reply.{reply_of}
 
 -- a command that the checks of its header let pass: its packet, and where its bytes lie
 pub record AdmittedValue : Type 0 where
@@ -144,16 +145,34 @@ fresh_bank base size journal ports = record {
 abbrev pub answer_of : BankValue → JudgedValue → Answer
 answer_of b judged = answer (memory_of b) (has_room b judged.port) (command_of judged.packet) judged.verdict
 
--- the entry of a judged command that ended with that status
-abbrev pub entry_of : ShareValue → JudgedValue → Status → EntryValue
-entry_of share judged status = record {
+-- the entry with that number of a judged command that ended with that status
+abbrev pub numbered_entry : ℕ → JudgedValue → Status → EntryValue
+numbered_entry number judged status = record {
   port = judged.port;
-  number = share.number;
+  number = number;
   packet = judged.packet;
   generation = judged.generation;
   verdict = judged.verdict;
   status = status;
 }
+
+-- the entry of a judged command that ended with that status
+abbrev pub entry_of : ShareValue → JudgedValue → Status → EntryValue
+entry_of share judged status = numbered_entry share.number judged status
+
+-- what a judged command that ended with that status does to those bytes from the first address on
+abbrev pub effect_on : Status → (first : ℕ) → List ℕ → JudgedValue → Effect
+effect_on status first bytes judged =
+    effect_at status (memory_at first bytes) (command_of judged.packet)
+
+-- the memory that it leaves of those bytes
+abbrev pub memory_from : Status → (first : ℕ) → List ℕ → JudgedValue → Memory
+memory_from status first bytes judged = (effect_on status first bytes judged).memory
+
+-- the reply to it, with what it reads from those bytes
+abbrev pub reply_from : Status → (first : ℕ) → List ℕ → JudgedValue → List ℕ
+reply_from status first bytes judged =
+    reply_of (command_of judged.packet) status (effect_on status first bytes judged).reply
 
 -- a bank with the answer's memory, the command's entry behind the others, and the port's next number
 abbrev pub after_record : BankValue → ShareValue → JudgedValue → Answer → BankValue

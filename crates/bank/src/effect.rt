@@ -1,13 +1,12 @@
 //! What commands do to the bytes of a bank.
 
 ghost use Rattle.std.specs.Prelude.{◌≡◌, ◌≤◌, ◌<◌, ◌+◌, length, take, true, false, None};
-ghost use Rattle.rmap.specs.declared.status.Status.TheVariants.{Success as Succeeds};
 ghost use Rattle.rmap.specs.Command.{increments};
 ghost use Rattle.rmap.specs.Windows.{lies_inside};
 ghost use Rattle.rmap.specs.Checks.{body_line};
-ghost use Rattle.rmap.specs.Reply.{reply_of};
 ghost use Rattle.bank.specs.Admission.{IsAdmissible};
-ghost use Rattle.bank.specs.Effect.{IsWithin, effect, byte_at, bytes_read, after_write, modified_bytes};
+ghost use Rattle.bank.specs.Effect.{IsWithin, memory_at, effect, byte_at, after_write, modified_bytes};
+ghost use Rattle.bank.specs.Answer.{read_reply, executed_reply};
 
 use rmap::{Command, Kind, MAX_DATA, ReplyBuf, Status, put_reply};
 
@@ -19,7 +18,7 @@ const MAX_MODIFIED: usize = 4;
 fn reply_read(reply: &mut ReplyBuf, command: &Command, memory: &[u8], first: u32, count: usize)
     requires few { count ≤ MAX_DATA }
     requires within { IsWithin first (length memory.now) command.now count }
-    ensures { reply.new ≡ reply_of command.now Succeeds (bytes_read (record { first = first; bytes = memory.now }) command.now count) }
+    ensures { reply.new ≡ read_reply (memory_at first memory.now) command.now count }
 {
     let offset = (command.address() - first) as usize;
     if command.increments() {
@@ -39,7 +38,7 @@ fn reply_read(reply: &mut ReplyBuf, command: &Command, memory: &[u8], first: u32
 /// address on: those whose addresses are there.
 fn store_next(memory: &mut [u8], first: u32, command: &Command, bytes: &[u8])
     requires { increments command.now ≡ true }
-    ensures { memory.new ≡ (after_write (record { first = first; bytes = memory.old }) command.now bytes.now).bytes }
+    ensures { memory.new ≡ (after_write (memory_at first memory.old) command.now bytes.now).bytes }
 {
     let address = command.address();
     let offset = address.saturating_sub(first) as usize;
@@ -54,7 +53,7 @@ fn store_next(memory: &mut [u8], first: u32, command: &Command, bytes: &[u8])
 /// it.
 fn store_last(memory: &mut [u8], first: u32, command: &Command, bytes: &[u8])
     requires { increments command.now ≡ false }
-    ensures { memory.new ≡ (after_write (record { first = first; bytes = memory.old }) command.now bytes.now).bytes }
+    ensures { memory.new ≡ (after_write (memory_at first memory.old) command.now bytes.now).bytes }
 {
     let address = command.address();
     let offset = address.saturating_sub(first) as usize;
@@ -68,7 +67,7 @@ fn store_last(memory: &mut [u8], first: u32, command: &Command, bytes: &[u8])
 /// Puts bytes into the memory that begins at the address `first`, as far as their addresses are there:
 /// each at the next address from the command's on, or all at that one.
 fn store(memory: &mut [u8], first: u32, command: &Command, bytes: &[u8])
-    ensures { memory.new ≡ (after_write (record { first = first; bytes = memory.old }) command.now bytes.now).bytes }
+    ensures { memory.new ≡ (after_write (memory_at first memory.old) command.now bytes.now).bytes }
 {
     if command.increments() {
         store_next(memory, first, command, bytes);
@@ -80,7 +79,7 @@ fn store(memory: &mut [u8], first: u32, command: &Command, bytes: &[u8])
 /// The byte at an address of the memory that begins at the address `first`. At an address that is not
 /// there it says nothing.
 fn byte_at(memory: &[u8], first: u32, address: u64) -> u8
-    ensures { result ≡ byte_at (record { first = first; bytes = memory.now }) address }
+    ensures { result ≡ byte_at (memory_at first memory.now) address }
 {
     let offset = address.saturating_sub(u64::from(first)) as usize;
     memory.get(offset).copied().unwrap_or(0)
@@ -91,7 +90,7 @@ fn byte_at(memory: &[u8], first: u32, address: u64) -> u8
 fn modified(memory: &[u8], first: u32, command: &Command, half: usize) -> [u8; MAX_MODIFIED]
     requires few { half ≤ 4 }
     requires body { half + half ≤ length command.now.body }
-    ensures { take half result ≡ modified_bytes (record { first = first; bytes = memory.now }) command.now half }
+    ensures { take half result ≡ modified_bytes (memory_at first memory.now) command.now half }
 {
     let start = u64::from(command.address());
     let increments = command.increments();
@@ -111,7 +110,7 @@ fn modified(memory: &[u8], first: u32, command: &Command, half: usize) -> [u8; M
 pub(crate) fn change(memory: &mut [u8], first: u32, command: &Command)
     requires admitted { IsAdmissible command.now }
     requires body { body_line command.now ≡ None }
-    ensures { record { first = first; bytes = memory.new } ≡ (effect (record { first = first; bytes = memory.old }) command.now).memory }
+    ensures { memory_at first memory.new ≡ (effect (memory_at first memory.old) command.now).memory }
 {
     let length = command.length() as usize;
     match command.kind() {
@@ -129,8 +128,8 @@ pub(crate) fn execute(memory: &mut [u8], first: u32, command: &Command, reply: &
     requires admitted { IsAdmissible command.now }
     requires body { body_line command.now ≡ None }
     requires inside { lies_inside first (length memory.old) command.now ≡ true }
-    ensures memory { record { first = first; bytes = memory.new } ≡ (effect (record { first = first; bytes = memory.old }) command.now).memory }
-    ensures reply { reply.new ≡ reply_of command.now Succeeds (effect (record { first = first; bytes = memory.old }) command.now).reply }
+    ensures memory { memory_at first memory.new ≡ (effect (memory_at first memory.old) command.now).memory }
+    ensures reply { reply.new ≡ executed_reply (memory_at first memory.old) command.now }
 {
     let length = command.length() as usize;
     match command.kind() {

@@ -1,6 +1,7 @@
 //! What no clause says, crate by crate: values from outside, printed words, each call once, and memory
 //! that is refused.
 
+mod admissions;
 mod banks;
 mod crc;
 mod journals;
