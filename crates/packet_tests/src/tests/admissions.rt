@@ -37,12 +37,7 @@ fn windows() -> Windows {
 }
 
 /// Compares one row. The packet comes back as it came, admitted or not.
-fn admission(
-    rt: &impl Abort,
-    alloc: Global,
-    reply: &mut ReplyBuf,
-    line: &str,
-) -> Result<(), Fail> {
+fn admission(rt: &impl Abort, alloc: Global, reply: &mut ReplyBuf, line: &str) -> Result<(), Fail> {
     let mut row = Row::of(line);
     let shows = row.part()?;
     let sent = row.part()?;
