@@ -16,7 +16,10 @@ mod words;
 
 pub use calls::Call;
 pub use jumps::distance_of;
-pub use laws::{numbers_fit, results_fit, runs_agree, sizes_only_trap, steps_leave};
+pub use laws::{
+    numbers_fit, questions_go_on, results_fit, runs_agree, sizes_only_trap, steps_leave,
+    steps_perform, stored_bytes_are_read,
+};
 pub use memory::{load_bytes, loaded, size_bytes};
 pub use regions::Region;
 pub use sizes::{MapSizes, TooMany};
