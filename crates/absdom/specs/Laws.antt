@@ -1,5 +1,6 @@
 -- What holds of the states of the verifier.
 use Rattle.std.specs.Prelude.{◌≡◌, ℕ, ◌+◌, ◌<◌, ◌^◌, ℤ, Bool, true, false, Option, Some, None, Result, Ok, Err, IfSome, IfOk}
+use Rattle.bpf_insn.specs.declared.operation.Comparison.{Comparison}
 use Rattle.bpf_insn.specs.declared.operation.Width.{Width}
 use Rattle.bpf_insn.specs.declared.operation.Condition.{Condition}
 use Rattle.bpf_insn.specs.declared.operation.Operand.{Operand}
@@ -61,8 +62,9 @@ ApplyFits =
 -- where a comparison is not refused, every state that fits fits the edge that it takes
 abbrev pub RefineFits : Type 0
 RefineFits =
-    (header : Header) (s : State) (a : StateValue) (condition : Condition) (width : Width) (dst : ℕ) (src : Operand) (offset : ℤ)
-    → Fits s a → TakesEdge s offset (perform header s (Jump condition width dst src offset)) (refined_edges a condition width dst src)
+    (header : Header) (s : State) (a : StateValue) (comparison : Comparison) (offset : ℤ) → Fits s a
+    → TakesEdge s offset (perform header s (Jump comparison offset))
+    (refined_edges a comparison.condition comparison.width comparison.dst comparison.src)
 
 -- ---- larger states give larger ones
 
