@@ -11,7 +11,8 @@ use Rattle.bpf_insn.specs.declared.memory.LoadSize.{LoadSize}
 use Rattle.bpf_insn.specs.declared.insn.Insn.TheVariants.{Alu, Negate, MoveSigned, ByteSwap, Load, Store, Jump, Goto, Wide, LoadMap, LoadAddress, Call, Exit}
 use Rattle.machine.specs.declared.regions.Region.{Region}
 use Rattle.machine.specs.declared.regions.Region.TheVariants.{Front, Tail, Stack}
-use Rattle.machine.specs.Memory.{region_size, place_of, size_bytes, load_bytes}
+use Rattle.bpf_insn.specs.Sizes.{size_bytes, load_bytes}
+use Rattle.machine.specs.Memory.{region_size, place_of}
 use Rattle.absdom_num.specs.Tables.{whole, only, negated_range, extended_range, swapped_range}
 use Rattle.absdom_num.specs.Laws.{AluGrows, NegateGrows, MoveSignedGrows, ByteSwapGrows}
 use Rattle.absdom.specs.declared.cause.Cause.{Cause}

@@ -8,7 +8,8 @@ use Rattle.bpf_insn.specs.declared.insn.Insn.TheVariants.{Alu, Negate, MoveSigne
 use Rattle.bpf_insn.specs.Spelling.{slots_of}
 use Rattle.machine.specs.declared.regions.Region.{Region}
 use Rattle.machine.specs.Sizes.{Maps}
-use Rattle.machine.specs.Step.{insn_at, distance_of, is_map}
+use Rattle.bpf_insn.specs.Flow.{distance_of}
+use Rattle.machine.specs.Step.{insn_at, is_map}
 use Rattle.absdom.specs.declared.cause.Cause.{Cause}
 use Rattle.absdom.specs.declared.kinds.AbsKind.{AbsKind}
 use Rattle.absdom.specs.declared.kinds.AbsKind.TheVariants.{Unset, Num, Ptr, Map}

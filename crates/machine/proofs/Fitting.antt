@@ -32,7 +32,8 @@ use Rattle.machine.specs.declared.regions.Region.TheVariants.{Front, Tail, Stack
 use Rattle.machine.specs.declared.values.Value.{Value}
 use Rattle.machine.specs.declared.values.Value.TheVariants.{Unset, Num, Ptr, Map}
 use Rattle.machine.specs.Words.{modulus, low, word, alu_words, negated, extended, swapped, holds_words}
-use Rattle.machine.specs.Memory.{Header, IsHeader, place_of, byte_of, byte_below, little, load_bytes, loaded}
+use Rattle.bpf_insn.specs.Sizes.{load_bytes}
+use Rattle.machine.specs.Memory.{Header, IsHeader, place_of, byte_of, byte_below, little, loaded}
 use Rattle.machine.specs.State.{State, entry_state}
 use Rattle.machine.specs.Step.{Outcome, Next, Ask, Verdict, Trap, operand, on_number, copied, copied_by, moved_by, alu, writes, lands, branches, compares, load_value, bytes_at, loads, puts, stores, map_at, is_helper, answered, asks, calls, exits, perform, knows_flow, perform_in, insn_at, step}
 use Rattle.machine.specs.Runs.{Path, entry, moves, Runs}

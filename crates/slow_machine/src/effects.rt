@@ -14,7 +14,7 @@ use bpf_insn::{
     Width,
 };
 use machine::{
-    MapSizes, Region, Value, distance_of, holds_words, load_bytes, loaded, size_bytes, word,
+    MapSizes, Region, Value, holds_words, loaded, word,
 };
 
 /// What an instruction does.
@@ -182,7 +182,7 @@ fn load(frame: Frame<'_>, size: LoadSize, base: Value, offset: i16) -> Option<Va
         } => match read(
             frame.memory,
             region,
-            load_bytes(size),
+            size.bytes(),
             start + i128::from(offset),
         ) {
             Some(number) => Some(Value::Num(loaded(size, number))),
@@ -213,7 +213,7 @@ fn store(frame: Frame<'_>, size: Size, base: Register, offset: i16, src: &Operan
             region: Region::Stack,
             offset: start,
         } => {
-            let bytes = size_bytes(size);
+            let bytes = size.bytes();
             match place_of(Region::Stack, bytes, start + i128::from(offset)) {
                 Some(place) => match number(operand(frame, src)) {
                     Some(number) => Effect::Put {
@@ -332,7 +332,7 @@ pub fn perform(frame: Frame<'_>, sizes: &MapSizes, insn: &Insn) -> Effect
             } = comparison;
             compare(frame, condition, width, dst, &src, offset)
         }
-        Insn::Goto { distance } => jump(frame, distance_of(distance)),
+        Insn::Goto { distance } => jump(frame, distance.slots()),
         Insn::Wide { dst, value } => write(frame, dst, Some(Value::Num(value)), 2),
         Insn::LoadMap { dst, index } => write(frame, dst, map_at(sizes, index), 2),
         Insn::LoadAddress { .. } => Effect::Trap,
