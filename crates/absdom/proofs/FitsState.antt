@@ -11,7 +11,8 @@ use Rattle.machine.specs.declared.regions.Region.TheVariants.{Front, Tail, Stack
 use Rattle.machine.specs.declared.values.Value.{Value}
 use Rattle.machine.specs.declared.values.Value.TheVariants.{Unset as Nothing, Num as Number, Ptr as Pointer, Map as MapOf}
 use Rattle.machine.specs.Words.{negated, extended, swapped}
-use Rattle.machine.specs.Memory.{place_of, byte_after, size_bytes}
+use Rattle.bpf_insn.specs.Sizes.{size_bytes}
+use Rattle.machine.specs.Memory.{place_of, byte_after}
 use Rattle.machine.specs.State.{State, state, register_after}
 use Rattle.machine.specs.Step.{Next, Trap, operand, alu, on_number, loads, writes, puts, stores, map_at}
 use Rattle.absdom_num.specs.Tables.{only, negated_range, extended_range, swapped_range}

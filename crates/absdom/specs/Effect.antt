@@ -14,7 +14,8 @@ use Rattle.bpf_insn.specs.declared.insn.Insn.TheVariants.{Alu, Negate, MoveSigne
 use Rattle.machine.specs.declared.regions.Region.{Region}
 use Rattle.machine.specs.declared.regions.Region.TheVariants.{Front, Tail, Stack}
 use Rattle.machine.specs.Words.{word, signed}
-use Rattle.machine.specs.Memory.{place_of, size_bytes, load_bytes}
+use Rattle.bpf_insn.specs.Sizes.{size_bytes, load_bytes}
+use Rattle.machine.specs.Memory.{place_of}
 use Rattle.absdom_num.specs.declared.ranges.Range.{Range}
 use Rattle.absdom_num.specs.Tables.{only, alu_range, negated_range, extended_range, swapped_range}
 use Rattle.absdom.specs.declared.cause.Cause.{Cause}

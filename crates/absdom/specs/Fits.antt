@@ -49,7 +49,7 @@ pub record Fits (s : State) (a : StateValue) : Type 0 where
 -- the machine goes on at that slot, in a state that fits: it neither traps nor ends
 abbrev pub GoesOn : Outcome → (slot : ℕ) → StateValue → Type 0
 GoesOn (Next t) slot a = (t.slot ≡ slot) × Fits t a
-GoesOn (Ask helper map key on) slot a = ⊥
+GoesOn (Ask question on) slot a = ⊥
 GoesOn (Verdict n) slot a = ⊥
 GoesOn Trap slot a = ⊥
 

@@ -1,7 +1,8 @@
 //! Loads and stores through a pointer (RFC 9669, section 5).
 
 ghost use Rattle.std.specs.Prelude.{◌≡◌, ◌+◌, ◌-◌, ◌^◌, ◌<◌, ◌≤◌, ◌≤ℤ◌, ◌+ℤ◌, pos, negsuc, IfSome, Some};
-ghost use Rattle.machine.specs.Memory.{place_within, place_of, size_bytes, load_bytes};
+ghost use Rattle.bpf_insn.specs.Sizes.{size_bytes, load_bytes};
+ghost use Rattle.machine.specs.Memory.{place_within, place_of};
 ghost use Rattle.absdom.specs.Offsets.{IsOffset};
 ghost use Rattle.absdom.specs.Kinds.{number_of};
 ghost use Rattle.absdom.specs.Effect.{access_places, is_set, loaded_range, read_kind, load_kind, wrote, wrote_at, wrote_to, stored, AreInside, Becomes};
@@ -49,11 +50,11 @@ fn place(region: Region, bytes: usize, offset: i32) -> Option<usize>
     ensures value { result ≡ place_of region bytes offset }
     ensures bound { IfSome result (λ first. first + bytes ≤ 512) }
 {
-    match region {
-        Region::Front => place_within(4, bytes, offset),
-        Region::Tail => place_within(12, bytes, offset),
-        Region::Stack => place_within(512, bytes, from_bottom(offset)),
-    }
+    let from_start = match region {
+        Region::Front | Region::Tail => offset,
+        Region::Stack => from_bottom(offset),
+    };
+    place_within(region.size(), bytes, from_start)
 }
 
 /// The sum of a pointer's offset and an instruction's.

@@ -6,18 +6,7 @@ ghost use Rattle.absdom_num.specs.Tables.{whole, half, cut, sum_range, differenc
 
 use crate::ranges::Range;
 use bpf_insn::{AluOp, Extension, Swap, SwapBits, Width};
-use machine::{alu_words, extended, negated, swapped};
-
-/// One more than the greatest number of this width.
-fn modulus(width: Width) -> u128
-    ensures value { result ≡ modulus width }
-    ensures bound { result ≤ 2 ^ 64 }
-{
-    match width {
-        Width::Bits32 => 1 << 32,
-        Width::Bits64 => 1 << 64,
-    }
-}
+use machine::{alu_words, extended, modulus, negated, swapped};
 
 /// Every number of this width.
 fn whole(width: Width) -> Range

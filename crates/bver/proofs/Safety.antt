@@ -13,6 +13,8 @@ use Rattle.machine.specs.declared.calls.Call.{Call}
 use Rattle.machine.specs.declared.values.Value.{Value}
 use Rattle.machine.specs.declared.values.Value.TheVariants.{Unset as Nothing, Num as Number, Ptr as Pointer, Map as MapOf}
 use Rattle.machine.specs.Memory.{Header, IsHeader}
+use Rattle.machine.specs.Sizes.{Maps}
+use Rattle.machine.specs.Laws.{StepPerforms}
 use Rattle.machine.specs.State.{State, state, entry_state}
 use Rattle.machine.specs.Step.{Outcome, Next, Ask, Verdict, Trap, step, perform, perform_at, insn_at, finds_maps, is_map, exits, lands, branches}
 use Rattle.machine.specs.Runs.{Path, entry, moves, answered, IsSafe}
@@ -29,12 +31,13 @@ use Rattle.bver.specs.Justified.{IsCovered, IsCoveredIfAny, IsResultCovered, Are
 use Rattle.bver.proofs.Counting.{firsts, firsts_grow, firsts_weigh}
 use Rattle.bver.proofs.Slots.{insn_in}
 
--- the laws of what is known
+-- the laws of what is known, and of steps
 pub record Laws : Type 0 where
   pub below : BelowFits
   pub entry : EntryFits
   pub apply : ApplyFits
   pub refine : RefineFits
+  pub steps : StepPerforms
 
 -- where a path of n steps stands
 pub record Stands (p : Program) (table : ℕ → Option StateValue) (n : ℕ) (s : State) : Type 0 where
@@ -46,7 +49,7 @@ pub record Stands (p : Program) (table : ℕ → Option StateValue) (n : ℕ) (s
 -- what the n-th step may give there
 abbrev pub Continues : Program → (ℕ → Option StateValue) → ℕ → Outcome → Type 0
 Continues p table n (Next t) = Stands p table n t
-Continues p table n (Ask helper map key on) = ⊥
+Continues p table n (Ask question on) = ⊥
 Continues p table n (Verdict v) = Unit {0}
 Continues p table n Trap = ⊥
 
@@ -75,7 +78,7 @@ goes_on below p table n s insn later (Next t) (Ok a) at after sound covered =
     arrives below p table (n + 1) t a sound.1
     (subst (λ (k : ℕ). IsCovered a (table k)) (sym sound.0) covered)
     (more_steps p n s insn t.slot at (rw sound.0 after))
-goes_on below p table n s insn later (Ask helper map key on) (Ok a) at after sound covered = absurd sound
+goes_on below p table n s insn later (Ask question on) (Ok a) at after sound covered = absurd sound
 goes_on below p table n s insn later (Verdict v) (Ok a) at after sound covered = absurd sound
 goes_on below p table n s insn later Trap (Ok a) at after sound covered = absurd sound
 
@@ -119,7 +122,7 @@ exits_with p table n (MapOf index) (Num range) fits number = absurd fits
 exits_with p table n v (Ptr region offsets) fits number = absurd number
 exits_with p table n v (Map index) fits number = absurd number
 
-index_of : (sizes : List ℕ) (index : ℤ) → IsTrue (is_map sizes index) → IsIndex index
+index_of : (sizes : Maps) (index : ℤ) → IsTrue (is_map sizes index) → IsIndex index
 index_of sizes (pos n) h = tt
 index_of sizes (negsuc n) h = absurd cc
 
@@ -134,7 +137,7 @@ proceeds laws p table header n s a insn good at fits straight h =
     later None = omega arith
     later (Some immediate) = omega arith
 
-continues_at : Laws → (p : Program) (sizes : List ℕ) (table : ℕ → Option StateValue) (header : Header) (n : ℕ) (s : State) (a : StateValue) (insn : Insn) → IsHeader header → From p n s insn → Fits s a → IsAllowed p s.slot insn → IsInsn insn → IsPermitted sizes table s.slot a insn → Continues p table (n + 1) (perform header s insn)
+continues_at : Laws → (p : Program) (sizes : Maps) (table : ℕ → Option StateValue) (header : Header) (n : ℕ) (s : State) (a : StateValue) (insn : Insn) → IsHeader header → From p n s insn → Fits s a → IsAllowed p s.slot insn → IsInsn insn → IsPermitted sizes table s.slot a insn → Continues p table (n + 1) (perform header s insn)
 continues_at laws p sizes table header n s a (Alu op width dst src) good at fits allowed is_insn h = proceeds laws p table header n s a (Alu op width dst src) good at fits allowed.leaves_frame h
 continues_at laws p sizes table header n s a (Negate width dst) good at fits allowed is_insn h = proceeds laws p table header n s a (Negate width dst) good at fits allowed.leaves_frame h
 continues_at laws p sizes table header n s a (MoveSigned extension dst src) good at fits allowed is_insn h = proceeds laws p table header n s a (MoveSigned extension dst src) good at fits allowed.leaves_frame h
@@ -154,26 +157,27 @@ continues_at laws p sizes table header n s a (insns.Call callee number) good at 
 continues_at laws p sizes table header n s a Exit good at fits allowed is_insn h =
     exits_with p table (n + 1) (s.registers 0) (kind_at a 0) (fits.registers 0) h
 
-continues_from : Laws → (p : Program) (sizes : List ℕ) (h : IsJustified p sizes) (header : Header) (n : ℕ) (s : State) (at : Stands p h.table n s) (o : Option Insn) → IsHeader header → insn_at p s.slot ≡ o → IsPermittedAt sizes h.table s.slot (Some at.known) o → Continues p h.table (n + 1) (perform_at header s o)
+continues_from : Laws → (p : Program) (sizes : Maps) (h : IsJustified p sizes) (header : Header) (n : ℕ) (s : State) (at : Stands p h.table n s) (o : Option Insn) → IsHeader header → insn_at p s.slot ≡ o → IsPermittedAt sizes h.table s.slot (Some at.known) o → Continues p h.table (n + 1) (perform_at header s o)
 continues_from laws p sizes h header n s at None good is permitted = absurd permitted
 continues_from laws p sizes h header n s at (Some insn) good is permitted =
     continues_at laws p sizes h.table header n s at.known insn good (record { is = is; steps = at.steps }) at.fits (h.formed.allowed s.slot insn is) (insn_in false p.slots s.slot insn h.limits.code is) permitted
 
 -- what is known where a path stands permits its instruction
-pub permitted_here : (p : Program) (sizes : List ℕ) (h : IsJustified p sizes) (n : ℕ) (s : State) (at : Stands p h.table n s) → IsPermittedAt sizes h.table s.slot (Some at.known) (insn_at p s.slot)
+pub permitted_here : (p : Program) (sizes : Maps) (h : IsJustified p sizes) (n : ℕ) (s : State) (at : Stands p h.table n s) → IsPermittedAt sizes h.table s.slot (Some at.known) (insn_at p s.slot)
 permitted_here p sizes h n s at =
     subst (λ (k : Option StateValue). IsPermittedAt sizes h.table s.slot k (insn_at p s.slot)) at.is (h.permitted s.slot)
 
-continues : Laws → (p : Program) (sizes : List ℕ) (h : IsJustified p sizes) (header : Header) (n : ℕ) (s : State) → IsHeader header → Stands p h.table n s → Continues p h.table (n + 1) (step p header s)
+continues : Laws → (p : Program) (sizes : Maps) (h : IsJustified p sizes) (header : Header) (n : ℕ) (s : State) → IsHeader header → Stands p h.table n s → Continues p h.table (n + 1) (step p header s)
 continues laws p sizes h header n s good at =
-    continues_from laws p sizes h header n s at (insn_at p s.slot) good refl (permitted_here p sizes h n s at)
+    rw (laws.steps p header s h.limits.version)
+    (continues_from laws p sizes h header n s at (insn_at p s.slot) good refl (permitted_here p sizes h n s at))
 
 -- every path stands somewhere
-begins : Laws → (p : Program) (sizes : List ℕ) (h : IsJustified p sizes) (port : ℕ) → port < 32 → Stands p h.table 0 (entry_state port)
+begins : Laws → (p : Program) (sizes : Maps) (h : IsJustified p sizes) (port : ℕ) → port < 32 → Stands p h.table 0 (entry_state port)
 begins laws p sizes h port low =
     arrives laws.below p h.table 0 (entry_state port) h.entered.known (laws.entry h.entered.known port h.entered.entry low) h.entered.covered (omega arith)
 
-pub stands : Laws → (p : Program) (sizes : List ℕ) (h : IsJustified p sizes) (header : Header) (port : ℕ) (calls : List Call) (n : ℕ) (s : State) → IsHeader header → port < 32 → Path p header port calls n s → Stands p h.table n s
+pub stands : Laws → (p : Program) (sizes : Maps) (h : IsJustified p sizes) (header : Header) (port : ℕ) (calls : List Call) (n : ℕ) (s : State) → IsHeader header → port < 32 → Path p header port calls n s → Stands p h.table n s
 stands laws p sizes h header port calls n s good low entry = begins laws p sizes h port low
 stands laws p sizes h header port calls n s good low (moves {n = m} {s = r} path e) =
     let next = subst (λ (o : Outcome). Continues p h.table (m + 1) o) e (continues laws p sizes h header m r good (stands laws p sizes h header port calls m r good low path)) in
@@ -187,7 +191,7 @@ no_trap_of : (p : Program) (table : ℕ → Option StateValue) (n : ℕ) (o : Ou
 no_trap_of p table n o c e = subst (λ (w : Outcome). Continues p table n w) e c
 
 -- a permitted instruction finds its map
-finds : (sizes : List ℕ) (table : ℕ → Option StateValue) (s : State) (a : StateValue) (o : Option Insn) → IsPermittedAt sizes table s.slot (Some a) o → finds_maps sizes s o ≡ true
+finds : (sizes : Maps) (table : ℕ → Option StateValue) (s : State) (a : StateValue) (o : Option Insn) → IsPermittedAt sizes table s.slot (Some a) o → finds_maps sizes s o ≡ true
 finds sizes table s a None h = absurd h
 finds sizes table s a (Some (Alu op width dst src)) h = refl
 finds sizes table s a (Some (Negate width dst)) h = refl
@@ -204,7 +208,7 @@ finds sizes table s a (Some (insns.Call callee number)) h = absurd h
 finds sizes table s a (Some Exit) h = refl
 
 -- a path has fewer steps than the program weighs
-weighs : (p : Program) (sizes : List ℕ) (h : IsJustified p sizes) (n : ℕ) (s : State) (at : Stands p h.table n s) (o : Option Insn) → insn_at p s.slot ≡ o → IsPermittedAt sizes h.table s.slot (Some at.known) o → n < weight_from [] 0 p.slots
+weighs : (p : Program) (sizes : Maps) (h : IsJustified p sizes) (n : ℕ) (s : State) (at : Stands p h.table n s) (o : Option Insn) → insn_at p s.slot ≡ o → IsPermittedAt sizes h.table s.slot (Some at.known) o → n < weight_from [] 0 p.slots
 weighs p sizes h n s at None is permitted = absurd permitted
 weighs p sizes h n s at (Some insn) is permitted =
     let steps = at.steps in omega (arith, firsts_weigh p.slots 0 s.slot insn is)
@@ -214,7 +218,7 @@ within p n form below =
     let budget : weight_from [] 0 p.slots ≤ p.budget = subst (λ (loops : List _). weight_from loops 0 p.slots ≤ p.budget) form.no_loops form.within_budget in
     omega arith
 
-pub is_safe : Laws → (p : Program) (sizes : List ℕ) → IsJustified p sizes → IsSafe p sizes
+pub is_safe : Laws → (p : Program) (sizes : Maps) → IsJustified p sizes → IsSafe p sizes
 is_safe laws p sizes h = record {
   ends = λ header port calls n s good low path.
       let at = stands laws p sizes h header port calls n s good low path in

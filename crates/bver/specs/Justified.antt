@@ -7,14 +7,15 @@ use Rattle.bpf_insn.specs.declared.insn.Insn.{Insn}
 use Rattle.bpf_insn.specs.declared.insn.Insn.TheVariants.{Alu, Negate, MoveSigned, ByteSwap, Load, Store, Jump, Goto, Wide, LoadMap, LoadAddress, Call, Exit}
 use Rattle.bpf_insn.specs.Spelling.{slots_of}
 use Rattle.machine.specs.declared.regions.Region.{Region}
-use Rattle.machine.specs.Step.{insn_at, distance_of, is_map}
+use Rattle.machine.specs.Sizes.{Maps}
+use Rattle.bpf_insn.specs.Flow.{distance_of}
+use Rattle.machine.specs.Step.{insn_at, is_map}
 use Rattle.absdom.specs.declared.cause.Cause.{Cause}
 use Rattle.absdom.specs.declared.kinds.AbsKind.{AbsKind}
 use Rattle.absdom.specs.declared.kinds.AbsKind.TheVariants.{Unset, Num, Ptr, Map}
-use Rattle.absdom.specs.State.{StateValue, IsEntry, IsBelow, kind_at}
+use Rattle.absdom.specs.State.{StateValue, IsEntry, IsBelow, kind_at, IsWhole}
 use Rattle.absdom.specs.Effect.{applied}
 use Rattle.absdom.specs.Edges.{Edges, refined_edges}
-use Rattle.absdom.specs.Growth.{IsWhole}
 use Rattle.bver_form.specs.Form.{IsFormed, target}
 
 -- ---- what is known along an edge, and where it leads
@@ -59,7 +60,7 @@ IsNumber (Map index) = ⊥
 
 -- with what is known at its slot an instruction cannot go wrong, and on every edge that a run may take
 -- what it leaves is covered: a map that is loaded exists, and EXIT has a number for its answer
-abbrev pub IsPermitted : (sizes : List ℕ) (table : ℕ → Option StateValue) (slot : ℕ) → StateValue → Insn → Type 0
+abbrev pub IsPermitted : (sizes : Maps) (table : ℕ → Option StateValue) (slot : ℕ) → StateValue → Insn → Type 0
 IsPermitted sizes table slot a (Alu op width dst src) = Proceeds table slot a (Alu op width dst src)
 IsPermitted sizes table slot a (Negate width dst) = Proceeds table slot a (Negate width dst)
 IsPermitted sizes table slot a (MoveSigned extension dst src) = Proceeds table slot a (MoveSigned extension dst src)
@@ -77,7 +78,7 @@ IsPermitted sizes table slot a (Call callee number) = ⊥
 IsPermitted sizes table slot a Exit = IsNumber (kind_at a 0)
 
 -- the same at a slot: a table has states only where instructions begin, and where it has none no run comes
-abbrev pub IsPermittedAt : (sizes : List ℕ) (table : ℕ → Option StateValue) (slot : ℕ) → Option StateValue → Option Insn → Type 0
+abbrev pub IsPermittedAt : (sizes : Maps) (table : ℕ → Option StateValue) (slot : ℕ) → Option StateValue → Option Insn → Type 0
 IsPermittedAt sizes table slot None insn = Unit {0}
 IsPermittedAt sizes table slot (Some a) None = ⊥
 IsPermittedAt sizes table slot (Some a) (Some insn) = IsPermitted sizes table slot a insn
@@ -92,7 +93,7 @@ pub record IsEntered (there : Option StateValue) : Type 0 where
 
 -- the program has its form, and there is a table of whole states that covers the entry and permits the
 -- instruction at each of them
-pub record IsJustified (program : Program) (sizes : List ℕ) : Type 0 where
+pub record IsJustified (program : Program) (sizes : Maps) : Type 0 where
   pub limits : IsProgram program
   pub formed : IsFormed program
   pub table : ℕ → Option StateValue
@@ -136,10 +137,10 @@ accessed_at (Some a) (Some insn) = accessed a insn
 -- the program, the sizes of the maps that it was accepted for, and the region that each slot accesses
 pub record AcceptedValue : Type 0 where
   pub program : Program
-  pub sizes : List ℕ
+  pub sizes : Maps
   pub regions : List (Option Region)
 
 -- the program is justified for the sizes, and the regions are those of the table
-pub record IsJudged (program : Program) (sizes : List ℕ) (regions : List (Option Region)) : Type 0 where
+pub record IsJudged (program : Program) (sizes : Maps) (regions : List (Option Region)) : Type 0 where
   pub justified : IsJustified program sizes
   pub resolved : (slot : ℕ) → slice_index_or regions slot None ≡ accessed_at (justified.table slot) (insn_at program slot)

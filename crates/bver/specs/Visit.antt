@@ -5,9 +5,9 @@ use Rattle.bpf_insn.specs.declared.insn.Insn.{Insn}
 use Rattle.bpf_insn.specs.declared.insn.Insn.TheVariants.{Alu, Negate, MoveSigned, ByteSwap, Load, Store, Jump, Goto, Wide, LoadMap, LoadAddress, Call, Exit}
 use Rattle.bpf_insn.specs.Spelling.{slots_of}
 use Rattle.machine.specs.declared.regions.Region.{Region}
+use Rattle.machine.specs.Sizes.{Maps}
 use Rattle.machine.specs.Step.{insn_at}
-use Rattle.absdom.specs.State.{StateValue, IsBelow}
-use Rattle.absdom.specs.Growth.{IsWhole}
+use Rattle.absdom.specs.State.{StateValue, IsBelow, IsWhole}
 use Rattle.bver.specs.Justified.{IsCoveredIfAny, IsEntered, IsPermittedAt, accessed_at}
 
 -- what is known at a slot, in a list by slot
@@ -73,7 +73,7 @@ pub record AreEntered (p : Program) (table : List (Option StateValue)) : Type 0 
   pub whole : AreWhole table
 
 -- the slots before this one were visited: what is permitted there, and which regions they access
-pub record AreVisited (p : Program) (sizes : List ℕ) (table : List (Option StateValue)) (regions : List (Option Region)) (slot : ℕ) : Type 0 where
+pub record AreVisited (p : Program) (sizes : Maps) (table : List (Option StateValue)) (regions : List (Option Region)) (slot : ℕ) : Type 0 where
   pub size : length table ≡ length p.slots
   pub entered : IsEntered (known_in table 0)
   pub placed : IsPlaced p table

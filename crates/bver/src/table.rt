@@ -2,7 +2,7 @@
 
 ghost use Rattle.std.specs.Prelude.{◌≡◌, ◌≢◌, ◌<◌, ℕ, IfOk, IfSome, Some, None, length, if◌then◌else◌};
 ghost use Rattle.bver.specs.Justified.{IsCovered, IsCoveredIfAny};
-ghost use Rattle.absdom.specs.Growth.{IsWhole};
+ghost use Rattle.absdom.specs.State.{IsWhole};
 ghost use Rattle.bver.specs.Visit.{AreWhole, IsGrown, IsLeast, known_in};
 
 use absdom::{State, join_is_least, order_of_states};

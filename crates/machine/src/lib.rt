@@ -14,9 +14,12 @@ mod values;
 mod words;
 
 pub use calls::Call;
-pub use laws::{numbers_fit, results_fit, runs_agree, sizes_only_trap, steps_leave};
+pub use laws::{
+    numbers_fit, questions_go_on, results_fit, runs_agree, sizes_only_trap, steps_leave,
+    steps_perform, stored_bytes_are_read,
+};
 pub use memory::loaded;
-pub use regions::Region;
+pub use regions::{Region, STACK_SIZE};
 pub use sizes::{MapSizes, TooMany};
 pub use values::Value;
-pub use words::{alu_words, extended, holds_words, low, negated, swapped, word};
+pub use words::{alu_words, extended, holds_words, low, modulus, negated, swapped, word};

@@ -1,7 +1,8 @@
-//! What loads give (RFC 9669, section 5).
+//! What the bytes of a load give (RFC 9669, section 5).
 
 ghost use Rattle.std.specs.Prelude.{◌≡◌, ◌^◌, ◌<◌};
-ghost use Rattle.machine.specs.Memory.{loaded, load_bytes};
+ghost use Rattle.bpf_insn.specs.Sizes.{load_bytes};
+ghost use Rattle.machine.specs.Memory.{loaded};
 
 use crate::words::word;
 use bpf_insn::LoadSize;
