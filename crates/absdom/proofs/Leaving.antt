@@ -142,7 +142,7 @@ with_kind_below : (b a : StateValue) (register : ℕ) (kind : AbsKind) → lengt
 with_kind_below b a register kind e h below =
     let grown = with_kind_grows b a register kind (kind_at a register) e h below in
     let back : with_kind a register (kind_at a register) ≡ a =
-      ap (λ (kinds : List AbsKind). let c : StateValue = record { kinds = kinds; marks = a.marks } in c) (write_same a.kinds register (kind_at a register) refl)
+    ap (λ (kinds : List AbsKind). let c : StateValue = record { kinds = kinds; marks = a.marks } in c) (write_same a.kinds register (kind_at a register) refl)
     in
     rw back at grown
 

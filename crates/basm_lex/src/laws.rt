@@ -38,5 +38,5 @@ pub fn printed_words()
     // And it is one line.
     ensures line { (name : List ℕ) (xs : List (List ℕ)) (rest : List ℕ) → IsWord name → AreWords xs
         → slice_split (λ c. c == 10) (written name xs ++ 10 ∷ rest)
-            ≡ written name xs ∷ slice_split (λ c. c == 10) rest }
+        ≡ written name xs ∷ slice_split (λ c. c == 10) rest }
 {}

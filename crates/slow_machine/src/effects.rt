@@ -10,12 +10,10 @@ ghost use Rattle.machine.specs.Step.{operand, writes, lands, jumps, compares, lo
 use crate::arithmetic::{alu, byte_swap, move_signed, negate, number};
 use crate::memory::{Memory, place_of, read};
 use bpf_insn::{
-    AluOp, Callee, Comparison, Condition, FRAME_POINTER, Insn, LoadSize, Operand, REGISTERS, Register, Size, Swap, SwapBits,
-    Width,
+    AluOp, Callee, Comparison, Condition, FRAME_POINTER, Insn, LoadSize, Operand, REGISTERS,
+    Register, Size, Swap, SwapBits, Width,
 };
-use machine::{
-    MapSizes, Region, Value, holds_words, loaded, word,
-};
+use machine::{MapSizes, Region, Value, holds_words, loaded, word};
 
 /// What an instruction does.
 #[derive(Clone, Copy)]
