@@ -13,9 +13,7 @@ use bpf_insn::{
     AluOp, Callee, Comparison, Condition, Insn, LoadSize, Operand, Register, Size, Swap, SwapBits,
     Width,
 };
-use machine::{
-    MapSizes, Region, Value, holds_words, loaded, word,
-};
+use machine::{MapSizes, Region, Value, holds_words, loaded, word};
 
 /// What an instruction does.
 #[derive(Clone, Copy)]
