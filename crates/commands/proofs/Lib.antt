@@ -1,4 +1,6 @@
+mod FactoryImage
+mod LinesInTurn
 mod Matching
 mod OnePort
 mod Stopped
-mod LinesInTurn
+mod TextLines

@@ -12,3 +12,10 @@ pub widened : {A : Type 0} (Narrow Wide : Fault → Type 0) → ((fault : Fault)
 widened Narrow Wide h (Ok x) stops = stops
 widened Narrow Wide h (Err (Ended fault)) stops = h fault stops
 widened Narrow Wide h (Err (Unwritten refused)) stops = stops
+
+-- a stop by both kinds of fault
+pub both : {A : Type 0} (One Two : Fault → Type 0) (r : Result A Stop)
+    → IfErr r (StopsBy One) → IfErr r (StopsBy Two) → IfErr r (StopsBy (λ fault. One fault × Two fault))
+both One Two (Ok x) one two = one
+both One Two (Err (Ended fault)) one two = (one, two)
+both One Two (Err (Unwritten refused)) one two = one

@@ -1,5 +1,9 @@
-//! Tests that cross crates: whole jobs of `rmapctl` over files in memory.
+//! Whole jobs of `rmapctl` over files in memory, and tests of them, which cross crates.
 #![tactic(auto)]
+
+mod folder;
+
+pub use folder::{Folder, LOCKED};
 
 #[cfg(test)]
 mod tests;
