@@ -2,5 +2,4 @@ mod FactoryImage
 mod LinesInTurn
 mod Matching
 mod OnePort
-mod Stopped
 mod TextLines

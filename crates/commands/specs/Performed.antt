@@ -1,5 +1,5 @@
 -- What each job does, with its fault and its exit status.
-use Rattle.std.specs.Prelude.{◌≡◌, ℕ, zero, suc, List, Option, Result, Ok, Err, option_map, string_bytes}
+use Rattle.std.specs.Prelude.{◌≡◌, ℕ, zero, suc, List, Option, option_map, string_bytes}
 use Rattle.std.specs.Io.KnownBytes.{Appends}
 use Rattle.commands.specs.Assembled.{Assembles, IsNotAssembled}
 use Rattle.commands.specs.Disassembled.{Disassembles, IsNotPrinted}

@@ -1,2 +1,3 @@
 pub mod Folders
+pub mod Jobs
 pub mod Sheets

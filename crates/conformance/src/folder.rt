@@ -91,6 +91,7 @@ impl Files for Folder {
         }
     }
 
+    #[tactic(auto, using(crate::proofs::NewestSheet::newest_sets))]
     fn write(&mut self, name: &str, bytes: &[u8]) -> Result<(), Cannot> {
         if name == LOCKED {
             return Err(Cannot);

@@ -2,8 +2,10 @@
 #![tactic(auto)]
 
 mod folder;
+mod jobs;
 
 pub use folder::{Folder, LOCKED};
+pub use jobs::perform_in;
 
 #[cfg(test)]
 mod tests;

@@ -11,8 +11,8 @@ mod usage;
 mod verifying;
 mod writers;
 
-use crate::Folder;
-use commands::{Cannot, Files, perform, words};
+use crate::{Folder, perform_in};
+use commands::{Cannot, Files, words};
 use std::alloc::Global;
 use std::test::Fail;
 pub use trial::{PLAIN_READ, PLAIN_REPLY};
@@ -37,9 +37,8 @@ pub fn folder_of(alloc: Global, files: &[(&str, &[u8])]) -> Result<Folder, Canno
 /// What comes of these words over these files.
 pub fn done(alloc: Global, given: &[&str], files: &[(&str, &[u8])]) -> Result<Outcome, Fail> {
     let job = words(alloc, given)?;
-    let mut out = Vec::new(alloc);
     let mut folder = folder_of(alloc, files).map_err(|_| "no folder")?;
-    let status = perform(alloc, &job, &mut folder, &mut out)?;
+    let (out, status) = perform_in(alloc, &job, &mut folder)?;
     Ok(Outcome {
         printed: String::from_utf8(out)?,
         status,

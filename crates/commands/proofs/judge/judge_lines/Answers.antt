@@ -11,10 +11,11 @@ use Rattle.commands.proofs.judge.judge_lines.Goals as goal
 pub loop-line-preserved : goal.loop-line-preserved
 loop-line-preserved g c =
     let P : List (List ℕ) → Type 0 = λ lines. JudgesAll lines c.args.node.now c.judge_line.new.node (g.W.Write.contents c.args.out.now) (g.W.Write.contents c.judge_line.new.out) in
-    let count = length-append c.loop-line.yielded (c.in-Some.line ∷ []) in
-    (omega (arith, c.loop-line.invariant.0, count),
-     subst P (sym (map_push (λ line. line.now) c.loop-line.yielded c.in-Some.line))
-     (judges_more (map (λ line. line.now) c.loop-line.yielded) c.in-Some.line.now _ _ _ _ _ _ c.loop-line.invariant.1 c.in_ok-judge_line.ensures.judged))
+    let count = length-append c.loop-line.yielded (c.in-Some.line ∷ []) in (
+      omega (arith, c.loop-line.invariant.0, count),
+      subst P (sym (map_push (λ line. line.now) c.loop-line.yielded c.in-Some.line))
+          (judges_more (map (λ line. line.now) c.loop-line.yielded) c.in-Some.line.now _ _ _ _ _ _ c.loop-line.invariant.1 c.in_ok-judge_line.ensures.judged),
+    )
 
 pub returns-clause-judged : goal.returns-clause-judged
 returns-clause-judged g c =
