@@ -14,7 +14,7 @@ use Rattle.machine.specs.Runs.{call}
 use Rattle.cells.specs.declared.hands.Draw.{Draw}
 use Rattle.cells.specs.Draws.{word_of, cell_of, draw, calls_of, tickets, tickets_of, is_ticket, asks_ticket, IsBehind, AreNumbersBelow}
 use Rattle.cells.specs.Counting.{IsCounted, IsDrawn}
-use Rattle.cells.specs.Seats.{CellSeatValue, IsOf, AreOf, calls}
+use Rattle.cells.specs.Seats.{IsOf, AreOf}
 
 -- the word of a cell is one of the words
 pub word_inside : (sizes : List ℕ) (m key : ℕ) → IsInside sizes m key → word_of sizes m key < sum sizes
@@ -28,8 +28,8 @@ cell_of_first size sizes word below =
 cell_of_next : (size : ℕ) (sizes : List ℕ) (word m key : ℕ) → size ≤ word → cell_of sizes (word - size) ≡ (m, key) → cell_of (size ∷ sizes) word ≡ (suc m, key)
 cell_of_next size sizes word m key over rest =
     ◌∙◌ {b = (suc (cell_of sizes (word - size)).0, (cell_of sizes (word - size)).1)}
-        (ap (λ (b : Bool). cond b (0, word) (suc (cell_of sizes (word - size)).0, (cell_of sizes (word - size)).1)) (le-ltb word size over))
-        (ap (λ (c : ℕ × ℕ). (suc c.0, c.1)) rest)
+    (ap (λ (b : Bool). cond b (0, word) (suc (cell_of sizes (word - size)).0, (cell_of sizes (word - size)).1)) (le-ltb word size over))
+    (ap (λ (c : ℕ × ℕ). (suc c.0, c.1)) rest)
 
 -- the cell of the word of a cell
 pub cell_of_word : (sizes : List ℕ) (m key : ℕ) → m < length sizes → key < slice_index sizes m → cell_of sizes (word_of sizes m key) ≡ (m, key)
@@ -58,18 +58,11 @@ word_of_cell (size ∷ sizes) word below =
     word_by size sizes word (nat_lt word size) refl (λ over. word_of_cell sizes (word - size) (omega (arith, sum_by-cons (λ (x : ℕ). x) size sizes)))
 
 -- the calls with one draw more
-asked : (sizes : List ℕ) (m key helper answer : ℕ) (before after : List Draw) → IsInside sizes m key → IsDrawn helper (word_of sizes m key) before answer after
+pub asked : (sizes : List ℕ) (m key helper answer : ℕ) (before after : List Draw) → IsInside sizes m key → IsDrawn helper (word_of sizes m key) before answer after
     → calls_of sizes after ≡ calls_of sizes before ++ call helper m key answer ∷ []
 asked sizes m key helper answer before after h d =
     ap (calls_of sizes) d.draws ∙ map-append _ before (draw helper (word_of sizes m key) d.exact answer ∷ [])
     ∙ ap (λ (c : ℕ × ℕ). calls_of sizes before ++ call helper c.0 c.1 answer ∷ []) (cell_of_word sizes m key h.map_exists h.key_exists)
-
--- the same of a seat
-pub asked_by : (m key helper answer word : ℕ) (old new : CellSeatValue) → IsInside old.sizes m key → new.sizes ≡ old.sizes → word ≡ word_of old.sizes m key
-    → IsDrawn helper word old.draws answer new.draws → calls new ≡ calls old ++ call helper m key answer ∷ []
-asked_by m key helper answer word old new h sizes is d =
-    ap (λ (z : List ℕ). calls_of z new.draws) sizes
-    ∙ asked old.sizes m key helper answer old.draws new.draws h (subst (λ (k : ℕ). IsDrawn helper k old.draws answer new.draws) is d)
 
 -- a draw is a ticket of the word where its call drew a ticket of the cell
 asks_is : (sizes : List ℕ) (m key : ℕ) → IsInside sizes m key → (d : Draw) → d.word < sum sizes

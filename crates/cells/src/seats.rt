@@ -1,6 +1,6 @@
 //! A seat, by which a thread counts.
 
-ghost use Rattle.std.specs.Prelude.{◌≡◌, ◌<◌, ◌++◌, ◌∷◌, [], sum};
+ghost use Rattle.std.specs.Prelude.{◌≡◌, ◌++◌, ◌∷◌, []};
 ghost use Rattle.std.specs.Arc.{arc_value};
 ghost use Rattle.machine.specs.Runs.{call};
 ghost use Rattle.machine.specs.Sizes.{AreSizes, IsInside};
@@ -44,23 +44,27 @@ impl Model for CellSeat {
 }
 
 impl CellSeat {
-    /// One load of a word.
-    fn load(&mut self, word: usize) -> u64
-        requires { word < sum self.old.sizes }
-        ensures drawn { IsDrawn 1 word self.old.draws result self.new.draws }
+    /// One load of the word of a cell.
+    fn load(&mut self, map: u8, key: u16) -> u64
+        requires { IsInside self.old.sizes map key }
+        ensures asked { calls self.new ≡ calls self.old ++ call 1 map key result ∷ [] }
         ensures sizes { self.new.sizes ≡ self.old.sizes }
         ensures home { self.new.home ≡ self.old.home }
+        ensures drawn { IsDrawn 1 (word_of self.old.sizes map key) self.old.draws result self.new.draws }
     {
+        let word = word_at(&self.sizes, map, key);
         self.words.shared.load::<Counts>(&mut self.place, word)
     }
 
-    /// One `fetch_add` of a word.
-    fn fetch_add(&mut self, word: usize) -> u64
-        requires { word < sum self.old.sizes }
-        ensures drawn { IsDrawn 2 word self.old.draws result self.new.draws }
+    /// One `fetch_add` of the word of a cell.
+    fn fetch_add(&mut self, map: u8, key: u16) -> u64
+        requires { IsInside self.old.sizes map key }
+        ensures asked { calls self.new ≡ calls self.old ++ call 2 map key result ∷ [] }
         ensures sizes { self.new.sizes ≡ self.old.sizes }
         ensures home { self.new.home ≡ self.old.home }
+        ensures drawn { IsDrawn 2 (word_of self.old.sizes map key) self.old.draws result self.new.draws }
     {
+        let word = word_at(&self.sizes, map, key);
         self.words
             .shared
             .fetch_add::<Tickets>(&mut self.place, word, 1)
@@ -90,8 +94,7 @@ impl Counters for CellSeat {
         ensures home { self.new.home ≡ self.old.home }
         ensures drawn { IsDrawn 1 (word_of self.old.sizes map key) self.old.draws result self.new.draws }
     {
-        let word = word_at(&self.sizes, map, key);
-        self.load(word)
+        self.load(map, key)
     }
 
     fn ticket(&mut self, map: u8, key: u16) -> u64
@@ -101,7 +104,6 @@ impl Counters for CellSeat {
         ensures home { self.new.home ≡ self.old.home }
         ensures drawn { IsDrawn 2 (word_of self.old.sizes map key) self.old.draws result self.new.draws }
     {
-        let word = word_at(&self.sizes, map, key);
-        self.fetch_add(word)
+        self.fetch_add(map, key)
     }
 }

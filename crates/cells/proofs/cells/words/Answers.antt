@@ -15,4 +15,4 @@ of_words-requires c =
     let size : length z ≡ 257 = ap length c.zeros-zeros.ensures ∙ length-replicate {A = ℕ} 257 0 in
     let long : length (take (n + 1) z) ≡ n + 1 = length-take-le (n + 1) z (let few = c.first_word-count.ensures.few in omega arith) in
     opens sizes (take (n + 1) z) (long ∙ ap (λ (k : ℕ). k + 1) all)
-        (All-take (λ x. x ≡ 0) (n + 1) z (subst (All (λ x. x ≡ 0)) (sym c.zeros-zeros.ensures) (All-replicate (λ x. x ≡ 0) 257 0 refl)))
+    (All-take (λ x. x ≡ 0) (n + 1) z (subst (All (λ x. x ≡ 0)) (sym c.zeros-zeros.ensures) (All-replicate (λ x. x ≡ 0) 257 0 refl)))
