@@ -101,7 +101,8 @@ fn judging_program<'a, F: Files>(
         HoldsProgram F.reads files.old (name_in image.entry) program.program files.new) }
     ensures sizes { IfOk result (λ program. program.sizes ≡ []) }
     ensures safe { IfOk result (λ program. IsSafe program.program []) }
-    ensures refused { IfErr result (HoldsNoProgram F.reads files.old (name_in image.entry) files.new) }
+    ensures refused { IfErr result
+        (HoldsNoProgram F.reads files.old (name_in image.entry) files.new) }
 {
     match image {
         Some(name) => program_in(alloc, files, name),
@@ -144,7 +145,8 @@ fn print_served<'a, W: Write>(
     served: Served,
     reply: &[u8],
 ) -> Result<(), Stop<'a>>
-    ensures printed { OnOk result (Prints W.contents out.old out.new (served_line port served reply.now)) }
+    ensures printed { OnOk result
+        (Prints W.contents out.old out.new (served_line port served reply.now)) }
     ensures stops { IfErr result (StopsBy (λ fault. fault ≡ NoMemory)) }
 {
     match served {
@@ -219,8 +221,8 @@ fn judge_text<'a, W: Write>(
     judge_lines(alloc, node, without_last_feed(text), out)
 }
 
-/// The text of a file of packet lines, and a fresh node whose commands the program of an image file,
-/// or the factory program, judges.
+/// The text of a file of packet lines, and a fresh node whose commands the program of an image
+/// file, or the factory program, judges.
 fn lines_and_node<'a, F: Files>(
     alloc: Global,
     lines: &'a str,
@@ -249,8 +251,8 @@ pub fn judge_file<'a, F: Files, W: Write>(
     files: &mut F,
     out: &mut W,
 ) -> Result<(), Stop<'a>>
-    ensures done { OnOk result (JudgesFile F.reads files.old lines.now (name_in image.entry) files.new
-        (W.contents out.old) (W.contents out.new)) }
+    ensures done { OnOk result (JudgesFile F.reads files.old lines.now
+        (name_in image.entry) files.new (W.contents out.old) (W.contents out.new)) }
     ensures stops { IfErr result (StopsBy (IsNotJudged F.reads files.old lines.now
         (name_in image.entry) files.new (W.contents out.old) (W.contents out.new))) }
 {
