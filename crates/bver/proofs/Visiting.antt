@@ -14,8 +14,8 @@ use Rattle.bver.specs.Visit.{IsExtended, AreVisited, known_in}
 use Rattle.bver.proofs.Covering.{any_covered_more, permitted_at_more}
 
 -- a table that grew twice
-pub extended_twice : BelowIsTransitive → (p : Program) (slot : ℕ) (old mid new : List (Option StateValue)) → IsExtended p slot old mid → IsExtended p slot mid new → IsExtended p slot old new
-extended_twice transitive p slot old mid new f g = record {
+pub extended_twice : BelowIsTransitive → (p : Program) (from : ℕ) (old mid new : List (Option StateValue)) → IsExtended p from old mid → IsExtended p from mid new → IsExtended p from old new
+extended_twice transitive p from old mid new f g = record {
   grown = record {
     size = g.grown.size ∙ f.grown.size;
     covered = λ k. any_covered_more transitive (known_in old k) (known_in mid k) (known_in new k) (f.grown.covered k) (g.grown.covered k);
@@ -26,7 +26,7 @@ extended_twice transitive p slot old mid new f g = record {
 }
 
 -- after the visit of a slot
-pub visited_next : BelowIsTransitive → (p : Program) (sizes : List ℕ) (old new : List (Option StateValue)) (regions : List (Option Region)) (slot : ℕ) (region : Option Region) → AreVisited p sizes old regions slot → IsExtended p slot old new → IsPermittedAt sizes (known_in new) slot (known_in new slot) (insn_at p slot) → region ≡ accessed_at (known_in new slot) (insn_at p slot) → slot < length regions → AreVisited p sizes new (slice_set regions slot region) (slot + 1)
+pub visited_next : BelowIsTransitive → (p : Program) (sizes : List ℕ) (old new : List (Option StateValue)) (regions : List (Option Region)) (slot : ℕ) (region : Option Region) → AreVisited p sizes old regions slot → IsExtended p (slot + 1) old new → IsPermittedAt sizes (known_in new) slot (known_in new slot) (insn_at p slot) → region ≡ accessed_at (known_in new slot) (insn_at p slot) → slot < length regions → AreVisited p sizes new (slice_set regions slot region) (slot + 1)
 visited_next transitive p sizes old new regions slot region v f permitted accessed inside = record {
   size = f.grown.size ∙ v.size;
   entered = subst IsEntered (sym (f.kept 0 (omega arith))) v.entered;

@@ -5,6 +5,7 @@ use Rattle.std.specs.Prelude.{◌≡◌, ℕ, ◌+◌, ℤ, pos, negsuc, List, O
 use Rattle.bpf.specs.Program.{Program, IsProgram}
 use Rattle.bpf_insn.specs.declared.insn.Insn.{Insn}
 use Rattle.bpf_insn.specs.declared.insn.Insn.TheVariants.{Alu, Negate, MoveSigned, ByteSwap, Load, Store, Jump, Goto, Wide, LoadMap, LoadAddress, Call, Exit}
+use Rattle.bpf_insn.specs.Flow.{accessed_base}
 use Rattle.bpf_insn.specs.Spelling.{slots_of}
 use Rattle.machine.specs.declared.regions.Region.{Region}
 use Rattle.machine.specs.Step.{insn_at, distance_of, is_map}
@@ -109,21 +110,14 @@ pointed (Num range) = None
 pointed (Ptr region offsets) = Some region
 pointed (Map index) = None
 
+-- the region into which a base register points, if there is one
+abbrev pub region_of : StateValue → Option ℕ → Option Region
+region_of a None = None
+region_of a (Some base) = pointed (kind_at a base)
+
 -- the region that an instruction accesses
 abbrev pub accessed : StateValue → Insn → Option Region
-accessed a (Load size dst base offset) = pointed (kind_at a base)
-accessed a (Store size base offset src) = pointed (kind_at a base)
-accessed a (Alu op width dst src) = None
-accessed a (Negate width dst) = None
-accessed a (MoveSigned extension dst src) = None
-accessed a (ByteSwap swap bits dst) = None
-accessed a (Jump condition width dst src offset) = None
-accessed a (Goto distance) = None
-accessed a (Wide dst value) = None
-accessed a (LoadMap dst index) = None
-accessed a (LoadAddress dst address) = None
-accessed a (Call callee number) = None
-accessed a Exit = None
+accessed a insn = region_of a (accessed_base insn)
 
 -- the region that is accessed at a slot; none where no run comes
 abbrev pub accessed_at : Option StateValue → Option Insn → Option Region

@@ -1,6 +1,6 @@
 //! What an instruction does to the table: the edges that it follows, and why it is refused.
 
-ghost use Rattle.std.specs.Prelude.{◌≡◌, ◌+◌, ◌<◌, IsTrue, OnOk, Ok, length};
+ghost use Rattle.std.specs.Prelude.{◌≡◌, ◌+◌, IsTrue, OnOk, Ok, length};
 ghost use Rattle.bpf_insn.specs.Spelling.{slots_of};
 ghost use Rattle.machine.specs.Step.{is_map};
 ghost use Rattle.absdom.specs.Effect.{applied};
@@ -9,14 +9,13 @@ ghost use Rattle.absdom.specs.State.{kind_at};
 ghost use Rattle.bver_form.specs.Form.{IsAllowed, IsJump, target};
 ghost use Rattle.bver.specs.Codes.{refusal_of};
 ghost use Rattle.bver.specs.Justified.{IsCovered, IsCoveredIfAny, IsResultCovered, AreEdgesCovered, IsNumber, IsPermitted, known_at, pointed, accessed};
-ghost use Rattle.bver.specs.Visit.{IsExtended, IsLater, HasNext, known_in};
+ghost use Rattle.bver.specs.Visit.{IsTableOf, IsExtendedAfter, IsNext, HasNext, known_in, taken_in};
 
 use crate::table::Table;
+use crate::visit::Visit;
 use absdom::{AbsKind, Cause, Edges, Operands, Region, State, order_of_states, refine};
-use bpf::Image;
-use bpf_insn::{Condition, Distance, Insn, Operand, Register, Width};
-use bver_form::{Refusal, landing};
-use machine::MapSizes;
+use bpf_insn::{Condition, Insn, Operand, Register, Width};
+use bver_form::Refusal;
 
 /// The refusal for what an instruction may do wrong.
 fn refusal_of(cause: Cause) -> Refusal
@@ -32,14 +31,14 @@ fn refusal_of(cause: Cause) -> Refusal
     }
 }
 
-/// Follows a jump from the slot by so many slots.
-fn jump(table: &mut Table, image: &Image, slot: u16, distance: i32, state: &State)
-    requires size { length table.old ≡ length image.now.slots }
-    requires jump { IsJump image.now slot distance }
-    ensures covered { IsCovered state.now (known_at (known_in table.new) (target slot distance)) }
-    ensures extended { IsExtended image.now slot table.old table.new }
+/// Follows a jump by so many slots.
+fn jump(visit: &Visit, table: &mut Table, distance: i32, state: &State)
+    requires size { IsTableOf visit.now table.old }
+    requires jump { IsJump visit.now.program visit.now.slot distance }
+    ensures covered { IsCovered state.now (taken_in visit.now distance table.new) }
+    ensures extended { IsExtendedAfter visit.now table.old table.new }
 {
-    match landing(image, slot, distance) {
+    match visit.landing(distance) {
         Some(later) => table.follow(later, state),
         None => unreachable!(),
     }
@@ -47,26 +46,25 @@ fn jump(table: &mut Table, image: &Image, slot: u16, distance: i32, state: &Stat
 
 /// Follows the edge of a comparison on which it holds, if a run may take it.
 fn follow_taken(
+    visit: &Visit,
     table: &mut Table,
-    image: &Image,
-    slot: u16,
     state: &State,
     dst: Register,
     src: &Operand,
     distance: i32,
     edge: &Option<Operands>,
 )
-    requires size { length table.old ≡ length image.now.slots }
-    requires jump { IsJump image.now slot distance }
-    ensures covered { IsCoveredIfAny (on_edge state.now dst src.now edge.now) (known_at (known_in table.new) (target slot distance)) }
-    ensures extended { IsExtended image.now slot table.old table.new }
+    requires size { IsTableOf visit.now table.old }
+    requires jump { IsJump visit.now.program visit.now.slot distance }
+    ensures covered { IsCoveredIfAny (on_edge state.now dst src.now edge.now) (taken_in visit.now distance table.new) }
+    ensures extended { IsExtendedAfter visit.now table.old table.new }
 {
     order_of_states();
     match edge {
         Some(new) => {
             let mut state = *state;
             state.narrow(dst, src, new);
-            jump(table, image, slot, distance, &state);
+            jump(visit, table, distance, &state);
         }
         None => {}
     }
@@ -74,20 +72,19 @@ fn follow_taken(
 
 /// Follows the other edge of a comparison, if a run may take it.
 fn follow_not_taken(
+    visit: &Visit,
     table: &mut Table,
-    image: &Image,
-    slot: u16,
     state: &mut State,
     dst: Register,
     src: &Operand,
     edge: &Option<Operands>,
 )
-    requires { IsLater image.now slot table.old (slot + 1) }
-    ensures covered { IsCoveredIfAny (on_edge state.old dst src.now edge.now) (known_in table.new (slot + 1)) }
-    ensures extended { IsExtended image.now slot table.old table.new }
+    requires { IsNext visit.now table.old 1 }
+    ensures covered { IsCoveredIfAny (on_edge state.old dst src.now edge.now) (known_in table.new (visit.now.slot + 1)) }
+    ensures extended { IsExtendedAfter visit.now table.old table.new }
 {
     order_of_states();
-    let next = slot + 1;
+    let next = visit.slot() + 1;
     match edge {
         Some(new) => {
             state.narrow(dst, src, new);
@@ -99,31 +96,29 @@ fn follow_not_taken(
 
 /// Follows the edges of a comparison.
 fn branch(
+    visit: &Visit,
     table: &mut Table,
-    image: &Image,
-    slot: u16,
     state: &mut State,
     dst: Register,
     src: &Operand,
     distance: i32,
     edges: &Edges,
 )
-    requires size { length table.old ≡ length image.now.slots }
-    requires jump { IsJump image.now slot distance }
-    requires next { IsLater image.now slot table.old (slot + 1) }
-    ensures covered { AreEdgesCovered (Ok (on_edges state.old dst src.now edges.now)) (known_at (known_in table.new) (target slot distance)) (known_in table.new (slot + 1)) }
-    ensures extended { IsExtended image.now slot table.old table.new }
+    requires size { IsTableOf visit.now table.old }
+    requires jump { IsJump visit.now.program visit.now.slot distance }
+    requires next { IsNext visit.now table.old 1 }
+    ensures covered { AreEdgesCovered (Ok (on_edges state.old dst src.now edges.now)) (taken_in visit.now distance table.new) (known_in table.new (visit.now.slot + 1)) }
+    ensures extended { IsExtendedAfter visit.now table.old table.new }
 {
     order_of_states();
-    follow_taken(table, image, slot, state, dst, src, distance, &edges.taken);
-    follow_not_taken(table, image, slot, state, dst, src, &edges.not_taken);
+    follow_taken(visit, table, state, dst, src, distance, &edges.taken);
+    follow_not_taken(visit, table, state, dst, src, &edges.not_taken);
 }
 
 /// A comparison.
 fn compare(
+    visit: &Visit,
     table: &mut Table,
-    image: &Image,
-    slot: u16,
     state: &mut State,
     condition: Condition,
     width: Width,
@@ -131,25 +126,16 @@ fn compare(
     src: &Operand,
     offset: i16,
 ) -> Result<(), Refusal>
-    requires size { length table.old ≡ length image.now.slots }
-    requires jump { IsJump image.now slot offset }
-    requires next { IsLater image.now slot table.old (slot + 1) }
-    ensures covered { OnOk result (AreEdgesCovered (refined_edges state.old condition width dst src.now) (known_at (known_in table.new) (target slot offset)) (known_in table.new (slot + 1))) }
-    ensures extended { IsExtended image.now slot table.old table.new }
+    requires size { IsTableOf visit.now table.old }
+    requires jump { IsJump visit.now.program visit.now.slot offset }
+    requires next { IsNext visit.now table.old 1 }
+    ensures covered { OnOk result (AreEdgesCovered (refined_edges state.old condition width dst src.now) (taken_in visit.now offset table.new) (known_in table.new (visit.now.slot + 1))) }
+    ensures extended { IsExtendedAfter visit.now table.old table.new }
 {
     order_of_states();
     match refine(state, condition, width, dst, src) {
         Ok(edges) => {
-            branch(
-                table,
-                image,
-                slot,
-                state,
-                dst,
-                src,
-                i32::from(offset),
-                &edges,
-            );
+            branch(visit, table, state, dst, src, i32::from(offset), &edges);
             Ok(())
         }
         Err(cause) => Err(refusal_of(cause)),
@@ -157,29 +143,23 @@ fn compare(
 }
 
 /// An instruction that goes on to the next one.
-fn straight(
-    table: &mut Table,
-    image: &Image,
-    slot: u16,
-    state: &mut State,
-    insn: &Insn,
-) -> Result<(), Refusal>
-    requires { IsLater image.now slot table.old (slot + slots_of insn.now) }
-    ensures covered { OnOk result (IsResultCovered (applied state.old insn.now) (known_in table.new (slot + slots_of insn.now))) }
-    ensures extended { IsExtended image.now slot table.old table.new }
+fn straight(visit: &Visit, table: &mut Table, state: &mut State, insn: &Insn) -> Result<(), Refusal>
+    requires { IsNext visit.now table.old (slots_of insn.now) }
+    ensures covered { OnOk result (IsResultCovered (applied state.old insn.now) (known_in table.new (visit.now.slot + slots_of insn.now))) }
+    ensures extended { IsExtendedAfter visit.now table.old table.new }
 {
     order_of_states();
     state.apply(insn).map_err(refusal_of)?;
-    let next = slot + insn.slots() as u16;
+    let next = visit.slot() + insn.slots() as u16;
     table.follow(next, state);
     Ok(())
 }
 
 /// Tests that there is a map of the index.
-fn check_map(sizes: &MapSizes, index: i32) -> Result<(), Refusal>
-    ensures { OnOk result (IsTrue (is_map sizes.now index)) }
+fn check_map(visit: &Visit, index: i32) -> Result<(), Refusal>
+    ensures { OnOk result (IsTrue (is_map visit.now.sizes index)) }
 {
-    if index < 0 || index >= i32::from(sizes.maps()) {
+    if index < 0 || index >= i32::from(visit.maps()) {
         return Err(Refusal::MapKey);
     }
     Ok(())
@@ -214,9 +194,9 @@ fn pointed(kind: &AbsKind) -> Option<Region>
 pub(crate) fn accessed(state: &State, insn: &Insn) -> Option<Region>
     ensures { result ≡ accessed state.now insn.now }
 {
-    match insn {
-        Insn::Load { base, .. } | Insn::Store { base, .. } => pointed(&state.kind(*base)),
-        _ => None,
+    match insn.accessed() {
+        Some(base) => pointed(&state.kind(base)),
+        None => None,
     }
 }
 
@@ -228,18 +208,16 @@ pub(crate) fn accessed(state: &State, insn: &Insn) -> Option<Region>
 /// The first of `Unset` and `KindMismatch`, the destination before the source, `PointerRange`,
 /// `HeaderWrite`, `OutOfRegion`, `UnsetStack` and `MapKey`.
 pub(crate) fn flow(
+    visit: &Visit,
     table: &mut Table,
-    image: &Image,
-    sizes: &MapSizes,
-    slot: u16,
     state: &mut State,
     insn: &Insn,
 ) -> Result<(), Refusal>
-    requires size { length table.old ≡ length image.now.slots }
-    requires allowed { IsAllowed image.now slot insn.now }
-    requires next { HasNext image.now slot table.old insn.now }
-    ensures permitted { OnOk result (IsPermitted sizes.now (known_in table.new) slot state.old insn.now) }
-    ensures extended { IsExtended image.now slot table.old table.new }
+    requires size { IsTableOf visit.now table.old }
+    requires allowed { IsAllowed visit.now.program visit.now.slot insn.now }
+    requires next { HasNext visit.now table.old insn.now }
+    ensures permitted { OnOk result (IsPermitted visit.now.sizes (known_in table.new) visit.now.slot state.old insn.now) }
+    ensures extended { IsExtendedAfter visit.now table.old table.new }
 {
     order_of_states();
     match insn {
@@ -249,10 +227,10 @@ pub(crate) fn flow(
         | Insn::ByteSwap { .. }
         | Insn::Load { .. }
         | Insn::Store { .. }
-        | Insn::Wide { .. } => straight(table, image, slot, state, insn),
+        | Insn::Wide { .. } => straight(visit, table, state, insn),
         Insn::LoadMap { index, .. } => {
-            check_map(sizes, *index)?;
-            straight(table, image, slot, state, insn)
+            check_map(visit, *index)?;
+            straight(visit, table, state, insn)
         }
         Insn::Jump {
             condition,
@@ -260,21 +238,9 @@ pub(crate) fn flow(
             dst,
             src,
             offset,
-        } => {
-            compare(
-                table, image, slot, state, *condition, *width, *dst, src, *offset,
-            )
-        }
-        Insn::Goto {
-            distance: Distance::Short(offset),
-        } => {
-            jump(table, image, slot, i32::from(*offset), state);
-            Ok(())
-        }
-        Insn::Goto {
-            distance: Distance::Long(immediate),
-        } => {
-            jump(table, image, slot, *immediate, state);
+        } => { compare(visit, table, state, *condition, *width, *dst, src, *offset) }
+        Insn::Goto { distance } => {
+            jump(visit, table, distance.slots(), state);
             Ok(())
         }
         Insn::Exit => check_answer(state),

@@ -9,6 +9,7 @@
 mod accepted;
 mod edges;
 mod laws;
+mod passes;
 mod table;
 mod visit;
 

@@ -1,6 +1,6 @@
 use Rattle.std.proofs.Common.{◌≡◌, length}
 use Rattle.bver.specs.Visit.{AreVisited}
-use Rattle.bver.proofs.visit.pass.Given as goal
+use Rattle.bver.proofs.passes.pass.Given as goal
 
 abbrev pub invariant-loop-slot : goal.invariant-loop-slot
 invariant-loop-slot l =
