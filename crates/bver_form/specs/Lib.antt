@@ -1,2 +1,5 @@
 pub mod Codes
+pub mod Support
+pub mod Jumps
+pub mod Loops
 pub mod Form

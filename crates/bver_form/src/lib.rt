@@ -2,8 +2,13 @@
 //! said of the values that they work on.
 #![tactic(auto)]
 
+mod ending;
 mod form;
+mod jumps;
+mod loops;
 mod refusal;
+mod support;
 
-pub use form::{check, landing};
+pub use form::check;
+pub use jumps::landing;
 pub use refusal::{Refusal, Refused};
