@@ -3,3 +3,4 @@ pub mod Support
 pub mod Jumps
 pub mod Loops
 pub mod Form
+pub mod Laws

@@ -5,10 +5,12 @@
 mod ending;
 mod form;
 mod jumps;
+mod laws;
 mod loops;
 mod refusal;
 mod support;
 
 pub use form::check;
 pub use jumps::landing;
+pub use laws::loops_are_counted;
 pub use refusal::{Refusal, Refused};
