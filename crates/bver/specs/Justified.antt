@@ -1,14 +1,17 @@
 -- When a program may judge (a choice of this project, since RFC 9669 leaves verification to the
 -- implementation): it has its form, and there is a table of what is known at its slots under which no
 -- instruction can go wrong.
-use Rattle.std.specs.Prelude.{◌≡◌, ℕ, ◌+◌, ℤ, pos, negsuc, List, Option, Some, None, Result, Ok, Err, IsTrue, IfSome, slice_index_or}
+use Rattle.std.specs.Prelude.{◌≡◌, ◌≢◌, ℕ, ◌+◌, ℤ, pos, negsuc, List, Option, Some, None, Result, Ok, Err, IsTrue, IfSome, All, slice_index_or}
+use Rattle.bpf.specs.declared.loops.Loop.{Loop}
 use Rattle.bpf.specs.Program.{Program, IsProgram}
 use Rattle.bpf_insn.specs.declared.insn.Insn.{Insn}
 use Rattle.bpf_insn.specs.declared.insn.Insn.TheVariants.{Alu, Negate, MoveSigned, ByteSwap, Load, Store, Jump, Goto, Wide, LoadMap, LoadAddress, Call, Exit}
-use Rattle.bpf_insn.specs.Flow.{accessed_base}
+use Rattle.bpf_insn.specs.Flow.{accessed_base, is_written}
+use Rattle.bpf_insn.specs.declared.operation.Width.TheVariants.{Bits64}
 use Rattle.bpf_insn.specs.Spelling.{slots_of}
 use Rattle.machine.specs.declared.regions.Region.{Region}
 use Rattle.machine.specs.Step.{insn_at, distance_of, is_map}
+use Rattle.absdom_num.specs.Tables.{whole}
 use Rattle.absdom.specs.declared.cause.Cause.{Cause}
 use Rattle.absdom.specs.declared.kinds.AbsKind.{AbsKind}
 use Rattle.absdom.specs.declared.kinds.AbsKind.TheVariants.{Unset, Num, Ptr, Map}
@@ -16,7 +19,9 @@ use Rattle.absdom.specs.State.{StateValue, IsEntry, IsBelow, kind_at}
 use Rattle.absdom.specs.Effect.{applied}
 use Rattle.absdom.specs.Edges.{Edges, refined_edges}
 use Rattle.absdom.specs.Growth.{IsWhole}
-use Rattle.bver_form.specs.Form.{IsFormed, target}
+use Rattle.bver_form.specs.Form.{IsFormed}
+use Rattle.bver_form.specs.Jumps.{target}
+use Rattle.bver_form.specs.Loops.{holds}
 
 -- ---- what is known along an edge, and where it leads
 
@@ -89,10 +94,33 @@ pub record IsEntered (there : Option StateValue) : Type 0 where
   pub entry : IsEntry known
   pub covered : IsCovered known there
 
+-- ---- loops
+
+-- an instruction of the loop writes the register; a call writes r0 to r5
+pub record IsWrittenIn (p : Program) (l : Loop) (register : ℕ) : Type 0 where
+  pub slot : ℕ
+  pub inside : IsTrue (holds l slot)
+  pub insn : Insn
+  pub is : insn_at p slot ≡ Some insn
+  pub writes : IsTrue (is_written insn register)
+
+-- nothing is known of a register but, at most, that it holds a number
+abbrev pub IsOpen : AbsKind → Type 0
+IsOpen Unset = Unit {0}
+IsOpen (Num range) = range ≡ whole Bits64
+IsOpen (Ptr region offsets) = ⊥
+IsOpen (Map index) = ⊥
+
+-- what is known at the head of a loop, which stands for every pass: its counter is 1 to its bound, and each
+-- other register that the loop writes is open
+pub record IsHead (p : Program) (l : Loop) (a : StateValue) : Type 0 where
+  pub counter : kind_at a l.register ≡ Num (1, l.bound)
+  pub others : (register : ℕ) → register ≢ l.register → IsWrittenIn p l register → IsOpen (kind_at a register)
+
 -- ---- justified
 
--- the program has its form, and there is a table of whole states that covers the entry and permits the
--- instruction at each of them
+-- the program has its form, and there is a table of whole states that covers the entry, permits the
+-- instruction at each of them, and at the head of each loop, where it has a state, stands for every pass
 pub record IsJustified (program : Program) (sizes : List ℕ) : Type 0 where
   pub limits : IsProgram program
   pub formed : IsFormed program
@@ -100,6 +128,7 @@ pub record IsJustified (program : Program) (sizes : List ℕ) : Type 0 where
   pub entered : IsEntered (table 0)
   pub whole : (slot : ℕ) → IfSome (table slot) IsWhole
   pub permitted : (slot : ℕ) → IsPermittedAt sizes table slot (table slot) (insn_at program slot)
+  pub heads : All (λ l. IfSome (table l.head) (IsHead program l)) program.loops
 
 -- ---- the region of an access
 

@@ -3,6 +3,7 @@
 ghost use Rattle.bver.specs.Laws.{JustifiedIsSafe, JudgedIsResolved, JustifiedAsksNobody};
 
 use absdom::{apply_fits, entry_fits, order_of_states, refine_fits};
+use bver_form::loops_are_counted;
 
 /// A law and no work: a justified program is safe, its regions are those of its accesses, and it calls
 /// nobody.
@@ -15,4 +16,5 @@ pub fn justified_programs()
     entry_fits();
     apply_fits();
     refine_fits();
+    loops_are_counted();
 }
