@@ -135,7 +135,7 @@ goes_back header l s t n is e =
 pub inside_of : (l : Loop) (k : ℕ) → IsTrue (holds l k) → (l.head ≤ k) × (k ≤ l.back)
 inside_of l k inside = grind (arith, nat_tests, inside)
 
-holds_at : (l : Loop) (k : ℕ) → l.head ≤ k → k ≤ l.back → holds l k ≡ true
+pub holds_at : (l : Loop) (k : ℕ) → l.head ≤ k → k ≤ l.back → holds l k ≡ true
 holds_at l k above below = grind (arith, nat_tests, above, below)
 
 -- a number from one to another

@@ -96,13 +96,16 @@ pub record IsEntered (there : Option StateValue) : Type 0 where
 
 -- ---- loops
 
--- an instruction of the loop writes the register; a call writes r0 to r5
+-- an instruction writes the register; a call writes r0 to r5
+abbrev pub IsWrittenBy : Option Insn → (register : ℕ) → Type 0
+IsWrittenBy None register = ⊥
+IsWrittenBy (Some insn) register = IsTrue (is_written insn register)
+
+-- an instruction of the loop writes the register
 pub record IsWrittenIn (p : Program) (l : Loop) (register : ℕ) : Type 0 where
   pub slot : ℕ
   pub inside : IsTrue (holds l slot)
-  pub insn : Insn
-  pub is : insn_at p slot ≡ Some insn
-  pub writes : IsTrue (is_written insn register)
+  pub writes : IsWrittenBy (insn_at p slot) register
 
 -- nothing is known of a register but, at most, that it holds a number
 abbrev pub IsOpen : AbsKind → Type 0

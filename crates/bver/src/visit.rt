@@ -1,13 +1,17 @@
 //! A slot that is visited.
 
-ghost use Rattle.std.specs.Prelude.{◌≡◌, length};
+ghost use Rattle.std.specs.Prelude.{◌≡◌, ◌≢◌, IfSome, None, All, false, length};
 ghost use Rattle.bpf.specs.Program.{IsProgram};
 ghost use Rattle.machine.specs.Step.{insn_at};
-ghost use Rattle.bver_form.specs.Form.{IsFormed, first_slot, target};
+ghost use Rattle.bver_form.specs.Form.{IsFormed};
+ghost use Rattle.bver_form.specs.Jumps.{first_slot, is_loop_back, target};
+ghost use Rattle.bver.specs.Heads.{IsDeclared};
 ghost use Rattle.bver.specs.Visit.{VisitValue};
 
+use crate::body::Body;
 use bpf::Image;
 use bpf_insn::Insn;
+use bver_form::{Refusal, Refused};
 use machine::MapSizes;
 use std::marker::Model;
 
@@ -71,5 +75,45 @@ impl<'a> Visit<'a> {
         ensures { result ≡ length self.now.sizes }
     {
         self.sizes.maps()
+    }
+
+    /// The declared loop that has its head at the slot.
+    pub(crate) fn head(&self) -> Option<Body<'a>>
+        ensures some { IfSome result (λ b. (b.program ≡ self.now.program) × (b.declared.head ≡ self.now.slot)) }
+        ensures declared { IfSome result (λ b. IsDeclared b.program b.declared b.place) }
+        ensures none { result ≡ None → All (λ l. l.head ≢ self.now.slot) self.now.program.loops }
+    {
+        let loops = self.image.loops();
+        for place in 0..loops.len() {
+            if loops[place].head == self.slot {
+                return Some(Body::new(self.image, place));
+            }
+        }
+        None
+    }
+
+    /// The declared loop whose back is the slot, and its head that one.
+    pub(crate) fn closed(&self, head: u16) -> Option<Body<'a>>
+        ensures some { IfSome result (λ b. (b.program ≡ self.now.program) × (b.declared.head ≡ head)) }
+        ensures none { result ≡ None → is_loop_back self.now.program self.now.slot head ≡ false }
+    {
+        let loops = self.image.loops();
+        for place in 0..loops.len() {
+            if loops[place].back == self.slot && loops[place].head == head {
+                return Some(Body::new(self.image, place));
+            }
+        }
+        None
+    }
+
+    /// The refusal at the slot.
+    pub(crate) fn refused(&self, code: Refusal) -> Refused
+        ensures code { result.code ≡ code }
+        ensures slot { result.slot ≡ self.now.slot }
+    {
+        Refused {
+            code,
+            slot: self.slot,
+        }
     }
 }
