@@ -2,9 +2,8 @@
 
 ghost use Rattle.std.specs.Prelude.{◌≡◌, ◌<◌, ◌≤◌, ◌-◌, ℕ, ◌↔◌, IsTrue, false, length};
 ghost use Rattle.absdom.specs.Kinds.{joined, IsKindBelow};
-ghost use Rattle.absdom.specs.State.{IsState, IsBelow, IsJoin, IsEntry, kind_at, kind_in, with_kind, with_marks, after_call, entry_kinds, AreJoined, AreBelow};
+ghost use Rattle.absdom.specs.State.{IsState, IsWhole, IsBelow, IsJoin, IsEntry, kind_at, kind_in, with_kind, with_marks, after_call, entry_kinds, AreJoined, AreBelow};
 ghost use Rattle.absdom.specs.Marks.{mark_at, all_marked, marked};
-ghost use Rattle.absdom.specs.Growth.{IsWhole};
 
 use crate::kinds::AbsKind;
 use crate::marks::Marks;
@@ -29,7 +28,7 @@ impl Model for State {
 
     ghost Value = { StateValue };
 
-    ghost use Rattle.absdom.specs.Growth.{IsWhole};
+    ghost use Rattle.absdom.specs.State.{IsWhole};
 
     ghost view = { λ s. record { kinds = s.kinds; marks = s.marks } };
 

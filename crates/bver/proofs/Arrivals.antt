@@ -18,7 +18,8 @@ use Rattle.machine.specs.declared.regions.Region.TheVariants.{Front, Tail, Stack
 use Rattle.machine.specs.declared.values.Value.{Value}
 use Rattle.machine.specs.declared.values.Value.TheVariants.{Unset, Num, Ptr, Map}
 use Rattle.machine.specs.Words.{holds_words}
-use Rattle.machine.specs.Memory.{Header, place_of, size_bytes}
+use Rattle.machine.specs.Memory.{Header, place_of}
+use Rattle.bpf_insn.specs.Sizes.{size_bytes}
 use Rattle.machine.specs.State.{State, state, register_after}
 use Rattle.machine.specs.Step.{Outcome, Next, Ask, Verdict, Trap, perform, insn_at, operand, writes, puts, stores, compares, branches, lands, asks, calls, exits, map_at, is_helper}
 use Rattle.bver_form.specs.Jumps.{target}
@@ -26,7 +27,7 @@ use Rattle.bver_form.specs.Loops.{IsEdge, GoesTo}
 
 abbrev IsAt : ℕ → Outcome → Type 0
 IsAt next (Next t) = t.slot ≡ next
-IsAt next (Ask helper map key on) = Unit {0}
+IsAt next (Ask question on) = Unit {0}
 IsAt next (Verdict n) = Unit {0}
 IsAt next Trap = Unit {0}
 
@@ -56,13 +57,13 @@ stores_at s size (Map index) offset value = tt
 -- a run of an instruction goes on so
 abbrev IsOnEdge : Flow → (slot after : ℕ) → Outcome → Type 0
 IsOnEdge flow slot after (Next t) = GoesTo flow slot after t.slot
-IsOnEdge flow slot after (Ask helper map key on) = Unit {0}
+IsOnEdge flow slot after (Ask question on) = Unit {0}
 IsOnEdge flow slot after (Verdict n) = Unit {0}
 IsOnEdge flow slot after Trap = Unit {0}
 
 straight_edge : (slot next : ℕ) (o : Outcome) → IsAt next o → IsOnEdge GoesOn slot next o
 straight_edge slot next (Next t) at = at
-straight_edge slot next (Ask helper map key on) at = tt
+straight_edge slot next (Ask question on) at = tt
 straight_edge slot next (Verdict n) at = tt
 straight_edge slot next Trap at = tt
 
@@ -116,9 +117,9 @@ follows header s (Alu op width dst src) = straight_edge s.slot (s.slot + 1) _ (w
 follows header s (Negate width dst) = straight_edge s.slot (s.slot + 1) _ (writes_at s (s.slot + 1) dst _)
 follows header s (MoveSigned extension dst src) = straight_edge s.slot (s.slot + 1) _ (writes_at s (s.slot + 1) dst _)
 follows header s (ByteSwap swap bits dst) = straight_edge s.slot (s.slot + 1) _ (writes_at s (s.slot + 1) dst _)
-follows header s (Load size dst base offset) = straight_edge s.slot (s.slot + 1) _ (writes_at s (s.slot + 1) dst _)
-follows header s (Store size base offset src) = straight_edge s.slot (s.slot + 1) _ (stores_at s size (s.registers base) offset (operand s src))
-follows header s (Jump condition width dst src offset) = compares_edge s condition width offset (s.registers dst) (operand s src)
+follows header s (Load size dst place) = straight_edge s.slot (s.slot + 1) _ (writes_at s (s.slot + 1) dst _)
+follows header s (Store size place src) = straight_edge s.slot (s.slot + 1) _ (stores_at s size (s.registers place.base) place.offset (operand s src))
+follows header s (Jump comparison offset) = compares_edge s comparison.condition comparison.width offset (s.registers comparison.dst) (operand s comparison.src)
 follows header s (Goto distance) = jump_edge s (distance_of distance) (s.slot + 1) (target s.slot (distance_of distance)) refl
 follows header s (Wide dst value) = straight_edge s.slot (s.slot + 2) _ (writes_at s (s.slot + 2) dst (Some (Num value)))
 follows header s (LoadMap dst index) = straight_edge s.slot (s.slot + 2) _ (writes_at s (s.slot + 2) dst (map_at index))

@@ -24,7 +24,8 @@ use Rattle.machine.specs.declared.values.Value.{Value}
 use Rattle.machine.specs.declared.values.Value.TheVariants.{Unset, Num, Ptr, Map}
 use Rattle.machine.specs.Words.{alu_words, word, holds_words}
 use Rattle.machine.specs.declared.regions.Region.TheVariants.{Front, Tail, Stack}
-use Rattle.machine.specs.Memory.{Header, place_of, size_bytes}
+use Rattle.machine.specs.Memory.{Header, place_of}
+use Rattle.bpf_insn.specs.Sizes.{size_bytes}
 use Rattle.machine.specs.State.{State, state, register_after}
 use Rattle.machine.specs.Step.{Outcome, Next, Ask, Verdict, Trap, perform, insn_at, operand, alu, writes, puts, stores, compares, branches, lands, asks, calls, exits, map_at, is_helper}
 use Rattle.bver_form.specs.Jumps.{target}
@@ -94,7 +95,7 @@ taken_down (suc m) low high = omega arith
 -- the next slot, and a register that is one less than it was
 abbrev IsDown : State → (register was : ℕ) → Outcome → Type 0
 IsDown s register was (Next t) = (t.slot ≡ s.slot + 1) × (m : ℕ) × (t.registers register ≡ Num m) × (m + 1 ≡ was)
-IsDown s register was (Ask helper map key on) = Unit {0}
+IsDown s register was (Ask question on) = Unit {0}
 IsDown s register was (Verdict n) = Unit {0}
 IsDown s register was Trap = Unit {0}
 
@@ -110,13 +111,13 @@ steps_down header l s t n low is above below e =
 -- a back jump that goes back found a counter that is not zero
 abbrev IsTurn : State → (was : ℕ) → Outcome → Type 0
 IsTurn s was (Next t) = (t.slot ≡ s.slot + 1) ⊎ (1 ≤ was)
-IsTurn s was (Ask helper map key on) = Unit {0}
+IsTurn s was (Ask question on) = Unit {0}
 IsTurn s was (Verdict n) = Unit {0}
 IsTurn s was Trap = Unit {0}
 
 not_zero : (s : State) (n : ℕ) (o : Outcome) → 1 ≤ n → IsTurn s n o
 not_zero s n (Next t) low = inr low
-not_zero s n (Ask helper map key on) low = tt
+not_zero s n (Ask question on) low = tt
 not_zero s n (Verdict v) low = tt
 not_zero s n Trap low = tt
 

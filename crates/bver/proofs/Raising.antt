@@ -16,7 +16,7 @@ use Rattle.absdom.specs.declared.kinds.AbsKind.{AbsKind}
 use Rattle.absdom.specs.declared.kinds.AbsKind.TheVariants.{Unset, Num, Ptr, Map}
 use Rattle.absdom.specs.Kinds.{IsKindBelow}
 use Rattle.absdom.specs.State.{StateValue, IsBelow, kind_at, with_kind}
-use Rattle.absdom.specs.Growth.{IsWhole, IsProper}
+use Rattle.absdom.specs.State.{IsWhole, IsProper}
 use Rattle.absdom.specs.Laws.{BelowIsReflexive}
 use Rattle.bver_form.specs.Form.{IsFormed}
 use Rattle.bver_form.specs.Loops.{holds}

@@ -8,6 +8,7 @@ use Rattle.bpf.specs.Weight.{weight_of}
 use Rattle.bpf_insn.specs.declared.insn.Insn.{Insn}
 use Rattle.bpf_insn.specs.declared.insn.Insn.TheVariants.{Alu, Negate, MoveSigned, ByteSwap, Load, Store, Jump, Goto, Wide, LoadMap, LoadAddress, Exit}
 use Rattle.bpf_insn.specs.declared.insn.Insn.TheVariants as insns
+use Rattle.machine.specs.Sizes.{Maps}
 use Rattle.machine.specs.declared.calls.Call.{Call}
 use Rattle.machine.specs.declared.values.Value.{Value}
 use Rattle.machine.specs.declared.values.Value.TheVariants.{Unset as Nothing, Num as Number, Ptr as Pointer, Map as MapOf}
@@ -36,7 +37,7 @@ number_in (MapOf index) bound fits = absurd fits
 head_of : (p : Program) (l : Loop) (o : Option StateValue) (a : StateValue) → o ≡ Some a → IfSome o (IsHead p l) → IsHead p l a
 head_of p l o a is h = subst (λ (x : Option StateValue). IfSome x (IsHead p l)) is h
 
-begun_at : (p : Program) (sizes : List ℕ) (h : IsJustified p sizes) (t : State) (at : Stands h.table t) (k : ℕ) (d : Loop) → k < length p.loops → IsBegun (slice_index_or p.loops k d) t
+begun_at : (p : Program) (sizes : Maps) (h : IsJustified p sizes) (t : State) (at : Stands h.table t) (k : ℕ) (d : Loop) → k < length p.loops → IsBegun (slice_index_or p.loops k d) t
 begun_at p sizes h t at k d below same =
     let l = slice_index_or p.loops k d in
     let head : IsHead p l at.known = head_of p l (h.table l.head) at.known (ap h.table (sym same) ∙ at.is) (h.heads k d below) in
@@ -50,15 +51,15 @@ record Counted (p : Program) (n : ℕ) (s : State) : Type 0 where
   pub within : n + left_at p (values_of p.loops s) s.slot ≤ weight_of p
 
 -- an instruction begins where a path stands
-begins_here : (sizes : List ℕ) (table : ℕ → Option StateValue) (slot : ℕ) (a : StateValue) (o : Option Insn) → IsPermittedAt sizes table slot (Some a) o → IsSome o
+begins_here : (sizes : Maps) (table : ℕ → Option StateValue) (slot : ℕ) (a : StateValue) (o : Option Insn) → IsPermittedAt sizes table slot (Some a) o → IsSome o
 begins_here sizes table slot a None h = absurd h
 begins_here sizes table slot a (Some insn) h = refl
 
-insn_here : (p : Program) (sizes : List ℕ) (h : IsJustified p sizes) (s : State) (at : Stands h.table s) → IsSome (insn_at p s.slot)
+insn_here : (p : Program) (sizes : Maps) (h : IsJustified p sizes) (s : State) (at : Stands h.table s) → IsSome (insn_at p s.slot)
 insn_here p sizes h s at = begins_here sizes h.table s.slot at.known (insn_at p s.slot) (permitted_here p sizes h s at)
 
 -- a path begins
-counted_first : Laws → (p : Program) (sizes : List ℕ) (h : IsJustified p sizes) (port : ℕ) → Stands h.table (entry_state port) → Counted p 0 (entry_state port)
+counted_first : Laws → (p : Program) (sizes : Maps) (h : IsJustified p sizes) (port : ℕ) → Stands h.table (entry_state port) → Counted p 0 (entry_state port)
 counted_first laws p sizes h port at = record {
   counting = λ k d below inside.
       let l = slice_index_or p.loops k d in
@@ -78,7 +79,7 @@ counted_first laws p sizes h port at = record {
     values = values_of p.loops s
 
 -- a step
-counted_next : Laws → (p : Program) (sizes : List ℕ) (h : IsJustified p sizes) (header : Header) (n : ℕ) (s t : State) (insn : Insn) → Stands h.table t → insn_at p s.slot ≡ Some insn → perform header s insn ≡ Next t → Counted p n s → Counted p (n + 1) t
+counted_next : Laws → (p : Program) (sizes : Maps) (h : IsJustified p sizes) (header : Header) (n : ℕ) (s t : State) (insn : Insn) → Stands h.table t → insn_at p s.slot ≡ Some insn → perform header s insn ≡ Next t → Counted p n s → Counted p (n + 1) t
 counted_next laws p sizes h header n s t insn at is e counted = record {
   counting = λ k d below. (each k d below).1;
   within = omega (arith, counted.within, laws.takes p s.slot t.slot (values_of p.loops s) (values_of p.loops t) h.limits h.formed edge begins (λ k d below.
@@ -99,11 +100,11 @@ counted_next laws p sizes h header n s t insn at is e counted = record {
         (h.formed.loops k d below) (laws.entered p s.slot t.slot h.limits h.formed edge begins k d below) is e
         (λ unwritten. laws.leaves header insn s t e l.register unwritten) (counted.counting k d below) (begun_at p sizes h t at k d below)
 
-counted_from : Laws → (p : Program) (sizes : List ℕ) (h : IsJustified p sizes) (header : Header) (n : ℕ) (s t : State) (o : Option Insn) → Stands h.table t → insn_at p s.slot ≡ o → IsSome o → perform_at header s o ≡ Next t → Counted p n s → Counted p (n + 1) t
+counted_from : Laws → (p : Program) (sizes : Maps) (h : IsJustified p sizes) (header : Header) (n : ℕ) (s t : State) (o : Option Insn) → Stands h.table t → insn_at p s.slot ≡ o → IsSome o → perform_at header s o ≡ Next t → Counted p n s → Counted p (n + 1) t
 counted_from laws p sizes h header n s t None at is some e counted = absurd cc
 counted_from laws p sizes h header n s t (Some insn) at is some e counted = counted_next laws p sizes h header n s t insn at is e counted
 
-counts : Laws → (p : Program) (sizes : List ℕ) (h : IsJustified p sizes) (header : Header) (port : ℕ) (calls : List Call) (n : ℕ) (s : State) → IsHeader header → port < 32 → Path p header port calls n s → Counted p n s
+counts : Laws → (p : Program) (sizes : Maps) (h : IsJustified p sizes) (header : Header) (port : ℕ) (calls : List Call) (n : ℕ) (s : State) → IsHeader header → port < 32 → Path p header port calls n s → Counted p n s
 counts laws p sizes h header port calls n s good low entry = counted_first laws p sizes h port (stands laws p sizes h header port calls n s good low entry)
 counts laws p sizes h header port calls n s good low (moves {n = m} {s = r} path e) =
     let there = stands laws p sizes h header port calls m r good low path in
@@ -119,15 +120,15 @@ no_trap_of : (table : ℕ → Option StateValue) (o : Outcome) → Continues tab
 no_trap_of table o c e = subst (λ (w : Outcome). Continues table w) e c
 
 -- a permitted instruction finds its map
-finds : (sizes : List ℕ) (table : ℕ → Option StateValue) (s : State) (a : StateValue) (o : Option Insn) → IsPermittedAt sizes table s.slot (Some a) o → finds_maps sizes s o ≡ true
+finds : (sizes : Maps) (table : ℕ → Option StateValue) (s : State) (a : StateValue) (o : Option Insn) → IsPermittedAt sizes table s.slot (Some a) o → finds_maps sizes s o ≡ true
 finds sizes table s a None h = absurd h
 finds sizes table s a (Some (Alu op width dst src)) h = refl
 finds sizes table s a (Some (Negate width dst)) h = refl
 finds sizes table s a (Some (MoveSigned extension dst src)) h = refl
 finds sizes table s a (Some (ByteSwap swap bits dst)) h = refl
-finds sizes table s a (Some (Load size dst base offset)) h = refl
-finds sizes table s a (Some (Store size base offset src)) h = refl
-finds sizes table s a (Some (Jump condition width dst src offset)) h = refl
+finds sizes table s a (Some (Load size dst place)) h = refl
+finds sizes table s a (Some (Store size place src)) h = refl
+finds sizes table s a (Some (Jump comparison offset)) h = refl
 finds sizes table s a (Some (Goto distance)) h = refl
 finds sizes table s a (Some (Wide dst value)) h = refl
 finds sizes table s a (Some (LoadMap dst index)) h = h.0
@@ -135,7 +136,7 @@ finds sizes table s a (Some (LoadAddress dst address)) h = absurd h
 finds sizes table s a (Some (insns.Call callee number)) h = absurd h
 finds sizes table s a (Some Exit) h = refl
 
-pub is_safe : Laws → (p : Program) (sizes : List ℕ) → IsJustified p sizes → IsSafe p sizes
+pub is_safe : Laws → (p : Program) (sizes : Maps) → IsJustified p sizes → IsSafe p sizes
 is_safe laws p sizes h = record {
   ends = λ header port calls n s good low path.
       let at = stands laws p sizes h header port calls n s good low path in

@@ -8,6 +8,7 @@ use Rattle.bpf_insn.specs.declared.insn.Insn.TheVariants.{Alu, Negate, MoveSigne
 use Rattle.bpf_insn.specs.declared.insn.Insn.TheVariants as insns
 use Rattle.bpf_insn.specs.Flow.{is_written}
 use Rattle.bpf_insn.specs.Spelling.{IsInsn, slots_of}
+use Rattle.machine.specs.Sizes.{Maps}
 use Rattle.machine.specs.declared.calls.Call.{Call}
 use Rattle.machine.specs.declared.values.Value.{Value}
 use Rattle.machine.specs.declared.values.Value.TheVariants.{Unset as Nothing, Num as Number, Ptr as Pointer, Map as MapOf}
@@ -54,7 +55,7 @@ pub record Stands (table : ℕ → Option StateValue) (s : State) : Type 0 where
 -- what a step may give
 abbrev pub Continues : (ℕ → Option StateValue) → Outcome → Type 0
 Continues table (Next t) = Stands table t
-Continues table (Ask helper map key on) = ⊥
+Continues table (Ask question on) = ⊥
 Continues table (Verdict v) = Unit {0}
 Continues table Trap = ⊥
 
@@ -71,7 +72,7 @@ goes_on : BelowFits → (table : ℕ → Option StateValue) (next : ℕ) (o : Ou
 goes_on below table next o (Err cause) sound covered = absurd covered
 goes_on below table next (Next t) (Ok a) sound covered =
     arrives below table t a sound.1 (subst (λ (k : ℕ). IsCovered a (table k)) (sym sound.0) covered)
-goes_on below table next (Ask helper map key on) (Ok a) sound covered = absurd sound
+goes_on below table next (Ask question on) (Ok a) sound covered = absurd sound
 goes_on below table next (Verdict v) (Ok a) sound covered = absurd sound
 goes_on below table next Trap (Ok a) sound covered = absurd sound
 
@@ -115,7 +116,7 @@ exits_with table (MapOf index) (Num range) fits number = absurd fits
 exits_with table v (Ptr region offsets) fits number = absurd number
 exits_with table v (Map index) fits number = absurd number
 
-index_of : (sizes : List ℕ) (index : ℤ) → IsTrue (is_map sizes index) → IsIndex index
+index_of : (sizes : Maps) (index : ℤ) → IsTrue (is_map sizes index) → IsIndex index
 index_of sizes (pos n) h = tt
 index_of sizes (negsuc n) h = absurd cc
 
@@ -126,15 +127,15 @@ proceeds : Laws → (table : ℕ → Option StateValue) (header : Header) (s : S
 proceeds laws table header s a insn good fits straight h =
     goes_on laws.below table (s.slot + slots_of insn) (perform header s insn) (applied a insn) (laws.apply header s a insn good straight fits) h
 
-continues_at : Laws → (p : Program) (sizes : List ℕ) (table : ℕ → Option StateValue) (header : Header) (s : State) (a : StateValue) (insn : Insn) → IsHeader header → Fits s a → IsAllowed p s.slot insn → IsInsn insn → IsPermitted sizes table s.slot a insn → Continues table (perform header s insn)
+continues_at : Laws → (p : Program) (sizes : Maps) (table : ℕ → Option StateValue) (header : Header) (s : State) (a : StateValue) (insn : Insn) → IsHeader header → Fits s a → IsAllowed p s.slot insn → IsInsn insn → IsPermitted sizes table s.slot a insn → Continues table (perform header s insn)
 continues_at laws p sizes table header s a (Alu op width dst src) good fits allowed is_insn h = proceeds laws table header s a (Alu op width dst src) good fits allowed.leaves_frame h
 continues_at laws p sizes table header s a (Negate width dst) good fits allowed is_insn h = proceeds laws table header s a (Negate width dst) good fits allowed.leaves_frame h
 continues_at laws p sizes table header s a (MoveSigned extension dst src) good fits allowed is_insn h = proceeds laws table header s a (MoveSigned extension dst src) good fits allowed.leaves_frame h
 continues_at laws p sizes table header s a (ByteSwap swap bits dst) good fits allowed is_insn h = proceeds laws table header s a (ByteSwap swap bits dst) good fits allowed.leaves_frame h
-continues_at laws p sizes table header s a (Load size dst base offset) good fits allowed is_insn h = proceeds laws table header s a (Load size dst base offset) good fits allowed.leaves_frame h
-continues_at laws p sizes table header s a (Store size base offset src) good fits allowed is_insn h = proceeds laws table header s a (Store size base offset src) good fits tt h
-continues_at laws p sizes table header s a (Jump condition width dst src offset) good fits allowed is_insn h =
-    compares_on laws.below table s offset _ _ (laws.refine header s a condition width dst src offset fits) h
+continues_at laws p sizes table header s a (Load size dst place) good fits allowed is_insn h = proceeds laws table header s a (Load size dst place) good fits allowed.leaves_frame h
+continues_at laws p sizes table header s a (Store size place src) good fits allowed is_insn h = proceeds laws table header s a (Store size place src) good fits tt h
+continues_at laws p sizes table header s a (Jump comparison offset) good fits allowed is_insn h =
+    compares_on laws.below table s offset _ _ (laws.refine header s a comparison.condition comparison.width comparison.dst comparison.src offset fits) h
 continues_at laws p sizes table header s a (Goto (Short offset)) good fits allowed is_insn h = lands_on laws.below table s (target s.slot offset) a fits h
 continues_at laws p sizes table header s a (Goto (Long immediate)) good fits allowed is_insn h = lands_on laws.below table s (target s.slot immediate) a fits h
 continues_at laws p sizes table header s a (Wide dst value) good fits allowed is_insn h = proceeds laws table header s a (Wide dst value) good fits (allowed.leaves_frame, is_insn.1) h
@@ -143,26 +144,26 @@ continues_at laws p sizes table header s a (LoadAddress dst address) good fits a
 continues_at laws p sizes table header s a (insns.Call callee number) good fits allowed is_insn h = absurd h
 continues_at laws p sizes table header s a Exit good fits allowed is_insn h = exits_with table (s.registers 0) (kind_at a 0) (fits.registers 0) h
 
-continues_from : Laws → (p : Program) (sizes : List ℕ) (h : IsJustified p sizes) (header : Header) (s : State) (at : Stands h.table s) (o : Option Insn) → IsHeader header → insn_at p s.slot ≡ o → IsPermittedAt sizes h.table s.slot (Some at.known) o → Continues h.table (perform_at header s o)
+continues_from : Laws → (p : Program) (sizes : Maps) (h : IsJustified p sizes) (header : Header) (s : State) (at : Stands h.table s) (o : Option Insn) → IsHeader header → insn_at p s.slot ≡ o → IsPermittedAt sizes h.table s.slot (Some at.known) o → Continues h.table (perform_at header s o)
 continues_from laws p sizes h header s at None good is permitted = absurd permitted
 continues_from laws p sizes h header s at (Some insn) good is permitted =
     continues_at laws p sizes h.table header s at.known insn good at.fits (h.formed.allowed s.slot insn is) (insn_in false p.slots s.slot insn h.limits.code is) permitted
 
 -- what is known where a path stands permits its instruction
-pub permitted_here : (p : Program) (sizes : List ℕ) (h : IsJustified p sizes) (s : State) (at : Stands h.table s) → IsPermittedAt sizes h.table s.slot (Some at.known) (insn_at p s.slot)
+pub permitted_here : (p : Program) (sizes : Maps) (h : IsJustified p sizes) (s : State) (at : Stands h.table s) → IsPermittedAt sizes h.table s.slot (Some at.known) (insn_at p s.slot)
 permitted_here p sizes h s at =
     subst (λ (k : Option StateValue). IsPermittedAt sizes h.table s.slot k (insn_at p s.slot)) at.is (h.permitted s.slot)
 
-pub continues : Laws → (p : Program) (sizes : List ℕ) (h : IsJustified p sizes) (header : Header) (s : State) → IsHeader header → Stands h.table s → Continues h.table (step p header s)
+pub continues : Laws → (p : Program) (sizes : Maps) (h : IsJustified p sizes) (header : Header) (s : State) → IsHeader header → Stands h.table s → Continues h.table (step p header s)
 continues laws p sizes h header s good at =
     continues_from laws p sizes h header s at (insn_at p s.slot) good refl (permitted_here p sizes h s at)
 
 -- every path stands somewhere
-begins_at : Laws → (p : Program) (sizes : List ℕ) (h : IsJustified p sizes) (port : ℕ) → port < 32 → Stands h.table (entry_state port)
+begins_at : Laws → (p : Program) (sizes : Maps) (h : IsJustified p sizes) (port : ℕ) → port < 32 → Stands h.table (entry_state port)
 begins_at laws p sizes h port low =
     arrives laws.below h.table (entry_state port) h.entered.known (laws.entry h.entered.known port h.entered.entry low) h.entered.covered
 
-pub stands : Laws → (p : Program) (sizes : List ℕ) (h : IsJustified p sizes) (header : Header) (port : ℕ) (calls : List Call) (n : ℕ) (s : State) → IsHeader header → port < 32 → Path p header port calls n s → Stands h.table s
+pub stands : Laws → (p : Program) (sizes : Maps) (h : IsJustified p sizes) (header : Header) (port : ℕ) (calls : List Call) (n : ℕ) (s : State) → IsHeader header → port < 32 → Path p header port calls n s → Stands h.table s
 stands laws p sizes h header port calls n s good low entry = begins_at laws p sizes h port low
 stands laws p sizes h header port calls n s good low (moves {n = m} {s = r} path e) =
     subst (λ (o : Outcome). Continues h.table o) e (continues laws p sizes h header r good (stands laws p sizes h header port calls m r good low path))

@@ -4,6 +4,7 @@ use Rattle.std.specs.Prelude.{slice_index_or, slice_set}
 use Rattle.std.proofs.lemmas.Bool.{cases_lt}
 use Rattle.std.proofs.lemmas.List.{get_or_past}
 use Rattle.bpf.specs.Program.{Program, IsProgram}
+use Rattle.machine.specs.Sizes.{Maps}
 use Rattle.machine.specs.declared.regions.Region.{Region}
 use Rattle.machine.specs.Step.{insn_at}
 use Rattle.absdom.specs.State.{StateValue}
@@ -26,7 +27,7 @@ extended_twice transitive p from old mid new f g = record {
 }
 
 -- after the visit of a slot
-pub visited_next : BelowIsTransitive → (p : Program) (sizes : List ℕ) (old new : List (Option StateValue)) (regions : List (Option Region)) (slot : ℕ) (region : Option Region) → AreVisited p sizes old regions slot → IsExtended p (slot + 1) old new → IsPermittedAt sizes (known_in new) slot (known_in new slot) (insn_at p slot) → region ≡ accessed_at (known_in new slot) (insn_at p slot) → slot < length regions → AreVisited p sizes new (slice_set regions slot region) (slot + 1)
+pub visited_next : BelowIsTransitive → (p : Program) (sizes : Maps) (old new : List (Option StateValue)) (regions : List (Option Region)) (slot : ℕ) (region : Option Region) → AreVisited p sizes old regions slot → IsExtended p (slot + 1) old new → IsPermittedAt sizes (known_in new) slot (known_in new slot) (insn_at p slot) → region ≡ accessed_at (known_in new slot) (insn_at p slot) → slot < length regions → AreVisited p sizes new (slice_set regions slot region) (slot + 1)
 visited_next transitive p sizes old new regions slot region v f permitted accessed inside = record {
   size = f.grown.size ∙ v.size;
   entered = subst IsEntered (sym (f.kept 0 (omega arith))) v.entered;
@@ -55,7 +56,7 @@ visited_next transitive p sizes old new regions slot region v f permitted access
 past_none : (table : List (Option StateValue)) (n slot : ℕ) → length table ≡ n → n ≤ slot → known_in table slot ≡ None
 past_none table n slot size past = get_or_past table slot None (omega arith)
 
-pub judged : (p : Program) (sizes : List ℕ) (table : List (Option StateValue)) (regions : List (Option Region)) → IsProgram p → IsFormed p → AreVisited p sizes table regions (length p.slots) → IsJudged p sizes regions
+pub judged : (p : Program) (sizes : Maps) (table : List (Option StateValue)) (regions : List (Option Region)) → IsProgram p → IsFormed p → AreVisited p sizes table regions (length p.slots) → IsJudged p sizes regions
 judged p sizes table regions limits form v = record {
   justified = record {
     limits = limits;

@@ -6,11 +6,12 @@ use Rattle.bpf.specs.declared.loops.Loop.{Loop}
 use Rattle.bpf.specs.Program.{Program, IsProgram}
 use Rattle.bpf_insn.specs.declared.insn.Insn.{Insn}
 use Rattle.bpf_insn.specs.declared.insn.Insn.TheVariants.{Alu, Negate, MoveSigned, ByteSwap, Load, Store, Jump, Goto, Wide, LoadMap, LoadAddress, Call, Exit}
-use Rattle.bpf_insn.specs.Flow.{accessed_base, is_written}
+use Rattle.bpf_insn.specs.Flow.{accessed_base, distance_of, is_written}
 use Rattle.bpf_insn.specs.declared.operation.Width.TheVariants.{Bits64}
 use Rattle.bpf_insn.specs.Spelling.{slots_of}
+use Rattle.machine.specs.Sizes.{Maps}
 use Rattle.machine.specs.declared.regions.Region.{Region}
-use Rattle.machine.specs.Step.{insn_at, distance_of, is_map}
+use Rattle.machine.specs.Step.{insn_at, is_map}
 use Rattle.absdom_num.specs.Tables.{whole}
 use Rattle.absdom.specs.declared.cause.Cause.{Cause}
 use Rattle.absdom.specs.declared.kinds.AbsKind.{AbsKind}
@@ -18,7 +19,7 @@ use Rattle.absdom.specs.declared.kinds.AbsKind.TheVariants.{Unset, Num, Ptr, Map
 use Rattle.absdom.specs.State.{StateValue, IsEntry, IsBelow, kind_at}
 use Rattle.absdom.specs.Effect.{applied}
 use Rattle.absdom.specs.Edges.{Edges, refined_edges}
-use Rattle.absdom.specs.Growth.{IsWhole}
+use Rattle.absdom.specs.State.{IsWhole}
 use Rattle.bver_form.specs.Form.{IsFormed}
 use Rattle.bver_form.specs.Jumps.{target}
 use Rattle.bver_form.specs.Loops.{holds}
@@ -65,15 +66,15 @@ IsNumber (Map index) = ⊥
 
 -- with what is known at its slot an instruction cannot go wrong, and on every edge that a run may take
 -- what it leaves is covered: a map that is loaded exists, and EXIT has a number for its answer
-abbrev pub IsPermitted : (sizes : List ℕ) (table : ℕ → Option StateValue) (slot : ℕ) → StateValue → Insn → Type 0
+abbrev pub IsPermitted : (sizes : Maps) (table : ℕ → Option StateValue) (slot : ℕ) → StateValue → Insn → Type 0
 IsPermitted sizes table slot a (Alu op width dst src) = Proceeds table slot a (Alu op width dst src)
 IsPermitted sizes table slot a (Negate width dst) = Proceeds table slot a (Negate width dst)
 IsPermitted sizes table slot a (MoveSigned extension dst src) = Proceeds table slot a (MoveSigned extension dst src)
 IsPermitted sizes table slot a (ByteSwap swap bits dst) = Proceeds table slot a (ByteSwap swap bits dst)
-IsPermitted sizes table slot a (Load size dst base offset) = Proceeds table slot a (Load size dst base offset)
-IsPermitted sizes table slot a (Store size base offset src) = Proceeds table slot a (Store size base offset src)
-IsPermitted sizes table slot a (Jump condition width dst src offset) =
-    AreEdgesCovered (refined_edges a condition width dst src) (known_at table (target slot offset)) (table (slot + 1))
+IsPermitted sizes table slot a (Load size dst place) = Proceeds table slot a (Load size dst place)
+IsPermitted sizes table slot a (Store size place src) = Proceeds table slot a (Store size place src)
+IsPermitted sizes table slot a (Jump comparison offset) =
+    AreEdgesCovered (refined_edges a comparison.condition comparison.width comparison.dst comparison.src) (known_at table (target slot offset)) (table (slot + 1))
 IsPermitted sizes table slot a (Goto distance) = IsCovered a (known_at table (target slot (distance_of distance)))
 IsPermitted sizes table slot a (Wide dst value) = Proceeds table slot a (Wide dst value)
 IsPermitted sizes table slot a (LoadMap dst index) =
@@ -83,7 +84,7 @@ IsPermitted sizes table slot a (Call callee number) = ⊥
 IsPermitted sizes table slot a Exit = IsNumber (kind_at a 0)
 
 -- the same at a slot: a table has states only where instructions begin, and where it has none no run comes
-abbrev pub IsPermittedAt : (sizes : List ℕ) (table : ℕ → Option StateValue) (slot : ℕ) → Option StateValue → Option Insn → Type 0
+abbrev pub IsPermittedAt : (sizes : Maps) (table : ℕ → Option StateValue) (slot : ℕ) → Option StateValue → Option Insn → Type 0
 IsPermittedAt sizes table slot None insn = Unit {0}
 IsPermittedAt sizes table slot (Some a) None = ⊥
 IsPermittedAt sizes table slot (Some a) (Some insn) = IsPermitted sizes table slot a insn
@@ -124,7 +125,7 @@ pub record IsHead (p : Program) (l : Loop) (a : StateValue) : Type 0 where
 
 -- the program has its form, and there is a table of whole states that covers the entry, permits the
 -- instruction at each of them, and at the head of each loop, where it has a state, stands for every pass
-pub record IsJustified (program : Program) (sizes : List ℕ) : Type 0 where
+pub record IsJustified (program : Program) (sizes : Maps) : Type 0 where
   pub limits : IsProgram program
   pub formed : IsFormed program
   pub table : ℕ → Option StateValue
@@ -162,10 +163,10 @@ accessed_at (Some a) (Some insn) = accessed a insn
 -- the program, the sizes of the maps that it was accepted for, and the region that each slot accesses
 pub record AcceptedValue : Type 0 where
   pub program : Program
-  pub sizes : List ℕ
+  pub sizes : Maps
   pub regions : List (Option Region)
 
 -- the program is justified for the sizes, and the regions are those of the table
-pub record IsJudged (program : Program) (sizes : List ℕ) (regions : List (Option Region)) : Type 0 where
+pub record IsJudged (program : Program) (sizes : Maps) (regions : List (Option Region)) : Type 0 where
   pub justified : IsJustified program sizes
   pub resolved : (slot : ℕ) → slice_index_or regions slot None ≡ accessed_at (justified.table slot) (insn_at program slot)

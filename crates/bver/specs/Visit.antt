@@ -6,10 +6,11 @@ use Rattle.bpf_insn.specs.declared.flow.Flow.{Flow}
 use Rattle.bpf_insn.specs.declared.flow.Flow.TheVariants.{GoesOn, Branches, Jumps, Calls, Ends, Unsupported}
 use Rattle.bpf_insn.specs.Flow.{flow_of}
 use Rattle.bpf_insn.specs.Spelling.{slots_of}
+use Rattle.machine.specs.Sizes.{Maps}
 use Rattle.machine.specs.declared.regions.Region.{Region}
 use Rattle.machine.specs.Step.{insn_at}
 use Rattle.absdom.specs.State.{StateValue, IsBelow}
-use Rattle.absdom.specs.Growth.{IsWhole}
+use Rattle.absdom.specs.State.{IsWhole}
 use Rattle.bver_form.specs.Form.{target}
 use Rattle.bver.specs.Justified.{IsCoveredIfAny, IsEntered, IsPermittedAt, accessed_at, known_at}
 
@@ -53,7 +54,7 @@ pub record IsLater (p : Program) (slot : ℕ) (table : List (Option StateValue))
 -- a slot of a program, which is verified for maps of these sizes
 pub record VisitValue : Type 0 where
   pub program : Program
-  pub sizes : List ℕ
+  pub sizes : Maps
   pub slot : ℕ
 
 -- the table has a place for each slot of the program
@@ -95,7 +96,7 @@ pub record AreEntered (p : Program) (table : List (Option StateValue)) : Type 0 
   pub whole : AreWhole table
 
 -- the slots before this one were visited: what is permitted there, and which regions they access
-pub record AreVisited (p : Program) (sizes : List ℕ) (table : List (Option StateValue)) (regions : List (Option Region)) (slot : ℕ) : Type 0 where
+pub record AreVisited (p : Program) (sizes : Maps) (table : List (Option StateValue)) (regions : List (Option Region)) (slot : ℕ) : Type 0 where
   pub size : length table ≡ length p.slots
   pub entered : IsEntered (known_in table 0)
   pub placed : IsPlaced p table

@@ -2,7 +2,7 @@
 
 ghost use Rattle.std.specs.Prelude.{◌≡◌, ◌≢◌, ◌<◌, ◌↔◌, ℕ, IsTrue, IfOk, IfSome, Some, None, length, if◌then◌else◌};
 ghost use Rattle.bver.specs.Justified.{IsCovered, IsCoveredIfAny};
-ghost use Rattle.absdom.specs.Growth.{IsWhole};
+ghost use Rattle.absdom.specs.State.{IsWhole};
 ghost use Rattle.bver.specs.Lowered.{is_number, is_number_at};
 ghost use Rattle.bver.specs.Visit.{AreWhole, IsGrown, IsLeast, known_in};
 

@@ -10,10 +10,11 @@ ghost use Rattle.machine.specs.Step.{operand, writes, lands, jumps, compares, lo
 use crate::arithmetic::{alu, byte_swap, move_signed, negate, number};
 use crate::memory::{Memory, place_of, read};
 use bpf_insn::{
-    AluOp, Callee, Condition, Insn, LoadSize, Operand, Register, Size, Swap, SwapBits, Width,
+    AluOp, Callee, Comparison, Condition, Insn, LoadSize, Operand, Register, Size, Swap, SwapBits,
+    Width,
 };
 use machine::{
-    MapSizes, Region, Value, distance_of, holds_words, load_bytes, loaded, size_bytes, word,
+    MapSizes, Region, Value, holds_words, loaded, word,
 };
 
 /// What an instruction does.
@@ -181,7 +182,7 @@ fn load(frame: Frame<'_>, size: LoadSize, base: Value, offset: i16) -> Option<Va
         } => match read(
             frame.memory,
             region,
-            load_bytes(size),
+            size.bytes(),
             start + i128::from(offset),
         ) {
             Some(number) => Some(Value::Num(loaded(size, number))),
@@ -212,7 +213,7 @@ fn store(frame: Frame<'_>, size: Size, base: Register, offset: i16, src: &Operan
             region: Region::Stack,
             offset: start,
         } => {
-            let bytes = size_bytes(size);
+            let bytes = size.bytes();
             match place_of(Region::Stack, bytes, start + i128::from(offset)) {
                 Some(place) => match number(operand(frame, src)) {
                     Some(number) => Effect::Put {
@@ -320,26 +321,18 @@ pub fn perform(frame: Frame<'_>, sizes: &MapSizes, insn: &Insn) -> Effect
             src,
         } => write(frame, dst, move_signed(extension, value_of(frame, src)), 1),
         Insn::ByteSwap { swap, bits, dst } => reorder(frame, swap, bits, dst),
-        Insn::Load {
-            size,
-            dst,
-            base,
-            offset,
-        } => load_into(frame, size, dst, base, offset),
-        Insn::Store {
-            size,
-            base,
-            offset,
-            src,
-        } => store(frame, size, base, offset, &src),
-        Insn::Jump {
-            condition,
-            width,
-            dst,
-            src,
-            offset,
-        } => compare(frame, condition, width, dst, &src, offset),
-        Insn::Goto { distance } => jump(frame, distance_of(distance)),
+        Insn::Load { size, dst, place } => load_into(frame, size, dst, place.base, place.offset),
+        Insn::Store { size, place, src } => store(frame, size, place.base, place.offset, &src),
+        Insn::Jump { comparison, offset } => {
+            let Comparison {
+                condition,
+                width,
+                dst,
+                src,
+            } = comparison;
+            compare(frame, condition, width, dst, &src, offset)
+        }
+        Insn::Goto { distance } => jump(frame, distance.slots()),
         Insn::Wide { dst, value } => write(frame, dst, Some(Value::Num(value)), 2),
         Insn::LoadMap { dst, index } => write(frame, dst, map_at(sizes, index), 2),
         Insn::LoadAddress { .. } => Effect::Trap,

@@ -13,7 +13,7 @@ use crate::memory::Memory;
 use crate::turns::{Turn, apply};
 use bpf::Image;
 use bpf_insn::Insn;
-use machine::{MapSizes, Region, Value};
+use machine::{MapSizes, Region, Value, steps_perform};
 use std::marker::Model;
 
 /// A program that is run one instruction at a time, with every value tagged by its kind and every trap
@@ -47,6 +47,7 @@ impl<'a> Model for Machine<'a> {
 fn fetch(image: &Image, slot: u32) -> Option<Insn>
     ensures value { result ≡ insn_at image.now slot }
     ensures inside { OnSome result (slot < 512) }
+    ensures version { image.now.version ≡ 1 }
 {
     if slot < u32::from(image.slots()) {
         image.insn(slot as u16)
@@ -125,6 +126,7 @@ impl<'a> Machine<'a> {
         ensures run { IsSameRun self.old self.new }
         ensures steps { self.new.steps ≡ self.old.steps + 1 }
     {
+        steps_perform();
         self.steps += 1;
         let Some(insn) = fetch(self.image, self.slot) else {
             return Turn::Trap;
