@@ -8,7 +8,8 @@ use Rattle.bpf.specs.Program.{Program, IsLoop, AreLoops, IsProgram}
 wider : (n : ℕ) (l : Loop) → IsLoop n l → n ≤ 512 → IsLoop 512 l
 wider n l h most = let within = h.within in record { ordered = h.ordered; within = omega arith; low = h.low; high = h.high; register = h.register }
 
-each_loop : (n least : ℕ) (ls : List Loop) (k : ℕ) (d : Loop) → AreLoops n least ls → k < length ls → IsLoop n (slice_index_or ls k d)
+-- each loop of a list that may follow a slot
+pub each_loop : (n least : ℕ) (ls : List Loop) (k : ℕ) (d : Loop) → AreLoops n least ls → k < length ls → IsLoop n (slice_index_or ls k d)
 each_loop n least [] k d h below = absurd (omega arith)
 each_loop n least (l ∷ ls) zero d h below = h.1
 each_loop n least (l ∷ ls) (suc k) d h below = each_loop n (l.head + 1) ls k d h.2 (omega (arith, below))
