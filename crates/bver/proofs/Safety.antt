@@ -27,7 +27,7 @@ use Rattle.absdom.specs.Laws.{BelowFits, EntryFits, ApplyFits, RefineFits}
 use Rattle.bver_form.specs.Form.{IsFormed, IsAllowed, IsAfter, slot_at, target}
 use Rattle.bver.specs.Justified.{IsCovered, IsCoveredIfAny, IsResultCovered, AreEdgesCovered, IsNumber, Proceeds, IsPermitted, IsPermittedAt, IsJustified, known_at}
 use Rattle.bver.proofs.Counting.{firsts, firsts_grow, firsts_weigh}
-use Rattle.bver.proofs.Slots.{insn_in}
+use Rattle.bver.proofs.Slots.{insn_in, leads_forward}
 
 -- the laws of what is known
 pub record Laws : Type 0 where
@@ -134,30 +134,30 @@ proceeds laws p table header n s a insn good at fits straight h =
     later None = omega arith
     later (Some immediate) = omega arith
 
-continues_at : Laws → (p : Program) (sizes : List ℕ) (table : ℕ → Option StateValue) (header : Header) (n : ℕ) (s : State) (a : StateValue) (insn : Insn) → IsHeader header → From p n s insn → Fits s a → IsAllowed p s.slot insn → IsInsn insn → IsPermitted sizes table s.slot a insn → Continues p table (n + 1) (perform header s insn)
-continues_at laws p sizes table header n s a (Alu op width dst src) good at fits allowed is_insn h = proceeds laws p table header n s a (Alu op width dst src) good at fits allowed.leaves_frame h
-continues_at laws p sizes table header n s a (Negate width dst) good at fits allowed is_insn h = proceeds laws p table header n s a (Negate width dst) good at fits allowed.leaves_frame h
-continues_at laws p sizes table header n s a (MoveSigned extension dst src) good at fits allowed is_insn h = proceeds laws p table header n s a (MoveSigned extension dst src) good at fits allowed.leaves_frame h
-continues_at laws p sizes table header n s a (ByteSwap swap bits dst) good at fits allowed is_insn h = proceeds laws p table header n s a (ByteSwap swap bits dst) good at fits allowed.leaves_frame h
-continues_at laws p sizes table header n s a (Load size dst base offset) good at fits allowed is_insn h = proceeds laws p table header n s a (Load size dst base offset) good at fits allowed.leaves_frame h
-continues_at laws p sizes table header n s a (Store size base offset src) good at fits allowed is_insn h = proceeds laws p table header n s a (Store size base offset src) good at fits tt h
-continues_at laws p sizes table header n s a (Jump condition width dst src offset) good at fits allowed is_insn h =
-    compares_on laws.below p table n s (Jump condition width dst src offset) offset _ _ at allowed.jump.forward (laws.refine header s a condition width dst src offset fits) h
-continues_at laws p sizes table header n s a (Goto (Short offset)) good at fits allowed is_insn h =
-    lands_on laws.below p table n s (Goto (Short offset)) (target s.slot offset) a at allowed.jump.forward fits h
-continues_at laws p sizes table header n s a (Goto (Long immediate)) good at fits allowed is_insn h =
-    lands_on laws.below p table n s (Goto (Long immediate)) (target s.slot immediate) a at allowed.jump.forward fits h
-continues_at laws p sizes table header n s a (Wide dst value) good at fits allowed is_insn h = proceeds laws p table header n s a (Wide dst value) good at fits (allowed.leaves_frame, is_insn.1) h
-continues_at laws p sizes table header n s a (LoadMap dst index) good at fits allowed is_insn h = proceeds laws p table header n s a (LoadMap dst index) good at fits (allowed.leaves_frame, index_of sizes index h.0) h.1
-continues_at laws p sizes table header n s a (LoadAddress dst address) good at fits allowed is_insn h = absurd h
-continues_at laws p sizes table header n s a (insns.Call callee number) good at fits allowed is_insn h = absurd h
-continues_at laws p sizes table header n s a Exit good at fits allowed is_insn h =
+continues_at : Laws → (p : Program) (sizes : List ℕ) (table : ℕ → Option StateValue) (header : Header) (n : ℕ) (s : State) (a : StateValue) (insn : Insn) → IsHeader header → From p n s insn → Fits s a → IsAllowed p s.slot insn → p.loops ≡ [] → IsInsn insn → IsPermitted sizes table s.slot a insn → Continues p table (n + 1) (perform header s insn)
+continues_at laws p sizes table header n s a (Alu op width dst src) good at fits allowed no_loops is_insn h = proceeds laws p table header n s a (Alu op width dst src) good at fits allowed.leaves_frame h
+continues_at laws p sizes table header n s a (Negate width dst) good at fits allowed no_loops is_insn h = proceeds laws p table header n s a (Negate width dst) good at fits allowed.leaves_frame h
+continues_at laws p sizes table header n s a (MoveSigned extension dst src) good at fits allowed no_loops is_insn h = proceeds laws p table header n s a (MoveSigned extension dst src) good at fits allowed.leaves_frame h
+continues_at laws p sizes table header n s a (ByteSwap swap bits dst) good at fits allowed no_loops is_insn h = proceeds laws p table header n s a (ByteSwap swap bits dst) good at fits allowed.leaves_frame h
+continues_at laws p sizes table header n s a (Load size dst base offset) good at fits allowed no_loops is_insn h = proceeds laws p table header n s a (Load size dst base offset) good at fits allowed.leaves_frame h
+continues_at laws p sizes table header n s a (Store size base offset src) good at fits allowed no_loops is_insn h = proceeds laws p table header n s a (Store size base offset src) good at fits tt h
+continues_at laws p sizes table header n s a (Jump condition width dst src offset) good at fits allowed no_loops is_insn h =
+    compares_on laws.below p table n s (Jump condition width dst src offset) offset _ _ at (leads_forward p s.slot offset no_loops allowed.jump) (laws.refine header s a condition width dst src offset fits) h
+continues_at laws p sizes table header n s a (Goto (Short offset)) good at fits allowed no_loops is_insn h =
+    lands_on laws.below p table n s (Goto (Short offset)) (target s.slot offset) a at (leads_forward p s.slot offset no_loops allowed.jump) fits h
+continues_at laws p sizes table header n s a (Goto (Long immediate)) good at fits allowed no_loops is_insn h =
+    lands_on laws.below p table n s (Goto (Long immediate)) (target s.slot immediate) a at (leads_forward p s.slot immediate no_loops allowed.jump) fits h
+continues_at laws p sizes table header n s a (Wide dst value) good at fits allowed no_loops is_insn h = proceeds laws p table header n s a (Wide dst value) good at fits (allowed.leaves_frame, is_insn.1) h
+continues_at laws p sizes table header n s a (LoadMap dst index) good at fits allowed no_loops is_insn h = proceeds laws p table header n s a (LoadMap dst index) good at fits (allowed.leaves_frame, index_of sizes index h.0) h.1
+continues_at laws p sizes table header n s a (LoadAddress dst address) good at fits allowed no_loops is_insn h = absurd h
+continues_at laws p sizes table header n s a (insns.Call callee number) good at fits allowed no_loops is_insn h = absurd h
+continues_at laws p sizes table header n s a Exit good at fits allowed no_loops is_insn h =
     exits_with p table (n + 1) (s.registers 0) (kind_at a 0) (fits.registers 0) h
 
 continues_from : Laws → (p : Program) (sizes : List ℕ) (h : IsJustified p sizes) (header : Header) (n : ℕ) (s : State) (at : Stands p h.table n s) (o : Option Insn) → IsHeader header → insn_at p s.slot ≡ o → IsPermittedAt sizes h.table s.slot (Some at.known) o → Continues p h.table (n + 1) (perform_at header s o)
 continues_from laws p sizes h header n s at None good is permitted = absurd permitted
 continues_from laws p sizes h header n s at (Some insn) good is permitted =
-    continues_at laws p sizes h.table header n s at.known insn good (record { is = is; steps = at.steps }) at.fits (h.formed.allowed s.slot insn is) (insn_in false p.slots s.slot insn h.limits.code is) permitted
+    continues_at laws p sizes h.table header n s at.known insn good (record { is = is; steps = at.steps }) at.fits (h.formed.allowed s.slot insn is) h.no_loops (insn_in false p.slots s.slot insn h.limits.code is) permitted
 
 -- what is known where a path stands permits its instruction
 pub permitted_here : (p : Program) (sizes : List ℕ) (h : IsJustified p sizes) (n : ℕ) (s : State) (at : Stands p h.table n s) → IsPermittedAt sizes h.table s.slot (Some at.known) (insn_at p s.slot)
@@ -209,16 +209,16 @@ weighs p sizes h n s at None is permitted = absurd permitted
 weighs p sizes h n s at (Some insn) is permitted =
     let steps = at.steps in omega (arith, firsts_weigh p.slots 0 s.slot insn is)
 
-within : (p : Program) (n : ℕ) → IsFormed p → n < weight_from [] 0 p.slots → n < p.budget
-within p n form below =
-    let budget : weight_from [] 0 p.slots ≤ p.budget = subst (λ (loops : List _). weight_from loops 0 p.slots ≤ p.budget) form.no_loops form.within_budget in
+within : (p : Program) (n : ℕ) → IsFormed p → p.loops ≡ [] → n < weight_from [] 0 p.slots → n < p.budget
+within p n form no_loops below =
+    let budget : weight_from [] 0 p.slots ≤ p.budget = subst (λ (loops : List _). weight_from loops 0 p.slots ≤ p.budget) no_loops form.within_budget in
     omega arith
 
 pub is_safe : Laws → (p : Program) (sizes : List ℕ) → IsJustified p sizes → IsSafe p sizes
 is_safe laws p sizes h = record {
   ends = λ header port calls n s good low path.
       let at = stands laws p sizes h header port calls n s good low path in
-      within p n h.formed (weighs p sizes h n s at (insn_at p s.slot) refl (permitted_here p sizes h n s at));
+      within p n h.formed h.no_loops (weighs p sizes h n s at (insn_at p s.slot) refl (permitted_here p sizes h n s at));
   no_trap = λ header port calls n s good low path.
       let at = stands laws p sizes h header port calls n s good low path in
       rw (finds sizes h.table s at.known (insn_at p s.slot) (permitted_here p sizes h n s at)) (no_trap_of p h.table (n + 1) (step p header s) (continues laws p sizes h header n s good at));

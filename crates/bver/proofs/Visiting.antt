@@ -1,5 +1,5 @@
 -- From one visit to the next, and from the last to a program that is judged.
-use Rattle.std.proofs.Common.{◌≡◌, ◌≢◌, ℕ, ◌+◌, ◌<◌, ◌≤◌, inl, inr, Option, None, List, length, sym, ap, subst, ◌∙◌, arith, below_more, get_or-set_same, get_or-set_other}
+use Rattle.std.proofs.Common.{◌≡◌, ◌≢◌, ℕ, ◌+◌, ◌<◌, ◌≤◌, inl, inr, Option, None, List, [], length, sym, ap, subst, ◌∙◌, arith, below_more, get_or-set_same, get_or-set_other}
 use Rattle.std.specs.Prelude.{slice_index_or, slice_set}
 use Rattle.std.proofs.lemmas.Bool.{cases_lt}
 use Rattle.std.proofs.lemmas.List.{get_or_past}
@@ -55,11 +55,12 @@ visited_next transitive p sizes old new regions slot region v f permitted access
 past_none : (table : List (Option StateValue)) (n slot : ℕ) → length table ≡ n → n ≤ slot → known_in table slot ≡ None
 past_none table n slot size past = get_or_past table slot None (omega arith)
 
-pub judged : (p : Program) (sizes : List ℕ) (table : List (Option StateValue)) (regions : List (Option Region)) → IsProgram p → IsFormed p → AreVisited p sizes table regions (length p.slots) → IsJudged p sizes regions
-judged p sizes table regions limits form v = record {
+pub judged : (p : Program) (sizes : List ℕ) (table : List (Option StateValue)) (regions : List (Option Region)) → IsProgram p → IsFormed p → p.loops ≡ [] → AreVisited p sizes table regions (length p.slots) → IsJudged p sizes regions
+judged p sizes table regions limits form no_loops v = record {
   justified = record {
     limits = limits;
     formed = form;
+    no_loops = no_loops;
     table = known_in table;
     entered = v.entered;
     whole = v.whole;

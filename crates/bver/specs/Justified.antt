@@ -1,7 +1,7 @@
 -- When a program may judge (a choice of this project, since RFC 9669 leaves verification to the
 -- implementation): it has its form, and there is a table of what is known at its slots under which no
 -- instruction can go wrong.
-use Rattle.std.specs.Prelude.{◌≡◌, ℕ, ◌+◌, ℤ, pos, negsuc, List, Option, Some, None, Result, Ok, Err, IsTrue, IfSome, slice_index_or}
+use Rattle.std.specs.Prelude.{◌≡◌, ℕ, ◌+◌, ℤ, pos, negsuc, List, [], Option, Some, None, Result, Ok, Err, IsTrue, IfSome, slice_index_or}
 use Rattle.bpf.specs.Program.{Program, IsProgram}
 use Rattle.bpf_insn.specs.declared.insn.Insn.{Insn}
 use Rattle.bpf_insn.specs.declared.insn.Insn.TheVariants.{Alu, Negate, MoveSigned, ByteSwap, Load, Store, Jump, Goto, Wide, LoadMap, LoadAddress, Call, Exit}
@@ -90,11 +90,12 @@ pub record IsEntered (there : Option StateValue) : Type 0 where
 
 -- ---- justified
 
--- the program has its form, and there is a table of whole states that covers the entry and permits the
--- instruction at each of them
+-- the program has its form and, so far, no loops, and there is a table of whole states that covers the entry and
+-- permits the instruction at each of them
 pub record IsJustified (program : Program) (sizes : List ℕ) : Type 0 where
   pub limits : IsProgram program
   pub formed : IsFormed program
+  pub no_loops : program.loops ≡ []
   pub table : ℕ → Option StateValue
   pub entered : IsEntered (table 0)
   pub whole : (slot : ℕ) → IfSome (table slot) IsWhole

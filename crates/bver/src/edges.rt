@@ -1,6 +1,6 @@
 //! What an instruction does to the table: the edges that it follows, and why it is refused.
 
-ghost use Rattle.std.specs.Prelude.{◌≡◌, ◌+◌, ◌<◌, IsTrue, OnOk, Ok, length};
+ghost use Rattle.std.specs.Prelude.{◌≡◌, ◌+◌, ◌<◌, [], IsTrue, OnOk, Ok, length};
 ghost use Rattle.bpf_insn.specs.Spelling.{slots_of};
 ghost use Rattle.machine.specs.Step.{is_map};
 ghost use Rattle.absdom.specs.Effect.{applied};
@@ -33,8 +33,10 @@ fn refusal_of(cause: Cause) -> Refusal
 }
 
 /// Follows a jump from the slot by so many slots.
+#[tactic(auto, using(crate::proofs::Slots::leads_forward))]
 fn jump(table: &mut Table, image: &Image, slot: u16, distance: i32, state: &State)
     requires size { length table.old ≡ length image.now.slots }
+    requires no_loops { image.now.loops ≡ [] }
     requires jump { IsJump image.now slot distance }
     ensures covered { IsCovered state.now (known_at (known_in table.new) (target slot distance)) }
     ensures extended { IsExtended image.now slot table.old table.new }
@@ -57,6 +59,7 @@ fn follow_taken(
     edge: &Option<Operands>,
 )
     requires size { length table.old ≡ length image.now.slots }
+    requires no_loops { image.now.loops ≡ [] }
     requires jump { IsJump image.now slot distance }
     ensures covered { IsCoveredIfAny (on_edge state.now dst src.now edge.now) (known_at (known_in table.new) (target slot distance)) }
     ensures extended { IsExtended image.now slot table.old table.new }
@@ -109,6 +112,7 @@ fn branch(
     edges: &Edges,
 )
     requires size { length table.old ≡ length image.now.slots }
+    requires no_loops { image.now.loops ≡ [] }
     requires jump { IsJump image.now slot distance }
     requires next { IsLater image.now slot table.old (slot + 1) }
     ensures covered { AreEdgesCovered (Ok (on_edges state.old dst src.now edges.now)) (known_at (known_in table.new) (target slot distance)) (known_in table.new (slot + 1)) }
@@ -132,6 +136,7 @@ fn compare(
     offset: i16,
 ) -> Result<(), Refusal>
     requires size { length table.old ≡ length image.now.slots }
+    requires no_loops { image.now.loops ≡ [] }
     requires jump { IsJump image.now slot offset }
     requires next { IsLater image.now slot table.old (slot + 1) }
     ensures covered { OnOk result (AreEdgesCovered (refined_edges state.old condition width dst src.now) (known_at (known_in table.new) (target slot offset)) (known_in table.new (slot + 1))) }
@@ -236,6 +241,7 @@ pub(crate) fn flow(
     insn: &Insn,
 ) -> Result<(), Refusal>
     requires size { length table.old ≡ length image.now.slots }
+    requires no_loops { image.now.loops ≡ [] }
     requires allowed { IsAllowed image.now slot insn.now }
     requires next { HasNext image.now slot table.old insn.now }
     ensures permitted { OnOk result (IsPermitted sizes.now (known_in table.new) slot state.old insn.now) }

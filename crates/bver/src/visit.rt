@@ -1,6 +1,6 @@
 //! The pass over a program's slots.
 
-ghost use Rattle.std.specs.Prelude.{◌≡◌, ◌<◌, IfOk, OnOk, None, length};
+ghost use Rattle.std.specs.Prelude.{◌≡◌, ◌<◌, [], IfOk, OnOk, None, length};
 ghost use Rattle.machine.specs.Step.{insn_at};
 ghost use Rattle.bver_form.specs.Form.{IsFormed};
 ghost use Rattle.bver.specs.Justified.{IsJudged, IsPermittedAt, accessed_at};
@@ -22,6 +22,7 @@ fn visit_with(
     state: &mut State,
 ) -> Result<Option<Region>, Refusal>
     requires formed { IsFormed image.now }
+    requires no_loops { image.now.loops ≡ [] }
     requires size { length table.old ≡ length image.now.slots }
     requires placed { IsPlaced image.now table.old }
     requires known { known_in table.old slot ≡ Some state.old }
@@ -49,6 +50,7 @@ fn visit(
     state: &mut State,
 ) -> Result<Option<Region>, Refusal>
     requires formed { IsFormed image.now }
+    requires no_loops { image.now.loops ≡ [] }
     requires size { length table.old ≡ length image.now.slots }
     requires placed { IsPlaced image.now table.old }
     requires inside { slot < length table.old }
@@ -77,6 +79,7 @@ pub(crate) fn pass(
     regions: &mut Vec<Option<Region>>,
 ) -> Result<(), Refused>
     requires formed { IsFormed image.now }
+    requires no_loops { image.now.loops ≡ [] }
     requires visited { AreVisited image.now sizes.now table.old regions.old.items 0 }
     requires regions { length regions.old.items ≡ length image.now.slots }
     ensures { OnOk result (IsJudged image.now sizes.now regions.new.items) }

@@ -21,4 +21,4 @@ pub returns : goal.returns
 returns c =
     let p = c.args.image.now in
     let last : c.loop-slot.slot-counter ≡ length p.slots = omega arith in
-    judged p c.args.sizes.now c.loop-slot.table c.loop-slot.regions.items c.slots-slot-end.ensures.program c.requires.formed (rw last at c.loop-slot.invariant.0)
+    judged p c.args.sizes.now c.loop-slot.table c.loop-slot.regions.items c.slots-slot-end.ensures.program c.requires.formed c.requires.no_loops (rw last at c.loop-slot.invariant.0)
