@@ -31,12 +31,15 @@ rises n least (l ∷ ls) (suc k) d h below = let a = h.0 in omega (arith, rises 
 
 laid : (n least : ℕ) (ls : List Loop) → AreLoops n least ls → All (λ l. All (λ m. m.head ≢ l.head → IsNestedOrApart l m) ls) ls → AreLaid least ls
 laid n least [] h others = tt
-laid n least (l ∷ ls) h others =
-    (h.0, h.1.ordered, h.1.low,
-    (λ k d below.
-    let rising = rises n (l.head + 1) ls k d h.2 below in
-    follows l (slice_index_or ls k d) (omega arith) (each_loop n (l.head + 1) ls k d h.2 below).ordered (others 0 l (omega arith) (suc k) d (omega (arith, below)) (λ same. omega arith))),
-    laid n (l.head + 1) ls h.2 (λ k d below j e inside. others (suc k) d (omega (arith, below)) (suc j) e (omega (arith, inside))))
+laid n least (l ∷ ls) h others = (
+  h.0,
+  h.1.ordered,
+  h.1.low,
+  (λ k d below.
+      let rising = rises n (l.head + 1) ls k d h.2 below in
+      follows l (slice_index_or ls k d) (omega arith) (each_loop n (l.head + 1) ls k d h.2 below).ordered (others 0 l (omega arith) (suc k) d (omega (arith, below)) (λ same. omega arith))),
+  laid n (l.head + 1) ls h.2 (λ k d below j e inside. others (suc k) d (omega (arith, below)) (suc j) e (omega (arith, inside))),
+)
 
 pub lies : (p : Program) → IsProgram p → IsFormed p → AreLaid 0 p.loops
 lies p limits form = laid (length p.slots) 0 p.loops limits.loops (λ k d below. (form.loops k d below).others)
