@@ -1,16 +1,16 @@
 -- A run of a program that has its form takes no more steps than the weight: the parts of the law.
-use Rattle.std.proofs.Common.{◌≡◌, ◌≢◌, ◌⊎◌, inl, inr, ℕ, zero, suc, ◌+◌, ◌-◌, ◌<◌, ◌≤◌, Bool, true, false, List, [], ◌∷◌, Option, Some, None, length, refl, sym, subst, ap, arith}
+use Rattle.std.proofs.Common.{◌≡◌, ◌≢◌, ◌⊎◌, inl, inr, ℕ, zero, suc, ◌+◌, ◌-◌, ◌<◌, ◌≤◌, List, [], ◌∷◌, Option, Some, None, length, refl, sym, subst, arith}
 use Rattle.std.specs.Prelude.{All, IsSome, slice_index_or}
 use Rattle.std.proofs.lemmas.Bool.{cases_lt}
 use Rattle.bpf.specs.declared.loops.Loop.{Loop}
-use Rattle.bpf.specs.Program.{Program, IsLoop, AreLoops, IsProgram, insn_at}
+use Rattle.bpf.specs.Program.{Program, AreLoops, IsProgram, insn_at}
 use Rattle.bpf.specs.Weight.{times_at}
 use Rattle.bpf_insn.specs.declared.insn.Insn.{Insn}
 use Rattle.bver_form.specs.Form.{IsFormed}
-use Rattle.bver_form.specs.Loops.{ComesIn, IsCounted, IsEdge, IsBefore, IsInside, IsLoopFormed, IsNestedOrApart, left, left_at, further, holds}
+use Rattle.bver_form.specs.Loops.{IsCounted, IsEdge, IsNestedOrApart, left, left_at, holds}
 use Rattle.bver_form.specs.Laws.{BeginsWithinWeight, EachStepTakesOne, LoopsAreEntered, OneIsLeft}
 use Rattle.bver_form.proofs.Fitting.{each_loop, loop_at}
-use Rattle.bver_form.proofs.Left.{AreLaid, by_test, head_all, held, high, left_ahead, left_before, left_out, left_within, low, further_else, rounds, tail_all, times_in, times_out}
+use Rattle.bver_form.proofs.Left.{AreLaid, by_test, head_all, left_ahead, left_before, left_out, left_within, further_else, rounds, tail_all, times_in, times_out}
 use Rattle.bver_form.proofs.Steps.{goes_back, goes_onward}
 use Rattle.bver_form.proofs.Sums.{sum_here, sum_takes, sum_weighs}
 use Rattle.bver_form.proofs.Entering.{comes_in, goes_back_to}

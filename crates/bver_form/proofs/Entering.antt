@@ -1,8 +1,8 @@
 -- Who comes into a declared loop, and where a jump backward leads.
-use Rattle.std.proofs.Common.{◌≡◌, ◌≢◌, ◌⊎◌, inl, inr, ℕ, zero, suc, ◌+◌, ◌-◌, ◌<◌, ◌≤◌, ℤ, pos, negsuc, Bool, true, false, Option, None, Some, List, [], ◌∷◌, length, refl, sym, subst, ap, ◌∙◌, arith}
-use Rattle.std.specs.Prelude.{All, IfSome, IsSome, IsTrue, is_some, slice_index_or, ◌+ℤ◌, ◌==◌, ◌&&◌}
+use Rattle.std.proofs.Common.{◌≡◌, inl, inr, ℕ, zero, suc, ◌+◌, ◌-◌, ◌<◌, ◌≤◌, ℤ, pos, negsuc, Bool, true, false, Option, None, Some, List, [], ◌∷◌, refl, sym, subst, ap, ◌∙◌, arith}
+use Rattle.std.specs.Prelude.{IfSome, IsSome, is_some, slice_index_or, ◌+ℤ◌, ◌==◌, ◌&&◌}
 use Rattle.std.specs.List.{list_any}
-use Rattle.std.proofs.lemmas.Bool.{cases_lt, cases_eq, cases_Bool, true≢false, and_parts, eqb-true}
+use Rattle.std.proofs.lemmas.Bool.{cases_eq, cases_Bool, true≢false, and_parts, eqb-true}
 use Rattle.std.proofs.lemmas.Int.{ints}
 use Rattle.bpf.specs.declared.loops.Loop.{Loop}
 use Rattle.bpf.specs.Program.{Program, AreSlots, IsProgram, insn_at}
@@ -13,8 +13,8 @@ use Rattle.bpf_insn.specs.declared.flow.Flow.TheVariants.{GoesOn, Branches, Jump
 use Rattle.bpf_insn.specs.declared.insn.Insn.{Insn}
 use Rattle.bver_form.specs.Form.{IsFormed}
 use Rattle.bver_form.specs.Jumps.{IsAfter, IsBackToHead, IsFirstSlot, IsJump, flow_distance, jump_distance, target}
-use Rattle.bver_form.specs.Loops.{ComesIn, EntersAtHead, GoesTo, IsEdge, IsLoopFormed, back_jump, holds, step_down}
-use Rattle.bver_form.proofs.Left.{low, high, held, outside}
+use Rattle.bver_form.specs.Loops.{ComesIn, EntersAtHead, GoesTo, IsEdge, IsLoopFormed, back_jump, step_down}
+use Rattle.bver_form.proofs.Left.{low, high, outside}
 use Rattle.bver_form.proofs.Steps.{IsBackOf}
 
 -- ---- second slots

@@ -1,5 +1,5 @@
 -- The loops of a program are within the limits of the format.
-use Rattle.std.proofs.Common.{◌≡◌, ℕ, zero, suc, ◌+◌, ◌<◌, ◌≤◌, List, [], ◌∷◌, length, refl, sym, subst, ap, ◌∙◌, arith, below_more}
+use Rattle.std.proofs.Common.{◌≡◌, ℕ, zero, suc, ◌+◌, ◌<◌, ◌≤◌, List, [], ◌∷◌, length, refl, subst, ap, ◌∙◌, arith, below_more}
 use Rattle.std.specs.Prelude.{slice_index_or}
 use Rattle.bpf.specs.declared.loops.Loop.{Loop}
 use Rattle.bver_form.specs.Loops.{IsLoopFormed}

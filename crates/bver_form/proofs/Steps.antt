@@ -1,11 +1,11 @@
 -- What a step takes from what is left of one instruction: forward, and along a back jump.
-use Rattle.std.proofs.Common.{◌≡◌, ◌≢◌, ◌⊎◌, inl, inr, ℕ, zero, suc, ◌+◌, ◌-◌, ◌*◌, ◌<◌, ◌≤◌, Bool, true, false, List, [], ◌∷◌, length, refl, sym, subst, ap, ◌∙◌, arith}
+use Rattle.std.proofs.Common.{◌≡◌, ◌≢◌, ◌⊎◌, inl, inr, ℕ, ◌+◌, ◌-◌, ◌*◌, ◌<◌, ◌≤◌, true, List, [], ◌∷◌, refl, sym, subst, ◌∙◌, arith}
 use Rattle.std.specs.Prelude.{All, nat_le, if◌then◌else◌}
-use Rattle.std.proofs.lemmas.Bool.{cases_lt, cases_eq, true≢false}
+use Rattle.std.proofs.lemmas.Bool.{cases_eq, true≢false}
 use Rattle.bpf.specs.declared.loops.Loop.{Loop}
 use Rattle.bpf.specs.Weight.{times_at}
 use Rattle.bver_form.specs.Loops.{ComesIn, IsCounted, further, holds, left}
-use Rattle.bver_form.proofs.Left.{by_test, by_le, low, high, held, not_before, not_behind, IsPlace, before, within, behind, place, outside, times_in, left_out, left_before, left_behind, left_within, further_back, further_else, more_times, rounds, tail_all, head_all, AreLaid, left_ahead, left_here}
+use Rattle.bver_form.proofs.Left.{by_test, by_le, low, high, held, not_before, before, within, behind, place, outside, left_out, left_before, left_behind, left_within, further_back, further_else, more_times, rounds, tail_all, head_all, AreLaid, left_ahead, left_here}
 
 -- one is taken from the instruction at the slot, and nothing has to be from the others
 abbrev pub IsTaken : (i k e : ℕ) → Type 0

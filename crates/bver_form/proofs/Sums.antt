@@ -1,6 +1,6 @@
 -- How much is left, summed over the slots.
-use Rattle.std.proofs.Common.{◌≡◌, ℕ, zero, suc, ◌+◌, ◌<◌, ◌≤◌, List, [], ◌∷◌, Option, None, Some, length, refl, sym, subst, ap, ◌∙◌, arith}
-use Rattle.std.specs.Prelude.{slice_index_or, IsSome}
+use Rattle.std.proofs.Common.{◌≡◌, ℕ, zero, suc, ◌+◌, ◌≤◌, List, [], ◌∷◌, Option, None, Some, subst, arith}
+use Rattle.std.specs.Prelude.{slice_index_or}
 use Rattle.bpf.specs.declared.loops.Loop.{Loop}
 use Rattle.bpf.specs.Weight.{part_of, times_at, weight_from}
 use Rattle.bpf_insn.specs.declared.insn.Insn.{Insn}

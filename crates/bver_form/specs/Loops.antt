@@ -1,8 +1,7 @@
 -- The loops that a program declares (a choice of this project): which form they have, and how many instructions
 -- a run may still take. A loop (head, back, bound, register) counts its register down to zero: slot `back - 1` takes
 -- one from it, and slot `back` goes back to `head` while it is not zero.
-use Rattle.std.specs.Prelude.{◌≡◌, ◌≢◌, ◌≤◌, ◌<◌, ◌⊎◌, ℕ, ◌+◌, ◌-◌, ◌*◌, ℤ, pos, negsuc, Bool, false, ◌&&◌, ◌==◌, nat_le, nat_lt, if◌then◌else◌, List, [], ◌∷◌, Option, None, Some, IsSome, IfSome, IsTrue, All}
-use Rattle.std.specs.List.{list_any}
+use Rattle.std.specs.Prelude.{◌≡◌, ◌≢◌, ◌≤◌, ◌<◌, ◌⊎◌, ℕ, ◌+◌, ◌-◌, ◌*◌, ℤ, pos, negsuc, Bool, false, ◌&&◌, ◌==◌, nat_le, nat_lt, if◌then◌else◌, List, [], ◌∷◌, Option, None, Some, IfSome, IsTrue, All}
 use Rattle.bpf.specs.declared.loops.Loop.{Loop}
 use Rattle.bpf.specs.Program.{Program, insn_at}
 use Rattle.bpf.specs.Weight.{times_at}
