@@ -1,8 +1,7 @@
 -- The loops that a program declares (a choice of this project): which form they have, and how many instructions
 -- a run may still take. A loop (head, back, bound, register) counts its register down to zero: slot `back - 1` takes
 -- one from it, and slot `back` goes back to `head` while it is not zero.
-use Rattle.std.specs.Prelude.{◌≡◌, ◌≢◌, ◌≤◌, ◌<◌, ◌⊎◌, ℕ, ◌+◌, ◌-◌, ◌*◌, ℤ, pos, negsuc, Bool, false, ◌&&◌, ◌==◌, nat_le, nat_lt, if◌then◌else◌, List, [], ◌∷◌, Option, None, Some, IsSome, IfSome, IsTrue, All}
-use Rattle.std.specs.List.{list_any}
+use Rattle.std.specs.Prelude.{◌≡◌, ◌≢◌, ◌≤◌, ◌<◌, ◌⊎◌, ℕ, ◌+◌, ◌-◌, ◌*◌, ℤ, pos, negsuc, Bool, false, ◌&&◌, ◌==◌, nat_le, nat_lt, if◌then◌else◌, List, [], ◌∷◌, Option, None, Some, IfSome, IsTrue, All}
 use Rattle.bpf.specs.declared.loops.Loop.{Loop}
 use Rattle.bpf.specs.Program.{Program, insn_at}
 use Rattle.bpf.specs.Weight.{times_at}
@@ -26,7 +25,8 @@ holds l slot = nat_le l.head slot && nat_le slot l.back
 
 -- what ends the loop: to its head, if its register is not zero (`jne r, 0`, all 64 bits)
 abbrev pub back_jump : Loop → Insn
-back_jump l = Jump NotEqual Bits64 l.register (Immediate (pos 0)) (negsuc (l.back - l.head))
+back_jump l =
+    Jump (record { condition = NotEqual; width = Bits64; dst = l.register; src = Immediate (pos 0) }) (negsuc (l.back - l.head))
 
 -- what counts: one is taken from its register (`add r, -1`, all 64 bits)
 abbrev pub step_down : Loop → Insn

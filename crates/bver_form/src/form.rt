@@ -1,6 +1,6 @@
 //! The tests of a program's form, in the order in which they refuse.
 
-ghost use Rattle.std.specs.Prelude.{◌≡◌, MatchResult, OnOk};
+ghost use Rattle.std.specs.Prelude.{◌≡◌, IfErr, MatchResult, OnOk};
 ghost use Rattle.bver_form.specs.Form.{AreAllowed, IsAllowed, IsAllowedAt, IsFaultAt, IsFormed, IsFormFault, IsInsnFault, Tells, insn_fault, slot_at};
 
 use crate::ending::{check_budget, check_end};
@@ -49,8 +49,10 @@ fn check_slots(image: &Image) -> Result<(), Refused>
 /// `FrameWrite`, `Target`, `BackJump`. Then `FallOff` at the last instruction, `LoopShape` at the back of
 /// the first declared loop, by rising head, that has not its form, and `Budget` at slot 0.
 pub fn check(image: &Image) -> Result<(), Refused>
-    // What passes has its form, and what is refused has that fault first.
-    ensures { MatchResult result (λ _. IsFormed image.now) (IsFormFault image.now) }
+    ensures formed { OnOk result (IsFormed image.now) }
+
+    // The refusal is the first in that order.
+    ensures first { IfErr result (IsFormFault image.now) }
 {
     check_slots(image)?;
     check_end(image)?;

@@ -10,5 +10,4 @@ pub fn loops_are_counted()
     ensures steps { EachStepTakesOne }
     ensures one { OneIsLeft }
     ensures entered { LoopsAreEntered }
-{
-}
+{}
