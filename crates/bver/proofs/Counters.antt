@@ -51,6 +51,19 @@ loop_in slots least (l ∷ ls) (suc k) d h below =
     let rest = loop_in slots (l.head + 1) ls k d h.2 (omega arith) in
     (omega (arith, h.0, rest.0), rest.1)
 
+-- loops at two places have two heads
+pub same_place : (slots least : ℕ) (ls : List Loop) (k j : ℕ) (d : Loop) → AreLoops slots least ls → k < length ls → j < length ls → (slice_index_or ls k d).head ≡ (slice_index_or ls j d).head → k ≡ j
+same_place slots least [] k j d h below under same = absurd (omega arith)
+same_place slots least (l ∷ ls) zero zero d h below under same = refl
+same_place slots least (l ∷ ls) zero (suc j) d h below under same =
+    let rest = loop_in slots (l.head + 1) ls j d h.2 (omega arith) in
+    absurd (omega (arith, rest.0, same))
+same_place slots least (l ∷ ls) (suc k) zero d h below under same =
+    let rest = loop_in slots (l.head + 1) ls k d h.2 (omega arith) in
+    absurd (omega (arith, rest.0, same))
+same_place slots least (l ∷ ls) (suc k) (suc j) d h below under same =
+    ap suc (same_place slots (l.head + 1) ls k j d h.2 (omega arith) (omega arith) same)
+
 -- each declared loop's value is that of its register: heads rise strictly, so no other loop has its head
 eqb_same : (n : ℕ) → eqb n n ≡ true
 eqb_same n = grind (arith, nat_tests)
@@ -58,7 +71,7 @@ eqb_same n = grind (arith, nat_tests)
 to_eqb : (m n : ℕ) → m ≡ n → eqb m n ≡ true
 to_eqb m n same = grind (arith, nat_tests, same)
 
-from_eqb : (m n : ℕ) → eqb m n ≡ true → m ≡ n
+pub from_eqb : (m n : ℕ) → eqb m n ≡ true → m ≡ n
 from_eqb m n same = grind (arith, nat_tests, same)
 
 eqb_other : (m n : ℕ) → m < n → eqb m n ≡ false

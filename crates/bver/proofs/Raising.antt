@@ -1,6 +1,7 @@
 -- What is known at the head of a loop is raised, register by register.
-use Rattle.std.proofs.Common.{◌≡◌, ◌≢◌, ℕ, ◌+◌, ◌<◌, ◌≤◌, Bool, true, false, List, [], ◌∷◌, length, Option, None, Some, inl, inr, eqb, refl, sym, ap, subst, ◌∙◌, arith, get_or-set_same, get_or-set_other}
-use Rattle.std.specs.Prelude.{IsTrue, IfSome, slice_set, slice_index_or}
+use Rattle.std.proofs.Common.{◌≡◌, ◌≢◌, ℕ, zero, suc, ◌+◌, ◌<◌, ◌≤◌, Bool, true, false, List, [], ◌∷◌, length, Option, None, Some, inl, inr, eqb, refl, sym, ap, subst, ◌∙◌, arith, get_or-set_same, get_or-set_other}
+use Rattle.std.specs.Prelude.{IsTrue, IfSome, ◌==◌, ◌&&◌, slice_set, slice_index_or}
+use Rattle.std.specs.List.{list_any}
 use Rattle.std.proofs.lemmas.Bool.{cases_lt, false≢true}
 use Rattle.std.proofs.lemmas.Bool.Decides.{nat_tests}
 use Rattle.std.proofs.lemmas.List.{get_or_past}
@@ -19,11 +20,12 @@ use Rattle.absdom.specs.State.{StateValue, IsBelow, kind_at, with_kind}
 use Rattle.absdom.specs.State.{IsWhole, IsProper}
 use Rattle.absdom.specs.Laws.{BelowIsReflexive}
 use Rattle.bver_form.specs.Form.{IsFormed}
+use Rattle.bver_form.specs.Jumps.{is_loop_back}
 use Rattle.bver_form.specs.Loops.{holds}
 use Rattle.bver.specs.Justified.{IsHead, IsOpen, IsWrittenBy, IsWrittenIn}
 use Rattle.bver.specs.Heads.{IsDeclared, IsRaised, IsRaisedKind, IsWithinBound, counts, opens, keeps, opened_kind}
 use Rattle.bver.specs.Lowered.{is_lowered}
-use Rattle.bver.proofs.Counters.{inside_of, holds_at, loop_in}
+use Rattle.bver.proofs.Counters.{inside_of, holds_at, loop_in, from_eqb}
 
 -- the registers below one were raised
 pub record IsRaising (p : Program) (l : Loop) (lowered : List Bool) (place : ℕ) (before now : StateValue) (from : ℕ) : Type 0 where
@@ -78,6 +80,42 @@ unwritten p l register none h =
 
 pub written_at : (p : Program) (l : Loop) (register slot : ℕ) → l.head ≤ slot → slot < l.back + 1 → IsWrittenBy (insn_at p slot) register → IsWrittenIn p l register
 written_at p l register slot above below writes = record { slot = slot; inside = holds_at l slot above (omega (arith, below)); writes = writes }
+
+-- an element does not depend on what stands for the others
+pub any_default : (xs : List Loop) (k : ℕ) (d e : Loop) → k < length xs → slice_index_or xs k d ≡ slice_index_or xs k e
+any_default [] k d e below = absurd (omega arith)
+any_default (x ∷ xs) zero d e below = refl
+any_default (x ∷ xs) (suc k) d e below = any_default xs k d e (omega arith)
+
+-- of the loops below a place none is so
+abbrev pub NoneBefore : (Loop → Type 0) → Program → ℕ → Type 0
+NoneBefore P p n = (k : ℕ) (d : Loop) → k < n → P (slice_index_or p.loops k d) → ⊥
+
+pub none_next : (P : Loop → Type 0) (p : Program) (l : Loop) (n : ℕ) → NoneBefore P p n → IsDeclared p l n → (P l → ⊥) → NoneBefore P p (n + 1)
+none_next P p l n none declared is_not k d below so =
+    elim (cases_lt k n) [
+      | inl earlier ↦ none k d earlier so
+      | inr past ↦
+        let here : n ≡ k = omega (arith, past, below) in
+        is_not (subst P (declared.is d) (subst (λ (i : ℕ). P (slice_index_or p.loops i d)) (sym here) so))
+    ]
+
+-- where no loop has the back and the head, none is found
+none_back : (slot head : ℕ) (ls : List Loop) → ((k : ℕ) (d : Loop) → k < length ls → (slice_index_or ls k d).back ≡ slot × (slice_index_or ls k d).head ≡ head → ⊥) → list_any (λ l. l.back == slot && l.head == head) ls ≡ false
+none_back slot head [] none = refl
+none_back slot head (l ∷ ls) none =
+    rw (is_other l (none 0 l (omega arith))) (none_back slot head ls (λ k d below. none (suc k) d (omega (arith, below))))
+  where
+    is_other : (l : Loop) → (l.back ≡ slot × l.head ≡ head → ⊥) → (l.back == slot && l.head == head) ≡ false
+    is_other l other = by_back (eqb l.back slot) refl (eqb l.head head) refl
+      where
+        by_back : (b : Bool) → eqb l.back slot ≡ b → (h : Bool) → eqb l.head head ≡ h → (l.back == slot && l.head == head) ≡ false
+        by_back false back h at = rw back refl
+        by_back true back false at = rw (back, at) refl
+        by_back true back true at = absurd (other (from_eqb l.back slot back, from_eqb l.head head at))
+
+pub none_closes : (p : Program) (slot head n : ℕ) → length p.loops ≤ n → NoneBefore (λ l. l.back ≡ slot × l.head ≡ head) p n → is_loop_back p slot head ≡ false
+none_closes p slot head n all none = none_back slot head p.loops (λ k d below. none k d (omega (arith, below, all)))
 
 -- a loop that is declared at a place
 pub declared_at : (p : Program) (l : Loop) (place : ℕ) → IsProgram p → place < length p.loops → ((d : Loop) → slice_index_or p.loops place d ≡ l) → IsDeclared p l place

@@ -1,10 +1,11 @@
 -- A justified program is safe: each step of a path takes one from what is left of the weight, and where it stands one
 -- is left.
-use Rattle.std.proofs.Common.{◌≡◌, ◌≢◌, ℕ, ◌+◌, ◌<◌, ◌≤◌, Bool, true, List, length, Option, None, Some, refl, sym, ap, subst, ◌∙◌, arith, add-one}
+use Rattle.std.proofs.Common.{◌≡◌, ◌≢◌, ℕ, ◌+◌, ◌<◌, ◌≤◌, Bool, true, false, List, length, Option, None, Some, refl, sym, ap, subst, ◌∙◌, arith, add-one}
 use Rattle.std.specs.Prelude.{slice_index_or, All, IfSome, IsSome, IsTrue}
 use Rattle.bpf.specs.declared.loops.Loop.{Loop}
 use Rattle.bpf.specs.Program.{Program}
 use Rattle.bpf.specs.Weight.{weight_of}
+use Rattle.bpf_insn.specs.Flow.{is_written}
 use Rattle.bpf_insn.specs.declared.insn.Insn.{Insn}
 use Rattle.bpf_insn.specs.declared.insn.Insn.TheVariants.{Alu, Negate, MoveSigned, ByteSwap, Load, Store, Jump, Goto, Wide, LoadMap, LoadAddress, Exit}
 use Rattle.bpf_insn.specs.declared.insn.Insn.TheVariants as insns
@@ -15,6 +16,7 @@ use Rattle.machine.specs.declared.values.Value.TheVariants.{Unset as Nothing, Nu
 use Rattle.machine.specs.Memory.{Header, IsHeader}
 use Rattle.machine.specs.State.{State, entry_state}
 use Rattle.machine.specs.Step.{Outcome, Next, Trap, step, perform, perform_at, insn_at, finds_maps}
+use Rattle.machine.specs.Laws.{AreLeftBy}
 use Rattle.machine.specs.Runs.{Path, entry, moves, answered, IsSafe}
 use Rattle.absdom.specs.declared.kinds.AbsKind.{AbsKind}
 use Rattle.absdom.specs.declared.kinds.AbsKind.TheVariants.{Unset, Num, Ptr, Map}
@@ -66,10 +68,7 @@ counted_first laws p sizes h port at = record {
       let limits = (loop_in (length p.slots) 0 p.loops k d h.limits.loops below).1 in
       let here : 0 ≡ l.head = omega (arith, (inside_of l 0 inside).0) in
       begun (length p.slots) l s limits here (begun_at p sizes h s at k d below here);
-  within = laws.begins p values h.limits h.formed (λ k d below first.
-      let l = slice_index_or p.loops k d in
-      let high = begun_high l (s.registers l.register) (begun_at p sizes h s at k d below (sym first)) in
-      subst (λ (head : ℕ). values head ≤ l.bound) first (rw (values_at (length p.slots) 0 p.loops s k d h.limits.loops below) high));
+  within = omega (arith, laws.begins p values h.limits h.formed low);
 }
   where
     s : State
@@ -77,6 +76,16 @@ counted_first laws p sizes h port at = record {
 
     values : ℕ → ℕ
     values = values_of p.loops s
+
+    low : All (λ l. l.head ≡ 0 → values 0 ≤ l.bound) p.loops
+    low k d below first =
+        let l = slice_index_or p.loops k d in
+        let high = begun_high l (s.registers l.register) (begun_at p sizes h s at k d below (sym first)) in
+        subst (λ (head : ℕ). values head ≤ l.bound) first (rw (values_at (length p.slots) 0 p.loops s k d h.limits.loops below) high)
+
+-- an instruction that goes on leaves the registers that it does not write
+left_by : (insn : Insn) (s t : State) (o : Outcome) → o ≡ Next t → AreLeftBy insn s o → (register : ℕ) → is_written insn register ≡ false → t.registers register ≡ s.registers register
+left_by insn s t o e left = (subst (λ (w : Outcome). AreLeftBy insn s w) e left).registers
 
 -- a step
 counted_next : Laws → (p : Program) (sizes : Maps) (h : IsJustified p sizes) (header : Header) (n : ℕ) (s t : State) (insn : Insn) → Stands h.table t → insn_at p s.slot ≡ Some insn → perform header s insn ≡ Next t → Counted p n s → Counted p (n + 1) t
@@ -98,7 +107,7 @@ counted_next laws p sizes h header n s t insn at is e counted = record {
         stepped (length p.slots) p header l s t insn
         (loop_in (length p.slots) 0 p.loops k d h.limits.loops below).1
         (h.formed.loops k d below) (laws.entered p s.slot t.slot h.limits h.formed edge begins k d below) is e
-        (λ unwritten. laws.leaves header insn s t e l.register unwritten) (counted.counting k d below) (begun_at p sizes h t at k d below)
+        (left_by insn s t (perform header s insn) e (laws.leaves header insn s) l.register) (counted.counting k d below) (begun_at p sizes h t at k d below)
 
 counted_from : Laws → (p : Program) (sizes : Maps) (h : IsJustified p sizes) (header : Header) (n : ℕ) (s t : State) (o : Option Insn) → Stands h.table t → insn_at p s.slot ≡ o → IsSome o → perform_at header s o ≡ Next t → Counted p n s → Counted p (n + 1) t
 counted_from laws p sizes h header n s t None at is some e counted = absurd cc
@@ -110,7 +119,7 @@ counts laws p sizes h header port calls n s good low (moves {n = m} {s = r} path
     let there = stands laws p sizes h header port calls m r good low path in
     let here = stands laws p sizes h header port calls n s good low (moves path e) in
     rw (← add-one)
-    (counted_from laws p sizes h header m r s (insn_at p r.slot) here refl (insn_here p sizes h r there) e (counts laws p sizes h header port calls m r good low path))
+    (counted_from laws p sizes h header m r s (insn_at p r.slot) here refl (insn_here p sizes h r there) (sym (laws.performs p header r h.limits.version) ∙ e) (counts laws p sizes h header port calls m r good low path))
 counts laws p sizes h header port calls n s good low (answered {n = m} {s = r} answer path e below) =
     absurd (subst (λ (o : Outcome). Continues h.table o) e (continues laws p sizes h header r good (stands laws p sizes h header port _ m r good low path)))
 

@@ -6,13 +6,13 @@ use Rattle.bpf_insn.specs.declared.insn.Distance.TheVariants.{Short, Long}
 use Rattle.bpf_insn.specs.declared.insn.Insn.{Insn}
 use Rattle.bpf_insn.specs.declared.insn.Insn.TheVariants.{Alu, Negate, MoveSigned, ByteSwap, Load, Store, Jump, Goto, Wide, LoadMap, LoadAddress, Exit}
 use Rattle.bpf_insn.specs.declared.insn.Insn.TheVariants as insns
-use Rattle.bpf_insn.specs.Flow.{is_written}
 use Rattle.bpf_insn.specs.Spelling.{IsInsn, slots_of}
 use Rattle.machine.specs.Sizes.{Maps}
 use Rattle.machine.specs.declared.calls.Call.{Call}
 use Rattle.machine.specs.declared.values.Value.{Value}
 use Rattle.machine.specs.declared.values.Value.TheVariants.{Unset as Nothing, Num as Number, Ptr as Pointer, Map as MapOf}
 use Rattle.machine.specs.Memory.{Header, IsHeader}
+use Rattle.machine.specs.Laws.{InstructionsLeave, StepPerforms}
 use Rattle.machine.specs.State.{State, state, entry_state}
 use Rattle.machine.specs.Step.{Outcome, Next, Ask, Verdict, Trap, step, perform, perform_at, insn_at, is_map, exits, lands, branches}
 use Rattle.machine.specs.Runs.{Path, entry, moves, answered}
@@ -30,16 +30,13 @@ use Rattle.bver_form.specs.Laws.{BeginsWithinWeight, EachStepTakesOne, OneIsLeft
 use Rattle.bver.specs.Justified.{IsCovered, IsCoveredIfAny, IsResultCovered, AreEdgesCovered, IsNumber, Proceeds, IsPermitted, IsPermittedAt, IsJustified, known_at}
 use Rattle.bver.proofs.Slots.{insn_in}
 
--- an instruction leaves the registers that it does not write
-abbrev pub InstructionsLeave : Type 0
-InstructionsLeave = (header : Header) (insn : Insn) (s t : State) → perform header s insn ≡ Next t → (register : ℕ) → is_written insn register ≡ false → t.registers register ≡ s.registers register
-
 -- the laws of what is known, of steps, and of loops
 pub record Laws : Type 0 where
   pub below : BelowFits
   pub entry : EntryFits
   pub apply : ApplyFits
   pub refine : RefineFits
+  pub performs : StepPerforms
   pub leaves : InstructionsLeave
   pub begins : BeginsWithinWeight
   pub takes : EachStepTakesOne
@@ -135,7 +132,7 @@ continues_at laws p sizes table header s a (ByteSwap swap bits dst) good fits al
 continues_at laws p sizes table header s a (Load size dst place) good fits allowed is_insn h = proceeds laws table header s a (Load size dst place) good fits allowed.leaves_frame h
 continues_at laws p sizes table header s a (Store size place src) good fits allowed is_insn h = proceeds laws table header s a (Store size place src) good fits tt h
 continues_at laws p sizes table header s a (Jump comparison offset) good fits allowed is_insn h =
-    compares_on laws.below table s offset _ _ (laws.refine header s a comparison.condition comparison.width comparison.dst comparison.src offset fits) h
+    compares_on laws.below table s offset _ _ (laws.refine header s a comparison offset fits) h
 continues_at laws p sizes table header s a (Goto (Short offset)) good fits allowed is_insn h = lands_on laws.below table s (target s.slot offset) a fits h
 continues_at laws p sizes table header s a (Goto (Long immediate)) good fits allowed is_insn h = lands_on laws.below table s (target s.slot immediate) a fits h
 continues_at laws p sizes table header s a (Wide dst value) good fits allowed is_insn h = proceeds laws table header s a (Wide dst value) good fits (allowed.leaves_frame, is_insn.1) h
@@ -156,7 +153,8 @@ permitted_here p sizes h s at =
 
 pub continues : Laws → (p : Program) (sizes : Maps) (h : IsJustified p sizes) (header : Header) (s : State) → IsHeader header → Stands h.table s → Continues h.table (step p header s)
 continues laws p sizes h header s good at =
-    continues_from laws p sizes h header s at (insn_at p s.slot) good refl (permitted_here p sizes h s at)
+    rw (laws.performs p header s h.limits.version)
+    (continues_from laws p sizes h header s at (insn_at p s.slot) good refl (permitted_here p sizes h s at))
 
 -- every path stands somewhere
 begins_at : Laws → (p : Program) (sizes : Maps) (h : IsJustified p sizes) (port : ℕ) → port < 32 → Stands h.table (entry_state port)

@@ -9,6 +9,7 @@ use Rattle.bpf_insn.specs.declared.insn.Insn.TheVariants.{Alu, Negate, MoveSigne
 use Rattle.bpf_insn.specs.Flow.{accessed_base, distance_of, is_written}
 use Rattle.bpf_insn.specs.declared.operation.Width.TheVariants.{Bits64}
 use Rattle.bpf_insn.specs.Spelling.{slots_of}
+use Rattle.bpf_insn.specs.declared.operation.Comparison.{Comparison}
 use Rattle.machine.specs.Sizes.{Maps}
 use Rattle.machine.specs.declared.regions.Region.{Region}
 use Rattle.machine.specs.Step.{insn_at, is_map}
@@ -46,6 +47,11 @@ abbrev pub AreEdgesCovered : Result Edges Cause → (taken next : Option StateVa
 AreEdgesCovered (Err cause) taken next = ⊥
 AreEdgesCovered (Ok edges) taken next = IsCoveredIfAny edges.taken taken × IsCoveredIfAny edges.not_taken next
 
+-- what is known on the edges of a comparison, or why it is refused
+abbrev pub edges_of_comparison : StateValue → Comparison → Result Edges Cause
+edges_of_comparison a comparison =
+    refined_edges a comparison.condition comparison.width comparison.dst comparison.src
+
 -- what is known at a place of the code; nothing is before it
 abbrev pub known_at : (table : ℕ → Option StateValue) → ℤ → Option StateValue
 known_at table (pos slot) = table slot
@@ -74,7 +80,7 @@ IsPermitted sizes table slot a (ByteSwap swap bits dst) = Proceeds table slot a 
 IsPermitted sizes table slot a (Load size dst place) = Proceeds table slot a (Load size dst place)
 IsPermitted sizes table slot a (Store size place src) = Proceeds table slot a (Store size place src)
 IsPermitted sizes table slot a (Jump comparison offset) =
-    AreEdgesCovered (refined_edges a comparison.condition comparison.width comparison.dst comparison.src) (known_at table (target slot offset)) (table (slot + 1))
+    AreEdgesCovered (edges_of_comparison a comparison) (known_at table (target slot offset)) (table (slot + 1))
 IsPermitted sizes table slot a (Goto distance) = IsCovered a (known_at table (target slot (distance_of distance)))
 IsPermitted sizes table slot a (Wide dst value) = Proceeds table slot a (Wide dst value)
 IsPermitted sizes table slot a (LoadMap dst index) =

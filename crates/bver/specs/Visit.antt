@@ -1,5 +1,5 @@
 -- How the verifier's table grows while it passes over the slots.
-use Rattle.std.specs.Prelude.{◌≡◌, ◌<◌, ◌≤◌, ℕ, ◌+◌, ℤ, List, length, slice_index_or, Option, Some, None, IsSome, IfSome}
+use Rattle.std.specs.Prelude.{All, ◌≡◌, ◌<◌, ◌≤◌, ℕ, ◌+◌, ℤ, List, length, slice_index_or, Option, Some, None, IsSome, IfSome}
 use Rattle.bpf.specs.Program.{Program}
 use Rattle.bpf_insn.specs.declared.insn.Insn.{Insn}
 use Rattle.bpf_insn.specs.declared.flow.Flow.{Flow}
@@ -11,8 +11,8 @@ use Rattle.machine.specs.declared.regions.Region.{Region}
 use Rattle.machine.specs.Step.{insn_at}
 use Rattle.absdom.specs.State.{StateValue, IsBelow}
 use Rattle.absdom.specs.State.{IsWhole}
-use Rattle.bver_form.specs.Form.{target}
-use Rattle.bver.specs.Justified.{IsCoveredIfAny, IsEntered, IsPermittedAt, accessed_at, known_at}
+use Rattle.bver_form.specs.Jumps.{target}
+use Rattle.bver.specs.Justified.{IsHead, IsCoveredIfAny, IsEntered, IsPermittedAt, accessed_at, known_at}
 
 -- what is known at a slot, in a list by slot
 abbrev pub known_in : List (Option StateValue) → ℕ → Option StateValue
@@ -95,12 +95,16 @@ pub record AreEntered (p : Program) (table : List (Option StateValue)) : Type 0 
   pub placed : IsPlaced p table
   pub whole : AreWhole table
 
--- the slots before this one were visited: what is permitted there, and which regions they access
-pub record AreVisited (p : Program) (sizes : Maps) (table : List (Option StateValue)) (regions : List (Option Region)) (slot : ℕ) : Type 0 where
-  pub size : length table ≡ length p.slots
-  pub entered : IsEntered (known_in table 0)
-  pub placed : IsPlaced p table
-  pub whole : AreWhole table
-  pub permitted : (k : ℕ) → k < slot → IsPermittedAt sizes (known_in table) k (known_in table k) (insn_at p k)
+-- at each head before the slot, what is known stands for every pass
+abbrev pub AreHeadsBefore : Program → List (Option StateValue) → (slot : ℕ) → Type 0
+AreHeadsBefore p table slot = All (λ l. l.head < slot → IfSome (known_in table l.head) (IsHead p l)) p.loops
+
+-- the slots before this one were visited: what they access, and what stands at their heads
+pub record AreVisited (p : Program) (table : List (Option StateValue)) (regions : List (Option Region)) (slot : ℕ) : Type 0 where
+  pub entry : AreEntered p table
+  pub heads : AreHeadsBefore p table slot
   pub resolved : (k : ℕ) → k < slot → slice_index_or regions k None ≡ accessed_at (known_in table k) (insn_at p k)
-  pub ahead : (k : ℕ) → slot ≤ k → slice_index_or regions k None ≡ None
+
+-- what the slots before this one do is permitted
+abbrev pub ArePermitted : Program → (sizes : Maps) → List (Option StateValue) → (slot : ℕ) → Type 0
+ArePermitted p sizes table slot = (k : ℕ) → k < slot → IsPermittedAt sizes (known_in table) k (known_in table k) (insn_at p k)

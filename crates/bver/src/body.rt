@@ -77,6 +77,20 @@ impl<'a> Body<'a> {
         }
     }
 
+    /// The slot at which the loop begins.
+    pub(crate) fn head(&self) -> u16
+        ensures { result ≡ self.now.declared.head }
+    {
+        self.declared.head
+    }
+
+    /// The slot at which it ends, with the jump back.
+    pub(crate) fn back(&self) -> u16
+        ensures { result ≡ self.now.declared.back }
+    {
+        self.declared.back
+    }
+
     /// Whether an instruction of the loop writes the register.
     fn writes(&self, register: Register) -> bool
         ensures { IsTrue result ↔ IsWrittenIn self.now.program self.now.declared register }

@@ -82,11 +82,13 @@ impl<'a> Visit<'a> {
         ensures some { IfSome result (λ b. (b.program ≡ self.now.program) × (b.declared.head ≡ self.now.slot)) }
         ensures declared { IfSome result (λ b. IsDeclared b.program b.declared b.place) }
         ensures none { result ≡ None → All (λ l. l.head ≢ self.now.slot) self.now.program.loops }
+        ensures program { IsProgram self.now.program }
+        ensures formed { IsFormed self.now.program }
     {
-        let loops = self.image.loops();
-        for place in 0..loops.len() {
-            if loops[place].head == self.slot {
-                return Some(Body::new(self.image, place));
+        for place in 0..self.image.loops().len() {
+            let body = Body::new(self.image, place);
+            if body.head() == self.slot {
+                return Some(body);
             }
         }
         None
@@ -97,10 +99,10 @@ impl<'a> Visit<'a> {
         ensures some { IfSome result (λ b. (b.program ≡ self.now.program) × (b.declared.head ≡ head)) }
         ensures none { result ≡ None → is_loop_back self.now.program self.now.slot head ≡ false }
     {
-        let loops = self.image.loops();
-        for place in 0..loops.len() {
-            if loops[place].back == self.slot && loops[place].head == head {
-                return Some(Body::new(self.image, place));
+        for place in 0..self.image.loops().len() {
+            let body = Body::new(self.image, place);
+            if body.back() == self.slot && body.head() == head {
+                return Some(body);
             }
         }
         None

@@ -22,4 +22,5 @@ returns-then-not-self-place-clause-more c =
     let place = 10 * c.args.place + c.from.result in
     let inside : place < length c.self.inside.lowered = search rules in
     let none : slice_index_or c.self.inside.lowered place false ≡ false = search rules in
-    omega (arith, count_more c.self.inside.lowered place inside none)
+    let same : c.args.self.now ≡ c.self.inside.lowered = search rules in
+    rw same (omega (arith, count_more c.self.inside.lowered place inside none))
