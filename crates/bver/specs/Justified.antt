@@ -1,22 +1,29 @@
 -- When a program may judge (a choice of this project, since RFC 9669 leaves verification to the
 -- implementation): it has its form, and there is a table of what is known at its slots under which no
 -- instruction can go wrong.
-use Rattle.std.specs.Prelude.{◌≡◌, ℕ, ◌+◌, ℤ, pos, negsuc, List, Option, Some, None, Result, Ok, Err, IsTrue, IfSome, slice_index_or}
+use Rattle.std.specs.Prelude.{◌≡◌, ◌≢◌, ℕ, ◌+◌, ℤ, pos, negsuc, List, Option, Some, None, Result, Ok, Err, IsTrue, IfSome, All, slice_index_or}
+use Rattle.bpf.specs.declared.loops.Loop.{Loop}
 use Rattle.bpf.specs.Program.{Program, IsProgram}
 use Rattle.bpf_insn.specs.declared.insn.Insn.{Insn}
 use Rattle.bpf_insn.specs.declared.insn.Insn.TheVariants.{Alu, Negate, MoveSigned, ByteSwap, Load, Store, Jump, Goto, Wide, LoadMap, LoadAddress, Call, Exit}
+use Rattle.bpf_insn.specs.Flow.{accessed_base, distance_of, is_written}
+use Rattle.bpf_insn.specs.declared.operation.Width.TheVariants.{Bits64}
 use Rattle.bpf_insn.specs.Spelling.{slots_of}
-use Rattle.machine.specs.declared.regions.Region.{Region}
+use Rattle.bpf_insn.specs.declared.operation.Comparison.{Comparison}
 use Rattle.machine.specs.Sizes.{Maps}
-use Rattle.bpf_insn.specs.Flow.{distance_of}
+use Rattle.machine.specs.declared.regions.Region.{Region}
 use Rattle.machine.specs.Step.{insn_at, is_map}
+use Rattle.absdom_num.specs.Tables.{whole}
 use Rattle.absdom.specs.declared.cause.Cause.{Cause}
 use Rattle.absdom.specs.declared.kinds.AbsKind.{AbsKind}
 use Rattle.absdom.specs.declared.kinds.AbsKind.TheVariants.{Unset, Num, Ptr, Map}
-use Rattle.absdom.specs.State.{StateValue, IsEntry, IsBelow, kind_at, IsWhole}
+use Rattle.absdom.specs.State.{StateValue, IsEntry, IsBelow, kind_at}
 use Rattle.absdom.specs.Effect.{applied}
 use Rattle.absdom.specs.Edges.{Edges, refined_edges}
-use Rattle.bver_form.specs.Form.{IsFormed, target}
+use Rattle.absdom.specs.State.{IsWhole}
+use Rattle.bver_form.specs.Form.{IsFormed}
+use Rattle.bver_form.specs.Jumps.{target}
+use Rattle.bver_form.specs.Loops.{holds}
 
 -- ---- what is known along an edge, and where it leads
 
@@ -39,6 +46,11 @@ IsResultCovered (Ok a) there = IsCovered a there
 abbrev pub AreEdgesCovered : Result Edges Cause → (taken next : Option StateValue) → Type 0
 AreEdgesCovered (Err cause) taken next = ⊥
 AreEdgesCovered (Ok edges) taken next = IsCoveredIfAny edges.taken taken × IsCoveredIfAny edges.not_taken next
+
+-- what is known on the edges of a comparison, or why it is refused
+abbrev pub edges_of_comparison : StateValue → Comparison → Result Edges Cause
+edges_of_comparison a comparison =
+    refined_edges a comparison.condition comparison.width comparison.dst comparison.src
 
 -- what is known at a place of the code; nothing is before it
 abbrev pub known_at : (table : ℕ → Option StateValue) → ℤ → Option StateValue
@@ -68,7 +80,7 @@ IsPermitted sizes table slot a (ByteSwap swap bits dst) = Proceeds table slot a 
 IsPermitted sizes table slot a (Load size dst place) = Proceeds table slot a (Load size dst place)
 IsPermitted sizes table slot a (Store size place src) = Proceeds table slot a (Store size place src)
 IsPermitted sizes table slot a (Jump comparison offset) =
-    AreEdgesCovered (refined_edges a comparison.condition comparison.width comparison.dst comparison.src) (known_at table (target slot offset)) (table (slot + 1))
+    AreEdgesCovered (edges_of_comparison a comparison) (known_at table (target slot offset)) (table (slot + 1))
 IsPermitted sizes table slot a (Goto distance) = IsCovered a (known_at table (target slot (distance_of distance)))
 IsPermitted sizes table slot a (Wide dst value) = Proceeds table slot a (Wide dst value)
 IsPermitted sizes table slot a (LoadMap dst index) =
@@ -89,10 +101,36 @@ pub record IsEntered (there : Option StateValue) : Type 0 where
   pub entry : IsEntry known
   pub covered : IsCovered known there
 
+-- ---- loops
+
+-- an instruction writes the register; a call writes r0 to r5
+abbrev pub IsWrittenBy : Option Insn → (register : ℕ) → Type 0
+IsWrittenBy None register = ⊥
+IsWrittenBy (Some insn) register = IsTrue (is_written insn register)
+
+-- an instruction of the loop writes the register
+pub record IsWrittenIn (p : Program) (l : Loop) (register : ℕ) : Type 0 where
+  pub slot : ℕ
+  pub inside : IsTrue (holds l slot)
+  pub writes : IsWrittenBy (insn_at p slot) register
+
+-- nothing is known of a register but, at most, that it holds a number
+abbrev pub IsOpen : AbsKind → Type 0
+IsOpen Unset = Unit {0}
+IsOpen (Num range) = range ≡ whole Bits64
+IsOpen (Ptr region offsets) = ⊥
+IsOpen (Map index) = ⊥
+
+-- what is known at the head of a loop, which stands for every pass: its counter is 1 to its bound, and each
+-- other register that the loop writes is open
+pub record IsHead (p : Program) (l : Loop) (a : StateValue) : Type 0 where
+  pub counter : kind_at a l.register ≡ Num (1, l.bound)
+  pub others : (register : ℕ) → register ≢ l.register → IsWrittenIn p l register → IsOpen (kind_at a register)
+
 -- ---- justified
 
--- the program has its form, and there is a table of whole states that covers the entry and permits the
--- instruction at each of them
+-- the program has its form, and there is a table of whole states that covers the entry, permits the
+-- instruction at each of them, and at the head of each loop, where it has a state, stands for every pass
 pub record IsJustified (program : Program) (sizes : Maps) : Type 0 where
   pub limits : IsProgram program
   pub formed : IsFormed program
@@ -100,6 +138,7 @@ pub record IsJustified (program : Program) (sizes : Maps) : Type 0 where
   pub entered : IsEntered (table 0)
   pub whole : (slot : ℕ) → IfSome (table slot) IsWhole
   pub permitted : (slot : ℕ) → IsPermittedAt sizes table slot (table slot) (insn_at program slot)
+  pub heads : All (λ l. IfSome (table l.head) (IsHead program l)) program.loops
 
 -- ---- the region of an access
 
@@ -110,21 +149,14 @@ pointed (Num range) = None
 pointed (Ptr region offsets) = Some region
 pointed (Map index) = None
 
+-- the region into which a base register points, if there is one
+abbrev pub region_of : StateValue → Option ℕ → Option Region
+region_of a None = None
+region_of a (Some base) = pointed (kind_at a base)
+
 -- the region that an instruction accesses
 abbrev pub accessed : StateValue → Insn → Option Region
-accessed a (Load size dst place) = pointed (kind_at a place.base)
-accessed a (Store size place src) = pointed (kind_at a place.base)
-accessed a (Alu op width dst src) = None
-accessed a (Negate width dst) = None
-accessed a (MoveSigned extension dst src) = None
-accessed a (ByteSwap swap bits dst) = None
-accessed a (Jump comparison offset) = None
-accessed a (Goto distance) = None
-accessed a (Wide dst value) = None
-accessed a (LoadMap dst index) = None
-accessed a (LoadAddress dst address) = None
-accessed a (Call callee number) = None
-accessed a Exit = None
+accessed a insn = region_of a (accessed_base insn)
 
 -- the region that is accessed at a slot; none where no run comes
 abbrev pub accessed_at : Option StateValue → Option Insn → Option Region

@@ -3,7 +3,8 @@
 ghost use Rattle.bver.specs.Laws.{JustifiedIsSafe, JudgedIsResolved, JustifiedAsksNobody};
 
 use absdom::{apply_fits, entry_fits, order_of_states, refine_fits};
-use machine::steps_perform;
+use bver_form::loops_are_counted;
+use machine::{steps_leave, steps_perform};
 
 /// A law and no work: a justified program is safe, its regions are those of its accesses, and it calls
 /// nobody.
@@ -17,4 +18,6 @@ pub fn justified_programs()
     apply_fits();
     refine_fits();
     steps_perform();
+    steps_leave();
+    loops_are_counted();
 }
