@@ -179,45 +179,53 @@ begun_high l value number = rw number.1 number.3
 
 -- into a loop
 comes_in : (slots : ℕ) (l : Loop) (s t : State) → IsLoop slots l → holds l s.slot ≡ false → ComesIn l s.slot t.slot → IsBegun l t → IsStepped l s t
-comes_in slots l s t limits out comes begins = (record {
-  stays = λ inside. absurd (false≢true (sym out ∙ inside));
-  steps = λ inside. absurd (false≢true (sym out ∙ inside));
-  enters = λ o inside. begun_high l (t.registers l.register) (begins (comes.to_head out inside));
-  again = λ back head. absurd (false≢true (sym out ∙ holds_at l s.slot (omega (arith, limits.ordered, back)) (omega (arith, back))));
-}, λ inside. begun slots l t limits (comes.to_head out inside) (begins (comes.to_head out inside)))
+comes_in slots l s t limits out comes begins = (
+  record {
+    stays = λ inside. absurd (false≢true (sym out ∙ inside));
+    steps = λ inside. absurd (false≢true (sym out ∙ inside));
+    enters = λ o inside. begun_high l (t.registers l.register) (begins (comes.to_head out inside));
+    again = λ back head. absurd (false≢true (sym out ∙ holds_at l s.slot (omega (arith, limits.ordered, back)) (omega (arith, back))));
+  },
+  λ inside. begun slots l t limits (comes.to_head out inside) (begins (comes.to_head out inside)),
+)
 
 -- before the back of a loop
 counts_off : (slots : ℕ) (header : Header) (l : Loop) (s t : State) → IsLoop slots l → IsTrue (holds l s.slot) → s.slot + 1 ≡ l.back → IsCounting l s → perform header s (step_down l) ≡ Next t → IsStepped l s t
 counts_off slots header l s t limits inside before counting e =
     let differs : s.slot ≢ l.back = λ same. absurd (omega (arith, same, before)) in
-    let down = steps_down header l s t counting.value limits.register counting.is (counting.low differs) (omega (arith, counting.high, limits.high)) e in
-    (record {
-  stays = λ held on other. absurd (other before);
-  steps = λ held on same. rw (down.2, counting.is) down.3;
-  enters = λ out. absurd (false≢true (sym out ∙ inside));
-  again = λ back. absurd (differs back);
-}, λ on. record {
-  value = down.1;
-  is = down.2;
-  high = omega (arith, down.3, counting.high);
-  low = λ other. absurd (other (down.0 ∙ before));
-  back = λ same. omega (arith, down.3, counting.high);
-})
+    let down = steps_down header l s t counting.value limits.register counting.is (counting.low differs) (omega (arith, counting.high, limits.high)) e in (
+      record {
+        stays = λ held on other. absurd (other before);
+        steps = λ held on same. rw (down.2, counting.is) down.3;
+        enters = λ out. absurd (false≢true (sym out ∙ inside));
+        again = λ back. absurd (differs back);
+      },
+      λ on. record {
+        value = down.1;
+        is = down.2;
+        high = omega (arith, down.3, counting.high);
+        low = λ other. absurd (other (down.0 ∙ before));
+        back = λ same. omega (arith, down.3, counting.high);
+      },
+    )
 
 -- elsewhere in a loop
 goes_round : (slots : ℕ) (header : Header) (l : Loop) (s t : State) → IsLoop slots l → IsTrue (holds l s.slot) → s.slot + 1 ≢ l.back → ComesIn l s.slot t.slot → IsCounting l s → t.registers l.register ≡ s.registers l.register → (s.slot ≡ l.back → perform header s (back_jump l) ≡ Next t) → IsStepped l s t
-goes_round slots header l s t limits inside other comes counting kept turn = (record {
-  stays = λ held on differs. ap amount kept;
-  steps = λ held on same. absurd (other same);
-  enters = λ out. absurd (false≢true (sym out ∙ inside));
-  again = λ back head. rw counting.is (again_low back (holds_at l t.slot (omega (arith, head)) (omega (arith, head, limits.ordered))));
-}, λ on. record {
-  value = counting.value;
-  is = kept ∙ counting.is;
-  high = counting.high;
-  low = λ differs. low_of on;
-  back = λ same. absurd (other (comes.to_back same));
-})
+goes_round slots header l s t limits inside other comes counting kept turn = (
+  record {
+    stays = λ held on differs. ap amount kept;
+    steps = λ held on same. absurd (other same);
+    enters = λ out. absurd (false≢true (sym out ∙ inside));
+    again = λ back head. rw counting.is (again_low back (holds_at l t.slot (omega (arith, head)) (omega (arith, head, limits.ordered))));
+  },
+  λ on. record {
+    value = counting.value;
+    is = kept ∙ counting.is;
+    high = counting.high;
+    low = λ differs. low_of on;
+    back = λ same. absurd (other (comes.to_back same));
+  },
+)
   where
     again_low : s.slot ≡ l.back → IsTrue (holds l t.slot) → 1 ≤ counting.value
     again_low back on =

@@ -96,8 +96,8 @@ none_next P p l n none declared is_not k d below so =
     elim (cases_lt k n) [
       | inl earlier ↦ none k d earlier so
       | inr past ↦
-        let here : n ≡ k = omega (arith, past, below) in
-        is_not (subst P (declared.is d) (subst (λ (i : ℕ). P (slice_index_or p.loops i d)) (sym here) so))
+          let here : n ≡ k = omega (arith, past, below) in
+          is_not (subst P (declared.is d) (subst (λ (i : ℕ). P (slice_index_or p.loops i d)) (sym here) so))
     ]
 
 -- where no loop has the back and the head, none is found
@@ -203,8 +203,8 @@ raised_above reflexive p l lowered place before after proper new_proper within r
         | inr past ↦ elim (cases_lt 10 register) [
           | inl beyond ↦ rw (get_or_past after.kinds register Unset (omega (arith, beyond, new_proper.sizes.registers)), get_or_past before.kinds register Unset (omega (arith, beyond, proper.sizes.registers))) tt
           | inr at ↦
-            let same : 10 ≡ register = omega (arith, past, at) in
-            subst (λ (r : ℕ). IsKindBelow (kind_at before r) (kind_at after r)) same (rw raised.frame (kind_below-refl reflexive (kind_at before 10)))
+              let same : 10 ≡ register = omega (arith, past, at) in
+              subst (λ (r : ℕ). IsKindBelow (kind_at before r) (kind_at after r)) same (rw raised.frame (kind_below-refl reflexive (kind_at before 10)))
         ]
       ];
   marks = λ mark is. rw (sym raised.marks) is;

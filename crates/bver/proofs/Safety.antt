@@ -91,8 +91,12 @@ left_by insn s t o e left = (subst (λ (w : Outcome). AreLeftBy insn s w) e left
 counted_next : Laws → (p : Program) (sizes : Maps) (h : IsJustified p sizes) (header : Header) (n : ℕ) (s t : State) (insn : Insn) → Stands h.table t → insn_at p s.slot ≡ Some insn → perform header s insn ≡ Next t → Counted p n s → Counted p (n + 1) t
 counted_next laws p sizes h header n s t insn at is e counted = record {
   counting = λ k d below. (each k d below).1;
-  within = omega (arith, counted.within, laws.takes p s.slot t.slot (values_of p.loops s) (values_of p.loops t) h.limits h.formed edge begins (λ k d below.
-      rw (values_at (length p.slots) 0 p.loops s k d h.limits.loops below, values_at (length p.slots) 0 p.loops t k d h.limits.loops below) (each k d below).0));
+  within = omega (
+    arith,
+    counted.within,
+    laws.takes p s.slot t.slot (values_of p.loops s) (values_of p.loops t) h.limits h.formed edge begins (λ k d below.
+        rw (values_at (length p.slots) 0 p.loops s k d h.limits.loops below, values_at (length p.slots) 0 p.loops t k d h.limits.loops below) (each k d below).0),
+  );
 }
   where
     edge : IsEdge p s.slot t.slot

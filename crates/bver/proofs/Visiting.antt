@@ -46,8 +46,8 @@ changed_at p from slot old new above begins grown others whole = record {
         | inr past ↦ elim (cases_lt slot k) [
           | inl beyond ↦ earlier k placed some (λ same. omega (arith, beyond, same))
           | inr at ↦
-            let here : slot ≡ k = omega (arith, past, at) in
-            subst (λ (i : ℕ). IsSome (insn_at p i)) here begins
+              let here : slot ≡ k = omega (arith, past, at) in
+              subst (λ (i : ℕ). IsSome (insn_at p i)) here begins
         ]
       ];
   whole = whole;
@@ -83,8 +83,8 @@ heads_next p old new slot f before at k d inside below =
     elim (cases_lt l.head slot) [
       | inl earlier ↦ subst (λ (o : Option StateValue). IfSome o (IsHead p l)) (sym (f.kept l.head earlier)) (before k d inside earlier)
       | inr past ↦
-        let here : l.head ≡ slot = omega (arith, past, below) in
-        subst (λ (h : ℕ). IfSome (known_in new h) (IsHead p l)) (sym here) (at k d inside here)
+          let here : l.head ≡ slot = omega (arith, past, below) in
+          subst (λ (h : ℕ). IfSome (known_in new h) (IsHead p l)) (sym here) (at k d inside here)
     ]
 
 pub visited_next : BelowIsTransitive → (p : Program) (old new : List (Option StateValue)) (regions : List (Option Region)) (slot : ℕ) (region : Option Region) → AreVisited p old regions slot → IsExtended p slot old new → AreHeadsAt p slot (known_in new slot) → region ≡ accessed_at (known_in new slot) (insn_at p slot) → slot < length regions → AreVisited p new (slice_set regions slot region) (slot + 1)

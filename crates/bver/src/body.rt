@@ -26,8 +26,8 @@ pub(crate) struct Body<'a> {
 
 impl<'a> Model for Body<'a> {
     ghost use Rattle.bver.specs.Lowered.{IsMore, IsSettled};
-ghost use Rattle.bver.specs.Visit.{known_in};
-ghost use Rattle.bver.specs.Heads.{BodyValue, Falls, IsDeclared};
+    ghost use Rattle.bver.specs.Visit.{known_in};
+    ghost use Rattle.bver.specs.Heads.{BodyValue, Falls, IsDeclared};
 
     ghost Value = { BodyValue };
 
@@ -186,7 +186,12 @@ impl<'a> Body<'a> {
     /// # Errors
     ///
     /// `LoopEntry` at the head where it is neither.
-    pub(crate) fn close(&self, table: &Table, edge: &State, lowered: &mut Lowered) -> Result<(), Refused>
+    pub(crate) fn close(
+        &self,
+        table: &Table,
+        edge: &State,
+        lowered: &mut Lowered,
+    ) -> Result<(), Refused>
         requires { self.now.declared.head < length table.now }
         ensures more { IsMore lowered.old lowered.new }
         ensures covered { OnOk result (IsSettled lowered.old lowered.new → IsCovered edge.now (known_in table.now self.now.declared.head)) }

@@ -34,7 +34,6 @@ fn refusal_of(cause: Cause) -> Refusal
     }
 }
 
-
 /// Follows a jump by so many slots: forward, or back to the head of a loop.
 fn jump(
     visit: &Visit,
@@ -92,7 +91,6 @@ fn follow_taken(
     }
 }
 
-
 /// Follows the other edge of a comparison, if a run may take it.
 fn follow_not_taken(
     visit: &Visit,
@@ -116,7 +114,6 @@ fn follow_not_taken(
     }
 }
 
-
 /// Follows the edges of a comparison.
 fn branch(
     visit: &Visit,
@@ -135,7 +132,15 @@ fn branch(
     ensures more { IsMore lowered.old lowered.new }
 {
     order_of_states();
-    follow_taken(visit, table, lowered, state, comparison, distance, &edges.taken)?;
+    follow_taken(
+        visit,
+        table,
+        lowered,
+        state,
+        comparison,
+        distance,
+        &edges.taken,
+    )?;
     follow_not_taken(visit, table, state, comparison, &edges.not_taken);
     Ok(())
 }
@@ -210,10 +215,8 @@ fn check_answer(visit: &Visit, state: &State) -> Result<(), Refused>
 {
     match Register::new(0) {
         Some(answer) => {
-            let _ = state
-                .kind(answer)
-                .number()
-                .map_err(|cause| visit.refused(refusal_of(cause)))?;
+            let number = state.kind(answer).number();
+            let _ = number.map_err(|cause| visit.refused(refusal_of(cause)))?;
             Ok(())
         }
         None => unreachable!(),

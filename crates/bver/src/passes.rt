@@ -60,7 +60,8 @@ fn enter(
     match visit.head() {
         Some(body) => {
             state.stands_whole();
-            body.raise(lowered, state).map_err(|code| visit.refused(code))?;
+            body.raise(lowered, state)
+                .map_err(|code| visit.refused(code))?;
             state.stands_whole();
             table.raise(visit.slot(), state);
             Ok(())

@@ -24,10 +24,12 @@ loop-slot-preserved c =
     let earlier : IsMore c.args.lowered.now before = c.loop-slot.invariant.2 in
     let size : length c.loop-slot.regions.items ≡ length p.slots = c.loop-slot.invariant.3 in
     let inside : slot < length c.loop-slot.regions.items = omega arith in
-    rw c.from.ensures
-    (visited_next c.order_of_states.ensures.transitive p old new c.loop-slot.regions.items slot c.in_ok-region.region c.loop-slot.invariant.0 extended heads accessed inside,
+    rw c.from.ensures (
+      visited_next c.order_of_states.ensures.transitive p old new c.loop-slot.regions.items slot c.in_ok-region.region c.loop-slot.invariant.0 extended heads accessed inside,
       λ settled. permitted_next c.order_of_states.ensures.transitive p c.args.sizes.now old new slot (c.loop-slot.invariant.1 (omega (arith, settled, more, earlier))) extended (permitted (omega (arith, settled, more, earlier))),
-      omega (arith, more, earlier), length-set c.loop-slot.regions.items slot c.in_ok-region.region ∙ size)
+      omega (arith, more, earlier),
+      length-set c.loop-slot.regions.items slot c.in_ok-region.region ∙ size,
+    )
 
 pub returns-clause-judged : goal.returns-clause-judged
 returns-clause-judged c =
