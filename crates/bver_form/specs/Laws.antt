@@ -1,9 +1,19 @@
--- What the form of a program's loops is worth: how many instructions a run may take.
+-- What the form of a program is worth: what its first fault tells, and how many instructions a run through its loops
+-- may take.
 use Rattle.std.specs.Prelude.{◌≡◌, ◌≤◌, ℕ, ◌+◌, IsSome, All}
 use Rattle.bpf.specs.Program.{Program, IsProgram, insn_at}
 use Rattle.bpf.specs.Weight.{weight_of}
-use Rattle.bver_form.specs.Form.{IsFormed}
+use Rattle.bver_form.specs.declared.refusal.Refused.{Refused}
+use Rattle.bver_form.specs.Form.{IsFormed, IsFormFault}
 use Rattle.bver_form.specs.Loops.{AreCounted, ComesIn, IsEdge, left_at}
+
+-- a program that has a first fault has not its form
+abbrev pub FaultRefutesForm : Type 0
+FaultRefutesForm = (p : Program) (refused : Refused) → IsFormFault p refused → IsFormed p → ⊥
+
+-- and it has no other first fault
+abbrev pub FirstFaultIsOne : Type 0
+FirstFaultIsOne = (p : Program) (one other : Refused) → IsFormFault p one → IsFormFault p other → one ≡ other
 
 -- at slot 0 no more is left than the weight, where a loop that has its head there begins within its bound
 abbrev pub BeginsWithinWeight : Type 0
