@@ -236,12 +236,12 @@ apply_grows af nf mf bf a b (MoveSigned extension dst src) p q below =
 apply_grows af nf mf bf a b (ByteSwap swap bits dst) p q below =
     written_grows a b dst (computed_alone (swapped_range swap bits) (number_of (kind_at a dst))) (computed_alone (swapped_range swap bits) (number_of (kind_at b dst))) p q below
     (computed_alone_grows (swapped_range swap bits) (bf swap bits) (kind_at a dst) (kind_at b dst) (p.kinds dst) (below.kinds dst))
-apply_grows af nf mf bf a b (Load size dst base offset) p q below =
-    written_grows a b dst (load_kind a size (kind_at a base) offset) (load_kind b size (kind_at b base) offset) p q below
-    (load_grows a b size (kind_at a base) (kind_at b base) offset below (p.kinds base) (below.kinds base))
-apply_grows af nf mf bf a b (Store size base offset src) p q below =
-    store_grows a b (size_bytes size) (kind_at a base) (operand_kind a src) (kind_at b base) (operand_kind b src) offset p.sizes.bytes below (p.kinds base) (below.kinds base) (operand_below a b src below)
-apply_grows af nf mf bf a b (Jump condition width dst src offset) p q below = below
+apply_grows af nf mf bf a b (Load size dst place) p q below =
+    written_grows a b dst (load_kind a size (kind_at a place.base) place.offset) (load_kind b size (kind_at b place.base) place.offset) p q below
+    (load_grows a b size (kind_at a place.base) (kind_at b place.base) place.offset below (p.kinds place.base) (below.kinds place.base))
+apply_grows af nf mf bf a b (Store size place src) p q below =
+    store_grows a b (size_bytes size) (kind_at a place.base) (operand_kind a src) (kind_at b place.base) (operand_kind b src) place.offset p.sizes.bytes below (p.kinds place.base) (below.kinds place.base) (operand_below a b src below)
+apply_grows af nf mf bf a b (Jump comparison offset) p q below = below
 apply_grows af nf mf bf a b (Goto distance) p q below = below
 apply_grows af nf mf bf a b (Wide dst value) p q below =
     with_kind_grows a b dst (Num (only value)) (Num (only value)) (same_size a b p q) (kind_below-refl (Num (only value))) below

@@ -1,5 +1,6 @@
 -- What holds of the states of the verifier.
 use Rattle.std.specs.Prelude.{ℕ, ◌+◌, ◌<◌, ◌^◌, ℤ}
+use Rattle.bpf_insn.specs.declared.operation.Comparison.{Comparison}
 use Rattle.bpf_insn.specs.declared.operation.Width.{Width}
 use Rattle.bpf_insn.specs.declared.operation.Condition.{Condition}
 use Rattle.bpf_insn.specs.declared.operation.Operand.{Operand}
@@ -57,8 +58,9 @@ ApplyFits =
 -- where a comparison is not refused, every state that fits fits the edge that it takes
 abbrev pub RefineFits : Type 0
 RefineFits =
-    (header : Header) (s : State) (a : StateValue) (condition : Condition) (width : Width) (dst : ℕ) (src : Operand) (offset : ℤ)
-    → Fits s a → TakesEdge s offset (perform header s (Jump condition width dst src offset)) (refined_edges a condition width dst src)
+    (header : Header) (s : State) (a : StateValue) (comparison : Comparison) (offset : ℤ) → Fits s a
+    → TakesEdge s offset (perform header s (Jump comparison offset))
+    (refined_edges a comparison.condition comparison.width comparison.dst comparison.src)
 
 -- of a smaller state an instruction gives a smaller one, and it is not refused where that of the larger is not
 abbrev pub ApplyGrows : Type 0

@@ -108,21 +108,11 @@ impl State {
                 let kind = byte_swap(*swap, *bits, &self.kind(*dst));
                 write(self, *dst, kind)
             }
-            Insn::Load {
-                size,
-                dst,
-                base,
-                offset,
-            } => {
-                let kind = load(self, *size, &self.kind(*base), *offset);
+            Insn::Load { size, dst, place } => {
+                let kind = load(self, *size, &self.kind(place.base), place.offset);
                 write(self, *dst, kind)
             }
-            Insn::Store {
-                size,
-                base,
-                offset,
-                src,
-            } => put(self, *size, *base, *offset, src),
+            Insn::Store { size, place, src } => put(self, *size, place.base, place.offset, src),
             Insn::Wide { dst, value } => {
                 write(self, *dst, Ok(AbsKind::Num(Range::single(*value))))
             }

@@ -8,7 +8,7 @@ use Rattle.bpf_insn.specs.declared.memory.Size.{Size}
 use Rattle.bpf_insn.specs.declared.operation.Operand.TheVariants.{FromRegister, Immediate}
 use Rattle.bpf_insn.specs.declared.insn.Insn.{Insn}
 use Rattle.bpf_insn.specs.declared.insn.Insn.TheVariants.{Store}
-use Rattle.basm_lex.specs.declared.places.Place.{Place}
+use Rattle.bpf_insn.specs.declared.memory.Place.{Place}
 use Rattle.basm.specs.Relation.{Four, Three, Two}
 
 two_at : {X : Type 0} (text : X → List ℕ) (xs : List X) (d : X) (P Q : List ℕ → Type 0) → Two text xs P Q → P (text (get_or xs 0 d)) × Q (text (get_or xs 1 d))
@@ -54,18 +54,13 @@ pub one_value : {T E : Type 0} (x y : T) → ◌≡◌ {A = Result T E} (Ok x) (
 unfolding value_in
 one_value x y same = ap (value_in x) same
 
-pub same_place : {E : Type 0} (x : Place) (base : ℕ) (offset : ℤ) → (x.base ≡ base) × (x.offset ≡ offset) → ◌≡◌ {A = Result Place E} (Ok x) (Ok (record { base = base; offset = offset }))
-same_place x base offset same = λ i. Ok (record { base = same.0 i; offset = same.1 i })
-
 -- a store to the place that is read
-pub stored_number : {E : Type 0} (size : Size) (x : Place) (read : ℤ) (base : ℕ) (offset value : ℤ)
-    → ◌≡◌ {A = Result (Place × ℤ) E} (Ok (x, read)) (Ok (record { base = base; offset = offset }, value))
-    → ◌≡◌ {A = Result Insn E} (Ok (Store size x.base x.offset (Immediate read))) (Ok (Store size base offset (Immediate value)))
-stored_number size x read base offset value same =
-    ap (λ pair. Ok (Store size pair.0.base pair.0.offset (Immediate pair.1))) (one_value (x, read) (record { base = base; offset = offset }, value) same)
+pub stored_number : {E : Type 0} (size : Size) (x : Place) (read : ℤ) (place : Place) (value : ℤ) → ◌≡◌ {A = Result (Place × ℤ) E} (Ok (x, read)) (Ok (place, value))
+    → ◌≡◌ {A = Result Insn E} (Ok (Store size x (Immediate read))) (Ok (Store size place (Immediate value)))
+stored_number size x read place value same =
+    ap (λ pair. Ok (Store size pair.0 (Immediate pair.1))) (one_value (x, read) (place, value) same)
 
-pub stored_register : {E : Type 0} (size : Size) (x : Place) (read : ℕ) (base : ℕ) (offset : ℤ) (src : ℕ)
-    → ◌≡◌ {A = Result (Place × ℕ) E} (Ok (x, read)) (Ok (record { base = base; offset = offset }, src))
-    → ◌≡◌ {A = Result Insn E} (Ok (Store size x.base x.offset (FromRegister read))) (Ok (Store size base offset (FromRegister src)))
-stored_register size x read base offset src same =
-    ap (λ pair. Ok (Store size pair.0.base pair.0.offset (FromRegister pair.1))) (one_value (x, read) (record { base = base; offset = offset }, src) same)
+pub stored_register : {E : Type 0} (size : Size) (x : Place) (read : ℕ) (place : Place) (src : ℕ) → ◌≡◌ {A = Result (Place × ℕ) E} (Ok (x, read)) (Ok (place, src))
+    → ◌≡◌ {A = Result Insn E} (Ok (Store size x (FromRegister read))) (Ok (Store size place (FromRegister src)))
+stored_register size x read place src same =
+    ap (λ pair. Ok (Store size pair.0 (FromRegister pair.1))) (one_value (x, read) (place, src) same)

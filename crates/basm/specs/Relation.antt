@@ -66,10 +66,10 @@ WritesOperands text names slot xs (Alu op width dst src) = Two text xs (λ a. Wr
 WritesOperands text names slot xs (Negate width dst) = One text xs (λ a. WritesRegister a dst)
 WritesOperands text names slot xs (MoveSigned extension dst src) = Two text xs (λ a. WritesRegister a dst) (λ b. WritesRegister b src)
 WritesOperands text names slot xs (ByteSwap swap bits dst) = One text xs (λ a. WritesRegister a dst)
-WritesOperands text names slot xs (Load size dst base offset) = Two text xs (λ a. WritesRegister a dst) (λ b. WritesPlace b base offset)
-WritesOperands text names slot xs (Store size base offset src) = Two text xs (λ a. WritesPlace a base offset) (λ b. WritesOperand b src)
-WritesOperands text names slot xs (Jump condition width dst src offset) =
-    Three text xs (λ a. WritesRegister a dst) (λ b. WritesOperand b src) (λ c. WritesTarget names slot c offset × FitsSigned w16 offset)
+WritesOperands text names slot xs (Load size dst place) = Two text xs (λ a. WritesRegister a dst) (λ b. WritesPlace b place)
+WritesOperands text names slot xs (Store size place src) = Two text xs (λ a. WritesPlace a place) (λ b. WritesOperand b src)
+WritesOperands text names slot xs (Jump comparison offset) =
+    Three text xs (λ a. WritesRegister a comparison.dst) (λ b. WritesOperand b comparison.src) (λ c. WritesTarget names slot c offset × FitsSigned w16 offset)
 WritesOperands text names slot xs (Goto (Short offset)) = One text xs (λ a. WritesTarget names slot a offset × FitsSigned w16 offset)
 WritesOperands text names slot xs (Goto (Long distance)) = One text xs (λ a. WritesTarget names slot a distance × FitsSigned w32 distance)
 WritesOperands text names slot xs (Wide dst value) = Two text xs (λ a. WritesRegister a dst) (λ b. WritesWide b value)

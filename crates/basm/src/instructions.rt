@@ -15,11 +15,11 @@ ghost use Rattle.basm.specs.Relation.{Four, One, Three, Two, WritesInsn, WritesO
 use crate::faults::{AsmCode, both};
 use crate::names::Names;
 use crate::targets::{read_long_target, read_short_target};
-use basm_lex::{Mnemonic, Place, mnemonic_laws, number, read_place, register, wide_number};
+use basm_lex::{Mnemonic, mnemonic_laws, number, read_place, register, wide_number};
 use bpf::MAX_SLOTS;
 use bpf_insn::{
-    Address, AluOp, Callee, Condition, Distance, Extension, Insn, LoadSize, Operand, Register,
-    Size, Swap, SwapBits, Width,
+    Address, AluOp, Callee, Comparison, Condition, Distance, Extension, Insn, LoadSize, Operand,
+    Place, Register, Size, Swap, SwapBits, Width,
 };
 
 /// Appends the instruction of this name with these operands, at the slot, and gives the slot after it.
@@ -53,7 +53,7 @@ fn slot_after(slot: u32, insn: &Insn) -> Result<u32, AsmCode>
     ensures after { IfOk result (λ after. (after ≡ slot + slots_of insn.now) × (after ≤ 512)) }
     ensures exact { slot + slots_of insn.now ≤ 512 → result ≡ Ok (slot + slots_of insn.now) }
 {
-    let after = slot.saturating_add(insn.slots() as u32);
+    let after = slot.saturating_add(u32::from(insn.slots()));
     if after > u32::from(MAX_SLOTS) {
         Err(AsmCode::TooMany)
     } else {
@@ -101,8 +101,8 @@ fn immediate(word: &str) -> Result<i32, AsmCode>
 }
 
 fn memory(word: &str) -> Result<Place, AsmCode>
-    ensures writes { IfOk result (λ place. WritesPlace word.now place.base place.offset) }
-    ensures exact { (base : ℕ) (offset : ℤ) → WritesPlace word.now base offset → result ≡ Ok (record { base = base; offset = offset }) }
+    ensures writes { IfOk result (WritesPlace word.now) }
+    ensures exact { (place : Place) → WritesPlace word.now place → result ≡ Ok place }
 {
     Ok(read_place(word)?)
 }
@@ -173,50 +173,37 @@ fn byte_swap(swap: Swap, bits: SwapBits, operands: &[&str]) -> Result<Insn, AsmC
 
 fn load(size: LoadSize, operands: &[&str]) -> Result<Insn, AsmCode>
     ensures writes { (names : List ℕ → Option ℕ) (slot : ℕ) → IfOk result (WritesInsn (λ operand. operand.now) names slot (mnemonic_word (Mnemonic.Loading size)) operands.now) }
-    ensures exact { (dst base : ℕ) (offset : ℤ) → Two (λ operand. operand.now) operands.now (λ a. WritesRegister a dst) (λ b. WritesPlace b base offset) → result ≡ Ok (Insn.Load size dst base offset) }
+    ensures exact { (dst : ℕ) (place : Place) → Two (λ operand. operand.now) operands.now (λ a. WritesRegister a dst) (λ b. WritesPlace b place) → result ≡ Ok (Insn.Load size dst place) }
 {
     let [dst, place] = operands else {
         return Err(AsmCode::BadOperand);
     };
     let (dst, place) = both(reg(dst), memory(place))?;
-    Ok(Insn::Load {
-        size,
-        dst,
-        base: place.base,
-        offset: place.offset,
-    })
+    Ok(Insn::Load { size, dst, place })
 }
 
 fn store(size: Size, operands: &[&str]) -> Result<Insn, AsmCode>
     ensures writes { (names : List ℕ → Option ℕ) (slot : ℕ) → IfOk result (WritesInsn (λ operand. operand.now) names slot (mnemonic_word (Mnemonic.Storing size)) operands.now) }
-    ensures exact { (base : ℕ) (offset value : ℤ) → Two (λ operand. operand.now) operands.now (λ a. WritesPlace a base offset) (λ b. WritesNumber b value) → result ≡ Ok (Insn.Store size base offset (Operand.Immediate value)) }
+    ensures exact { (place : Place) (value : ℤ) → Two (λ operand. operand.now) operands.now (λ a. WritesPlace a place) (λ b. WritesNumber b value) → result ≡ Ok (Insn.Store size place (Operand.Immediate value)) }
 {
     let [place, src] = operands else {
         return Err(AsmCode::BadOperand);
     };
     let (place, src) = both(memory(place), immediate(src))?;
-    Ok(Insn::Store {
-        size,
-        base: place.base,
-        offset: place.offset,
-        src: Operand::Immediate(src),
-    })
+    let src = Operand::Immediate(src);
+    Ok(Insn::Store { size, place, src })
 }
 
 fn store_register(size: Size, operands: &[&str]) -> Result<Insn, AsmCode>
     ensures writes { (names : List ℕ → Option ℕ) (slot : ℕ) → IfOk result (WritesInsn (λ operand. operand.now) names slot (mnemonic_word (Mnemonic.StoringRegister size)) operands.now) }
-    ensures exact { (base src : ℕ) (offset : ℤ) → Two (λ operand. operand.now) operands.now (λ a. WritesPlace a base offset) (λ b. WritesRegister b src) → result ≡ Ok (Insn.Store size base offset (Operand.FromRegister src)) }
+    ensures exact { (place : Place) (src : ℕ) → Two (λ operand. operand.now) operands.now (λ a. WritesPlace a place) (λ b. WritesRegister b src) → result ≡ Ok (Insn.Store size place (Operand.FromRegister src)) }
 {
     let [place, src] = operands else {
         return Err(AsmCode::BadOperand);
     };
     let (place, src) = both(memory(place), reg(src))?;
-    Ok(Insn::Store {
-        size,
-        base: place.base,
-        offset: place.offset,
-        src: Operand::FromRegister(src),
-    })
+    let src = Operand::FromRegister(src);
+    Ok(Insn::Store { size, place, src })
 }
 
 fn jump(
@@ -227,20 +214,20 @@ fn jump(
     slot: u32,
 ) -> Result<Insn, AsmCode>
     ensures writes { IfOk result (WritesInsn (λ operand. operand.now) (slot_named names.now) slot (mnemonic_word (Mnemonic.Jumping condition width)) operands.now) }
-    ensures exact { (dst : ℕ) (src : Operand) (offset : ℤ) → Three (λ operand. operand.now) operands.now (λ a. WritesRegister a dst) (λ b. WritesOperand b src) (λ c. WritesTarget (slot_named names.now) slot c offset × FitsSigned w16 offset) → result ≡ Ok (Insn.Jump condition width dst src offset) }
+    ensures exact { (dst : ℕ) (src : Operand) (offset : ℤ) → Three (λ operand. operand.now) operands.now (λ a. WritesRegister a dst) (λ b. WritesOperand b src) (λ c. WritesTarget (slot_named names.now) slot c offset × FitsSigned w16 offset) → result ≡ Ok (Insn.Jump (record { condition = condition; width = width; dst = dst; src = src }) offset) }
 {
     let [dst, src, target] = operands else {
         return Err(AsmCode::BadOperand);
     };
     let target = read_short_target(target, names, slot);
     let ((dst, src), offset) = both(both(reg(dst), source(src)), target)?;
-    Ok(Insn::Jump {
+    let comparison = Comparison {
         condition,
         width,
         dst,
         src,
-        offset,
-    })
+    };
+    Ok(Insn::Jump { comparison, offset })
 }
 
 fn short_goto(operands: &[&str], names: &Names, slot: u32) -> Result<Insn, AsmCode>

@@ -15,6 +15,6 @@ mod statements;
 pub use mnemonics::{Mnemonic, mnemonic_laws, read_mnemonic};
 pub use names::is_name;
 pub use numbers::{NumberFault, distance, number, wide_number};
-pub use places::{Place, read_place};
+pub use places::read_place;
 pub use registers::register;
 pub use statements::{Statement, first_word, label, read_statement};

@@ -52,10 +52,10 @@ permitted_more transitive sizes old new slot a (Alu op width dst src) grown h = 
 permitted_more transitive sizes old new slot a (Negate width dst) grown h = proceeds_more transitive old new slot a (Negate width dst) grown h
 permitted_more transitive sizes old new slot a (MoveSigned extension dst src) grown h = proceeds_more transitive old new slot a (MoveSigned extension dst src) grown h
 permitted_more transitive sizes old new slot a (ByteSwap swap bits dst) grown h = proceeds_more transitive old new slot a (ByteSwap swap bits dst) grown h
-permitted_more transitive sizes old new slot a (Load size dst base offset) grown h = proceeds_more transitive old new slot a (Load size dst base offset) grown h
-permitted_more transitive sizes old new slot a (Store size base offset src) grown h = proceeds_more transitive old new slot a (Store size base offset src) grown h
-permitted_more transitive sizes old new slot a (Jump condition width dst src offset) grown h =
-    edges_covered_more transitive (refined_edges a condition width dst src) (known_at old (target slot offset)) (known_at new (target slot offset)) (old (slot + 1)) (new (slot + 1)) h (known_covered old new grown (target slot offset)) (grown (slot + 1))
+permitted_more transitive sizes old new slot a (Load size dst place) grown h = proceeds_more transitive old new slot a (Load size dst place) grown h
+permitted_more transitive sizes old new slot a (Store size place src) grown h = proceeds_more transitive old new slot a (Store size place src) grown h
+permitted_more transitive sizes old new slot a (Jump comparison offset) grown h =
+    edges_covered_more transitive (refined_edges a comparison.condition comparison.width comparison.dst comparison.src) (known_at old (target slot offset)) (known_at new (target slot offset)) (old (slot + 1)) (new (slot + 1)) h (known_covered old new grown (target slot offset)) (grown (slot + 1))
 permitted_more transitive sizes old new slot a (Goto distance) grown h =
     covered_more transitive a (known_at old (target slot (distance_of distance))) (known_at new (target slot (distance_of distance))) h (known_covered old new grown (target slot (distance_of distance)))
 permitted_more transitive sizes old new slot a (Wide dst value) grown h = proceeds_more transitive old new slot a (Wide dst value) grown h

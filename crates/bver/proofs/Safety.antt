@@ -139,10 +139,10 @@ continues_at laws p sizes table header n s a (Alu op width dst src) good at fits
 continues_at laws p sizes table header n s a (Negate width dst) good at fits allowed no_loops is_insn h = proceeds laws p table header n s a (Negate width dst) good at fits allowed.leaves_frame h
 continues_at laws p sizes table header n s a (MoveSigned extension dst src) good at fits allowed no_loops is_insn h = proceeds laws p table header n s a (MoveSigned extension dst src) good at fits allowed.leaves_frame h
 continues_at laws p sizes table header n s a (ByteSwap swap bits dst) good at fits allowed no_loops is_insn h = proceeds laws p table header n s a (ByteSwap swap bits dst) good at fits allowed.leaves_frame h
-continues_at laws p sizes table header n s a (Load size dst base offset) good at fits allowed no_loops is_insn h = proceeds laws p table header n s a (Load size dst base offset) good at fits allowed.leaves_frame h
-continues_at laws p sizes table header n s a (Store size base offset src) good at fits allowed no_loops is_insn h = proceeds laws p table header n s a (Store size base offset src) good at fits tt h
-continues_at laws p sizes table header n s a (Jump condition width dst src offset) good at fits allowed no_loops is_insn h =
-    compares_on laws.below p table n s (Jump condition width dst src offset) offset _ _ at (leads_forward p s.slot offset no_loops allowed.jump) (laws.refine header s a condition width dst src offset fits) h
+continues_at laws p sizes table header n s a (Load size dst place) good at fits allowed no_loops is_insn h = proceeds laws p table header n s a (Load size dst place) good at fits allowed.leaves_frame h
+continues_at laws p sizes table header n s a (Store size place src) good at fits allowed no_loops is_insn h = proceeds laws p table header n s a (Store size place src) good at fits tt h
+continues_at laws p sizes table header n s a (Jump comparison offset) good at fits allowed no_loops is_insn h =
+    compares_on laws.below p table n s (Jump comparison offset) offset _ _ at (leads_forward p s.slot offset no_loops allowed.jump) (laws.refine header s a comparison offset fits) h
 continues_at laws p sizes table header n s a (Goto (Short offset)) good at fits allowed no_loops is_insn h =
     lands_on laws.below p table n s (Goto (Short offset)) (target s.slot offset) a at (leads_forward p s.slot offset no_loops allowed.jump) fits h
 continues_at laws p sizes table header n s a (Goto (Long immediate)) good at fits allowed no_loops is_insn h =
@@ -193,9 +193,9 @@ finds sizes table s a (Some (Alu op width dst src)) h = refl
 finds sizes table s a (Some (Negate width dst)) h = refl
 finds sizes table s a (Some (MoveSigned extension dst src)) h = refl
 finds sizes table s a (Some (ByteSwap swap bits dst)) h = refl
-finds sizes table s a (Some (Load size dst base offset)) h = refl
-finds sizes table s a (Some (Store size base offset src)) h = refl
-finds sizes table s a (Some (Jump condition width dst src offset)) h = refl
+finds sizes table s a (Some (Load size dst place)) h = refl
+finds sizes table s a (Some (Store size place src)) h = refl
+finds sizes table s a (Some (Jump comparison offset)) h = refl
 finds sizes table s a (Some (Goto distance)) h = refl
 finds sizes table s a (Some (Wide dst value)) h = refl
 finds sizes table s a (Some (LoadMap dst index)) h = h.0

@@ -64,10 +64,10 @@ IsPermitted sizes table slot a (Alu op width dst src) = Proceeds table slot a (A
 IsPermitted sizes table slot a (Negate width dst) = Proceeds table slot a (Negate width dst)
 IsPermitted sizes table slot a (MoveSigned extension dst src) = Proceeds table slot a (MoveSigned extension dst src)
 IsPermitted sizes table slot a (ByteSwap swap bits dst) = Proceeds table slot a (ByteSwap swap bits dst)
-IsPermitted sizes table slot a (Load size dst base offset) = Proceeds table slot a (Load size dst base offset)
-IsPermitted sizes table slot a (Store size base offset src) = Proceeds table slot a (Store size base offset src)
-IsPermitted sizes table slot a (Jump condition width dst src offset) =
-    AreEdgesCovered (refined_edges a condition width dst src) (known_at table (target slot offset)) (table (slot + 1))
+IsPermitted sizes table slot a (Load size dst place) = Proceeds table slot a (Load size dst place)
+IsPermitted sizes table slot a (Store size place src) = Proceeds table slot a (Store size place src)
+IsPermitted sizes table slot a (Jump comparison offset) =
+    AreEdgesCovered (refined_edges a comparison.condition comparison.width comparison.dst comparison.src) (known_at table (target slot offset)) (table (slot + 1))
 IsPermitted sizes table slot a (Goto distance) = IsCovered a (known_at table (target slot (distance_of distance)))
 IsPermitted sizes table slot a (Wide dst value) = Proceeds table slot a (Wide dst value)
 IsPermitted sizes table slot a (LoadMap dst index) =
@@ -112,13 +112,13 @@ pointed (Map index) = None
 
 -- the region that an instruction accesses
 abbrev pub accessed : StateValue → Insn → Option Region
-accessed a (Load size dst base offset) = pointed (kind_at a base)
-accessed a (Store size base offset src) = pointed (kind_at a base)
+accessed a (Load size dst place) = pointed (kind_at a place.base)
+accessed a (Store size place src) = pointed (kind_at a place.base)
 accessed a (Alu op width dst src) = None
 accessed a (Negate width dst) = None
 accessed a (MoveSigned extension dst src) = None
 accessed a (ByteSwap swap bits dst) = None
-accessed a (Jump condition width dst src offset) = None
+accessed a (Jump comparison offset) = None
 accessed a (Goto distance) = None
 accessed a (Wide dst value) = None
 accessed a (LoadMap dst index) = None

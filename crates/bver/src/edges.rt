@@ -14,7 +14,7 @@ ghost use Rattle.bver.specs.Visit.{IsExtended, IsLater, HasNext, known_in};
 use crate::table::Table;
 use absdom::{AbsKind, Cause, Edges, Operands, Region, State, order_of_states, refine};
 use bpf::Image;
-use bpf_insn::{Condition, Distance, Insn, Operand, Register, Width};
+use bpf_insn::{Comparison, Condition, Distance, Insn, Operand, Register, Width};
 use bver_form::{Refusal, landing};
 use machine::MapSizes;
 
@@ -175,7 +175,7 @@ fn straight(
 {
     order_of_states();
     state.apply(insn).map_err(refusal_of)?;
-    let next = slot + insn.slots() as u16;
+    let next = slot + insn.slots();
     table.follow(next, state);
     Ok(())
 }
@@ -220,7 +220,7 @@ pub(crate) fn accessed(state: &State, insn: &Insn) -> Option<Region>
     ensures { result ≡ accessed state.now insn.now }
 {
     match insn {
-        Insn::Load { base, .. } | Insn::Store { base, .. } => pointed(&state.kind(*base)),
+        Insn::Load { place, .. } | Insn::Store { place, .. } => pointed(&state.kind(place.base)),
         _ => None,
     }
 }
@@ -260,13 +260,13 @@ pub(crate) fn flow(
             check_map(sizes, *index)?;
             straight(table, image, slot, state, insn)
         }
-        Insn::Jump {
-            condition,
-            width,
-            dst,
-            src,
-            offset,
-        } => {
+        Insn::Jump { comparison, offset } => {
+            let Comparison {
+                condition,
+                width,
+                dst,
+                src,
+            } = comparison;
             compare(
                 table, image, slot, state, *condition, *width, *dst, src, *offset,
             )

@@ -25,7 +25,8 @@ holds l slot = nat_le l.head slot && nat_le slot l.back
 
 -- what ends the loop: to its head, if its register is not zero (`jne r, 0`, all 64 bits)
 abbrev pub back_jump : Loop → Insn
-back_jump l = Jump NotEqual Bits64 l.register (Immediate (pos 0)) (negsuc (l.back - l.head))
+back_jump l =
+    Jump (record { condition = NotEqual; width = Bits64; dst = l.register; src = Immediate (pos 0) }) (negsuc (l.back - l.head))
 
 -- what counts: one is taken from its register (`add r, -1`, all 64 bits)
 abbrev pub step_down : Loop → Insn

@@ -10,7 +10,7 @@ ghost use Rattle.bver_form.specs.Loops.{EntersAtHead, IsAmongOthers, IsBackJump,
 use crate::jumps::{jump_distance, target};
 use crate::refusal::{Refusal, Refused};
 use bpf::{Image, Loop};
-use bpf_insn::{AluOp, Condition, Insn, Operand, Width};
+use bpf_insn::{AluOp, Comparison, Condition, Insn, Operand, Width};
 
 /// Whether the loop holds the slot.
 fn holds(declared: &Loop, slot: u16) -> bool
@@ -26,10 +26,12 @@ fn back_jump(declared: &Loop) -> Insn
 {
     let len = (declared.back - declared.head).cast_signed();
     Insn::Jump {
-        condition: Condition::NotEqual,
-        width: Width::Bits64,
-        dst: declared.register,
-        src: Operand::Immediate(0),
+        comparison: Comparison {
+            condition: Condition::NotEqual,
+            width: Width::Bits64,
+            dst: declared.register,
+            src: Operand::Immediate(0),
+        },
         offset: -1 - len,
     }
 }

@@ -313,9 +313,9 @@ module _ (header : Header) (s : State) (is_header : IsHeader header) (bounded : 
   perform_fits (insns.Negate width dst) i = writes_fit _ dst _ (on_number_fits (negated width) (negated_fits width) (s.registers dst) (bounded.registers dst))
   perform_fits (insns.MoveSigned extension dst src) i = writes_fit _ dst _ (on_number_fits (extended extension) (extended_fits extension) (s.registers src) (bounded.registers src))
   perform_fits (insns.ByteSwap swap bits dst) i = writes_fit _ dst _ (on_number_fits (swapped swap bits) (swapped_fits swap bits) (s.registers dst) (bounded.registers dst))
-  perform_fits (insns.Load size dst base offset) i = writes_fit _ dst _ (loads_fit size (s.registers base) offset)
-  perform_fits (insns.Store size base offset src) i = stores_fit size (s.registers base) offset (operand s src)
-  perform_fits (insns.Jump condition width dst src offset) i = compares_fit condition width offset (s.registers dst) (operand s src)
+  perform_fits (insns.Load size dst place) i = writes_fit _ dst _ (loads_fit size (s.registers place.base) place.offset)
+  perform_fits (insns.Store size place src) i = stores_fit size (s.registers place.base) place.offset (operand s src)
+  perform_fits (insns.Jump comparison offset) i = compares_fit comparison.condition comparison.width offset (s.registers comparison.dst) (operand s comparison.src)
   perform_fits (insns.Goto distance) i = lands_fit _
   perform_fits (insns.Wide dst value) i = writes_fit (s.slot + 2) dst (Some (Num value)) i.1
   perform_fits (insns.LoadMap dst index) i = writes_fit _ dst _ (map_at_fits index)

@@ -238,9 +238,9 @@ module _ (limit : ℕ) (s : State) (all : AreAllNear limit s.registers) where
   perform_near header (insns.Negate width dst) = writes_near _ dst _ (on_number_near _ (s.registers dst))
   perform_near header (insns.MoveSigned extension dst src) = writes_near _ dst _ (on_number_near _ (s.registers src))
   perform_near header (insns.ByteSwap swap bits dst) = writes_near _ dst _ (on_number_near _ (s.registers dst))
-  perform_near header (insns.Load size dst base offset) = writes_near _ dst _ (loads_near header size (s.registers base) offset)
-  perform_near header (insns.Store size base offset src) = stores_near size (s.registers base) offset (operand s src)
-  perform_near header (insns.Jump condition width dst src offset) = compares_near condition width offset (s.registers dst) (operand s src)
+  perform_near header (insns.Load size dst place) = writes_near _ dst _ (loads_near header size (s.registers place.base) place.offset)
+  perform_near header (insns.Store size place src) = stores_near size (s.registers place.base) place.offset (operand s src)
+  perform_near header (insns.Jump comparison offset) = compares_near comparison.condition comparison.width offset (s.registers comparison.dst) (operand s comparison.src)
   perform_near header (insns.Goto distance) = lands_near _
   perform_near header (insns.Wide dst value) = writes_near (s.slot + 2) dst (Some (Num value)) tt
   perform_near header (insns.LoadMap dst index) = writes_near _ dst _ (map_at_near index)

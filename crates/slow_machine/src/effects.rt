@@ -10,7 +10,8 @@ ghost use Rattle.machine.specs.Step.{operand, writes, lands, jumps, compares, lo
 use crate::arithmetic::{alu, byte_swap, move_signed, negate, number};
 use crate::memory::{Memory, place_of, read};
 use bpf_insn::{
-    AluOp, Callee, Condition, Insn, LoadSize, Operand, Register, Size, Swap, SwapBits, Width,
+    AluOp, Callee, Comparison, Condition, Insn, LoadSize, Operand, Register, Size, Swap, SwapBits,
+    Width,
 };
 use machine::{
     MapSizes, Region, Value, distance_of, holds_words, load_bytes, loaded, size_bytes, word,
@@ -320,25 +321,17 @@ pub fn perform(frame: Frame<'_>, sizes: &MapSizes, insn: &Insn) -> Effect
             src,
         } => write(frame, dst, move_signed(extension, value_of(frame, src)), 1),
         Insn::ByteSwap { swap, bits, dst } => reorder(frame, swap, bits, dst),
-        Insn::Load {
-            size,
-            dst,
-            base,
-            offset,
-        } => load_into(frame, size, dst, base, offset),
-        Insn::Store {
-            size,
-            base,
-            offset,
-            src,
-        } => store(frame, size, base, offset, &src),
-        Insn::Jump {
-            condition,
-            width,
-            dst,
-            src,
-            offset,
-        } => compare(frame, condition, width, dst, &src, offset),
+        Insn::Load { size, dst, place } => load_into(frame, size, dst, place.base, place.offset),
+        Insn::Store { size, place, src } => store(frame, size, place.base, place.offset, &src),
+        Insn::Jump { comparison, offset } => {
+            let Comparison {
+                condition,
+                width,
+                dst,
+                src,
+            } = comparison;
+            compare(frame, condition, width, dst, &src, offset)
+        }
         Insn::Goto { distance } => jump(frame, distance_of(distance)),
         Insn::Wide { dst, value } => write(frame, dst, Some(Value::Num(value)), 2),
         Insn::LoadMap { dst, index } => write(frame, dst, map_at(sizes, index), 2),

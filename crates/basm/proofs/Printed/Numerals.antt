@@ -9,6 +9,7 @@ use Rattle.std.proofs.lemmas.Bool.{cond_both, eqb-false}
 use Rattle.std.proofs.Math.ListN.{length-replicate}
 use Rattle.std.proofs.lemmas.Fmt.{decimal_is_IsNumeral, digits_is_IsNumeral}
 use Rattle.std.proofs.Math.Nat.{pow-suc}
+use Rattle.bpf_insn.specs.declared.memory.Place.{Place}
 use Rattle.bpf_insn.specs.Text.{bits_text, place_text, signed_text}
 use Rattle.basm_lex.specs.Numbers.{WritesDecimal, WritesDistance, WritesMagnitude, WritesNumber, WritesWide}
 use Rattle.basm_lex.specs.Places.{WritesPlace}
@@ -51,9 +52,9 @@ short_distance_writes (negsuc n) fits = let wide : FitsSigned w32 (negsuc n) = o
 
 -- ---- places
 
-pub place_writes : (base : ℕ) (offset : ℤ) → base ≤ 10 → FitsSigned w16 offset → WritesPlace (place_text base offset) base offset
-place_writes base offset small fits =
-    record { distance = signed_text offset; is_base = small; word_is = refl; writes = short_distance_writes offset fits; fits = fits }
+pub place_writes : (place : Place) → place.base ≤ 10 → FitsSigned w16 place.offset → WritesPlace (place_text place) place
+place_writes place small fits =
+    record { distance = signed_text place.offset; is_base = small; word_is = refl; writes = short_distance_writes place.offset fits; fits = fits }
 
 -- ---- bits
 

@@ -7,6 +7,7 @@ use Rattle.std.proofs.lemmas.Fmt.{decimal_is_IsNumeral}
 use Rattle.bpf_insn.specs.declared.operation.Operand.{Operand}
 use Rattle.bpf_insn.specs.declared.operation.Operand.TheVariants.{FromRegister, Immediate}
 use Rattle.bpf_insn.specs.Spelling.{IsOperand}
+use Rattle.bpf_insn.specs.declared.memory.Place.{Place}
 use Rattle.bpf_insn.specs.Text.{bits_text, operand_text, place_text, register_text, signed_text}
 use Rattle.basm.proofs.Printed.Numerals.{padded, padded_numeral}
 use Rattle.basm.proofs.Printed.Plain.{IsWord, plain_before, plain_word, word_append, word_numeral}
@@ -37,9 +38,9 @@ pub bits_word : (value : ℕ) → value < 2 ^ 64 → IsWord (bits_text value)
 bits_word value small =
     plain_before (codes "0x") (padded value) refl (word_numeral 16 (lit≤ tt) (padded value) (padded_numeral value small))
 
-pub place_word : (base : ℕ) (offset : ℤ) → base ≤ 10 → FitsSigned w16 offset → IsWord (place_text base offset)
-place_word base offset small fits =
-    let front = word_append (register_text base) (signed_text offset) (register_word base small)
-    (plain_word (signed_text offset) (short_distance_word offset fits)) in
-    plain_before (codes "[") ((register_text base ++ signed_text offset) ++ codes "]") refl
-    (word_append (register_text base ++ signed_text offset) (codes "]") front refl)
+pub place_word : (place : Place) → place.base ≤ 10 → FitsSigned w16 place.offset → IsWord (place_text place)
+place_word place small fits =
+    let base = register_text place.base in
+    let offset = signed_text place.offset in
+    let front = word_append base offset (register_word place.base small) (plain_word offset (short_distance_word place.offset fits)) in
+    plain_before (codes "[") ((base ++ offset) ++ codes "]") refl (word_append (base ++ offset) (codes "]") front refl)
