@@ -1,7 +1,7 @@
 -- The first fault of a program's form: a program that has one has not its form, and has no other.
-use Rattle.std.proofs.Common.{◌≡◌, ◌≢◌, ◌⊎◌, inl, inr, ℕ, ◌<◌, ◌≤◌, ℤ, pos, negsuc, Bool, true, false, Option, Some, None, length, refl, sym, subst, ap, ◌∙◌, arith}
-use Rattle.std.specs.Prelude.{All, IfSome, is_some, nat_lt, ◌||◌, ◌==◌, if◌then◌else◌, slice_index_or}
-use Rattle.std.proofs.lemmas.Bool.{cases_lt, eqb-true, or_left, or_right, lt-ltb, true≢false}
+use Rattle.std.proofs.Common.{◌≡◌, ◌≢◌, ◌⊎◌, inl, inr, ℕ, ◌<◌, ℤ, pos, negsuc, true, Option, Some, None, refl, sym, subst, ap, ◌∙◌, arith}
+use Rattle.std.specs.Prelude.{All, IfSome, nat_lt, ◌||◌, if◌then◌else◌, slice_index_or}
+use Rattle.std.proofs.lemmas.Bool.{cases_lt, or_left, or_right, lt-ltb}
 use Rattle.bpf.specs.declared.loops.Loop.{Loop}
 use Rattle.bpf.specs.Program.{Program}
 use Rattle.bpf_insn.specs.Flow.{flow_of, written_register}
@@ -9,12 +9,12 @@ use Rattle.bpf_insn.specs.declared.flow.Flow.{Flow}
 use Rattle.bpf_insn.specs.declared.flow.Flow.TheVariants.{GoesOn, Branches, Jumps, Calls, Ends, Unsupported}
 use Rattle.bpf_insn.specs.declared.insn.Insn.{Insn}
 use Rattle.bver_form.specs.declared.refusal.Refusal.{Refusal}
-use Rattle.bver_form.specs.declared.refusal.Refusal.TheVariants.{BackJump, FrameWrite}
+use Rattle.bver_form.specs.declared.refusal.Refusal.TheVariants.{FrameWrite}
 use Rattle.bver_form.specs.declared.refusal.Refused.{Refused}
 use Rattle.bver_form.specs.Support.{IsSupportedFlow, support_fault, frame_fault}
 use Rattle.bver_form.specs.Jumps.{IsAfter, IsBackToHead, IsFirstSlot, IsJump, first_slot, is_loop_back, jump_distance, slot_at, target}
 use Rattle.bver_form.specs.Loops.{IsLoopFormed}
-use Rattle.bver_form.specs.Form.{AreAllowed, IsAllowed, IsAllowedAt, IsBudgetFault, IsEndFault, IsEnded, IsFaultAt, IsFormed, IsFormFault, of_insn, of_end, of_loop, of_weight, IsInsnFault, IsLoopFault, first_of, insn_fault, jump_fault, landing_fault}
+use Rattle.bver_form.specs.Form.{AreAllowed, IsAllowed, IsAllowedAt, IsFaultAt, of_insn, of_end, of_loop, of_weight, IsInsnFault, IsLoopFault, first_of, insn_fault, jump_fault, landing_fault}
 use Rattle.bver_form.specs.Laws.{FaultRefutesForm, FirstFaultIsOne}
 use Rattle.bver_form.proofs.Left.{by_eq}
 

@@ -27,6 +27,7 @@ EachStepTakesOne = (p : Program) (slot next : ℕ) (values after : ℕ → ℕ) 
 abbrev pub OneIsLeft : Type 0
 OneIsLeft = (p : Program) (slot : ℕ) (values : ℕ → ℕ) → IsProgram p → IsFormed p → IsSome (insn_at p slot) → 1 ≤ left_at p values slot
 
--- into a loop a run comes at its head alone, and to its back from the slot before
+-- into a loop a run comes at its head alone, and to its back from the slot before. An instruction of two slots cannot
+-- step over the head, since the back jump leads there, and so an instruction begins there
 abbrev pub LoopsAreEntered : Type 0
 LoopsAreEntered = (p : Program) (slot next : ℕ) → IsProgram p → IsFormed p → IsEdge p slot next → IsSome (insn_at p next) → All (λ l. ComesIn l slot next) p.loops
