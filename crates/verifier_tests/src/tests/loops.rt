@@ -93,9 +93,15 @@ fn weights_of_loops(rt: HostRuntime) -> Result<(), Fail> {
         let name = row.part()?;
         let program = row.part()?;
         let weight = row.part()?.parse::<u32>()?;
-        assert!(rt; check(&image_of_text(alloc, program, weight)?).is_ok(), "{name}");
+        assert!(rt;
+            check(&image_of_text(alloc, program, weight)?).is_ok(),
+            "{name}"
+        );
         let heavy = image_of_text(alloc, program, weight - 1)?;
-        assert!(rt; check(&heavy).is_err_and(|refused| refused.code.code() == 15), "{name}");
+        assert!(rt;
+            check(&heavy).is_err_and(|refused| refused.code.code() == 15),
+            "{name}"
+        );
     }
     Ok(())
 }
