@@ -258,7 +258,7 @@ pub call_grows : CallGrows
 call_grows a b p q below =
     let e = same_size a b p q in
     let lengths : (f g : List AbsKind) (r : ℕ) (k : AbsKind) → length f ≡ length g → length (set f r k) ≡ length (set g r k)
-      = λ f g r k same. length-set f r k ∙ same ∙ sym (length-set g r k)
+    = λ f g r k same. length-set f r k ∙ same ∙ sym (length-set g r k)
     in
     let whole_kind = Num (whole Bits64) in
     let a0 = with_kind a 0 whole_kind in

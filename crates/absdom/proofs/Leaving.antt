@@ -1,5 +1,5 @@
 -- What an instruction leaves, and that a comparison only refines.
-use Rattle.std.proofs.Common.{◌≡◌, ◌≢◌, ℕ, ◌≤◌, Bool, true, false, ◌==◌, if◌then◌else◌, ℤ, refl, sym, ◌∙◌, ap, arith, Option, Some, None, Result, Ok, Err, List, length, length-set, get_or-set_other}
+use Rattle.std.proofs.Common.{◌≡◌, ◌≢◌, ℕ, ◌≤◌, true, false, ◌==◌, if◌then◌else◌, ℤ, refl, ◌∙◌, ap, arith, Option, Some, None, Result, Ok, Err, List, length, length-set, get_or-set_other}
 use Rattle.std.specs.Prelude.{◌||◌, IfSome, IfOk}
 use Rattle.std.proofs.lemmas.Bool.Decides.{nat_tests}
 use Rattle.bpf_insn.specs.Flow.{is_written}
@@ -18,18 +18,18 @@ use Rattle.absdom_num.specs.declared.ranges.Range.{Range}
 use Rattle.absdom_num.specs.declared.refinement.Operands.{Operands}
 use Rattle.absdom_num.specs.Ranges.{IsWithin}
 use Rattle.absdom_num.specs.Tables.{whole}
-use Rattle.absdom_num.specs.Refinement.{refined, unrefined as same_ranges}
+use Rattle.absdom_num.specs.Refinement.{refined}
 use Rattle.absdom_num.specs.Laws.{IsBelow as AreRangesBelow, RefineShrinks as RangesShrink}
 use Rattle.absdom.specs.declared.cause.Cause.{Cause}
 use Rattle.absdom.specs.declared.kinds.AbsKind.{AbsKind}
 use Rattle.absdom.specs.declared.kinds.AbsKind.TheVariants.{Unset, Num, Ptr, Map}
 use Rattle.absdom.specs.Kinds.{number_of, IsKindBelow}
 use Rattle.absdom.specs.State.{StateValue, IsBelow, kind_at, with_kind, after_call}
-use Rattle.absdom.specs.Marks.{mark_at, marked}
-use Rattle.absdom.specs.Effect.{wrote, wrote_at, wrote_to, stored, written, applied}
-use Rattle.absdom.specs.Edges.{Edges, compared, with_source, on_edge, on_edges, unrefined, is_itself, edges_of, compared_edges}
+use Rattle.absdom.specs.Marks.{marked}
+use Rattle.absdom.specs.Effect.{wrote, wrote_at, wrote_to, stored, written}
+use Rattle.absdom.specs.Edges.{compared, with_source, on_edge, on_edges, unrefined, is_itself, edges_of, compared_edges}
 use Rattle.absdom.specs.Laws.{IsLeftBy, ApplyLeaves, CallLeaves, AreEdgesBelow, RefineShrinks}
-use Rattle.absdom.proofs.Order.{below_is_reflexive, kind_below-refl}
+use Rattle.absdom.proofs.Order.{below_is_reflexive}
 use Rattle.absdom.proofs.Narrowing.{write_same}
 use Rattle.absdom.proofs.GrowState.{with_kind_grows, mark_stays}
 
@@ -142,7 +142,7 @@ with_kind_below : (b a : StateValue) (register : ℕ) (kind : AbsKind) → lengt
 with_kind_below b a register kind e h below =
     let grown = with_kind_grows b a register kind (kind_at a register) e h below in
     let back : with_kind a register (kind_at a register) ≡ a =
-      ap (λ (kinds : List AbsKind). let c : StateValue = record { kinds = kinds; marks = a.marks } in c) (write_same a.kinds register (kind_at a register) refl)
+    ap (λ (kinds : List AbsKind). let c : StateValue = record { kinds = kinds; marks = a.marks } in c) (write_same a.kinds register (kind_at a register) refl)
     in
     rw back at grown
 

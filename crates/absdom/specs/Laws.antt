@@ -1,5 +1,5 @@
 -- What holds of the states of the verifier.
-use Rattle.std.specs.Prelude.{◌≡◌, ℕ, ◌+◌, ◌<◌, ◌^◌, ℤ, Bool, true, false, Option, Some, None, Result, Ok, Err, IfSome, IfOk}
+use Rattle.std.specs.Prelude.{◌≡◌, ℕ, ◌+◌, ◌<◌, ◌^◌, ℤ, true, false, Option, Some, None, Result, Ok, Err, IfSome, IfOk}
 use Rattle.bpf_insn.specs.declared.operation.Comparison.{Comparison}
 use Rattle.bpf_insn.specs.declared.operation.Width.{Width}
 use Rattle.bpf_insn.specs.declared.operation.Condition.{Condition}
@@ -99,7 +99,8 @@ RefineGrows =
 
 -- and a helper's call
 abbrev pub CallGrows : Type 0
-CallGrows = (a b : StateValue) → IsWhole a → IsWhole b → IsBelow a b → IsBelow (after_call a) (after_call b)
+CallGrows =
+    (a b : StateValue) → IsWhole a → IsWhole b → IsBelow a b → IsBelow (after_call a) (after_call b)
 
 -- and a join
 abbrev pub JoinGrows : Type 0
@@ -108,10 +109,10 @@ JoinGrows =
 
 -- ---- what an instruction leaves
 
--- what is known after an instruction: of the registers that it does not write what was known, each mark that
--- was made, and, where it is no store, no other
+-- an instruction leaves what is known of the registers that it does not write, and each mark; one that is no
+-- store makes none
 pub record IsLeftBy (insn : Insn) (before after : StateValue) : Type 0 where
-  pub kinds : (register : ℕ) → is_written insn register ≡ false → kind_at after register ≡ kind_at before register
+  pub kinds : (k : ℕ) → is_written insn k ≡ false → kind_at after k ≡ kind_at before k
   pub marks : (place : ℕ) → mark_at before.marks place ≡ true → mark_at after.marks place ≡ true
   pub unstored : is_store insn ≡ false → after.marks ≡ before.marks
 
@@ -121,7 +122,8 @@ ApplyLeaves = (a : StateValue) (insn : Insn) → IfOk (applied a insn) (IsLeftBy
 
 -- and so does a helper's call
 abbrev pub CallLeaves : Type 0
-CallLeaves = (a : StateValue) (callee : Callee) (number : ℤ) → IsLeftBy (Call callee number) a (after_call a)
+CallLeaves =
+    (a : StateValue) (callee : Callee) (number : ℤ) → IsLeftBy (Call callee number) a (after_call a)
 
 -- what is known on each edge that is followed says all that was known before
 pub record AreEdgesBelow (edges : Edges) (a : StateValue) : Type 0 where

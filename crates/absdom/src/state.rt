@@ -9,12 +9,9 @@ use crate::kinds::AbsKind;
 use crate::marks::Marks;
 use crate::offsets::Offsets;
 use absdom_num::Range;
-use bpf_insn::Register;
+use bpf_insn::{REGISTERS, Register};
 use machine::Region;
 use std::marker::Model;
-
-/// How many registers the machine has: r0 to r10.
-const REGISTERS: usize = 11;
 
 /// What is known at a slot: the kind of each register, and which bytes of the stack are set.
 #[derive(Clone, Copy, Debug)]

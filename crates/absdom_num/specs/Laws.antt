@@ -97,7 +97,8 @@ RefineGrows =
 -- refinement only shrinks: no edge leads to ranges but those inside the operands'
 abbrev pub RefineShrinks : Type 0
 RefineShrinks =
-    (condition : Condition) (width : Width) (a b : Range) → AreBelow (refined condition width a b) (unrefined a b)
+    (condition : Condition) (width : Width) (a b : Range)
+    → AreBelow (refined condition width a b) (unrefined a b)
 
 -- containment is an order
 abbrev pub IsOrder : Type 0

@@ -98,7 +98,8 @@ reach LessEqual width = modulus width
 
 -- both edges with the ranges as they were
 abbrev pub unrefined : Range → Range → Edges
-unrefined a b = record { taken = Some (record { dst = a; src = b }); not_taken = Some (record { dst = a; src = b }) }
+unrefined a b =
+    record { taken = Some (record { dst = a; src = b }); not_taken = Some (record { dst = a; src = b }) }
 
 -- the ranges on the two edges. Where nothing is refined, both edges keep them
 abbrev pub refined : Condition → Width → Range → Range → Edges

@@ -243,7 +243,7 @@ came_from f g e h = by_meant (meant_of f g) h
         by_test true h = cc
         by_test false h = cc
 
-is_some-fields : (next : Option (List ℕ)) → is_some (option_map fields_in next) ≡ is_some next
+pub is_some-fields : (next : Option (List ℕ)) → is_some (option_map fields_in next) ≡ is_some next
 is_some-fields None = refl
 is_some-fields (Some x) = refl
 

@@ -5,7 +5,7 @@ ghost use Rattle.std.specs.Option.{option_copied, option_map};
 ghost use Rattle.bpf_insn.specs.declared.insn.Insn.{Insn};
 ghost use Rattle.bpf_insn.specs.Faults.{bad_insn_code, IsFault};
 ghost use Rattle.bpf_insn.specs.Spelling.{HasSecond, HasSlots, IsInsn, IsOperand, Spells};
-ghost use Rattle.bpf_insn.specs.Reading.{arithmetic_of, branch_of, byte_swap_of, call_of, fields_in, has_fields, joined, jump_of, load_of, meant_of, move_of, names_register, negation_of, operand_of, pair_of, reading, reading_of, register_of, same_second, store_of, two_operands_of, wide_of};
+ghost use Rattle.bpf_insn.specs.Reading.{arithmetic_of, branch_of, byte_swap_of, call_of, fields_in, has_fields, joined, jump_of, load_of, meant_of, move_of, names_register, negation_of, operand_of, pair_of, reading_of, register_of, same_second, store_of, two_operands_of, wide_of};
 
 use crate::encoding::{first_fields, second_immediate};
 use crate::fields::Fields;
@@ -66,8 +66,6 @@ pub fn decode(bytes: &[u8; 8], next: Option<&[u8; 8]>) -> Result<Insn, BadInsn>
 
     // An error is the first fault.
     ensures fault { IfErr result (IsFault bytes.now (option_copied next.entry)) }
-
-    ensures exact { result ≡ reading bytes.now (option_copied next.entry) }
 {
     checked(&Fields::read(bytes), next)
 }

@@ -1,5 +1,5 @@
 -- What is covered stays covered where more is.
-use Rattle.std.proofs.Common.{ℕ, ◌+◌, ℤ, pos, negsuc, Option, None, Some, List, Result, Ok, Err}
+use Rattle.std.proofs.Common.{ℕ, ◌+◌, ℤ, pos, negsuc, Option, None, Some, Result, Ok, Err}
 use Rattle.bpf_insn.specs.declared.insn.Insn.{Insn}
 use Rattle.bpf_insn.specs.declared.insn.Insn.TheVariants.{Alu, Negate, MoveSigned, ByteSwap, Load, Store, Jump, Goto, Wide, LoadMap, LoadAddress, Call, Exit}
 use Rattle.bpf_insn.specs.Spelling.{slots_of}

@@ -4,3 +4,4 @@ pub mod Steps
 pub mod Sums
 pub mod Entering
 pub mod Counted
+pub mod Faults

@@ -1,6 +1,14 @@
-//! What the form of a program's loops is worth. The function does nothing: its contract is the law.
+//! What the form of a program is worth. Each function does nothing: its contract is the law.
 
-ghost use Rattle.bver_form.specs.Laws.{BeginsWithinWeight, EachStepTakesOne, LoopsAreEntered, OneIsLeft};
+ghost use Rattle.bver_form.specs.Laws.{BeginsWithinWeight, EachStepTakesOne, FaultRefutesForm, FirstFaultIsOne, LoopsAreEntered, OneIsLeft};
+
+/// A law and no work: a program that [`check`] refuses has not its form, and no other fault comes first.
+///
+/// [`check`]: crate::check
+pub fn first_faults()
+    ensures refutes { FaultRefutesForm }
+    ensures one { FirstFaultIsOne }
+{}
 
 /// A law and no work, in plain arithmetic: a run of a program that has its form takes no more
 /// instructions than the weight. What is left of a run is a function of its slot and of the loops'

@@ -12,5 +12,5 @@ mod support;
 
 pub use form::check;
 pub use jumps::landing;
-pub use laws::loops_are_counted;
+pub use laws::{first_faults, loops_are_counted};
 pub use refusal::{Refusal, Refused};

@@ -10,14 +10,13 @@ use Rattle.bpf_insn.specs.declared.insn.Callee.TheVariants.{Helper, Local, ByTyp
 use Rattle.bpf_insn.specs.declared.insn.Insn.{Insn}
 use Rattle.bpf_insn.specs.declared.insn.Insn.TheVariants as insns
 use Rattle.bpf_insn.specs.Flow.{is_written, flow_of}
-use Rattle.bpf.specs.Program.{Program}
 use Rattle.machine.specs.declared.regions.Region.TheVariants.{Front, Tail, Stack}
 use Rattle.machine.specs.declared.values.Value.{Value}
 use Rattle.machine.specs.declared.values.Value.TheVariants.{Unset, Num, Ptr, Map}
 use Rattle.machine.specs.Words.{holds_words}
 use Rattle.machine.specs.Memory.{Header}
 use Rattle.machine.specs.State.{State, state, register_after, register_after_call}
-use Rattle.machine.specs.Step.{Question, Outcome, Next, Ask, Verdict, Trap, answered, writes, lands, branches, compares, puts, stores, is_helper, asks, calls, exits, perform, perform_at, knows_flow, perform_in, insn_at, step}
+use Rattle.machine.specs.Step.{Outcome, Next, Ask, Verdict, Trap, answered, writes, lands, branches, compares, puts, stores, is_helper, asks, calls, exits, perform, perform_at, knows_flow, perform_in, insn_at}
 use Rattle.machine.specs.Laws.{StepPerforms, is_store, IsLeftBy, AreLeftBy, InstructionsLeave, StepsLeave, InstructionsGoOn, QuestionsGoOn}
 
 -- ---- version 1

@@ -1,7 +1,6 @@
 -- Which program judges.
 use Rattle.std.specs.Prelude.{ℕ, ◌≡◌, ◌==◌, ◌+◌, List, [], ◌∷◌, Option, Some, None, cond}
 use Rattle.core.specs.Option.{option_map}
-use Rattle.machine.specs.Sizes.{Maps}
 use Rattle.bver.specs.Justified.{AcceptedValue}
 use Rattle.publish.specs.declared.history.Publish.{Publish}
 
@@ -26,11 +25,11 @@ abbrev pub generation_at : List Publish → ℕ → Option ℕ
 generation_at history slot = option_map (λ p. p.1) (published history slot)
 
 -- the sizes of the maps of a node: those of its factory program
-abbrev pub sizes_of : List Publish → Maps
+abbrev pub sizes_of : List Publish → List ℕ
 sizes_of [] = []
 sizes_of (f ∷ ps) = f.program.sizes
 
 -- each program was accepted for those sizes
-abbrev pub AreFor : Maps → List Publish → Type 0
+abbrev pub AreFor : List ℕ → List Publish → Type 0
 AreFor sizes [] = Unit {0}
 AreFor sizes (p ∷ ps) = (p.program.sizes ≡ sizes) × AreFor sizes ps

@@ -10,12 +10,10 @@ ghost use Rattle.machine.specs.Step.{operand, writes, lands, jumps, compares, lo
 use crate::arithmetic::{alu, byte_swap, move_signed, negate, number};
 use crate::memory::{Memory, place_of, read};
 use bpf_insn::{
-    AluOp, Callee, Comparison, Condition, Insn, LoadSize, Operand, Register, Size, Swap, SwapBits,
-    Width,
+    AluOp, Callee, Comparison, Condition, FRAME_POINTER, Insn, LoadSize, Operand, REGISTERS,
+    Register, Size, Swap, SwapBits, Width,
 };
-use machine::{
-    MapSizes, Region, Value, holds_words, loaded, word,
-};
+use machine::{MapSizes, Region, Value, holds_words, loaded, word};
 
 /// What an instruction does.
 #[derive(Clone, Copy)]
@@ -50,7 +48,7 @@ pub enum Effect {
 #[derive(Clone, Copy)]
 pub struct Frame<'a> {
     pub slot: u32,
-    pub registers: &'a [Value; 11],
+    pub registers: &'a [Value; REGISTERS],
     pub memory: Memory<'a>,
 }
 
@@ -59,7 +57,7 @@ fn value_at(frame: Frame<'_>, number: u8) -> Value
     requires { number ≤ 10 }
     ensures { result ≡ slice_index_or frame.entry.registers.now number Value.Unset }
 {
-    let registers: &[Value; 11] = frame.registers;
+    let registers: &[Value; REGISTERS] = frame.registers;
     registers[usize::from(number)]
 }
 
@@ -89,7 +87,7 @@ fn write(frame: Frame<'_>, register: Register, value: Option<Value>, slots: u32)
     match value {
         None => Effect::Trap,
         Some(value) => {
-            if register.number() == 10 {
+            if register.number() == FRAME_POINTER {
                 Effect::Trap
             } else {
                 Effect::Write {

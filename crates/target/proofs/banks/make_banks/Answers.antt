@@ -7,8 +7,8 @@ use Rattle.target.specs.Nodes.{bank_of}
 use Rattle.target.proofs.Makings.{distributed_shares}
 use Rattle.target.proofs.banks.make_banks.Goals as goal
 
-pub deal-requires : goal.deal-requires
-deal-requires c =
+pub distribute-requires : goal.distribute-requires
+distribute-requires c =
     rw (c.in_ok-bank.ensures.shares) (length-map-range_with_len first_share 0 c.args.config.now.ports ∙ sym c.loop-bank.invariant.1.count)
 
 pub loop-bank-preserved : goal.loop-bank-preserved

@@ -1,0 +1,114 @@
+-- What a word counts, and one draw more.
+use Rattle.std.proofs.Common.{◌≡◌, ◌≢◌, ℕ, ◌+◌, ◌%◌, ◌^◌, ◌≤◌, Bool, true, false, List, [], ◌∷◌, ◌++◌, length, map, refl, sym, ap, ◌∙◌, subst, arith}
+use Rattle.std.specs.Prelude.{All, sum_by, count_by, filter, cond, ◌==◌, ◌&&◌, nat_lt}
+use Rattle.std.proofs.lemmas.List.{length-map, map-append, length-append, append-nil}
+use Rattle.std.proofs.Math.Bool.{and-false}
+use Rattle.std.proofs.lemmas.List.Sums.{sum_by-cons, sum_by_push, length-filter}
+use Rattle.std.proofs.lemmas.List.Elements.{All-push, All-weaker, filter-append}
+use Rattle.std.proofs.lemmas.Bool.{ne_eqb, eq-eqb}
+use Rattle.std.proofs.lemmas.Bool.Decides.{nat_tests}
+use Rattle.std.proofs.Math.Nat.{mod-add-mod}
+use Rattle.cells.specs.declared.hands.Draw.{Draw}
+use Rattle.cells.specs.Draws.{draw, tickets, is_ticket, IsBehind}
+use Rattle.cells.specs.Counting.{IsCounted}
+
+-- how often the number stands in the list
+abbrev times : ℕ → List ℕ → ℕ
+times number numbers = count_by (λ k. k == number) numbers
+
+-- the tickets are as many as the draws that are tickets
+pub length_tickets : (word : ℕ) (ds : List Draw) → length (tickets word ds) ≡ count_by (is_ticket word) ds
+length_tickets word ds = length-map (filter (is_ticket word) ds) (λ (d : Draw). d.exact) ∙ length-filter (is_ticket word) ds
+
+-- whether it is the ticket of that number
+abbrev is_numbered : (word number : ℕ) → Draw → Bool
+is_numbered word number d = is_ticket word d && (d.exact == number)
+
+times_pick : (b : Bool) (d : Draw) (number : ℕ) (ds : List Draw)
+    → times number (map (λ (d : Draw). d.exact) (cond b (d ∷ ds) ds)) ≡ cond (b && (d.exact == number)) 1 0 + times number (map (λ (d : Draw). d.exact) ds)
+times_pick true d number ds = sum_by-cons (λ (k : ℕ). cond (k == number) 1 0) d.exact (map (λ (d : Draw). d.exact) ds)
+times_pick false d number ds = omega arith
+
+-- a number stands among the tickets as often as in the draws
+pub times_tickets : (word number : ℕ) (ds : List Draw) → times number (tickets word ds) ≡ count_by (is_numbered word number) ds
+times_tickets word number [] = refl
+times_tickets word number (d ∷ ds) =
+    times_pick (is_ticket word d) d number (filter (is_ticket word) ds)
+    ∙ ap (λ (n : ℕ). cond (is_numbered word number d) 1 0 + n) (times_tickets word number ds)
+    ∙ sym (sum_by-cons (λ (x : Draw). cond (is_numbered word number x) 1 0) d ds)
+
+-- whatever is counted, it is as often in both
+abbrev pub AreAlike : List Draw → List Draw → Type 0
+AreAlike ds es = (f : Draw → ℕ) → sum_by f es ≡ sum_by f ds
+
+pub length_alike : (word : ℕ) (ds es : List Draw) → AreAlike ds es → length (tickets word es) ≡ length (tickets word ds)
+length_alike word ds es same = length_tickets word es ∙ same (λ d. cond (is_ticket word d) 1 0) ∙ sym (length_tickets word ds)
+
+-- a word that counts some draws counts the same in another order
+pub counted_alike : (word value : ℕ) (ds es : List Draw) → AreAlike ds es
+    → ((n : ℕ) → All (IsBehind word n) ds → All (IsBehind word n) es) → IsCounted word value ds → IsCounted word value es
+counted_alike word value ds es same behind h =
+    let n : length (tickets word es) ≡ length (tickets word ds) = length_alike word ds es same in record {
+      counts = h.counts ∙ ap (λ (k : ℕ). k % 2 ^ 64) (sym n);
+      each_once = λ number. times_tickets word number es ∙ same (λ d. cond (is_numbered word number d) 1 0) ∙ sym (times_tickets word number ds)
+          ∙ h.each_once number ∙ ap (λ (k : ℕ). cond (nat_lt number k) 1 0) (sym n);
+      behind = subst (λ (k : ℕ). All (IsBehind word k) es) (sym n) (behind _ h.behind);
+    }
+
+-- the tickets with one draw more
+tickets_push : (word : ℕ) (ds : List Draw) (d : Draw) → tickets word (ds ++ d ∷ []) ≡ tickets word ds ++ tickets word (d ∷ [])
+tickets_push word ds d =
+    ap (map (λ (d : Draw). d.exact)) (filter-append (is_ticket word) ds (d ∷ []))
+    ∙ map-append (λ (d : Draw). d.exact) (filter (is_ticket word) ds) (filter (is_ticket word) (d ∷ []))
+
+-- one that is no ticket of the word
+tickets_same : (word : ℕ) (ds : List Draw) (d : Draw) → is_ticket word d ≡ false → tickets word (ds ++ d ∷ []) ≡ tickets word ds
+tickets_same word ds d other =
+    tickets_push word ds d ∙ ap (λ (b : Bool). tickets word ds ++ map (λ (d : Draw). d.exact) (cond b (d ∷ []) [])) other ∙ append-nil (tickets word ds)
+
+-- where the tickets stay as they were, so does the count
+counted_same : (word value : ℕ) (ds : List Draw) (d : Draw) → tickets word (ds ++ d ∷ []) ≡ tickets word ds
+    → IsBehind word (length (tickets word ds)) d → IsCounted word value ds → IsCounted word value (ds ++ d ∷ [])
+counted_same word value ds d same new h =
+    let n : length (tickets word (ds ++ d ∷ [])) ≡ length (tickets word ds) = ap length same in record {
+      counts = h.counts ∙ ap (λ (k : ℕ). k % 2 ^ 64) (sym n);
+      each_once = λ number. ap (times number) same ∙ h.each_once number ∙ ap (λ (k : ℕ). cond (nat_lt number k) 1 0) (sym n);
+      behind = subst (λ (k : ℕ). All (IsBehind word k) (ds ++ d ∷ [])) (sym n) (All-push (IsBehind word (length (tickets word ds))) ds d h.behind new);
+    }
+
+-- a draw of another word
+pub counted_other : (word value : ℕ) (ds : List Draw) (d : Draw) → d.word ≢ word → IsCounted word value ds → IsCounted word value (ds ++ d ∷ [])
+counted_other word value ds d apart h =
+    let other : (d.word == word) ≡ false = ne_eqb d.word word apart in
+    let passed : is_ticket word d ≡ false = ap (λ (b : Bool). (d.helper == 2) && b) other ∙ and-false (d.helper == 2) in
+    counted_same word value ds d (tickets_same word ds d passed) (λ here. absurd (apart here)) h
+
+-- an answer of `count`
+pub counted_count : (word value answer : ℕ) (ds : List Draw) → IsCounted word value ds
+    → IsCounted word value (ds ++ draw 1 word (length (tickets word ds)) answer ∷ [])
+counted_count word value answer ds h =
+    let d = draw 1 word (length (tickets word ds)) answer in
+    counted_same word value ds d (tickets_same word ds d refl) (λ here. omega arith) h
+
+one_more : (number n : ℕ) → cond (nat_lt number n) 1 0 + cond (n == number) 1 0 ≡ cond (nat_lt number (n + 1)) 1 0
+one_more number n = grind (arith, nat_tests)
+
+later : {a n : ℕ} → a ≤ n → a ≤ n + 1
+later h = omega arith
+
+-- an answer of `ticket`
+pub counted_ticket : (word value answer : ℕ) (ds : List Draw) → IsCounted word value ds
+    → IsCounted word ((value + 1) % 2 ^ 64) (ds ++ draw 2 word (length (tickets word ds)) answer ∷ [])
+counted_ticket word value answer ds h =
+    let n = length (tickets word ds) in
+    let d : Draw = draw 2 word n answer in
+    let more : tickets word (ds ++ d ∷ []) ≡ tickets word ds ++ n ∷ [] =
+    tickets_push word ds d ∙ ap (λ (b : Bool). tickets word ds ++ map (λ (d : Draw). d.exact) (cond b (d ∷ []) [])) (eq-eqb word word refl) in
+    let long : length (tickets word (ds ++ d ∷ [])) ≡ n + 1 = ap length more ∙ length-append (tickets word ds) (n ∷ []) in
+    record {
+      counts = ap (λ (k : ℕ). (k + 1) % 2 ^ 64) h.counts ∙ mod-add-mod n (2 ^ 64) 1 ∙ ap (λ (k : ℕ). k % 2 ^ 64) (sym long);
+      each_once = λ number. ap (times number) more ∙ sum_by_push (λ (k : ℕ). cond (k == number) 1 0) (tickets word ds) n
+          ∙ ap (λ (k : ℕ). k + cond (n == number) 1 0) (h.each_once number) ∙ one_more number n ∙ ap (λ (k : ℕ). cond (nat_lt number k) 1 0) (sym long);
+      behind = subst (λ (k : ℕ). All (IsBehind word k) (ds ++ d ∷ [])) (sym long)
+          (All-push (IsBehind word (n + 1)) ds d (All-weaker (IsBehind word n) (IsBehind word (n + 1)) (λ x f here. later (f here)) ds h.behind) (λ here. omega arith));
+    }

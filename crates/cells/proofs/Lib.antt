@@ -1,0 +1,5 @@
+pub mod Lists
+pub mod Counted
+pub mod Steps
+pub mod Places
+pub mod CellsOfWords

@@ -1,0 +1,3 @@
+pub mod Draws
+pub mod Counting
+pub mod Seats

@@ -1,0 +1,67 @@
+-- What a seat has, and what the owner of the cells has.
+use Rattle.std.specs.Prelude.{ℕ, ◌≡◌, ◌+◌, ◌%◌, ◌^◌, ◌<◌, List, [], All, sum}
+use base.Stored.{Gv}
+use Rattle.atomic_table.specs.Seated.{TableId}
+use Rattle.atomic_table.specs.declared.shared.Seat.{Seat}
+use Rattle.machine.specs.Sizes.{AreSizes}
+use Rattle.machine.specs.declared.calls.Call.{Call}
+use Rattle.cells.specs.declared.hands.Draw.{Draw}
+use Rattle.cells.specs.declared.hands.Hand.{Hand}
+use Rattle.cells.specs.Draws.{calls_of}
+
+-- a seat: the sizes of the maps, the name of its table, and what it drew
+pub record CellSeatValue : Type 0 where
+  pub sizes : List ℕ
+  pub home : Gv
+  pub draws : List Draw
+
+-- a seat of that table, for maps of those sizes, with those draws
+abbrev pub seat : List ℕ → Gv → List Draw → CellSeatValue
+seat sizes home draws = record { sizes = sizes; home = home; draws = draws }
+
+-- the cells: the sizes of the maps, the name of their table, how many of the 256 parts are not with seats, and
+-- what the seats drew that came back
+pub record CellsValue : Type 0 where
+  pub sizes : List ℕ
+  pub home : Gv
+  pub parts : ℕ
+  pub draws : List Draw
+
+-- the cells of that table, for maps of those sizes, with so many parts and those draws
+abbrev pub cells : List ℕ → Gv → ℕ → List Draw → CellsValue
+cells sizes home parts draws = record { sizes = sizes; home = home; parts = parts; draws = draws }
+
+-- the seat is one of these cells
+pub record IsSeatOf (it : CellsValue) (s : CellSeatValue) : Type 0 where
+  pub sizes : s.sizes ≡ it.sizes
+  pub home : s.home ≡ it.home
+
+-- every seat came back
+abbrev pub IsWhole : CellsValue → Type 0
+IsWhole it = it.parts ≡ 256
+
+-- the calls of a seat
+abbrev pub calls : CellSeatValue → List Call
+calls s = calls_of s.sizes s.draws
+
+-- the calls of the seats that came back
+abbrev pub calls_back : CellsValue → List Call
+calls_back it = calls_of it.sizes it.draws
+
+-- the draw is of one of the cells, and its answer is its number modulo 2^64
+abbrev pub IsOf : List ℕ → Draw → Type 0
+IsOf sizes d = (d.word < sum sizes) × (d.answer ≡ d.exact % 2 ^ 64)
+
+-- all draws are
+abbrev pub AreOf : List ℕ → List Draw → Type 0
+AreOf sizes draws = All (IsOf sizes) draws
+
+-- the place stands in a table of these cells, which has one word more; it has no slots, and its draws are of
+-- these cells
+pub record IsPlaced (sizes about : List ℕ) (table : TableId) (place : Seat (Unit {0}) Hand) : Type 0 where
+  pub limits : AreSizes sizes
+  pub key : about ≡ sizes
+  pub words : table.words ≡ sum sizes + 1
+  pub home : place.table_id ≡ table
+  pub slots : place.me.1 ≡ []
+  pub draws : AreOf sizes place.me.0.draws

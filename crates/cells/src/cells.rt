@@ -1,0 +1,136 @@
+//! All cells of a node.
+
+ghost use Rattle.std.specs.Prelude.{◌≡◌, ◌+◌, ◌-◌, ◌<◌, ◌^◌, ◌++◌, [], IfOk, length, replicate};
+ghost use Rattle.std.specs.Arc.{arc_value};
+ghost use Rattle.atomic_table.specs.Seated.{table_id_coded};
+ghost use Rattle.machine.specs.Sizes.{IsInside};
+ghost use Rattle.cells.specs.Counting.{hand, IsAhead, IsCounted};
+ghost use Rattle.cells.specs.Draws.{word_of, tickets_of, AreNumbersBelow};
+ghost use Rattle.cells.specs.Seats.{seat, cells, calls_back, IsPlaced, IsSeatOf, IsWhole};
+
+use crate::hands::Hand;
+use crate::rule::{Parts, Totals, Words};
+use crate::seats::CellSeat;
+use crate::words::{first_word, word_at};
+use atomic_table::{Seat, Table};
+use machine::MapSizes;
+use std::alloc::{AllocError, Global};
+use std::marker::Model;
+use std::sync::Arc;
+
+/// The most words that cells have, and one.
+const MOST: usize = 257;
+
+/// All cells of a node, with what came back of its seats.
+#[derive(Drop)]
+pub struct Cells {
+    sizes: MapSizes,
+    words: Arc<Words>,
+    rest: Seat<(), Hand>,
+}
+
+impl Model for Cells {
+    ghost use Rattle.std.specs.Arc.{arc_value};
+    ghost use Rattle.atomic_table.specs.Seated.{table_id_coded};
+    ghost use Rattle.cells.specs.Seats.{CellsValue, cells, IsPlaced};
+
+    ghost Value = { CellsValue };
+
+    ghost view = { λ s. cells s.sizes (table_id_coded.code s.rest.table_id) s.rest.me.0.parts s.rest.me.0.draws };
+
+    ghost invariant = { λ s. IsPlaced s.sizes (arc_value s.words).shared.key (arc_value s.words).shared.table_id s.rest };
+}
+
+/// So many words of 0.
+fn zeros() -> [u64; MOST]
+    ensures { result ≡ replicate 257 0 }
+{
+    [0; MOST]
+}
+
+/// The words of maps of these sizes, each 0, and the one place in them, which has all parts.
+fn words(alloc: Global, sizes: &MapSizes) -> Result<(Words, Seat<(), Hand>), AllocError>
+    ensures placed { IfOk result (λ made. IsPlaced sizes.now made.0.shared.key made.0.shared.table_id made.1) }
+    ensures whole { IfOk result (λ made. made.1.me.0 ≡ hand 256 []) }
+{
+    let zeros = zeros();
+    let zeros: &[u64] = &zeros;
+    let count = first_word(sizes, sizes.maps()) + 1;
+    Table::of_words(alloc, &zeros[..count], sizes)
+}
+
+/// A new seat, with one part of the place's.
+fn new_seat(
+    sizes: &MapSizes,
+    words: &Arc<Words>,
+    rest: &mut Seat<(), Hand>,
+) -> Result<CellSeat, AllocError>
+    requires placed { IsPlaced sizes.now (arc_value words.now).shared.key (arc_value words.now).shared.table_id rest.old }
+    requires fresh { rest.old.me.0.draws ≡ [] }
+    requires part { 0 < rest.old.me.0.parts }
+    ensures seat { IfOk result (λ s. s ≡ seat sizes.now (table_id_coded.code rest.old.table_id) []) }
+    ensures home { rest.new.table_id ≡ rest.old.table_id }
+    ensures slots { rest.new.me.1 ≡ [] }
+    ensures rest { IfOk result (λ s. rest.new.me.0 ≡ hand (rest.old.me.0.parts - 1) []) }
+{
+    let shared = Arc::try_clone(words)?;
+    let place = words.shared.split_seat::<Parts>(rest);
+    Ok(CellSeat {
+        sizes: *sizes,
+        words: shared,
+        place,
+    })
+}
+
+impl Cells {
+    /// The cells of maps of these sizes, each 0, and so many seats. No more memory is asked for afterwards.
+    ///
+    /// # Errors
+    ///
+    /// `AllocError` where memory was refused.
+    pub fn new(
+        alloc: Global,
+        sizes: &MapSizes,
+        seats: u8,
+    ) -> Result<(Cells, Vec<CellSeat>), AllocError>
+        ensures cells { IfOk result (λ made. made.0 ≡ cells sizes.now made.0.home (256 - seats) []) }
+        ensures seats { IfOk result (λ made. made.1.items ≡ replicate seats (seat sizes.now made.0.home [])) }
+    {
+        let (words, mut rest) = words(alloc, sizes)?;
+        let words = Arc::new(alloc, words)?;
+        let mut places = Vec::with_capacity(alloc, usize::from(seats))?;
+        for _seat in 0..seats {
+            places.push(new_seat(sizes, &words, &mut rest)?)?;
+        }
+        let cells = Cells {
+            sizes: *sizes,
+            words,
+            rest,
+        };
+        Ok((cells, places))
+    }
+
+    /// Takes back a seat of these cells, with what it drew.
+    pub fn take_back(&mut self, seat: CellSeat)
+        requires { IsSeatOf self.old seat }
+        ensures { self.new ≡ cells self.old.sizes self.old.home (self.old.parts + 1) (self.old.draws ++ seat.draws) }
+    {
+        let CellSeat { place, .. } = seat;
+        self.words.shared.join_seat::<Parts>(&mut self.rest, place);
+    }
+
+    /// How many tickets were drawn from a cell, modulo 2^64: one load of its word, by whoever takes the cells
+    /// apart. It is no call of a program, and no seat's.
+    ///
+    /// The map and the key have to be inside the sizes, which `MapSizes::contains` tests.
+    pub fn drawn(&mut self, map: u8, key: u16) -> u64
+        requires { IsInside self.old.sizes map key }
+        ensures same { self.new ≡ self.old }
+        ensures ahead { IsAhead (word_of self.old.sizes map key) result self.old.draws }
+        ensures counted { IsWhole self.old → IsCounted (word_of self.old.sizes map key) result self.old.draws }
+        ensures tickets { IsWhole self.old → length (tickets_of map key (calls_back self.old)) < 2 ^ 64 → AreNumbersBelow result (tickets_of map key (calls_back self.old)) }
+    {
+        let word = word_at(&self.sizes, map, key);
+        self.words.shared.load::<Totals>(&mut self.rest, word)
+    }
+}

@@ -1,0 +1,37 @@
+//! Counter words: seats of one thread, seats in threads, and memory that is refused.
+
+ghost use Rattle.std.specs.Prelude.{◌≡◌, ◌+◌, All, vec_len};
+ghost use Rattle.cells.specs.Seats.{IsSeatOf};
+
+mod places;
+mod refusals;
+mod threads;
+
+use brun::Counters;
+use cells::{CellSeat, Cells};
+
+/// The answer of `count`, where there is the cell.
+fn count(seat: &mut CellSeat, map: u8, key: u16) -> Option<u64> {
+    if !seat.sizes().contains(map, key) {
+        return None;
+    }
+    Some(seat.count(map, key))
+}
+
+/// A ticket, where there is the cell.
+fn ticket(seat: &mut CellSeat, map: u8, key: u16) -> Option<u64> {
+    if !seat.sizes().contains(map, key) {
+        return None;
+    }
+    Some(seat.ticket(map, key))
+}
+
+/// Gives the seats back.
+fn give_back(cells: &mut Cells, mut seats: Vec<CellSeat>)
+    requires { All (IsSeatOf cells.old) seats.items }
+    ensures { cells.new.parts ≡ cells.old.parts + vec_len seats }
+{
+    while let Some(seat) = seats.pop() {
+        cells.take_back(seat);
+    }
+}

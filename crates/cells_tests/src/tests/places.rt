@@ -1,0 +1,97 @@
+//! Cells by their places, and what seats of one thread see.
+
+use crate::tests::{count, give_back, ticket};
+use cells::Cells;
+use machine::MapSizes;
+use std::test::*;
+
+/// Two seats count in the same words.
+#[test]
+fn two_seats_see_one_word(rt: HostRuntime) -> Result<(), Fail> {
+    let sizes = MapSizes::new(&[1])?;
+    let (mut cells, mut seats) = Cells::new(rt.alloc(), &sizes, 2)?;
+    let mut one = seats.pop().ok_or("two seats")?;
+    let mut other = seats.pop().ok_or("two seats")?;
+    for number in 0..3u64 {
+        assert_eq!(&rt; ticket(&mut one, 0, 0), Some(number));
+    }
+    assert_eq!(&rt; count(&mut other, 0, 0), Some(3));
+    assert_eq!(&rt; count(&mut other, 0, 0), Some(3));
+    assert_eq!(&rt; count(&mut one, 0, 0), Some(3));
+    assert_eq!(&rt; ticket(&mut other, 0, 0), Some(3));
+    assert_eq!(&rt; count(&mut one, 0, 0), Some(4));
+    if sizes.contains(0, 0) {
+        assert_eq!(&rt; cells.drawn(0, 0), 4);
+    }
+    Ok(())
+}
+
+/// Each of 32 seats draws a number of its own.
+#[test]
+fn each_seat_draws_its_own(rt: HostRuntime) -> Result<(), Fail> {
+    let sizes = MapSizes::new(&[1])?;
+    let (_cells, mut seats) = Cells::new(rt.alloc(), &sizes, 32)?;
+    assert_eq!(&rt; seats.len(), 32);
+    for number in 0..32u64 {
+        let mut seat = seats.pop().ok_or("32 seats")?;
+        assert_eq!(&rt; ticket(&mut seat, 0, 0), Some(number));
+    }
+    assert!(&rt; seats.is_empty());
+    Ok(())
+}
+
+/// The last cell of a map and the first of the next are two, though their words are neighbours.
+#[test]
+fn maps_have_their_own_cells(rt: HostRuntime) -> Result<(), Fail> {
+    let sizes = MapSizes::new(&[2, 3])?;
+    let (_cells, mut seats) = Cells::new(rt.alloc(), &sizes, 1)?;
+    let mut seat = seats.pop().ok_or("a seat")?;
+    assert_eq!(&rt; ticket(&mut seat, 0, 1), Some(0));
+    assert_eq!(&rt; count(&mut seat, 1, 0), Some(0));
+    assert_eq!(&rt; count(&mut seat, 0, 0), Some(0));
+    assert_eq!(&rt; count(&mut seat, 0, 1), Some(1));
+    assert_eq!(&rt; count(&mut seat, 0, 2), None);
+    assert_eq!(&rt; count(&mut seat, 1, 3), None);
+    assert_eq!(&rt; count(&mut seat, 2, 0), None);
+    Ok(())
+}
+
+/// Of eight maps of 32 cells each cell is its own, the last too.
+#[test]
+fn all_cells_are_apart(rt: HostRuntime) -> Result<(), Fail> {
+    let sizes = MapSizes::new(&[32; 8])?;
+    let (_cells, mut seats) = Cells::new(rt.alloc(), &sizes, 1)?;
+    let mut seat = seats.pop().ok_or("a seat")?;
+    assert_eq!(&rt; ticket(&mut seat, 7, 31), Some(0));
+    for map in 0..8u8 {
+        for key in 0..32u16 {
+            let is_last = map == 7 && key == 31;
+            assert_eq!(&rt; count(&mut seat, map, key), Some(u64::from(is_last)));
+        }
+    }
+    assert_eq!(&rt; count(&mut seat, 7, 32), None);
+    Ok(())
+}
+
+/// Where there are no maps there are seats, and no cell.
+#[test]
+fn no_maps_have_seats(rt: HostRuntime) -> Result<(), Fail> {
+    let (_cells, mut seats) = Cells::new(rt.alloc(), &MapSizes::new(&[])?, 2)?;
+    assert_eq!(&rt; seats.len(), 2);
+    let mut seat = seats.pop().ok_or("two seats")?;
+    assert_eq!(&rt; count(&mut seat, 0, 0), None);
+    Ok(())
+}
+
+/// Seats that come back leave the words as they are.
+#[test]
+fn seats_come_back(rt: HostRuntime) -> Result<(), Fail> {
+    let sizes = MapSizes::new(&[1])?;
+    let (mut cells, seats) = Cells::new(rt.alloc(), &sizes, 255)?;
+    assert_eq!(&rt; seats.len(), 255);
+    give_back(&mut cells, seats);
+    if sizes.contains(0, 0) {
+        assert_eq!(&rt; cells.drawn(0, 0), 0);
+    }
+    Ok(())
+}
