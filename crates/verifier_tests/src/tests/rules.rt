@@ -174,9 +174,9 @@ address 3|mov r0, 0; ldimm 3, r1, 1, 0; exit|3||16 1
 address 4|mov r0, 0; ldimm 4, r1, 1, 0; exit|3||16 1
 address 6|mov r0, 0; ldimm 6, r1, 1, 1; exit|3||16 1
 an address is no frame write first|ldimm 1, r10, 1, 0; exit|2||16 0
-a loop|.loop 2, 4, 4, r6; mov r0, 0; mov r6, 4; add r0, 1; add r6, -1; jne r6, 0, -3; exit|15||16 4
+a loop|.loop 2, 4, 4, r6; mov r0, 0; mov r6, 4; add r0, 1; add r6, -1; jne r6, 0, -3; exit|15||ok
 the same without its loop|mov r0, 0; mov r6, 4; add r0, 1; add r6, -1; jne r6, 0, -3; exit|15||2 4
-two loops|.loop 2, 7, 3, r6; .loop 3, 5, 4, r7; mov r0, 0; mov r6, 3; mov r7, 4; add r0, 1; add r7, -1; jne r7, 0, -3; add r6, -1; jne r6, 0, -6; exit|48||16 5
+two loops|.loop 2, 7, 3, r6; .loop 3, 5, 4, r7; mov r0, 0; mov r6, 3; mov r7, 4; add r0, 1; add r7, -1; jne r7, 0, -3; add r6, -1; jne r6, 0, -6; exit|48||ok
 the frame pointer before a loop|.loop 2, 4, 4, r6; mov r10, 0; mov r6, 4; add r0, 1; add r6, -1; jne r6, 0, -3; exit|15||10 0
 a loop that ends in a second slot|.loop 0, 2, 1, r6; mov r0, 0; lddw r1, 1; exit|4||3 2
 the first slot decides|mov r0, 0; call 1; mov r10, 0; exit|4||13 1
