@@ -133,6 +133,8 @@ compared_fit ranges s a condition width dst src offset (Ok left) (Ok right) g h 
 )
 
 pub refine_fits : RangesFit → RefineFits
-refine_fits ranges header s a condition width dst src offset fits =
-    compared_fit ranges s a condition width dst src offset (number_of (kind_at a dst)) (compared width a src)
-    (has_number (s.registers dst) (kind_at a dst) (fits.registers dst)) (has_source s a width src fits) fits
+refine_fits ranges header s a comparison offset fits =
+    let dst = comparison.dst in
+    let src = comparison.src in
+    compared_fit ranges s a comparison.condition comparison.width dst src offset (number_of (kind_at a dst)) (compared comparison.width a src)
+    (has_number (s.registers dst) (kind_at a dst) (fits.registers dst)) (has_source s a comparison.width src fits) fits

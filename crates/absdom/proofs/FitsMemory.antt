@@ -12,7 +12,8 @@ use Rattle.machine.specs.declared.regions.Region.TheVariants.{Front, Tail, Stack
 use Rattle.machine.specs.declared.values.Value.{Value}
 use Rattle.machine.specs.declared.values.Value.TheVariants.{Unset as Nothing, Num as Number, Ptr as Pointer, Map as MapOf}
 use Rattle.machine.specs.Words.{word}
-use Rattle.machine.specs.Memory.{Header, IsHeader, region_size, place_within, place_of, byte_of, byte_below, little, load_bytes, loaded}
+use Rattle.bpf_insn.specs.Sizes.{load_bytes}
+use Rattle.machine.specs.Memory.{Header, IsHeader, region_size, place_within, place_of, byte_of, byte_below, little, loaded}
 use Rattle.machine.specs.State.{State}
 use Rattle.machine.specs.Step.{load_value, bytes_at, loads}
 use Rattle.absdom_num.specs.Ranges.{IsIn}

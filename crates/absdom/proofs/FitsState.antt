@@ -11,7 +11,8 @@ use Rattle.machine.specs.declared.regions.Region.TheVariants.{Front, Tail, Stack
 use Rattle.machine.specs.declared.values.Value.{Value}
 use Rattle.machine.specs.declared.values.Value.TheVariants.{Unset as Nothing, Num as Number, Ptr as Pointer, Map as MapOf}
 use Rattle.machine.specs.Words.{negated, extended, swapped}
-use Rattle.machine.specs.Memory.{place_of, byte_after, size_bytes}
+use Rattle.bpf_insn.specs.Sizes.{size_bytes}
+use Rattle.machine.specs.Memory.{place_of, byte_after}
 use Rattle.machine.specs.State.{State, state, register_after}
 use Rattle.machine.specs.Step.{Next, Trap, operand, alu, on_number, loads, writes, puts, stores, map_at}
 use Rattle.absdom_num.specs.Tables.{only, negated_range, extended_range, swapped_range}
@@ -164,12 +165,12 @@ apply_fits af nf mf bf header s a (MoveSigned extension dst src) known straight 
 apply_fits af nf mf bf header s a (ByteSwap swap bits dst) known straight fits =
     writes_sound s a (s.slot + 1) dst (on_number (swapped swap bits) (s.registers dst)) (computed_alone (swapped_range swap bits) (number_of (kind_at a dst))) straight fits
     (computed_alone_fits (swapped swap bits) (swapped_range swap bits) (bf swap bits) (s.registers dst) (kind_at a dst) (fits.registers dst))
-apply_fits af nf mf bf header s a (Load size dst base offset) known straight fits =
-    writes_sound s a (s.slot + 1) dst (loads header s size (s.registers base) offset) (load_kind a size (kind_at a base) offset) straight fits
-    (load_fits header s a size (s.registers base) (kind_at a base) offset known fits (fits.registers base))
-apply_fits af nf mf bf header s a (Store size base offset src) known straight fits =
-    store_fits s a size (s.registers base) (operand s src) (kind_at a base) (operand_kind a src) offset (fits.registers base) (operand_fits s a src fits) fits
-apply_fits af nf mf bf header s a (Jump condition width dst src offset) known straight fits = absurd straight
+apply_fits af nf mf bf header s a (Load size dst place) known straight fits =
+    writes_sound s a (s.slot + 1) dst (loads header s size (s.registers place.base) place.offset) (load_kind a size (kind_at a place.base) place.offset) straight fits
+    (load_fits header s a size (s.registers place.base) (kind_at a place.base) place.offset known fits (fits.registers place.base))
+apply_fits af nf mf bf header s a (Store size place src) known straight fits =
+    store_fits s a size (s.registers place.base) (operand s src) (kind_at a place.base) (operand_kind a src) place.offset (fits.registers place.base) (operand_fits s a src fits) fits
+apply_fits af nf mf bf header s a (Jump comparison offset) known straight fits = absurd straight
 apply_fits af nf mf bf header s a (Goto distance) known straight fits = absurd straight
 apply_fits af nf mf bf header s a (Wide dst value) known straight fits =
     writes_sound s a (s.slot + 2) dst (Some (Number value)) (Ok (Num (only value))) straight.0 fits

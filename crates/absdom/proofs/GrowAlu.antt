@@ -17,7 +17,7 @@ use Rattle.absdom.specs.declared.kinds.AbsKind.TheVariants.{Unset, Num, Ptr, Map
 use Rattle.absdom.specs.Offsets.{offsets_within, is_offset, AreAmong}
 use Rattle.absdom.specs.Kinds.{same_region, number_of, IsKindBelow}
 use Rattle.absdom.specs.Effect.{computed, computed_alone, copied_kind, signed_ends, moved_to, offsets_up, offsets_down, sum_kind, difference_kind, alu_kind}
-use Rattle.absdom.specs.Growth.{IsProper}
+use Rattle.absdom.specs.State.{IsProper}
 use Rattle.absdom.proofs.FitsAlu.{HasSign, sign_known, negatives_rise, sum_order, difference_order}
 
 -- where the larger kind is not refused, neither is the smaller

@@ -15,10 +15,9 @@ use Rattle.absdom.specs.declared.cause.Cause.{Cause}
 use Rattle.absdom.specs.declared.kinds.AbsKind.{AbsKind}
 use Rattle.absdom.specs.declared.kinds.AbsKind.TheVariants.{Unset, Num, Ptr, Map}
 use Rattle.absdom.specs.Kinds.{number_of, IsKindBelow}
-use Rattle.absdom.specs.State.{StateValue, IsBelow, kind_at, with_kind}
+use Rattle.absdom.specs.State.{StateValue, IsBelow, kind_at, with_kind, IsProper, IsWhole}
 use Rattle.absdom.specs.Edges.{compared, with_source, on_edge, on_edges, unrefined, is_itself, edges_of, compared_edges}
-use Rattle.absdom.specs.Growth.{IsProper, IsWhole, IsEdgeBelow, AreEdgesGrown}
-use Rattle.absdom.specs.Laws.{RefineGrows}
+use Rattle.absdom.specs.Laws.{RefineGrows, IsEdgeBelow, AreEdgesGrown}
 use Rattle.absdom.proofs.FitsMemory.{word_below}
 use Rattle.absdom.proofs.GrowState.{with_kind_grows}
 

@@ -1,17 +1,19 @@
 -- Larger states give larger states.
-use Rattle.std.proofs.Common.{◌≡◌, ◌≢◌, ℕ, zero, suc, ◌+◌, ◌-◌, ◌<◌, ◌≤◌, ℤ, ◌+ℤ◌, ◌≤ℤ◌, Bool, true, false, ◌==◌, if◌then◌else◌, refl, sym, ◌∙◌, subst, arith, ◌⊎◌, inl, inr, Option, Some, None, Result, Ok, Err, List, [], ◌∷◌, length, set, get_or-set_same, get_or-set_other}
+use Rattle.std.proofs.Common.{◌≡◌, ◌≢◌, ℕ, zero, suc, ◌+◌, ◌-◌, ◌<◌, ◌≤◌, ℤ, ◌+ℤ◌, ◌≤ℤ◌, Bool, true, false, ◌==◌, if◌then◌else◌, refl, sym, ◌∙◌, subst, arith, ◌⊎◌, inl, inr, Option, Some, None, Result, Ok, Err, List, [], ◌∷◌, length, set, get_or-set_same, get_or-set_other, length-set}
 use Rattle.std.proofs.lemmas.Int.{ints}
 use Rattle.std.proofs.lemmas.Bool.{cases_lt}
 use Rattle.std.proofs.lemmas.Bool.Decides.{nat_tests}
 use Rattle.std.proofs.lemmas.List.{set_past}
+use Rattle.bpf_insn.specs.declared.operation.Width.TheVariants.{Bits64}
 use Rattle.bpf_insn.specs.declared.operation.Operand.{Operand}
 use Rattle.bpf_insn.specs.declared.operation.Operand.TheVariants.{FromRegister, Immediate}
 use Rattle.bpf_insn.specs.declared.memory.LoadSize.{LoadSize}
 use Rattle.bpf_insn.specs.declared.insn.Insn.TheVariants.{Alu, Negate, MoveSigned, ByteSwap, Load, Store, Jump, Goto, Wide, LoadMap, LoadAddress, Call, Exit}
 use Rattle.machine.specs.declared.regions.Region.{Region}
 use Rattle.machine.specs.declared.regions.Region.TheVariants.{Front, Tail, Stack}
-use Rattle.machine.specs.Memory.{region_size, place_of, size_bytes, load_bytes}
-use Rattle.absdom_num.specs.Tables.{only, negated_range, extended_range, swapped_range}
+use Rattle.bpf_insn.specs.Sizes.{size_bytes, load_bytes}
+use Rattle.machine.specs.Memory.{region_size, place_of}
+use Rattle.absdom_num.specs.Tables.{whole, only, negated_range, extended_range, swapped_range}
 use Rattle.absdom_num.specs.Laws.{AluGrows, NegateGrows, MoveSignedGrows, ByteSwapGrows}
 use Rattle.absdom.specs.declared.cause.Cause.{Cause}
 use Rattle.absdom.specs.declared.cause.Cause.TheVariants.{UnsetStack}
@@ -19,11 +21,10 @@ use Rattle.absdom.specs.declared.kinds.AbsKind.{AbsKind}
 use Rattle.absdom.specs.declared.kinds.AbsKind.TheVariants.{Unset, Num, Ptr, Map}
 use Rattle.absdom.specs.Offsets.{AreAmong}
 use Rattle.absdom.specs.Kinds.{number_of, IsKindBelow}
-use Rattle.absdom.specs.State.{StateValue, IsBelow, kind_in, kind_at, with_kind, with_marks}
+use Rattle.absdom.specs.State.{StateValue, IsBelow, kind_in, kind_at, with_kind, with_marks, IsProper, IsWhole}
 use Rattle.absdom.specs.Marks.{mark_at, all_marked, marked}
 use Rattle.absdom.specs.Effect.{operand_kind, alu_kind, computed_alone, both_places, access_places, is_set, loaded_range, read_kind, load_kind, wrote_at, wrote_to, stored, written, map_kind}
-use Rattle.absdom.specs.Growth.{IsProper, IsWhole, IsGrown}
-use Rattle.absdom.specs.Laws.{ApplyGrows as StatesGrow}
+use Rattle.absdom.specs.Laws.{ApplyGrows as StatesGrow, IsGrown, CallGrows}
 use Rattle.absdom.proofs.Order.{region_from_test, kind_below-refl}
 use Rattle.absdom.proofs.FitsMemory.{IsBetween, HasPlace, place_between, marked_bytes, word_below}
 use Rattle.absdom.proofs.FitsState.{mark_is_new}
@@ -137,7 +138,7 @@ equal_or_not : (m n : ℕ) → (m ≡ n) ⊎ (m ≢ n)
 equal_or_not m n = grind (arith, nat_tests)
 
 -- a mark stays where others are made
-mark_stays : (marks : List Bool) (first bytes p : ℕ) → mark_at marks p ≡ true → mark_at (marked marks first bytes) p ≡ true
+pub mark_stays : (marks : List Bool) (first bytes p : ℕ) → mark_at marks p ≡ true → mark_at (marked marks first bytes) p ≡ true
 unfolding marked
 mark_stays marks first zero p e = e
 mark_stays marks first (suc bytes) p e =
@@ -236,12 +237,12 @@ apply_grows af nf mf bf a b (MoveSigned extension dst src) p q below =
 apply_grows af nf mf bf a b (ByteSwap swap bits dst) p q below =
     written_grows a b dst (computed_alone (swapped_range swap bits) (number_of (kind_at a dst))) (computed_alone (swapped_range swap bits) (number_of (kind_at b dst))) p q below
     (computed_alone_grows (swapped_range swap bits) (bf swap bits) (kind_at a dst) (kind_at b dst) (p.kinds dst) (below.kinds dst))
-apply_grows af nf mf bf a b (Load size dst base offset) p q below =
-    written_grows a b dst (load_kind a size (kind_at a base) offset) (load_kind b size (kind_at b base) offset) p q below
-    (load_grows a b size (kind_at a base) (kind_at b base) offset below (p.kinds base) (below.kinds base))
-apply_grows af nf mf bf a b (Store size base offset src) p q below =
-    store_grows a b (size_bytes size) (kind_at a base) (operand_kind a src) (kind_at b base) (operand_kind b src) offset p.sizes.bytes below (p.kinds base) (below.kinds base) (operand_below a b src below)
-apply_grows af nf mf bf a b (Jump condition width dst src offset) p q below = below
+apply_grows af nf mf bf a b (Load size dst place) p q below =
+    written_grows a b dst (load_kind a size (kind_at a place.base) place.offset) (load_kind b size (kind_at b place.base) place.offset) p q below
+    (load_grows a b size (kind_at a place.base) (kind_at b place.base) place.offset below (p.kinds place.base) (below.kinds place.base))
+apply_grows af nf mf bf a b (Store size place src) p q below =
+    store_grows a b (size_bytes size) (kind_at a place.base) (operand_kind a src) (kind_at b place.base) (operand_kind b src) place.offset p.sizes.bytes below (p.kinds place.base) (below.kinds place.base) (operand_below a b src below)
+apply_grows af nf mf bf a b (Jump comparison offset) p q below = below
 apply_grows af nf mf bf a b (Goto distance) p q below = below
 apply_grows af nf mf bf a b (Wide dst value) p q below =
     with_kind_grows a b dst (Num (only value)) (Num (only value)) (same_size a b p q) (kind_below-refl (Num (only value))) below
@@ -250,3 +251,34 @@ apply_grows af nf mf bf a b (LoadMap dst index) p q below =
 apply_grows af nf mf bf a b (LoadAddress dst address) p q below = below
 apply_grows af nf mf bf a b (Call callee number) p q below = below
 apply_grows af nf mf bf a b Exit p q below = below
+
+-- ---- a helper's call
+
+pub call_grows : CallGrows
+call_grows a b p q below =
+    let e = same_size a b p q in
+    let lengths : (f g : List AbsKind) (r : ℕ) (k : AbsKind) → length f ≡ length g → length (set f r k) ≡ length (set g r k)
+    = λ f g r k same. length-set f r k ∙ same ∙ sym (length-set g r k)
+    in
+    let whole_kind = Num (whole Bits64) in
+    let a0 = with_kind a 0 whole_kind in
+    let b0 = with_kind b 0 whole_kind in
+    let e0 = lengths a.kinds b.kinds 0 whole_kind e in
+    let h0 = with_kind_grows a b 0 whole_kind whole_kind e (kind_below-refl whole_kind) below in
+    let a1 = with_kind a0 1 Unset in
+    let b1 = with_kind b0 1 Unset in
+    let e1 = lengths a0.kinds b0.kinds 1 Unset e0 in
+    let h1 = with_kind_grows a0 b0 1 Unset Unset e0 tt h0 in
+    let a2 = with_kind a1 2 Unset in
+    let b2 = with_kind b1 2 Unset in
+    let e2 = lengths a1.kinds b1.kinds 2 Unset e1 in
+    let h2 = with_kind_grows a1 b1 2 Unset Unset e1 tt h1 in
+    let a3 = with_kind a2 3 Unset in
+    let b3 = with_kind b2 3 Unset in
+    let e3 = lengths a2.kinds b2.kinds 3 Unset e2 in
+    let h3 = with_kind_grows a2 b2 3 Unset Unset e2 tt h2 in
+    let a4 = with_kind a3 4 Unset in
+    let b4 = with_kind b3 4 Unset in
+    let e4 = lengths a3.kinds b3.kinds 4 Unset e3 in
+    let h4 = with_kind_grows a3 b3 4 Unset Unset e3 tt h3 in
+    with_kind_grows a4 b4 5 Unset Unset e4 tt h4

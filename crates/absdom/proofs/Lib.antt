@@ -12,3 +12,4 @@ pub mod GrowState
 pub mod GrowEdges
 pub mod Narrowing
 pub mod MarkBits
+pub mod Leaving

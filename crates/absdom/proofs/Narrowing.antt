@@ -20,7 +20,7 @@ is_number (Ptr region offsets) range e = absurd cc
 is_number (Map index) range e = absurd cc
 
 -- a kind that stood there already
-write_same : (kinds : List AbsKind) (register : ℕ) (kind : AbsKind) → kind_in kinds register ≡ kind → set kinds register kind ≡ kinds
+pub write_same : (kinds : List AbsKind) (register : ℕ) (kind : AbsKind) → kind_in kinds register ≡ kind → set kinds register kind ≡ kinds
 write_same [] register kind e = refl
 write_same (k ∷ kinds) zero kind e = ap (λ x. x ∷ kinds) (sym e)
 write_same (k ∷ kinds) (suc register) kind e = ap (λ xs. k ∷ xs) (write_same kinds register kind e)

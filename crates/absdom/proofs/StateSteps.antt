@@ -1,9 +1,8 @@
 -- States from their kinds and their marks.
 use Rattle.std.proofs.Common.{◌≡◌, ℕ, zero, suc, Bool, true, false, ◌↔◌, IsTrue, sym, ◌∙◌, List, [], ◌∷◌, set}
 use Rattle.absdom.specs.declared.kinds.AbsKind.{AbsKind}
-use Rattle.absdom.specs.State.{StateValue, IsBelow, AreBelow, kind_in}
+use Rattle.absdom.specs.State.{StateValue, IsBelow, AreBelow, kind_in, IsProper}
 use Rattle.absdom.specs.Marks.{mark_at}
-use Rattle.absdom.specs.Growth.{IsProper}
 
 -- the kinds are below, so the states are where the marks are
 pub below_by_marks : (a b : StateValue) (r : Bool) → AreBelow a.kinds b.kinds → (IsTrue r ↔ ((place : ℕ) → mark_at b.marks place ≡ true → mark_at a.marks place ≡ true)) → IsTrue r ↔ IsBelow a b

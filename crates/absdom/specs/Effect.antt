@@ -14,7 +14,8 @@ use Rattle.bpf_insn.specs.declared.insn.Insn.TheVariants.{Alu, Negate, MoveSigne
 use Rattle.machine.specs.declared.regions.Region.{Region}
 use Rattle.machine.specs.declared.regions.Region.TheVariants.{Front, Tail, Stack}
 use Rattle.machine.specs.Words.{word, signed}
-use Rattle.machine.specs.Memory.{place_of, size_bytes, load_bytes}
+use Rattle.bpf_insn.specs.Sizes.{size_bytes, load_bytes}
+use Rattle.machine.specs.Memory.{place_of}
 use Rattle.absdom_num.specs.declared.ranges.Range.{Range}
 use Rattle.absdom_num.specs.Tables.{only, alu_range, negated_range, extended_range, swapped_range}
 use Rattle.absdom.specs.declared.cause.Cause.{Cause}
@@ -206,10 +207,10 @@ applied a (Alu op width dst src) = written a dst (alu_kind op width (kind_at a d
 applied a (Negate width dst) = written a dst (computed_alone (negated_range width) (number_of (kind_at a dst)))
 applied a (MoveSigned extension dst src) = written a dst (computed_alone (extended_range extension) (number_of (kind_at a src)))
 applied a (ByteSwap swap bits dst) = written a dst (computed_alone (swapped_range swap bits) (number_of (kind_at a dst)))
-applied a (Load size dst base offset) = written a dst (load_kind a size (kind_at a base) offset)
-applied a (Store size base offset src) =
-    stored a (size_bytes size) (kind_at a base) offset (number_of (operand_kind a src))
-applied a (Jump condition width dst src offset) = Ok a
+applied a (Load size dst place) = written a dst (load_kind a size (kind_at a place.base) place.offset)
+applied a (Store size place src) =
+    stored a (size_bytes size) (kind_at a place.base) place.offset (number_of (operand_kind a src))
+applied a (Jump comparison offset) = Ok a
 applied a (Goto distance) = Ok a
 applied a (Wide dst value) = Ok (with_kind a dst (Num (only value)))
 applied a (LoadMap dst index) = Ok (with_kind a dst (map_kind index))

@@ -49,7 +49,7 @@ pub record Fits (s : State) (a : StateValue) : Type 0 where
 -- the machine goes on at that slot, in a state that fits: it neither traps nor ends
 abbrev pub GoesOn : Outcome → (slot : ℕ) → StateValue → Type 0
 GoesOn (Next t) slot a = (t.slot ≡ slot) × Fits t a
-GoesOn (Ask helper map key on) slot a = ⊥
+GoesOn (Ask question on) slot a = ⊥
 GoesOn (Verdict n) slot a = ⊥
 GoesOn Trap slot a = ⊥
 
@@ -85,9 +85,9 @@ GoesStraight (Alu op width dst src) = dst ≢ 10
 GoesStraight (Negate width dst) = dst ≢ 10
 GoesStraight (MoveSigned extension dst src) = dst ≢ 10
 GoesStraight (ByteSwap swap bits dst) = dst ≢ 10
-GoesStraight (Load size dst base offset) = dst ≢ 10
-GoesStraight (Store size base offset src) = Unit {0}
-GoesStraight (Jump condition width dst src offset) = ⊥
+GoesStraight (Load size dst place) = dst ≢ 10
+GoesStraight (Store size place src) = Unit {0}
+GoesStraight (Jump comparison offset) = ⊥
 GoesStraight (Goto distance) = ⊥
 GoesStraight (Wide dst value) = (dst ≢ 10) × (value < 2 ^ 64)
 GoesStraight (LoadMap dst index) = (dst ≢ 10) × IsIndex index

@@ -1,18 +1,23 @@
 -- What holds of the states of the verifier.
-use Rattle.std.specs.Prelude.{ℕ, ◌+◌, ◌<◌, ◌^◌, ℤ}
+use Rattle.std.specs.Prelude.{◌≡◌, ℕ, ◌+◌, ◌<◌, ◌^◌, ℤ, true, false, Option, Some, None, Result, Ok, Err, IfSome, IfOk}
+use Rattle.bpf_insn.specs.declared.operation.Comparison.{Comparison}
 use Rattle.bpf_insn.specs.declared.operation.Width.{Width}
 use Rattle.bpf_insn.specs.declared.operation.Condition.{Condition}
 use Rattle.bpf_insn.specs.declared.operation.Operand.{Operand}
+use Rattle.bpf_insn.specs.declared.insn.Callee.{Callee}
 use Rattle.bpf_insn.specs.declared.insn.Insn.{Insn}
-use Rattle.bpf_insn.specs.declared.insn.Insn.TheVariants.{Jump}
+use Rattle.bpf_insn.specs.declared.insn.Insn.TheVariants.{Jump, Call}
+use Rattle.bpf_insn.specs.Flow.{is_written}
 use Rattle.bpf_insn.specs.Spelling.{slots_of}
 use Rattle.machine.specs.Memory.{Header, IsHeader}
 use Rattle.machine.specs.State.{State, entry_state}
 use Rattle.machine.specs.Step.{perform, answered}
-use Rattle.absdom.specs.State.{StateValue, IsBelow, IsJoin, IsEntry, AreAlike, after_call}
+use Rattle.machine.specs.Laws.{is_store}
+use Rattle.absdom.specs.declared.cause.Cause.{Cause}
+use Rattle.absdom.specs.Marks.{mark_at}
+use Rattle.absdom.specs.State.{StateValue, IsWhole, IsBelow, IsJoin, IsEntry, AreAlike, kind_at, after_call}
 use Rattle.absdom.specs.Effect.{applied}
-use Rattle.absdom.specs.Edges.{refined_edges}
-use Rattle.absdom.specs.Growth.{IsWhole, IsGrown, AreEdgesGrown}
+use Rattle.absdom.specs.Edges.{Edges, refined_edges}
 use Rattle.absdom.specs.Fits.{Fits, IsSound, GoesStraight, TakesEdge}
 
 -- whatever fits the first fits the second, where the first is below it
@@ -57,8 +62,29 @@ ApplyFits =
 -- where a comparison is not refused, every state that fits fits the edge that it takes
 abbrev pub RefineFits : Type 0
 RefineFits =
-    (header : Header) (s : State) (a : StateValue) (condition : Condition) (width : Width) (dst : ℕ) (src : Operand) (offset : ℤ)
-    → Fits s a → TakesEdge s offset (perform header s (Jump condition width dst src offset)) (refined_edges a condition width dst src)
+    (header : Header) (s : State) (a : StateValue) (comparison : Comparison) (offset : ℤ) → Fits s a
+    → TakesEdge s offset (perform header s (Jump comparison offset))
+    (refined_edges a comparison.condition comparison.width comparison.dst comparison.src)
+
+-- ---- larger states give larger ones
+
+-- where the larger result is not refused, neither is the smaller, and it is below
+abbrev pub IsGrown : (small large : Result StateValue Cause) → Type 0
+IsGrown small (Err cause) = Unit {0}
+IsGrown (Err cause) (Ok large) = ⊥
+IsGrown (Ok small) (Ok large) = IsBelow small large
+
+-- where the smaller edge is followed, so is the larger, and it is above
+abbrev pub IsEdgeBelow : (small large : Option StateValue) → Type 0
+IsEdgeBelow None large = Unit {0}
+IsEdgeBelow (Some small) None = ⊥
+IsEdgeBelow (Some small) (Some large) = IsBelow small large
+
+-- where the larger state is not refused, neither is the smaller, and each of its edges is below
+abbrev pub AreEdgesGrown : (small large : Result Edges Cause) → Type 0
+AreEdgesGrown small (Err cause) = Unit {0}
+AreEdgesGrown (Err cause) (Ok large) = ⊥
+AreEdgesGrown (Ok small) (Ok large) = IsEdgeBelow small.taken large.taken × IsEdgeBelow small.not_taken large.not_taken
 
 -- of a smaller state an instruction gives a smaller one, and it is not refused where that of the larger is not
 abbrev pub ApplyGrows : Type 0
@@ -71,7 +97,41 @@ RefineGrows =
     (a b : StateValue) (condition : Condition) (width : Width) (dst : ℕ) (src : Operand) → IsWhole a → IsWhole b → IsBelow a b
     → AreEdgesGrown (refined_edges a condition width dst src) (refined_edges b condition width dst src)
 
+-- and a helper's call
+abbrev pub CallGrows : Type 0
+CallGrows =
+    (a b : StateValue) → IsWhole a → IsWhole b → IsBelow a b → IsBelow (after_call a) (after_call b)
+
 -- and a join
 abbrev pub JoinGrows : Type 0
 JoinGrows =
     (a b c d first second : StateValue) → IsJoin a b first → IsJoin c d second → IsBelow a c → IsBelow b d → IsBelow first second
+
+-- ---- what an instruction leaves
+
+-- an instruction leaves what is known of the registers that it does not write, and each mark; one that is no
+-- store makes none
+pub record IsLeftBy (insn : Insn) (before after : StateValue) : Type 0 where
+  pub kinds : (k : ℕ) → is_written insn k ≡ false → kind_at after k ≡ kind_at before k
+  pub marks : (place : ℕ) → mark_at before.marks place ≡ true → mark_at after.marks place ≡ true
+  pub unstored : is_store insn ≡ false → after.marks ≡ before.marks
+
+-- an instruction that is not refused leaves what it does not write
+abbrev pub ApplyLeaves : Type 0
+ApplyLeaves = (a : StateValue) (insn : Insn) → IfOk (applied a insn) (IsLeftBy insn a)
+
+-- and so does a helper's call
+abbrev pub CallLeaves : Type 0
+CallLeaves =
+    (a : StateValue) (callee : Callee) (number : ℤ) → IsLeftBy (Call callee number) a (after_call a)
+
+-- what is known on each edge that is followed says all that was known before
+pub record AreEdgesBelow (edges : Edges) (a : StateValue) : Type 0 where
+  pub taken : IfSome edges.taken (λ edge. IsBelow edge a)
+  pub not_taken : IfSome edges.not_taken (λ edge. IsBelow edge a)
+
+-- a comparison that is not refused only refines
+abbrev pub RefineShrinks : Type 0
+RefineShrinks =
+    (a : StateValue) (condition : Condition) (width : Width) (dst : ℕ) (src : Operand)
+    → IfOk (refined_edges a condition width dst src) (λ edges. AreEdgesBelow edges a)

@@ -7,5 +7,4 @@ pub mod Effect
 pub mod Edges
 pub mod Fits
 pub mod Laws
-pub mod Growth
 pub mod Bits

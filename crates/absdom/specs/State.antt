@@ -1,10 +1,11 @@
 -- What is known at a slot: of each register and of each byte of the stack (a choice of this project).
-use Rattle.std.specs.Prelude.{◌≡◌, ℕ, Bool, true, false, ◌&&◌, List, [], ◌∷◌, length, pos, slice_index_or, slice_set}
+use Rattle.std.specs.Prelude.{◌≡◌, ℕ, Bool, true, false, ◌&&◌, List, [], ◌∷◌, length, pos, slice_index_or, slice_set, ◌≤ℤ◌}
 use Rattle.machine.specs.declared.regions.Region.TheVariants.{Front, Tail, Stack}
 use Rattle.bpf_insn.specs.declared.operation.Width.TheVariants.{Bits64}
+use Rattle.absdom_num.specs.Ranges.{IsRange}
 use Rattle.absdom_num.specs.Tables.{whole}
 use Rattle.absdom.specs.declared.kinds.AbsKind.{AbsKind}
-use Rattle.absdom.specs.declared.kinds.AbsKind.TheVariants.{Unset, Num, Ptr}
+use Rattle.absdom.specs.declared.kinds.AbsKind.TheVariants.{Unset, Num, Ptr, Map}
 use Rattle.absdom.specs.Kinds.{joined, IsKindBelow}
 use Rattle.absdom.specs.Marks.{mark_at}
 
@@ -25,6 +26,18 @@ kind_in kinds register = slice_index_or kinds register Unset
 -- what is known of a register
 abbrev pub kind_at : StateValue → (register : ℕ) → AbsKind
 kind_at a register = kind_in a.kinds register
+
+-- the ends of a range, or of offsets, stand in order
+abbrev pub IsProper : AbsKind → Type 0
+IsProper Unset = Unit {0}
+IsProper (Num range) = IsRange range
+IsProper (Ptr region offsets) = offsets.0 ≤ℤ offsets.1
+IsProper (Map index) = Unit {0}
+
+-- what every state is: eleven registers, each of a proper kind, and 512 bytes
+pub record IsWhole (a : StateValue) : Type 0 where
+  pub sizes : IsState a
+  pub kinds : (register : ℕ) → IsProper (kind_at a register)
 
 -- what is known after a register was written
 abbrev pub with_kind : StateValue → (register : ℕ) → AbsKind → StateValue

@@ -1,7 +1,8 @@
 //! Loads and stores through a pointer (RFC 9669, section 5).
 
 ghost use Rattle.std.specs.Prelude.{◌≡◌, ◌+◌, ◌-◌, ◌^◌, ◌<◌, ◌≤◌, ◌≤ℤ◌, ◌+ℤ◌, pos, negsuc, IfSome, Some};
-ghost use Rattle.machine.specs.Memory.{place_within, place_of, size_bytes, load_bytes};
+ghost use Rattle.bpf_insn.specs.Sizes.{size_bytes, load_bytes};
+ghost use Rattle.machine.specs.Memory.{place_within, place_of};
 ghost use Rattle.absdom.specs.Offsets.{IsOffset};
 ghost use Rattle.absdom.specs.Kinds.{number_of};
 ghost use Rattle.absdom.specs.Effect.{access_places, is_set, loaded_range, read_kind, load_kind, wrote, wrote_at, wrote_to, stored, AreInside, Becomes};
@@ -13,35 +14,6 @@ use crate::state::State;
 use absdom_num::Range;
 use bpf_insn::{LoadSize, Size};
 use machine::Region;
-
-/// How many bytes a store writes.
-fn size_bytes(size: Size) -> usize
-    ensures value { result ≡ size_bytes size }
-    ensures bound { result ≤ 8 }
-{
-    match size {
-        Size::Byte => 1,
-        Size::Half => 2,
-        Size::Word => 4,
-        Size::Double => 8,
-    }
-}
-
-/// How many bytes a load reads.
-fn load_bytes(size: LoadSize) -> usize
-    ensures value { result ≡ load_bytes size }
-    ensures bound { result ≤ 8 }
-{
-    match size {
-        LoadSize::LoadByte => 1,
-        LoadSize::LoadHalf => 2,
-        LoadSize::LoadWord => 4,
-        LoadSize::LoadDouble => 8,
-        LoadSize::SignedByte => 1,
-        LoadSize::SignedHalf => 2,
-        LoadSize::SignedWord => 4,
-    }
-}
 
 /// The place of the first of so many bytes, where all of them lie in memory of that size.
 fn place_within(size: usize, bytes: usize, place: i32) -> Option<usize>
@@ -78,11 +50,11 @@ fn place(region: Region, bytes: usize, offset: i32) -> Option<usize>
     ensures value { result ≡ place_of region bytes offset }
     ensures bound { IfSome result (λ first. first + bytes ≤ 512) }
 {
-    match region {
-        Region::Front => place_within(4, bytes, offset),
-        Region::Tail => place_within(12, bytes, offset),
-        Region::Stack => place_within(512, bytes, from_bottom(offset)),
-    }
+    let from_start = match region {
+        Region::Front | Region::Tail => offset,
+        Region::Stack => from_bottom(offset),
+    };
+    place_within(region.size(), bytes, from_start)
 }
 
 /// The sum of a pointer's offset and an instruction's.
@@ -144,7 +116,7 @@ fn read(
 ) -> Result<AbsKind, Cause>
     ensures { result ≡ read_kind state.now size region (access_places region (load_bytes size) offsets offset) }
 {
-    let bytes = load_bytes(size);
+    let bytes = size.bytes();
     match access(region, bytes, offsets, offset) {
         Some((lowest, highest)) => {
             if is_set(state, region, bytes, lowest, highest) {
@@ -205,7 +177,7 @@ pub(crate) fn store(
         AbsKind::Num(_) => Err(Cause::KindMismatch),
         AbsKind::Ptr(region, offsets) => store_to(
             state,
-            size_bytes(size),
+            size.bytes(),
             *region,
             *offsets,
             offset,

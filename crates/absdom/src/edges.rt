@@ -15,11 +15,7 @@ use bpf_insn::{Condition, Operand, Register, Width};
 fn immediate(width: Width, value: i32) -> u64
     ensures { result ≡ low width (word value) }
 {
-    let value = machine::word(i64::from(value));
-    match width {
-        Width::Bits32 => value % (1 << 32),
-        Width::Bits64 => value,
-    }
+    machine::low(width, machine::word(i64::from(value)))
 }
 
 /// The range of a comparison's second operand: an immediate counts by the bits that the comparison reads.

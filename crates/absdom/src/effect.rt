@@ -1,10 +1,7 @@
 //! What an instruction does to what is known.
 
 ghost use Rattle.std.specs.Prelude.{◌≡◌};
-ghost use Rattle.machine.specs.Memory.{size_bytes};
-ghost use Rattle.absdom.specs.Kinds.{number_of};
-ghost use Rattle.absdom.specs.State.{kind_at};
-ghost use Rattle.absdom.specs.Effect.{operand_kind, alu_kind, map_kind, stored, written, applied, Becomes};
+ghost use Rattle.absdom.specs.Effect.{operand_kind, map_kind, written, applied, Becomes};
 
 use crate::access::{load, store};
 use crate::arithmetic::{alu, byte_swap, move_signed, negate};
@@ -12,7 +9,7 @@ use crate::cause::Cause;
 use crate::kinds::AbsKind;
 use crate::state::State;
 use absdom_num::Range;
-use bpf_insn::{AluOp, Insn, Operand, Register, Size, Width};
+use bpf_insn::{AluOp, Insn, LoadSize, Operand, Place, Register, Size, Width};
 
 /// What is known of an operand: a register's kind, or the number of an immediate with its sign extended.
 pub(crate) fn operand(state: &State, operand: &Operand) -> AbsKind
@@ -50,25 +47,27 @@ fn arithmetic(
     dst: Register,
     src: &Operand,
 ) -> Result<(), Cause>
-    ensures { Becomes result state.old state.new (written state.old dst (alu_kind op width (kind_at state.old dst) (operand_kind state.old src.now))) }
+    ensures { Becomes result state.old state.new (applied state.old (Insn.Alu op width dst src.now)) }
 {
     let kind = alu(op, width, &state.kind(dst), &operand(state, src));
     write(state, dst, kind)
 }
 
-/// A store of an operand through a register.
-fn put(
-    state: &mut State,
-    size: Size,
-    base: Register,
-    offset: i16,
-    src: &Operand,
-) -> Result<(), Cause>
-    ensures { Becomes result state.old state.new (stored state.old (size_bytes size) (kind_at state.old base) offset (number_of (operand_kind state.old src.now))) }
+/// A load from a place into a register.
+fn fetch(state: &mut State, size: LoadSize, dst: Register, place: &Place) -> Result<(), Cause>
+    ensures { Becomes result state.old state.new (applied state.old (Insn.Load size dst place.now)) }
 {
-    let pointer = state.kind(base);
+    let kind = load(state, size, &state.kind(place.base), place.offset);
+    write(state, dst, kind)
+}
+
+/// A store of an operand to a place.
+fn put(state: &mut State, size: Size, place: &Place, src: &Operand) -> Result<(), Cause>
+    ensures { Becomes result state.old state.new (applied state.old (Insn.Store size place.now src.now)) }
+{
+    let pointer = state.kind(place.base);
     let value = operand(state, src);
-    store(state, size, &pointer, offset, &value)
+    store(state, size, &pointer, place.offset, &value)
 }
 
 impl State {
@@ -108,21 +107,8 @@ impl State {
                 let kind = byte_swap(*swap, *bits, &self.kind(*dst));
                 write(self, *dst, kind)
             }
-            Insn::Load {
-                size,
-                dst,
-                base,
-                offset,
-            } => {
-                let kind = load(self, *size, &self.kind(*base), *offset);
-                write(self, *dst, kind)
-            }
-            Insn::Store {
-                size,
-                base,
-                offset,
-                src,
-            } => put(self, *size, *base, *offset, src),
+            Insn::Load { size, dst, place } => fetch(self, *size, *dst, place),
+            Insn::Store { size, place, src } => put(self, *size, place, src),
             Insn::Wide { dst, value } => {
                 write(self, *dst, Ok(AbsKind::Num(Range::single(*value))))
             }

@@ -1,6 +1,6 @@
 //! Laws about states. Each function does nothing: its contract is the law.
 
-ghost use Rattle.absdom.specs.Laws.{BelowFits, BelowIsReflexive, BelowIsTransitive, BelowIsAntisymmetric, EntryFits, CallFits, JoinIsAbove, JoinIsLeast, ApplyFits, RefineFits, ApplyGrows, RefineGrows, JoinGrows};
+ghost use Rattle.absdom.specs.Laws.{BelowFits, BelowIsReflexive, BelowIsTransitive, BelowIsAntisymmetric, EntryFits, CallFits, JoinIsAbove, JoinIsLeast, ApplyFits, RefineFits, ApplyGrows, RefineGrows, JoinGrows, CallGrows, ApplyLeaves, CallLeaves, RefineShrinks};
 
 /// A law and no work: whatever fits a state fits every state above it, and the order is one.
 pub fn order_of_states()
@@ -61,6 +61,33 @@ pub fn apply_grows()
 {
     absdom_num::results_grow();
 }
+
+/// A law and no work: an instruction that [`apply`] does not refuse leaves the kinds of the registers that it
+/// does not write, and clears no mark; one that is no store makes none. So does [`State::call`] for what a
+/// helper's call leaves.
+///
+/// [`apply`]: crate::State::apply
+/// [`State::call`]: crate::State::call
+pub fn apply_leaves()
+    ensures apply { ApplyLeaves }
+    ensures call { CallLeaves }
+{}
+
+/// A law and no work: what [`refine`] tells of an edge that is followed is below the state that was refined.
+///
+/// [`refine`]: crate::refine
+pub fn refine_shrinks()
+    ensures { RefineShrinks }
+{
+    absdom_num::edges_shrink();
+}
+
+/// A law and no work: of a smaller state [`State::call`] gives a smaller one.
+///
+/// [`State::call`]: crate::State::call
+pub fn after_call_grows()
+    ensures { CallGrows }
+{}
 
 /// A law and no work: of a smaller state [`refine`] gives smaller edges, follows none that it does not follow
 /// from the larger, and does not refuse where it does not at the larger.

@@ -24,8 +24,8 @@ pub use cause::Cause;
 pub use edges::refine;
 pub use kinds::AbsKind;
 pub use laws::{
-    after_call_fits, apply_fits, apply_grows, entry_fits, join_is_least, order_of_states,
-    refine_fits, refine_grows,
+    after_call_fits, after_call_grows, apply_fits, apply_grows, apply_leaves, entry_fits,
+    join_is_least, order_of_states, refine_fits, refine_grows, refine_shrinks,
 };
 pub use machine::Region;
 pub use offsets::Offsets;

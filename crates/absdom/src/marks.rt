@@ -3,13 +3,11 @@
 ghost use Rattle.std.specs.Prelude.{◌≡◌, ℕ, ◌+◌, ◌-◌, ◌<◌, ◌≤◌, ◌↔◌, ◌&&◌, IsTrue, true, false, length, slice_set};
 ghost use Rattle.absdom.specs.Marks.{mark_at, all_marked, marked};
 
+use machine::STACK_SIZE;
 use std::marker::Model;
 
-/// How many bytes the stack has.
-const STACK: usize = 512;
-
 /// How many words hold a mark for each.
-const WORDS: usize = STACK / 64;
+const WORDS: usize = STACK_SIZE / 64;
 
 /// A mark for each byte of the stack that is known to be set: the bits of words, the lowest first. Place 0 is
 /// the byte at offset -512.
@@ -98,7 +96,7 @@ impl Marks {
         ensures { IsTrue result ↔ ((place : ℕ) → mark_at other.now place ≡ true → mark_at self.now place ≡ true) }
     {
         let _ = &other.words;
-        for place in 0..STACK {
+        for place in 0..STACK_SIZE {
             if other.is_set(place) && !self.is_set(place) {
                 return false;
             }

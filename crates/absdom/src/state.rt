@@ -2,20 +2,16 @@
 
 ghost use Rattle.std.specs.Prelude.{◌≡◌, ◌<◌, ◌≤◌, ◌-◌, ℕ, ◌↔◌, IsTrue, false, length};
 ghost use Rattle.absdom.specs.Kinds.{joined, IsKindBelow};
-ghost use Rattle.absdom.specs.State.{IsState, IsBelow, IsJoin, IsEntry, kind_at, kind_in, with_kind, with_marks, after_call, entry_kinds, AreJoined, AreBelow};
+ghost use Rattle.absdom.specs.State.{IsState, IsWhole, IsBelow, IsJoin, IsEntry, kind_at, kind_in, with_kind, with_marks, after_call, entry_kinds, AreJoined, AreBelow};
 ghost use Rattle.absdom.specs.Marks.{mark_at, all_marked, marked};
-ghost use Rattle.absdom.specs.Growth.{IsWhole};
 
 use crate::kinds::AbsKind;
 use crate::marks::Marks;
 use crate::offsets::Offsets;
 use absdom_num::Range;
-use bpf_insn::Register;
+use bpf_insn::{REGISTERS, Register};
 use machine::Region;
 use std::marker::Model;
-
-/// How many registers the machine has: r0 to r10.
-const REGISTERS: usize = 11;
 
 /// What is known at a slot: the kind of each register, and which bytes of the stack are set.
 #[derive(Clone, Copy, Debug)]
@@ -29,7 +25,7 @@ impl Model for State {
 
     ghost Value = { StateValue };
 
-    ghost use Rattle.absdom.specs.Growth.{IsWhole};
+    ghost use Rattle.absdom.specs.State.{IsWhole};
 
     ghost view = { λ s. record { kinds = s.kinds; marks = s.marks } };
 

@@ -9,9 +9,9 @@ use Rattle.absdom_num.specs.declared.ranges.Range.{Range}
 use Rattle.absdom_num.specs.declared.refinement.Operands.{Operands}
 use Rattle.absdom_num.specs.Ranges.{IsWithin}
 use Rattle.absdom_num.specs.Refinement.{edge, without, apart, when_equal, when_not_equal, when_less, when_at_most, when_greater, when_at_least, when_taken, when_not_taken, reach, refined}
-use Rattle.absdom_num.specs.Laws.{IsBelow, AreBelow, RefineGrows}
+use Rattle.absdom_num.specs.Laws.{IsBelow, AreBelow, RefineGrows, RefineShrinks}
 use Rattle.absdom_num.proofs.Cases.{by_lt, by_le, by_eq}
-use Rattle.absdom_num.proofs.Order.{only_within}
+use Rattle.absdom_num.proofs.Order.{within_same, only_within}
 use Rattle.absdom_num.proofs.Refining.{both, same}
 
 -- operands that are in order, in larger ones
@@ -185,6 +185,11 @@ both_grow : (condition : Condition) (a b c d : Range) → Pair a b c d → AreBe
 both_grow condition a b c d p =
     record { taken = taken_grows condition a b c d p; not_taken = not_taken_grows condition a b c d p }
 
+-- operands in larger ones
+record Inside (a b c d : Range) : Type 0 where
+  pub a_in : IsWithin a c
+  pub b_in : IsWithin b d
+
 -- an edge of ranges inside the operands
 edge_in : (a b c d : Range) → IsWithin a c → IsWithin b d → IsBelow (edge a b) (Some (record { dst = c; src = d }))
 edge_in a b c d r s =
@@ -198,35 +203,35 @@ edge_in a b c d r s =
 abbrev InSame : Option Operands → Range → Range → Type 0
 InSame o c d = IsBelow o (Some (record { dst = c; src = d }))
 
-equal_in : (a b c d : Range) → Pair a b c d → InSame (when_equal a b) c d
+equal_in : (a b c d : Range) → Inside a b c d → InSame (when_equal a b) c d
 equal_in a b c d p =
     edge_in (max a.0 b.0, min a.1 b.1) (max a.0 b.0, min a.1 b.1) c d
     (record { above = omega arith; below = omega arith }) (record { above = omega arith; below = omega arith })
 
-not_equal_in : (a b c d : Range) → Pair a b c d → InSame (when_not_equal a b) c d
+not_equal_in : (a b c d : Range) → Inside a b c d → InSame (when_not_equal a b) c d
 not_equal_in a b c d p = edge_in (apart a b) (apart b a) c d (apart_in a b c p.a_in) (apart_in b a d p.b_in)
 
-less_in : (a b c d : Range) → Pair a b c d → InSame (when_less a b) c d
+less_in : (a b c d : Range) → Inside a b c d → InSame (when_less a b) c d
 less_in a b c d p =
     edge_in (a.0, min a.1 (b.1 - 1)) (max b.0 (a.0 + 1), b.1) c d
     (record { above = omega arith; below = omega arith }) (record { above = omega arith; below = omega arith })
 
-at_most_in : (a b c d : Range) → Pair a b c d → InSame (when_at_most a b) c d
+at_most_in : (a b c d : Range) → Inside a b c d → InSame (when_at_most a b) c d
 at_most_in a b c d p =
     edge_in (a.0, min a.1 b.1) (max b.0 a.0, b.1) c d
     (record { above = omega arith; below = omega arith }) (record { above = omega arith; below = omega arith })
 
-greater_in : (a b c d : Range) → Pair a b c d → InSame (when_greater a b) c d
+greater_in : (a b c d : Range) → Inside a b c d → InSame (when_greater a b) c d
 greater_in a b c d p =
     edge_in (max a.0 (b.0 + 1), a.1) (b.0, min b.1 (a.1 - 1)) c d
     (record { above = omega arith; below = omega arith }) (record { above = omega arith; below = omega arith })
 
-at_least_in : (a b c d : Range) → Pair a b c d → InSame (when_at_least a b) c d
+at_least_in : (a b c d : Range) → Inside a b c d → InSame (when_at_least a b) c d
 at_least_in a b c d p =
     edge_in (max a.0 b.0, a.1) (b.0, min b.1 a.1) c d
     (record { above = omega arith; below = omega arith }) (record { above = omega arith; below = omega arith })
 
-taken_in : (condition : Condition) (a b c d : Range) → Pair a b c d → InSame (when_taken condition a b) c d
+taken_in : (condition : Condition) (a b c d : Range) → Inside a b c d → InSame (when_taken condition a b) c d
 taken_in Equal a b c d p = equal_in a b c d p
 taken_in Greater a b c d p = greater_in a b c d p
 taken_in GreaterEqual a b c d p = at_least_in a b c d p
@@ -239,7 +244,7 @@ taken_in LessEqual a b c d p = at_most_in a b c d p
 taken_in SignedLess a b c d p = less_in a b c d p
 taken_in SignedLessEqual a b c d p = at_most_in a b c d p
 
-not_taken_in : (condition : Condition) (a b c d : Range) → Pair a b c d → InSame (when_not_taken condition a b) c d
+not_taken_in : (condition : Condition) (a b c d : Range) → Inside a b c d → InSame (when_not_taken condition a b) c d
 not_taken_in Equal a b c d p = not_equal_in a b c d p
 not_taken_in Greater a b c d p = at_most_in a b c d p
 not_taken_in GreaterEqual a b c d p = less_in a b c d p
@@ -253,7 +258,7 @@ not_taken_in SignedLess a b c d p = at_least_in a b c d p
 not_taken_in SignedLessEqual a b c d p = greater_in a b c d p
 
 -- where the larger operands are not refined
-refined_in : (condition : Condition) (width : Width) (a b c d : Range) → Pair a b c d → AreBelow (refined condition width a b) (same c d)
+refined_in : (condition : Condition) (width : Width) (a b c d : Range) → Inside a b c d → AreBelow (refined condition width a b) (same c d)
 refined_in condition width a b c d p =
     by_lt
     (λ t. AreBelow (if t && nat_lt b.1 (reach condition width) then both condition a b else same a b) (same c d))
@@ -276,9 +281,14 @@ refined_both condition width a b c d p u v =
     (λ g. absurd (omega (arith, p.b_in))))
     (λ h. absurd (omega (arith, p.a_in)))
 
+pub refine_shrinks : RefineShrinks
+refine_shrinks condition width a b =
+    refined_in condition width a b a b (record { a_in = within_same a; b_in = within_same b })
+
 pub refine_grows : RefineGrows
 refine_grows condition width a b c d o u r s =
     let p : Pair a b c d = record { a_order = o.in_order; b_order = u.in_order; a_in = r; b_in = s } in
+    let q : Inside a b c d = record { a_in = r; b_in = s } in
     by_lt
     (λ t. AreBelow (refined condition width a b) (if t && nat_lt d.1 (reach condition width) then both condition c d else same c d))
     c.1 (reach condition width)
@@ -287,5 +297,5 @@ refine_grows condition width a b c d o u r s =
     (λ t. AreBelow (refined condition width a b) (if t then both condition c d else same c d))
     d.1 (reach condition width)
     (λ g. refined_both condition width a b c d p h g)
-    (λ g. refined_in condition width a b c d p))
-    (λ h. refined_in condition width a b c d p)
+    (λ g. refined_in condition width a b c d q))
+    (λ h. refined_in condition width a b c d q)

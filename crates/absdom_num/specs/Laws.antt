@@ -12,7 +12,7 @@ use Rattle.absdom_num.specs.declared.refinement.Operands.{Operands}
 use Rattle.absdom_num.specs.declared.refinement.Edges.{Edges}
 use Rattle.absdom_num.specs.Ranges.{IsRange, IsIn, IsWithin, joined}
 use Rattle.absdom_num.specs.Tables.{ones_over, alu_range, negated_range, extended_range, swapped_range}
-use Rattle.absdom_num.specs.Refinement.{refined}
+use Rattle.absdom_num.specs.Refinement.{refined, unrefined}
 
 -- every result of numbers in the operands' ranges lies in the result's range
 abbrev pub AluFits : Type 0
@@ -93,6 +93,12 @@ abbrev pub RefineGrows : Type 0
 RefineGrows =
     (condition : Condition) (width : Width) (a b c d : Range) → IsRange a → IsRange b → IsWithin a c → IsWithin b d
     → AreBelow (refined condition width a b) (refined condition width c d)
+
+-- refinement only shrinks: no edge leads to ranges but those inside the operands'
+abbrev pub RefineShrinks : Type 0
+RefineShrinks =
+    (condition : Condition) (width : Width) (a b : Range)
+    → AreBelow (refined condition width a b) (unrefined a b)
 
 -- containment is an order
 abbrev pub IsOrder : Type 0

@@ -96,9 +96,14 @@ reach NotEqual width = modulus width
 reach Less width = modulus width
 reach LessEqual width = modulus width
 
+-- both edges with the ranges as they were
+abbrev pub unrefined : Range → Range → Edges
+unrefined a b =
+    record { taken = Some (record { dst = a; src = b }); not_taken = Some (record { dst = a; src = b }) }
+
 -- the ranges on the two edges. Where nothing is refined, both edges keep them
 abbrev pub refined : Condition → Width → Range → Range → Edges
 refined condition width a b =
     if nat_lt a.1 (reach condition width) && nat_lt b.1 (reach condition width)
     then record { taken = when_taken condition a b; not_taken = when_not_taken condition a b }
-    else record { taken = Some (record { dst = a; src = b }); not_taken = Some (record { dst = a; src = b }) }
+    else unrefined a b

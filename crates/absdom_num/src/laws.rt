@@ -1,6 +1,6 @@
 //! Laws of ranges, each a function that does nothing and ensures the law.
 
-ghost use Rattle.absdom_num.specs.Laws.{AluFits, NegateFits, MoveSignedFits, ByteSwapFits, RefineFits, AluGrows, NegateGrows, MoveSignedGrows, ByteSwapGrows, RefineGrows, IsOrder, IsSound, IsJoin, IsLeastOnes};
+ghost use Rattle.absdom_num.specs.Laws.{AluFits, NegateFits, MoveSignedFits, ByteSwapFits, RefineFits, AluGrows, NegateGrows, MoveSignedGrows, ByteSwapGrows, RefineGrows, RefineShrinks, IsOrder, IsSound, IsJoin, IsLeastOnes};
 
 /// Every result of numbers that fit the operands fits the result.
 pub fn results_fit()
@@ -28,6 +28,11 @@ pub fn results_grow()
 /// least as large.
 pub fn edges_grow()
     ensures { RefineGrows }
+{}
+
+/// The ranges on an edge lie inside the operands': a comparison only refines.
+pub fn edges_shrink()
+    ensures { RefineShrinks }
 {}
 
 /// Containment is an order, in which what fits a range fits every larger one, and the join is the

@@ -11,7 +11,8 @@ mod refinement;
 mod tables;
 
 pub use laws::{
-    edges_fit, edges_grow, ones_are_least, ranges_are_ordered, results_fit, results_grow,
+    edges_fit, edges_grow, edges_shrink, ones_are_least, ranges_are_ordered, results_fit,
+    results_grow,
 };
 pub use ranges::Range;
 pub use refinement::{Edges, Operands, refine};

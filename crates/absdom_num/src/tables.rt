@@ -1,24 +1,12 @@
 //! What arithmetic does to ranges, operation by operation.
 
 ghost use Rattle.std.specs.Prelude.{◌≡◌, ◌+◌, ◌*◌, ◌^◌, ◌<◌, ◌≤◌};
-ghost use Rattle.bpf_insn.specs.Codes.{extension_width};
 ghost use Rattle.machine.specs.Words.{bits_of, modulus};
 ghost use Rattle.absdom_num.specs.Tables.{whole, half, cut, sum_range, difference_range, product_range, quotient_range, remainder_range, ones_over, and_range, or_range, xor_range, distance, left_range, right_range, signed_right_range, row, alu_range, negated_range, sign_bit, extended_range, greatest, swapped_range};
 
 use crate::ranges::Range;
 use bpf_insn::{AluOp, Extension, Swap, SwapBits, Width};
-use machine::{alu_words, extended, negated, swapped};
-
-/// One more than the greatest number of this width.
-fn modulus(width: Width) -> u128
-    ensures value { result ≡ modulus width }
-    ensures bound { result ≤ 2 ^ 64 }
-{
-    match width {
-        Width::Bits32 => 1 << 32,
-        Width::Bits64 => 1 << 64,
-    }
-}
+use machine::{alu_words, extended, modulus, negated, swapped};
 
 /// Every number of this width.
 fn whole(width: Width) -> Range
@@ -272,16 +260,6 @@ fn sign_bit(extension: Extension) -> u64
     }
 }
 
-/// The width that the extension extends to.
-fn extension_width(extension: Extension) -> Width
-    ensures { result ≡ extension_width extension }
-{
-    match extension {
-        Extension::ByteTo32 | Extension::HalfTo32 => Width::Bits32,
-        Extension::ByteTo64 | Extension::HalfTo64 | Extension::WordTo64 => Width::Bits64,
-    }
-}
-
 /// The numbers that a sign-extending move can give (RFC 9669, section 4.1): what is not negative
 /// stays.
 pub fn move_signed(extension: Extension, a: Range) -> Range
@@ -292,7 +270,7 @@ pub fn move_signed(extension: Extension, a: Range) -> Range
     } else if a.high() < sign_bit(extension) {
         a
     } else {
-        whole(extension_width(extension))
+        whole(extension.width())
     }
 }
 

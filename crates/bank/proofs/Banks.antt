@@ -1,8 +1,8 @@
 -- A bank is still one after a judged command.
-use Rattle.std.proofs.Common.{◌≡◌, ℕ, ◌+◌, ◌<◌, ◌++◌, ◌∷◌, [], List, Bool, true, false, eqb, ltb, ◌&&◌, length, get_or, set, refl, sym, ap, ◌∙◌, arith, inl, inr}
+use Rattle.std.proofs.Common.{◌≡◌, ℕ, ◌+◌, ◌-◌, ◌≤◌, ◌<◌, ◌++◌, ◌∷◌, [], List, Bool, true, false, eqb, ltb, ◌&&◌, length, get_or, set, refl, sym, ap, ◌∙◌, arith, inl, inr}
 use Rattle.std.specs.Prelude.{if◌then◌else◌}
 use Rattle.std.specs.List.{range_with_len}
-use Rattle.std.proofs.lemmas.List.{length-set, get_or-set_same, get_or-set_other, map-append, map-id, append-nil}
+use Rattle.std.proofs.lemmas.List.{length-append, length-set, get_or-set_same, get_or-set_other, map-append, map-id, append-nil}
 use Rattle.std.proofs.lemmas.List.Elements.{filter-append}
 use Rattle.std.proofs.lemmas.List.Sums.{fold-append}
 use Rattle.std.proofs.lemmas.List.FromFn.{length-map-range_with_len, map-range_with_len_more}
@@ -15,7 +15,7 @@ use Rattle.rmap.specs.Command.{CommandValue, command_kind, command_of}
 use Rattle.rmap.specs.Windows.{lies_inside}
 use Rattle.bank.specs.Effect.{Memory, effect_of, effect}
 use Rattle.bank.specs.Answer.{is_success, effect_at, status_of}
-use Rattle.bank.specs.Records.{BankValue, ShareValue, JudgedValue, EntryValue, IsBank, memory_of, base_of, replay, after_entry, numbers_of, entry_of, fits, is_next, extent_of, after_command, after_record, answer_of, has_room}
+use Rattle.bank.specs.Records.{BankValue, ShareValue, JudgedValue, EntryValue, AreLastBelow, IsBank, memory_of, base_of, replay, after_entry, numbers_of, entry_of, fits, is_next, extent_of, after_command, after_record, answer_of, has_room}
 
 -- a command leaves as many bytes as there were
 effect_of-length : (kind : Kind) (m : Memory) (c : CommandValue) → length (effect_of kind m c).memory.bytes ≡ length m.bytes
@@ -40,9 +40,22 @@ extent_stays b share judged =
 replay_more : (base m : Memory) (entries : List EntryValue) (e : EntryValue) → m ≡ replay base entries → after_entry m e ≡ replay base (entries ++ e ∷ [])
 replay_more base m entries e h = rw h (sym (fold-append after_entry base entries (e ∷ [])))
 
-range_more : (n : ℕ) → range_with_len 0 n ++ n ∷ [] ≡ range_with_len 0 (n + 1)
-range_more n =
-    sym (sym (map-id (range_with_len 0 (n + 1))) ∙ map-range_with_len_more (λ (x : ℕ). x) 0 n n (omega arith) ∙ ap (λ (l : List ℕ). l ++ n ∷ []) (map-id (range_with_len 0 n)))
+range_more : (start n next : ℕ) → start + n ≡ next → range_with_len start n ++ next ∷ [] ≡ range_with_len start (n + 1)
+range_more start n next last =
+    sym (sym (map-id (range_with_len start (n + 1))) ∙ map-range_with_len_more (λ (x : ℕ). x) start n next last ∙ ap (λ (l : List ℕ). l ++ next ∷ []) (map-id (range_with_len start n)))
+
+-- a count behind the last numbers below it
+more_below : (count : ℕ) (numbers : List ℕ) → AreLastBelow count numbers → AreLastBelow (count + 1) (numbers ++ count ∷ [])
+more_below count numbers last =
+    let few : length numbers ≤ count = last.few in
+    let long : length (numbers ++ count ∷ []) ≡ length numbers + 1 = omega (arith, length-append numbers (count ∷ [])) in
+    let start : count + 1 - (length numbers + 1) ≡ count - length numbers = omega arith in
+    record {
+      few = omega arith;
+      follow = ap (λ (l : List ℕ). l ++ count ∷ []) last.follow
+          ∙ range_more (count - length numbers) (length numbers) count (omega arith)
+          ∙ sym (ap (λ (n : ℕ). range_with_len (count + 1 - n) n) long ∙ ap (λ (n : ℕ). range_with_len n (length numbers + 1)) start);
+    }
 
 -- the numbers of a port with one more entry
 numbers_of-same : (port : ℕ) (entries : List EntryValue) (e : EntryValue) → e.port ≡ port → numbers_of port (entries ++ e ∷ []) ≡ numbers_of port entries ++ e.number ∷ []
@@ -97,10 +110,10 @@ still_bank b share judged status bytes counts bank fit memory new =
           elim (cases_eq judged.port port) [
             | inl same ↦
                 let count : get_or counts port 0 ≡ share.number + 1 = rw (new, ← same) (get_or-set_same b.counts judged.port (share.number + 1) 0 fitted.below) in
-                let numbers : numbers_of port b.journal.entries ≡ range_with_len 0 share.number = rw (fitted.number, same) (bank.numbered port within) in
-                numbers_of-same port b.journal.entries entry same ∙ rw (numbers, count) (range_more share.number)
+                let numbers : AreLastBelow share.number (numbers_of port b.journal.entries) = rw (fitted.number, same) (bank.numbered port within) in
+                rw (count, numbers_of-same port b.journal.entries entry same) (more_below share.number (numbers_of port b.journal.entries) numbers)
             | inr other ↦
                 let count : get_or counts port 0 ≡ get_or b.counts port 0 = rw new (get_or-set_other b.counts judged.port port (share.number + 1) 0 (λ e. other (sym e))) in
-                numbers_of-other port b.journal.entries entry other ∙ rw count (bank.numbered port within)
+                rw (count, numbers_of-other port b.journal.entries entry other) (bank.numbered port within)
           ];
     }

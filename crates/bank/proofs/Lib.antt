@@ -1,3 +1,4 @@
 pub mod Admissions
 pub mod Effects
 pub mod Banks
+pub mod Parts

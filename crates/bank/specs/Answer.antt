@@ -7,7 +7,7 @@ use Rattle.rmap.specs.Command.{CommandValue}
 use Rattle.rmap.specs.Codes.{status_code}
 use Rattle.rmap.specs.Checks.{body_line}
 use Rattle.rmap.specs.Reply.{reply_of}
-use Rattle.bank.specs.Effect.{Memory, Effect, effect}
+use Rattle.bank.specs.Effect.{Memory, Effect, bytes_read, effect}
 
 -- 0 is yes; 3 and 12 are statuses of their own, any other number is not authorised
 abbrev pub verdict_line : ℕ → Option Status
@@ -42,6 +42,14 @@ is_success status = status_code status == 0
 -- a command that is not executed leaves memory, and its reply has no data
 abbrev pub effect_at : Status → Memory → CommandValue → Effect
 effect_at status m c = if is_success status then effect m c else record { memory = m; reply = [] }
+
+-- the reply to a command that was executed and read the first n bytes
+abbrev pub read_reply : Memory → CommandValue → ℕ → List ℕ
+read_reply m c n = reply_of c Success (bytes_read m c n)
+
+-- the reply to a command that was executed
+abbrev pub executed_reply : Memory → CommandValue → List ℕ
+executed_reply m c = reply_of c Success (effect m c).reply
 
 -- status, memory and reply of a judged command with verdict v
 pub record Answer : Type 0 where

@@ -13,7 +13,11 @@ pub record Memory : Type 0 where
   pub first : ℕ
   pub bytes : List ℕ
 
--- the byte at an address
+-- the memory of those bytes, the first of them at that address
+abbrev pub memory_at : (first : ℕ) → List ℕ → Memory
+memory_at first bytes = record { first = first; bytes = bytes }
+
+-- the byte at an address of memory; at others it says nothing
 abbrev pub byte_at : Memory → ℕ → ℕ
 byte_at m address = slice_index m.bytes (address - m.first)
 

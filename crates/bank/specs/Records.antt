@@ -6,10 +6,11 @@ use Rattle.rmap.specs.declared.status.Status.{Status}
 use Rattle.rmap.specs.Windows.{lies_inside}
 use Rattle.rmap.specs.Command.{command_of}
 use Rattle.bank.specs.Admission.{IsAdmitted}
-use Rattle.bank.specs.Effect.{Memory}
+use Rattle.bank.specs.Effect.{Memory, Effect, memory_at}
 use Rattle.std.specs.List.{range_with_len}
 use Rattle.bank.specs.Answer.{Answer, answer, effect_at, is_success}
 use Rattle.rmap.specs.Checks.{body_line}
+use Rattle.rmap.specs.Reply.{reply_of}
 
 -- a command that the checks of its header let pass: its packet, and where its bytes lie
 pub record AdmittedValue : Type 0 where
@@ -99,8 +100,13 @@ fits b share judged =
 abbrev pub IsExecutable : Status → Cargo → Type 0
 IsExecutable status p = is_success status ≡ true → IsAdmitted p × (body_line (command_of p) ≡ None)
 
+-- the numbers are the last ones below that count, in order and without a gap
+pub record AreLastBelow (count : ℕ) (numbers : List ℕ) : Type 0 where
+  pub few : length numbers ≤ count
+  pub follow : numbers ≡ range_with_len (count - length numbers) (length numbers)
+
 -- a bank has between 1 and 1,048,576 bytes below 2^32 and between 1 and 32 ports. Its memory is the
--- replay of its journal, in which the numbers of each port are 0, 1, 2 and so on
+-- replay of its journal, in which the numbers of each port follow each other up to the port's count
 pub record IsBank (b : BankValue) : Type 0 where
   pub some : 1 ≤ length b.bytes
   pub few : length b.bytes ≤ 1048576
@@ -109,7 +115,7 @@ pub record IsBank (b : BankValue) : Type 0 where
   pub ports : 1 ≤ length b.counts
   pub few_ports : length b.counts ≤ 32
   pub replayed : memory_of b ≡ replay (base_of b) b.journal.entries
-  pub numbered : (port : ℕ) → port < length b.counts → numbers_of port b.journal.entries ≡ range_with_len 0 (slice_index b.counts port)
+  pub numbered : (port : ℕ) → port < length b.counts → AreLastBelow (slice_index b.counts port) (numbers_of port b.journal.entries)
 
 -- an admitted command with a verdict on it
 abbrev pub judgement : AdmittedValue → (port generation verdict : ℕ) → JudgedValue
@@ -139,16 +145,34 @@ fresh_bank base size journal ports = record {
 abbrev pub answer_of : BankValue → JudgedValue → Answer
 answer_of b judged = answer (memory_of b) (has_room b judged.port) (command_of judged.packet) judged.verdict
 
--- the entry of a judged command that ended with that status
-abbrev pub entry_of : ShareValue → JudgedValue → Status → EntryValue
-entry_of share judged status = record {
+-- the entry with that number of a judged command that ended with that status
+abbrev pub numbered_entry : ℕ → JudgedValue → Status → EntryValue
+numbered_entry number judged status = record {
   port = judged.port;
-  number = share.number;
+  number = number;
   packet = judged.packet;
   generation = judged.generation;
   verdict = judged.verdict;
   status = status;
 }
+
+-- the entry of a judged command that ended with that status
+abbrev pub entry_of : ShareValue → JudgedValue → Status → EntryValue
+entry_of share judged status = numbered_entry share.number judged status
+
+-- what a judged command that ended with that status does to those bytes from the first address on
+abbrev pub effect_on : Status → (first : ℕ) → List ℕ → JudgedValue → Effect
+effect_on status first bytes judged =
+    effect_at status (memory_at first bytes) (command_of judged.packet)
+
+-- the memory that it leaves of those bytes
+abbrev pub memory_from : Status → (first : ℕ) → List ℕ → JudgedValue → Memory
+memory_from status first bytes judged = (effect_on status first bytes judged).memory
+
+-- the reply to it, with what it reads from those bytes
+abbrev pub reply_from : Status → (first : ℕ) → List ℕ → JudgedValue → List ℕ
+reply_from status first bytes judged =
+    reply_of (command_of judged.packet) status (effect_on status first bytes judged).reply
 
 -- a bank with the answer's memory, the command's entry behind the others, and the port's next number
 abbrev pub after_record : BankValue → ShareValue → JudgedValue → Answer → BankValue
@@ -163,6 +187,10 @@ after_record b share judged a = record {
 -- a bank after a judged command: as it was where there is no room
 abbrev pub after_command : BankValue → ShareValue → JudgedValue → BankValue
 after_command b share judged = if has_room b judged.port then after_record b share judged (answer_of b judged) else b
+
+-- a bank with a new journal, which begins with the memory of now
+abbrev pub after_rotation : BankValue → JournalValue → BankValue
+after_rotation b fresh = record b { base = b.bytes; journal = fresh }
 
 -- the number of the entry that a judged command leaves
 abbrev pub number_left : BankValue → ShareValue → JudgedValue → Option ℕ

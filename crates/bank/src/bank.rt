@@ -3,12 +3,11 @@
 ghost use Rattle.std.specs.Prelude.{◌≡◌, ◌≤◌, ◌<◌, ◌+◌, ◌-◌, ◌^◌, ◌⊎◌, ◌↔◌, [], ◌∷◌, ◌++◌, length, true, Some, None, IfOk, IsErrOf, slice_index, map, false};
 ghost use Rattle.rmap.specs.Windows.{lies_inside};
 ghost use Rattle.rmap.specs.Command.{command_of};
-ghost use Rattle.rmap.specs.Reply.{reply_of};
-ghost use Rattle.bank.specs.Effect.{Memory};
-ghost use Rattle.bank.specs.Answer.{judged_line, status_of, effect_at};
+ghost use Rattle.bank.specs.Effect.{memory_at};
+ghost use Rattle.bank.specs.Answer.{judged_line, status_of};
 ghost use Rattle.std.specs.List.{range_with_len};
 ghost use Rattle.bank.specs.Limits.{is_bank_size, is_range, is_bank};
-ghost use Rattle.bank.specs.Records.{first_share, fresh_bank, byte_in, fits, is_next, has_room, IsBank, IsExecutable, memory_of, answer_of, after_command, number_left, next_share};
+ghost use Rattle.bank.specs.Records.{first_share, fresh_bank, byte_in, fits, is_next, has_room, IsBank, IsExecutable, memory_of, memory_from, reply_from, base_of, replay, answer_of, after_command, after_rotation, number_left, next_share};
 
 use crate::effect::execute;
 use crate::entry::Entry;
@@ -20,6 +19,7 @@ use rmap::{Command, ReplyBuf, Status, body_fault, put_reply};
 use spw::PORTS;
 use std::alloc::{AllocError, Global};
 use std::marker::Model;
+use std::mem;
 
 /// The most bytes that a bank has.
 pub const MAX_SIZE: u32 = 1_048_576;
@@ -231,26 +231,39 @@ impl Bank {
             number: Some(number),
         }
     }
+
+    /// Begins a new journal and hands the old one out. Memory, counts and shares stay, and the memory
+    /// of now is what the new journal begins with: the replay of the old journal on the base before.
+    /// Condition: `fresh` is empty.
+    pub fn rotate(&mut self, fresh: Journal) -> Journal
+        requires { fresh.entries ≡ [] }
+        ensures bank { self.new ≡ after_rotation self.old fresh }
+        ensures journal { result ≡ self.old.journal }
+        ensures replayed { base_of self.new ≡ replay (base_of self.old) result.entries }
+    {
+        self.base.copy_from_slice(&self.bytes);
+        mem::replace(&mut self.journal, fresh)
+    }
 }
 
 /// Does what a judged command asks for, if it may be done, and leaves the reply.
 fn answer(
-    memory: &mut Vec<u8>,
+    bytes: &mut Vec<u8>,
     first: u32,
     room: bool,
     judged: &Judged,
     reply: &mut ReplyBuf,
 ) -> Status
-    requires { lies_inside first (length memory.old.items) (command_of judged.now.packet) ≡ true }
+    requires { lies_inside first (length bytes.old.items) (command_of judged.now.packet) ≡ true }
     ensures status { result ≡ status_of room (command_of judged.now.packet) judged.now.verdict }
-    ensures memory { record { first = first; bytes = memory.new.items } ≡ (effect_at result (record { first = first; bytes = memory.old.items }) (command_of judged.now.packet)).memory }
-    ensures reply { reply.new ≡ reply_of (command_of judged.now.packet) result (effect_at result (record { first = first; bytes = memory.old.items }) (command_of judged.now.packet)).reply }
+    ensures memory { memory_at first bytes.new.items ≡ memory_from result first bytes.old.items judged.now }
+    ensures reply { reply.new ≡ reply_from result first bytes.old.items judged.now }
     ensures executed { IsExecutable result judged.now.packet }
 {
     let command = judged.command();
     match judged_fault(&command, judged.verdict()) {
         None if room => {
-            execute(memory, first, &command, reply);
+            execute(bytes, first, &command, reply);
             Status::Success
         }
         fault => {

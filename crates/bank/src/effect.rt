@@ -1,12 +1,12 @@
 //! What commands do to the bytes of a bank.
 
-ghost use Rattle.std.specs.Prelude.{◌≡◌, ◌≤◌, ◌<◌, ◌+◌, length, take, true, None};
-ghost use Rattle.rmap.specs.declared.status.Status.TheVariants.{Success as Succeeds};
+ghost use Rattle.std.specs.Prelude.{◌≡◌, ◌≤◌, ◌<◌, ◌+◌, length, take, true, false, None};
+ghost use Rattle.rmap.specs.Command.{increments};
 ghost use Rattle.rmap.specs.Windows.{lies_inside};
 ghost use Rattle.rmap.specs.Checks.{body_line};
-ghost use Rattle.rmap.specs.Reply.{reply_of};
 ghost use Rattle.bank.specs.Admission.{IsAdmissible};
-ghost use Rattle.bank.specs.Effect.{IsWithin, effect, bytes_read, after_write, modified_bytes};
+ghost use Rattle.bank.specs.Effect.{IsWithin, memory_at, effect, byte_at, after_write, modified_bytes};
+ghost use Rattle.bank.specs.Answer.{read_reply, executed_reply};
 
 use rmap::{Command, Kind, MAX_DATA, ReplyBuf, Status, put_reply};
 
@@ -18,7 +18,7 @@ const MAX_MODIFIED: usize = 4;
 fn reply_read(reply: &mut ReplyBuf, command: &Command, memory: &[u8], first: u32, count: usize)
     requires few { count ≤ MAX_DATA }
     requires within { IsWithin first (length memory.now) command.now count }
-    ensures { reply.new ≡ reply_of command.now Succeeds (bytes_read (record { first = first; bytes = memory.now }) command.now count) }
+    ensures { reply.new ≡ read_reply (memory_at first memory.now) command.now count }
 {
     let offset = (command.address() - first) as usize;
     if command.increments() {
@@ -34,18 +34,55 @@ fn reply_read(reply: &mut ReplyBuf, command: &Command, memory: &[u8], first: u32
     }
 }
 
-/// Puts bytes into the memory that begins at the address `first`: each at the next address from the
-/// command's on, or all at that one.
-fn store(memory: &mut [u8], first: u32, command: &Command, bytes: &[u8])
-    requires within { IsWithin first (length memory.old) command.now (length bytes.now) }
-    ensures { memory.new ≡ (after_write (record { first = first; bytes = memory.old }) command.now bytes.now).bytes }
+/// Puts bytes behind each other into the memory that begins at the address `first`, from the command's
+/// address on: those whose addresses are there.
+fn store_next(memory: &mut [u8], first: u32, command: &Command, bytes: &[u8])
+    requires { increments command.now ≡ true }
+    ensures { memory.new ≡ (after_write (memory_at first memory.old) command.now bytes.now).bytes }
 {
-    let offset = (command.address() - first) as usize;
-    if command.increments() {
-        memory[offset..offset + bytes.len()].copy_from_slice(bytes);
-    } else if let Some(last) = bytes.last() {
-        memory[offset] = *last;
+    let address = command.address();
+    let offset = address.saturating_sub(first) as usize;
+    let skipped = first.saturating_sub(address) as usize;
+    if offset < memory.len() && skipped < bytes.len() {
+        let count = (memory.len() - offset).min(bytes.len() - skipped);
+        memory[offset..offset + count].copy_from_slice(&bytes[skipped..skipped + count]);
     }
+}
+
+/// Puts the last byte at the command's address, if the memory that begins at the address `first` has
+/// it.
+fn store_last(memory: &mut [u8], first: u32, command: &Command, bytes: &[u8])
+    requires { increments command.now ≡ false }
+    ensures { memory.new ≡ (after_write (memory_at first memory.old) command.now bytes.now).bytes }
+{
+    let address = command.address();
+    let offset = address.saturating_sub(first) as usize;
+    if let Some(last) = bytes.last() {
+        if first <= address && offset < memory.len() {
+            memory[offset] = *last;
+        }
+    }
+}
+
+/// Puts bytes into the memory that begins at the address `first`, as far as their addresses are there:
+/// each at the next address from the command's on, or all at that one.
+fn store(memory: &mut [u8], first: u32, command: &Command, bytes: &[u8])
+    ensures { memory.new ≡ (after_write (memory_at first memory.old) command.now bytes.now).bytes }
+{
+    if command.increments() {
+        store_next(memory, first, command, bytes);
+    } else {
+        store_last(memory, first, command, bytes);
+    }
+}
+
+/// The byte at an address of the memory that begins at the address `first`. At an address that is not
+/// there it says nothing.
+fn byte_at(memory: &[u8], first: u32, address: u64) -> u8
+    ensures { result ≡ byte_at (memory_at first memory.now) address }
+{
+    let offset = address.saturating_sub(u64::from(first)) as usize;
+    memory.get(offset).copied().unwrap_or(0)
 }
 
 /// What a read-modify-write of `half` bytes writes: of each byte the bits of the data where the mask
@@ -53,19 +90,37 @@ fn store(memory: &mut [u8], first: u32, command: &Command, bytes: &[u8])
 fn modified(memory: &[u8], first: u32, command: &Command, half: usize) -> [u8; MAX_MODIFIED]
     requires few { half ≤ 4 }
     requires body { half + half ≤ length command.now.body }
-    requires within { IsWithin first (length memory.now) command.now half }
-    ensures { take half result ≡ modified_bytes (record { first = first; bytes = memory.now }) command.now half }
+    ensures { take half result ≡ modified_bytes (memory_at first memory.now) command.now half }
 {
-    let offset = (command.address() - first) as usize;
+    let start = u64::from(command.address());
     let increments = command.increments();
     let body = command.body();
     let mut bytes = [0; MAX_MODIFIED];
     for i in 0..half {
-        let old = memory[if increments { offset + i } else { offset }];
+        let address = if increments { start + i as u64 } else { start };
+        let old = byte_at(memory, first, address);
         let mask = body[half + i];
         bytes[i] = body[i] & mask | old & !mask;
     }
     bytes
+}
+
+/// Does what the command does to those of its bytes that are in the memory that begins at the address
+/// `first`.
+pub(crate) fn change(memory: &mut [u8], first: u32, command: &Command)
+    requires admitted { IsAdmissible command.now }
+    requires body { body_line command.now ≡ None }
+    ensures { memory_at first memory.new ≡ (effect (memory_at first memory.old) command.now).memory }
+{
+    let length = command.length() as usize;
+    match command.kind() {
+        Kind::Write => store(memory, first, command, &command.body()[..length]),
+        Kind::Rmw => {
+            let bytes = modified(memory, first, command, length / 2);
+            store(memory, first, command, &bytes[..length / 2]);
+        }
+        Kind::Read | Kind::Unused => {}
+    }
 }
 
 /// Executes the command on the memory that begins at the address `first`, and replies with success.
@@ -73,22 +128,15 @@ pub(crate) fn execute(memory: &mut [u8], first: u32, command: &Command, reply: &
     requires admitted { IsAdmissible command.now }
     requires body { body_line command.now ≡ None }
     requires inside { lies_inside first (length memory.old) command.now ≡ true }
-    ensures memory { record { first = first; bytes = memory.new } ≡ (effect (record { first = first; bytes = memory.old }) command.now).memory }
-    ensures reply { reply.new ≡ reply_of command.now Succeeds (effect (record { first = first; bytes = memory.old }) command.now).reply }
+    ensures memory { memory_at first memory.new ≡ (effect (memory_at first memory.old) command.now).memory }
+    ensures reply { reply.new ≡ executed_reply (memory_at first memory.old) command.now }
 {
     let length = command.length() as usize;
     match command.kind() {
         Kind::Read => reply_read(reply, command, memory, first, length),
-        Kind::Write => {
-            store(memory, first, command, &command.body()[..length]);
-            put_reply(reply, command, Status::Success, &[]);
-        }
-        Kind::Rmw => {
-            let half = length / 2;
-            reply_read(reply, command, memory, first, half);
-            let bytes = modified(memory, first, command, half);
-            store(memory, first, command, &bytes[..half]);
-        }
+        Kind::Write => put_reply(reply, command, Status::Success, &[]),
+        Kind::Rmw => reply_read(reply, command, memory, first, length / 2),
         Kind::Unused => unreachable!(),
     }
+    change(memory, first, command);
 }

@@ -26,11 +26,11 @@ address_is subtype first second =
     cond_both (subtype == 6) (Some (MapValueByIndex first second)) None P (λ yes. (sym (eqb-true subtype 6 yes), refl)) (λ no. tt)))))
 
 -- the operands of a load of an address, by its numbers
-pub load_address : {X : Type 0} (text : X → List ℕ) (names : List ℕ → Option ℕ) (slot : ℕ) (xs : List X) (dst : ℕ) (subtype first second : ℤ) (address : Address)
-    → Four text xs (λ a. WritesNumber a subtype) (λ b. WritesRegister b dst) (λ c. WritesNumber c first) (λ d. WritesNumber d second)
+pub load_address : (names : List ℕ → Option ℕ) (slot : ℕ) (xs : List (List ℕ)) (dst : ℕ) (subtype first second : ℤ) (address : Address)
+    → Four xs (λ a. WritesNumber a subtype) (λ b. WritesRegister b dst) (λ c. WritesNumber c first) (λ d. WritesNumber d second)
     → (pos (address_subtype address) ≡ subtype) × (address_first address ≡ first) × (address_second address ≡ second)
-    → WritesOperands text names slot xs (LoadAddress dst address)
-load_address text names slot xs dst subtype first second address four same = rw (same.0, same.1, same.2) four
+    → WritesOperands names slot xs (LoadAddress dst address)
+load_address names slot xs dst subtype first second address four same = rw (same.0, same.1, same.2) four
 
 -- an address by its own numbers
 pub address_again : (address : Address) → address_of (address_subtype address) (address_first address) (address_second address) ≡ Some address

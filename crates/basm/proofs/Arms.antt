@@ -1,5 +1,5 @@
 -- Which item a right line has, by its first word.
-use Rattle.std.proofs.Common.{true, false, ◌≡◌, ℕ, pos, List, [], ◌∷◌, map, Option, None, refl, sym, ap, ◌∙◌, subst, arith}
+use Rattle.std.proofs.Common.{true, false, ◌≡◌, ℕ, pos, List, [], ◌∷◌, Option, None, refl, sym, ap, ◌∙◌, subst, arith}
 use Rattle.std.specs.Prelude.{◌≢◌, codes}
 use Rattle.std.proofs.lemmas.Bool.{true≢false}
 use Rattle.std.proofs.lemmas.Option.{none-some}
@@ -8,15 +8,14 @@ use Rattle.bpf_insn.specs.declared.insn.Insn.{Insn}
 use Rattle.basm_lex.specs.Lines.{IsLabel, operands_of, word_of}
 use Rattle.basm_lex.specs.Names.{is_name}
 use Rattle.basm_lex.specs.Numbers.{WritesNumber}
-use Rattle.basm_lex.specs.Places.{WritesRegister}
 use Rattle.basm_lex.specs.declared.mnemonics.Mnemonic.{Mnemonic}
 use Rattle.basm.specs.declared.draft.Draft.{Draft}
-use Rattle.basm.specs.Draft.{AddsItem}
+use Rattle.basm.specs.Draft.{AddsItem, WritesLoop}
 use Rattle.basm.specs.Labels.{label_of}
 use Rattle.basm_lex.specs.Mnemonics.{mnemonic_word}
-use Rattle.basm.specs.Relation.{Budget, Code, Four, IsLine, Item, Label, Nothing, One, OneLoop, WritesEnd, WritesInsn}
+use Rattle.basm.specs.Relation.{Budget, Code, IsLine, Item, Label, Nothing, One, OneLoop, WritesInsn}
 use Rattle.basm.proofs.InsnReadings.{insn_named, mnemonic_of}
-use Rattle.basm.proofs.Items.{adds_label, adds_nothing, four_unmap, insn_unmap, not_nil, one_unmap}
+use Rattle.basm.proofs.Items.{adds_label, adds_nothing, not_nil}
 use Rattle.basm.proofs.Surveys.{label_named}
 use Rattle.basm.proofs.Words.{colon_ends}
 
@@ -61,37 +60,37 @@ budget-loop same = absurd (head-ne (tail same))
     head-ne : second (codes ".budget") ≡ second (codes ".loop") → ⊥
     head-ne h = omega arith
 
-pub budget_item : {X : Type 0} (text : X → List ℕ) (xs : List X) (names : List ℕ → Option ℕ) (slot : ℕ) (line : List ℕ) (item : Item) (Q : Item → Type 0) → ((found : Mnemonic) → word_of line ≢ mnemonic_word found) → word_of line ≡ codes ".budget"
-    → map text xs ≡ operands_of line → IsLine names slot line item → ((n : ℕ) → One text xs (λ a. WritesNumber a (pos n)) → Q (Budget n)) → Q item
-budget_item text xs names slot line Nothing Q unknown same operands says then = absurd (not_nil _ _ (sym same ∙ says.0))
-budget_item text xs names slot line (Label name) Q unknown same operands says then = absurd (no_label_here line (codes ".budget") name budget_no_label same says)
-budget_item text xs names slot line (Budget n) Q unknown same operands says then =
-    let P : List (List ℕ) → Type 0 = λ ys. One (λ x. x) ys (λ a. WritesNumber a (pos n)) in then n (one_unmap text xs _ (subst P (sym operands) says.1))
-budget_item text xs names slot line (OneLoop l) Q unknown same operands says then = absurd (budget-loop (sym same ∙ says.0))
-budget_item text xs names slot line (Code insn) Q unknown same operands says then = absurd (unknown (mnemonic_of insn) (says.name ∙ insn_named insn))
+pub budget_item : (xs : List (List ℕ)) (names : List ℕ → Option ℕ) (slot : ℕ) (line : List ℕ) (item : Item) (Q : Item → Type 0) → ((found : Mnemonic) → word_of line ≢ mnemonic_word found) → word_of line ≡ codes ".budget"
+    → xs ≡ operands_of line → IsLine names slot line item → ((n : ℕ) → One xs (λ a. WritesNumber a (pos n)) → Q (Budget n)) → Q item
+budget_item xs names slot line Nothing Q unknown same operands says then = absurd (not_nil _ _ (sym same ∙ says.0))
+budget_item xs names slot line (Label name) Q unknown same operands says then = absurd (no_label_here line (codes ".budget") name budget_no_label same says)
+budget_item xs names slot line (Budget n) Q unknown same operands says then =
+    let P : List (List ℕ) → Type 0 = λ ys. One ys (λ a. WritesNumber a (pos n)) in then n (subst P (sym operands) says.1)
+budget_item xs names slot line (OneLoop l) Q unknown same operands says then = absurd (budget-loop (sym same ∙ says.0))
+budget_item xs names slot line (Code insn) Q unknown same operands says then = absurd (unknown (mnemonic_of insn) (says.name ∙ insn_named insn))
 
-pub loop_item : {X : Type 0} (text : X → List ℕ) (xs : List X) (names : List ℕ → Option ℕ) (slot : ℕ) (line : List ℕ) (item : Item) (Q : Item → Type 0) → ((found : Mnemonic) → word_of line ≢ mnemonic_word found) → word_of line ≡ codes ".loop"
-    → map text xs ≡ operands_of line → IsLine names slot line item → ((l : Loop) → Four text xs (λ a. WritesEnd names a l.head) (λ b. WritesEnd names b l.back) (λ c. WritesNumber c (pos l.bound)) (λ d. WritesRegister d l.register) → Q (OneLoop l)) → Q item
-loop_item text xs names slot line Nothing Q unknown same operands says then = absurd (not_nil _ _ (sym same ∙ says.0))
-loop_item text xs names slot line (Label name) Q unknown same operands says then = absurd (no_label_here line (codes ".loop") name loop_no_label same says)
-loop_item text xs names slot line (Budget n) Q unknown same operands says then = absurd (budget-loop (sym says.0 ∙ same))
-loop_item text xs names slot line (OneLoop l) Q unknown same operands says then =
-    let P : List (List ℕ) → Type 0 = λ ys. Four (λ x. x) ys (λ a. WritesEnd names a l.head) (λ b. WritesEnd names b l.back) (λ c. WritesNumber c (pos l.bound)) (λ d. WritesRegister d l.register) in
-    then l (four_unmap text xs _ _ _ _ (subst P (sym operands) says.1))
-loop_item text xs names slot line (Code insn) Q unknown same operands says then = absurd (unknown (mnemonic_of insn) (says.name ∙ insn_named insn))
+pub loop_item : (xs : List (List ℕ)) (names : List ℕ → Option ℕ) (slot : ℕ) (line : List ℕ) (item : Item) (Q : Item → Type 0) → ((found : Mnemonic) → word_of line ≢ mnemonic_word found) → word_of line ≡ codes ".loop"
+    → xs ≡ operands_of line → IsLine names slot line item → ((l : Loop) → WritesLoop names xs l → Q (OneLoop l)) → Q item
+loop_item xs names slot line Nothing Q unknown same operands says then = absurd (not_nil _ _ (sym same ∙ says.0))
+loop_item xs names slot line (Label name) Q unknown same operands says then = absurd (no_label_here line (codes ".loop") name loop_no_label same says)
+loop_item xs names slot line (Budget n) Q unknown same operands says then = absurd (budget-loop (sym says.0 ∙ same))
+loop_item xs names slot line (OneLoop l) Q unknown same operands says then =
+    let P : List (List ℕ) → Type 0 = λ ys. WritesLoop names ys l in
+    then l (subst P (sym operands) says.1)
+loop_item xs names slot line (Code insn) Q unknown same operands says then = absurd (unknown (mnemonic_of insn) (says.name ∙ insn_named insn))
 
 -- ---- the word of a mnemonic
 
-pub insn_item : {X : Type 0} (text : X → List ℕ) (xs : List X) (names : List ℕ → Option ℕ) (slot : ℕ) (line : List ℕ) (item : Item) (found : Mnemonic) (Q : Item → Type 0) → is_name (word_of line) ≡ true → word_of line ≡ mnemonic_word found
-    → map text xs ≡ operands_of line → IsLine names slot line item → ((insn : Insn) → WritesInsn text names slot (mnemonic_word found) xs insn → Q (Code insn)) → Q item
-insn_item text xs names slot line Nothing found Q plain same operands says then = absurd (not_plain line [] plain says.0 refl)
-insn_item text xs names slot line (Label name) found Q plain same operands says then = absurd (let P : List ℕ → Type 0 = λ w. is_name w ≡ true in colon_ends name (subst P says.1 plain))
-insn_item text xs names slot line (Budget n) found Q plain same operands says then = absurd (not_plain line (codes ".budget") plain says.0 refl)
-insn_item text xs names slot line (OneLoop l) found Q plain same operands says then = absurd (not_plain line (codes ".loop") plain says.0 refl)
-insn_item text xs names slot line (Code insn) found Q plain same operands says then =
-    let P : List (List ℕ) → Type 0 = λ ys. WritesInsn (λ x. x) names slot (mnemonic_word found) ys insn in
-    let R : List ℕ → Type 0 = λ w. WritesInsn (λ x. x) names slot w (operands_of line) insn in
-    then insn (insn_unmap text names slot (mnemonic_word found) xs insn (subst P (sym operands) (subst R same says)))
+pub insn_item : (xs : List (List ℕ)) (names : List ℕ → Option ℕ) (slot : ℕ) (line : List ℕ) (item : Item) (found : Mnemonic) (Q : Item → Type 0) → is_name (word_of line) ≡ true → word_of line ≡ mnemonic_word found
+    → xs ≡ operands_of line → IsLine names slot line item → ((insn : Insn) → WritesInsn names slot (mnemonic_word found) xs insn → Q (Code insn)) → Q item
+insn_item xs names slot line Nothing found Q plain same operands says then = absurd (not_plain line [] plain says.0 refl)
+insn_item xs names slot line (Label name) found Q plain same operands says then = absurd (let P : List ℕ → Type 0 = λ w. is_name w ≡ true in colon_ends name (subst P says.1 plain))
+insn_item xs names slot line (Budget n) found Q plain same operands says then = absurd (not_plain line (codes ".budget") plain says.0 refl)
+insn_item xs names slot line (OneLoop l) found Q plain same operands says then = absurd (not_plain line (codes ".loop") plain says.0 refl)
+insn_item xs names slot line (Code insn) found Q plain same operands says then =
+    let P : List (List ℕ) → Type 0 = λ ys. WritesInsn names slot (mnemonic_word found) ys insn in
+    let R : List ℕ → Type 0 = λ w. WritesInsn names slot w (operands_of line) insn in
+    then insn (subst P (sym operands) (subst R same says))
 
 -- ---- any other word
 

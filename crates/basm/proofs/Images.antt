@@ -10,9 +10,9 @@ use Rattle.bpf_insn.specs.declared.insn.Insn.{Insn}
 use Rattle.bpf.specs.declared.fault.ImageFault.{ImageFault}
 use Rattle.bpf.specs.declared.fault.ImageFault.TheVariants as faults
 use Rattle.bpf.specs.declared.loops.Loop.{Loop}
-use Rattle.bpf.specs.Parts.{are_loops, parts_fault, parts_reading, placed, unless}
+use Rattle.bpf.specs.Parts.{parts_fault, parts_reading, placed, unless}
 use Rattle.bpf.specs.Program.{AreLoops, IsBudget, IsLoop, IsProgram, IsSlotCount, Program, program}
-use Rattle.bpf.specs.Reading.{Fails, is_budget, is_count, is_loop}
+use Rattle.bpf.specs.Reading.{Fails, are_loops, is_budget, is_count, is_loop}
 use Rattle.basm.specs.declared.faults.AsmFault.{AsmFault}
 use Rattle.basm.specs.declared.draft.Draft.{Draft}
 use Rattle.basm.specs.Draft.{IsImageOf}
@@ -39,17 +39,16 @@ count_holds loops slots few count =
 budget_holds : (budget : ℕ) → IsBudget budget → is_budget budget ≡ true
 budget_holds budget is = and_both _ _ (le_holds 1 budget is.0) (le_holds budget 65536 is.1)
 
-loop_holds : (slots least : ℕ) (l : Loop) → least ≤ l.head → IsLoop slots l → is_loop slots least l.head l.back l.bound l.register 0 ≡ true
-loop_holds slots least l above is =
-    let head = and_both _ _ (le_holds least l.head above) (lt_holds l.head l.back is.ordered) in
-    let back = and_both _ _ head (lt_holds l.back slots is.within) in
+loop_holds : (slots : ℕ) (l : Loop) → IsLoop slots l → is_loop slots l ≡ true
+loop_holds slots l is =
+    let back = and_both _ _ (lt_holds l.head l.back is.ordered) (lt_holds l.back slots is.within) in
     let bound = and_both _ _ (and_both _ _ back (le_holds 1 l.bound is.low)) (le_holds l.bound 4096 is.high) in
-    and_both _ _ (and_both _ _ bound (le_holds l.register 9 is.register)) refl
+    and_both _ _ bound (le_holds l.register 9 is.register)
 
 loops_hold : (slots least : ℕ) (ls : List Loop) → AreLoops slots least ls → are_loops slots least ls ≡ true
 loops_hold slots least [] loops = refl
 loops_hold slots least (l ∷ ls) loops =
-    and_both _ _ (loop_holds slots least l loops.0 loops.1) (loops_hold slots (l.head + 1) ls loops.2)
+    and_both _ _ (and_both _ _ (le_holds least l.head loops.0) (loop_holds slots l loops.1)) (loops_hold slots (l.head + 1) ls loops.2)
 
 no_fault : (slots budget : ℕ) (loops : List Loop) → IsSlotCount slots → length loops ≤ 8 → IsBudget budget → AreLoops slots 0 loops → parts_fault slots loops budget ≡ None
 unfolding parts_fault

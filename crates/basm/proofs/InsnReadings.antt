@@ -5,6 +5,7 @@ use Rattle.std.specs.Int.{w16, w32}
 use Rattle.std.specs.declared.result.Result.{Result}
 use Rattle.bpf_insn.specs.declared.operation.Operand.{Operand}
 use Rattle.bpf_insn.specs.declared.operation.Operand.TheVariants.{FromRegister, Immediate}
+use Rattle.bpf_insn.specs.declared.memory.Place.{Place}
 use Rattle.bpf_insn.specs.declared.insn.Address.{Address}
 use Rattle.bpf_insn.specs.declared.insn.Distance.TheVariants.{Short, Long}
 use Rattle.bpf_insn.specs.declared.insn.Insn.{Insn}
@@ -23,10 +24,10 @@ mnemonic_of (Alu op width dst src) = Arithmetic op width
 mnemonic_of (Negate width dst) = Negation width
 mnemonic_of (MoveSigned extension dst src) = SignedMove extension
 mnemonic_of (ByteSwap swap bits dst) = Swapping swap bits
-mnemonic_of (Load size dst base offset) = Loading size
-mnemonic_of (Store size base offset (Immediate value)) = Storing size
-mnemonic_of (Store size base offset (FromRegister src)) = StoringRegister size
-mnemonic_of (Jump condition width dst src offset) = Jumping condition width
+mnemonic_of (Load size dst place) = Loading size
+mnemonic_of (Store size place (Immediate value)) = Storing size
+mnemonic_of (Store size place (FromRegister src)) = StoringRegister size
+mnemonic_of (Jump comparison offset) = Jumping comparison.condition comparison.width
 mnemonic_of (Goto (Short offset)) = ShortGoto
 mnemonic_of (Goto (Long slots)) = LongGoto
 mnemonic_of (Wide dst value) = WideLoad
@@ -40,10 +41,10 @@ insn_named (Alu op width dst src) = refl
 insn_named (Negate width dst) = refl
 insn_named (MoveSigned extension dst src) = refl
 insn_named (ByteSwap swap bits dst) = refl
-insn_named (Load size dst base offset) = refl
-insn_named (Store size base offset (Immediate value)) = refl
-insn_named (Store size base offset (FromRegister src)) = refl
-insn_named (Jump condition width dst src offset) = refl
+insn_named (Load size dst place) = refl
+insn_named (Store size place (Immediate value)) = refl
+insn_named (Store size place (FromRegister src)) = refl
+insn_named (Jump comparison offset) = refl
 insn_named (Goto (Short offset)) = refl
 insn_named (Goto (Long slots)) = refl
 insn_named (Wide dst value) = refl
@@ -52,34 +53,34 @@ insn_named (LoadAddress dst address) = refl
 insn_named (Call callee number) = refl
 insn_named Exit = refl
 
-module _ {X E : Type 0} (text : X → List ℕ) (names : List ℕ → Option ℕ) (slot : ℕ) (xs : List X) (r : Result Insn E) (apart : (m n : Mnemonic) → mnemonic_word m ≡ mnemonic_word n → m ≡ n) where
+module _ {E : Type 0} (names : List ℕ → Option ℕ) (slot : ℕ) (xs : List (List ℕ)) (r : Result Insn E) (apart : (m n : Mnemonic) → mnemonic_word m ≡ mnemonic_word n → m ≡ n) where
   -- the operands are read where the mnemonic is known
   abbrev pub Reads : Mnemonic → Type 0
-  Reads (Arithmetic op width) = (dst : ℕ) (src : Operand) → Two text xs (λ a. WritesRegister a dst) (λ b. WritesOperand b src) → r ≡ Ok (Alu op width dst src)
-  Reads (Negation width) = (dst : ℕ) → One text xs (λ a. WritesRegister a dst) → r ≡ Ok (Negate width dst)
-  Reads (SignedMove extension) = (dst src : ℕ) → Two text xs (λ a. WritesRegister a dst) (λ b. WritesRegister b src) → r ≡ Ok (MoveSigned extension dst src)
-  Reads (Swapping swap bits) = (dst : ℕ) → One text xs (λ a. WritesRegister a dst) → r ≡ Ok (ByteSwap swap bits dst)
-  Reads (Loading size) = (dst base : ℕ) (offset : ℤ) → Two text xs (λ a. WritesRegister a dst) (λ b. WritesPlace b base offset) → r ≡ Ok (Load size dst base offset)
-  Reads (Storing size) = (base : ℕ) (offset value : ℤ) → Two text xs (λ a. WritesPlace a base offset) (λ b. WritesNumber b value) → r ≡ Ok (Store size base offset (Immediate value))
-  Reads (StoringRegister size) = (base src : ℕ) (offset : ℤ) → Two text xs (λ a. WritesPlace a base offset) (λ b. WritesRegister b src) → r ≡ Ok (Store size base offset (FromRegister src))
-  Reads (Jumping condition width) = (dst : ℕ) (src : Operand) (offset : ℤ) → Three text xs (λ a. WritesRegister a dst) (λ b. WritesOperand b src) (λ c. WritesTarget names slot c offset × FitsSigned w16 offset) → r ≡ Ok (Jump condition width dst src offset)
-  Reads ShortGoto = (offset : ℤ) → One text xs (λ a. WritesTarget names slot a offset × FitsSigned w16 offset) → r ≡ Ok (Goto (Short offset))
-  Reads LongGoto = (slots : ℤ) → One text xs (λ a. WritesTarget names slot a slots × FitsSigned w32 slots) → r ≡ Ok (Goto (Long slots))
-  Reads WideLoad = (dst value : ℕ) → Two text xs (λ a. WritesRegister a dst) (λ b. WritesWide b value) → r ≡ Ok (Wide dst value)
-  Reads MapLoad = (dst : ℕ) (index : ℤ) → Two text xs (λ a. WritesRegister a dst) (λ b. WritesNumber b index) → r ≡ Ok (LoadMap dst index)
-  Reads AddressLoad = (dst : ℕ) (address : Address) → Four text xs (λ a. WritesNumber a (pos (address_subtype address))) (λ b. WritesRegister b dst) (λ c. WritesNumber c (address_first address)) (λ d. WritesNumber d (address_second address)) → r ≡ Ok (LoadAddress dst address)
-  Reads (Calling callee) = (number : ℤ) → One text xs (λ a. WritesNumber a number) → r ≡ Ok (Call callee number)
+  Reads (Arithmetic op width) = (dst : ℕ) (src : Operand) → Two xs (λ a. WritesRegister a dst) (λ b. WritesOperand b src) → r ≡ Ok (Alu op width dst src)
+  Reads (Negation width) = (dst : ℕ) → One xs (λ a. WritesRegister a dst) → r ≡ Ok (Negate width dst)
+  Reads (SignedMove extension) = (dst src : ℕ) → Two xs (λ a. WritesRegister a dst) (λ b. WritesRegister b src) → r ≡ Ok (MoveSigned extension dst src)
+  Reads (Swapping swap bits) = (dst : ℕ) → One xs (λ a. WritesRegister a dst) → r ≡ Ok (ByteSwap swap bits dst)
+  Reads (Loading size) = (dst : ℕ) (place : Place) → Two xs (λ a. WritesRegister a dst) (λ b. WritesPlace b place) → r ≡ Ok (Load size dst place)
+  Reads (Storing size) = (place : Place) (value : ℤ) → Two xs (λ a. WritesPlace a place) (λ b. WritesNumber b value) → r ≡ Ok (Store size place (Immediate value))
+  Reads (StoringRegister size) = (place : Place) (src : ℕ) → Two xs (λ a. WritesPlace a place) (λ b. WritesRegister b src) → r ≡ Ok (Store size place (FromRegister src))
+  Reads (Jumping condition width) = (dst : ℕ) (src : Operand) (offset : ℤ) → Three xs (λ a. WritesRegister a dst) (λ b. WritesOperand b src) (λ c. WritesTarget names slot c offset × FitsSigned w16 offset) → r ≡ Ok (Jump (record { condition = condition; width = width; dst = dst; src = src }) offset)
+  Reads ShortGoto = (offset : ℤ) → One xs (λ a. WritesTarget names slot a offset × FitsSigned w16 offset) → r ≡ Ok (Goto (Short offset))
+  Reads LongGoto = (slots : ℤ) → One xs (λ a. WritesTarget names slot a slots × FitsSigned w32 slots) → r ≡ Ok (Goto (Long slots))
+  Reads WideLoad = (dst value : ℕ) → Two xs (λ a. WritesRegister a dst) (λ b. WritesWide b value) → r ≡ Ok (Wide dst value)
+  Reads MapLoad = (dst : ℕ) (index : ℤ) → Two xs (λ a. WritesRegister a dst) (λ b. WritesNumber b index) → r ≡ Ok (LoadMap dst index)
+  Reads AddressLoad = (dst : ℕ) (address : Address) → Four xs (λ a. WritesNumber a (pos (address_subtype address))) (λ b. WritesRegister b dst) (λ c. WritesNumber c (address_first address)) (λ d. WritesNumber d (address_second address)) → r ≡ Ok (LoadAddress dst address)
+  Reads (Calling callee) = (number : ℤ) → One xs (λ a. WritesNumber a number) → r ≡ Ok (Call callee number)
   Reads Exiting = xs ≡ [] → r ≡ Ok Exit
 
-  reads : (insn : Insn) → Reads (mnemonic_of insn) → WritesOperands text names slot xs insn → r ≡ Ok insn
+  reads : (insn : Insn) → Reads (mnemonic_of insn) → WritesOperands names slot xs insn → r ≡ Ok insn
   reads (Alu op width dst src) read w = read dst src w
   reads (Negate width dst) read w = read dst w
   reads (MoveSigned extension dst src) read w = read dst src w
   reads (ByteSwap swap bits dst) read w = read dst w
-  reads (Load size dst base offset) read w = read dst base offset w
-  reads (Store size base offset (Immediate value)) read w = read base offset value w
-  reads (Store size base offset (FromRegister src)) read w = read base src offset w
-  reads (Jump condition width dst src offset) read w = read dst src offset w
+  reads (Load size dst place) read w = read dst place w
+  reads (Store size place (Immediate value)) read w = read place value w
+  reads (Store size place (FromRegister src)) read w = read place src w
+  reads (Jump comparison offset) read w = read comparison.dst comparison.src offset w
   reads (Goto (Short offset)) read w = read offset w
   reads (Goto (Long slots)) read w = read slots w
   reads (Wide dst value) read w = read dst value w
@@ -88,6 +89,6 @@ module _ {X E : Type 0} (text : X → List ℕ) (names : List ℕ → Option ℕ
   reads (Call callee number) read w = read number w
   reads Exit read w = read w
 
-  pub insn_read : (found m : Mnemonic) → found ≡ m → Reads m → (insn : Insn) → WritesInsn text names slot (mnemonic_word found) xs insn → r ≡ Ok insn
+  pub insn_read : (found m : Mnemonic) → found ≡ m → Reads m → (insn : Insn) → WritesInsn names slot (mnemonic_word found) xs insn → r ≡ Ok insn
   insn_read found m same read insn w =
       reads insn (subst Reads (apart m (mnemonic_of insn) (ap mnemonic_word (sym same) ∙ w.name ∙ insn_named insn)) read) w.operands

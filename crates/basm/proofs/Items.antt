@@ -5,114 +5,28 @@ use Rattle.std.specs.Prelude.{codes}
 use Rattle.std.specs.Option.{is_some}
 use Rattle.std.specs.List.{before_first, flat_map, prefix_len}
 use Rattle.std.proofs.lemmas.Bool.{cond_both}
-use Rattle.bpf_insn.specs.declared.insn.Distance.TheVariants.{Short, Long}
 use Rattle.bpf_insn.specs.declared.insn.Insn.{Insn}
-use Rattle.bpf_insn.specs.declared.insn.Insn.TheVariants.{Alu, Negate, MoveSigned, ByteSwap, Load, Store, Jump, Goto, Wide, LoadMap, LoadAddress, Call, Exit}
 use Rattle.bpf.specs.declared.loops.Loop.{Loop}
 use Rattle.bpf.specs.Parts.{placed, second_slots}
 use Rattle.bpf_insn.specs.Spelling.{second_immediate, slots_in as immediate_slots, slots_of}
 use Rattle.basm_lex.specs.Lines.{IsLabel, code_of, drop_spaces, is_semicolon, is_space, operands_of, rest_of, skip_spaces, trimmed, unless_space, word_of}
-use Rattle.basm_lex.specs.Numbers.{WritesNumber}
-use Rattle.basm_lex.specs.Places.{WritesRegister}
 use Rattle.basm.specs.declared.draft.Draft.{Draft}
-use Rattle.basm.specs.Draft.{AddsItem, AddsLine, ArePartsOf, SayParts, slots_of_items}
-use Rattle.basm.specs.Relation.{Item, Nothing, Label, Budget, OneLoop, Code, WritesEnd, AreLines, Four, IsLine, One, Three, Two, WritesInsn, WritesOperands, budget_in, insn_in, loop_in, slots_in}
+use Rattle.basm.specs.Draft.{AddsItem, AddsLine, ArePartsOf, SayParts, WritesLoop, slots_of_items}
+use Rattle.basm.specs.Relation.{Item, Nothing, Label, Budget, OneLoop, Code, AreLines, Four, IsLine, WritesInsn, budget_in, insn_in, loop_in, slots_in}
 
 pub not_nil : {X : Type 0} (c : X) (cs : List X) → c ∷ cs ≡ [] → ⊥
 not_nil c cs same = cc
 
--- ---- operands that lie elsewhere
-
-pub one_map : {X : Type 0} (text : X → List ℕ) (xs : List X) (P : List ℕ → Type 0) → One text xs P → One (λ x. x) (map text xs) P
-one_map text [] P h = h
-one_map text (a ∷ []) P h = h
-one_map text (a ∷ b ∷ xs) P h = h
-
-pub two_map : {X : Type 0} (text : X → List ℕ) (xs : List X) (P Q : List ℕ → Type 0) → Two text xs P Q → Two (λ x. x) (map text xs) P Q
-two_map text [] P Q h = h
-two_map text (a ∷ xs) P Q h = (h.0, one_map text xs Q h.1)
-
-pub three_map : {X : Type 0} (text : X → List ℕ) (xs : List X) (P Q R : List ℕ → Type 0) → Three text xs P Q R → Three (λ x. x) (map text xs) P Q R
-three_map text [] P Q R h = h
-three_map text (a ∷ xs) P Q R h = (h.0, two_map text xs Q R h.1)
-
-pub four_map : {X : Type 0} (text : X → List ℕ) (xs : List X) (P Q R S : List ℕ → Type 0) → Four text xs P Q R S → Four (λ x. x) (map text xs) P Q R S
-four_map text [] P Q R S h = h
-four_map text (a ∷ xs) P Q R S h = (h.0, three_map text xs Q R S h.1)
+-- ---- operands
 
 pub four_from : {X : Type 0} (text : X → List ℕ) (xs : List X) (d : X) (P Q R S : List ℕ → Type 0) → length xs ≡ 4
-    → P (text (get_or xs 0 d)) → Q (text (get_or xs 1 d)) → R (text (get_or xs 2 d)) → S (text (get_or xs 3 d)) → Four text xs P Q R S
+    → P (text (get_or xs 0 d)) → Q (text (get_or xs 1 d)) → R (text (get_or xs 2 d)) → S (text (get_or xs 3 d)) → Four (map text xs) P Q R S
 four_from text [] d P Q R S four p q r s = absurd (omega arith)
 four_from text (a ∷ []) d P Q R S four p q r s = absurd (omega arith)
 four_from text (a ∷ b ∷ []) d P Q R S four p q r s = absurd (omega arith)
 four_from text (a ∷ b ∷ c ∷ []) d P Q R S four p q r s = absurd (omega arith)
 four_from text (a ∷ b ∷ c ∷ e ∷ []) d P Q R S four p q r s = (p, (q, (r, s)))
 four_from text (a ∷ b ∷ c ∷ e ∷ f ∷ xs) d P Q R S four p q r s = absurd (omega arith)
-
-operands_map : {X : Type 0} (text : X → List ℕ) (names : List ℕ → Option ℕ) (slot : ℕ) (xs : List X) (insn : Insn)
-    → WritesOperands text names slot xs insn → WritesOperands (λ x. x) names slot (map text xs) insn
-operands_map text names slot xs (Alu op width dst src) h = two_map text xs _ _ h
-operands_map text names slot xs (Negate width dst) h = one_map text xs _ h
-operands_map text names slot xs (MoveSigned extension dst src) h = two_map text xs _ _ h
-operands_map text names slot xs (ByteSwap swap bits dst) h = one_map text xs _ h
-operands_map text names slot xs (Load size dst base offset) h = two_map text xs _ _ h
-operands_map text names slot xs (Store size base offset src) h = two_map text xs _ _ h
-operands_map text names slot xs (Jump condition width dst src offset) h = three_map text xs _ _ _ h
-operands_map text names slot xs (Goto (Short offset)) h = one_map text xs _ h
-operands_map text names slot xs (Goto (Long distance)) h = one_map text xs _ h
-operands_map text names slot xs (Wide dst value) h = two_map text xs _ _ h
-operands_map text names slot xs (LoadMap dst index) h = two_map text xs _ _ h
-operands_map text names slot xs (LoadAddress dst address) h = four_map text xs _ _ _ _ h
-operands_map text names slot xs (Call callee number) h = one_map text xs _ h
-operands_map text names slot xs Exit h = ap (map text) h
-
-pub insn_map : {X : Type 0} (text : X → List ℕ) (names : List ℕ → Option ℕ) (slot : ℕ) (word : List ℕ) (xs : List X) (insn : Insn)
-    → WritesInsn text names slot word xs insn → WritesInsn (λ x. x) names slot word (map text xs) insn
-insn_map text names slot word xs insn h = record { name = h.name; operands = operands_map text names slot xs insn h.operands }
-
--- ---- and back
-
-pub one_unmap : {X : Type 0} (text : X → List ℕ) (xs : List X) (P : List ℕ → Type 0) → One (λ x. x) (map text xs) P → One text xs P
-one_unmap text [] P h = h
-one_unmap text (a ∷ []) P h = h
-one_unmap text (a ∷ b ∷ xs) P h = h
-
-pub two_unmap : {X : Type 0} (text : X → List ℕ) (xs : List X) (P Q : List ℕ → Type 0) → Two (λ x. x) (map text xs) P Q → Two text xs P Q
-two_unmap text [] P Q h = h
-two_unmap text (a ∷ xs) P Q h = (h.0, one_unmap text xs Q h.1)
-
-pub three_unmap : {X : Type 0} (text : X → List ℕ) (xs : List X) (P Q R : List ℕ → Type 0) → Three (λ x. x) (map text xs) P Q R → Three text xs P Q R
-three_unmap text [] P Q R h = h
-three_unmap text (a ∷ xs) P Q R h = (h.0, two_unmap text xs Q R h.1)
-
-pub four_unmap : {X : Type 0} (text : X → List ℕ) (xs : List X) (P Q R S : List ℕ → Type 0) → Four (λ x. x) (map text xs) P Q R S → Four text xs P Q R S
-four_unmap text [] P Q R S h = h
-four_unmap text (a ∷ xs) P Q R S h = (h.0, three_unmap text xs Q R S h.1)
-
-pub none_unmap : {X : Type 0} (text : X → List ℕ) (xs : List X) → map text xs ≡ [] → xs ≡ []
-none_unmap text [] h = refl
-none_unmap text (a ∷ xs) h = absurd (not_nil (text a) (map text xs) h)
-
-operands_unmap : {X : Type 0} (text : X → List ℕ) (names : List ℕ → Option ℕ) (slot : ℕ) (xs : List X) (insn : Insn)
-    → WritesOperands (λ x. x) names slot (map text xs) insn → WritesOperands text names slot xs insn
-operands_unmap text names slot xs (Alu op width dst src) h = two_unmap text xs _ _ h
-operands_unmap text names slot xs (Negate width dst) h = one_unmap text xs _ h
-operands_unmap text names slot xs (MoveSigned extension dst src) h = two_unmap text xs _ _ h
-operands_unmap text names slot xs (ByteSwap swap bits dst) h = one_unmap text xs _ h
-operands_unmap text names slot xs (Load size dst base offset) h = two_unmap text xs _ _ h
-operands_unmap text names slot xs (Store size base offset src) h = two_unmap text xs _ _ h
-operands_unmap text names slot xs (Jump condition width dst src offset) h = three_unmap text xs _ _ _ h
-operands_unmap text names slot xs (Goto (Short offset)) h = one_unmap text xs _ h
-operands_unmap text names slot xs (Goto (Long distance)) h = one_unmap text xs _ h
-operands_unmap text names slot xs (Wide dst value) h = two_unmap text xs _ _ h
-operands_unmap text names slot xs (LoadMap dst index) h = two_unmap text xs _ _ h
-operands_unmap text names slot xs (LoadAddress dst address) h = four_unmap text xs _ _ _ _ h
-operands_unmap text names slot xs (Call callee number) h = one_unmap text xs _ h
-operands_unmap text names slot xs Exit h = none_unmap text xs h
-
-pub insn_unmap : {X : Type 0} (text : X → List ℕ) (names : List ℕ → Option ℕ) (slot : ℕ) (word : List ℕ) (xs : List X) (insn : Insn)
-    → WritesInsn (λ x. x) names slot word (map text xs) insn → WritesInsn text names slot word xs insn
-insn_unmap text names slot word xs insn h = record { name = h.name; operands = operands_unmap text names slot xs insn h.operands }
 
 -- ---- what a line adds
 
@@ -166,28 +80,27 @@ line_label names line parts name label = record {
   few = λ h. h;
 }
 
-pub line_loop : {X : Type 0} (text : X → List ℕ) (xs : List X) (names : List ℕ → Option ℕ) (line : List ℕ) (old new : Draft) (l : Loop)
-    → word_of line ≡ codes ".loop" → map text xs ≡ operands_of line
-    → Four text xs (λ a. WritesEnd names a l.head) (λ b. WritesEnd names b l.back) (λ c. WritesNumber c (pos l.bound)) (λ d. WritesRegister d l.register)
+pub line_loop : (xs : List (List ℕ)) (names : List ℕ → Option ℕ) (line : List ℕ) (old new : Draft) (l : Loop)
+    → word_of line ≡ codes ".loop" → xs ≡ operands_of line → WritesLoop names xs l
     → AddsItem (OneLoop l) old new → AddsLine names line old new
-line_loop text xs names line old new l word operands four adds =
-    let P : List (List ℕ) → Type 0 = λ ys. Four (λ x. x) ys (λ a. WritesEnd names a l.head) (λ b. WritesEnd names b l.back) (λ c. WritesNumber c (pos l.bound)) (λ d. WritesRegister d l.register) in
+line_loop xs names line old new l word operands four adds =
+    let P : List (List ℕ) → Type 0 = λ ys. WritesLoop names ys l in
     record {
       item = OneLoop l;
-      says = (word, subst P operands (four_map text xs _ _ _ _ four));
+      says = (word, subst P operands four);
       adds = adds;
       few = λ h. let same = adds.slots in omega arith;
     }
 
-pub line_insn : {X : Type 0} (text : X → List ℕ) (xs : List X) (names : List ℕ → Option ℕ) (line word : List ℕ) (old new : Draft) (insn : Insn)
-    → word_of line ≡ word → map text xs ≡ operands_of line → WritesInsn text names old.slots word xs insn
+pub line_insn : (xs : List (List ℕ)) (names : List ℕ → Option ℕ) (line word : List ℕ) (old new : Draft) (insn : Insn)
+    → word_of line ≡ word → xs ≡ operands_of line → WritesInsn names old.slots word xs insn
     → AddsItem (Code insn) old new → new.slots ≤ 512 → AddsLine names line old new
-line_insn text xs names line word old new insn same operands writes adds few =
-    let P : List (List ℕ) → Type 0 = λ ys. WritesInsn (λ x. x) names old.slots word ys insn in
-    let Q : List ℕ → Type 0 = λ w. WritesInsn (λ x. x) names old.slots w (operands_of line) insn in
+line_insn xs names line word old new insn same operands writes adds few =
+    let P : List (List ℕ) → Type 0 = λ ys. WritesInsn names old.slots word ys insn in
+    let Q : List ℕ → Type 0 = λ w. WritesInsn names old.slots w (operands_of line) insn in
     record {
       item = Code insn;
-      says = subst Q (sym same) (subst P operands (insn_map text names old.slots word xs insn writes));
+      says = subst Q (sym same) (subst P operands writes);
       adds = adds;
       few = λ h. few;
     }

@@ -1,5 +1,5 @@
 -- The fields of loops.
-use Rattle.std.proofs.Common.{◌≡◌, ℕ, ◌<◌, ◌≤◌, min, ℤ, pos, List, [], ◌∷◌, get_or, Bool, true, false, ◌&&◌, inl, inr, refl, sym, ap, ◌∙◌, to_z, of_z, true≢false, ne_eqb, arith}
+use Rattle.std.proofs.Common.{◌≡◌, ℕ, ◌<◌, ◌≤◌, min, ℤ, pos, List, [], ◌∷◌, map, length, get_or, Bool, true, false, ◌&&◌, inl, inr, refl, sym, ap, ◌∙◌, subst, true≢false, ne_eqb, arith}
 use Rattle.std.specs.Prelude.{Option, Some, FitsSigned, IfOk, Ok}
 use Rattle.std.specs.Char.{digit_value, is_ascii_alphabetic}
 use Rattle.std.specs.Int.{w32, w64}
@@ -9,15 +9,12 @@ use Rattle.std.specs.declared.result.Result.{Result}
 use Rattle.std.proofs.Math.IntN.{nat_abs}
 use Rattle.std.proofs.lemmas.Int.{ints, to_z-of_z}
 use Rattle.bpf.specs.declared.loops.Loop.{Loop}
+use Rattle.bpf.specs.Program.{IsLoop}
 use Rattle.basm_lex.specs.Names.{is_name, is_name_byte}
 use Rattle.basm_lex.specs.Numbers.{IsDecimal, WritesNumber}
 use Rattle.basm_lex.specs.Places.{WritesRegister}
 use Rattle.basm.specs.Relation.{Four, WritesEnd}
 use Rattle.basm.proofs.OperandReadings.{both_of, one_value}
-
--- a number that is read, as one without a sign
-pub counted : {E : Type 0} (x : ℤ) (n : ℕ) → FitsSigned w32 x → ◌≡◌ {A = Result ℤ E} (Ok x) (Ok (pos n)) → ◌≡◌ {A = Result ℕ E} (Ok (nat_abs (to_z w32 (of_z w32 x)))) (Ok n)
-counted x n fits same = ap (λ z. Ok (nat_abs z)) (to_z-of_z w32 x fits ∙ one_value x (pos n) same)
 
 -- an end that is no name is a number
 pub end_number : (names : List ℕ → Option ℕ) (word : List ℕ) (slot : ℕ) → is_name word ≡ false → WritesEnd names word slot → WritesNumber word (pos slot)
@@ -25,7 +22,7 @@ end_number names word slot other (inl named) = absurd (true≢false (sym named.0
 end_number names word slot other (inr number) = number
 
 -- the four fields
-four_of : {X : Type 0} (text : X → List ℕ) (xs : List X) (d : X) (P Q R S : List ℕ → Type 0) → Four text xs P Q R S
+four_of : {X : Type 0} (text : X → List ℕ) (xs : List X) (d : X) (P Q R S : List ℕ → Type 0) → Four (map text xs) P Q R S
     → P (text (get_or xs 0 d)) × Q (text (get_or xs 1 d)) × R (text (get_or xs 2 d)) × S (text (get_or xs 3 d))
 four_of text [] d P Q R S w = absurd w
 four_of text (a ∷ []) d P Q R S w = absurd w.1
@@ -39,7 +36,7 @@ pub loop_read : {X E : Type 0} (text : X → List ℕ) (xs : List X) (d : X) (na
     → IfOk head (λ x. IfOk back (λ y. ends ≡ Ok (x, y))) → IfOk bound (λ x. IfOk register (λ y. counts ≡ Ok (x, y))) → IfOk ends (λ x. IfOk counts (λ y. r ≡ Ok (x, y)))
     → (WritesEnd names (text (get_or xs 0 d)) l.head → head ≡ Ok l.head) → (WritesEnd names (text (get_or xs 1 d)) l.back → back ≡ Ok l.back)
     → (WritesNumber (text (get_or xs 2 d)) (pos l.bound) → bound ≡ Ok l.bound) → (WritesRegister (text (get_or xs 3 d)) l.register → register ≡ Ok l.register)
-    → Four text xs (λ a. WritesEnd names a l.head) (λ b. WritesEnd names b l.back) (λ c. WritesNumber c (pos l.bound)) (λ e. WritesRegister e l.register)
+    → Four (map text xs) (λ a. WritesEnd names a l.head) (λ b. WritesEnd names b l.back) (λ c. WritesNumber c (pos l.bound)) (λ e. WritesRegister e l.register)
     → r ≡ Ok ((l.head, l.back), (l.bound, l.register))
 loop_read text xs d names l head back ends bound register counts r p q s head_is back_is bound_is register_is w =
     let parts = four_of text xs d (λ a. WritesEnd names a l.head) (λ b. WritesEnd names b l.back) (λ c. WritesNumber c (pos l.bound)) (λ e. WritesRegister e l.register) w in
@@ -53,10 +50,23 @@ pub same_loop : {E : Type 0} (head back bound register : ℕ) (l : Loop)
 same_loop head back bound register l same =
     ap (λ x. Ok (record { head = x.0.0; back = x.0.1; bound = x.1.0; register = x.1.1 })) (one_value ((head, back), (bound, register)) ((l.head, l.back), (l.bound, l.register)) same)
 
-pub same_ends : {E : Type 0} (head back bound register : ℕ) (l : Loop)
-    → ◌≡◌ {A = Result ((ℕ × ℕ) × (ℕ × ℕ)) E} (Ok ((head, back), (bound, register))) (Ok ((l.head, l.back), (l.bound, l.register))) → (head ≡ l.head) × (back ≡ l.back)
-same_ends head back bound register l same =
-    let one = one_value ((head, back), (bound, register)) ((l.head, l.back), (l.bound, l.register)) same in (ap (λ x. x.0.0) one, ap (λ x. x.0.1) one)
+-- the loop that is read is one of a program of so many slots
+pub fitting : {E : Type 0} (slots given head back bound register : ℕ) (l : Loop)
+    → ◌≡◌ {A = Result ((ℕ × ℕ) × (ℕ × ℕ)) E} (Ok ((head, back), (bound, register))) (Ok ((l.head, l.back), (l.bound, l.register)))
+    → given ≡ slots → IsLoop slots l → IsLoop given (record { head = head; back = back; bound = bound; register = register })
+fitting slots given head back bound register l same is_given is =
+    let one = one_value ((head, back), (bound, register)) ((l.head, l.back), (l.bound, l.register)) same in
+    let found : record { head = head; back = back; bound = bound; register = register } ≡ l =
+    ap (λ x. record { head = x.0.0; back = x.0.1; bound = x.1.0; register = x.1.1 }) one in
+    subst (λ s. IsLoop s (record { head = head; back = back; bound = bound; register = register })) (sym is_given) (subst (λ x. IsLoop slots x) (sym found) is)
+
+pub four_long : {X : Type 0} (text : X → List ℕ) (xs : List X) (P Q R S : List ℕ → Type 0) → Four (map text xs) P Q R S → length xs ≡ 4
+four_long text [] P Q R S w = absurd w
+four_long text (a ∷ []) P Q R S w = absurd w.1
+four_long text (a ∷ b ∷ []) P Q R S w = absurd w.1.1
+four_long text (a ∷ b ∷ e ∷ []) P Q R S w = absurd w.1.1.1
+four_long text (a ∷ b ∷ e ∷ f ∷ []) P Q R S w = refl
+four_long text (a ∷ b ∷ e ∷ f ∷ g ∷ xs) P Q R S w = absurd w.1.1.1
 
 -- a number begins with no letter
 letter_high : (c : ℕ) → is_ascii_alphabetic c ≡ true → 65 ≤ c
@@ -85,45 +95,6 @@ no_number (c ∷ cs) value (inr p) name =
     let same : c ≡ 48 = first_same c 48 cs (120 ∷ p.written.digits) p.written.prefix in
     absurd (omega arith)
 
-end_named : (names : List ℕ → Option ℕ) (word : List ℕ) (slot : ℕ) → is_name word ≡ true → WritesEnd names word slot → names word ≡ Some slot
+pub end_named : (names : List ℕ → Option ℕ) (word : List ℕ) (slot : ℕ) → is_name word ≡ true → WritesEnd names word slot → names word ≡ Some slot
 end_named names word slot name (inl named) = named.1
 end_named names word slot name (inr number) = absurd (no_number word (pos slot) number name)
-
--- a slot below 512 in 64 bits
-low_slot : (slot : ℕ) (read bits z : ℤ) → slot < 512 → read ≡ pos slot → bits ≡ to_z w64 (of_z w64 read) → bits ≡ z → z ≡ pos slot
-low_slot slot read bits z low is again same =
-    let fits : FitsSigned w64 (pos slot) = omega (arith, ints) in
-    sym same ∙ again ∙ ap (λ x. to_z w64 (of_z w64 x)) is ∙ to_z-of_z w64 (pos slot) fits
-
--- the slot that a name stands for, and the one that is written
-pub slot_of_name : (names : List ℕ → Option ℕ) (word : List ℕ) (slot found : ℕ) (o : Option ℕ) (read bits z : ℤ) → is_name word ≡ true → WritesEnd names word slot → slot < 512
-    → o ≡ names word → o ≡ Some found → read ≡ pos found → bits ≡ to_z w64 (of_z w64 read) → bits ≡ z → z ≡ pos slot
-slot_of_name names word slot found o read bits z name w low looked some is again same =
-    let one : Some found ≡ Some slot = sym some ∙ looked ∙ end_named names word slot name w in
-    let found_is : found ≡ slot = cc one in
-    low_slot slot read bits z low (is ∙ ap pos found_is) again same
-
-pub slot_of_number : {E : Type 0} (names : List ℕ → Option ℕ) (word : List ℕ) (slot : ℕ) (found read bits z : ℤ) → is_name word ≡ false → WritesEnd names word slot → slot < 512
-    → ((value : ℤ) → WritesNumber word value → ◌≡◌ {A = Result ℤ E} (Ok found) (Ok value)) → read ≡ to_z w32 (of_z w32 found) → bits ≡ to_z w64 (of_z w64 read) → bits ≡ z → z ≡ pos slot
-slot_of_number names word slot found read bits z other w low reads is again same =
-    let found_is : found ≡ pos slot = one_value found (pos slot) (reads (pos slot) (end_number names word slot other w)) in
-    let fits : FitsSigned w32 (pos slot) = omega (arith, ints) in
-    low_slot slot read bits z low (is ∙ ap (λ x. to_z w32 (of_z w32 x)) found_is ∙ to_z-of_z w32 (pos slot) fits) again same
-
--- tests that such a slot passes
-pub not_below : (n : ℕ) (z : ℤ) → z ≡ pos n → le_z (pos 0) z ≡ false → ⊥
-not_below n z same test = grind (arith, ints)
-
-pub not_above : (slot slots most : ℕ) (z read : ℤ) → z ≡ pos slot → slot < slots → slot < 512 → most ≡ min slots 512 → read ≡ pos most → lt_z z (to_z w64 (of_z w64 read)) ≡ false → ⊥
-not_above slot slots most z read same within low most_is is test =
-    let fits : FitsSigned w64 read = omega (arith, ints) in
-    let again : to_z w64 (of_z w64 read) ≡ read = to_z-of_z w64 read fits in
-    let tested : lt_z z read ≡ false = rw again at test in
-    grind (arith, ints)
-
--- and a bound
-pub not_low : (n : ℕ) (x : ℤ) → FitsSigned w32 x → x ≡ pos n → 1 ≤ n → le_z (pos 1) (to_z w32 (of_z w32 x)) ≡ false → ⊥
-not_low n x fits same low test = let tested : le_z (pos 1) x ≡ false = rw (to_z-of_z w32 x fits) at test in grind (arith, ints)
-
-pub not_high : (n : ℕ) (x : ℤ) → FitsSigned w32 x → x ≡ pos n → n ≤ 4096 → le_z (to_z w32 (of_z w32 x)) (pos 4096) ≡ false → ⊥
-not_high n x fits same high test = let tested : le_z x (pos 4096) ≡ false = rw (to_z-of_z w32 x fits) at test in grind (arith, ints)

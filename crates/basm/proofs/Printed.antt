@@ -1,8 +1,3 @@
-pub mod Plain
-pub mod Numerals
-pub mod Splits
-pub mod Texts
-pub mod Words
 pub mod Insns
 pub mod Items
 pub mod Images

@@ -50,8 +50,8 @@ name_takes (c ∷ cs) found plain same = record {
 
 insn_slots : (insn : Insn) → mnemonic_slots (mnemonic_of insn) ≡ slots_of insn
 insn_slots (Alu op width dst src) = refl
-insn_slots (Store size base offset (Immediate value)) = refl
-insn_slots (Store size base offset (FromRegister src)) = refl
+insn_slots (Store size place (Immediate value)) = refl
+insn_slots (Store size place (FromRegister src)) = refl
 insn_slots (Goto (Short offset)) = refl
 insn_slots (Goto (Long slots)) = refl
 insn_slots _ = refl

@@ -18,9 +18,9 @@ use Rattle.basm.specs.Names.{slot_named}
 use Rattle.basm.specs.Relation.{Four, Item, Nothing, Label, Budget, OneLoop, Code, AreLines, IsLine, IsText, WritesEnd, budget_in, loop_in, insn_in, slots_in}
 
 -- the operands of `.loop` write the loop
-abbrev pub WritesLoop : {X : Type 0} (text : X → List ℕ) (names : List ℕ → Option ℕ) → List X → Loop → Type 0
-WritesLoop text names xs l =
-    Four text xs (λ a. WritesEnd names a l.head) (λ b. WritesEnd names b l.back) (λ c. WritesNumber c (pos l.bound)) (λ d. WritesRegister d l.register)
+abbrev pub WritesLoop : (names : List ℕ → Option ℕ) → List (List ℕ) → Loop → Type 0
+WritesLoop names xs l =
+    Four xs (λ a. WritesEnd names a l.head) (λ b. WritesEnd names b l.back) (λ c. WritesNumber c (pos l.bound)) (λ d. WritesRegister d l.register)
 
 -- the instruction is appended, and there are at most 512 slots after it
 pub record PushesInsn (old new : List Insn) (slot : ℕ) (insn : Insn) (after : ℕ) : Type 0 where

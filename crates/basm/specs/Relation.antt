@@ -1,5 +1,6 @@
 -- The text relation: when lines stand to an image.
-use Rattle.std.specs.Prelude.{◌≡◌, ◌≢◌, ◌↔◌, ◌⊎◌, ◌==◌, ℕ, ◌+◌, ℤ, pos, ◌-ℤ◌, List, [], ◌∷◌, ◌++◌, codes, Option, Some, FitsSigned}
+use Rattle.std.specs.Prelude.{◌≡◌, ◌≢◌, ◌↔◌, ◌⊎◌, ◌==◌, ℕ, ◌+◌, ℤ, pos, ◌-ℤ◌, List, [], ◌∷◌, ◌++◌, map, codes, Option, Some, FitsSigned}
+use Rattle.std.specs.Borrow.{Bor}
 use Rattle.std.specs.Int.{w16, w32}
 use Rattle.std.specs.List.{slice_split, flat_map}
 use Rattle.std.specs.List.Sorted.{IsPermutation}
@@ -39,50 +40,54 @@ WritesTarget names slot word offset = NamesTarget names slot word offset ⊎ Wri
 
 -- ---- the words of an instruction, by its own name
 
+-- the texts of words that are lent
+abbrev pub texts : List (Bor (List ℕ)) → List (List ℕ)
+texts words = map (λ word. word.now) words
+
 -- one operand, which stands in the relation
-abbrev pub One : {X : Type 0} → (X → List ℕ) → List X → (List ℕ → Type 0) → Type 0
-One text [] P = ⊥
-One text (a ∷ []) P = P (text a)
-One text (a ∷ b ∷ xs) P = ⊥
+abbrev pub One : List (List ℕ) → (List ℕ → Type 0) → Type 0
+One [] P = ⊥
+One (a ∷ []) P = P a
+One (a ∷ b ∷ xs) P = ⊥
 
 -- two operands, each in its relation
-abbrev pub Two : {X : Type 0} → (X → List ℕ) → List X → (List ℕ → Type 0) → (List ℕ → Type 0) → Type 0
-Two text [] P Q = ⊥
-Two text (a ∷ xs) P Q = P (text a) × One text xs Q
+abbrev pub Two : List (List ℕ) → (List ℕ → Type 0) → (List ℕ → Type 0) → Type 0
+Two [] P Q = ⊥
+Two (a ∷ xs) P Q = P a × One xs Q
 
 -- three operands, each in its relation
-abbrev pub Three : {X : Type 0} → (X → List ℕ) → List X → (List ℕ → Type 0) → (List ℕ → Type 0) → (List ℕ → Type 0) → Type 0
-Three text [] P Q R = ⊥
-Three text (a ∷ xs) P Q R = P (text a) × Two text xs Q R
+abbrev pub Three : List (List ℕ) → (List ℕ → Type 0) → (List ℕ → Type 0) → (List ℕ → Type 0) → Type 0
+Three [] P Q R = ⊥
+Three (a ∷ xs) P Q R = P a × Two xs Q R
 
 -- four operands, each in its relation
-abbrev pub Four : {X : Type 0} → (X → List ℕ) → List X → (List ℕ → Type 0) → (List ℕ → Type 0) → (List ℕ → Type 0) → (List ℕ → Type 0) → Type 0
-Four text [] P Q R S = ⊥
-Four text (a ∷ xs) P Q R S = P (text a) × Three text xs Q R S
+abbrev pub Four : List (List ℕ) → (List ℕ → Type 0) → (List ℕ → Type 0) → (List ℕ → Type 0) → (List ℕ → Type 0) → Type 0
+Four [] P Q R S = ⊥
+Four (a ∷ xs) P Q R S = P a × Three xs Q R S
 
 -- the operands of an instruction that begins at the slot
-abbrev pub WritesOperands : {X : Type 0} (text : X → List ℕ) (names : List ℕ → Option ℕ) (slot : ℕ) → List X → Insn → Type 0
-WritesOperands text names slot xs (Alu op width dst src) = Two text xs (λ a. WritesRegister a dst) (λ b. WritesOperand b src)
-WritesOperands text names slot xs (Negate width dst) = One text xs (λ a. WritesRegister a dst)
-WritesOperands text names slot xs (MoveSigned extension dst src) = Two text xs (λ a. WritesRegister a dst) (λ b. WritesRegister b src)
-WritesOperands text names slot xs (ByteSwap swap bits dst) = One text xs (λ a. WritesRegister a dst)
-WritesOperands text names slot xs (Load size dst base offset) = Two text xs (λ a. WritesRegister a dst) (λ b. WritesPlace b base offset)
-WritesOperands text names slot xs (Store size base offset src) = Two text xs (λ a. WritesPlace a base offset) (λ b. WritesOperand b src)
-WritesOperands text names slot xs (Jump condition width dst src offset) =
-    Three text xs (λ a. WritesRegister a dst) (λ b. WritesOperand b src) (λ c. WritesTarget names slot c offset × FitsSigned w16 offset)
-WritesOperands text names slot xs (Goto (Short offset)) = One text xs (λ a. WritesTarget names slot a offset × FitsSigned w16 offset)
-WritesOperands text names slot xs (Goto (Long distance)) = One text xs (λ a. WritesTarget names slot a distance × FitsSigned w32 distance)
-WritesOperands text names slot xs (Wide dst value) = Two text xs (λ a. WritesRegister a dst) (λ b. WritesWide b value)
-WritesOperands text names slot xs (LoadMap dst index) = Two text xs (λ a. WritesRegister a dst) (λ b. WritesNumber b index)
-WritesOperands text names slot xs (LoadAddress dst address) =
-    Four text xs (λ a. WritesNumber a (pos (address_subtype address))) (λ b. WritesRegister b dst) (λ c. WritesNumber c (address_first address)) (λ d. WritesNumber d (address_second address))
-WritesOperands text names slot xs (Call callee number) = One text xs (λ a. WritesNumber a number)
-WritesOperands text names slot xs Exit = xs ≡ []
+abbrev pub WritesOperands : (names : List ℕ → Option ℕ) (slot : ℕ) → List (List ℕ) → Insn → Type 0
+WritesOperands names slot xs (Alu op width dst src) = Two xs (λ a. WritesRegister a dst) (λ b. WritesOperand b src)
+WritesOperands names slot xs (Negate width dst) = One xs (λ a. WritesRegister a dst)
+WritesOperands names slot xs (MoveSigned extension dst src) = Two xs (λ a. WritesRegister a dst) (λ b. WritesRegister b src)
+WritesOperands names slot xs (ByteSwap swap bits dst) = One xs (λ a. WritesRegister a dst)
+WritesOperands names slot xs (Load size dst place) = Two xs (λ a. WritesRegister a dst) (λ b. WritesPlace b place)
+WritesOperands names slot xs (Store size place src) = Two xs (λ a. WritesPlace a place) (λ b. WritesOperand b src)
+WritesOperands names slot xs (Jump comparison offset) =
+    Three xs (λ a. WritesRegister a comparison.dst) (λ b. WritesOperand b comparison.src) (λ c. WritesTarget names slot c offset × FitsSigned w16 offset)
+WritesOperands names slot xs (Goto (Short offset)) = One xs (λ a. WritesTarget names slot a offset × FitsSigned w16 offset)
+WritesOperands names slot xs (Goto (Long distance)) = One xs (λ a. WritesTarget names slot a distance × FitsSigned w32 distance)
+WritesOperands names slot xs (Wide dst value) = Two xs (λ a. WritesRegister a dst) (λ b. WritesWide b value)
+WritesOperands names slot xs (LoadMap dst index) = Two xs (λ a. WritesRegister a dst) (λ b. WritesNumber b index)
+WritesOperands names slot xs (LoadAddress dst address) =
+    Four xs (λ a. WritesNumber a (pos (address_subtype address))) (λ b. WritesRegister b dst) (λ c. WritesNumber c (address_first address)) (λ d. WritesNumber d (address_second address))
+WritesOperands names slot xs (Call callee number) = One xs (λ a. WritesNumber a number)
+WritesOperands names slot xs Exit = xs ≡ []
 
 -- a word and operands write the instruction
-pub record WritesInsn {X : Type 0} (text : X → List ℕ) (names : List ℕ → Option ℕ) (slot : ℕ) (word : List ℕ) (xs : List X) (insn : Insn) : Type 0 where
+pub record WritesInsn (names : List ℕ → Option ℕ) (slot : ℕ) (word : List ℕ) (xs : List (List ℕ)) (insn : Insn) : Type 0 where
   pub name : word ≡ insn_name insn
-  pub operands : WritesOperands text names slot xs insn
+  pub operands : WritesOperands names slot xs insn
 
 -- ---- lines
 
@@ -110,11 +115,11 @@ slots_in (Code insn) = slots_of insn
 abbrev pub IsLine : (names : List ℕ → Option ℕ) (slot : ℕ) → List ℕ → Item → Type 0
 IsLine names slot line Nothing = (word_of line ≡ []) × (operands_of line ≡ [])
 IsLine names slot line (Label name) = IsLabel line name
-IsLine names slot line (Budget n) = (word_of line ≡ codes ".budget") × One (λ x. x) (operands_of line) (λ a. WritesNumber a (pos n))
+IsLine names slot line (Budget n) = (word_of line ≡ codes ".budget") × One (operands_of line) (λ a. WritesNumber a (pos n))
 IsLine names slot line (OneLoop l) =
     (word_of line ≡ codes ".loop")
-    × Four (λ x. x) (operands_of line) (λ a. WritesEnd names a l.head) (λ b. WritesEnd names b l.back) (λ c. WritesNumber c (pos l.bound)) (λ d. WritesRegister d l.register)
-IsLine names slot line (Code insn) = WritesInsn (λ x. x) names slot (word_of line) (operands_of line) insn
+    × Four (operands_of line) (λ a. WritesEnd names a l.head) (λ b. WritesEnd names b l.back) (λ c. WritesNumber c (pos l.bound)) (λ d. WritesRegister d l.register)
+IsLine names slot line (Code insn) = WritesInsn names slot (word_of line) (operands_of line) insn
 
 -- the lines say these items, each at the slot that the items before it leave
 abbrev pub AreLines : (names : List ℕ → Option ℕ) (slot : ℕ) → List (List ℕ) → List Item → Type 0

@@ -2,22 +2,22 @@
 
 ghost use Rattle.std.specs.Prelude.{◌≡◌, ◌≤◌, ◌<◌, ℕ, ℤ, pos, IfOk};
 ghost use Rattle.basm_lex.specs.Numbers.{WritesNumber};
-ghost use Rattle.basm_lex.specs.Places.{WritesRegister};
 ghost use Rattle.bpf.specs.Program.{IsBudget, IsLoop};
 ghost use Rattle.basm.specs.Draft.{WritesLoop};
 ghost use Rattle.basm.specs.Names.{slot_named};
-ghost use Rattle.basm.specs.Relation.{One, WritesEnd};
+ghost use Rattle.basm.specs.Relation.{One, WritesEnd, texts};
 
 use crate::faults::{AsmCode, both};
+use crate::instructions::reg;
+use crate::names::Names;
 use crate::survey::Survey;
-use basm_lex::{NumberFault, is_name, number, register};
-use bpf::{Loop, MAX_BOUND, MAX_SLOTS, is_budget};
-use bpf_insn::Register;
+use basm_lex::{NumberFault, is_name, number};
+use bpf::{Loop, MAX_SLOTS, is_budget};
 
 /// The budget that the operands of `.budget` declare.
 pub fn read_budget(operands: &[&str]) -> Result<u32, AsmCode>
-    ensures writes { IfOk result (λ budget. One (λ operand. operand.now) operands.now (λ a. WritesNumber a (pos budget))) }
-    ensures exact { (n : ℕ) → IsBudget n → One (λ operand. operand.now) operands.now (λ a. WritesNumber a (pos n)) → result ≡ Ok n }
+    ensures writes { IfOk result (λ budget. One (texts operands.now) (λ a. WritesNumber a (pos budget))) }
+    ensures exact { (n : ℕ) → IsBudget n → One (texts operands.now) (λ a. WritesNumber a (pos n)) → result ≡ Ok n }
 {
     let [budget] = operands else {
         return Err(AsmCode::BadOperand);
@@ -32,35 +32,23 @@ pub fn read_budget(operands: &[&str]) -> Result<u32, AsmCode>
 
 /// The loop that the operands of `.loop` declare.
 pub fn read_loop(operands: &[&str], survey: &Survey) -> Result<Loop, AsmCode>
-    ensures writes { IfOk result (WritesLoop (λ operand. operand.now) (slot_named survey.now.names) operands.now) }
-    ensures exact { (l : Loop) → IsLoop survey.now.slots l → survey.now.slots ≤ 512 → WritesLoop (λ operand. operand.now) (slot_named survey.now.names) operands.now l → result ≡ Ok l }
+    ensures writes { IfOk result (WritesLoop (slot_named survey.now.names) (texts operands.now)) }
+    ensures exact { (l : Loop) → IsLoop survey.now.slots l → survey.now.slots ≤ 512 → WritesLoop (slot_named survey.now.names) (texts operands.now) l → result ≡ Ok l }
 {
     let [head, back, bound, counter] = operands else {
         return Err(AsmCode::BadOperand);
     };
-    let ends = both(read_end(head, survey), read_end(back, survey));
-    let counted = both(read_bound(bound), read_counter(counter));
+    let ends = both(read_end(head, &survey.names), read_end(back, &survey.names));
+    let counted = both(read_short(bound), reg(counter));
     let ((head, back), (bound, register)) = both(ends, counted)?;
-    if head < back {
-        Ok(Loop {
-            head,
-            back,
-            bound,
-            register,
-        })
-    } else {
-        Err(AsmCode::BadLoop)
-    }
-}
-
-/// How often a loop is passed at most: 1 to 4,096.
-fn read_bound(word: &str) -> Result<u16, AsmCode>
-    ensures writes { IfOk result (λ bound. WritesNumber word.now (pos bound)) }
-    ensures exact { (bound : ℕ) → 1 ≤ bound → bound ≤ 4096 → WritesNumber word.now (pos bound) → result ≡ Ok bound }
-{
-    let bound = field(word, AsmCode::BadLoop)?;
-    if 1 <= bound && bound <= i32::from(MAX_BOUND) {
-        Ok(bound as u16)
+    let found = Loop {
+        head,
+        back,
+        bound,
+        register,
+    };
+    if found.fits(most_slots(survey)) {
+        Ok(found)
     } else {
         Err(AsmCode::BadLoop)
     }
@@ -78,32 +66,31 @@ fn field(word: &str, out_of_range: AsmCode) -> Result<i32, AsmCode>
     }
 }
 
-/// A slot of the program, by its number or a name.
-fn read_end(word: &str, survey: &Survey) -> Result<u16, AsmCode>
-    ensures writes { IfOk result (WritesEnd (slot_named survey.now.names) word.now) }
-    ensures exact { (slot : ℕ) → slot < survey.now.slots → slot < 512 → WritesEnd (slot_named survey.now.names) word.now slot → result ≡ Ok slot }
+/// The slots of the program, where an image may have so many.
+fn most_slots(survey: &Survey) -> u16
+    ensures { survey.now.slots ≤ 512 → result ≡ survey.now.slots }
 {
-    let slot = if is_name(word) {
-        i64::from(survey.names.slot_of(word).ok_or(AsmCode::BadLabel)?)
-    } else {
-        i64::from(field(word, AsmCode::BadLoop)?)
-    };
-    if 0 <= slot && slot < i64::from(survey.slots.min(u32::from(MAX_SLOTS))) {
-        Ok(slot as u16)
-    } else {
-        Err(AsmCode::BadLoop)
-    }
+    survey.slots.min(u32::from(MAX_SLOTS)) as u16
 }
 
-/// A register that counts: `r0` to `r9`.
-fn read_counter(word: &str) -> Result<Register, AsmCode>
-    ensures writes { IfOk result (WritesRegister word.now) }
-    ensures exact { (number : ℕ) → number ≤ 9 → WritesRegister word.now number → result ≡ Ok number }
+/// A number of 16 bits in a field of `.loop`.
+fn read_short(word: &str) -> Result<u16, AsmCode>
+    ensures writes { IfOk result (λ value. WritesNumber word.now (pos value)) }
+    ensures exact { (value : ℕ) → value < 65536 → WritesNumber word.now (pos value) → result ≡ Ok value }
 {
-    let found = register(word).ok_or(AsmCode::BadOperand)?;
-    if found.number() <= 9 {
-        Ok(found)
+    let value = field(word, AsmCode::BadLoop)?;
+    u16::try_from(value).map_err(|_| AsmCode::BadLoop)
+}
+
+/// A slot, by its number or a name.
+fn read_end(word: &str, names: &Names) -> Result<u16, AsmCode>
+    ensures writes { IfOk result (WritesEnd (slot_named names.now) word.now) }
+    ensures exact { (slot : ℕ) → slot < 65536 → WritesEnd (slot_named names.now) word.now slot → result ≡ Ok slot }
+{
+    if is_name(word) {
+        let slot = names.slot_of(word).ok_or(AsmCode::BadLabel)?;
+        u16::try_from(slot).map_err(|_| AsmCode::BadLoop)
     } else {
-        Err(AsmCode::BadLoop)
+        read_short(word)
     }
 }

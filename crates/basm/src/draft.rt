@@ -11,7 +11,7 @@ ghost use Rattle.basm.specs.Draft.{AddsItem, AddsLine, ArePartsOf, HasRoom, IsIm
 ghost use Rattle.basm_lex.specs.Mnemonics.{mnemonic_word};
 ghost use Rattle.basm.specs.Names.{slot_named};
 ghost use Rattle.basm.specs.Outcomes.{Makes};
-ghost use Rattle.basm.specs.Relation.{Budget, Code, IsLine, Item, One, OneLoop, WritesInsn};
+ghost use Rattle.basm.specs.Relation.{Budget, Code, IsLine, Item, One, OneLoop, WritesInsn, texts};
 
 use crate::directives::{read_budget, read_loop};
 use crate::faults::{AsmCode, AsmFault, both};
@@ -65,8 +65,8 @@ impl Draft {
     }
 
     fn add_budget(&mut self, operands: &[&str]) -> Result<(), AsmCode>
-        ensures adds { IfOk result (λ _. (n : ℕ) × One (λ operand. operand.now) operands.now (λ a. WritesNumber a (pos n)) × AddsItem (Budget n) self.old self.new) }
-        ensures exact { (n : ℕ) → One (λ operand. operand.now) operands.now (λ a. WritesNumber a (pos n)) → IsBudget n → self.old.budget ≡ None → UnlessMemory result (λ _. AddsItem (Budget n) self.old self.new) }
+        ensures adds { IfOk result (λ _. (n : ℕ) × One (texts operands.now) (λ a. WritesNumber a (pos n)) × AddsItem (Budget n) self.old self.new) }
+        ensures exact { (n : ℕ) → One (texts operands.now) (λ a. WritesNumber a (pos n)) → IsBudget n → self.old.budget ≡ None → UnlessMemory result (λ _. AddsItem (Budget n) self.old self.new) }
     {
         let budget = read_budget(operands)?;
         if self.budget.is_some() {
@@ -77,8 +77,8 @@ impl Draft {
     }
 
     fn add_loop(&mut self, operands: &[&str], survey: &Survey) -> Result<(), AsmCode>
-        ensures adds { IfOk result (λ _. (l : ALoop) × WritesLoop (λ operand. operand.now) (slot_named survey.now.names) operands.now l × AddsItem (OneLoop l) self.old self.new) }
-        ensures exact { (l : ALoop) → WritesLoop (λ operand. operand.now) (slot_named survey.now.names) operands.now l → HasRoom survey.now.slots (OneLoop l) self.old → UnlessMemory result (λ _. AddsItem (OneLoop l) self.old self.new) }
+        ensures adds { IfOk result (λ _. (l : ALoop) × WritesLoop (slot_named survey.now.names) (texts operands.now) l × AddsItem (OneLoop l) self.old self.new) }
+        ensures exact { (l : ALoop) → WritesLoop (slot_named survey.now.names) (texts operands.now) l → HasRoom survey.now.slots (OneLoop l) self.old → UnlessMemory result (λ _. AddsItem (OneLoop l) self.old self.new) }
     {
         let (found, _) = both(read_loop(operands, survey), self.loop_room())?;
         if self.has_head(found.head) {
@@ -110,8 +110,8 @@ impl Draft {
         operands: &[&str],
         survey: &Survey,
     ) -> Result<(), AsmCode>
-        ensures adds { IfOk result (λ _. (insn : AnInsn) × WritesInsn (λ operand. operand.now) (slot_named survey.now.names) self.old.slots (mnemonic_word found) operands.now insn × AddsItem (Code insn) self.old self.new × (self.new.slots ≤ 512)) }
-        ensures exact { (insn : AnInsn) → WritesInsn (λ operand. operand.now) (slot_named survey.now.names) self.old.slots (mnemonic_word found) operands.now insn → self.old.slots + slots_of insn ≤ 512 → UnlessMemory result (λ _. AddsItem (Code insn) self.old self.new) }
+        ensures adds { IfOk result (λ _. (insn : AnInsn) × WritesInsn (slot_named survey.now.names) self.old.slots (mnemonic_word found) (texts operands.now) insn × AddsItem (Code insn) self.old self.new × (self.new.slots ≤ 512)) }
+        ensures exact { (insn : AnInsn) → WritesInsn (slot_named survey.now.names) self.old.slots (mnemonic_word found) (texts operands.now) insn → self.old.slots + slots_of insn ≤ 512 → UnlessMemory result (λ _. AddsItem (Code insn) self.old self.new) }
     {
         self.slots = add_insn(&mut self.insns, found, operands, &survey.names, self.slots)?;
         Ok(())

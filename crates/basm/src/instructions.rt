@@ -10,16 +10,16 @@ ghost use Rattle.basm_lex.specs.Places.{WritesPlace, WritesRegister};
 ghost use Rattle.basm.specs.Draft.{PushesInsn, UnlessMemory};
 ghost use Rattle.basm_lex.specs.Mnemonics.{mnemonic_word};
 ghost use Rattle.basm.specs.Names.{slot_named};
-ghost use Rattle.basm.specs.Relation.{Four, One, Three, Two, WritesInsn, WritesOperand, WritesTarget};
+ghost use Rattle.basm.specs.Relation.{Four, One, Three, Two, WritesInsn, WritesOperand, WritesTarget, texts};
 
 use crate::faults::{AsmCode, both};
 use crate::names::Names;
 use crate::targets::{read_long_target, read_short_target};
-use basm_lex::{Mnemonic, Place, mnemonic_laws, number, read_place, register, wide_number};
+use basm_lex::{Mnemonic, mnemonic_laws, number, read_place, register, wide_number};
 use bpf::MAX_SLOTS;
 use bpf_insn::{
-    Address, AluOp, Callee, Condition, Distance, Extension, Insn, LoadSize, Operand, Register,
-    Size, Swap, SwapBits, Width,
+    Address, AluOp, Callee, Comparison, Condition, Distance, Extension, Insn, LoadSize, Operand,
+    Place, Register, Size, Swap, SwapBits, Width,
 };
 
 /// Appends the instruction of this name with these operands, at the slot, and gives the slot after it.
@@ -30,8 +30,8 @@ pub fn add_insn(
     names: &Names,
     slot: u32,
 ) -> Result<u32, AsmCode>
-    ensures writes { IfOk result (λ after. (insn : AnInsn) × WritesInsn (λ operand. operand.now) (slot_named names.now) slot (mnemonic_word found) operands.now insn × PushesInsn insns.old.items insns.new.items slot insn after) }
-    ensures exact { (insn : AnInsn) → WritesInsn (λ operand. operand.now) (slot_named names.now) slot (mnemonic_word found) operands.now insn → slot + slots_of insn ≤ 512 → UnlessMemory result (PushesInsn insns.old.items insns.new.items slot insn) }
+    ensures writes { IfOk result (λ after. (insn : AnInsn) × WritesInsn (slot_named names.now) slot (mnemonic_word found) (texts operands.now) insn × PushesInsn insns.old.items insns.new.items slot insn after) }
+    ensures exact { (insn : AnInsn) → WritesInsn (slot_named names.now) slot (mnemonic_word found) (texts operands.now) insn → slot + slots_of insn ≤ 512 → UnlessMemory result (PushesInsn insns.old.items insns.new.items slot insn) }
 {
     match read_insn(found, operands, names, slot) {
         Ok(insn) => push_insn(insns, slot, &insn),
@@ -53,7 +53,7 @@ fn slot_after(slot: u32, insn: &Insn) -> Result<u32, AsmCode>
     ensures after { IfOk result (λ after. (after ≡ slot + slots_of insn.now) × (after ≤ 512)) }
     ensures exact { slot + slots_of insn.now ≤ 512 → result ≡ Ok (slot + slots_of insn.now) }
 {
-    let after = slot.saturating_add(insn.slots() as u32);
+    let after = slot.saturating_add(u32::from(insn.slots()));
     if after > u32::from(MAX_SLOTS) {
         Err(AsmCode::TooMany)
     } else {
@@ -63,8 +63,8 @@ fn slot_after(slot: u32, insn: &Insn) -> Result<u32, AsmCode>
 
 /// The instruction of this name with these operands, at the slot.
 fn read_insn(found: Mnemonic, operands: &[&str], names: &Names, slot: u32) -> Result<Insn, AsmCode>
-    ensures writes { IfOk result (WritesInsn (λ operand. operand.now) (slot_named names.now) slot (mnemonic_word found) operands.now) }
-    ensures exact { (insn : Insn) → WritesInsn (λ operand. operand.now) (slot_named names.now) slot (mnemonic_word found) operands.now insn → result ≡ Ok insn }
+    ensures writes { IfOk result (WritesInsn (slot_named names.now) slot (mnemonic_word found) (texts operands.now)) }
+    ensures exact { (insn : Insn) → WritesInsn (slot_named names.now) slot (mnemonic_word found) (texts operands.now) insn → result ≡ Ok insn }
 {
     mnemonic_laws();
     match found {
@@ -86,7 +86,8 @@ fn read_insn(found: Mnemonic, operands: &[&str], names: &Names, slot: u32) -> Re
     }
 }
 
-fn reg(word: &str) -> Result<Register, AsmCode>
+/// The register that an operand names.
+pub fn reg(word: &str) -> Result<Register, AsmCode>
     ensures writes { IfOk result (WritesRegister word.now) }
     ensures exact { (number : ℕ) → WritesRegister word.now number → result ≡ Ok number }
 {
@@ -101,8 +102,8 @@ fn immediate(word: &str) -> Result<i32, AsmCode>
 }
 
 fn memory(word: &str) -> Result<Place, AsmCode>
-    ensures writes { IfOk result (λ place. WritesPlace word.now place.base place.offset) }
-    ensures exact { (base : ℕ) (offset : ℤ) → WritesPlace word.now base offset → result ≡ Ok (record { base = base; offset = offset }) }
+    ensures writes { IfOk result (WritesPlace word.now) }
+    ensures exact { (place : Place) → WritesPlace word.now place → result ≡ Ok place }
 {
     Ok(read_place(word)?)
 }
@@ -119,8 +120,8 @@ fn source(word: &str) -> Result<Operand, AsmCode>
 }
 
 fn arithmetic(op: AluOp, width: Width, operands: &[&str]) -> Result<Insn, AsmCode>
-    ensures writes { (names : List ℕ → Option ℕ) (slot : ℕ) → IfOk result (WritesInsn (λ operand. operand.now) names slot (mnemonic_word (Mnemonic.Arithmetic op width)) operands.now) }
-    ensures exact { (dst : ℕ) (src : Operand) → Two (λ operand. operand.now) operands.now (λ a. WritesRegister a dst) (λ b. WritesOperand b src) → result ≡ Ok (Insn.Alu op width dst src) }
+    ensures writes { (names : List ℕ → Option ℕ) (slot : ℕ) → IfOk result (WritesInsn names slot (mnemonic_word (Mnemonic.Arithmetic op width)) (texts operands.now)) }
+    ensures exact { (dst : ℕ) (src : Operand) → Two (texts operands.now) (λ a. WritesRegister a dst) (λ b. WritesOperand b src) → result ≡ Ok (Insn.Alu op width dst src) }
 {
     let [dst, src] = operands else {
         return Err(AsmCode::BadOperand);
@@ -135,8 +136,8 @@ fn arithmetic(op: AluOp, width: Width, operands: &[&str]) -> Result<Insn, AsmCod
 }
 
 fn negation(width: Width, operands: &[&str]) -> Result<Insn, AsmCode>
-    ensures writes { (names : List ℕ → Option ℕ) (slot : ℕ) → IfOk result (WritesInsn (λ operand. operand.now) names slot (mnemonic_word (Mnemonic.Negation width)) operands.now) }
-    ensures exact { (dst : ℕ) → One (λ operand. operand.now) operands.now (λ a. WritesRegister a dst) → result ≡ Ok (Insn.Negate width dst) }
+    ensures writes { (names : List ℕ → Option ℕ) (slot : ℕ) → IfOk result (WritesInsn names slot (mnemonic_word (Mnemonic.Negation width)) (texts operands.now)) }
+    ensures exact { (dst : ℕ) → One (texts operands.now) (λ a. WritesRegister a dst) → result ≡ Ok (Insn.Negate width dst) }
 {
     let [dst] = operands else {
         return Err(AsmCode::BadOperand);
@@ -146,8 +147,8 @@ fn negation(width: Width, operands: &[&str]) -> Result<Insn, AsmCode>
 }
 
 fn signed_move(extension: Extension, operands: &[&str]) -> Result<Insn, AsmCode>
-    ensures writes { (names : List ℕ → Option ℕ) (slot : ℕ) → IfOk result (WritesInsn (λ operand. operand.now) names slot (mnemonic_word (Mnemonic.SignedMove extension)) operands.now) }
-    ensures exact { (dst src : ℕ) → Two (λ operand. operand.now) operands.now (λ a. WritesRegister a dst) (λ b. WritesRegister b src) → result ≡ Ok (Insn.MoveSigned extension dst src) }
+    ensures writes { (names : List ℕ → Option ℕ) (slot : ℕ) → IfOk result (WritesInsn names slot (mnemonic_word (Mnemonic.SignedMove extension)) (texts operands.now)) }
+    ensures exact { (dst src : ℕ) → Two (texts operands.now) (λ a. WritesRegister a dst) (λ b. WritesRegister b src) → result ≡ Ok (Insn.MoveSigned extension dst src) }
 {
     let [dst, src] = operands else {
         return Err(AsmCode::BadOperand);
@@ -161,8 +162,8 @@ fn signed_move(extension: Extension, operands: &[&str]) -> Result<Insn, AsmCode>
 }
 
 fn byte_swap(swap: Swap, bits: SwapBits, operands: &[&str]) -> Result<Insn, AsmCode>
-    ensures writes { (names : List ℕ → Option ℕ) (slot : ℕ) → IfOk result (WritesInsn (λ operand. operand.now) names slot (mnemonic_word (Mnemonic.Swapping swap bits)) operands.now) }
-    ensures exact { (dst : ℕ) → One (λ operand. operand.now) operands.now (λ a. WritesRegister a dst) → result ≡ Ok (Insn.ByteSwap swap bits dst) }
+    ensures writes { (names : List ℕ → Option ℕ) (slot : ℕ) → IfOk result (WritesInsn names slot (mnemonic_word (Mnemonic.Swapping swap bits)) (texts operands.now)) }
+    ensures exact { (dst : ℕ) → One (texts operands.now) (λ a. WritesRegister a dst) → result ≡ Ok (Insn.ByteSwap swap bits dst) }
 {
     let [dst] = operands else {
         return Err(AsmCode::BadOperand);
@@ -172,51 +173,38 @@ fn byte_swap(swap: Swap, bits: SwapBits, operands: &[&str]) -> Result<Insn, AsmC
 }
 
 fn load(size: LoadSize, operands: &[&str]) -> Result<Insn, AsmCode>
-    ensures writes { (names : List ℕ → Option ℕ) (slot : ℕ) → IfOk result (WritesInsn (λ operand. operand.now) names slot (mnemonic_word (Mnemonic.Loading size)) operands.now) }
-    ensures exact { (dst base : ℕ) (offset : ℤ) → Two (λ operand. operand.now) operands.now (λ a. WritesRegister a dst) (λ b. WritesPlace b base offset) → result ≡ Ok (Insn.Load size dst base offset) }
+    ensures writes { (names : List ℕ → Option ℕ) (slot : ℕ) → IfOk result (WritesInsn names slot (mnemonic_word (Mnemonic.Loading size)) (texts operands.now)) }
+    ensures exact { (dst : ℕ) (place : Place) → Two (texts operands.now) (λ a. WritesRegister a dst) (λ b. WritesPlace b place) → result ≡ Ok (Insn.Load size dst place) }
 {
     let [dst, place] = operands else {
         return Err(AsmCode::BadOperand);
     };
     let (dst, place) = both(reg(dst), memory(place))?;
-    Ok(Insn::Load {
-        size,
-        dst,
-        base: place.base,
-        offset: place.offset,
-    })
+    Ok(Insn::Load { size, dst, place })
 }
 
 fn store(size: Size, operands: &[&str]) -> Result<Insn, AsmCode>
-    ensures writes { (names : List ℕ → Option ℕ) (slot : ℕ) → IfOk result (WritesInsn (λ operand. operand.now) names slot (mnemonic_word (Mnemonic.Storing size)) operands.now) }
-    ensures exact { (base : ℕ) (offset value : ℤ) → Two (λ operand. operand.now) operands.now (λ a. WritesPlace a base offset) (λ b. WritesNumber b value) → result ≡ Ok (Insn.Store size base offset (Operand.Immediate value)) }
+    ensures writes { (names : List ℕ → Option ℕ) (slot : ℕ) → IfOk result (WritesInsn names slot (mnemonic_word (Mnemonic.Storing size)) (texts operands.now)) }
+    ensures exact { (place : Place) (value : ℤ) → Two (texts operands.now) (λ a. WritesPlace a place) (λ b. WritesNumber b value) → result ≡ Ok (Insn.Store size place (Operand.Immediate value)) }
 {
     let [place, src] = operands else {
         return Err(AsmCode::BadOperand);
     };
     let (place, src) = both(memory(place), immediate(src))?;
-    Ok(Insn::Store {
-        size,
-        base: place.base,
-        offset: place.offset,
-        src: Operand::Immediate(src),
-    })
+    let src = Operand::Immediate(src);
+    Ok(Insn::Store { size, place, src })
 }
 
 fn store_register(size: Size, operands: &[&str]) -> Result<Insn, AsmCode>
-    ensures writes { (names : List ℕ → Option ℕ) (slot : ℕ) → IfOk result (WritesInsn (λ operand. operand.now) names slot (mnemonic_word (Mnemonic.StoringRegister size)) operands.now) }
-    ensures exact { (base src : ℕ) (offset : ℤ) → Two (λ operand. operand.now) operands.now (λ a. WritesPlace a base offset) (λ b. WritesRegister b src) → result ≡ Ok (Insn.Store size base offset (Operand.FromRegister src)) }
+    ensures writes { (names : List ℕ → Option ℕ) (slot : ℕ) → IfOk result (WritesInsn names slot (mnemonic_word (Mnemonic.StoringRegister size)) (texts operands.now)) }
+    ensures exact { (place : Place) (src : ℕ) → Two (texts operands.now) (λ a. WritesPlace a place) (λ b. WritesRegister b src) → result ≡ Ok (Insn.Store size place (Operand.FromRegister src)) }
 {
     let [place, src] = operands else {
         return Err(AsmCode::BadOperand);
     };
     let (place, src) = both(memory(place), reg(src))?;
-    Ok(Insn::Store {
-        size,
-        base: place.base,
-        offset: place.offset,
-        src: Operand::FromRegister(src),
-    })
+    let src = Operand::FromRegister(src);
+    Ok(Insn::Store { size, place, src })
 }
 
 fn jump(
@@ -226,26 +214,26 @@ fn jump(
     names: &Names,
     slot: u32,
 ) -> Result<Insn, AsmCode>
-    ensures writes { IfOk result (WritesInsn (λ operand. operand.now) (slot_named names.now) slot (mnemonic_word (Mnemonic.Jumping condition width)) operands.now) }
-    ensures exact { (dst : ℕ) (src : Operand) (offset : ℤ) → Three (λ operand. operand.now) operands.now (λ a. WritesRegister a dst) (λ b. WritesOperand b src) (λ c. WritesTarget (slot_named names.now) slot c offset × FitsSigned w16 offset) → result ≡ Ok (Insn.Jump condition width dst src offset) }
+    ensures writes { IfOk result (WritesInsn (slot_named names.now) slot (mnemonic_word (Mnemonic.Jumping condition width)) (texts operands.now)) }
+    ensures exact { (dst : ℕ) (src : Operand) (offset : ℤ) → Three (texts operands.now) (λ a. WritesRegister a dst) (λ b. WritesOperand b src) (λ c. WritesTarget (slot_named names.now) slot c offset × FitsSigned w16 offset) → result ≡ Ok (Insn.Jump (record { condition = condition; width = width; dst = dst; src = src }) offset) }
 {
     let [dst, src, target] = operands else {
         return Err(AsmCode::BadOperand);
     };
     let target = read_short_target(target, names, slot);
     let ((dst, src), offset) = both(both(reg(dst), source(src)), target)?;
-    Ok(Insn::Jump {
+    let comparison = Comparison {
         condition,
         width,
         dst,
         src,
-        offset,
-    })
+    };
+    Ok(Insn::Jump { comparison, offset })
 }
 
 fn short_goto(operands: &[&str], names: &Names, slot: u32) -> Result<Insn, AsmCode>
-    ensures writes { IfOk result (WritesInsn (λ operand. operand.now) (slot_named names.now) slot (mnemonic_word (Mnemonic.ShortGoto)) operands.now) }
-    ensures exact { (offset : ℤ) → One (λ operand. operand.now) operands.now (λ a. WritesTarget (slot_named names.now) slot a offset × FitsSigned w16 offset) → result ≡ Ok (Insn.Goto (Distance.Short offset)) }
+    ensures writes { IfOk result (WritesInsn (slot_named names.now) slot (mnemonic_word (Mnemonic.ShortGoto)) (texts operands.now)) }
+    ensures exact { (offset : ℤ) → One (texts operands.now) (λ a. WritesTarget (slot_named names.now) slot a offset × FitsSigned w16 offset) → result ≡ Ok (Insn.Goto (Distance.Short offset)) }
 {
     let [target] = operands else {
         return Err(AsmCode::BadOperand);
@@ -257,8 +245,8 @@ fn short_goto(operands: &[&str], names: &Names, slot: u32) -> Result<Insn, AsmCo
 }
 
 fn long_goto(operands: &[&str], names: &Names, slot: u32) -> Result<Insn, AsmCode>
-    ensures writes { IfOk result (WritesInsn (λ operand. operand.now) (slot_named names.now) slot (mnemonic_word (Mnemonic.LongGoto)) operands.now) }
-    ensures exact { (slots : ℤ) → One (λ operand. operand.now) operands.now (λ a. WritesTarget (slot_named names.now) slot a slots × FitsSigned w32 slots) → result ≡ Ok (Insn.Goto (Distance.Long slots)) }
+    ensures writes { IfOk result (WritesInsn (slot_named names.now) slot (mnemonic_word (Mnemonic.LongGoto)) (texts operands.now)) }
+    ensures exact { (slots : ℤ) → One (texts operands.now) (λ a. WritesTarget (slot_named names.now) slot a slots × FitsSigned w32 slots) → result ≡ Ok (Insn.Goto (Distance.Long slots)) }
 {
     let [target] = operands else {
         return Err(AsmCode::BadOperand);
@@ -270,8 +258,8 @@ fn long_goto(operands: &[&str], names: &Names, slot: u32) -> Result<Insn, AsmCod
 }
 
 fn wide(operands: &[&str]) -> Result<Insn, AsmCode>
-    ensures writes { (names : List ℕ → Option ℕ) (slot : ℕ) → IfOk result (WritesInsn (λ operand. operand.now) names slot (mnemonic_word (Mnemonic.WideLoad)) operands.now) }
-    ensures exact { (dst value : ℕ) → Two (λ operand. operand.now) operands.now (λ a. WritesRegister a dst) (λ b. WritesWide b value) → result ≡ Ok (Insn.Wide dst value) }
+    ensures writes { (names : List ℕ → Option ℕ) (slot : ℕ) → IfOk result (WritesInsn names slot (mnemonic_word (Mnemonic.WideLoad)) (texts operands.now)) }
+    ensures exact { (dst value : ℕ) → Two (texts operands.now) (λ a. WritesRegister a dst) (λ b. WritesWide b value) → result ≡ Ok (Insn.Wide dst value) }
 {
     let [dst, value] = operands else {
         return Err(AsmCode::BadOperand);
@@ -282,8 +270,8 @@ fn wide(operands: &[&str]) -> Result<Insn, AsmCode>
 }
 
 fn map(operands: &[&str]) -> Result<Insn, AsmCode>
-    ensures writes { (names : List ℕ → Option ℕ) (slot : ℕ) → IfOk result (WritesInsn (λ operand. operand.now) names slot (mnemonic_word (Mnemonic.MapLoad)) operands.now) }
-    ensures exact { (dst : ℕ) (index : ℤ) → Two (λ operand. operand.now) operands.now (λ a. WritesRegister a dst) (λ b. WritesNumber b index) → result ≡ Ok (Insn.LoadMap dst index) }
+    ensures writes { (names : List ℕ → Option ℕ) (slot : ℕ) → IfOk result (WritesInsn names slot (mnemonic_word (Mnemonic.MapLoad)) (texts operands.now)) }
+    ensures exact { (dst : ℕ) (index : ℤ) → Two (texts operands.now) (λ a. WritesRegister a dst) (λ b. WritesNumber b index) → result ≡ Ok (Insn.LoadMap dst index) }
 {
     let [dst, index] = operands else {
         return Err(AsmCode::BadOperand);
@@ -294,8 +282,8 @@ fn map(operands: &[&str]) -> Result<Insn, AsmCode>
 
 /// A load of another kind of address.
 fn address_load(operands: &[&str]) -> Result<Insn, AsmCode>
-    ensures writes { (names : List ℕ → Option ℕ) (slot : ℕ) → IfOk result (WritesInsn (λ operand. operand.now) names slot (mnemonic_word Mnemonic.AddressLoad) operands.now) }
-    ensures exact { (dst : ℕ) (address : Address) → Four (λ operand. operand.now) operands.now (λ a. WritesNumber a (pos (address_subtype address))) (λ b. WritesRegister b dst) (λ c. WritesNumber c (address_first address)) (λ d. WritesNumber d (address_second address)) → result ≡ Ok (Insn.LoadAddress dst address) }
+    ensures writes { (names : List ℕ → Option ℕ) (slot : ℕ) → IfOk result (WritesInsn names slot (mnemonic_word Mnemonic.AddressLoad) (texts operands.now)) }
+    ensures exact { (dst : ℕ) (address : Address) → Four (texts operands.now) (λ a. WritesNumber a (pos (address_subtype address))) (λ b. WritesRegister b dst) (λ c. WritesNumber c (address_first address)) (λ d. WritesNumber d (address_second address)) → result ≡ Ok (Insn.LoadAddress dst address) }
 {
     let (subtype, (dst, (first, second))) = address_operands(operands)?;
     match address(subtype, first, second) {
@@ -306,8 +294,8 @@ fn address_load(operands: &[&str]) -> Result<Insn, AsmCode>
 
 /// A subtype, a register and two numbers.
 fn address_operands(operands: &[&str]) -> Result<(i32, (Register, (i32, i32))), AsmCode>
-    ensures writes { IfOk result (λ found. Four (λ operand. operand.now) operands.now (λ a. WritesNumber a found.0) (λ b. WritesRegister b found.1.0) (λ c. WritesNumber c found.1.1.0) (λ d. WritesNumber d found.1.1.1)) }
-    ensures exact { (subtype : ℤ) (dst : ℕ) (first second : ℤ) → Four (λ operand. operand.now) operands.now (λ a. WritesNumber a subtype) (λ b. WritesRegister b dst) (λ c. WritesNumber c first) (λ d. WritesNumber d second) → result ≡ Ok (subtype, (dst, (first, second))) }
+    ensures writes { IfOk result (λ found. Four (texts operands.now) (λ a. WritesNumber a found.0) (λ b. WritesRegister b found.1.0) (λ c. WritesNumber c found.1.1.0) (λ d. WritesNumber d found.1.1.1)) }
+    ensures exact { (subtype : ℤ) (dst : ℕ) (first second : ℤ) → Four (texts operands.now) (λ a. WritesNumber a subtype) (λ b. WritesRegister b dst) (λ c. WritesNumber c first) (λ d. WritesNumber d second) → result ≡ Ok (subtype, (dst, (first, second))) }
 {
     let [subtype, rest @ ..] = operands else {
         return Err(AsmCode::BadOperand);
@@ -317,8 +305,8 @@ fn address_operands(operands: &[&str]) -> Result<(i32, (Register, (i32, i32))), 
 
 /// A register and two numbers.
 fn address_place(operands: &[&str]) -> Result<(Register, (i32, i32)), AsmCode>
-    ensures writes { IfOk result (λ found. Three (λ operand. operand.now) operands.now (λ a. WritesRegister a found.0) (λ b. WritesNumber b found.1.0) (λ c. WritesNumber c found.1.1)) }
-    ensures exact { (dst : ℕ) (first second : ℤ) → Three (λ operand. operand.now) operands.now (λ a. WritesRegister a dst) (λ b. WritesNumber b first) (λ c. WritesNumber c second) → result ≡ Ok (dst, (first, second)) }
+    ensures writes { IfOk result (λ found. Three (texts operands.now) (λ a. WritesRegister a found.0) (λ b. WritesNumber b found.1.0) (λ c. WritesNumber c found.1.1)) }
+    ensures exact { (dst : ℕ) (first second : ℤ) → Three (texts operands.now) (λ a. WritesRegister a dst) (λ b. WritesNumber b first) (λ c. WritesNumber c second) → result ≡ Ok (dst, (first, second)) }
 {
     let [dst, rest @ ..] = operands else {
         return Err(AsmCode::BadOperand);
@@ -327,8 +315,8 @@ fn address_place(operands: &[&str]) -> Result<(Register, (i32, i32)), AsmCode>
 }
 
 fn two_numbers(operands: &[&str]) -> Result<(i32, i32), AsmCode>
-    ensures writes { IfOk result (λ found. Two (λ operand. operand.now) operands.now (λ a. WritesNumber a found.0) (λ b. WritesNumber b found.1)) }
-    ensures exact { (first second : ℤ) → Two (λ operand. operand.now) operands.now (λ a. WritesNumber a first) (λ b. WritesNumber b second) → result ≡ Ok (first, second) }
+    ensures writes { IfOk result (λ found. Two (texts operands.now) (λ a. WritesNumber a found.0) (λ b. WritesNumber b found.1)) }
+    ensures exact { (first second : ℤ) → Two (texts operands.now) (λ a. WritesNumber a first) (λ b. WritesNumber b second) → result ≡ Ok (first, second) }
 {
     let [first, second] = operands else {
         return Err(AsmCode::BadOperand);
@@ -363,8 +351,8 @@ fn known_address(subtype: u8, first: i32, second: i32) -> Option<Address>
 }
 
 fn call(callee: Callee, operands: &[&str]) -> Result<Insn, AsmCode>
-    ensures writes { (names : List ℕ → Option ℕ) (slot : ℕ) → IfOk result (WritesInsn (λ operand. operand.now) names slot (mnemonic_word (Mnemonic.Calling callee)) operands.now) }
-    ensures exact { (number : ℤ) → One (λ operand. operand.now) operands.now (λ a. WritesNumber a number) → result ≡ Ok (Insn.Call callee number) }
+    ensures writes { (names : List ℕ → Option ℕ) (slot : ℕ) → IfOk result (WritesInsn names slot (mnemonic_word (Mnemonic.Calling callee)) (texts operands.now)) }
+    ensures exact { (number : ℤ) → One (texts operands.now) (λ a. WritesNumber a number) → result ≡ Ok (Insn.Call callee number) }
 {
     let [number] = operands else {
         return Err(AsmCode::BadOperand);
@@ -374,7 +362,7 @@ fn call(callee: Callee, operands: &[&str]) -> Result<Insn, AsmCode>
 }
 
 fn exit(operands: &[&str]) -> Result<Insn, AsmCode>
-    ensures writes { (names : List ℕ → Option ℕ) (slot : ℕ) → IfOk result (WritesInsn (λ operand. operand.now) names slot (mnemonic_word (Mnemonic.Exiting)) operands.now) }
+    ensures writes { (names : List ℕ → Option ℕ) (slot : ℕ) → IfOk result (WritesInsn names slot (mnemonic_word (Mnemonic.Exiting)) (texts operands.now)) }
     ensures exact { operands.now ≡ [] → result ≡ Ok Insn.Exit }
 {
     if operands.is_empty() {

@@ -3,9 +3,11 @@
 ghost use Rattle.std.specs.Prelude.{◌≡◌, ◌++◌, IfOk, OnOk};
 ghost use Rattle.std.specs.List.{flat_map};
 ghost use Rattle.std.specs.String.{string_bytes};
+ghost use Rattle.bpf.specs.Program.{IsProgram};
 ghost use Rattle.basm.specs.Printed.{budget_line, loop_line, printed_image, slot_line};
 ghost use Rattle.basm.specs.Relation.{IsText};
 
+use basm_lex::printed_words;
 use bpf::{Image, Loop};
 use bpf_insn::Insn;
 use std::alloc::{AllocError, Global};
@@ -17,12 +19,20 @@ use std::fmt::Write;
 /// # Errors
 ///
 /// `AllocError` where memory was refused.
-#[tactic(auto, using(crate::proofs::Printed::Images::printed_is_text), unfolding(crate::specs::Printed::printed_image))]
 pub fn disassemble(alloc: Global, image: &Image) -> Result<String, AllocError>
     ensures printed { IfOk result (λ text. string_bytes text ≡ printed_image image.now) }
 
     // What is printed is a text of the image.
     ensures text { IfOk result (λ text. IsText (string_bytes text) image.now) }
+{
+    printed_words();
+    print_image(alloc, image)
+}
+
+#[tactic(auto, unfolding(crate::specs::Printed::printed_image))]
+fn print_image(alloc: Global, image: &Image) -> Result<String, AllocError>
+    ensures printed { IfOk result (λ text. string_bytes text ≡ printed_image image.now) }
+    ensures program { IsProgram image.now }
 {
     let mut text = String::new(alloc);
     print_budget(&mut text, image.budget())?;

@@ -5,3 +5,4 @@ pub mod PlaceTexts
 pub mod PlaceReadings
 pub mod Readings
 pub mod MnemonicWords
+pub mod Printed

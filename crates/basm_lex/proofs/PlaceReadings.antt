@@ -7,6 +7,7 @@ use Rattle.std.proofs.lemmas.List.{append_cancel_right}
 use Rattle.std.proofs.lemmas.Str.Pattern.{IsSplitOnceResult, split_after, split_parts}
 use Rattle.bpf_insn.specs.Text.{register_text}
 use Rattle.basm_lex.specs.Numbers.{WritesBackward, WritesDistance, WritesMagnitude}
+use Rattle.bpf_insn.specs.declared.memory.Place.{Place}
 use Rattle.basm_lex.specs.Places.{WritesPlace}
 use Rattle.basm_lex.proofs.RegisterTexts.{text_0, text_1, text_2, text_3, text_4, text_5, text_6, text_7, text_8, text_9, text_10}
 
@@ -64,50 +65,50 @@ register_lacks c low (suc (suc (suc (suc (suc (suc (suc (suc (suc (suc zero)))))
 register_lacks c low (suc (suc (suc (suc (suc (suc (suc (suc (suc (suc (suc n))))))))))) most = absurd (omega arith)
 
 -- the two parts of what stands in the brackets
-inside_is : (word inner : List ℕ) (base : ℕ) (offset : ℤ) → word ≡ 91 ∷ (inner ++ 93 ∷ []) → (w : WritesPlace word base offset) → inner ≡ register_text base ++ w.distance
-inside_is word inner base offset outside w =
-    let same : 91 ∷ (inner ++ 93 ∷ []) ≡ 91 ∷ ((register_text base ++ w.distance) ++ 93 ∷ []) = sym outside ∙ w.word_is in
-    append_cancel_right inner (register_text base ++ w.distance) (93 ∷ []) (cc same)
+inside_is : (word inner : List ℕ) (place : Place) → word ≡ 91 ∷ (inner ++ 93 ∷ []) → (w : WritesPlace word place) → inner ≡ register_text place.base ++ w.distance
+inside_is word inner place outside w =
+    let same : 91 ∷ (inner ++ 93 ∷ []) ≡ 91 ∷ ((register_text place.base ++ w.distance) ++ 93 ∷ []) = sym outside ∙ w.word_is in
+    append_cancel_right inner (register_text place.base ++ w.distance) (93 ∷ []) (cc same)
 
-split_at_sign : (sign : ℕ) → sign < 48 → (word inner digits : List ℕ) (base : ℕ) (offset : ℤ) (r : Option (Bor (List ℕ) × Bor (List ℕ))) → IsSplitOnceResult sign inner r
-    → word ≡ 91 ∷ (inner ++ 93 ∷ []) → (w : WritesPlace word base offset) → w.distance ≡ sign ∷ digits → MatchOption r ⊥ (λ x. (x.0.now ≡ register_text base) × (x.1.now ≡ digits))
-split_at_sign sign low word inner digits base offset r split outside w signed =
-    split_after sign inner (register_text base) digits r split (omega arith) (inside_is word inner base offset outside w ∙ ap (λ d. register_text base ++ d) signed)
-    (lacks_at sign (register_text base) (register_lacks sign low base w.is_base))
+split_at_sign : (sign : ℕ) → sign < 48 → (word inner digits : List ℕ) (place : Place) (r : Option (Bor (List ℕ) × Bor (List ℕ))) → IsSplitOnceResult sign inner r
+    → word ≡ 91 ∷ (inner ++ 93 ∷ []) → (w : WritesPlace word place) → w.distance ≡ sign ∷ digits → MatchOption r ⊥ (λ x. (x.0.now ≡ register_text place.base) × (x.1.now ≡ digits))
+split_at_sign sign low word inner digits place r split outside w signed =
+    split_after sign inner (register_text place.base) digits r split (omega arith) (inside_is word inner place outside w ∙ ap (λ d. register_text place.base ++ d) signed)
+    (lacks_at sign (register_text place.base) (register_lacks sign low place.base w.is_base))
 
-no_plus_in : (word inner : List ℕ) (base : ℕ) (offset : ℤ) → word ≡ 91 ∷ (inner ++ 93 ∷ []) → (w : WritesPlace word base offset) → (b : WritesBackward w.distance offset) → Lacks 43 inner
-no_plus_in word inner base offset outside w b =
-    subst (λ x. Lacks 43 x) (sym (inside_is word inner base offset outside w ∙ ap (λ d. register_text base ++ d) b.signed))
-    (lacks_both 43 (register_text base) (45 ∷ b.digits) (register_lacks 43 (omega arith) base w.is_base) (λ same. absurd (omega (arith, same)), magnitude_lacks b.digits b.forward b.magnitude))
+no_plus_in : (word inner : List ℕ) (place : Place) → word ≡ 91 ∷ (inner ++ 93 ∷ []) → (w : WritesPlace word place) → (b : WritesBackward w.distance place.offset) → Lacks 43 inner
+no_plus_in word inner place outside w b =
+    subst (λ x. Lacks 43 x) (sym (inside_is word inner place outside w ∙ ap (λ d. register_text place.base ++ d) b.signed))
+    (lacks_both 43 (register_text place.base) (45 ∷ b.digits) (register_lacks 43 (omega arith) place.base w.is_base) (λ same. absurd (omega (arith, same)), magnitude_lacks b.digits b.forward b.magnitude))
 
 -- what is read behind a plus
 pub at_plus : (word inner : List ℕ) → word ≡ 91 ∷ (inner ++ 93 ∷ []) → (x : Bor (List ℕ) × Bor (List ℕ)) → IsSplitOnceResult 43 inner (Some x)
-    → (base : ℕ) (offset : ℤ) → WritesPlace word base offset → (x.0.now ≡ register_text base) × WritesDistance (43 ∷ x.1.now) offset
-at_plus word inner outside x split base offset w = elim w.writes [
+    → (place : Place) → WritesPlace word place → (x.0.now ≡ register_text place.base) × WritesDistance (43 ∷ x.1.now) place.offset
+at_plus word inner outside x split place w = elim w.writes [
   | inl f ↦
-      let parts = split_at_sign 43 (omega arith) word inner f.digits base offset (Some x) split outside w f.signed in
-      (parts.0, inl (record { digits = x.1.now; signed = refl; magnitude = subst (λ d. WritesMagnitude d offset) (sym parts.1) f.magnitude }))
+      let parts = split_at_sign 43 (omega arith) word inner f.digits place (Some x) split outside w f.signed in
+      (parts.0, inl (record { digits = x.1.now; signed = refl; magnitude = subst (λ d. WritesMagnitude d place.offset) (sym parts.1) f.magnitude }))
   | inr b ↦
       let whole = split_parts 43 inner (Some x) split (lit< tt) in
-      absurd (lacks_none 43 x.0.now x.1.now (subst (λ t. Lacks 43 t) whole.0 (no_plus_in word inner base offset outside w b)))
+      absurd (lacks_none 43 x.0.now x.1.now (subst (λ t. Lacks 43 t) whole.0 (no_plus_in word inner place outside w b)))
 ]
 
 -- and behind a minus, where there is no plus
 pub at_minus : (word inner : List ℕ) → word ≡ 91 ∷ (inner ++ 93 ∷ []) → IsSplitOnceResult 43 inner None → (x : Bor (List ℕ) × Bor (List ℕ)) → IsSplitOnceResult 45 inner (Some x)
-    → (base : ℕ) (offset : ℤ) → WritesPlace word base offset → (x.0.now ≡ register_text base) × WritesDistance (45 ∷ x.1.now) offset
-at_minus word inner outside none x split base offset w = elim w.writes [
-  | inl f ↦ absurd (split_at_sign 43 (omega arith) word inner f.digits base offset None none outside w f.signed)
+    → (place : Place) → WritesPlace word place → (x.0.now ≡ register_text place.base) × WritesDistance (45 ∷ x.1.now) place.offset
+at_minus word inner outside none x split place w = elim w.writes [
+  | inl f ↦ absurd (split_at_sign 43 (omega arith) word inner f.digits place None none outside w f.signed)
   | inr b ↦
-      let parts = split_at_sign 45 (omega arith) word inner b.digits base offset (Some x) split outside w b.signed in
+      let parts = split_at_sign 45 (omega arith) word inner b.digits place (Some x) split outside w b.signed in
       (parts.0, inr (record { digits = x.1.now; forward = b.forward; signed = refl; magnitude = subst (λ d. WritesMagnitude d b.forward) (sym parts.1) b.magnitude; negated = b.negated }))
 ]
 
 -- one of them is there
 pub some_sign : (word inner : List ℕ) → word ≡ 91 ∷ (inner ++ 93 ∷ []) → IsSplitOnceResult 43 inner None → IsSplitOnceResult 45 inner None
-    → (base : ℕ) (offset : ℤ) → ¬ WritesPlace word base offset
-some_sign word inner outside none neither base offset w = elim w.writes [
-  | inl f ↦ split_at_sign 43 (omega arith) word inner f.digits base offset None none outside w f.signed
-  | inr b ↦ split_at_sign 45 (omega arith) word inner b.digits base offset None neither outside w b.signed
+    → (place : Place) → ¬ WritesPlace word place
+some_sign word inner outside none neither place w = elim w.writes [
+  | inl f ↦ split_at_sign 43 (omega arith) word inner f.digits place None none outside w f.signed
+  | inr b ↦ split_at_sign 45 (omega arith) word inner b.digits place None neither outside w b.signed
 ]
 
 -- the brackets themselves

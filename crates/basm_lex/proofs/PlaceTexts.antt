@@ -10,9 +10,9 @@ use Rattle.basm_lex.specs.Places.{WritesPlace, WritesRegister}
 -- a base and a distance, which begins with its sign, in brackets
 pub place_of : (word inner base digits : List ℕ) (sign number : ℕ) (offset : ℤ) → word ≡ 91 ∷ (inner ++ 93 ∷ [])
     → inner ≡ base ++ sign ∷ digits → WritesRegister base number → WritesDistance (sign ∷ digits) offset × FitsSigned w16 offset
-    → WritesPlace word number (to_z w16 (of_z w16 offset))
+    → WritesPlace word (record { base = number; offset = to_z w16 (of_z w16 offset) })
 place_of word inner base digits sign number offset outside split register distance =
-    let place : WritesPlace word number offset = record {
+    let place : WritesPlace word (record { base = number; offset = offset }) = record {
       distance = sign ∷ digits;
       is_base = register.0;
       word_is = outside ∙ ap (λ x. 91 ∷ (x ++ 93 ∷ [])) (split ∙ ap (λ x. x ++ sign ∷ digits) register.1);

@@ -3,3 +3,4 @@ pub mod Mnemonics
 pub mod Names
 pub mod Numbers
 pub mod Places
+pub mod Printed

@@ -5,6 +5,7 @@
 //! name.
 #![tactic(auto)]
 
+mod laws;
 mod mnemonics;
 mod names;
 mod numbers;
@@ -12,9 +13,10 @@ mod places;
 mod registers;
 mod statements;
 
+pub use laws::printed_words;
 pub use mnemonics::{Mnemonic, mnemonic_laws, read_mnemonic};
 pub use names::is_name;
 pub use numbers::{NumberFault, distance, number, wide_number};
-pub use places::{Place, read_place};
+pub use places::read_place;
 pub use registers::register;
 pub use statements::{Statement, first_word, label, read_statement};

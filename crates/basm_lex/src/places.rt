@@ -7,20 +7,12 @@ ghost use Rattle.basm_lex.specs.Places.{WritesPlace, WritesRegister};
 
 use crate::numbers::{NumberFault, magnitude};
 use crate::registers::register;
-use bpf_insn::Register;
-
-/// A place in memory: a register and a distance in bytes.
-#[derive(Clone, Copy, Debug, PartialEq, Eq)]
-pub struct Place {
-    pub base: Register,
-    pub offset: i16,
-}
+use bpf_insn::{Place, Register};
 
 /// The place that a word writes: `[rB+N]` or `[rB-N]`.
 pub fn read_place(word: &str) -> Result<Place, NumberFault>
-    ensures writes { IfOk result (λ place. WritesPlace word.now place.base place.offset) }
-    ensures exact { (base : ℕ) (offset : ℤ) → WritesPlace word.now base offset
-        → MatchResult result (λ place. (place.base ≡ base) × (place.offset ≡ offset)) (λ _. ⊥) }
+    ensures writes { IfOk result (WritesPlace word.now) }
+    ensures exact { (place : Place) → WritesPlace word.now place → result ≡ Ok place }
 {
     let inner = inside(word)?;
     match inner.split_once('+') {

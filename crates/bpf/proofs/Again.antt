@@ -10,7 +10,7 @@ use Rattle.bpf_insn.specs.Reading.{reading}
 use Rattle.bpf.specs.declared.loops.Loop.{Loop}
 use Rattle.bpf.specs.declared.fault.ImageFault.{ImageFault}
 use Rattle.bpf.specs.Program.{AreSlots, AreLoops, IsLoop, slot_bytes, loop_bytes}
-use Rattle.bpf.specs.Reading.{slot_in, slot_reading, slots_reading, loop_reading, loops_reading, is_loop}
+use Rattle.bpf.specs.Reading.{slot_in, slot_reading, slots_reading, are_loops, is_loop, loop_in, loops_in, loops_reading}
 
 -- the law of `bpf_insn` that is used: what is spelled so is read so
 abbrev pub IsRead : Type 0
@@ -87,35 +87,46 @@ slots_length (Some i ∷ xs) false [] h are =
 pub half_again : (n : ℕ) → n < 65536 → n % 256 + n / 256 % 256 * 256 ≡ n
 half_again n h = omega arith
 
-pub test_again : (slots least : ℕ) (l : Loop) → least ≤ l.head → IsLoop slots l → is_loop slots least l.head l.back l.bound l.register 0 ≡ true
-test_again slots least l h is =
-    let a : nat_le least l.head ≡ true = grind (arith, nat_tests) in
+pub test_again : (slots : ℕ) (l : Loop) → IsLoop slots l → is_loop slots l ≡ true
+test_again slots l is =
     let b : nat_lt l.head l.back ≡ true = grind (arith, nat_tests, is.ordered) in
     let c : nat_lt l.back slots ≡ true = grind (arith, nat_tests, is.within) in
     let d : nat_le 1 l.bound ≡ true = grind (arith, nat_tests, is.low) in
     let e : nat_le l.bound 4096 ≡ true = grind (arith, nat_tests, is.high) in
     let f : nat_le l.register 9 ≡ true = grind (arith, nat_tests, is.register) in
-    rw (a, b, c, d, e, f) refl
+    rw (b, c, d, e, f) refl
 
-if_true : (b : Bool) (x y : Result Loop ImageFault) → b ≡ true → (if b then x else y) ≡ x
+tests_again : (slots least : ℕ) (ls : List Loop) → AreLoops slots least ls → are_loops slots least ls ≡ true
+tests_again slots least [] are = refl
+tests_again slots least (l ∷ ls) are =
+    let first : nat_le least l.head ≡ true = grind (arith, nat_tests, are.0) in
+    rw (first, test_again slots l are.1) (tests_again slots (l.head + 1) ls are.2)
+
+if_true : {X : Type 0} (b : Bool) (x y : Result X ImageFault) → b ≡ true → (if b then x else y) ≡ x
 if_true true x y h = refl
 if_true false x y h = cc
 
-loop_again : (slots least : ℕ) (l : Loop) (rest : List ℕ) → least ≤ l.head → IsLoop slots l → slots ≤ 512 → loop_reading slots least (loop_bytes l ++ rest) ≡ Ok l
-unfolding loop_reading
-loop_again slots least l rest h is few =
+loop_again : (slots : ℕ) (l : Loop) (rest : List ℕ) → IsLoop slots l → slots ≤ 512 → loop_in (loop_bytes l ++ rest) ≡ Ok l
+unfolding loop_in
+loop_again slots l rest is few =
     let head = half_again l.head (omega (arith, is.ordered, is.within)) in
     let back = half_again l.back (omega (arith, is.within)) in
     let bound = half_again l.bound (omega (arith, is.high)) in
-    rw (head, back, bound) (if_true _ _ _ (test_again slots least l h is))
+    let register : nat_le l.register 10 ≡ true = grind (arith, nat_tests, is.register) in
+    rw (head, back, bound, register) refl
 
-pub loops_again : (slots least : ℕ) (ls : List Loop) → AreLoops slots least ls → slots ≤ 512 → loops_reading slots (length ls) least (flat_map loop_bytes ls) ≡ Ok ls
-unfolding loops_reading
-loops_again slots least [] are few = refl
-loops_again slots least (l ∷ ls) are few =
-    let one = loop_again slots least l (flat_map loop_bytes ls) are.0 are.1 few in
-    let again = loops_again slots (l.head + 1) ls are.2 few in
+found_again : (slots least : ℕ) (ls : List Loop) → AreLoops slots least ls → slots ≤ 512 → loops_in (length ls) (flat_map loop_bytes ls) ≡ Ok ls
+unfolding loops_in
+found_again slots least [] are few = refl
+found_again slots least (l ∷ ls) are few =
+    let one = loop_again slots l (flat_map loop_bytes ls) are.1 few in
+    let again = found_again slots (l.head + 1) ls are.2 few in
     rw one (rw again refl)
+
+pub loops_again : (slots : ℕ) (ls : List Loop) → AreLoops slots 0 ls → slots ≤ 512 → loops_reading slots (length ls) (flat_map loop_bytes ls) ≡ Ok ls
+unfolding loops_reading
+loops_again slots ls are few =
+    rw (found_again slots 0 ls are few) (if_true (are_loops slots 0 ls) _ _ (tests_again slots 0 ls are))
 
 pub loops_length : (ls : List Loop) → length (flat_map loop_bytes ls) ≡ 8 * length ls
 loops_length [] = refl

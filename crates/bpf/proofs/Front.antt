@@ -1,11 +1,11 @@
 -- Reading loops and slots one after the other, as a `for` does.
-use Rattle.std.proofs.Common.{◌≡◌, ℕ, suc, ◌-◌, ◌+◌, ◌≤◌, ◌<◌, Bool, List, [], ◌∷◌, ◌++◌, Result, Ok, Err, Option, refl, sym, ap, ◌∙◌, append_assoc, arith, drop}
+use Rattle.std.proofs.Common.{◌≡◌, ℕ, suc, ◌-◌, ◌+◌, ◌≤◌, ◌<◌, Bool, if◌then◌else◌, List, [], ◌∷◌, ◌++◌, Result, Ok, Err, Option, refl, sym, ap, ◌∙◌, append_assoc, arith, drop}
 use Rattle.std.proofs.lemmas.List.{append-nil}
 use Rattle.bpf_insn.specs.declared.insn.Insn.{Insn}
 use Rattle.bpf.specs.declared.loops.Loop.{Loop}
 use Rattle.bpf.specs.declared.fault.ImageFault.{ImageFault}
 use Rattle.bpf.specs.declared.fault.ImageFault.TheVariants as faults
-use Rattle.bpf.specs.Reading.{◌>>=◌, Fails, loop_reading, loops_reading, slot_reading, slots_reading, begins_two}
+use Rattle.bpf.specs.Reading.{◌>>=◌, Fails, are_loops, loop_in, loops_in, loops_reading, slot_reading, slots_reading, begins_two}
 
 -- what was read before, and what is still read
 abbrev pub with_front : {X : Type 0} → List X → Result (List X) ImageFault → Result (List X) ImageFault
@@ -38,29 +38,38 @@ fails_first (faults.Insn slot fault) first k h = rw h refl
 
 -- ---- loops
 
-pub loop_read : (slots : ℕ) (front : List Loop) (count i least : ℕ) (bytes : List ℕ) (l : Loop) (total : Result (List Loop) ImageFault) → i < count → Ok l ≡ loop_reading slots least bytes
-    → with_front front (loops_reading slots (count - i) least bytes) ≡ total → with_front (front ++ l ∷ []) (loops_reading slots (count - (i + 1)) (l.head + 1) (drop 8 bytes)) ≡ total
-unfolding loops_reading
-loop_read slots front count i least bytes l total lt h so_far =
+pub loop_read : (front : List Loop) (count i : ℕ) (bytes : List ℕ) (l : Loop) (total : Result (List Loop) ImageFault) → i < count → Ok l ≡ loop_in bytes
+    → with_front front (loops_in (count - i) bytes) ≡ total → with_front (front ++ l ∷ []) (loops_in (count - (i + 1)) (drop 8 bytes)) ≡ total
+unfolding loops_in
+loop_read front count i bytes l total lt h so_far =
     let k : count - i ≡ suc (count - (i + 1)) = omega arith in
-    let one : with_front front (loops_reading slots (count - i) least bytes) ≡ with_front (front ++ l ∷ []) (loops_reading slots (count - (i + 1)) (l.head + 1) (drop 8 bytes)) =
-    rw (k, ← h) (regroup front l (loops_reading slots (count - (i + 1)) (l.head + 1) (drop 8 bytes))) in
+    let one : with_front front (loops_in (count - i) bytes) ≡ with_front (front ++ l ∷ []) (loops_in (count - (i + 1)) (drop 8 bytes)) =
+    rw (k, ← h) (regroup front l (loops_in (count - (i + 1)) (drop 8 bytes))) in
     sym one ∙ so_far
 
-pub loop_fails : (e : ImageFault) (slots : ℕ) (front : List Loop) (count i least : ℕ) (bytes : List ℕ) (total : Result (List Loop) ImageFault) → i < count → Err e ≡ loop_reading slots least bytes
-    → with_front front (loops_reading slots (count - i) least bytes) ≡ total → total ≡ Err e
-unfolding loops_reading
-loop_fails e slots front count i least bytes total lt h so_far =
+pub loop_fails : (e : ImageFault) (front : List Loop) (count i : ℕ) (bytes : List ℕ) (total : Result (List Loop) ImageFault) → i < count → Err e ≡ loop_in bytes
+    → with_front front (loops_in (count - i) bytes) ≡ total → total ≡ Err e
+unfolding loops_in
+loop_fails e front count i bytes total lt h so_far =
     let k : count - i ≡ suc (count - (i + 1)) = omega arith in
-    let one : with_front front (loops_reading slots (count - i) least bytes) ≡ Err e = rw (k, ← h) refl in
+    let one : with_front front (loops_in (count - i) bytes) ≡ Err e = rw (k, ← h) refl in
     sym so_far ∙ one
 
-pub loops_done : (slots : ℕ) (front : List Loop) (count i least : ℕ) (bytes : List ℕ) (total : Result (List Loop) ImageFault) → count ≤ i → with_front front (loops_reading slots (count - i) least bytes) ≡ total → total ≡ Ok front
-unfolding loops_reading
-loops_done slots front count i least bytes total le so_far =
+pub loops_done : (front : List Loop) (count i : ℕ) (bytes : List ℕ) (total : Result (List Loop) ImageFault) → count ≤ i → with_front front (loops_in (count - i) bytes) ≡ total → total ≡ Ok front
+unfolding loops_in
+loops_done front count i bytes total le so_far =
     let k : count - i ≡ 0 = omega arith in
-    let one : with_front front (loops_reading slots (count - i) least bytes) ≡ Ok front = rw k (ap (λ (ls : List Loop). Ok ls) (append-nil front)) in
+    let one : with_front front (loops_in (count - i) bytes) ≡ Ok front = rw k (ap (λ (ls : List Loop). Ok ls) (append-nil front)) in
     sym so_far ∙ one
+
+-- the loops that were found are those of the image, or there is a fault
+pub loops_tested : (slots count : ℕ) (bytes : List ℕ) (loops : List Loop) → loops_in count bytes ≡ Ok loops → loops_reading slots count bytes ≡ (if are_loops slots 0 loops then Ok loops else Err faults.Loop)
+unfolding loops_reading
+loops_tested slots count bytes loops found = rw found refl
+
+pub loops_tested_fail : (slots count : ℕ) (bytes : List ℕ) (e : ImageFault) → Fails e (loops_in count bytes) → Fails e (loops_reading slots count bytes)
+unfolding loops_reading
+loops_tested_fail slots count bytes e fails = fails_first e (loops_in count bytes) _ fails
 
 -- an error is never a fault of memory by itself
 pub is_failure : {X : Type 0} (e : ImageFault) (total : Result X ImageFault) → total ≡ Err e → Fails e total

@@ -1,4 +1,3 @@
-pub mod LoopList
 pub mod Front
 pub mod Spelled
 pub mod Whole
@@ -7,3 +6,4 @@ pub mod WholeAgain
 pub mod Weighed
 pub mod Parted
 pub mod Named
+pub mod SlotReads

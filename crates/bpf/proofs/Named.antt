@@ -11,7 +11,7 @@ use Rattle.bpf.specs.declared.loops.Loop.{Loop}
 use Rattle.bpf.specs.declared.fault.ImageFault.{ImageFault}
 use Rattle.bpf.specs.declared.fault.ImageFault.TheVariants as faults
 use Rattle.bpf.specs.Program.{Program, program}
-use Rattle.bpf.specs.Reading.{◌>>=◌, Gives, Fails, IsFaultAt, begins_two, bytes_at, counts_reading, found_at, half_at, is_budget, is_count, magic, word_at, header_reading, image_reading, loop_reading, loops_reading, slot_in, slot_reading, slots_reading}
+use Rattle.bpf.specs.Reading.{◌>>=◌, Gives, Fails, IsFaultAt, begins_two, bytes_at, counts_reading, found_at, half_at, is_budget, is_count, magic, word_at, header_reading, image_reading, are_loops, loop_in, loops_in, loops_reading, slot_in, slot_reading, slots_reading}
 
 -- the law of `bpf_insn` that is used: a fault that is read stands in the bytes
 abbrev pub IsExplained : Type 0
@@ -74,27 +74,39 @@ header_loops bytes h e =
 
 -- ---- loops
 
-loop_no_slot : (slots least : ℕ) (bytes : List ℕ) (slot : ℕ) (fault : BadInsn) → loop_reading slots least bytes ≡ Err (faults.Insn slot fault) → ⊥
-unfolding loop_reading
-loop_no_slot slots least bytes slot fault e = by_test _ _ e
+loop_no_slot : (bytes : List ℕ) (slot : ℕ) (fault : BadInsn) → loop_in bytes ≡ Err (faults.Insn slot fault) → ⊥
+unfolding loop_in
+loop_no_slot bytes slot fault e = by_test _ _ e
   where
     by_test : (b : Bool) (l : Loop) → (if b then Ok l else Err faults.Loop) ≡ Err (faults.Insn slot fault) → ⊥
     by_test true l e = cc
     by_test false l e = cc
 
-loops_no_slot : (slots count least : ℕ) (bytes : List ℕ) (slot : ℕ) (fault : BadInsn) → loops_reading slots count least bytes ≡ Err (faults.Insn slot fault) → ⊥
-unfolding loops_reading
-loops_no_slot slots zero least bytes slot fault e = cc
-loops_no_slot slots (suc n) least bytes slot fault e =
-    by_first (λ l. loops_no_slot slots n (l.head + 1) (drop 8 bytes) slot fault) (came_from (loop_reading slots least bytes) _ (faults.Insn slot fault) e)
+found_no_slot : (count : ℕ) (bytes : List ℕ) (slot : ℕ) (fault : BadInsn) → loops_in count bytes ≡ Err (faults.Insn slot fault) → ⊥
+unfolding loops_in
+found_no_slot zero bytes slot fault e = cc
+found_no_slot (suc n) bytes slot fault e =
+    by_first (found_no_slot n (drop 8 bytes) slot fault) (came_from (loop_in bytes) _ (faults.Insn slot fault) e)
   where
-    by_rest : (l : Loop) → (loops_reading slots n (l.head + 1) (drop 8 bytes) ≡ Err (faults.Insn slot fault) → ⊥) → (loops_reading slots n (l.head + 1) (drop 8 bytes) ≡ Err (faults.Insn slot fault)) ⊎ ((ls : List Loop) × (loops_reading slots n (l.head + 1) (drop 8 bytes) ≡ Ok ls) × ((let r : Result (List Loop) ImageFault = Ok (l ∷ ls) in r) ≡ Err (faults.Insn slot fault))) → ⊥
+    by_rest : (l : Loop) → (loops_in n (drop 8 bytes) ≡ Err (faults.Insn slot fault) → ⊥) → (loops_in n (drop 8 bytes) ≡ Err (faults.Insn slot fault)) ⊎ ((ls : List Loop) × (loops_in n (drop 8 bytes) ≡ Ok ls) × ((let r : Result (List Loop) ImageFault = Ok (l ∷ ls) in r) ≡ Err (faults.Insn slot fault))) → ⊥
     by_rest l later (inl e) = later e
     by_rest l later (inr p) = let never = p.2 in cc
 
-    by_first : ((l : Loop) → loops_reading slots n (l.head + 1) (drop 8 bytes) ≡ Err (faults.Insn slot fault) → ⊥) → (loop_reading slots least bytes ≡ Err (faults.Insn slot fault)) ⊎ ((l : Loop) × (loop_reading slots least bytes ≡ Ok l) × ((loops_reading slots n (l.head + 1) (drop 8 bytes) >>= (λ ls. Ok (l ∷ ls))) ≡ Err (faults.Insn slot fault))) → ⊥
-    by_first later (inl e) = loop_no_slot slots least bytes slot fault e
-    by_first later (inr p) = by_rest p.0 (later p.0) (came_from (loops_reading slots n (p.0.head + 1) (drop 8 bytes)) _ (faults.Insn slot fault) p.2)
+    by_first : (loops_in n (drop 8 bytes) ≡ Err (faults.Insn slot fault) → ⊥) → (loop_in bytes ≡ Err (faults.Insn slot fault)) ⊎ ((l : Loop) × (loop_in bytes ≡ Ok l) × ((loops_in n (drop 8 bytes) >>= (λ ls. Ok (l ∷ ls))) ≡ Err (faults.Insn slot fault))) → ⊥
+    by_first later (inl e) = loop_no_slot bytes slot fault e
+    by_first later (inr p) = by_rest p.0 later (came_from (loops_in n (drop 8 bytes)) _ (faults.Insn slot fault) p.2)
+
+loops_no_slot : (slots count : ℕ) (bytes : List ℕ) (slot : ℕ) (fault : BadInsn) → loops_reading slots count bytes ≡ Err (faults.Insn slot fault) → ⊥
+unfolding loops_reading
+loops_no_slot slots count bytes slot fault e = by_found (came_from (loops_in count bytes) _ (faults.Insn slot fault) e)
+  where
+    by_test : (b : Bool) (ls : List Loop) → (if b then Ok ls else Err faults.Loop) ≡ Err (faults.Insn slot fault) → ⊥
+    by_test true ls e = cc
+    by_test false ls e = cc
+
+    by_found : (loops_in count bytes ≡ Err (faults.Insn slot fault)) ⊎ ((ls : List Loop) × (loops_in count bytes ≡ Ok ls) × ((if are_loops slots 0 ls then Ok ls else Err faults.Loop) ≡ Err (faults.Insn slot fault))) → ⊥
+    by_found (inl e) = found_no_slot count bytes slot fault e
+    by_found (inr p) = by_test (are_loops slots 0 p.0) p.0 p.2
 
 -- ---- slots
 
@@ -156,7 +168,7 @@ named_at law bytes h named fault bounds loops p =
 abbrev pub rest_of : List ℕ → Header → Result Program ImageFault
 rest_of bytes h =
     if nat_eq (length bytes) (16 + 8 * h.loops + 8 * h.slots)
-    then (loops_reading h.slots h.loops 0 (drop 16 (take (16 + 8 * h.loops) bytes)) >>= (λ loops.
+    then (loops_reading h.slots h.loops (drop 16 (take (16 + 8 * h.loops) bytes)) >>= (λ loops.
     slots_reading h.slots 0 false (drop (16 + 8 * h.loops) bytes) >>= (λ slots.
     Ok (program h.budget loops slots))))
     else Err faults.Length
@@ -169,8 +181,8 @@ fault_named law bytes named fault bounds e = by_header (came_from (header_readin
     by_slots h loops count (inl e) = named_at law bytes h named fault bounds count (slots_fault h.slots 0 false _ named fault e)
     by_slots h loops count (inr p) = let never = p.2 in cc
 
-    by_loops : (h : Header) → slice_index bytes 5 ≡ h.loops → (loops_reading h.slots h.loops 0 (drop 16 (take (16 + 8 * h.loops) bytes)) ≡ Err (faults.Insn named fault)) ⊎ ((loops : List Loop) × (loops_reading h.slots h.loops 0 (drop 16 (take (16 + 8 * h.loops) bytes)) ≡ Ok loops) × ((slots_reading h.slots 0 false (drop (16 + 8 * h.loops) bytes) >>= (λ slots. Ok (program h.budget loops slots))) ≡ Err (faults.Insn named fault))) → IsFaultAt bytes (faults.Insn named fault)
-    by_loops h count (inl e) = absurd (loops_no_slot _ _ _ _ named fault e)
+    by_loops : (h : Header) → slice_index bytes 5 ≡ h.loops → (loops_reading h.slots h.loops (drop 16 (take (16 + 8 * h.loops) bytes)) ≡ Err (faults.Insn named fault)) ⊎ ((loops : List Loop) × (loops_reading h.slots h.loops (drop 16 (take (16 + 8 * h.loops) bytes)) ≡ Ok loops) × ((slots_reading h.slots 0 false (drop (16 + 8 * h.loops) bytes) >>= (λ slots. Ok (program h.budget loops slots))) ≡ Err (faults.Insn named fault))) → IsFaultAt bytes (faults.Insn named fault)
+    by_loops h count (inl e) = absurd (loops_no_slot _ _ _ named fault e)
     by_loops h count (inr p) = by_slots h p.0 count (came_from (slots_reading h.slots 0 false (drop (16 + 8 * h.loops) bytes)) _ (faults.Insn named fault) p.2)
 
     by_length : (h : Header) (b : Bool) (r : Result Program ImageFault) → (r ≡ Err (faults.Insn named fault) → IsFaultAt bytes (faults.Insn named fault)) → (if b then r else Err faults.Length) ≡ Err (faults.Insn named fault) → IsFaultAt bytes (faults.Insn named fault)
@@ -179,7 +191,7 @@ fault_named law bytes named fault bounds e = by_header (came_from (header_readin
 
     by_header : (header_reading bytes ≡ Err (faults.Insn named fault)) ⊎ ((h : Header) × (header_reading bytes ≡ Ok h) × (rest_of bytes h ≡ Err (faults.Insn named fault))) → IsFaultAt bytes (faults.Insn named fault)
     by_header (inl e) = absurd (header_no_slot bytes named fault e)
-    by_header (inr p) = by_length p.0 _ _ (λ e. by_loops p.0 (header_loops bytes p.0 p.1) (came_from (loops_reading p.0.slots p.0.loops 0 (drop 16 (take (16 + 8 * p.0.loops) bytes))) _ (faults.Insn named fault) e)) p.2
+    by_header (inr p) = by_length p.0 _ _ (λ e. by_loops p.0 (header_loops bytes p.0 p.1) (came_from (loops_reading p.0.slots p.0.loops (drop 16 (take (16 + 8 * p.0.loops) bytes))) _ (faults.Insn named fault) e)) p.2
 
 -- ---- what `Image::read` says
 

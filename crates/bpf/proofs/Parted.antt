@@ -10,9 +10,9 @@ use Rattle.bpf.specs.declared.loops.Loop.{Loop}
 use Rattle.bpf.specs.declared.fault.ImageFault.{ImageFault}
 use Rattle.bpf.specs.declared.fault.ImageFault.TheVariants as faults
 use Rattle.bpf.specs.Program.{program, AreLoops, AreSlots, IsBudget, IsLoop, IsProgram, IsSlotCount}
-use Rattle.bpf.specs.Reading.{is_budget, is_count, is_loop}
+use Rattle.bpf.specs.Reading.{are_loops, is_budget, is_count, is_loop}
 use Rattle.bpf.proofs.Again.{test_again}
-use Rattle.bpf.specs.Parts.{are_loops, header_of, parts_fault, placed, second_slots, unless}
+use Rattle.bpf.specs.Parts.{header_of, parts_fault, placed, second_slots, unless}
 
 -- ---- the slots
 
@@ -100,22 +100,20 @@ budget_kept budget h =
     let p = and_true _ _ h in
     (le_true _ _ p.0, le_true _ _ p.1)
 
-loop_kept : (slots least : ℕ) (l : Loop) → is_loop slots least l.head l.back l.bound l.register 0 ≡ true → (least ≤ l.head) × IsLoop slots l
-loop_kept slots least l h =
-    let g = and_true _ _ h in
-    let f = and_true _ _ g.0 in
+loop_kept : (slots : ℕ) (l : Loop) → is_loop slots l ≡ true → IsLoop slots l
+loop_kept slots l h =
+    let f = and_true _ _ h in
     let e = and_true _ _ f.0 in
     let d = and_true _ _ e.0 in
     let c = and_true _ _ d.0 in
-    let b = and_true _ _ c.0 in
-    (le_true _ _ b.0, record { ordered = lt_true _ _ b.1; within = lt_true _ _ c.1; low = le_true _ _ d.1; high = le_true _ _ e.1; register = le_true _ _ f.1 })
+    record { ordered = lt_true _ _ c.0; within = lt_true _ _ c.1; low = le_true _ _ d.1; high = le_true _ _ e.1; register = le_true _ _ f.1 }
 
-loops_kept : (slots least : ℕ) (ls : List Loop) → are_loops slots least ls ≡ true → AreLoops slots least ls
+pub loops_kept : (slots least : ℕ) (ls : List Loop) → are_loops slots least ls ≡ true → AreLoops slots least ls
 loops_kept slots least [] h = tt
 loops_kept slots least (l ∷ ls) h =
     let p = and_true _ _ h in
-    let one = loop_kept slots least l p.0 in
-    (one.0, one.1, loops_kept slots (l.head + 1) ls p.1)
+    let q = and_true _ _ p.0 in
+    (le_true _ _ q.0, loop_kept slots l q.1, loops_kept slots (l.head + 1) ls p.1)
 
 kept : (budget : ℕ) (loops : List Loop) (slots : List (Option Insn)) → parts_fault (length slots) loops budget ≡ None → AreSlots false slots → IsProgram (program budget loops slots)
 unfolding parts_fault
@@ -132,6 +130,6 @@ parts_kept insns given loops budget h slots made same is are =
 
 -- ---- a loop that fits
 
-pub fits_exactly : (slots : ℕ) (l : Loop) (b : Bool) → b ≡ is_loop slots 0 l.head l.back l.bound l.register 0 → (b ≡ true → IsLoop slots l) × (IsLoop slots l → b ≡ true)
+pub fits_exactly : (slots : ℕ) (l : Loop) (b : Bool) → b ≡ is_loop slots l → (b ≡ true → IsLoop slots l) × (IsLoop slots l → b ≡ true)
 fits_exactly slots l b is =
-    (λ holds. (loop_kept slots 0 l (sym is ∙ holds)).1, λ fits. is ∙ test_again slots 0 l (omega arith) fits)
+    (λ holds. loop_kept slots l (sym is ∙ holds), λ fits. is ∙ test_again slots l fits)

@@ -19,7 +19,7 @@ header_fails bytes e h = is_failure e (image_reading bytes) (rw (← h) refl)
 -- the reading of the loops and slots of this header
 abbrev pub rest_reading : List ℕ → Header → Result Program ImageFault
 rest_reading bytes h =
-    loops_reading h.slots h.loops 0 (drop 16 (take (16 + 8 * h.loops) bytes)) >>= (λ loops.
+    loops_reading h.slots h.loops (drop 16 (take (16 + 8 * h.loops) bytes)) >>= (λ loops.
     slots_reading h.slots 0 false (drop (16 + 8 * h.loops) bytes) >>= (λ slots.
     Ok (program h.budget loops slots)))
 
@@ -58,22 +58,22 @@ middle_is bytes h front middle tail code cut = cut.is_middle ∙ ap (drop 16) (c
 tail_is : (bytes : List ℕ) (h : Header) (front middle tail : List ℕ) (code : ℕ) → Cut bytes h front middle tail code → tail ≡ drop (16 + 8 * h.loops) bytes
 tail_is bytes h front middle tail code cut = cut.is_tail ∙ ap (λ (k : ℕ). drop k bytes) cut.at_code
 
-parts_reading : (bytes : List ℕ) (h : Header) (front middle tail : List ℕ) (code : ℕ) → Cut bytes h front middle tail code → image_reading bytes ≡ (loops_reading h.slots h.loops 0 middle >>= (λ loops. slots_reading h.slots 0 false tail >>= (λ slots. Ok (program h.budget loops slots))))
+parts_reading : (bytes : List ℕ) (h : Header) (front middle tail : List ℕ) (code : ℕ) → Cut bytes h front middle tail code → image_reading bytes ≡ (loops_reading h.slots h.loops middle >>= (λ loops. slots_reading h.slots 0 false tail >>= (λ slots. Ok (program h.budget loops slots))))
 parts_reading bytes h front middle tail code cut =
     whole bytes h cut.header cut.len
-    ∙ ap (λ (m : List ℕ). loops_reading h.slots h.loops 0 m >>= (λ loops. slots_reading h.slots 0 false (drop (16 + 8 * h.loops) bytes) >>= (λ slots. Ok (program h.budget loops slots)))) (sym (middle_is bytes h front middle tail code cut))
-    ∙ ap (λ (t : List ℕ). loops_reading h.slots h.loops 0 middle >>= (λ loops. slots_reading h.slots 0 false t >>= (λ slots. Ok (program h.budget loops slots)))) (sym (tail_is bytes h front middle tail code cut))
+    ∙ ap (λ (m : List ℕ). loops_reading h.slots h.loops m >>= (λ loops. slots_reading h.slots 0 false (drop (16 + 8 * h.loops) bytes) >>= (λ slots. Ok (program h.budget loops slots)))) (sym (middle_is bytes h front middle tail code cut))
+    ∙ ap (λ (t : List ℕ). loops_reading h.slots h.loops middle >>= (λ loops. slots_reading h.slots 0 false t >>= (λ slots. Ok (program h.budget loops slots)))) (sym (tail_is bytes h front middle tail code cut))
 
-pub loops_fail : (bytes : List ℕ) (h : Header) (front middle tail : List ℕ) (code : ℕ) (e : ImageFault) → Cut bytes h front middle tail code → Fails e (loops_reading h.slots h.loops 0 middle) → Fails e (image_reading bytes)
+pub loops_fail : (bytes : List ℕ) (h : Header) (front middle tail : List ℕ) (code : ℕ) (e : ImageFault) → Cut bytes h front middle tail code → Fails e (loops_reading h.slots h.loops middle) → Fails e (image_reading bytes)
 loops_fail bytes h front middle tail code e cut fails =
-    fails_all e _ (image_reading bytes) (fails_first e (loops_reading h.slots h.loops 0 middle) (λ loops. slots_reading h.slots 0 false tail >>= (λ slots. Ok (program h.budget loops slots))) fails) (sym (parts_reading bytes h front middle tail code cut))
+    fails_all e _ (image_reading bytes) (fails_first e (loops_reading h.slots h.loops middle) (λ loops. slots_reading h.slots 0 false tail >>= (λ slots. Ok (program h.budget loops slots))) fails) (sym (parts_reading bytes h front middle tail code cut))
 
-pub slots_fail : (bytes : List ℕ) (h : Header) (front middle tail : List ℕ) (code : ℕ) (e : ImageFault) (loops : List Loop) → Cut bytes h front middle tail code → loops_reading h.slots h.loops 0 middle ≡ Ok loops → Fails e (slots_reading h.slots 0 false tail) → Fails e (image_reading bytes)
+pub slots_fail : (bytes : List ℕ) (h : Header) (front middle tail : List ℕ) (code : ℕ) (e : ImageFault) (loops : List Loop) → Cut bytes h front middle tail code → loops_reading h.slots h.loops middle ≡ Ok loops → Fails e (slots_reading h.slots 0 false tail) → Fails e (image_reading bytes)
 slots_fail bytes h front middle tail code e loops cut read fails =
     let one : image_reading bytes ≡ (slots_reading h.slots 0 false tail >>= (λ slots. Ok (program h.budget loops slots))) = parts_reading bytes h front middle tail code cut ∙ rw read refl in
     fails_all e _ (image_reading bytes) (fails_first e (slots_reading h.slots 0 false tail) (λ slots. Ok (program h.budget loops slots)) fails) (sym one)
 
-pub is_read : (bytes : List ℕ) (h : Header) (front middle tail : List ℕ) (code : ℕ) (loops : List Loop) (slots : List (Option Insn)) → Cut bytes h front middle tail code → loops_reading h.slots h.loops 0 middle ≡ Ok loops → slots_reading h.slots 0 false tail ≡ Ok slots → image_reading bytes ≡ Ok (program h.budget loops slots)
+pub is_read : (bytes : List ℕ) (h : Header) (front middle tail : List ℕ) (code : ℕ) (loops : List Loop) (slots : List (Option Insn)) → Cut bytes h front middle tail code → loops_reading h.slots h.loops middle ≡ Ok loops → slots_reading h.slots 0 false tail ≡ Ok slots → image_reading bytes ≡ Ok (program h.budget loops slots)
 is_read bytes h front middle tail code loops slots cut read code_read =
     parts_reading bytes h front middle tail code cut ∙ rw (read, code_read) refl
 

@@ -68,7 +68,7 @@ cut_again budget loops slots is =
 program_again : IsRead → (budget : ℕ) (loops : List Loop) (slots : List (Option Insn)) → IsProgram (program budget loops slots) → image_reading (image_bytes (program budget loops slots)) ≡ Ok (program budget loops slots)
 program_again law budget loops slots is =
     is_read _ _ _ _ _ _ loops slots (cut_again budget loops slots is)
-    (loops_again (length slots) 0 loops is.loops is.slots.1)
+    (loops_again (length slots) loops is.loops is.slots.1)
     (slots_again law slots 0 false [] refl is.code)
 
 -- the program is in version 1

@@ -1,5 +1,5 @@
 -- How an image is made of its parts, with the first fault that is met.
-use Rattle.std.specs.Prelude.{ℕ, ◌+◌, Bool, true, false, ◌&&◌, if◌then◌else◌, List, [], ◌∷◌, length, Option, Some, None, is_some, Result, Ok, Err}
+use Rattle.std.specs.Prelude.{ℕ, Bool, true, false, if◌then◌else◌, List, [], ◌∷◌, length, Option, Some, None, is_some, Result, Ok, Err}
 use Rattle.std.specs.List.{flat_map}
 use Rattle.bpf_insn.specs.declared.insn.Insn.{Insn}
 use Rattle.bpf_insn.specs.Spelling.{second_immediate}
@@ -8,7 +8,7 @@ use Rattle.bpf.specs.declared.loops.Loop.{Loop}
 use Rattle.bpf.specs.declared.fault.ImageFault.{ImageFault}
 use Rattle.bpf.specs.declared.fault.ImageFault.TheVariants as faults
 use Rattle.bpf.specs.Program.{Program, program}
-use Rattle.bpf.specs.Reading.{is_budget, is_count, is_loop}
+use Rattle.bpf.specs.Reading.{are_loops, is_budget, is_count}
 
 -- a second slot, where there is one, has no instruction
 abbrev pub second_slots : Bool → List (Option Insn)
@@ -18,12 +18,6 @@ second_slots false = []
 -- the one or two slots of an instruction
 abbrev pub placed : Insn → List (Option Insn)
 placed insn = Some insn ∷ second_slots (is_some (second_immediate insn))
-
--- whether the heads of the loops rise strictly from `least`, and each is a loop of so many slots
-abbrev pub are_loops : (slots least : ℕ) → List Loop → Bool
-are_loops slots least [] = true
-are_loops slots least (l ∷ ls) =
-    is_loop slots least l.head l.back l.bound l.register 0 && are_loops slots (l.head + 1) ls
 
 -- what is wrong with the parts of an image of so many slots
 unfoldable pub parts_fault : (slots : ℕ) → List Loop → (budget : ℕ) → Option ImageFault

@@ -77,25 +77,32 @@ header_reading bytes =
     else Err faults.Version)
     else Err faults.Magic
 
--- whether these are the fields of a loop whose head may follow
-abbrev pub is_loop : (slots least head back bound number zero : ℕ) → Bool
-is_loop slots least head back bound number last =
-    nat_le least head && nat_lt head back && nat_lt back slots && nat_le 1 bound && nat_le bound 4096 && nat_le number 9 && last == 0
+-- whether it is a loop of so many slots
+abbrev pub is_loop : (slots : ℕ) → Loop → Bool
+is_loop slots l =
+    nat_lt l.head l.back && nat_lt l.back slots && nat_le 1 l.bound && nat_le l.bound 4096 && nat_le l.register 9
 
--- a loop whose head is this slot or a later one, or the fault
-unfoldable pub loop_reading : (slots least : ℕ) → List ℕ → Result Loop ImageFault
-loop_reading slots least bytes =
-    if is_loop slots least (half_at 0 bytes) (half_at 2 bytes) (half_at 4 bytes) (slice_index bytes 6) (slice_index bytes 7)
+-- whether the heads of the loops rise strictly from `least`, and each is a loop of so many slots
+abbrev pub are_loops : (slots least : ℕ) → List Loop → Bool
+are_loops slots least [] = true
+are_loops slots least (l ∷ ls) = nat_le least l.head && is_loop slots l && are_loops slots (l.head + 1) ls
+
+-- a loop by its fields, of a register and with a zero after them, or the fault
+unfoldable pub loop_in : List ℕ → Result Loop ImageFault
+loop_in bytes =
+    if nat_le (slice_index bytes 6) 10 && slice_index bytes 7 == 0
     then Ok (record { head = half_at 0 bytes; back = half_at 2 bytes; bound = half_at 4 bytes; register = slice_index bytes 6 })
     else Err faults.Loop
 
--- so many loops, by rising head, or the first fault
-unfoldable pub loops_reading : (slots count least : ℕ) → List ℕ → Result (List Loop) ImageFault
-loops_reading slots zero least bytes = Ok []
-loops_reading slots (suc n) least bytes =
-    loop_reading slots least bytes >>= (λ l.
-    loops_reading slots n (l.head + 1) (drop 8 bytes) >>= (λ ls.
-    Ok (l ∷ ls)))
+-- so many loops, or the fault
+unfoldable pub loops_in : (count : ℕ) → List ℕ → Result (List Loop) ImageFault
+loops_in zero bytes = Ok []
+loops_in (suc n) bytes = loop_in bytes >>= (λ l. loops_in n (drop 8 bytes) >>= (λ ls. Ok (l ∷ ls)))
+
+-- so many loops of an image of so many slots, by rising head, or the fault
+unfoldable pub loops_reading : (slots count : ℕ) → List ℕ → Result (List Loop) ImageFault
+loops_reading slots count bytes =
+    loops_in count bytes >>= (λ loops. if are_loops slots 0 loops then Ok loops else Err faults.Loop)
 
 -- the next slot, where it is there
 abbrev pub slot_in : List ℕ → Option (List ℕ)
@@ -144,7 +151,7 @@ unfoldable pub image_reading : List ℕ → Result Program ImageFault
 image_reading bytes =
     header_reading bytes >>= (λ h.
     if length bytes == 16 + 8 * h.loops + 8 * h.slots
-    then (loops_reading h.slots h.loops 0 (drop 16 (take (16 + 8 * h.loops) bytes)) >>= (λ loops.
+    then (loops_reading h.slots h.loops (drop 16 (take (16 + 8 * h.loops) bytes)) >>= (λ loops.
     slots_reading h.slots 0 false (drop (16 + 8 * h.loops) bytes) >>= (λ slots.
     Ok (program h.budget loops slots))))
     else Err faults.Length)

@@ -12,7 +12,6 @@ mod loops;
 mod parts;
 mod slots;
 mod weight;
-mod writing;
 
 pub use bpf_insn;
 pub use fault::ImageFault;

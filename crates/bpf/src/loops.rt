@@ -1,13 +1,13 @@
 //! The loops of an image.
 
-ghost use Rattle.std.specs.Prelude.{◌≡◌, ◌≤◌, ◌*◌, ◌↔◌, IsTrue, length, take, IfOk};
+ghost use Rattle.std.specs.Prelude.{◌≡◌, ◌≤◌, ◌*◌, ◌++◌, ◌↔◌, IsTrue, length, take, IfOk, OnOk};
 ghost use Rattle.bpf.specs.Program.{IsLoop, AreLoops, loop_bytes};
 ghost use Rattle.std.specs.List.{flat_map};
-ghost use Rattle.bpf.specs.Reading.{Gives, is_loop, loop_reading, loops_reading};
+ghost use Rattle.bpf.specs.Reading.{Gives, are_loops, is_loop, loop_in, loops_in, loops_reading};
 
 use crate::fault::ImageFault;
-use bpf_insn::Register;
-use std::alloc::Global;
+use bpf_insn::{FRAME_POINTER, Register};
+use std::alloc::{AllocError, Global};
 
 /// The greatest bound of a loop.
 pub const MAX_BOUND: u16 = 4_096;
@@ -28,22 +28,19 @@ impl Loop {
     /// Whether the loop is within the limits of an image of so many slots: its head is before its back,
     /// that before the end, its bound 1 to 4,096, and its register r0 to r9.
     pub fn fits(&self, slots: u16) -> bool
-        ensures value { result ≡ is_loop slots 0 self.now.head self.now.back self.now.bound self.now.register 0 }
+        ensures value { result ≡ is_loop slots self.now }
         ensures exact { IsTrue result ↔ IsLoop slots self.now }
     {
-        is_loop(
-            slots,
-            0,
-            self.head,
-            self.back,
-            self.bound,
-            self.register.number(),
-            0,
-        )
+        self.head < self.back
+            && self.back < slots
+            && 1 <= self.bound
+            && self.bound <= MAX_BOUND
+            && self.register.number() < FRAME_POINTER
     }
 }
 
 /// The loops that the bytes spell, 8 bytes each, in an image of so many slots.
+#[tactic(auto, unfolding(crate::specs::Reading::loops_reading))]
 pub fn read_loops(
     alloc: Global,
     bytes: &[u8],
@@ -51,72 +48,82 @@ pub fn read_loops(
     slots: u16,
 ) -> Result<Vec<Loop>, ImageFault>
     requires { length bytes.now ≡ 8 * count }
-    ensures value { Gives (λ v. v.items) result (loops_reading slots count 0 bytes.now) }
+    ensures value { Gives (λ v. v.items) result (loops_reading slots count bytes.now) }
     ensures loops { IfOk result (λ loops. AreLoops slots 0 loops.items) }
+    ensures length { IfOk result (λ loops. length loops.items ≡ count) }
+    ensures spelled { IfOk result (λ loops. bytes.now ≡ flat_map loop_bytes loops.items) }
+{
+    let loops = parse_loops(alloc, bytes, count)?;
+    if are_loops(slots, &loops) {
+        Ok(loops)
+    } else {
+        Err(ImageFault::Loop)
+    }
+}
+
+/// So many loops, 8 bytes each, whatever their slots and bounds are.
+fn parse_loops(alloc: Global, bytes: &[u8], count: u8) -> Result<Vec<Loop>, ImageFault>
+    requires { length bytes.now ≡ 8 * count }
+    ensures value { Gives (λ v. v.items) result (loops_in count bytes.now) }
     ensures length { IfOk result (λ loops. length loops.items ≡ count) }
     ensures spelled { IfOk result (λ loops. bytes.now ≡ flat_map loop_bytes loops.items) }
 {
     let mut loops = Vec::with_capacity(alloc, usize::from(count))?;
     let mut rest = bytes;
-    let mut least = 0;
     for _ in 0..count {
         let (_, after) = rest.split_at(8);
-        let found = read_loop(rest, slots, least)?;
-        least = found.head + 1;
+        let found = parse_loop(rest)?;
         loops.push(found)?;
         rest = after;
     }
     Ok(loops)
 }
 
-/// The loop in the first 8 bytes, whose head is `least` or above.
-#[tactic(auto, unfolding(crate::specs::Reading::loop_reading))]
-fn read_loop(bytes: &[u8], slots: u16, least: u16) -> Result<Loop, ImageFault>
+/// The loop in the first 8 bytes: its fields, and a zero after them.
+#[tactic(auto, unfolding(crate::specs::Reading::loop_in))]
+fn parse_loop(bytes: &[u8]) -> Result<Loop, ImageFault>
     requires { 8 ≤ length bytes.now }
-    ensures value { result ≡ loop_reading slots least bytes.now }
-    ensures is_loop { IfOk result (IsLoop slots) }
-    ensures least { IfOk result (λ l. least ≤ l.head) }
+    ensures value { result ≡ loop_in bytes.now }
     ensures spelled { IfOk result (λ l. take 8 bytes.now ≡ loop_bytes l) }
 {
-    let head = u16::from_le_bytes([bytes[0], bytes[1]]);
-    let back = u16::from_le_bytes([bytes[2], bytes[3]]);
-    let bound = u16::from_le_bytes([bytes[4], bytes[5]]);
     let register = Register::new(bytes[6]).ok_or(ImageFault::Loop)?;
-    if is_loop(slots, least, head, back, bound, bytes[6], bytes[7]) {
-        Ok(Loop {
-            head,
-            back,
-            bound,
-            register,
-        })
-    } else {
-        Err(ImageFault::Loop)
+    if bytes[7] != 0 {
+        return Err(ImageFault::Loop);
     }
+    Ok(Loop {
+        head: u16::from_le_bytes([bytes[0], bytes[1]]),
+        back: u16::from_le_bytes([bytes[2], bytes[3]]),
+        bound: u16::from_le_bytes([bytes[4], bytes[5]]),
+        register,
+    })
 }
 
-/// Whether these are the fields of a loop whose head is `least` or above.
-pub fn is_loop(
-    slots: u16,
-    least: u16,
-    head: u16,
-    back: u16,
-    bound: u16,
-    number: u8,
-    zero: u8,
-) -> bool
-    ensures { result ≡ is_loop slots least head back bound number zero }
+/// Whether the loops are within the limits of an image of so many slots, and their heads rise.
+pub fn are_loops(slots: u16, loops: &[Loop]) -> bool
+    ensures { result ≡ are_loops slots 0 loops.now }
 {
-    least <= head
-        && head < back
-        && back < slots
-        && 1 <= bound
-        && bound <= MAX_BOUND
-        && number <= 9
-        && zero == 0
+    let mut least = 0;
+    for found in loops {
+        if found.head < least || !found.fits(slots) {
+            return false;
+        }
+        least = found.head + 1;
+    }
+    true
+}
+
+/// Appends the bytes of the loops.
+pub fn write_loops(bytes: &mut Vec<u8>, loops: &[Loop]) -> Result<(), AllocError>
+    ensures { OnOk result (bytes.new.items ≡ bytes.old.items ++ flat_map loop_bytes loops.now) }
+{
+    for found in loops {
+        bytes.extend_from_slice(&loop_bytes(found))?;
+    }
+    Ok(())
 }
 
 /// The bytes of the loop.
-pub fn loop_bytes(found: &Loop) -> [u8; 8]
+fn loop_bytes(found: &Loop) -> [u8; 8]
     ensures { result ≡ loop_bytes found.now }
 {
     let [h0, h1] = found.head.to_le_bytes();

@@ -1,15 +1,14 @@
 //! An image from its parts.
 
-ghost use Rattle.std.specs.Prelude.{◌≡◌, ◌≤◌, ◌++◌, false, IsTrue, length, IfOk, OnOk};
+ghost use Rattle.std.specs.Prelude.{◌≡◌, ◌≤◌, ◌++◌, false, length, IfOk, OnOk};
 ghost use Rattle.std.specs.List.{flat_map};
 ghost use Rattle.bpf_insn.specs.Spelling.{IsInsn};
-ghost use Rattle.bpf.specs.Program.{AreSlots, IsLoop};
-ghost use Rattle.bpf.specs.Reading.{is_loop};
-ghost use Rattle.bpf.specs.Parts.{are_loops, header_of, placed};
+ghost use Rattle.bpf.specs.Program.{AreSlots};
+ghost use Rattle.bpf.specs.Parts.{header_of, placed};
 
 use crate::fault::ImageFault;
 use crate::header::{Header, MAX_SLOTS};
-use crate::loops::{Loop, is_loop};
+use crate::loops::{Loop, are_loops};
 use bpf_insn::Insn;
 use std::alloc::{AllocError, Global};
 
@@ -44,29 +43,6 @@ fn count_slots(insns: &[Insn]) -> usize
         count += if insn.is_wide() { 2 } else { 1 };
     }
     count
-}
-
-/// Whether the loops are in the limits of an image of so many slots, and their heads rise.
-fn are_loops(slots: u16, loops: &[Loop]) -> bool
-    ensures { result ≡ are_loops slots 0 loops.now }
-{
-    let mut least = 0;
-    for found in loops {
-        if !follows(slots, least, found) {
-            return false;
-        }
-        least = found.head + 1;
-    }
-    true
-}
-
-/// Whether this is a loop whose head is `least` or above.
-fn follows(slots: u16, least: u16, found: &Loop) -> bool
-    ensures value { result ≡ is_loop slots least found.now.head found.now.back found.now.bound found.now.register 0 }
-    ensures is_loop { IsTrue result → IsLoop slots found.now }
-{
-    let number = found.register.number();
-    is_loop(slots, least, found.head, found.back, found.bound, number, 0)
 }
 
 /// Each instruction at its first slot; a second slot has none. Memory is asked for once, for `count`

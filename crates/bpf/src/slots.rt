@@ -1,14 +1,15 @@
 //! The slots of an image.
 
-ghost use Rattle.std.specs.Prelude.{◌≡◌, ◌≤◌, ◌+◌, ◌*◌, ◌<◌, false, length, Some, IfOk, IfErr};
+ghost use Rattle.std.specs.Prelude.{◌≡◌, ◌≤◌, ◌+◌, ◌*◌, ◌<◌, ◌++◌, false, length, Some, IfOk, IfErr, OnOk};
 ghost use Rattle.std.specs.Option.{option_copied};
 ghost use Rattle.std.specs.List.{flat_map};
+ghost use Rattle.bpf_insn.specs.Spelling.{spelling};
 ghost use Rattle.bpf.specs.Program.{AreSlots, slot_bytes};
 ghost use Rattle.bpf.specs.Reading.{Fails, Gives, IsSlot, PushesSlot, begins_two, slot_in, slot_reading, slots_reading};
 
 use crate::fault::ImageFault;
-use bpf_insn::{Insn, decode};
-use std::alloc::Global;
+use bpf_insn::{Insn, decode, encode, spelling_laws};
+use std::alloc::{AllocError, Global};
 
 /// The instructions that the bytes spell, each at its first slot; a second slot has none.
 pub fn read_slots(alloc: Global, bytes: &[u8], count: u16) -> Result<Vec<Option<Insn>>, ImageFault>
@@ -57,6 +58,7 @@ fn read_insn(slot: u16, bytes: &[u8]) -> Result<(Insn, bool), ImageFault>
     ensures two { IfOk result (λ p. p.1 ≡ begins_two (Some p.0)) }
     ensures spelled { IfOk result (λ p. IsSlot false bytes.now (Some p.0)) }
 {
+    spelling_laws();
     let Some((first, after)) = bytes.split_first_chunk::<8>() else {
         unreachable!();
     };
@@ -74,4 +76,36 @@ fn next_slot(bytes: &[u8]) -> Option<&[u8; 8]>
     ensures { option_copied result ≡ slot_in bytes.now }
 {
     bytes.first_chunk::<8>()
+}
+
+/// Appends the bytes of the slots.
+pub fn write_slots(bytes: &mut Vec<u8>, slots: &[Option<Insn>]) -> Result<(), AllocError>
+    ensures { OnOk result (bytes.new.items ≡ bytes.old.items ++ flat_map slot_bytes slots.now) }
+{
+    for slot in slots {
+        write_slot(bytes, slot)?;
+    }
+    Ok(())
+}
+
+/// Appends both slots of an instruction at its first slot, and nothing at its second.
+fn write_slot(bytes: &mut Vec<u8>, slot: &Option<Insn>) -> Result<(), AllocError>
+    ensures { OnOk result (bytes.new.items ≡ bytes.old.items ++ slot_bytes slot.now) }
+{
+    match slot {
+        Some(insn) => write_insn(bytes, insn),
+        None => Ok(()),
+    }
+}
+
+/// Appends the 8 or 16 bytes of an instruction.
+fn write_insn(bytes: &mut Vec<u8>, insn: &Insn) -> Result<(), AllocError>
+    ensures { OnOk result (bytes.new.items ≡ bytes.old.items ++ spelling insn.now) }
+{
+    let (first, second) = encode(insn);
+    bytes.extend_from_slice(&first)?;
+    match second {
+        Some(second) => bytes.extend_from_slice(&second),
+        None => Ok(()),
+    }
 }

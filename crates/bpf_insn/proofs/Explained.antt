@@ -15,6 +15,7 @@ use Rattle.bpf_insn.specs.declared.operation.Swap.TheVariants.{ToLittle, ToBig, 
 use Rattle.bpf_insn.specs.declared.operation.SwapBits.{SwapBits}
 use Rattle.bpf_insn.specs.declared.operation.Condition.{Condition}
 use Rattle.bpf_insn.specs.declared.operation.Condition.TheVariants.{Equal}
+use Rattle.bpf_insn.specs.declared.memory.Place.{Place}
 use Rattle.bpf_insn.specs.declared.memory.Size.{Size}
 use Rattle.bpf_insn.specs.declared.memory.Size.TheVariants.{Byte}
 use Rattle.bpf_insn.specs.declared.memory.LoadSize.{LoadSize}
@@ -28,7 +29,7 @@ use Rattle.bpf_insn.specs.declared.decoding.BadInsn.TheVariants as faults
 use Rattle.bpf_insn.specs.Spelling.{fields, second_immediate, Spells}
 use Rattle.bpf_insn.specs.Faults.{opcode_of, uses_dst, uses_src, over, IsFault}
 use Rattle.bpf_insn.specs.Kinds.{swap_bits_of, address_of, callee_of}
-use Rattle.bpf_insn.specs.Reading.{◌>>=◌, register_of, meant_of, wide_of, pair_of, load_of, store_of, arithmetic_of, negation_of, byte_swap_of, two_operands_of, move_of, jump_of, call_of, branch_of, has_fields, fields_in, reading_of, reading}
+use Rattle.bpf_insn.specs.Reading.{◌>>=◌, register_of, meant_of, wide_of, pair_of, load_of, store_of, arithmetic_of, negation_of, byte_swap_of, two_operands_of, move_of, jump_of, call_of, branch_of, comparison_of, has_fields, fields_in, reading_of, reading}
 use Rattle.bpf_insn.proofs.Spelled.{reading-spelled}
 
 -- no register is over 10, and a second slot is there where the instruction wants one
@@ -110,34 +111,38 @@ explained_swap ToLittle bits dst d s o m next = dst_read (ByteSwap ToLittle bits
 explained_swap ToBig bits dst d s o m next = dst_read (ByteSwap ToBig bits dst) d s next _ refl (λ p. selected (ByteSwap ToBig bits dst) d s next (swap_bits_of m) _ (rw p refl))
 explained_swap Reverse bits dst d s o m next = dst_read (ByteSwap Reverse bits dst) d s next _ refl (λ p. selected (ByteSwap Reverse bits dst) d s next (swap_bits_of m) _ (rw p refl))
 
-explained_load : (size : LoadSize) (dst base : ℕ) (offset : ℤ) (d s : ℕ) (o m : ℤ) (next : Option Fields) → explains (Load size dst base offset) d s next (meant_of (fields (opcode_of (Load size dst base offset)) d s o m) next) ≡ true
+explained_load : (size : LoadSize) (dst : ℕ) (place : Place) (d s : ℕ) (o m : ℤ) (next : Option Fields) → explains (Load size dst place) d s next (meant_of (fields (opcode_of (Load size dst place)) d s o m) next) ≡ true
 unfolding meant_of load_of
-explained_load LoadByte dst base offset d s o m next = dst_read (Load LoadByte dst base offset) d s next _ refl (λ p. src_read (Load LoadByte dst base offset) d s next _ refl (λ q. rw (p, q) refl))
-explained_load e dst base offset d s o m next = dst_read (Load e dst base offset) d s next _ refl (λ p. src_read (Load e dst base offset) d s next _ refl (λ q. rw (p, q) refl))
+explained_load LoadByte dst place d s o m next = dst_read (Load LoadByte dst place) d s next _ refl (λ p. src_read (Load LoadByte dst place) d s next _ refl (λ q. rw (p, q) refl))
+explained_load e dst place d s o m next = dst_read (Load e dst place) d s next _ refl (λ p. src_read (Load e dst place) d s next _ refl (λ q. rw (p, q) refl))
 
-explained_store_k : (size : Size) (base : ℕ) (offset value : ℤ) (d s : ℕ) (o m : ℤ) (next : Option Fields) → explains (Store size base offset (Immediate value)) d s next (meant_of (fields (opcode_of (Store size base offset (Immediate value))) d s o m) next) ≡ true
+explained_store_k : (size : Size) (place : Place) (value : ℤ) (d s : ℕ) (o m : ℤ) (next : Option Fields) → explains (Store size place (Immediate value)) d s next (meant_of (fields (opcode_of (Store size place (Immediate value))) d s o m) next) ≡ true
 unfolding meant_of store_of
-explained_store_k Byte base offset value d s o m next = dst_read (Store Byte base offset (Immediate value)) d s next _ refl (λ p. rw p refl)
-explained_store_k e base offset value d s o m next = dst_read (Store e base offset (Immediate value)) d s next _ refl (λ p. rw p refl)
+explained_store_k Byte place value d s o m next = dst_read (Store Byte place (Immediate value)) d s next _ refl (λ p. rw p refl)
+explained_store_k e place value d s o m next = dst_read (Store e place (Immediate value)) d s next _ refl (λ p. rw p refl)
 
-explained_store_x : (size : Size) (base src : ℕ) (offset : ℤ) (d s : ℕ) (o m : ℤ) (next : Option Fields) → explains (Store size base offset (FromRegister src)) d s next (meant_of (fields (opcode_of (Store size base offset (FromRegister src))) d s o m) next) ≡ true
+explained_store_x : (size : Size) (place : Place) (src : ℕ) (d s : ℕ) (o m : ℤ) (next : Option Fields) → explains (Store size place (FromRegister src)) d s next (meant_of (fields (opcode_of (Store size place (FromRegister src))) d s o m) next) ≡ true
 unfolding meant_of store_of
-explained_store_x Byte base src offset d s o m next = dst_read (Store Byte base offset (FromRegister src)) d s next _ refl (λ p. operand_read (Store Byte base offset (FromRegister src)) d s next _ refl (λ q. rw (p, q) refl))
-explained_store_x e base src offset d s o m next = dst_read (Store e base offset (FromRegister src)) d s next _ refl (λ p. operand_read (Store e base offset (FromRegister src)) d s next _ refl (λ q. rw (p, q) refl))
+explained_store_x Byte place src d s o m next = dst_read (Store Byte place (FromRegister src)) d s next _ refl (λ p. operand_read (Store Byte place (FromRegister src)) d s next _ refl (λ q. rw (p, q) refl))
+explained_store_x e place src d s o m next = dst_read (Store e place (FromRegister src)) d s next _ refl (λ p. operand_read (Store e place (FromRegister src)) d s next _ refl (λ q. rw (p, q) refl))
 
-explained_jump_k : (condition : Condition) (width : Width) (dst : ℕ) (value offset : ℤ) (d s : ℕ) (o m : ℤ) (next : Option Fields) → explains (Jump condition width dst (Immediate value) offset) d s next (meant_of (fields (opcode_of (Jump condition width dst (Immediate value) offset)) d s o m) next) ≡ true
+explained_jump_k : (condition : Condition) (width : Width) (dst : ℕ) (value offset : ℤ) (d s : ℕ) (o m : ℤ) (next : Option Fields) → explains (Jump (comparison_of condition width dst (Immediate value)) offset) d s next (meant_of (fields (opcode_of (Jump (comparison_of condition width dst (Immediate value)) offset)) d s o m) next) ≡ true
 unfolding meant_of jump_of branch_of
-explained_jump_k Equal Bits32 dst value offset d s o m next = dst_read (Jump Equal Bits32 dst (Immediate value) offset) d s next _ refl (λ p. rw p refl)
-explained_jump_k Equal Bits64 dst value offset d s o m next = dst_read (Jump Equal Bits64 dst (Immediate value) offset) d s next _ refl (λ p. rw p refl)
-explained_jump_k e Bits32 dst value offset d s o m next = dst_read (Jump e Bits32 dst (Immediate value) offset) d s next _ refl (λ p. rw p refl)
-explained_jump_k e Bits64 dst value offset d s o m next = dst_read (Jump e Bits64 dst (Immediate value) offset) d s next _ refl (λ p. rw p refl)
+explained_jump_k Equal Bits32 dst value offset d s o m next = dst_read (Jump (comparison_of Equal Bits32 dst (Immediate value)) offset) d s next _ refl (λ p. rw p refl)
+explained_jump_k Equal Bits64 dst value offset d s o m next = dst_read (Jump (comparison_of Equal Bits64 dst (Immediate value)) offset) d s next _ refl (λ p. rw p refl)
+explained_jump_k e Bits32 dst value offset d s o m next = dst_read (Jump (comparison_of e Bits32 dst (Immediate value)) offset) d s next _ refl (λ p. rw p refl)
+explained_jump_k e Bits64 dst value offset d s o m next = dst_read (Jump (comparison_of e Bits64 dst (Immediate value)) offset) d s next _ refl (λ p. rw p refl)
 
-explained_jump_x : (condition : Condition) (width : Width) (dst src : ℕ) (offset : ℤ) (d s : ℕ) (o m : ℤ) (next : Option Fields) → explains (Jump condition width dst (FromRegister src) offset) d s next (meant_of (fields (opcode_of (Jump condition width dst (FromRegister src) offset)) d s o m) next) ≡ true
+explained_jump_x : (condition : Condition) (width : Width) (dst src : ℕ) (offset : ℤ) (d s : ℕ) (o m : ℤ) (next : Option Fields) → explains (Jump (comparison_of condition width dst (FromRegister src)) offset) d s next (meant_of (fields (opcode_of (Jump (comparison_of condition width dst (FromRegister src)) offset)) d s o m) next) ≡ true
 unfolding meant_of jump_of branch_of
-explained_jump_x Equal Bits32 dst src offset d s o m next = dst_read (Jump Equal Bits32 dst (FromRegister src) offset) d s next _ refl (λ p. operand_read (Jump Equal Bits32 dst (FromRegister src) offset) d s next _ refl (λ q. rw (p, q) refl))
-explained_jump_x Equal Bits64 dst src offset d s o m next = dst_read (Jump Equal Bits64 dst (FromRegister src) offset) d s next _ refl (λ p. operand_read (Jump Equal Bits64 dst (FromRegister src) offset) d s next _ refl (λ q. rw (p, q) refl))
-explained_jump_x e Bits32 dst src offset d s o m next = dst_read (Jump e Bits32 dst (FromRegister src) offset) d s next _ refl (λ p. operand_read (Jump e Bits32 dst (FromRegister src) offset) d s next _ refl (λ q. rw (p, q) refl))
-explained_jump_x e Bits64 dst src offset d s o m next = dst_read (Jump e Bits64 dst (FromRegister src) offset) d s next _ refl (λ p. operand_read (Jump e Bits64 dst (FromRegister src) offset) d s next _ refl (λ q. rw (p, q) refl))
+explained_jump_x Equal Bits32 dst src offset d s o m next = dst_read (Jump (comparison_of Equal Bits32 dst (FromRegister src)) offset) d s next _ refl (λ p. operand_read (Jump (comparison_of Equal Bits32 dst (FromRegister src)) offset) d s next _ refl (λ q. rw (p, q) refl))
+explained_jump_x Equal Bits64 dst src offset d s o m next = dst_read (Jump (comparison_of Equal Bits64 dst (FromRegister src)) offset) d s next _ refl (λ p. operand_read (Jump (comparison_of Equal Bits64 dst (FromRegister src)) offset) d s next _ refl (λ q. rw (p, q) refl))
+explained_jump_x e Bits32 dst src offset d s o m next = dst_read (Jump (comparison_of e Bits32 dst (FromRegister src)) offset) d s next _ refl (λ p. operand_read (Jump (comparison_of e Bits32 dst (FromRegister src)) offset) d s next _ refl (λ q. rw (p, q) refl))
+explained_jump_x e Bits64 dst src offset d s o m next = dst_read (Jump (comparison_of e Bits64 dst (FromRegister src)) offset) d s next _ refl (λ p. operand_read (Jump (comparison_of e Bits64 dst (FromRegister src)) offset) d s next _ refl (λ q. rw (p, q) refl))
+
+explained_jump : (condition : Condition) (width : Width) (dst : ℕ) (src : Operand) (offset : ℤ) (d s : ℕ) (o m : ℤ) (next : Option Fields) → explains (Jump (comparison_of condition width dst src) offset) d s next (meant_of (fields (opcode_of (Jump (comparison_of condition width dst src) offset)) d s o m) next) ≡ true
+explained_jump condition width dst (Immediate value) offset d s o m next = explained_jump_k condition width dst value offset d s o m next
+explained_jump condition width dst (FromRegister src) offset d s o m next = explained_jump_x condition width dst src offset d s o m next
 
 explained_pair : (i : Insn) (d s : ℕ) (o m : ℤ) (next : Option Fields) (dst : ℕ) (g : Fields) → is_fine i d s next ≡ true → explains i d s next (pair_of (fields 0x18 d s o m) dst g) ≡ true
 unfolding pair_of
@@ -160,11 +165,11 @@ explained (Alu op width dst (FromRegister src)) d s o m next = explained_alu_x o
 explained (Negate width dst) d s o m next = explained_negate width dst d s o m next
 explained (MoveSigned extension dst src) d s o m next = explained_move extension dst src d s o m next
 explained (ByteSwap swap bits dst) d s o m next = explained_swap swap bits dst d s o m next
-explained (Load size dst base offset) d s o m next = explained_load size dst base offset d s o m next
-explained (Store size base offset (Immediate value)) d s o m next = explained_store_k size base offset value d s o m next
-explained (Store size base offset (FromRegister src)) d s o m next = explained_store_x size base src offset d s o m next
-explained (Jump condition width dst (Immediate value) offset) d s o m next = explained_jump_k condition width dst value offset d s o m next
-explained (Jump condition width dst (FromRegister src) offset) d s o m next = explained_jump_x condition width dst src offset d s o m next
+explained (Load size dst place) d s o m next = explained_load size dst place d s o m next
+explained (Store size place (Immediate value)) d s o m next = explained_store_k size place value d s o m next
+explained (Store size place (FromRegister src)) d s o m next = explained_store_x size place src d s o m next
+explained (Jump comparison offset) d s o m next =
+    explained_jump comparison.condition comparison.width comparison.dst comparison.src offset d s o m next
 explained (Goto (Short offset)) d s o m next = refl
 explained (Goto (Long distance)) d s o m next = refl
 explained (Wide dst value) d s o m next = explained_wide (Wide dst value) d s o m next refl refl refl
@@ -238,7 +243,7 @@ came_from f g e h = by_meant (meant_of f g) h
         by_test true h = cc
         by_test false h = cc
 
-is_some-fields : (next : Option (List ℕ)) → is_some (option_map fields_in next) ≡ is_some next
+pub is_some-fields : (next : Option (List ℕ)) → is_some (option_map fields_in next) ≡ is_some next
 is_some-fields None = refl
 is_some-fields (Some x) = refl
 

@@ -130,7 +130,7 @@ fields_fit (ByteSwap swap bits dst) h =
       offset = sfits_lit tt;
       immediate = swap_bits_fit bits;
     }
-fields_fit (Load size dst base offset) h =
+fields_fit (Load size dst place) h =
     record {
       opcode = omega (arith, load_code_small size);
       dst = omega (arith, h.0);
@@ -138,7 +138,7 @@ fields_fit (Load size dst base offset) h =
       offset = h.2;
       immediate = sfits_lit tt;
     }
-fields_fit (Store size base offset src) h =
+fields_fit (Store size place src) h =
     record {
       opcode = omega (arith, store_class_small src, size_code_small size);
       dst = omega (arith, h.0);
@@ -146,13 +146,13 @@ fields_fit (Store size base offset src) h =
       offset = h.1;
       immediate = immediate_field_fits src h.2;
     }
-fields_fit (Jump condition width dst src offset) h =
+fields_fit (Jump comparison offset) h =
     record {
-      opcode = omega (arith, jump_class_small width, source_bit_small src, condition_code_small condition);
+      opcode = omega (arith, jump_class_small comparison.width, source_bit_small comparison.src, condition_code_small comparison.condition);
       dst = omega (arith, h.0);
-      src = source_field_small src h.1;
+      src = source_field_small comparison.src h.1;
       offset = h.2;
-      immediate = immediate_field_fits src h.1;
+      immediate = immediate_field_fits comparison.src h.1;
     }
 fields_fit (Goto (Short offset)) h =
     record { opcode = lit< tt; dst = lit< tt; src = lit< tt; offset = h; immediate = sfits_lit tt }

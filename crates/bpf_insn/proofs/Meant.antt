@@ -7,6 +7,7 @@ use Rattle.bpf_insn.specs.declared.operation.Width.{Width}
 use Rattle.bpf_insn.specs.declared.operation.Width.TheVariants.{Bits32, Bits64}
 use Rattle.bpf_insn.specs.declared.operation.AluOp.{AluOp}
 use Rattle.bpf_insn.specs.declared.operation.AluOp.TheVariants.{Add}
+use Rattle.bpf_insn.specs.declared.operation.Operand.{Operand}
 use Rattle.bpf_insn.specs.declared.operation.Operand.TheVariants.{FromRegister, Immediate}
 use Rattle.bpf_insn.specs.declared.operation.Extension.{Extension}
 use Rattle.bpf_insn.specs.declared.operation.Extension.TheVariants.{ByteTo32, HalfTo32, ByteTo64, HalfTo64, WordTo64}
@@ -16,6 +17,7 @@ use Rattle.bpf_insn.specs.declared.operation.SwapBits.{SwapBits}
 use Rattle.bpf_insn.specs.declared.operation.SwapBits.TheVariants.{Swap16}
 use Rattle.bpf_insn.specs.declared.operation.Condition.{Condition}
 use Rattle.bpf_insn.specs.declared.operation.Condition.TheVariants.{Equal}
+use Rattle.bpf_insn.specs.declared.memory.Place.{Place}
 use Rattle.bpf_insn.specs.declared.memory.Size.{Size}
 use Rattle.bpf_insn.specs.declared.memory.Size.TheVariants.{Byte}
 use Rattle.bpf_insn.specs.declared.memory.LoadSize.{LoadSize}
@@ -28,8 +30,8 @@ use Rattle.bpf_insn.specs.declared.insn.Callee.TheVariants.{Helper, Local, ByTyp
 use Rattle.bpf_insn.specs.declared.insn.Insn.{Insn}
 use Rattle.bpf_insn.specs.declared.insn.Insn.TheVariants.{Alu, Negate, MoveSigned, ByteSwap, Load, Store, Jump, Goto, Wide, LoadMap, LoadAddress, Call, Exit}
 use Rattle.bpf_insn.specs.declared.fields.Fields.{Fields}
-use Rattle.bpf_insn.specs.Spelling.{first_fields, second_immediate, second_fields, IsInsn}
-use Rattle.bpf_insn.specs.Reading.{meant_of, wide_of, pair_of, load_of, store_of, arithmetic_of, negation_of, byte_swap_of, two_operands_of, move_of, jump_of, call_of, branch_of, joined}
+use Rattle.bpf_insn.specs.Spelling.{first_fields, second_immediate, second_fields, IsInsn, IsOperand}
+use Rattle.bpf_insn.specs.Reading.{meant_of, wide_of, pair_of, load_of, store_of, arithmetic_of, negation_of, byte_swap_of, two_operands_of, move_of, jump_of, call_of, branch_of, comparison_of, joined}
 
 -- a register's number passes the test
 number_passes : (n : ℕ) → n ≤ 10 → nat_le n 10 ≡ true
@@ -71,34 +73,38 @@ swapped ToBig _ dst next p = rw p refl
 swapped Reverse Swap16 dst next p = rw p refl
 swapped Reverse _ dst next p = rw p refl
 
-loaded : (size : LoadSize) (dst base : ℕ) (offset : ℤ) (next : Option Fields) → nat_le dst 10 ≡ true → nat_le base 10 ≡ true → meant_of (first_fields (Load size dst base offset)) next ≡ Ok (Load size dst base offset)
+loaded : (size : LoadSize) (dst : ℕ) (place : Place) (next : Option Fields) → nat_le dst 10 ≡ true → nat_le place.base 10 ≡ true → meant_of (first_fields (Load size dst place)) next ≡ Ok (Load size dst place)
 unfolding meant_of load_of
-loaded LoadByte dst base offset next p q = rw p (rw q refl)
-loaded _ dst base offset next p q = rw p (rw q refl)
+loaded LoadByte dst place next p q = rw p (rw q refl)
+loaded _ dst place next p q = rw p (rw q refl)
 
-stored_k : (size : Size) (base : ℕ) (offset value : ℤ) (next : Option Fields) → nat_le base 10 ≡ true → meant_of (first_fields (Store size base offset (Immediate value))) next ≡ Ok (Store size base offset (Immediate value))
+stored_k : (size : Size) (place : Place) (value : ℤ) (next : Option Fields) → nat_le place.base 10 ≡ true → meant_of (first_fields (Store size place (Immediate value))) next ≡ Ok (Store size place (Immediate value))
 unfolding meant_of store_of
-stored_k Byte base offset value next p = rw p refl
-stored_k _ base offset value next p = rw p refl
+stored_k Byte place value next p = rw p refl
+stored_k _ place value next p = rw p refl
 
-stored_x : (size : Size) (base src : ℕ) (offset : ℤ) (next : Option Fields) → nat_le base 10 ≡ true → nat_le src 10 ≡ true → meant_of (first_fields (Store size base offset (FromRegister src))) next ≡ Ok (Store size base offset (FromRegister src))
+stored_x : (size : Size) (place : Place) (src : ℕ) (next : Option Fields) → nat_le place.base 10 ≡ true → nat_le src 10 ≡ true → meant_of (first_fields (Store size place (FromRegister src))) next ≡ Ok (Store size place (FromRegister src))
 unfolding meant_of store_of
-stored_x Byte base src offset next p q = rw p (rw q refl)
-stored_x _ base src offset next p q = rw p (rw q refl)
+stored_x Byte place src next p q = rw p (rw q refl)
+stored_x _ place src next p q = rw p (rw q refl)
 
-jumped_k : (condition : Condition) (width : Width) (dst : ℕ) (value offset : ℤ) (next : Option Fields) → nat_le dst 10 ≡ true → meant_of (first_fields (Jump condition width dst (Immediate value) offset)) next ≡ Ok (Jump condition width dst (Immediate value) offset)
+jumped_k : (condition : Condition) (width : Width) (dst : ℕ) (value offset : ℤ) (next : Option Fields) → nat_le dst 10 ≡ true → meant_of (first_fields (Jump (comparison_of condition width dst (Immediate value)) offset)) next ≡ Ok (Jump (comparison_of condition width dst (Immediate value)) offset)
 unfolding meant_of jump_of branch_of
 jumped_k Equal Bits32 dst value offset next p = rw p refl
 jumped_k Equal Bits64 dst value offset next p = rw p refl
 jumped_k _ Bits32 dst value offset next p = rw p refl
 jumped_k _ Bits64 dst value offset next p = rw p refl
 
-jumped_x : (condition : Condition) (width : Width) (dst src : ℕ) (offset : ℤ) (next : Option Fields) → nat_le dst 10 ≡ true → nat_le src 10 ≡ true → meant_of (first_fields (Jump condition width dst (FromRegister src) offset)) next ≡ Ok (Jump condition width dst (FromRegister src) offset)
+jumped_x : (condition : Condition) (width : Width) (dst src : ℕ) (offset : ℤ) (next : Option Fields) → nat_le dst 10 ≡ true → nat_le src 10 ≡ true → meant_of (first_fields (Jump (comparison_of condition width dst (FromRegister src)) offset)) next ≡ Ok (Jump (comparison_of condition width dst (FromRegister src)) offset)
 unfolding meant_of jump_of branch_of
 jumped_x Equal Bits32 dst src offset next p q = rw p (rw q refl)
 jumped_x Equal Bits64 dst src offset next p q = rw p (rw q refl)
 jumped_x _ Bits32 dst src offset next p q = rw p (rw q refl)
 jumped_x _ Bits64 dst src offset next p q = rw p (rw q refl)
+
+jumped : (condition : Condition) (width : Width) (dst : ℕ) (src : Operand) (offset : ℤ) (next : Option Fields) → nat_le dst 10 ≡ true → IsOperand src → meant_of (first_fields (Jump (comparison_of condition width dst src) offset)) next ≡ Ok (Jump (comparison_of condition width dst src) offset)
+jumped condition width dst (Immediate value) offset next p q = jumped_k condition width dst value offset next p
+jumped condition width dst (FromRegister src) offset next p q = jumped_x condition width dst src offset next p (number_passes src q)
 
 halves : (value : ℕ) → value < 2 ^ 64 → joined (cast_signed w32 (value % 2 ^ 32)) (cast_signed w32 (value / 2 ^ 32)) ≡ value
 halves value h =
@@ -134,11 +140,11 @@ means (Alu op width dst (FromRegister src)) next h s = alu_x op width dst src ne
 means (Negate width dst) next h s = negated width dst next (number_passes dst h)
 means (MoveSigned extension dst src) next h s = extended extension dst src next (number_passes dst h.0) (number_passes src h.1)
 means (ByteSwap swap bits dst) next h s = swapped swap bits dst next (number_passes dst h)
-means (Load size dst base offset) next h s = loaded size dst base offset next (number_passes dst h.0) (number_passes base h.1)
-means (Store size base offset (Immediate value)) next h s = stored_k size base offset value next (number_passes base h.0)
-means (Store size base offset (FromRegister src)) next h s = stored_x size base src offset next (number_passes base h.0) (number_passes src h.2)
-means (Jump condition width dst (Immediate value) offset) next h s = jumped_k condition width dst value offset next (number_passes dst h.0)
-means (Jump condition width dst (FromRegister src) offset) next h s = jumped_x condition width dst src offset next (number_passes dst h.0) (number_passes src h.1)
+means (Load size dst place) next h s = loaded size dst place next (number_passes dst h.0) (number_passes place.base h.1)
+means (Store size place (Immediate value)) next h s = stored_k size place value next (number_passes place.base h.0)
+means (Store size place (FromRegister src)) next h s = stored_x size place src next (number_passes place.base h.0) (number_passes src h.2)
+means (Jump comparison offset) next h s =
+    jumped comparison.condition comparison.width comparison.dst comparison.src offset next (number_passes comparison.dst h.0) h.1
 means (Goto (Short offset)) next h s = refl
 means (Goto (Long distance)) next h s = refl
 means (Wide dst value) next h s = rw s (widened dst value (number_passes dst h.0) h.1)

@@ -6,6 +6,8 @@ use Rattle.std.specs.Ordering.{int_eq}
 use Rattle.bpf_insn.specs.declared.operation.Width.{Width}
 use Rattle.bpf_insn.specs.declared.operation.Width.TheVariants.{Bits32, Bits64}
 use Rattle.bpf_insn.specs.declared.operation.AluOp.TheVariants.{Mov}
+use Rattle.bpf_insn.specs.declared.operation.Comparison.{Comparison}
+use Rattle.bpf_insn.specs.declared.operation.Condition.{Condition}
 use Rattle.bpf_insn.specs.declared.operation.Operand.{Operand}
 use Rattle.bpf_insn.specs.declared.operation.Operand.TheVariants.{FromRegister, Immediate}
 use Rattle.bpf_insn.specs.declared.operation.Extension.{Extension}
@@ -90,13 +92,17 @@ arithmetic_of f width =
 unfoldable pub call_of : Fields → Result Insn BadInsn
 call_of f = ok_or (callee_of f.src) faults.Unused >>= (λ callee. Ok (Call callee f.immediate))
 
+-- what a conditional jump tests
+abbrev pub comparison_of : Condition → Width → ℕ → Operand → Comparison
+comparison_of condition width dst src = record { condition = condition; width = width; dst = dst; src = src }
+
 -- a conditional jump
 unfoldable pub branch_of : Fields → Width → Result Insn BadInsn
 branch_of f width =
     ok_or (condition_of (f.opcode / 16)) faults.Opcode >>= (λ condition.
     register_of f.dst >>= (λ dst.
     operand_of f (names_register f) >>= (λ src.
-    Ok (Jump condition width dst src f.offset))))
+    Ok (Jump (comparison_of condition width dst src) f.offset))))
 
 -- an instruction of the classes JMP and JMP32, by its opcode
 unfoldable pub jump_of : Fields → Width → Result Insn BadInsn
@@ -113,7 +119,7 @@ load_of f =
     ok_or (load_size_of (f.opcode - f.opcode % 8)) faults.Opcode >>= (λ size.
     register_of f.dst >>= (λ dst.
     register_of f.src >>= (λ base.
-    Ok (Load size dst base f.offset))))
+    Ok (Load size dst (record { base = base; offset = f.offset })))))
 
 -- an instruction of the classes ST and STX
 unfoldable pub store_of : Fields → Bool → Result Insn BadInsn
@@ -121,7 +127,7 @@ store_of f from_register =
     ok_or (size_of (f.opcode - f.opcode % 8)) faults.Opcode >>= (λ size.
     register_of f.dst >>= (λ base.
     operand_of f from_register >>= (λ src.
-    Ok (Store size base f.offset src))))
+    Ok (Store size (record { base = base; offset = f.offset }) src))))
 
 -- the constant of two halves
 abbrev pub joined : ℤ → ℤ → ℕ

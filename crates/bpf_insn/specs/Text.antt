@@ -15,6 +15,7 @@ use Rattle.bpf_insn.specs.declared.operation.SwapBits.{SwapBits}
 use Rattle.bpf_insn.specs.declared.operation.SwapBits.TheVariants.{Swap16, Swap32, Swap64}
 use Rattle.bpf_insn.specs.declared.operation.Condition.{Condition}
 use Rattle.bpf_insn.specs.declared.operation.Condition.TheVariants.{Equal, Greater, GreaterEqual, AnyBits, NotEqual, SignedGreater, SignedGreaterEqual, Less, LessEqual, SignedLess, SignedLessEqual}
+use Rattle.bpf_insn.specs.declared.memory.Place.{Place}
 use Rattle.bpf_insn.specs.declared.memory.Size.{Size}
 use Rattle.bpf_insn.specs.declared.memory.Size.TheVariants.{Byte, Half, Word, Double}
 use Rattle.bpf_insn.specs.declared.memory.LoadSize.{LoadSize}
@@ -47,8 +48,8 @@ abbrev pub bits_text : ℕ → List ℕ
 bits_text value = codes "0x" ++ replicate (16 - length (digits 16 false value)) 48 ++ digits 16 false value
 
 -- a place in memory
-abbrev pub place_text : ℕ → ℤ → List ℕ
-place_text base offset = codes "[" ++ register_text base ++ signed_text offset ++ codes "]"
+abbrev pub place_text : Place → List ℕ
+place_text place = codes "[" ++ register_text place.base ++ signed_text place.offset ++ codes "]"
 
 -- ---- names
 
@@ -142,9 +143,9 @@ insn_name (Alu op width dst src) = alu_name op ++ width_suffix width
 insn_name (Negate width dst) = codes "neg" ++ width_suffix width
 insn_name (MoveSigned extension dst src) = extension_name extension
 insn_name (ByteSwap swap bits dst) = swap_name swap ++ swap_bits_name bits
-insn_name (Load size dst base offset) = codes "ldx" ++ load_suffix size
-insn_name (Store size base offset src) = store_prefix src ++ store_suffix size
-insn_name (Jump condition width dst src offset) = condition_name condition ++ width_suffix width
+insn_name (Load size dst place) = codes "ldx" ++ load_suffix size
+insn_name (Store size place src) = store_prefix src ++ store_suffix size
+insn_name (Jump comparison offset) = condition_name comparison.condition ++ width_suffix comparison.width
 insn_name (Goto (Short offset)) = codes "ja"
 insn_name (Goto (Long distance)) = codes "ja32"
 insn_name (Wide dst value) = codes "lddw"
@@ -159,9 +160,9 @@ insn_operands (Alu op width dst src) = register_text dst ∷ operand_text src �
 insn_operands (Negate width dst) = register_text dst ∷ []
 insn_operands (MoveSigned extension dst src) = register_text dst ∷ register_text src ∷ []
 insn_operands (ByteSwap swap bits dst) = register_text dst ∷ []
-insn_operands (Load size dst base offset) = register_text dst ∷ place_text base offset ∷ []
-insn_operands (Store size base offset src) = place_text base offset ∷ operand_text src ∷ []
-insn_operands (Jump condition width dst src offset) = register_text dst ∷ operand_text src ∷ signed_text offset ∷ []
+insn_operands (Load size dst place) = register_text dst ∷ place_text place ∷ []
+insn_operands (Store size place src) = place_text place ∷ operand_text src ∷ []
+insn_operands (Jump comparison offset) = register_text comparison.dst ∷ operand_text comparison.src ∷ signed_text offset ∷ []
 insn_operands (Goto (Short offset)) = signed_text offset ∷ []
 insn_operands (Goto (Long distance)) = signed_text distance ∷ []
 insn_operands (Wide dst value) = register_text dst ∷ bits_text value ∷ []

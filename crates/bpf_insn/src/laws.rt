@@ -1,10 +1,10 @@
 //! Laws of the spelling of instructions.
 
-ghost use Rattle.std.specs.Prelude.{◌≡◌, ◌<◌, ℕ, List, ◌++◌, Option, Ok, Err, slice_index};
+ghost use Rattle.std.specs.Prelude.{◌≡◌, ◌<◌, ℕ, List, ◌++◌, Option, Ok, Err, IfSome, slice_index};
 ghost use Rattle.bpf_insn.specs.declared.insn.Insn.{Insn};
 ghost use Rattle.bpf_insn.specs.declared.decoding.BadInsn.{BadInsn};
 ghost use Rattle.bpf_insn.specs.Faults.{IsFault};
-ghost use Rattle.bpf_insn.specs.Spelling.{IsInsn, Spells, spelling};
+ghost use Rattle.bpf_insn.specs.Spelling.{AreSlotBytes, IsInsn, Spells, spelling};
 ghost use Rattle.bpf_insn.specs.Reading.{reading};
 
 /// What holds of all spellings: it does nothing, and its contract is the laws.
@@ -20,4 +20,14 @@ pub fn spelling_laws()
 
     // A fault that is read stands in the bytes.
     ensures fault { (bytes : List ℕ) (next : Option (List ℕ)) (e : BadInsn) → slice_index bytes 0 < 256 → reading bytes next ≡ Err e → IsFault bytes next e }
+
+    // An instruction that is read from slots is the one that they spell.
+    ensures spelled { (bytes : List ℕ) (next : Option (List ℕ)) (insn : Insn)
+        → AreSlotBytes bytes → IfSome next AreSlotBytes
+        → reading bytes next ≡ Ok insn → Spells bytes next insn }
+
+    // A fault that stands in slots is the one that is read: they have no other.
+    ensures named { (bytes : List ℕ) (next : Option (List ℕ)) (e : BadInsn)
+        → AreSlotBytes bytes → IfSome next AreSlotBytes
+        → IsFault bytes next e → reading bytes next ≡ Err e }
 {}

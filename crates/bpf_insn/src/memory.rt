@@ -1,4 +1,4 @@
-//! The sizes of loads and stores, and the codes of them (RFC 9669, section 5).
+//! The places, sizes and codes of loads and stores (RFC 9669, section 5).
 
 ghost use Rattle.std.specs.Prelude.{◌≡◌, ◌<◌, ◌≤◌};
 ghost use Rattle.bpf_insn.specs.Codes.{size_code, load_code};
@@ -6,6 +6,14 @@ ghost use Rattle.bpf_insn.specs.Kinds.{size_of, load_size_of};
 ghost use Rattle.bpf_insn.specs.Sizes.{is_signed, load_bytes, size_bytes};
 
 use crate::opcode;
+use crate::register::Register;
+
+/// A place in memory: as many bytes from where the base register points.
+#[derive(Clone, Copy, Debug, PartialEq, Eq)]
+pub struct Place {
+    pub base: Register,
+    pub offset: i16,
+}
 
 /// How many low bytes a store writes: 1, 2, 4 or 8.
 #[derive(Clone, Copy, Debug, PartialEq, Eq)]

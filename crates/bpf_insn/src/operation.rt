@@ -298,6 +298,16 @@ impl SwapBits {
     }
 }
 
+/// What a conditional jump tests: whether the condition holds of `dst` and `src`, of their low halves
+/// at 32 bits.
+#[derive(Clone, Copy, Debug, PartialEq, Eq)]
+pub struct Comparison {
+    pub condition: Condition,
+    pub width: Width,
+    pub dst: Register,
+    pub src: Operand,
+}
+
 /// When a jump is taken: what holds of the destination and the source (RFC 9669, section 4.3).
 #[derive(Clone, Copy, Debug, PartialEq, Eq)]
 pub enum Condition {

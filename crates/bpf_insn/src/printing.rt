@@ -5,8 +5,8 @@ ghost use Rattle.std.specs.String.{string_bytes};
 ghost use Rattle.bpf_insn.specs.Text.{alu_name, bits_text, callee_name, condition_name, extension_name, insn_text, load_suffix, operand_text, place_text, register_text, store_prefix, store_suffix, swap_bits_name, swap_name, width_suffix};
 
 use crate::insn::{Address, Callee, Distance, Insn};
-use crate::memory::{LoadSize, Size};
-use crate::operation::{AluOp, Condition, Extension, Operand, Swap, SwapBits, Width};
+use crate::memory::{LoadSize, Place, Size};
+use crate::operation::{AluOp, Comparison, Condition, Extension, Operand, Swap, SwapBits, Width};
 use crate::register::Register;
 use std::alloc::{AllocError, Global};
 use std::fmt;
@@ -44,15 +44,8 @@ impl fmt::Display for Bits {
     }
 }
 
-/// A place in memory.
-#[derive(Drop)]
-struct Place {
-    base: Register,
-    offset: i16,
-}
-
 impl fmt::Display for Place {
-    ghost output = { λ place. Some (place_text place.base place.offset) };
+    ghost output = { λ place. Some (place_text place) };
 
     fn fmt<W: fmt::Write>(&self, f: &mut fmt::Formatter<W>) -> fmt::Result {
         let base = self.base;
@@ -270,25 +263,19 @@ impl fmt::Display for Insn {
                 src,
             } => write!(f, "{extension} {dst}, {src}"),
             Insn::ByteSwap { swap, bits, dst } => write!(f, "{swap}{bits} {dst}"),
-            Insn::Load {
-                size,
-                dst,
-                base,
-                offset,
-            } => write!(f, "ldx{size} {dst}, {}", Place { base, offset }),
-            Insn::Store {
-                size,
-                base,
-                offset,
-                src,
-            } => write!(f, "{}{size} {}, {src}", prefix(src), Place { base, offset }),
-            Insn::Jump {
-                condition,
-                width,
-                dst,
-                src,
-                offset,
-            } => write!(f, "{condition}{} {dst}, {src}, {offset:+}", suffix(width)),
+            Insn::Load { size, dst, place } => write!(f, "ldx{size} {dst}, {place}"),
+            Insn::Store { size, place, src } => {
+                write!(f, "{}{size} {place}, {src}", prefix(src))
+            }
+            Insn::Jump { comparison, offset } => {
+                let Comparison {
+                    condition,
+                    width,
+                    dst,
+                    src,
+                } = comparison;
+                write!(f, "{condition}{} {dst}, {src}, {offset:+}", suffix(width))
+            }
             Insn::Goto { distance } => write!(f, "{}", Goto(distance)),
             Insn::Wide { dst, value } => write!(f, "lddw {dst}, {}", Bits(value)),
             Insn::LoadMap { dst, index } => write!(f, "ldmap {dst}, {index}"),

@@ -1,9 +1,10 @@
 -- What is covered stays covered where more is.
-use Rattle.std.proofs.Common.{ℕ, ◌+◌, ℤ, pos, negsuc, Option, None, Some, List, Result, Ok, Err}
+use Rattle.std.proofs.Common.{ℕ, ◌+◌, ℤ, pos, negsuc, Option, None, Some, Result, Ok, Err}
 use Rattle.bpf_insn.specs.declared.insn.Insn.{Insn}
 use Rattle.bpf_insn.specs.declared.insn.Insn.TheVariants.{Alu, Negate, MoveSigned, ByteSwap, Load, Store, Jump, Goto, Wide, LoadMap, LoadAddress, Call, Exit}
 use Rattle.bpf_insn.specs.Spelling.{slots_of}
-use Rattle.machine.specs.Step.{distance_of}
+use Rattle.machine.specs.Sizes.{Maps}
+use Rattle.bpf_insn.specs.Flow.{distance_of}
 use Rattle.absdom.specs.declared.cause.Cause.{Cause}
 use Rattle.absdom.specs.State.{StateValue}
 use Rattle.absdom.specs.Effect.{applied}
@@ -47,15 +48,15 @@ proceeds_more transitive old new slot a insn grown h =
     result_covered_more transitive (applied a insn) (old (slot + slots_of insn)) (new (slot + slots_of insn)) h (grown (slot + slots_of insn))
 
 -- what is permitted stays so where the table knows more
-permitted_more : BelowIsTransitive → (sizes : List ℕ) (old new : ℕ → Option StateValue) (slot : ℕ) (a : StateValue) (insn : Insn) → AreCovered old new → IsPermitted sizes old slot a insn → IsPermitted sizes new slot a insn
+permitted_more : BelowIsTransitive → (sizes : Maps) (old new : ℕ → Option StateValue) (slot : ℕ) (a : StateValue) (insn : Insn) → AreCovered old new → IsPermitted sizes old slot a insn → IsPermitted sizes new slot a insn
 permitted_more transitive sizes old new slot a (Alu op width dst src) grown h = proceeds_more transitive old new slot a (Alu op width dst src) grown h
 permitted_more transitive sizes old new slot a (Negate width dst) grown h = proceeds_more transitive old new slot a (Negate width dst) grown h
 permitted_more transitive sizes old new slot a (MoveSigned extension dst src) grown h = proceeds_more transitive old new slot a (MoveSigned extension dst src) grown h
 permitted_more transitive sizes old new slot a (ByteSwap swap bits dst) grown h = proceeds_more transitive old new slot a (ByteSwap swap bits dst) grown h
-permitted_more transitive sizes old new slot a (Load size dst base offset) grown h = proceeds_more transitive old new slot a (Load size dst base offset) grown h
-permitted_more transitive sizes old new slot a (Store size base offset src) grown h = proceeds_more transitive old new slot a (Store size base offset src) grown h
-permitted_more transitive sizes old new slot a (Jump condition width dst src offset) grown h =
-    edges_covered_more transitive (refined_edges a condition width dst src) (known_at old (target slot offset)) (known_at new (target slot offset)) (old (slot + 1)) (new (slot + 1)) h (known_covered old new grown (target slot offset)) (grown (slot + 1))
+permitted_more transitive sizes old new slot a (Load size dst place) grown h = proceeds_more transitive old new slot a (Load size dst place) grown h
+permitted_more transitive sizes old new slot a (Store size place src) grown h = proceeds_more transitive old new slot a (Store size place src) grown h
+permitted_more transitive sizes old new slot a (Jump comparison offset) grown h =
+    edges_covered_more transitive (refined_edges a comparison.condition comparison.width comparison.dst comparison.src) (known_at old (target slot offset)) (known_at new (target slot offset)) (old (slot + 1)) (new (slot + 1)) h (known_covered old new grown (target slot offset)) (grown (slot + 1))
 permitted_more transitive sizes old new slot a (Goto distance) grown h =
     covered_more transitive a (known_at old (target slot (distance_of distance))) (known_at new (target slot (distance_of distance))) h (known_covered old new grown (target slot (distance_of distance)))
 permitted_more transitive sizes old new slot a (Wide dst value) grown h = proceeds_more transitive old new slot a (Wide dst value) grown h
@@ -64,7 +65,7 @@ permitted_more transitive sizes old new slot a (LoadAddress dst address) grown h
 permitted_more transitive sizes old new slot a (Call callee number) grown h = absurd h
 permitted_more transitive sizes old new slot a Exit grown h = h
 
-pub permitted_at_more : BelowIsTransitive → (sizes : List ℕ) (old new : ℕ → Option StateValue) (slot : ℕ) (o : Option StateValue) (i : Option Insn) → AreCovered old new → IsPermittedAt sizes old slot o i → IsPermittedAt sizes new slot o i
+pub permitted_at_more : BelowIsTransitive → (sizes : Maps) (old new : ℕ → Option StateValue) (slot : ℕ) (o : Option StateValue) (i : Option Insn) → AreCovered old new → IsPermittedAt sizes old slot o i → IsPermittedAt sizes new slot o i
 permitted_at_more transitive sizes old new slot None i grown h = tt
 permitted_at_more transitive sizes old new slot (Some a) None grown h = absurd h
 permitted_at_more transitive sizes old new slot (Some a) (Some insn) grown h = permitted_more transitive sizes old new slot a insn grown h

@@ -1,6 +1,10 @@
-pub mod Counting
 pub mod Covering
+pub mod Counts
 pub mod Slots
 pub mod Visiting
+pub mod Standing
+pub mod Arrivals
+pub mod Counters
+pub mod Raising
 pub mod Safety
 pub mod Regions

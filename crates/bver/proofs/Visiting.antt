@@ -1,21 +1,27 @@
 -- From one visit to the next, and from the last to a program that is judged.
-use Rattle.std.proofs.Common.{◌≡◌, ◌≢◌, ℕ, ◌+◌, ◌<◌, ◌≤◌, inl, inr, Option, None, List, length, sym, ap, subst, ◌∙◌, arith, below_more, get_or-set_same, get_or-set_other}
-use Rattle.std.specs.Prelude.{slice_index_or, slice_set}
-use Rattle.std.proofs.lemmas.Bool.{cases_lt}
+use Rattle.std.proofs.Common.{◌≡◌, ◌≢◌, ℕ, zero, suc, ◌+◌, ◌<◌, ◌≤◌, inl, inr, ℤ, pos, negsuc, Bool, true, false, Option, None, Some, List, [], ◌∷◌, length, refl, sym, ap, subst, ◌∙◌, arith, below_more, get_or-set_same, get_or-set_other}
+use Rattle.std.specs.Prelude.{slice_index_or, slice_set, All, IfSome, IsSome, is_some, if◌then◌else◌}
+use Rattle.std.proofs.lemmas.Bool.{cases_lt, false≢true}
 use Rattle.std.proofs.lemmas.List.{get_or_past}
-use Rattle.bpf.specs.Program.{Program, IsProgram}
+use Rattle.bpf.specs.declared.loops.Loop.{Loop}
+use Rattle.bpf.specs.Program.{Program, IsProgram, AreSlots}
+use Rattle.bpf_insn.specs.declared.insn.Insn.{Insn}
+use Rattle.machine.specs.Sizes.{Maps}
 use Rattle.machine.specs.declared.regions.Region.{Region}
 use Rattle.machine.specs.Step.{insn_at}
-use Rattle.absdom.specs.State.{StateValue}
+use Rattle.absdom.specs.State.{StateValue, IsEntry, IsWhole}
 use Rattle.absdom.specs.Laws.{BelowIsTransitive}
 use Rattle.bver_form.specs.Form.{IsFormed}
-use Rattle.bver.specs.Justified.{IsEntered, IsPermittedAt, IsJudged, accessed_at}
-use Rattle.bver.specs.Visit.{IsExtended, AreVisited, known_in}
-use Rattle.bver.proofs.Covering.{any_covered_more, permitted_at_more}
+use Rattle.bver_form.specs.Jumps.{first_slot, slot_at}
+use Rattle.bver.specs.Heads.{AreHeadsAt, IsDeclared}
+use Rattle.bver.specs.Justified.{IsCovered, IsCoveredIfAny, IsEntered, IsHead, IsPermittedAt, IsJudged, accessed_at}
+use Rattle.bver.specs.Visit.{AreWhole, IsGrown, IsPlaced, IsExtended, AreEntered, AreHeadsBefore, AreVisited, ArePermitted, known_in}
+use Rattle.bver.proofs.Counters.{loop_in, same_place}
+use Rattle.bver.proofs.Covering.{any_covered_more, covered_more, permitted_at_more}
 
 -- a table that grew twice
-pub extended_twice : BelowIsTransitive → (p : Program) (slot : ℕ) (old mid new : List (Option StateValue)) → IsExtended p slot old mid → IsExtended p slot mid new → IsExtended p slot old new
-extended_twice transitive p slot old mid new f g = record {
+pub extended_twice : BelowIsTransitive → (p : Program) (from : ℕ) (old mid new : List (Option StateValue)) → IsExtended p from old mid → IsExtended p from mid new → IsExtended p from old new
+extended_twice transitive p from old mid new f g = record {
   grown = record {
     size = g.grown.size ∙ f.grown.size;
     covered = λ k. any_covered_more transitive (known_in old k) (known_in mid k) (known_in new k) (f.grown.covered k) (g.grown.covered k);
@@ -25,53 +31,158 @@ extended_twice transitive p slot old mid new f g = record {
   whole = λ whole. g.whole (f.whole whole);
 }
 
+-- a table that grew after a slot grew from it on
+pub extended_before : (p : Program) (slot : ℕ) (old new : List (Option StateValue)) → IsExtended p (slot + 1) old new → IsExtended p slot old new
+extended_before p slot old new f = record { grown = f.grown; kept = λ k below. f.kept k (omega (arith, below)); placed = f.placed; whole = f.whole }
+
+-- a table in which a slot from there on, where an instruction begins, is the only one that changed
+pub changed_at : (p : Program) (from slot : ℕ) (old new : List (Option StateValue)) → from ≤ slot → IsSome (insn_at p slot) → IsGrown old new → ((k : ℕ) → k ≢ slot → known_in new k ≡ known_in old k) → (AreWhole old → AreWhole new) → IsExtended p from old new
+changed_at p from slot old new above begins grown others whole = record {
+  grown = grown;
+  kept = λ k below. others k (λ same. omega (arith, below, same, above));
+  placed = λ placed k some.
+      elim (cases_lt k slot) [
+        | inl below ↦ earlier k placed some (λ same. omega (arith, below, same))
+        | inr past ↦ elim (cases_lt slot k) [
+          | inl beyond ↦ earlier k placed some (λ same. omega (arith, beyond, same))
+          | inr at ↦
+              let here : slot ≡ k = omega (arith, past, at) in
+              subst (λ (i : ℕ). IsSome (insn_at p i)) here begins
+        ]
+      ];
+  whole = whole;
+}
+  where
+    earlier : (k : ℕ) → IsPlaced p old → IsSome (known_in new k) → k ≢ slot → IsSome (insn_at p k)
+    earlier k placed some other = placed k (subst (λ (o : Option StateValue). IsSome o) (others k other) some)
+
+-- where a jump lands an instruction begins
+pub lands_first : (p : Program) (z : ℤ) (slot : ℕ) → first_slot p z ≡ Some slot → IsSome (insn_at p slot)
+lands_first p (pos k) slot is = by_begin (is_some (slot_at p k)) refl is
+  where
+    by_begin : (b : Bool) → is_some (slot_at p k) ≡ b → (if b then Some k else None) ≡ Some slot → IsSome (insn_at p slot)
+    by_begin true begins same = let here : k ≡ slot = cc in subst (λ (i : ℕ). IsSome (insn_at p i)) here begins
+    by_begin false begins same = absurd cc
+lands_first p (negsuc n) slot is = absurd cc
+
 -- after the visit of a slot
-pub visited_next : BelowIsTransitive → (p : Program) (sizes : List ℕ) (old new : List (Option StateValue)) (regions : List (Option Region)) (slot : ℕ) (region : Option Region) → AreVisited p sizes old regions slot → IsExtended p slot old new → IsPermittedAt sizes (known_in new) slot (known_in new slot) (insn_at p slot) → region ≡ accessed_at (known_in new slot) (insn_at p slot) → slot < length regions → AreVisited p sizes new (slice_set regions slot region) (slot + 1)
-visited_next transitive p sizes old new regions slot region v f permitted accessed inside = record {
+entered_more : BelowIsTransitive → (o n : Option StateValue) → IsCoveredIfAny o n → IsEntered o → IsEntered n
+entered_more transitive o n grown h = record { known = h.known; entry = h.entry; covered = covered_more transitive h.known o n h.covered grown }
+
+pub entry_next : BelowIsTransitive → (p : Program) (from : ℕ) (old new : List (Option StateValue)) → AreEntered p old → IsExtended p from old new → AreEntered p new
+entry_next transitive p from old new v f = record {
   size = f.grown.size ∙ v.size;
-  entered = subst IsEntered (sym (f.kept 0 (omega arith))) v.entered;
+  entered = entered_more transitive (known_in old 0) (known_in new 0) (f.grown.covered 0) v.entered;
   placed = f.placed v.placed;
   whole = f.whole v.whole;
-  permitted = below_more (λ (k : ℕ). IsPermittedAt sizes (known_in new) k (known_in new k) (insn_at p k)) slot (λ k below. earlier k below) permitted;
+}
+
+pub heads_next : (p : Program) (old new : List (Option StateValue)) (slot : ℕ) → IsExtended p slot old new → AreHeadsBefore p old slot → AreHeadsAt p slot (known_in new slot) → AreHeadsBefore p new (slot + 1)
+heads_next p old new slot f before at k d inside below =
+    let l = slice_index_or p.loops k d in
+    elim (cases_lt l.head slot) [
+      | inl earlier ↦ subst (λ (o : Option StateValue). IfSome o (IsHead p l)) (sym (f.kept l.head earlier)) (before k d inside earlier)
+      | inr past ↦
+          let here : l.head ≡ slot = omega (arith, past, below) in
+          subst (λ (h : ℕ). IfSome (known_in new h) (IsHead p l)) (sym here) (at k d inside here)
+    ]
+
+pub visited_next : BelowIsTransitive → (p : Program) (old new : List (Option StateValue)) (regions : List (Option Region)) (slot : ℕ) (region : Option Region) → AreVisited p old regions slot → IsExtended p slot old new → AreHeadsAt p slot (known_in new slot) → region ≡ accessed_at (known_in new slot) (insn_at p slot) → slot < length regions → AreVisited p new (slice_set regions slot region) (slot + 1)
+visited_next transitive p old new regions slot region v f heads accessed inside = record {
+  entry = entry_next transitive p slot old new v.entry f;
+  heads = heads_next p old new slot f v.heads heads;
   resolved = below_more (λ (k : ℕ). slice_index_or (slice_set regions slot region) k None ≡ accessed_at (known_in new k) (insn_at p k)) slot
       (λ k below.
-      get_or-set_other regions slot k region None (differs k below) ∙ v.resolved k below ∙ ap (λ (o : Option StateValue). accessed_at o (insn_at p k)) (sym (f.kept k (omega arith))))
+      get_or-set_other regions slot k region None (differs k below) ∙ v.resolved k below ∙ ap (λ (o : Option StateValue). accessed_at o (insn_at p k)) (sym (f.kept k below)))
       (get_or-set_same regions slot region None inside ∙ accessed);
-  ahead = λ k above. get_or-set_other regions slot k region None (past k above) ∙ v.ahead k (omega arith);
 }
   where
     differs : (k : ℕ) → k < slot → k ≢ slot
     differs k below same = omega arith
 
-    past : (k : ℕ) → slot + 1 ≤ k → k ≢ slot
-    past k above same = omega arith
-
-    earlier : (k : ℕ) → k < slot → IsPermittedAt sizes (known_in new) k (known_in new k) (insn_at p k)
-    earlier k below =
-        subst (λ (o : Option StateValue). IsPermittedAt sizes (known_in new) k o (insn_at p k)) (sym (f.kept k (omega arith)))
-        (permitted_at_more transitive sizes (known_in old) (known_in new) k (known_in old k) (insn_at p k) f.grown.covered (v.permitted k below))
+pub permitted_next : BelowIsTransitive → (p : Program) (sizes : Maps) (old new : List (Option StateValue)) (slot : ℕ) → ArePermitted p sizes old slot → IsExtended p slot old new → IsPermittedAt sizes (known_in new) slot (known_in new slot) (insn_at p slot) → ArePermitted p sizes new (slot + 1)
+permitted_next transitive p sizes old new slot v f permitted =
+    below_more (λ (k : ℕ). IsPermittedAt sizes (known_in new) k (known_in new k) (insn_at p k)) slot
+    (λ k below.
+    subst (λ (o : Option StateValue). IsPermittedAt sizes (known_in new) k o (insn_at p k)) (sym (f.kept k below))
+    (permitted_at_more transitive sizes (known_in old) (known_in new) k (known_in old k) (insn_at p k) f.grown.covered (v k below)))
+    permitted
 
 -- after all visits
 past_none : (table : List (Option StateValue)) (n slot : ℕ) → length table ≡ n → n ≤ slot → known_in table slot ≡ None
 past_none table n slot size past = get_or_past table slot None (omega arith)
 
-pub judged : (p : Program) (sizes : List ℕ) (table : List (Option StateValue)) (regions : List (Option Region)) → IsProgram p → IsFormed p → AreVisited p sizes table regions (length p.slots) → IsJudged p sizes regions
-judged p sizes table regions limits form v = record {
+pub judged : (p : Program) (sizes : Maps) (table : List (Option StateValue)) (regions : List (Option Region)) → IsProgram p → IsFormed p → length regions ≡ length p.slots → AreVisited p table regions (length p.slots) → ArePermitted p sizes table (length p.slots) → IsJudged p sizes regions
+judged p sizes table regions limits form size v permitted = record {
   justified = record {
     limits = limits;
     formed = form;
     table = known_in table;
-    entered = v.entered;
-    whole = v.whole;
+    entered = v.entry.entered;
+    whole = v.entry.whole;
     permitted = λ slot.
         elim (cases_lt slot (length p.slots)) [
-          | inl below ↦ v.permitted slot below
-          | inr past ↦ subst (λ (o : Option StateValue). IsPermittedAt sizes (known_in table) slot o (insn_at p slot)) (sym (past_none table (length p.slots) slot v.size past)) tt
+          | inl below ↦ permitted slot below
+          | inr past ↦ subst (λ (o : Option StateValue). IsPermittedAt sizes (known_in table) slot o (insn_at p slot)) (sym (past_none table (length p.slots) slot v.entry.size past)) tt
         ];
+    heads = λ k d inside. v.heads k d inside (head_below k d inside);
   };
   resolved = λ slot.
       elim (cases_lt slot (length p.slots)) [
         | inl below ↦ v.resolved slot below
-        | inr past ↦ v.ahead slot past ∙ ap (λ (o : Option StateValue). accessed_at o (insn_at p slot)) (sym (past_none table (length p.slots) slot v.size past))
+        | inr past ↦ get_or_past regions slot None (omega (arith, size, past)) ∙ ap (λ (o : Option StateValue). accessed_at o (insn_at p slot)) (sym (past_none table (length p.slots) slot v.entry.size past))
       ];
 }
+  where
+    head_below : (k : ℕ) (d : Loop) → k < length p.loops → (slice_index_or p.loops k d).head < length p.slots
+    head_below k d inside =
+        let l = (loop_in (length p.slots) 0 p.loops k d limits.loops inside).1 in
+        omega (arith, l.ordered, l.within)
+
+-- ---- at a head
+
+pub heads_of : (p : Program) (l : Loop) (place : ℕ) (a : StateValue) → IsProgram p → IsDeclared p l place → IsHead p l a → AreHeadsAt p l.head (Some a)
+heads_of p l place a limits declared head k d inside same =
+    let here : slice_index_or p.loops k d ≡ l = one_head k d inside same in
+    subst (λ (m : Loop). IsHead p m a) (sym here) head
+  where
+    one_head : (k : ℕ) (d : Loop) → k < length p.loops → (slice_index_or p.loops k d).head ≡ l.head → slice_index_or p.loops k d ≡ l
+    one_head k d inside same =
+        let at : (slice_index_or p.loops place d).head ≡ l.head = ap (λ (m : Loop). m.head) (declared.is d) in
+        let where_it_is : k ≡ place = same_place (length p.slots) 0 p.loops k place d limits.loops inside declared.inside (same ∙ sym at) in
+        ap (λ (i : ℕ). slice_index_or p.loops i d) where_it_is ∙ declared.is d
+
+-- at a slot that is no head
+pub heads_none : (p : Program) (slot : ℕ) (o : Option StateValue) → All (λ l. l.head ≢ slot) p.loops → AreHeadsAt p slot o
+heads_none p slot o none k d inside same = absurd (none k d inside same)
+
+-- before all visits
+pub visited_none : (p : Program) (table : List (Option StateValue)) (regions : List (Option Region)) → AreEntered p table → AreVisited p table regions 0
+visited_none p table regions entry = record {
+  entry = entry;
+  heads = λ k d inside below. absurd (omega (arith, below));
+  resolved = λ k below. absurd (omega (arith, below));
+}
+
+-- at the first slot an instruction begins
+begins_first : (xs : List (Option Insn)) → 1 ≤ length xs → AreSlots false xs → IsSome (slice_index_or xs 0 None)
+begins_first [] some code = absurd (omega (arith, some))
+begins_first (None ∷ xs) some code = absurd code
+begins_first (Some insn ∷ xs) some code = refl
+
+-- the table in which what is known at entry is known at slot 0, and nothing else
+pub entered_first : (p : Program) (old new : List (Option StateValue)) (a : StateValue) → IsProgram p → length new ≡ length p.slots → ((k : ℕ) → known_in old k ≡ None) → IsEntry a → IsCovered a (known_in new 0) → ((k : ℕ) → k ≢ 0 → known_in new k ≡ known_in old k) → IfSome (known_in new 0) IsWhole → AreEntered p new
+entered_first p old new a limits size nothing entry covered others whole = record {
+  size = size;
+  entered = record { known = a; entry = entry; covered = covered };
+  placed = placed;
+  whole = all_whole;
+}
+  where
+    placed : (k : ℕ) → IsSome (known_in new k) → IsSome (insn_at p k)
+    placed zero some = begins_first p.slots limits.slots.0 limits.code
+    placed (suc k) some = absurd (false≢true (subst (λ (o : Option StateValue). IsSome o) (others (suc k) (λ same. omega (arith, same)) ∙ nothing (suc k)) some))
+
+    all_whole : (k : ℕ) → IfSome (known_in new k) IsWhole
+    all_whole zero = whole
+    all_whole (suc k) = subst (λ (o : Option StateValue). IfSome o IsWhole) (sym (others (suc k) (λ same. omega (arith, same)) ∙ nothing (suc k))) tt

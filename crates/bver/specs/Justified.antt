@@ -1,21 +1,29 @@
 -- When a program may judge (a choice of this project, since RFC 9669 leaves verification to the
 -- implementation): it has its form, and there is a table of what is known at its slots under which no
 -- instruction can go wrong.
-use Rattle.std.specs.Prelude.{◌≡◌, ℕ, ◌+◌, ℤ, pos, negsuc, List, Option, Some, None, Result, Ok, Err, IsTrue, IfSome, slice_index_or}
+use Rattle.std.specs.Prelude.{◌≡◌, ◌≢◌, ℕ, ◌+◌, ℤ, pos, negsuc, List, Option, Some, None, Result, Ok, Err, IsTrue, IfSome, All, slice_index_or}
+use Rattle.bpf.specs.declared.loops.Loop.{Loop}
 use Rattle.bpf.specs.Program.{Program, IsProgram}
 use Rattle.bpf_insn.specs.declared.insn.Insn.{Insn}
 use Rattle.bpf_insn.specs.declared.insn.Insn.TheVariants.{Alu, Negate, MoveSigned, ByteSwap, Load, Store, Jump, Goto, Wide, LoadMap, LoadAddress, Call, Exit}
+use Rattle.bpf_insn.specs.Flow.{accessed_base, distance_of, is_written}
+use Rattle.bpf_insn.specs.declared.operation.Width.TheVariants.{Bits64}
 use Rattle.bpf_insn.specs.Spelling.{slots_of}
+use Rattle.bpf_insn.specs.declared.operation.Comparison.{Comparison}
+use Rattle.machine.specs.Sizes.{Maps}
 use Rattle.machine.specs.declared.regions.Region.{Region}
-use Rattle.machine.specs.Step.{insn_at, distance_of, is_map}
+use Rattle.machine.specs.Step.{insn_at, is_map}
+use Rattle.absdom_num.specs.Tables.{whole}
 use Rattle.absdom.specs.declared.cause.Cause.{Cause}
 use Rattle.absdom.specs.declared.kinds.AbsKind.{AbsKind}
 use Rattle.absdom.specs.declared.kinds.AbsKind.TheVariants.{Unset, Num, Ptr, Map}
 use Rattle.absdom.specs.State.{StateValue, IsEntry, IsBelow, kind_at}
 use Rattle.absdom.specs.Effect.{applied}
 use Rattle.absdom.specs.Edges.{Edges, refined_edges}
-use Rattle.absdom.specs.Growth.{IsWhole}
-use Rattle.bver_form.specs.Form.{IsFormed, target}
+use Rattle.absdom.specs.State.{IsWhole}
+use Rattle.bver_form.specs.Form.{IsFormed}
+use Rattle.bver_form.specs.Jumps.{target}
+use Rattle.bver_form.specs.Loops.{holds}
 
 -- ---- what is known along an edge, and where it leads
 
@@ -39,6 +47,11 @@ abbrev pub AreEdgesCovered : Result Edges Cause → (taken next : Option StateVa
 AreEdgesCovered (Err cause) taken next = ⊥
 AreEdgesCovered (Ok edges) taken next = IsCoveredIfAny edges.taken taken × IsCoveredIfAny edges.not_taken next
 
+-- what is known on the edges of a comparison, or why it is refused
+abbrev pub edges_of_comparison : StateValue → Comparison → Result Edges Cause
+edges_of_comparison a comparison =
+    refined_edges a comparison.condition comparison.width comparison.dst comparison.src
+
 -- what is known at a place of the code; nothing is before it
 abbrev pub known_at : (table : ℕ → Option StateValue) → ℤ → Option StateValue
 known_at table (pos slot) = table slot
@@ -59,15 +72,15 @@ IsNumber (Map index) = ⊥
 
 -- with what is known at its slot an instruction cannot go wrong, and on every edge that a run may take
 -- what it leaves is covered: a map that is loaded exists, and EXIT has a number for its answer
-abbrev pub IsPermitted : (sizes : List ℕ) (table : ℕ → Option StateValue) (slot : ℕ) → StateValue → Insn → Type 0
+abbrev pub IsPermitted : (sizes : Maps) (table : ℕ → Option StateValue) (slot : ℕ) → StateValue → Insn → Type 0
 IsPermitted sizes table slot a (Alu op width dst src) = Proceeds table slot a (Alu op width dst src)
 IsPermitted sizes table slot a (Negate width dst) = Proceeds table slot a (Negate width dst)
 IsPermitted sizes table slot a (MoveSigned extension dst src) = Proceeds table slot a (MoveSigned extension dst src)
 IsPermitted sizes table slot a (ByteSwap swap bits dst) = Proceeds table slot a (ByteSwap swap bits dst)
-IsPermitted sizes table slot a (Load size dst base offset) = Proceeds table slot a (Load size dst base offset)
-IsPermitted sizes table slot a (Store size base offset src) = Proceeds table slot a (Store size base offset src)
-IsPermitted sizes table slot a (Jump condition width dst src offset) =
-    AreEdgesCovered (refined_edges a condition width dst src) (known_at table (target slot offset)) (table (slot + 1))
+IsPermitted sizes table slot a (Load size dst place) = Proceeds table slot a (Load size dst place)
+IsPermitted sizes table slot a (Store size place src) = Proceeds table slot a (Store size place src)
+IsPermitted sizes table slot a (Jump comparison offset) =
+    AreEdgesCovered (edges_of_comparison a comparison) (known_at table (target slot offset)) (table (slot + 1))
 IsPermitted sizes table slot a (Goto distance) = IsCovered a (known_at table (target slot (distance_of distance)))
 IsPermitted sizes table slot a (Wide dst value) = Proceeds table slot a (Wide dst value)
 IsPermitted sizes table slot a (LoadMap dst index) =
@@ -77,7 +90,7 @@ IsPermitted sizes table slot a (Call callee number) = ⊥
 IsPermitted sizes table slot a Exit = IsNumber (kind_at a 0)
 
 -- the same at a slot: a table has states only where instructions begin, and where it has none no run comes
-abbrev pub IsPermittedAt : (sizes : List ℕ) (table : ℕ → Option StateValue) (slot : ℕ) → Option StateValue → Option Insn → Type 0
+abbrev pub IsPermittedAt : (sizes : Maps) (table : ℕ → Option StateValue) (slot : ℕ) → Option StateValue → Option Insn → Type 0
 IsPermittedAt sizes table slot None insn = Unit {0}
 IsPermittedAt sizes table slot (Some a) None = ⊥
 IsPermittedAt sizes table slot (Some a) (Some insn) = IsPermitted sizes table slot a insn
@@ -88,17 +101,44 @@ pub record IsEntered (there : Option StateValue) : Type 0 where
   pub entry : IsEntry known
   pub covered : IsCovered known there
 
+-- ---- loops
+
+-- an instruction writes the register; a call writes r0 to r5
+abbrev pub IsWrittenBy : Option Insn → (register : ℕ) → Type 0
+IsWrittenBy None register = ⊥
+IsWrittenBy (Some insn) register = IsTrue (is_written insn register)
+
+-- an instruction of the loop writes the register
+pub record IsWrittenIn (p : Program) (l : Loop) (register : ℕ) : Type 0 where
+  pub slot : ℕ
+  pub inside : IsTrue (holds l slot)
+  pub writes : IsWrittenBy (insn_at p slot) register
+
+-- nothing is known of a register but, at most, that it holds a number
+abbrev pub IsOpen : AbsKind → Type 0
+IsOpen Unset = Unit {0}
+IsOpen (Num range) = range ≡ whole Bits64
+IsOpen (Ptr region offsets) = ⊥
+IsOpen (Map index) = ⊥
+
+-- what is known at the head of a loop, which stands for every pass: its counter is 1 to its bound, and each
+-- other register that the loop writes is open
+pub record IsHead (p : Program) (l : Loop) (a : StateValue) : Type 0 where
+  pub counter : kind_at a l.register ≡ Num (1, l.bound)
+  pub others : (register : ℕ) → register ≢ l.register → IsWrittenIn p l register → IsOpen (kind_at a register)
+
 -- ---- justified
 
--- the program has its form, and there is a table of whole states that covers the entry and permits the
--- instruction at each of them
-pub record IsJustified (program : Program) (sizes : List ℕ) : Type 0 where
+-- the program has its form, and there is a table of whole states that covers the entry, permits the
+-- instruction at each of them, and at the head of each loop, where it has a state, stands for every pass
+pub record IsJustified (program : Program) (sizes : Maps) : Type 0 where
   pub limits : IsProgram program
   pub formed : IsFormed program
   pub table : ℕ → Option StateValue
   pub entered : IsEntered (table 0)
   pub whole : (slot : ℕ) → IfSome (table slot) IsWhole
   pub permitted : (slot : ℕ) → IsPermittedAt sizes table slot (table slot) (insn_at program slot)
+  pub heads : All (λ l. IfSome (table l.head) (IsHead program l)) program.loops
 
 -- ---- the region of an access
 
@@ -109,21 +149,14 @@ pointed (Num range) = None
 pointed (Ptr region offsets) = Some region
 pointed (Map index) = None
 
+-- the region into which a base register points, if there is one
+abbrev pub region_of : StateValue → Option ℕ → Option Region
+region_of a None = None
+region_of a (Some base) = pointed (kind_at a base)
+
 -- the region that an instruction accesses
 abbrev pub accessed : StateValue → Insn → Option Region
-accessed a (Load size dst base offset) = pointed (kind_at a base)
-accessed a (Store size base offset src) = pointed (kind_at a base)
-accessed a (Alu op width dst src) = None
-accessed a (Negate width dst) = None
-accessed a (MoveSigned extension dst src) = None
-accessed a (ByteSwap swap bits dst) = None
-accessed a (Jump condition width dst src offset) = None
-accessed a (Goto distance) = None
-accessed a (Wide dst value) = None
-accessed a (LoadMap dst index) = None
-accessed a (LoadAddress dst address) = None
-accessed a (Call callee number) = None
-accessed a Exit = None
+accessed a insn = region_of a (accessed_base insn)
 
 -- the region that is accessed at a slot; none where no run comes
 abbrev pub accessed_at : Option StateValue → Option Insn → Option Region
@@ -136,10 +169,10 @@ accessed_at (Some a) (Some insn) = accessed a insn
 -- the program, the sizes of the maps that it was accepted for, and the region that each slot accesses
 pub record AcceptedValue : Type 0 where
   pub program : Program
-  pub sizes : List ℕ
+  pub sizes : Maps
   pub regions : List (Option Region)
 
 -- the program is justified for the sizes, and the regions are those of the table
-pub record IsJudged (program : Program) (sizes : List ℕ) (regions : List (Option Region)) : Type 0 where
+pub record IsJudged (program : Program) (sizes : Maps) (regions : List (Option Region)) : Type 0 where
   pub justified : IsJustified program sizes
   pub resolved : (slot : ℕ) → slice_index_or regions slot None ≡ accessed_at (justified.table slot) (insn_at program slot)

@@ -1,19 +1,20 @@
 -- What being justified is worth.
-use Rattle.std.specs.Prelude.{ℕ, List, Option}
+use Rattle.std.specs.Prelude.{List, Option}
 use Rattle.bpf.specs.Program.{Program}
 use Rattle.machine.specs.declared.regions.Region.{Region}
+use Rattle.machine.specs.Sizes.{Maps}
 use Rattle.machine.specs.Runs.{IsSafe}
 use Rattle.bver.specs.Justified.{IsJustified, IsJudged}
 use Rattle.bver.specs.Resolved.{IsResolved, AsksNobody}
 
 -- a justified program is safe: no run of it traps, and each ends within the budget
 abbrev pub JustifiedIsSafe : Type 0
-JustifiedIsSafe = (program : Program) (sizes : List ℕ) → IsJustified program sizes → IsSafe program sizes
+JustifiedIsSafe = (program : Program) (sizes : Maps) → IsJustified program sizes → IsSafe program sizes
 
 -- its regions are those of every access that a run makes
 abbrev pub JudgedIsResolved : Type 0
-JudgedIsResolved = (program : Program) (sizes : List ℕ) (regions : List (Option Region)) → IsJudged program sizes regions → IsResolved program regions
+JudgedIsResolved = (program : Program) (sizes : Maps) (regions : List (Option Region)) → IsJudged program sizes regions → IsResolved program regions
 
 -- so far it calls nobody
 abbrev pub JustifiedAsksNobody : Type 0
-JustifiedAsksNobody = (program : Program) (sizes : List ℕ) → IsJustified program sizes → AsksNobody program
+JustifiedAsksNobody = (program : Program) (sizes : Maps) → IsJustified program sizes → AsksNobody program

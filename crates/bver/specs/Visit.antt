@@ -1,14 +1,18 @@
 -- How the verifier's table grows while it passes over the slots.
-use Rattle.std.specs.Prelude.{◌≡◌, ◌<◌, ◌≤◌, ℕ, ◌+◌, List, length, slice_index_or, Option, Some, None, IsSome, IfSome}
+use Rattle.std.specs.Prelude.{All, ◌≡◌, ◌<◌, ◌≤◌, ℕ, ◌+◌, ℤ, List, length, slice_index_or, Option, Some, None, IsSome, IfSome}
 use Rattle.bpf.specs.Program.{Program}
 use Rattle.bpf_insn.specs.declared.insn.Insn.{Insn}
-use Rattle.bpf_insn.specs.declared.insn.Insn.TheVariants.{Alu, Negate, MoveSigned, ByteSwap, Load, Store, Jump, Goto, Wide, LoadMap, LoadAddress, Call, Exit}
+use Rattle.bpf_insn.specs.declared.flow.Flow.{Flow}
+use Rattle.bpf_insn.specs.declared.flow.Flow.TheVariants.{GoesOn, Branches, Jumps, Calls, Ends, Unsupported}
+use Rattle.bpf_insn.specs.Flow.{flow_of}
 use Rattle.bpf_insn.specs.Spelling.{slots_of}
+use Rattle.machine.specs.Sizes.{Maps}
 use Rattle.machine.specs.declared.regions.Region.{Region}
 use Rattle.machine.specs.Step.{insn_at}
 use Rattle.absdom.specs.State.{StateValue, IsBelow}
-use Rattle.absdom.specs.Growth.{IsWhole}
-use Rattle.bver.specs.Justified.{IsCoveredIfAny, IsEntered, IsPermittedAt, accessed_at}
+use Rattle.absdom.specs.State.{IsWhole}
+use Rattle.bver_form.specs.Jumps.{target}
+use Rattle.bver.specs.Justified.{IsHead, IsCoveredIfAny, IsEntered, IsPermittedAt, accessed_at, known_at}
 
 -- what is known at a slot, in a list by slot
 abbrev pub known_in : List (Option StateValue) → ℕ → Option StateValue
@@ -31,10 +35,10 @@ IsPlaced p table = (slot : ℕ) → IsSome (known_in table slot) → IsSome (ins
 abbrev pub AreWhole : List (Option StateValue) → Type 0
 AreWhole table = (slot : ℕ) → IfSome (known_in table slot) IsWhole
 
--- the table grew at slots after this one alone, where instructions begin
-pub record IsExtended (p : Program) (slot : ℕ) (old new : List (Option StateValue)) : Type 0 where
+-- the table grew from this slot on alone, where instructions begin
+pub record IsExtended (p : Program) (from : ℕ) (old new : List (Option StateValue)) : Type 0 where
   pub grown : IsGrown old new
-  pub kept : (k : ℕ) → k ≤ slot → known_in new k ≡ known_in old k
+  pub kept : (k : ℕ) → k < from → known_in new k ≡ known_in old k
   pub placed : IsPlaced p old → IsPlaced p new
   pub whole : AreWhole old → AreWhole new
 
@@ -45,25 +49,44 @@ pub record IsLater (p : Program) (slot : ℕ) (table : List (Option StateValue))
   pub low : later < 512
   pub begins : IsSome (insn_at p later)
 
--- the slots of an instruction end where the next one begins
-abbrev pub IsFollowed : Program → (slot : ℕ) → List (Option StateValue) → Insn → Type 0
-IsFollowed p slot table insn = IsLater p slot table (slot + slots_of insn)
+-- ---- the visit of a slot
+
+-- a slot of a program, which is verified for maps of these sizes
+pub record VisitValue : Type 0 where
+  pub program : Program
+  pub sizes : Maps
+  pub slot : ℕ
+
+-- the table has a place for each slot of the program
+abbrev pub IsTableOf : VisitValue → List (Option StateValue) → Type 0
+IsTableOf v table = length table ≡ length v.program.slots
+
+-- what is known where a jump by so many slots leads
+abbrev pub taken_in : VisitValue → (distance : ℤ) → List (Option StateValue) → Option StateValue
+taken_in v distance table = known_at (known_in table) (target v.slot distance)
+
+-- the table grew after the slot alone
+abbrev pub IsExtendedAfter : VisitValue → (old new : List (Option StateValue)) → Type 0
+IsExtendedAfter v old new = IsExtended v.program (v.slot + 1) old new
+
+-- the next instruction begins so many slots further
+abbrev pub IsNext : VisitValue → List (Option StateValue) → (slots : ℕ) → Type 0
+IsNext v table slots = IsLater v.program v.slot table (v.slot + slots)
+
+-- where a run may go on at the next instruction, there is one, so many slots further
+abbrev pub HasNextBy : VisitValue → List (Option StateValue) → (slots : ℕ) → Flow → Type 0
+HasNextBy v table slots GoesOn = IsNext v table slots
+HasNextBy v table slots (Branches distance) = IsNext v table slots
+HasNextBy v table slots (Jumps distance) = Unit {0}
+HasNextBy v table slots (Calls callee number) = Unit {0}
+HasNextBy v table slots Ends = Unit {0}
+HasNextBy v table slots Unsupported = Unit {0}
 
 -- an instruction that may go on to the next one has a next one
-abbrev pub HasNext : Program → (slot : ℕ) → List (Option StateValue) → Insn → Type 0
-HasNext p slot table (Alu op width dst src) = IsFollowed p slot table (Alu op width dst src)
-HasNext p slot table (Negate width dst) = IsFollowed p slot table (Negate width dst)
-HasNext p slot table (MoveSigned extension dst src) = IsFollowed p slot table (MoveSigned extension dst src)
-HasNext p slot table (ByteSwap swap bits dst) = IsFollowed p slot table (ByteSwap swap bits dst)
-HasNext p slot table (Load size dst base offset) = IsFollowed p slot table (Load size dst base offset)
-HasNext p slot table (Store size base offset src) = IsFollowed p slot table (Store size base offset src)
-HasNext p slot table (Jump condition width dst src offset) = IsFollowed p slot table (Jump condition width dst src offset)
-HasNext p slot table (Goto distance) = Unit {0}
-HasNext p slot table (Wide dst value) = IsFollowed p slot table (Wide dst value)
-HasNext p slot table (LoadMap dst index) = IsFollowed p slot table (LoadMap dst index)
-HasNext p slot table (LoadAddress dst address) = Unit {0}
-HasNext p slot table (Call callee number) = Unit {0}
-HasNext p slot table Exit = Unit {0}
+abbrev pub HasNext : VisitValue → List (Option StateValue) → Insn → Type 0
+HasNext v table insn = HasNextBy v table (slots_of insn) (flow_of insn)
+
+-- ---- the pass
 
 -- what is known at entry is covered at slot 0, and nothing is known that no instruction begins with
 pub record AreEntered (p : Program) (table : List (Option StateValue)) : Type 0 where
@@ -72,12 +95,16 @@ pub record AreEntered (p : Program) (table : List (Option StateValue)) : Type 0 
   pub placed : IsPlaced p table
   pub whole : AreWhole table
 
--- the slots before this one were visited: what is permitted there, and which regions they access
-pub record AreVisited (p : Program) (sizes : List ℕ) (table : List (Option StateValue)) (regions : List (Option Region)) (slot : ℕ) : Type 0 where
-  pub size : length table ≡ length p.slots
-  pub entered : IsEntered (known_in table 0)
-  pub placed : IsPlaced p table
-  pub whole : AreWhole table
-  pub permitted : (k : ℕ) → k < slot → IsPermittedAt sizes (known_in table) k (known_in table k) (insn_at p k)
+-- at each head before the slot, what is known stands for every pass
+abbrev pub AreHeadsBefore : Program → List (Option StateValue) → (slot : ℕ) → Type 0
+AreHeadsBefore p table slot = All (λ l. l.head < slot → IfSome (known_in table l.head) (IsHead p l)) p.loops
+
+-- the slots before this one were visited: what they access, and what stands at their heads
+pub record AreVisited (p : Program) (table : List (Option StateValue)) (regions : List (Option Region)) (slot : ℕ) : Type 0 where
+  pub entry : AreEntered p table
+  pub heads : AreHeadsBefore p table slot
   pub resolved : (k : ℕ) → k < slot → slice_index_or regions k None ≡ accessed_at (known_in table k) (insn_at p k)
-  pub ahead : (k : ℕ) → slot ≤ k → slice_index_or regions k None ≡ None
+
+-- what the slots before this one do is permitted
+abbrev pub ArePermitted : Program → (sizes : Maps) → List (Option StateValue) → (slot : ℕ) → Type 0
+ArePermitted p sizes table slot = (k : ℕ) → k < slot → IsPermittedAt sizes (known_in table) k (known_in table k) (insn_at p k)

@@ -1,22 +1,24 @@
 //! What an instruction does to the table: the edges that it follows, and why it is refused.
 
-ghost use Rattle.std.specs.Prelude.{◌≡◌, ◌+◌, ◌<◌, IsTrue, OnOk, Ok, length};
+ghost use Rattle.std.specs.Prelude.{◌≡◌, ◌+◌, IsTrue, OnOk, Ok, length};
 ghost use Rattle.bpf_insn.specs.Spelling.{slots_of};
 ghost use Rattle.machine.specs.Step.{is_map};
 ghost use Rattle.absdom.specs.Effect.{applied};
-ghost use Rattle.absdom.specs.Edges.{refined_edges, on_edge, on_edges};
+ghost use Rattle.absdom.specs.Edges.{on_edge, on_edges};
 ghost use Rattle.absdom.specs.State.{kind_at};
-ghost use Rattle.bver_form.specs.Form.{IsAllowed, IsJump, target};
+ghost use Rattle.bver_form.specs.Form.{IsAllowed};
+ghost use Rattle.bver_form.specs.Jumps.{IsJump};
 ghost use Rattle.bver.specs.Codes.{refusal_of};
-ghost use Rattle.bver.specs.Justified.{IsCovered, IsCoveredIfAny, IsResultCovered, AreEdgesCovered, IsNumber, IsPermitted, known_at, pointed, accessed};
-ghost use Rattle.bver.specs.Visit.{IsExtended, IsLater, HasNext, known_in};
+ghost use Rattle.bver.specs.Justified.{IsCovered, IsCoveredIfAny, IsResultCovered, AreEdgesCovered, edges_of_comparison, IsNumber, IsPermitted, known_at, pointed, accessed};
+ghost use Rattle.bver.specs.Lowered.{IsMore, IsSettled};
+ghost use Rattle.bver.specs.Visit.{IsTableOf, IsExtendedAfter, IsNext, HasNext, known_in, taken_in};
 
+use crate::lowered::Lowered;
 use crate::table::Table;
+use crate::visit::Visit;
 use absdom::{AbsKind, Cause, Edges, Operands, Region, State, order_of_states, refine};
-use bpf::Image;
-use bpf_insn::{Condition, Distance, Insn, Operand, Register, Width};
-use bver_form::{Refusal, landing};
-use machine::MapSizes;
+use bpf_insn::{Comparison, Insn, Register};
+use bver_form::{Refusal, Refused};
 
 /// The refusal for what an instruction may do wrong.
 fn refusal_of(cause: Cause) -> Refusal
@@ -32,65 +34,80 @@ fn refusal_of(cause: Cause) -> Refusal
     }
 }
 
-/// Follows a jump from the slot by so many slots.
-fn jump(table: &mut Table, image: &Image, slot: u16, distance: i32, state: &State)
-    requires size { length table.old ≡ length image.now.slots }
-    requires jump { IsJump image.now slot distance }
-    ensures covered { IsCovered state.now (known_at (known_in table.new) (target slot distance)) }
-    ensures extended { IsExtended image.now slot table.old table.new }
+/// Follows a jump by so many slots: forward, or back to the head of a loop.
+fn jump(
+    visit: &Visit,
+    table: &mut Table,
+    lowered: &mut Lowered,
+    distance: i32,
+    state: &State,
+) -> Result<(), Refused>
+    requires size { IsTableOf visit.now table.old }
+    requires jump { IsJump visit.now.program visit.now.slot distance }
+    ensures covered { OnOk result (IsSettled lowered.old lowered.new → IsCovered state.now (taken_in visit.now distance table.new)) }
+    ensures extended { IsExtendedAfter visit.now table.old table.new }
+    ensures more { IsMore lowered.old lowered.new }
 {
-    match landing(image, slot, distance) {
-        Some(later) => table.follow(later, state),
+    order_of_states();
+    match visit.landing(distance) {
+        Some(landing) => {
+            if landing > visit.slot() {
+                table.follow(landing, state);
+                return Ok(());
+            }
+            match visit.closed(landing) {
+                Some(body) => body.close(table, state, lowered),
+                None => unreachable!(),
+            }
+        }
         None => unreachable!(),
     }
 }
 
 /// Follows the edge of a comparison on which it holds, if a run may take it.
 fn follow_taken(
+    visit: &Visit,
     table: &mut Table,
-    image: &Image,
-    slot: u16,
+    lowered: &mut Lowered,
     state: &State,
-    dst: Register,
-    src: &Operand,
+    comparison: &Comparison,
     distance: i32,
     edge: &Option<Operands>,
-)
-    requires size { length table.old ≡ length image.now.slots }
-    requires jump { IsJump image.now slot distance }
-    ensures covered { IsCoveredIfAny (on_edge state.now dst src.now edge.now) (known_at (known_in table.new) (target slot distance)) }
-    ensures extended { IsExtended image.now slot table.old table.new }
+) -> Result<(), Refused>
+    requires size { IsTableOf visit.now table.old }
+    requires jump { IsJump visit.now.program visit.now.slot distance }
+    ensures covered { OnOk result (IsSettled lowered.old lowered.new → IsCoveredIfAny (on_edge state.now comparison.now.dst comparison.now.src edge.now) (taken_in visit.now distance table.new)) }
+    ensures extended { IsExtendedAfter visit.now table.old table.new }
+    ensures more { IsMore lowered.old lowered.new }
 {
     order_of_states();
     match edge {
         Some(new) => {
             let mut state = *state;
-            state.narrow(dst, src, new);
-            jump(table, image, slot, distance, &state);
+            state.narrow(comparison.dst, &comparison.src, new);
+            jump(visit, table, lowered, distance, &state)
         }
-        None => {}
+        None => Ok(()),
     }
 }
 
 /// Follows the other edge of a comparison, if a run may take it.
 fn follow_not_taken(
+    visit: &Visit,
     table: &mut Table,
-    image: &Image,
-    slot: u16,
     state: &mut State,
-    dst: Register,
-    src: &Operand,
+    comparison: &Comparison,
     edge: &Option<Operands>,
 )
-    requires { IsLater image.now slot table.old (slot + 1) }
-    ensures covered { IsCoveredIfAny (on_edge state.old dst src.now edge.now) (known_in table.new (slot + 1)) }
-    ensures extended { IsExtended image.now slot table.old table.new }
+    requires { IsNext visit.now table.old 1 }
+    ensures covered { IsCoveredIfAny (on_edge state.old comparison.now.dst comparison.now.src edge.now) (known_in table.new (visit.now.slot + 1)) }
+    ensures extended { IsExtendedAfter visit.now table.old table.new }
 {
     order_of_states();
-    let next = slot + 1;
+    let next = visit.slot() + 1;
     match edge {
         Some(new) => {
-            state.narrow(dst, src, new);
+            state.narrow(comparison.dst, &comparison.src, new);
             table.follow(next, state);
         }
         None => {}
@@ -99,99 +116,107 @@ fn follow_not_taken(
 
 /// Follows the edges of a comparison.
 fn branch(
+    visit: &Visit,
     table: &mut Table,
-    image: &Image,
-    slot: u16,
+    lowered: &mut Lowered,
     state: &mut State,
-    dst: Register,
-    src: &Operand,
+    comparison: &Comparison,
     distance: i32,
     edges: &Edges,
-)
-    requires size { length table.old ≡ length image.now.slots }
-    requires jump { IsJump image.now slot distance }
-    requires next { IsLater image.now slot table.old (slot + 1) }
-    ensures covered { AreEdgesCovered (Ok (on_edges state.old dst src.now edges.now)) (known_at (known_in table.new) (target slot distance)) (known_in table.new (slot + 1)) }
-    ensures extended { IsExtended image.now slot table.old table.new }
+) -> Result<(), Refused>
+    requires size { IsTableOf visit.now table.old }
+    requires jump { IsJump visit.now.program visit.now.slot distance }
+    requires next { IsNext visit.now table.old 1 }
+    ensures covered { OnOk result (IsSettled lowered.old lowered.new → AreEdgesCovered (Ok (on_edges state.old comparison.now.dst comparison.now.src edges.now)) (taken_in visit.now distance table.new) (known_in table.new (visit.now.slot + 1))) }
+    ensures extended { IsExtendedAfter visit.now table.old table.new }
+    ensures more { IsMore lowered.old lowered.new }
 {
     order_of_states();
-    follow_taken(table, image, slot, state, dst, src, distance, &edges.taken);
-    follow_not_taken(table, image, slot, state, dst, src, &edges.not_taken);
+    follow_taken(
+        visit,
+        table,
+        lowered,
+        state,
+        comparison,
+        distance,
+        &edges.taken,
+    )?;
+    follow_not_taken(visit, table, state, comparison, &edges.not_taken);
+    Ok(())
 }
 
 /// A comparison.
 fn compare(
+    visit: &Visit,
     table: &mut Table,
-    image: &Image,
-    slot: u16,
+    lowered: &mut Lowered,
     state: &mut State,
-    condition: Condition,
-    width: Width,
-    dst: Register,
-    src: &Operand,
+    comparison: &Comparison,
     offset: i16,
-) -> Result<(), Refusal>
-    requires size { length table.old ≡ length image.now.slots }
-    requires jump { IsJump image.now slot offset }
-    requires next { IsLater image.now slot table.old (slot + 1) }
-    ensures covered { OnOk result (AreEdgesCovered (refined_edges state.old condition width dst src.now) (known_at (known_in table.new) (target slot offset)) (known_in table.new (slot + 1))) }
-    ensures extended { IsExtended image.now slot table.old table.new }
+) -> Result<(), Refused>
+    requires size { IsTableOf visit.now table.old }
+    requires jump { IsJump visit.now.program visit.now.slot offset }
+    requires next { IsNext visit.now table.old 1 }
+    ensures covered { OnOk result (IsSettled lowered.old lowered.new → AreEdgesCovered (edges_of_comparison state.old comparison.now) (taken_in visit.now offset table.new) (known_in table.new (visit.now.slot + 1))) }
+    ensures extended { IsExtendedAfter visit.now table.old table.new }
+    ensures more { IsMore lowered.old lowered.new }
 {
     order_of_states();
-    match refine(state, condition, width, dst, src) {
+    match refine(
+        state,
+        comparison.condition,
+        comparison.width,
+        comparison.dst,
+        &comparison.src,
+    ) {
         Ok(edges) => {
             branch(
+                visit,
                 table,
-                image,
-                slot,
+                lowered,
                 state,
-                dst,
-                src,
+                comparison,
                 i32::from(offset),
                 &edges,
-            );
-            Ok(())
+            )
         }
-        Err(cause) => Err(refusal_of(cause)),
+        Err(cause) => Err(visit.refused(refusal_of(cause))),
     }
 }
 
 /// An instruction that goes on to the next one.
-fn straight(
-    table: &mut Table,
-    image: &Image,
-    slot: u16,
-    state: &mut State,
-    insn: &Insn,
-) -> Result<(), Refusal>
-    requires { IsLater image.now slot table.old (slot + slots_of insn.now) }
-    ensures covered { OnOk result (IsResultCovered (applied state.old insn.now) (known_in table.new (slot + slots_of insn.now))) }
-    ensures extended { IsExtended image.now slot table.old table.new }
+fn straight(visit: &Visit, table: &mut Table, state: &mut State, insn: &Insn) -> Result<(), Refused>
+    requires { IsNext visit.now table.old (slots_of insn.now) }
+    ensures covered { OnOk result (IsResultCovered (applied state.old insn.now) (known_in table.new (visit.now.slot + slots_of insn.now))) }
+    ensures extended { IsExtendedAfter visit.now table.old table.new }
 {
     order_of_states();
-    state.apply(insn).map_err(refusal_of)?;
-    let next = slot + insn.slots() as u16;
+    state
+        .apply(insn)
+        .map_err(|cause| visit.refused(refusal_of(cause)))?;
+    let next = visit.slot() + insn.slots();
     table.follow(next, state);
     Ok(())
 }
 
 /// Tests that there is a map of the index.
-fn check_map(sizes: &MapSizes, index: i32) -> Result<(), Refusal>
-    ensures { OnOk result (IsTrue (is_map sizes.now index)) }
+fn check_map(visit: &Visit, index: i32) -> Result<(), Refused>
+    ensures { OnOk result (IsTrue (is_map visit.now.sizes index)) }
 {
-    if index < 0 || index >= i32::from(sizes.maps()) {
-        return Err(Refusal::MapKey);
+    if index < 0 || index >= i32::from(visit.maps()) {
+        return Err(visit.refused(Refusal::MapKey));
     }
     Ok(())
 }
 
 /// Tests that r0 is a number, as EXIT wants.
-fn check_answer(state: &State) -> Result<(), Refusal>
+fn check_answer(visit: &Visit, state: &State) -> Result<(), Refused>
     ensures { OnOk result (IsNumber (kind_at state.now 0)) }
 {
     match Register::new(0) {
         Some(answer) => {
-            let _ = state.kind(answer).number().map_err(refusal_of)?;
+            let number = state.kind(answer).number();
+            let _ = number.map_err(|cause| visit.refused(refusal_of(cause)))?;
             Ok(())
         }
         None => unreachable!(),
@@ -214,32 +239,34 @@ fn pointed(kind: &AbsKind) -> Option<Region>
 pub(crate) fn accessed(state: &State, insn: &Insn) -> Option<Region>
     ensures { result ≡ accessed state.now insn.now }
 {
-    match insn {
-        Insn::Load { base, .. } | Insn::Store { base, .. } => pointed(&state.kind(*base)),
-        _ => None,
+    match insn.accessed() {
+        Some(base) => pointed(&state.kind(base)),
+        None => None,
     }
 }
 
 /// Tests an instruction with what is known at its slot, and follows the edges that a run may take from
-/// there. The state is changed on the way.
+/// there. The state is changed on the way. An edge back to the head of a loop may lower registers there;
+/// the instruction is permitted where none was lowered.
 ///
 /// # Errors
 ///
 /// The first of `Unset` and `KindMismatch`, the destination before the source, `PointerRange`,
-/// `HeaderWrite`, `OutOfRegion`, `UnsetStack` and `MapKey`.
+/// `HeaderWrite`, `OutOfRegion`, `UnsetStack` and `MapKey`; or `LoopEntry` at a head that an edge back
+/// to it neither lowers nor finds covered.
 pub(crate) fn flow(
+    visit: &Visit,
     table: &mut Table,
-    image: &Image,
-    sizes: &MapSizes,
-    slot: u16,
+    lowered: &mut Lowered,
     state: &mut State,
     insn: &Insn,
-) -> Result<(), Refusal>
-    requires size { length table.old ≡ length image.now.slots }
-    requires allowed { IsAllowed image.now slot insn.now }
-    requires next { HasNext image.now slot table.old insn.now }
-    ensures permitted { OnOk result (IsPermitted sizes.now (known_in table.new) slot state.old insn.now) }
-    ensures extended { IsExtended image.now slot table.old table.new }
+) -> Result<(), Refused>
+    requires size { IsTableOf visit.now table.old }
+    requires allowed { IsAllowed visit.now.program visit.now.slot insn.now }
+    requires next { HasNext visit.now table.old insn.now }
+    ensures permitted { OnOk result (IsSettled lowered.old lowered.new → IsPermitted visit.now.sizes (known_in table.new) visit.now.slot state.old insn.now) }
+    ensures extended { IsExtendedAfter visit.now table.old table.new }
+    ensures more { IsMore lowered.old lowered.new }
 {
     order_of_states();
     match insn {
@@ -249,35 +276,16 @@ pub(crate) fn flow(
         | Insn::ByteSwap { .. }
         | Insn::Load { .. }
         | Insn::Store { .. }
-        | Insn::Wide { .. } => straight(table, image, slot, state, insn),
+        | Insn::Wide { .. } => straight(visit, table, state, insn),
         Insn::LoadMap { index, .. } => {
-            check_map(sizes, *index)?;
-            straight(table, image, slot, state, insn)
+            check_map(visit, *index)?;
+            straight(visit, table, state, insn)
         }
-        Insn::Jump {
-            condition,
-            width,
-            dst,
-            src,
-            offset,
-        } => {
-            compare(
-                table, image, slot, state, *condition, *width, *dst, src, *offset,
-            )
+        Insn::Jump { comparison, offset } => {
+            compare(visit, table, lowered, state, comparison, *offset)
         }
-        Insn::Goto {
-            distance: Distance::Short(offset),
-        } => {
-            jump(table, image, slot, i32::from(*offset), state);
-            Ok(())
-        }
-        Insn::Goto {
-            distance: Distance::Long(immediate),
-        } => {
-            jump(table, image, slot, *immediate, state);
-            Ok(())
-        }
-        Insn::Exit => check_answer(state),
+        Insn::Goto { distance } => jump(visit, table, lowered, distance.slots(), state),
+        Insn::Exit => check_answer(visit, state),
         Insn::LoadAddress { .. } | Insn::Call { .. } => unreachable!(),
     }
 }

@@ -7,8 +7,11 @@
 #![tactic(auto)]
 
 mod accepted;
+mod body;
 mod edges;
 mod laws;
+mod lowered;
+mod passes;
 mod table;
 mod visit;
 

@@ -1,94 +1,121 @@
-//! The pass over a program's slots.
+//! A slot that is visited.
 
-ghost use Rattle.std.specs.Prelude.{◌≡◌, ◌<◌, IfOk, OnOk, None, length};
+ghost use Rattle.std.specs.Prelude.{◌≡◌, ◌≢◌, IfSome, None, All, false, length};
+ghost use Rattle.bpf.specs.Program.{IsProgram};
 ghost use Rattle.machine.specs.Step.{insn_at};
 ghost use Rattle.bver_form.specs.Form.{IsFormed};
-ghost use Rattle.bver.specs.Justified.{IsJudged, IsPermittedAt, accessed_at};
-ghost use Rattle.bver.specs.Visit.{AreVisited, IsExtended, IsPlaced, known_in};
+ghost use Rattle.bver_form.specs.Jumps.{first_slot, is_loop_back, target};
+ghost use Rattle.bver.specs.Heads.{IsDeclared};
+ghost use Rattle.bver.specs.Visit.{VisitValue};
 
-use crate::edges::{accessed, flow};
-use crate::table::Table;
-use absdom::{Region, State, order_of_states};
+use crate::body::Body;
 use bpf::Image;
+use bpf_insn::Insn;
 use bver_form::{Refusal, Refused};
 use machine::MapSizes;
+use std::marker::Model;
 
-/// Visits a slot with what is known there. It tells the region that the instruction accesses.
-fn visit_with(
-    table: &mut Table,
-    image: &Image,
-    sizes: &MapSizes,
+/// A slot of a program that has its form, which is verified for a node with these maps.
+#[derive(Drop)]
+pub(crate) struct Visit<'a> {
+    image: &'a Image,
+    sizes: &'a MapSizes,
     slot: u16,
-    state: &mut State,
-) -> Result<Option<Region>, Refusal>
-    requires formed { IsFormed image.now }
-    requires size { length table.old ≡ length image.now.slots }
-    requires placed { IsPlaced image.now table.old }
-    requires known { known_in table.old slot ≡ Some state.old }
-    ensures permitted { OnOk result (IsPermittedAt sizes.now (known_in table.new) slot (Some state.old) (insn_at image.now slot)) }
-    ensures region { IfOk result (λ region. region ≡ accessed_at (Some state.old) (insn_at image.now slot)) }
-    ensures extended { IsExtended image.now slot table.old table.new }
-{
-    match image.insn(slot) {
-        Some(insn) => {
-            let region = accessed(state, &insn);
-            flow(table, image, sizes, slot, state, &insn)?;
-            Ok(region)
+}
+
+impl<'a> Model for Visit<'a> {
+    ghost use Rattle.bver_form.specs.Form.{IsFormed};
+    ghost use Rattle.bver.specs.Visit.{VisitValue};
+
+    ghost Value = { VisitValue };
+
+    ghost view = { λ v. record { program = v.image.now; sizes = v.sizes.now; slot = v.slot } };
+
+    ghost invariant = { λ v. IsFormed v.image.now };
+}
+
+impl<'a> Visit<'a> {
+    /// The visit of a slot.
+    pub(crate) fn new(image: &'a Image, sizes: &'a MapSizes, slot: u16) -> Visit<'a>
+        requires { IsFormed image.now }
+        ensures program { result.program ≡ image.now }
+        ensures sizes { result.sizes ≡ sizes.now }
+        ensures slot { result.slot ≡ slot }
+    {
+        Visit { image, sizes, slot }
+    }
+
+    /// The slot.
+    pub(crate) fn slot(&self) -> u16
+        ensures slot { result ≡ self.now.slot }
+        ensures formed { IsFormed self.now.program }
+    {
+        self.slot
+    }
+
+    /// The instruction that begins there. `None` at a second slot.
+    pub(crate) fn insn(&self) -> Option<Insn>
+        ensures insn { result ≡ insn_at self.now.program self.now.slot }
+        ensures program { IsProgram self.now.program }
+        ensures formed { IsFormed self.now.program }
+    {
+        self.image.insn(self.slot)
+    }
+
+    /// The slot to which a jump leads by a distance in slots from the next one. `None` where no instruction
+    /// begins there.
+    pub(crate) fn landing(&self, distance: i32) -> Option<u16>
+        ensures { result ≡ first_slot self.now.program (target self.now.slot distance) }
+    {
+        bver_form::landing(self.image, self.slot, distance)
+    }
+
+    /// How many maps there are.
+    pub(crate) fn maps(&self) -> u8
+        ensures { result ≡ length self.now.sizes }
+    {
+        self.sizes.maps()
+    }
+
+    /// The declared loop that has its head at the slot.
+    pub(crate) fn head(&self) -> Option<Body<'a>>
+        ensures some { IfSome result (λ b. (b.program ≡ self.now.program) × (b.declared.head ≡ self.now.slot)) }
+        ensures declared { IfSome result (λ b. IsDeclared b.program b.declared b.place) }
+        ensures none { result ≡ None → All (λ l. l.head ≢ self.now.slot) self.now.program.loops }
+        ensures program { IsProgram self.now.program }
+        ensures formed { IsFormed self.now.program }
+    {
+        for place in 0..self.image.loops().len() {
+            let body = Body::new(self.image, place);
+            if body.head() == self.slot {
+                return Some(body);
+            }
         }
-        None => unreachable!(),
+        None
     }
-}
 
-/// Visits a slot. One at which nothing is known is skipped, since no run comes there. The state is room for
-/// what is known there.
-fn visit(
-    table: &mut Table,
-    image: &Image,
-    sizes: &MapSizes,
-    slot: u16,
-    state: &mut State,
-) -> Result<Option<Region>, Refusal>
-    requires formed { IsFormed image.now }
-    requires size { length table.old ≡ length image.now.slots }
-    requires placed { IsPlaced image.now table.old }
-    requires inside { slot < length table.old }
-    ensures permitted { OnOk result (IsPermittedAt sizes.now (known_in table.new) slot (known_in table.new slot) (insn_at image.now slot)) }
-    ensures region { IfOk result (λ region. region ≡ accessed_at (known_in table.new slot) (insn_at image.now slot)) }
-    ensures extended { IsExtended image.now slot table.old table.new }
-{
-    order_of_states();
-    if table.read(slot, state) {
-        visit_with(table, image, sizes, slot, state)
-    } else {
-        Ok(None)
+    /// The declared loop whose back is the slot, and its head that one.
+    pub(crate) fn closed(&self, head: u16) -> Option<Body<'a>>
+        ensures some { IfSome result (λ b. (b.program ≡ self.now.program) × (b.declared.head ≡ head)) }
+        ensures none { result ≡ None → is_loop_back self.now.program self.now.slot head ≡ false }
+    {
+        for place in 0..self.image.loops().len() {
+            let body = Body::new(self.image, place);
+            if body.back() == self.slot && body.head() == head {
+                return Some(body);
+            }
+        }
+        None
     }
-}
 
-/// Passes over the slots of a program by rising slot, from a table that covers the entry. It writes the
-/// region that each slot accesses.
-///
-/// # Errors
-///
-/// The first refusal that is met, with its slot.
-pub(crate) fn pass(
-    table: &mut Table,
-    image: &Image,
-    sizes: &MapSizes,
-    regions: &mut Vec<Option<Region>>,
-) -> Result<(), Refused>
-    requires formed { IsFormed image.now }
-    requires visited { AreVisited image.now sizes.now table.old regions.old.items 0 }
-    requires regions { length regions.old.items ≡ length image.now.slots }
-    ensures { OnOk result (IsJudged image.now sizes.now regions.new.items) }
-{
-    order_of_states();
-    let mut state = State::entry();
-    for slot in 0..image.slots() {
-        let region = visit(table, image, sizes, slot, &mut state).map_err(|code| Refused {
+    /// The refusal at the slot.
+    pub(crate) fn refused(&self, code: Refusal) -> Refused
+        ensures code { result.code ≡ code }
+        ensures slot { result.slot ≡ self.now.slot }
+    {
+        Refused {
             code,
-            slot,
-        })?;
-        regions[usize::from(slot)] = region;
+            slot: self.slot,
+        }
     }
-    Ok(())
 }

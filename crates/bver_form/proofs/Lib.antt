@@ -1,1 +1,7 @@
-pub mod NoLoops
+pub mod Fitting
+pub mod Left
+pub mod Steps
+pub mod Sums
+pub mod Entering
+pub mod Counted
+pub mod Faults

@@ -1,4 +1,5 @@
+mod FactoryImage
+mod LinesInTurn
 mod Matching
 mod OnePort
-mod Stopped
-mod LinesInTurn
+mod TextLines

@@ -1,5 +1,5 @@
 -- Lines that are judged in turn.
-use Rattle.std.proofs.Common.{◌≡◌, ◌<◌, ℕ, zero, suc, List, [], ◌∷◌, ◌++◌, length, take, drop, get_or, Option, refl, sym, ap, subst, arith}
+use Rattle.std.proofs.Common.{◌≡◌, ◌<◌, ℕ, zero, suc, List, [], ◌∷◌, ◌++◌, length, take, drop, get_or, Option, refl, sym, ap, subst, arith, ◌∙◌}
 use Rattle.commands.specs.JobNode.{JobNodeValue}
 use Rattle.commands.specs.Lines.{Judges, JudgesAll, IsBad, IsBadPacket, IsBadLine}
 use Rattle.commands.specs.Stops.{StopsBy}
@@ -23,19 +23,20 @@ around (first ∷ lines) (suc n) line low = ap (λ (l : List (List ℕ)). first 
 
 -- a stop at a line is one of the lines
 pub stops_at : (lines judged rest : List (List ℕ)) (line : List ℕ) (count : ℕ) (a b c : JobNodeValue) (o p q : Option (List ℕ)) (stop : Stop)
-    → lines ≡ judged ++ line ∷ rest → JudgesAll judged a b o p → StopsBy (IsBadPacket line count b c p q) stop → StopsBy (IsBadLine lines a c o q) stop
-stops_at lines judged rest line count a b c o p q (Unwritten refused) are all bad = tt
-stops_at lines judged rest line count a b c o p q (Ended (CannotRead file)) are all bad = absurd bad
-stops_at lines judged rest line count a b c o p q (Ended (CannotWrite file)) are all bad = absurd bad
-stops_at lines judged rest line count a b c o p q (Ended NoMemory) are all bad = tt
-stops_at lines judged rest line count a b c o p q (Ended (BadText fault)) are all bad = absurd bad
-stops_at lines judged rest line count a b c o p q (Ended (BadImage fault)) are all bad = absurd bad
-stops_at lines judged rest line count a b c o p q (Ended (Unfit refused)) are all bad = absurd bad
-stops_at lines judged rest line count a b c o p q (Ended (BadLine number code)) are all bad = record {
+    → lines ≡ judged ++ line ∷ rest → count ≡ suc (length judged) → JudgesAll judged a b o p → StopsBy (IsBadPacket line count b c p q) stop → StopsBy (IsBadLine lines a c o q) stop
+stops_at lines judged rest line count a b c o p q (Unwritten refused) are place all bad = tt
+stops_at lines judged rest line count a b c o p q (Ended (CannotRead file)) are place all bad = absurd bad
+stops_at lines judged rest line count a b c o p q (Ended (CannotWrite file)) are place all bad = absurd bad
+stops_at lines judged rest line count a b c o p q (Ended NoMemory) are place all bad = tt
+stops_at lines judged rest line count a b c o p q (Ended (BadText fault)) are place all bad = absurd bad
+stops_at lines judged rest line count a b c o p q (Ended (BadImage fault)) are place all bad = absurd bad
+stops_at lines judged rest line count a b c o p q (Ended (Unfit refused)) are place all bad = absurd bad
+stops_at lines judged rest line count a b c o p q (Ended (BadLine number code)) are place all bad = record {
   judged = judged;
   line = line;
   rest = rest;
   lines_are = are;
+  place = bad.0 ∙ place;
   all = subst (λ (x : JobNodeValue). JudgesAll judged a x o q) (sym bad.2) (subst (λ (x : Option (List ℕ)). JudgesAll judged a b o x) (sym bad.3) all);
   bad = subst (λ (x : JobNodeValue). IsBad line x code) (sym bad.2) bad.1;
 }

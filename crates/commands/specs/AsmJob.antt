@@ -1,9 +1,8 @@
 -- The job `asm`: its words, and what it prints.
-use Rattle.std.specs.Prelude.{◌≡◌, ◌⊎◌, ℕ, List, [], ◌∷◌, ◌++◌, Option, Some, None, codes, decimal, length, string_bytes}
-use Rattle.std.specs.Io.KnownBytes.{Appends}
+use Rattle.std.specs.Prelude.{◌≡◌, ◌⊎◌, ℕ, List, [], ◌∷◌, ◌++◌, Some, None, codes, decimal, length, string_bytes}
 use Rattle.clap.specs.Walk.{Row, first_of}
 use Rattle.clap.specs.Simple.{App, new_app, with_rule}
-use Rattle.bpf.specs.Program.{Program, IsProgram}
+use Rattle.bpf.specs.Program.{Program}
 use Rattle.commands.specs.Arguments.{file_rule}
 use Rattle.commands.specs.declared.jobs.Job.{Job}
 use Rattle.commands.specs.declared.jobs.Job.TheVariants.{Assemble, Disassemble, Verify, Judge}
@@ -33,9 +32,3 @@ abbrev pub parts_line : Program → List ℕ
 parts_line p =
     codes "slots " ++ decimal (length p.slots) ++ codes " loops " ++ decimal (length p.loops) ++ codes " budget " ++ decimal p.budget
     ++ 10 ∷ []
-
--- the line of an image
-pub record PrintsParts (old new : Option (List ℕ)) : Type 0 where
-  pub program : Program
-  pub limits : IsProgram program
-  pub line : Appends old new (parts_line program)

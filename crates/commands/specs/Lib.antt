@@ -8,7 +8,9 @@ pub mod Files
 pub mod JobNode
 pub mod JudgeJob
 pub mod Factory
+pub mod Judged
 pub mod Lines
+pub mod Performed
 pub mod Printed
 pub mod Reading
 pub mod Statuses

@@ -1,19 +1,28 @@
 -- The packet lines of a text, and what is printed of each.
-use Rattle.std.specs.Prelude.{◌≡◌, ◌≢◌, ◌⊎◌, ℕ, List, [], ◌∷◌, ◌++◌, Option}
+use Rattle.std.specs.Prelude.{◌≡◌, ◌≢◌, ◌⊎◌, ◌==◌, ℕ, suc, cond, List, [], ◌∷◌, ◌++◌, length, Option}
 use Rattle.std.specs.Io.KnownBytes.{Appends}
+use Rattle.std.specs.List.{onto_first, slice_split}
 use Rattle.spw.specs.Cargo.{Cargo}
 use Rattle.spw.specs.Fault.{code_of}
 use Rattle.spw.specs.Line.{HasFault, IsPacketLine}
 use Rattle.spw.specs.declared.faults.LineFault.{LineFault}
 use Rattle.spw.specs.declared.faults.LineFault.TheVariants as line_faults
-use Rattle.target.specs.Served.{IsAnswered}
 use Rattle.target.specs.declared.served.Served.{Served}
 use Rattle.target.specs.declared.served.Served.TheVariants.{Stopped, Unread, Done}
 use Rattle.target.specs.declared.stop.Stop.TheVariants.{Discarded, Answered}
-use Rattle.commands.specs.JobNode.{JobNodeValue}
+use Rattle.commands.specs.JobNode.{JobNodeValue, Serves}
 use Rattle.commands.specs.JudgeJob.{discard_line, reply_line}
 use Rattle.commands.specs.declared.faults.Fault.{Fault}
 use Rattle.commands.specs.declared.faults.Fault.TheVariants.{CannotRead, CannotWrite, NoMemory, BadText, BadImage, Unfit, BadLine}
+
+-- the lines of a text: a line feed ends a line, and the last may lack its own
+abbrev pub lines_of : List ℕ → List (List ℕ)
+lines_of [] = []
+lines_of (byte ∷ bytes) = cond (byte == 10) ([] ∷ lines_of bytes) (onto_first byte (lines_of bytes))
+
+-- the parts of a text between its line feeds
+abbrev pub pieces_of : List ℕ → List (List ℕ)
+pieces_of text = slice_split (λ byte. byte == 10) text
 
 -- the line that is printed of what became of a packet, with the reply that was due
 abbrev pub served_line : (port : ℕ) → Served → (reply : List ℕ) → List ℕ
@@ -29,7 +38,7 @@ pub record Judges (line : List ℕ) (before after : JobNodeValue) (old new : Opt
   pub served : Served
   pub written : IsPacketLine line port packet
   pub own_port : port ≡ before.holder.port
-  pub step : IsAnswered served packet before.banks after.banks before.holder after.holder after.reply
+  pub step : Serves served packet before after
   pub printed : Appends old new (served_line port served after.reply)
 
 -- the lines were judged in turn, each on the node that the earlier ones left
@@ -62,12 +71,14 @@ IsBadPacket line count before after old new (Unfit refused) = ⊥
 IsBadPacket line count before after old new (BadLine number code) =
     (number ≡ count) × IsBad line before code × (after ≡ before) × (new ≡ old)
 
--- the lines up to a bad one were judged in turn, and the bad one, whose fault this is, was not
-pub record StopsAt (lines : List (List ℕ)) (before after : JobNodeValue) (old new : Option (List ℕ)) (code : ℕ) : Type 0 where
+-- the lines up to the one of this number, counted from 1, were judged in turn, and that one, whose
+-- fault this is, was not
+pub record StopsAt (lines : List (List ℕ)) (before after : JobNodeValue) (old new : Option (List ℕ)) (number code : ℕ) : Type 0 where
   pub judged : List (List ℕ)
   pub line : List ℕ
   pub rest : List (List ℕ)
   pub lines_are : lines ≡ judged ++ line ∷ rest
+  pub place : number ≡ suc (length judged)
   pub all : JudgesAll judged before after old new
   pub bad : IsBad line after code
 
@@ -79,4 +90,4 @@ IsBadLine lines before after old new NoMemory = Unit {0}
 IsBadLine lines before after old new (BadText fault) = ⊥
 IsBadLine lines before after old new (BadImage fault) = ⊥
 IsBadLine lines before after old new (Unfit refused) = ⊥
-IsBadLine lines before after old new (BadLine number code) = StopsAt lines before after old new code
+IsBadLine lines before after old new (BadLine number code) = StopsAt lines before after old new number code

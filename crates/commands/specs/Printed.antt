@@ -1,10 +1,15 @@
--- What is printed of the fault that ends a job.
-use Rattle.std.specs.Prelude.{ℕ, List, ◌++◌, codes, decimal}
+-- What is printed, and the line of the fault that ends a job.
+use Rattle.std.specs.Prelude.{ℕ, List, [], ◌∷◌, ◌++◌, codes, decimal, Option}
+use Rattle.std.specs.Io.KnownBytes.{Appends}
 use Rattle.basm.specs.Codes.{asm_code}
 use Rattle.bpf.specs.Fault.{image_fault_code, image_fault_slot}
 use Rattle.bver_form.specs.Codes.{refusal_code}
 use Rattle.commands.specs.declared.faults.Fault.{Fault}
 use Rattle.commands.specs.declared.faults.Fault.TheVariants.{CannotRead, CannotWrite, NoMemory, BadText, BadImage, Unfit, BadLine}
+
+-- the line was printed, behind what the writer holds where that is known
+abbrev pub Prints : {W : Type 0} → (contents : W → Option (List ℕ)) → (old new : W) → List ℕ → Type 0
+Prints contents old new line = Appends (contents old) (contents new) line
 
 -- the text of what ends a job
 abbrev pub fault_text : Fault → List ℕ
@@ -19,3 +24,7 @@ fault_text (Unfit refused) =
     codes "refused V" ++ decimal (refusal_code refused.code) ++ codes " slot " ++ decimal refused.slot
 fault_text (BadLine number code) =
     codes "line " ++ decimal number ++ codes " fault " ++ decimal code
+
+-- the line of what ends a job
+abbrev pub fault_line : Fault → List ℕ
+fault_line fault = fault_text fault ++ 10 ∷ []

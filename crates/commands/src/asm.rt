@@ -1,13 +1,13 @@
 //! The job `asm`.
 
 ghost use Rattle.std.specs.Prelude.{◌≡◌, IfErr, IfOk, OnOk, false};
-ghost use Rattle.std.specs.Io.KnownBytes.{Appends};
 ghost use Rattle.clap.specs.Simple.{app_of};
 ghost use Rattle.clap.specs.declared.builder.command.Command.TheViews.{out-Command as fields_of};
 ghost use Rattle.clap.specs.Walk.{rows_of};
 ghost use Rattle.clap.specs.Matches.{found_of};
 ghost use Rattle.commands.specs.AsmJob.{LacksEither, NamesAsm, asm_app, parts_line};
 ghost use Rattle.commands.specs.Assembled.{Assembles, HoldsText, IsNoText, IsNotAssembled};
+ghost use Rattle.commands.specs.Printed.{Prints};
 ghost use Rattle.commands.specs.Stops.{StopsBy};
 
 use crate::arguments::{file, name_of};
@@ -59,7 +59,7 @@ fn assembled<'a, F: Files>(alloc: Global, files: &mut F, name: &'a str) -> Resul
 
 /// Prints how large an image is: `slots S loops L budget B`.
 fn print_parts<W: Write>(out: &mut W, image: &Image) -> io::Result<()>
-    ensures { OnOk result (Appends (W.contents out.old) (W.contents out.new) (parts_line image.now)) }
+    ensures { OnOk result (Prints W.contents out.old out.new (parts_line image.now)) }
 {
     let slots = image.slots();
     let loops = image.loops().len();
@@ -69,8 +69,8 @@ fn print_parts<W: Write>(out: &mut W, image: &Image) -> io::Result<()>
 
 /// Assembles the text of a file, writes the image to another, and prints how large it is.
 ///
-/// Faults are found in this order: the file of the text (`CannotRead`, also where it is not UTF-8), the
-/// text (`BadText`), and the file of the image (`CannotWrite`).
+/// Faults are found in this order: the file of the text (`CannotRead`, also where it is not UTF-8),
+/// the text (`BadText`), and the file of the image (`CannotWrite`).
 pub fn assemble_file<'a, F: Files, W: Write>(
     alloc: Global,
     text: &'a str,
@@ -78,8 +78,10 @@ pub fn assemble_file<'a, F: Files, W: Write>(
     files: &mut F,
     out: &mut W,
 ) -> Result<(), Stop<'a>>
-    ensures done { OnOk result (Assembles F.reads F.writes files.old text.now image.now files.new (W.contents out.old) (W.contents out.new)) }
-    ensures stops { IfErr result (StopsBy (IsNotAssembled F.reads F.writes files.old text.now image.now files.new)) }
+    ensures done { OnOk result (Assembles F.reads F.writes files.old text.now image.now files.new
+        (W.contents out.old) (W.contents out.new)) }
+    ensures stops { IfErr result (StopsBy
+        (IsNotAssembled F.reads F.writes files.old text.now image.now files.new)) }
     ensures quiet { IfErr result (StopsBy (λ _. W.contents out.new ≡ W.contents out.old)) }
 {
     let made = assembled(alloc, files, text)?;

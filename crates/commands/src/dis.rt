@@ -1,7 +1,6 @@
 //! The job `dis`.
 
 ghost use Rattle.std.specs.Prelude.{◌≡◌, IfErr, IfOk, OnOk, codes, false};
-ghost use Rattle.std.specs.Io.KnownBytes.{Appends};
 ghost use Rattle.clap.specs.Simple.{app_of};
 ghost use Rattle.clap.specs.declared.builder.command.Command.TheViews.{out-Command as fields_of};
 ghost use Rattle.clap.specs.Walk.{rows_of};
@@ -9,9 +8,10 @@ ghost use Rattle.clap.specs.Matches.{found_of};
 ghost use Rattle.commands.specs.Arguments.{Lacks};
 ghost use Rattle.commands.specs.DisJob.{NamesDis, dis_app};
 ghost use Rattle.commands.specs.Disassembled.{Disassembles, IsNotPrinted};
+ghost use Rattle.commands.specs.Printed.{Prints};
 ghost use Rattle.commands.specs.Stops.{StopsBy};
 
-use crate::arguments::{file, name_of};
+use crate::arguments::{image_command, name_of};
 use crate::jobs::Job;
 use crate::programs::image_in;
 use crate::stops::Stop;
@@ -27,11 +27,7 @@ pub fn dis_command<'a>(alloc: Global) -> Result<Command<'a>, AllocError>
     ensures shape { IfOk result (λ c. app_of c ≡ dis_app) }
     ensures local { IfOk result (λ c. (fields_of c).has_globals ≡ false) }
 {
-    let help = "The file of the BPF image, or - for standard input";
-    let image = file(alloc, "image", "FILE", help);
-    Command::new(alloc, "dis")
-        .about("Prints the text of a BPF image")
-        .arg(image)
+    image_command(alloc, "dis", "Prints the text of a BPF image")
 }
 
 /// The job of `dis` with these matches.
@@ -45,7 +41,7 @@ pub fn dis_job(alloc: Global, found: &ArgMatches) -> Result<Job, UsageFault>
 
 /// Prints the text of an image, which has its line feeds.
 fn print_text<W: Write>(out: &mut W, text: &str) -> io::Result<()>
-    ensures { OnOk result (Appends (W.contents out.old) (W.contents out.new) text.now) }
+    ensures { OnOk result (Prints W.contents out.old out.new text.now) }
 {
     write!(out, "{text}")
 }
@@ -59,7 +55,8 @@ pub fn disassemble_file<'a, F: Files, W: Write>(
     files: &mut F,
     out: &mut W,
 ) -> Result<(), Stop<'a>>
-    ensures done { OnOk result (Disassembles F.reads files.old image.now files.new (W.contents out.old) (W.contents out.new)) }
+    ensures done { OnOk result (Disassembles F.reads files.old image.now files.new
+        (W.contents out.old) (W.contents out.new)) }
     ensures stops { IfErr result (StopsBy (IsNotPrinted F.reads files.old image.now files.new)) }
     ensures quiet { IfErr result (StopsBy (λ _. W.contents out.new ≡ W.contents out.old)) }
 {

@@ -1,6 +1,8 @@
 //! The jobs of `rmapctl`.
 
-ghost use Rattle.std.specs.Prelude.{◌≤◌, IfOk};
+ghost use Rattle.std.specs.Prelude.{IfErr, IfOk, OnOk};
+ghost use Rattle.commands.specs.Performed.{IsDone, IsEnded, Performs};
+ghost use Rattle.commands.specs.Stops.{StopsBy};
 
 use crate::asm::assemble_file;
 use crate::dis::disassemble_file;
@@ -40,6 +42,30 @@ pub enum Job {
     },
 }
 
+/// Does a job, up to its end or the fault that ends it, which is still to be printed.
+fn attempt<'a, F: Files, W: Write>(
+    alloc: Global,
+    job: &'a Job,
+    files: &mut F,
+    out: &mut W,
+) -> Result<(), Stop<'a>>
+    ensures done { OnOk result (IsDone F.reads F.writes job.now files.old files.new
+        (W.contents out.old) (W.contents out.new)) }
+    ensures stops { IfErr result (StopsBy (IsEnded F.reads F.writes job.now files.old files.new
+        (W.contents out.old) (W.contents out.new))) }
+{
+    match job {
+        Job::Judge { lines, image } => {
+            judge_file(alloc, lines.as_str(), image.as_deref(), files, out)
+        }
+        Job::Assemble { text, image } => {
+            assemble_file(alloc, text.as_str(), image.as_str(), files, out)
+        }
+        Job::Disassemble { image } => disassemble_file(alloc, image.as_str(), files, out),
+        Job::Verify { image } => verify_file(alloc, image.as_str(), files, out),
+    }
+}
+
 /// Does a job over any files and any writer, and gives the exit status: 1 where an image was
 /// refused or a fault was printed, else 0. What the writer holds back is not flushed.
 ///
@@ -50,20 +76,10 @@ pub fn perform<F: Files, W: Write>(
     files: &mut F,
     out: &mut W,
 ) -> Result<u8, WriteFault>
-    ensures { IfOk result (λ status. status ≤ 1) }
+    ensures { IfOk result (Performs F.reads F.writes job.now files.old files.new
+        (W.contents out.old) (W.contents out.new)) }
 {
-    let done = match job {
-        Job::Judge { lines, image } => {
-            let image = image.as_ref().map(|name| name.as_str());
-            judge_file(alloc, lines.as_str(), image, files, out)
-        }
-        Job::Assemble { text, image } => {
-            assemble_file(alloc, text.as_str(), image.as_str(), files, out)
-        }
-        Job::Disassemble { image } => disassemble_file(alloc, image.as_str(), files, out),
-        Job::Verify { image } => verify_file(alloc, image.as_str(), files, out),
-    };
-    match done {
+    match attempt(alloc, job, files, out) {
         Ok(()) => Ok(0),
         Err(Stop::Ended(fault)) => {
             writeln!(out, "{fault}")?;

@@ -1,17 +1,17 @@
 //! The job `judge`.
 
-ghost use Rattle.std.specs.Prelude.{◌≡◌, ◌==◌, IfErr, IfOk, OnOk, [], codes, false};
-ghost use Rattle.std.specs.Io.KnownBytes.{Appends};
-ghost use Rattle.std.specs.List.{slice_split};
+ghost use Rattle.std.specs.Prelude.{◌≡◌, ◌≢◌, IfErr, IfOk, OnOk, [], codes, false, string_bytes};
 ghost use Rattle.clap.specs.Simple.{app_of};
 ghost use Rattle.clap.specs.declared.builder.command.Command.TheViews.{out-Command as fields_of};
 ghost use Rattle.clap.specs.Walk.{rows_of};
 ghost use Rattle.clap.specs.Matches.{found_of};
-ghost use Rattle.bpf.specs.Program.{image_bytes};
-ghost use Rattle.commands.specs.Arguments.{Lacks};
+ghost use Rattle.machine.specs.Runs.{IsSafe};
+ghost use Rattle.commands.specs.Arguments.{Lacks, name_in};
+ghost use Rattle.commands.specs.Factory.{IsNoFactory, factory, factory_insns};
 ghost use Rattle.commands.specs.JudgeJob.{NamesJudge, discard_line, judge_app, reply_line};
-ghost use Rattle.commands.specs.Factory.{HoldsNoProgram, HoldsProgram, IsLineFault, IsNoFactory, IsNotJudged, factory_image};
-ghost use Rattle.commands.specs.Lines.{IsBadLine, IsBadPacket, Judges, JudgesAll, served_line};
+ghost use Rattle.commands.specs.Judged.{HoldsNoProgram, HoldsProgram, IsNotJudged, IsNotReady, IsReady, JudgesFile};
+ghost use Rattle.commands.specs.Lines.{IsBadLine, IsBadPacket, Judges, JudgesAll, lines_of, pieces_of, served_line};
+ghost use Rattle.commands.specs.Printed.{Prints};
 ghost use Rattle.commands.specs.Stops.{StopsBy};
 ghost use Rattle.commands.specs.declared.faults.Fault.TheVariants.{NoMemory};
 
@@ -24,6 +24,7 @@ use crate::stops::Stop;
 use crate::storage::Files;
 use crate::usage::UsageFault;
 use bpf::Image;
+use bpf_insn::{AluOp, Insn, Operand, Register, Width};
 use bver::{Accepted, verify};
 use clap::{Arg, ArgMatches, Command};
 use rmap::Discard;
@@ -32,12 +33,8 @@ use std::alloc::{AllocError, Global};
 use std::io::{self, Write};
 use target::{Served, Stop as Header};
 
-/// The image that judges where no other is named. Its program is `mov r0, 0; exit`: yes to every
-/// command.
-const FACTORY: [u8; 32] = [
-    0x42, 0x50, 0x46, 0x41, 0x01, 0x00, 0x02, 0x00, 0x02, 0x00, 0x00, 0x00, 0x00, 0x00, 0x00, 0x00,
-    0xb7, 0x00, 0x00, 0x00, 0x00, 0x00, 0x00, 0x00, 0x95, 0x00, 0x00, 0x00, 0x00, 0x00, 0x00, 0x00,
-];
+/// The budget of the factory program, which has two steps.
+const FACTORY_BUDGET: u32 = 2;
 
 /// `judge LINES [--image FILE]`.
 pub fn judge_command<'a>(alloc: Global) -> Result<Command<'a>, AllocError>
@@ -69,25 +66,43 @@ pub fn judge_job(alloc: Global, found: &ArgMatches) -> Result<Job, UsageFault>
     Ok(Job::Judge { lines, image })
 }
 
-/// The program of the factory image.
+/// The instructions of the factory program, `mov r0, 0; exit`: yes to every command.
+fn factory_insns() -> [Insn; 2]
+    ensures { result ≡ factory_insns }
+{
+    let r0 = Register::new(0).unwrap();
+    let yes = Insn::Alu {
+        op: AluOp::Mov,
+        width: Width::Bits64,
+        dst: r0,
+        src: Operand::Immediate(0),
+    };
+    [yes, Insn::Exit]
+}
+
+/// The factory program, which judges where no image is named.
 fn factory_program<'a>(alloc: Global) -> Result<Accepted, Fault<'a>>
-    ensures program { IfOk result (λ program. factory_image ≡ image_bytes program.program) }
+    ensures program { IfOk result (λ program. program.program ≡ factory) }
     ensures sizes { IfOk result (λ program. program.sizes ≡ []) }
+    ensures safe { IfOk result (λ program. IsSafe program.program []) }
     ensures refused { IfErr result IsNoFactory }
 {
-    let image = Image::read(alloc, &FACTORY)?;
+    let image = Image::new(alloc, &factory_insns(), &[], FACTORY_BUDGET)?;
     Ok(verify(alloc, image, &no_maps())?)
 }
 
-/// The program of the image file of this name, or of the factory image where there is no name.
+/// The program of the image file of this name, or the factory program where there is no name.
 fn judging_program<'a, F: Files>(
     alloc: Global,
     files: &mut F,
     image: Option<&'a str>,
 ) -> Result<Accepted, Fault<'a>>
-    ensures program { IfOk result (λ program. HoldsProgram F.reads files.old image.entry program.program files.new) }
+    ensures program { IfOk result (λ program.
+        HoldsProgram F.reads files.old (name_in image.entry) program.program files.new) }
     ensures sizes { IfOk result (λ program. program.sizes ≡ []) }
-    ensures refused { IfErr result (HoldsNoProgram F.reads files.old image.entry files.new) }
+    ensures safe { IfOk result (λ program. IsSafe program.program []) }
+    ensures refused { IfErr result
+        (HoldsNoProgram F.reads files.old (name_in image.entry) files.new) }
 {
     match image {
         Some(name) => program_in(alloc, files, name),
@@ -97,7 +112,7 @@ fn judging_program<'a, F: Files>(
 
 /// Prints that a packet was discarded: `PORT discard C`.
 fn print_discard<W: Write>(out: &mut W, port: u8, discard: Discard) -> io::Result<()>
-    ensures { OnOk result (Appends (W.contents out.old) (W.contents out.new) (discard_line port discard)) }
+    ensures { OnOk result (Prints W.contents out.old out.new (discard_line port discard)) }
 {
     let code = discard.code();
     writeln!(out, "{port} discard {code}")
@@ -110,7 +125,7 @@ fn print_reply<'a, W: Write>(
     port: u8,
     reply: &[u8],
 ) -> Result<(), Stop<'a>>
-    ensures printed { OnOk result (Appends (W.contents out.old) (W.contents out.new) (reply_line port reply.now)) }
+    ensures printed { OnOk result (Prints W.contents out.old out.new (reply_line port reply.now)) }
     ensures stops { IfErr result (StopsBy (λ fault. fault ≡ NoMemory)) }
 {
     if reply.is_empty() {
@@ -130,7 +145,8 @@ fn print_served<'a, W: Write>(
     served: Served,
     reply: &[u8],
 ) -> Result<(), Stop<'a>>
-    ensures printed { OnOk result (Appends (W.contents out.old) (W.contents out.new) (served_line port served reply.now)) }
+    ensures printed { OnOk result
+        (Prints W.contents out.old out.new (served_line port served reply.now)) }
     ensures stops { IfErr result (StopsBy (λ fault. fault ≡ NoMemory)) }
 {
     match served {
@@ -149,8 +165,10 @@ fn judge_line<'a, W: Write>(
     number: usize,
     out: &mut W,
 ) -> Result<(), Stop<'a>>
-    ensures judged { OnOk result (Judges line.now node.old node.new (W.contents out.old) (W.contents out.new)) }
-    ensures stops { IfErr result (StopsBy (IsBadPacket line.now number node.old node.new (W.contents out.old) (W.contents out.new))) }
+    ensures judged { OnOk result (Judges line.now node.old node.new
+        (W.contents out.old) (W.contents out.new)) }
+    ensures stops { IfErr result (StopsBy (IsBadPacket line.now number node.old node.new
+        (W.contents out.old) (W.contents out.new))) }
 {
     let (port, packet) = read_line(alloc, line).map_err(|fault| Fault::unread(number, fault))?;
     let served = node.serve(port, packet).ok_or(Fault::no_port(number))?;
@@ -164,15 +182,25 @@ fn judge_lines<'a, W: Write>(
     text: &str,
     out: &mut W,
 ) -> Result<(), Stop<'a>>
-    ensures judged { OnOk result (JudgesAll (slice_split (λ c. c == 10) text.now) node.old node.new (W.contents out.old) (W.contents out.new)) }
-    ensures stops { IfErr result (StopsBy (IsBadLine (slice_split (λ c. c == 10) text.now) node.old node.new (W.contents out.old) (W.contents out.new))) }
+    ensures judged { OnOk result (JudgesAll (pieces_of text.now) node.old node.new
+        (W.contents out.old) (W.contents out.new)) }
+    ensures stops { IfErr result (StopsBy (IsBadLine (pieces_of text.now) node.old node.new
+        (W.contents out.old) (W.contents out.new))) }
 {
     let mut number: usize = 0;
     for line in text.split('\n') {
-        number = number.saturating_add(1);
+        number += 1;
         judge_line(alloc, node, line, number, out)?;
     }
     Ok(())
+}
+
+/// A text that is not empty without the line feed that ends its last line, which it may lack.
+fn without_last_feed(text: &str) -> &str
+    requires { text.now ≢ [] }
+    ensures { pieces_of result.now ≡ lines_of text.now }
+{
+    text.strip_suffix('\n').unwrap_or(text)
 }
 
 /// Judges each line of a text in turn. A line is ended by a line feed, which the last may lack.
@@ -182,12 +210,34 @@ fn judge_text<'a, W: Write>(
     text: &str,
     out: &mut W,
 ) -> Result<(), Stop<'a>>
-    ensures stops { IfErr result (StopsBy IsLineFault) }
+    ensures judged { OnOk result (JudgesAll (lines_of text.now) node.old node.new
+        (W.contents out.old) (W.contents out.new)) }
+    ensures stops { IfErr result (StopsBy (IsBadLine (lines_of text.now) node.old node.new
+        (W.contents out.old) (W.contents out.new))) }
 {
     if text.is_empty() {
         return Ok(());
     }
-    Ok(judge_lines(alloc, node, text.strip_suffix('\n').unwrap_or(text), out)?)
+    judge_lines(alloc, node, without_last_feed(text), out)
+}
+
+/// The text of a file of packet lines, and a fresh node whose commands the program of an image
+/// file, or the factory program, judges.
+fn lines_and_node<'a, F: Files>(
+    alloc: Global,
+    lines: &'a str,
+    image: Option<&'a str>,
+    files: &mut F,
+) -> Result<(String, JobNode), Fault<'a>>
+    ensures ready { IfOk result (λ made. IsReady F.reads files.old lines.now (name_in image.entry)
+        (string_bytes made.0) made.1 files.new) }
+    ensures refused { IfErr result
+        (IsNotReady F.reads files.old lines.now (name_in image.entry) files.new) }
+{
+    let text = text_in(alloc, files, lines)?;
+    let program = judging_program(alloc, files, image)?;
+    let node = JobNode::new(alloc, program)?;
+    Ok((text, node))
 }
 
 /// Judges the packet lines of a file by the program of an image file, or by the factory program.
@@ -201,10 +251,11 @@ pub fn judge_file<'a, F: Files, W: Write>(
     files: &mut F,
     out: &mut W,
 ) -> Result<(), Stop<'a>>
-    ensures stops { IfErr result (StopsBy (IsNotJudged F.reads files.old lines.now image.entry files.new)) }
+    ensures done { OnOk result (JudgesFile F.reads files.old lines.now
+        (name_in image.entry) files.new (W.contents out.old) (W.contents out.new)) }
+    ensures stops { IfErr result (StopsBy (IsNotJudged F.reads files.old lines.now
+        (name_in image.entry) files.new (W.contents out.old) (W.contents out.new))) }
 {
-    let text = text_in(alloc, files, lines)?;
-    let program = judging_program(alloc, files, image)?;
-    let mut node = JobNode::new(alloc, program)?;
+    let (text, mut node) = lines_and_node(alloc, lines, image, files)?;
     judge_text(alloc, &mut node, text.as_str(), out)
 }

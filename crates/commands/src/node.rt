@@ -1,8 +1,7 @@
 //! The node that the jobs run.
 
 ghost use Rattle.std.specs.Prelude.{◌≡◌, ◌≢◌, [], None, IfErr, IfOk, IfSome};
-ghost use Rattle.target.specs.Served.{IsAnswered};
-ghost use Rattle.commands.specs.JobNode.{fresh_job_node};
+ghost use Rattle.commands.specs.JobNode.{Serves, fresh_job_node};
 ghost use Rattle.commands.specs.declared.faults.Fault.TheVariants.{NoMemory};
 
 use crate::faults::Fault;
@@ -33,13 +32,13 @@ pub struct JobNode {
 }
 
 impl Model for JobNode {
-    ghost use Rattle.commands.specs.JobNode.{JobNodeValue, IsJobNode};
+    ghost use Rattle.commands.specs.JobNode.{JobNodeValue, IsJobNode, job_node};
 
     ghost Value = { JobNodeValue };
 
-    ghost view = { λ b. record { banks = b.node; holder = b.pass; reply = b.reply } };
+    ghost view = { λ b. job_node b.node b.pass b.reply };
 
-    ghost invariant = { λ b. IsJobNode (record { banks = b.node; holder = b.pass; reply = b.reply }) };
+    ghost invariant = { λ b. IsJobNode (job_node b.node b.pass b.reply) };
 }
 
 impl JobNode {
@@ -68,7 +67,7 @@ impl JobNode {
 
     /// What becomes of a packet that comes in at a port, or `None` where there is no such port.
     pub fn serve(&mut self, port: u8, packet: Packet) -> Option<Served>
-        ensures served { IfSome result (λ served. IsAnswered served packet self.old.banks self.new.banks self.old.holder self.new.holder self.new.reply) }
+        ensures served { IfSome result (λ served. Serves served packet self.old self.new) }
         ensures no_port { port ≢ self.old.holder.port → (result ≡ None) × (self.new ≡ self.old) }
         ensures own_port { port ≡ self.old.holder.port → result ≢ None }
     {

@@ -1,6 +1,7 @@
 //! The texts, images and programs of files.
 
 ghost use Rattle.std.specs.Prelude.{◌≡◌, IfErr, IfOk, MatchResult, None, Some, [], string_bytes};
+ghost use Rattle.machine.specs.Runs.{IsSafe};
 ghost use Rattle.commands.specs.Files.{HoldsImage, HoldsNoText};
 ghost use Rattle.commands.specs.Reading.{IsNoImage, IsNoProgram};
 ghost use Rattle.commands.specs.declared.faults.Fault.TheVariants.{CannotRead};
@@ -20,7 +21,9 @@ pub fn no_maps() -> MapSizes
 
 /// The bytes of the file of this name.
 fn bytes_in<'a, F: Files>(alloc: Global, files: &mut F, name: &'a str) -> Result<Vec<u8>, Fault<'a>>
-    ensures gave { MatchResult result (λ bytes. F.reads files.old name.now (Some bytes.items) files.new) (λ _. F.reads files.old name.now None files.new) }
+    ensures gave { MatchResult result
+        (λ bytes. F.reads files.old name.now (Some bytes.items) files.new)
+        (λ _. F.reads files.old name.now None files.new) }
     ensures refused { IfErr result (λ fault. fault ≡ CannotRead name.entry) }
 {
     files.read(alloc, name).map_err(|_| Fault::CannotRead(name))
@@ -32,7 +35,9 @@ pub fn text_in<'a, F: Files>(
     files: &mut F,
     name: &'a str,
 ) -> Result<String, Fault<'a>>
-    ensures gave { MatchResult result (λ text. F.reads files.old name.now (Some (string_bytes text)) files.new) (λ _. HoldsNoText F.reads files.old name.now files.new) }
+    ensures gave { MatchResult result
+        (λ text. F.reads files.old name.now (Some (string_bytes text)) files.new)
+        (λ _. HoldsNoText F.reads files.old name.now files.new) }
     ensures refused { IfErr result (λ fault. fault ≡ CannotRead name.entry) }
 {
     let bytes = bytes_in(alloc, files, name)?;
@@ -61,8 +66,10 @@ pub fn program_in<'a, F: Files>(
     files: &mut F,
     name: &'a str,
 ) -> Result<Accepted, Fault<'a>>
-    ensures program { IfOk result (λ program. HoldsImage F.reads files.old name.now program.program files.new) }
+    ensures program { IfOk result (λ program.
+        HoldsImage F.reads files.old name.now program.program files.new) }
     ensures sizes { IfOk result (λ program. program.sizes ≡ []) }
+    ensures safe { IfOk result (λ program. IsSafe program.program []) }
     ensures refused { IfErr result (IsNoProgram F.reads files.old name.now files.new) }
 {
     let image = image_in(alloc, files, name)?;

@@ -19,9 +19,13 @@ pub trait Files {
 
     /// The bytes of the file `name`; `Cannot` where it cannot be read, or memory is refused.
     fn read(&mut self, alloc: Global, name: &str) -> Result<Vec<u8>, Cannot>
-        ensures gave { MatchResult result (λ bytes. reads self.old name.now (Some bytes.items) self.new) (λ _. reads self.old name.now None self.new) };
+        ensures gave { MatchResult result
+            (λ bytes. reads self.old name.now (Some bytes.items) self.new)
+            (λ _. reads self.old name.now None self.new) };
 
     /// Makes `bytes` the content of the file `name`; `Cannot` where it cannot be written.
     fn write(&mut self, name: &str, bytes: &[u8]) -> Result<(), Cannot>
-        ensures took { MatchResult result (λ _. writes self.old name.now bytes.now true self.new) (λ _. writes self.old name.now bytes.now false self.new) };
+        ensures took { MatchResult result
+            (λ _. writes self.old name.now bytes.now true self.new)
+            (λ _. writes self.old name.now bytes.now false self.new) };
 }

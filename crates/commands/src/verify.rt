@@ -1,18 +1,18 @@
 //! The job `verify`.
 
 ghost use Rattle.std.specs.Prelude.{◌≡◌, IfErr, IfOk, OnOk, codes, false};
-ghost use Rattle.std.specs.Io.KnownBytes.{Appends};
 ghost use Rattle.clap.specs.Simple.{app_of};
 ghost use Rattle.clap.specs.declared.builder.command.Command.TheViews.{out-Command as fields_of};
 ghost use Rattle.clap.specs.Walk.{rows_of};
 ghost use Rattle.clap.specs.Matches.{found_of};
 ghost use Rattle.commands.specs.Arguments.{Lacks};
 ghost use Rattle.commands.specs.Reading.{IsNoProgram};
+ghost use Rattle.commands.specs.Printed.{Prints};
 ghost use Rattle.commands.specs.Stops.{StopsBy};
 ghost use Rattle.commands.specs.Verified.{Verifies};
 ghost use Rattle.commands.specs.VerifyJob.{NamesVerify, accepted_line, verify_app};
 
-use crate::arguments::{file, name_of};
+use crate::arguments::{image_command, name_of};
 use crate::jobs::Job;
 use crate::programs::program_in;
 use crate::stops::Stop;
@@ -27,11 +27,8 @@ pub fn verify_command<'a>(alloc: Global) -> Result<Command<'a>, AllocError>
     ensures shape { IfOk result (λ c. app_of c ≡ verify_app) }
     ensures local { IfOk result (λ c. (fields_of c).has_globals ≡ false) }
 {
-    let help = "The file of the BPF image, or - for standard input";
-    let image = file(alloc, "image", "FILE", help);
-    Command::new(alloc, "verify")
-        .about("Tells whether a BPF image may judge, or why it is refused")
-        .arg(image)
+    let about = "Tells whether a BPF image may judge, or why it is refused";
+    image_command(alloc, "verify", about)
 }
 
 /// The job of `verify` with these matches.
@@ -45,7 +42,7 @@ pub fn verify_job(alloc: Global, found: &ArgMatches) -> Result<Job, UsageFault>
 
 /// Prints that a program may judge: `accepted weight W budget B`.
 fn print_accepted<W: Write>(out: &mut W, weight: u64, budget: u32) -> io::Result<()>
-    ensures { OnOk result (Appends (W.contents out.old) (W.contents out.new) (accepted_line weight budget)) }
+    ensures { OnOk result (Prints W.contents out.old out.new (accepted_line weight budget)) }
 {
     writeln!(out, "accepted weight {weight} budget {budget}")
 }
@@ -60,7 +57,8 @@ pub fn verify_file<'a, F: Files, W: Write>(
     files: &mut F,
     out: &mut W,
 ) -> Result<(), Stop<'a>>
-    ensures done { OnOk result (Verifies F.reads files.old image.now files.new (W.contents out.old) (W.contents out.new)) }
+    ensures done { OnOk result (Verifies F.reads files.old image.now files.new
+        (W.contents out.old) (W.contents out.new)) }
     ensures stops { IfErr result (StopsBy (IsNoProgram F.reads files.old image.now files.new)) }
     ensures quiet { IfErr result (StopsBy (λ _. W.contents out.new ≡ W.contents out.old)) }
 {

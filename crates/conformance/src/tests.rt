@@ -2,7 +2,6 @@
 
 mod assembling;
 mod faults;
-mod folder;
 mod images;
 mod nodes;
 mod programs;
@@ -12,33 +11,38 @@ mod usage;
 mod verifying;
 mod writers;
 
-use commands::{perform, words};
-use folder::Folder;
+use crate::{Folder, perform_in};
+use commands::{Cannot, Files, words};
 use std::alloc::Global;
 use std::test::Fail;
 pub use trial::{PLAIN_READ, PLAIN_REPLY};
 
-/// What a job printed, its exit status, and the bytes that it wrote to a file.
+/// What a job printed, its exit status, and the folder as it left it.
 #[derive(Drop)]
 pub struct Outcome {
     pub printed: String,
     pub status: u8,
-    pub written: Vec<u8>,
+    pub folder: Folder,
+}
+
+/// A folder of these files.
+pub fn folder_of(alloc: Global, files: &[(&str, &[u8])]) -> Result<Folder, Cannot> {
+    let mut folder = Folder::new(alloc);
+    for (name, bytes) in files {
+        folder.write(name, bytes)?;
+    }
+    Ok(folder)
 }
 
 /// What comes of these words over these files.
 pub fn done(alloc: Global, given: &[&str], files: &[(&str, &[u8])]) -> Result<Outcome, Fail> {
     let job = words(alloc, given)?;
-    let mut out = Vec::new(alloc);
-    let mut folder = Folder {
-        files,
-        written: Vec::new(alloc),
-    };
-    let status = perform(alloc, &job, &mut folder, &mut out)?;
+    let mut folder = folder_of(alloc, files).map_err(|_| "no folder")?;
+    let (out, status) = perform_in(alloc, &job, &mut folder)?;
     Ok(Outcome {
         printed: String::from_utf8(out)?,
         status,
-        written: folder.written,
+        folder,
     })
 }
 

@@ -6,14 +6,14 @@ use Rattle.bpf.specs.Program.{Program}
 use Rattle.machine.specs.declared.calls.Call.{Call}
 use Rattle.machine.specs.Memory.{Header}
 use Rattle.machine.specs.State.{State, entry_state}
-use Rattle.machine.specs.Step.{Outcome, Next, Ask, Verdict, Trap, step}
+use Rattle.machine.specs.Step.{Question, Outcome, Next, Ask, Verdict, Trap, step}
 use Rattle.machine.specs.Runs.{Path, entry, moves, answered, Runs, call}
 
 -- the state after an outcome, with the calls that are left
 abbrev goes : Outcome → List Call → Option (State × List Call)
 goes (Next t) calls = Some (t, calls)
-goes (Ask helper map key on) [] = None
-goes (Ask helper map key on) (c ∷ calls) = Some (on c.answer, calls)
+goes (Ask question on) [] = None
+goes (Ask question on) (c ∷ calls) = Some (on c.answer, calls)
 goes (Verdict verdict) calls = None
 goes Trap calls = None
 
@@ -28,8 +28,8 @@ after program header port calls (suc n) = goes_from program header (after progra
 goes_moves : (o : Outcome) (t : State) (calls : List Call) → o ≡ Next t → goes o calls ≡ Some (t, calls)
 goes_moves o t calls e = rw e refl
 
-goes_asks : (o : Outcome) (helper map key : ℕ) (on : ℕ → State) (c : Call) (calls : List Call) → o ≡ Ask helper map key on → goes o (c ∷ calls) ≡ Some (on c.answer, calls)
-goes_asks o helper map key on c calls e = rw e refl
+goes_asks : (o : Outcome) (question : Question) (on : ℕ → State) (c : Call) (calls : List Call) → o ≡ Ask question on → goes o (c ∷ calls) ≡ Some (on c.answer, calls)
+goes_asks o question on c calls e = rw e refl
 
 goes_ends : (o : Outcome) (verdict : ℕ) (calls : List Call) → o ≡ Verdict verdict → goes o calls ≡ None
 goes_ends o verdict calls e = rw e refl
@@ -44,11 +44,11 @@ follows : (program : Program) (header : Header) (port : ℕ) (calls : List Call)
 follows program header port calls n s entry rest = refl
 follows program header port calls (suc n) t (moves {s = s} path e) rest =
     from_some program header _ s rest (follows program header port calls n s path rest) ∙ goes_moves _ t rest e
-follows program header port calls (suc n) t (answered {calls = before} {s = s} {helper = helper} {map = map} {key = key} {on = on} answer path e small) rest =
-    let given = call helper map key answer in
+follows program header port calls (suc n) t (answered {calls = before} {s = s} {question = question} {on = on} answer path e small) rest =
+    let given = call question answer in
     let together = append_assoc before (given ∷ []) rest in
     let earlier = follows program header port before n s path (given ∷ rest) in
-    ap (λ (xs : List Call). after program header port xs (suc n)) together ∙ (from_some program header _ s (given ∷ rest) earlier ∙ goes_asks _ helper map key on given rest e)
+    ap (λ (xs : List Call). after program header port xs (suc n)) together ∙ (from_some program header _ s (given ∷ rest) earlier ∙ goes_asks _ question on given rest e)
 
 -- where it ended, it goes no further
 ended : (program : Program) (header : Header) (port : ℕ) (calls : List Call) (n m : ℕ) → n ≤ m → after program header port calls n ≡ None → after program header port calls m ≡ None

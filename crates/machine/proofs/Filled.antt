@@ -3,9 +3,9 @@ use Rattle.std.proofs.Common.{ℕ, ◌++◌, List, length, take, drop, refl, ◌
 use Rattle.std.specs.Prelude.{replicate}
 use Rattle.std.proofs.lemmas.List.{drop-replicate, drop_at, take_at, length-append, length-drop}
 use Rattle.machine.specs.Padding.{IsPadded}
-use Rattle.machine.specs.Sizes.{AreSizes}
+use Rattle.machine.specs.Sizes.{Maps, AreSizes}
 
-pub is_filled : (sizes : List ℕ) → AreSizes sizes → IsPadded (length sizes) (sizes ++ drop (length sizes) (replicate 8 0)) × AreSizes (take (length sizes) (sizes ++ drop (length sizes) (replicate 8 0)))
+pub is_filled : (sizes : Maps) → AreSizes sizes → IsPadded (length sizes) (sizes ++ drop (length sizes) (replicate 8 0)) × AreSizes (take (length sizes) (sizes ++ drop (length sizes) (replicate 8 0)))
 is_filled sizes h =
     let zeros : List ℕ = replicate 8 0 in
     let rest = drop (length sizes) zeros in

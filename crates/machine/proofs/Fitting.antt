@@ -23,6 +23,7 @@ use Rattle.bpf_insn.specs.declared.insn.Callee.{Callee}
 use Rattle.bpf_insn.specs.declared.insn.Callee.TheVariants.{Helper, Local, ByTypeId}
 use Rattle.bpf_insn.specs.declared.insn.Insn.{Insn}
 use Rattle.bpf_insn.specs.declared.insn.Insn.TheVariants as insns
+use Rattle.bpf_insn.specs.Flow.{flow_of}
 use Rattle.bpf_insn.specs.Spelling.{IsInsn, second_immediate}
 use Rattle.bpf.specs.Program.{Program, IsProgram, AreSlots}
 use Rattle.machine.specs.declared.calls.Call.{Call}
@@ -31,9 +32,10 @@ use Rattle.machine.specs.declared.regions.Region.TheVariants.{Front, Tail, Stack
 use Rattle.machine.specs.declared.values.Value.{Value}
 use Rattle.machine.specs.declared.values.Value.TheVariants.{Unset, Num, Ptr, Map}
 use Rattle.machine.specs.Words.{modulus, low, word, alu_words, negated, extended, swapped, holds_words}
-use Rattle.machine.specs.Memory.{Header, IsHeader, place_of, byte_of, byte_below, little, load_bytes, loaded}
+use Rattle.bpf_insn.specs.Sizes.{load_bytes}
+use Rattle.machine.specs.Memory.{Header, IsHeader, place_of, byte_of, byte_below, little, loaded}
 use Rattle.machine.specs.State.{State, entry_state}
-use Rattle.machine.specs.Step.{Outcome, Next, Ask, Verdict, Trap, operand, on_number, copied, copied_by, moved_by, alu, writes, lands, branches, compares, load_value, bytes_at, loads, puts, stores, map_at, is_helper, answered, asks, calls, exits, perform, perform_at, insn_at, step}
+use Rattle.machine.specs.Step.{Outcome, Next, Ask, Verdict, Trap, operand, on_number, copied, copied_by, moved_by, alu, writes, lands, branches, compares, load_value, bytes_at, loads, puts, stores, map_at, is_helper, answered, asks, calls, exits, perform, knows_flow, perform_in, insn_at, step}
 use Rattle.machine.specs.Runs.{Path, entry, moves, Runs}
 use Rattle.machine.specs.Runs as runs
 use Rattle.machine.specs.Laws.{FitsWord, FitsByte, IsBounded}
@@ -196,7 +198,7 @@ either_byte false x y h k = k
 -- what an outcome leads to: a state that is bounded, whatever word is answered, or a verdict that is a word
 abbrev IsBoundedAfter : Outcome → Type 0
 IsBoundedAfter (Next t) = IsBounded t
-IsBoundedAfter (Ask helper map key on) = (answer : ℕ) → answer < 2 ^ 64 → IsBounded (on answer)
+IsBoundedAfter (Ask question on) = (answer : ℕ) → answer < 2 ^ 64 → IsBounded (on answer)
 IsBoundedAfter (Verdict verdict) = verdict < 2 ^ 64
 IsBoundedAfter Trap = Unit {0}
 
@@ -313,9 +315,9 @@ module _ (header : Header) (s : State) (is_header : IsHeader header) (bounded : 
   perform_fits (insns.Negate width dst) i = writes_fit _ dst _ (on_number_fits (negated width) (negated_fits width) (s.registers dst) (bounded.registers dst))
   perform_fits (insns.MoveSigned extension dst src) i = writes_fit _ dst _ (on_number_fits (extended extension) (extended_fits extension) (s.registers src) (bounded.registers src))
   perform_fits (insns.ByteSwap swap bits dst) i = writes_fit _ dst _ (on_number_fits (swapped swap bits) (swapped_fits swap bits) (s.registers dst) (bounded.registers dst))
-  perform_fits (insns.Load size dst base offset) i = writes_fit _ dst _ (loads_fit size (s.registers base) offset)
-  perform_fits (insns.Store size base offset src) i = stores_fit size (s.registers base) offset (operand s src)
-  perform_fits (insns.Jump condition width dst src offset) i = compares_fit condition width offset (s.registers dst) (operand s src)
+  perform_fits (insns.Load size dst place) i = writes_fit _ dst _ (loads_fit size (s.registers place.base) place.offset)
+  perform_fits (insns.Store size place src) i = stores_fit size (s.registers place.base) place.offset (operand s src)
+  perform_fits (insns.Jump comparison offset) i = compares_fit comparison.condition comparison.width offset (s.registers comparison.dst) (operand s comparison.src)
   perform_fits (insns.Goto distance) i = lands_fit _
   perform_fits (insns.Wide dst value) i = writes_fit (s.slot + 2) dst (Some (Num value)) i.1
   perform_fits (insns.LoadMap dst index) i = writes_fit _ dst _ (map_at_fits index)
@@ -339,13 +341,14 @@ insn_in false (None ∷ xs) slot h = absurd h
 insn_in false (Some insn ∷ xs) zero h = h.0
 insn_in false (Some insn ∷ xs) (suc slot) h = insn_in (is_some (second_immediate insn)) xs slot h.1
 
-perform_at_fits : (header : Header) (s : State) (insn : Option Insn) → IsHeader header → IsBounded s → IsInsnAt insn → IsBoundedAfter (perform_at header s insn)
-perform_at_fits header s None is_header bounded i = tt
-perform_at_fits header s (Some insn) is_header bounded i = perform_fits header s is_header bounded insn i
+perform_in_fits : (version : ℕ) (header : Header) (s : State) (insn : Option Insn) → IsHeader header → IsBounded s → IsInsnAt insn → IsBoundedAfter (perform_in version header s insn)
+perform_in_fits version header s None is_header bounded i = tt
+perform_in_fits version header s (Some insn) is_header bounded i =
+    where_so (knows_flow version (flow_of insn)) _ (perform_fits header s is_header bounded insn i)
 
 step_fits : (program : Program) (header : Header) (s : State) → IsProgram program → IsHeader header → IsBounded s → IsBoundedAfter (step program header s)
 step_fits program header s is_program is_header bounded =
-    perform_at_fits header s (insn_at program s.slot) is_header bounded (insn_in false program.slots s.slot is_program.code)
+    perform_in_fits program.version header s (insn_at program s.slot) is_header bounded (insn_in false program.slots s.slot is_program.code)
 
 entry_fits : (port : ℕ) → port < 32 → IsBounded (entry_state port)
 entry_fits port h =

@@ -2,3 +2,5 @@ mod Agreement
 mod Results
 mod Fitting
 mod Filled
+mod Leaving
+mod Reading

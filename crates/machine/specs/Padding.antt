@@ -2,9 +2,10 @@
 use Rattle.std.specs.Prelude.{◌≡◌, ◌≤◌, ℕ, ◌-◌, List, ◌++◌, length, replicate, take, drop}
 use Rattle.std.proofs.Common.{sym, ap, ◌∙◌, arith}
 use Rattle.std.proofs.lemmas.List.{length-take, take-append-drop}
+use Rattle.machine.specs.Sizes.{Maps}
 
 -- a list of at most eight sizes, with zeros up to eight
-abbrev pub padded : List ℕ → List ℕ
+abbrev pub padded : Maps → List ℕ
 padded sizes = sizes ++ replicate (8 - length sizes) 0
 
 -- there are eight cells, and all behind so many are zero

@@ -1,7 +1,7 @@
 //! Laws of the machine: what its definition comes to. These functions do nothing; their contracts are
 //! the laws.
 
-ghost use Rattle.machine.specs.Laws.{RunsAgree, SizesOnlyTrap, StepsLeave, ResultsFit, NumbersFit, VerdictsFit};
+ghost use Rattle.machine.specs.Laws.{RunsAgree, SizesOnlyTrap, StepPerforms, InstructionsLeave, StepsLeave, InstructionsGoOn, QuestionsGoOn, BytesAreRead, ResultsFit, NumbersFit, VerdictsFit};
 
 /// A run has one verdict, and one number of steps, for a header, a port and a list of helper calls.
 pub fn runs_agree()
@@ -13,10 +13,28 @@ pub fn sizes_only_trap()
     ensures { SizesOnlyTrap }
 {}
 
-/// Jumps leave the registers and the stack, stores leave the registers, and all else leaves the stack.
-/// The header is no part of the state, so nothing changes it.
+/// In version 1 of the format, a step is what the instruction at the state's slot does: of what version 1
+/// does not know each is a trap anyway.
+pub fn steps_perform()
+    ensures { StepPerforms }
+{}
+
+/// An instruction leaves the registers that it does not write, and the stack unless it is a store, also
+/// across a helper's answer. The header is no part of the state, so nothing changes it.
 pub fn steps_leave()
-    ensures { StepsLeave }
+    ensures instructions { InstructionsLeave }
+    ensures steps { StepsLeave }
+{}
+
+/// A question goes on with the answer in r0, r1 to r5 unset, and all else as it was, at the next slot.
+pub fn questions_go_on()
+    ensures instructions { InstructionsGoOn }
+    ensures steps { QuestionsGoOn }
+{}
+
+/// What was stored is loaded again: the low bytes of the number, little-endian (RFC 9669, section 5).
+pub fn stored_bytes_are_read()
+    ensures { BytesAreRead }
 {}
 
 /// Of words, each operation gives a word, and at 32 bits one whose upper half is zero.

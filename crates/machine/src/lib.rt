@@ -6,7 +6,6 @@
 #![tactic(auto)]
 
 mod calls;
-mod jumps;
 mod laws;
 mod memory;
 mod regions;
@@ -15,10 +14,12 @@ mod values;
 mod words;
 
 pub use calls::Call;
-pub use jumps::distance_of;
-pub use laws::{numbers_fit, results_fit, runs_agree, sizes_only_trap, steps_leave};
-pub use memory::{load_bytes, loaded, size_bytes};
-pub use regions::Region;
+pub use laws::{
+    numbers_fit, questions_go_on, results_fit, runs_agree, sizes_only_trap, steps_leave,
+    steps_perform, stored_bytes_are_read,
+};
+pub use memory::loaded;
+pub use regions::{Region, STACK_SIZE};
 pub use sizes::{MapSizes, TooMany};
 pub use values::Value;
-pub use words::{alu_words, extended, holds_words, low, negated, swapped, word};
+pub use words::{alu_words, extended, holds_words, low, modulus, negated, swapped, word};

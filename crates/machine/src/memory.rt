@@ -1,26 +1,11 @@
-//! How many bytes loads and stores take, and what they give (RFC 9669, section 5).
+//! What the bytes of a load give (RFC 9669, section 5).
 
-ghost use Rattle.std.specs.Prelude.{◌≡◌, ◌^◌, ◌<◌, ◌≤◌};
-ghost use Rattle.machine.specs.Memory.{loaded, load_bytes, size_bytes};
+ghost use Rattle.std.specs.Prelude.{◌≡◌, ◌^◌, ◌<◌};
+ghost use Rattle.bpf_insn.specs.Sizes.{load_bytes};
+ghost use Rattle.machine.specs.Memory.{loaded};
 
 use crate::words::word;
-use bpf_insn::{LoadSize, Size};
-
-/// How many bytes a store writes.
-pub fn size_bytes(size: Size) -> usize
-    ensures value { result ≡ size_bytes size }
-    ensures few { result ≤ 8 }
-{
-    size.bytes()
-}
-
-/// How many bytes a load reads.
-pub fn load_bytes(size: LoadSize) -> usize
-    ensures value { result ≡ load_bytes size }
-    ensures few { result ≤ 8 }
-{
-    size.bytes()
-}
+use bpf_insn::LoadSize;
 
 /// The word that the bytes of a load give.
 pub fn loaded(size: LoadSize, n: u64) -> u64

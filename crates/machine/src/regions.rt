@@ -3,6 +3,9 @@
 ghost use Rattle.std.specs.Prelude.{◌≡◌};
 ghost use Rattle.machine.specs.Memory.{region_size};
 
+/// How many bytes the stack has.
+pub const STACK_SIZE: usize = 512;
+
 /// A region of memory (a choice of this project; RFC 9669 leaves memory to the runtime).
 #[derive(Clone, Copy, Debug, PartialEq, Eq)]
 pub enum Region {
@@ -22,7 +25,7 @@ impl Region {
         match self {
             Region::Front => 4,
             Region::Tail => 12,
-            Region::Stack => 512,
+            Region::Stack => STACK_SIZE,
         }
     }
 }

@@ -25,11 +25,11 @@ pub struct MapSizes {
 }
 
 impl Model for MapSizes {
-    ghost use Rattle.std.specs.Prelude.{◌≡◌, ◌≤◌, ◌-◌, ◌++◌, ℕ, List, length, take, drop, replicate};
-    ghost use Rattle.machine.specs.Sizes.{AreSizes};
+    ghost use Rattle.std.specs.Prelude.{◌≡◌, ◌≤◌, ◌-◌, ◌++◌, length, take, drop, replicate};
+    ghost use Rattle.machine.specs.Sizes.{Maps, AreSizes};
     ghost use Rattle.machine.specs.Padding.{IsPadded, padded, length-front, padded-front};
 
-    ghost Value = { List ℕ };
+    ghost Value = { Maps };
 
     ghost view = { λ s. take s.count s.cells };
 

@@ -1,6 +1,6 @@
 //! Arithmetic on words (RFC 9669, section 4): what each operation does with two numbers.
 
-ghost use Rattle.std.specs.Prelude.{◌≡◌, ◌^◌, ◌<◌};
+ghost use Rattle.std.specs.Prelude.{◌≡◌, ◌^◌, ◌<◌, ◌≤◌};
 ghost use Rattle.machine.specs.Words.{bits_of, modulus, low, signed, wrapped, word, quotient, remainder, signed_quotient, signed_remainder, alu_low, alu_words, negated, extended, low_bits, reversed, swapped, holds_low, holds_words};
 
 use bpf_insn::{AluOp, Condition, Extension, Swap, SwapBits, Width};
@@ -12,6 +12,17 @@ fn bits_of(width: Width) -> u64
     match width {
         Width::Bits32 => 32,
         Width::Bits64 => 64,
+    }
+}
+
+/// One more than the greatest number of this width: 2^32 or 2^64.
+pub fn modulus(width: Width) -> u128
+    ensures value { result ≡ modulus width }
+    ensures bound { result ≤ 2 ^ 64 }
+{
+    match width {
+        Width::Bits32 => 1 << 32,
+        Width::Bits64 => 1 << 64,
     }
 }
 

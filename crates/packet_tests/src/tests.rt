@@ -1,8 +1,10 @@
 //! What no clause says, crate by crate: values from outside, printed words, each call once, and memory
 //! that is refused.
 
+mod admissions;
 mod banks;
 mod crc;
+mod journals;
 mod lines;
 mod nodes;
 mod protocol;

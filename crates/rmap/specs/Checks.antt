@@ -1,12 +1,13 @@
 -- The checks of a command, in the order in which they decide. The standard names the errors
 -- (ECSS-E-ST-50-52C, write action, read action, read-modify-write action, error and status codes);
 -- their order is a choice of this target.
-use Rattle.std.specs.Prelude.{ℕ, ◌+◌, Bool, false, ◌==◌, ◌&&◌, ◌||◌, not, nat_lt, if◌then◌else◌, List, length, take, slice_index, Option, None, Some, is_none}
+use Rattle.std.specs.Prelude.{◌≡◌, ℕ, ◌+◌, Bool, false, ◌==◌, ◌&&◌, ◌||◌, not, nat_lt, if◌then◌else◌, List, length, take, slice_index, Option, None, Some, is_none}
 use Rattle.rcrc.specs.Crc.{crc_of}
 use Rattle.spw.specs.declared.packets.End.{End}
 use Rattle.spw.specs.declared.packets.End.TheVariants.{Eop, Eep}
 use Rattle.rmap.specs.declared.kind.Kind.{Kind}
 use Rattle.rmap.specs.declared.kind.Kind.TheVariants.{Read, Write, Rmw, Unused}
+use Rattle.rmap.specs.declared.places.Place.{Place}
 use Rattle.rmap.specs.declared.status.Status.{Status}
 use Rattle.rmap.specs.declared.status.Status.TheVariants.{UnusedCode, InvalidDataCrc, EarlyEndOfPacket, TooMuchData, ErrorEndOfPacket, VerifyBufferOverrun, NotAuthorised, RmwDataLength, InvalidLogicalAddress}
 use Rattle.rmap.specs.Instruction.{is_used, carries_data}
@@ -35,6 +36,14 @@ header_line c w =
     else if verifies c && nat_lt 1024 (length_of c) then Some VerifyBufferOverrun
     else if nat_lt 4096 (length_of c) || is_none (place_of c w) then Some NotAuthorised
     else None
+
+-- no check of the header stops the command, and its bytes have that place
+abbrev pub Passes : CommandValue → WindowsValue → Place → Type 0
+Passes c w place = (header_line c w ≡ None) × (place_of c w ≡ Some place)
+
+-- the first check of the header that stops the command has that status
+abbrev pub Stops : CommandValue → WindowsValue → Status → Type 0
+Stops c w status = header_line c w ≡ Some status
 
 -- how many bytes should follow the header: data and data CRC, or none
 abbrev pub wanted : CommandValue → ℕ

@@ -1,6 +1,6 @@
 -- Commands as bytes (ECSS-E-ST-50-52C, write command format, read command format and
 -- read-modify-write command format). Fields of several bytes have the most significant byte first.
-use Rattle.std.specs.Prelude.{◌≡◌, ◌≤◌, ℕ, ◌+◌, ◌-◌, Bool, ◌==◌, not, nat_lt, if◌then◌else◌, List, [], ◌∷◌, ◌++◌, length, take, drop, slice_index, Option, None, Some}
+use Rattle.std.specs.Prelude.{◌≡◌, ◌≤◌, ℕ, ◌+◌, ◌-◌, Bool, ◌==◌, not, nat_lt, if◌then◌else◌, List, [], ◌∷◌, ◌++◌, length, take, drop, slice_index, Option, None, Some, Result, Ok}
 use Rattle.byteorder.specs.Endian.{big_bytes, big_number}
 use Rattle.rcrc.specs.Crc.{crc_of}
 use Rattle.spw.specs.declared.packets.End.{End}
@@ -122,6 +122,14 @@ discard_of bytes =
     else if nat_lt (length bytes) (header_length bytes) then Some Short
     else if not (has_header_crc bytes) then Some HeaderCrc
     else None
+
+-- the bytes are discarded for that reason
+abbrev pub IsDiscarded : List ℕ → Discard → Type 0
+IsDiscarded bytes reason = discard_of bytes ≡ Some reason
+
+-- any command that stands to the packet's bytes, with the packet's end, is the one that is given
+abbrev pub GivesAnyCommandOf : Cargo → Result CommandValue Discard → Type 0
+GivesAnyCommandOf p given = (c : CommandValue) → IsCommand p.bytes c → c.end ≡ p.end → given ≡ Ok c
 
 -- the four fields in front of the reply address
 abbrev pub front_fields : CommandValue → List ℕ

@@ -52,6 +52,10 @@ reply_of c status bytes =
     if wants_reply c then reply_path_of c.path ++ with_crc (reply_header c status bytes) ++ reply_body c bytes
     else []
 
+-- the CRC of the bytes is their remainder
+abbrev pub HasRemainder : List ℕ → Type 0
+HasRemainder bytes = IsRemainder bytes (crc_of bytes)
+
 -- the CRC of a reply's header is the remainder of the header, and in read form that of its data the
 -- remainder of the data (ECSS-E-ST-50-52C, header CRC field and data CRC field)
 pub record HasRemainders (c : CommandValue) (bytes reply : List ℕ) : Type 0 where

@@ -3,7 +3,7 @@
 ghost use Rattle.std.specs.Prelude.{◌≡◌, MatchResult, None, Some};
 ghost use Rattle.rmap.specs.Command.{length_of};
 ghost use Rattle.rmap.specs.Windows.{place_of};
-ghost use Rattle.rmap.specs.Checks.{header_line, body_line, wanted, has_wrong_rmw_length};
+ghost use Rattle.rmap.specs.Checks.{Passes, Stops, header_line, body_line, wanted, has_wrong_rmw_length};
 
 use crate::boot::{BOOT_WINDOW, boot_place};
 use crate::command::Command;
@@ -50,7 +50,7 @@ fn has_wrong_rmw_length(kind: Kind, length: u32) -> bool
 /// verify, then more than 4,096 bytes or a place that is not allowed (ECSS-E-ST-50-52C, error and
 /// status codes).
 pub fn checked_place(command: &Command, windows: &Windows) -> Result<Place, Status>
-    ensures { MatchResult result (λ place. (header_line command.now windows.now ≡ None) × (place_of command.now windows.now ≡ Some place)) (λ status. header_line command.now windows.now ≡ Some status) }
+    ensures { MatchResult result (Passes command.now windows.now) (Stops command.now windows.now) }
 {
     let length = command.length();
     let kind = command.kind();

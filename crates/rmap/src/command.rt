@@ -2,7 +2,7 @@
 
 ghost use Rattle.std.specs.Prelude.{◌≡◌, length, MatchResult, IfOk, None, Some};
 ghost use Rattle.rcrc.specs.Polynomial.{IsRemainder};
-ghost use Rattle.rmap.specs.Command.{CommandValue, IsCommand, IsHeader, discard_of, header_of, header_crc_of, target_of, instruction_of, key_of, initiator_of, transaction_of, extended_of, address_of, length_of, command_kind, writes, verifies, wants_reply, increments, header_length, command_of};
+ghost use Rattle.rmap.specs.Command.{IsCommand, IsHeader, IsDiscarded, GivesAnyCommandOf, discard_of, header_of, header_crc_of, target_of, instruction_of, key_of, initiator_of, transaction_of, extended_of, address_of, length_of, command_kind, writes, verifies, wants_reply, increments, header_length, command_of};
 ghost use Rattle.rmap.specs.Windows.{lies_inside};
 
 use crate::discard::Discard;
@@ -47,12 +47,12 @@ impl<'a> Command<'a> {
     ///
     /// Any command that stands to the bytes, with the packet's end, is the one that is given.
     pub fn view(packet: &'a Packet) -> Result<Command<'a>, Discard>
-        ensures command { MatchResult result (λ c. IsCommand packet.now.bytes c) (λ d. discard_of packet.now.bytes ≡ Some d) }
+        ensures command { MatchResult result (IsCommand packet.now.bytes) (IsDiscarded packet.now.bytes) }
         ensures end { MatchResult result (λ c. c.end ≡ packet.now.end) (λ _. Unit {0}) }
         ensures crc { IfOk result (λ c. IsRemainder (header_of c) (header_crc_of c)) }
         ensures kept { IfOk result (λ _. discard_of packet.now.bytes ≡ None) }
         ensures found { IfOk result (λ c. c ≡ command_of packet.now) }
-        ensures only { (c : CommandValue) → IsCommand packet.now.bytes c → c.end ≡ packet.now.end → result ≡ Ok c }
+        ensures only { GivesAnyCommandOf packet.now result }
     {
         let bytes = packet.bytes();
         let [_, protocol, instruction, ..] = bytes else {

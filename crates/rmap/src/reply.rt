@@ -6,7 +6,7 @@ ghost use Rattle.rmap.specs.declared.status.Status.TheVariants.{Success};
 ghost use Rattle.rcrc.specs.Crc.{crc_of};
 ghost use Rattle.rcrc.specs.Polynomial.{IsRemainder};
 ghost use Rattle.rmap.specs.Command.{wants_reply};
-ghost use Rattle.rmap.specs.Reply.{HasRemainders, reply_of, reply_header, reply_path_of, read_fields, with_crc, without_leading_zeros, reply_instruction};
+ghost use Rattle.rmap.specs.Reply.{HasRemainder, HasRemainders, reply_of, reply_header, reply_path_of, read_fields, with_crc, without_leading_zeros, reply_instruction};
 
 use crate::command::{Command, PROTOCOL};
 use crate::status::Status;
@@ -106,7 +106,7 @@ impl ReplyBuf {
         requires room { length self.old ≤ 12 }
         requires few { length bytes.now ≤ 4096 }
         ensures value { self.new ≡ self.old ++ with_crc (reply_header command.now status bytes.now) }
-        ensures remainder { IsRemainder (reply_header command.now status bytes.now) (crc_of (reply_header command.now status bytes.now)) }
+        ensures remainder { HasRemainder (reply_header command.now status bytes.now) }
     {
         let start = self.bytes().len();
         self.push_header(command, status, bytes);
@@ -118,7 +118,7 @@ impl ReplyBuf {
     fn push_checked(&mut self, bytes: &[u8])
         requires { length self.old + length bytes.now < MAX_REPLY }
         ensures value { self.new ≡ self.old ++ with_crc bytes.now }
-        ensures remainder { IsRemainder bytes.now (crc_of bytes.now) }
+        ensures remainder { HasRemainder bytes.now }
     {
         self.extend(bytes);
         self.push(crc(bytes));

@@ -23,6 +23,7 @@ use Rattle.bpf_insn.specs.declared.insn.Callee.TheVariants.{Helper, Local, ByTyp
 use Rattle.bpf_insn.specs.declared.insn.Insn.{Insn}
 use Rattle.bpf_insn.specs.declared.insn.Insn.TheVariants as insns
 use Rattle.machine.specs.Memory.{Header}
+use Rattle.machine.specs.Sizes.{Maps}
 use Rattle.machine.specs.State.{State, register_after, register_after_call}
 use Rattle.slow_machine.specs.Effects.{perform_with, outcome_of, registers_in}
 use Rattle.slow_machine.specs.declared.effects.Effect.{Effect}
@@ -119,7 +120,7 @@ AreAllNear limit registers = (k : ℕ) → IsNear limit (registers k)
 
 abbrev pub GoesOnNear : ℕ → Outcome → Type 0
 GoesOnNear limit (Next t) = AreAllNear limit t.registers
-GoesOnNear limit (Ask helper map key on) = Unit {0}
+GoesOnNear limit (Ask question on) = Unit {0}
 GoesOnNear limit (Verdict verdict) = Unit {0}
 GoesOnNear limit Trap = Unit {0}
 
@@ -238,9 +239,9 @@ module _ (limit : ℕ) (s : State) (all : AreAllNear limit s.registers) where
   perform_near header (insns.Negate width dst) = writes_near _ dst _ (on_number_near _ (s.registers dst))
   perform_near header (insns.MoveSigned extension dst src) = writes_near _ dst _ (on_number_near _ (s.registers src))
   perform_near header (insns.ByteSwap swap bits dst) = writes_near _ dst _ (on_number_near _ (s.registers dst))
-  perform_near header (insns.Load size dst base offset) = writes_near _ dst _ (loads_near header size (s.registers base) offset)
-  perform_near header (insns.Store size base offset src) = stores_near size (s.registers base) offset (operand s src)
-  perform_near header (insns.Jump condition width dst src offset) = compares_near condition width offset (s.registers dst) (operand s src)
+  perform_near header (insns.Load size dst place) = writes_near _ dst _ (loads_near header size (s.registers place.base) place.offset)
+  perform_near header (insns.Store size place src) = stores_near size (s.registers place.base) place.offset (operand s src)
+  perform_near header (insns.Jump comparison offset) = compares_near comparison.condition comparison.width offset (s.registers comparison.dst) (operand s comparison.src)
   perform_near header (insns.Goto distance) = lands_near _
   perform_near header (insns.Wide dst value) = writes_near (s.slot + 2) dst (Some (Num value)) tt
   perform_near header (insns.LoadMap dst index) = writes_near _ dst _ (map_at_near index)
@@ -248,13 +249,13 @@ module _ (limit : ℕ) (s : State) (all : AreAllNear limit s.registers) where
   perform_near header (insns.Call callee number) = calls_near callee number
   perform_near header insns.Exit = exits_near (s.registers 0)
 
-  pub perform_with_near : (sizes : List ℕ) (header : Header) (insn : Insn) → GoesOnNear (limit + 2 ^ 63) (perform_with sizes header s insn)
+  pub perform_with_near : (sizes : Maps) (header : Header) (insn : Insn) → GoesOnNear (limit + 2 ^ 63) (perform_with sizes header s insn)
   perform_with_near sizes header insn =
       where_so (limit + 2 ^ 63) (finds_maps sizes s (Some insn)) _ (perform_near header insn)
 
 pub turn_near : (limit : ℕ) (o : Outcome) (turn : Turn) (before after : State) → IsTurn o turn before after → AreAllNear limit before.registers → GoesOnNear (limit + 2 ^ 63) o → AreAllNear (limit + 2 ^ 63) after.registers
 turn_near limit (Next t) turn before after h near goes k = rw h.1 (goes k)
-turn_near limit (Ask helper map key on) turn before after h near goes k = rw h.1 (further limit (2 ^ 63) (before.registers k) (near k))
+turn_near limit (Ask question on) turn before after h near goes k = rw h.1 (further limit (2 ^ 63) (before.registers k) (near k))
 turn_near limit (Verdict verdict) turn before after h near goes k = rw h.1 (further limit (2 ^ 63) (before.registers k) (near k))
 turn_near limit Trap turn before after h near goes k = rw h.1 (further limit (2 ^ 63) (before.registers k) (near k))
 
@@ -265,7 +266,7 @@ near_along limit now f e h k =
     rw here (h k)
 
 -- one step more
-pub step_near : (steps : ℕ) (slot next : ℕ) (registers after : List Value) (stack bytes : List (Option ℕ)) (sizes : List ℕ) (header : Header) (insn : Insn) (effect : Effect) (turn : Turn) → AreNear (2 ^ 63 * steps) registers → outcome_of (state_with slot registers stack) effect ≡ perform_with sizes header (state_with slot registers stack) insn → IsTurn (outcome_of (state_with slot registers stack) effect) turn (state_with slot registers stack) (state_with next after bytes) → AreNear (2 ^ 63 * (steps + 1)) after
+pub step_near : (steps : ℕ) (slot next : ℕ) (registers after : List Value) (stack bytes : List (Option ℕ)) (sizes : Maps) (header : Header) (insn : Insn) (effect : Effect) (turn : Turn) → AreNear (2 ^ 63 * steps) registers → outcome_of (state_with slot registers stack) effect ≡ perform_with sizes header (state_with slot registers stack) insn → IsTurn (outcome_of (state_with slot registers stack) effect) turn (state_with slot registers stack) (state_with next after bytes) → AreNear (2 ^ 63 * (steps + 1)) after
 step_near steps slot next registers after stack bytes sizes header insn effect turn near same done =
     let limit = 2 ^ 63 * steps in
     let before = state_with slot registers stack in

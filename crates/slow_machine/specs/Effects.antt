@@ -9,8 +9,9 @@ use Rattle.machine.specs.declared.values.Value.{Value}
 use Rattle.machine.specs.declared.values.Value.TheVariants.{Unset}
 use Rattle.machine.specs.Memory.{Header, byte_after}
 use Rattle.slow_machine.specs.Bytes.{bytes_in}
+use Rattle.machine.specs.Sizes.{Maps}
 use Rattle.machine.specs.State.{State, state, register_after}
-use Rattle.machine.specs.Step.{Outcome, Next, Ask, Verdict, Trap, answered, asks, calls, is_cell, perform, finds_maps}
+use Rattle.machine.specs.Step.{Outcome, Next, Ask, Verdict, Trap, question, answered, asks, calls, is_cell, perform, finds_maps}
 
 -- a list of values, asked by register
 abbrev pub registers_in : List Value → ℕ → Value
@@ -25,7 +26,7 @@ abbrev pub outcome_of : State → Effect → Outcome
 outcome_of s (effects.Write register value slots) = Next (state (s.slot + slots) (register_after s.registers register value) s.stack)
 outcome_of s (effects.Put place bytes number) = Next (state (s.slot + 1) s.registers (byte_after s.stack bytes place number))
 outcome_of s (effects.Go slot) = Next (state slot s.registers s.stack)
-outcome_of s (effects.Ask helper map key) = Ask helper map key (answered s)
+outcome_of s (effects.Ask helper map key) = Ask (question helper map key) (answered s)
 outcome_of s (effects.Verdict verdict) = Verdict verdict
 outcome_of s effects.Trap = Trap
 
@@ -39,13 +40,13 @@ IsPlaced (effects.Verdict verdict) = Unit {0}
 IsPlaced effects.Trap = Unit {0}
 
 -- the question of a helper whose number is known, with maps of these sizes
-abbrev pub asks_with : (sizes : List ℕ) → State → (helper : ℕ) → Outcome
+abbrev pub asks_with : (sizes : Maps) → State → (helper : ℕ) → Outcome
 asks_with sizes s helper = if is_cell sizes (s.registers 1) (s.registers 2) then asks s (pos helper) (s.registers 1) (s.registers 2) else Trap
 
 -- a call with maps of these sizes
-abbrev pub calls_with : (sizes : List ℕ) → State → Callee → ℤ → Outcome
+abbrev pub calls_with : (sizes : Maps) → State → Callee → ℤ → Outcome
 calls_with sizes s callee number = if is_cell sizes (s.registers 1) (s.registers 2) then calls s callee number else Trap
 
 -- what an instruction does with maps of these sizes
-abbrev pub perform_with : (sizes : List ℕ) → Header → State → Insn → Outcome
+abbrev pub perform_with : (sizes : Maps) → Header → State → Insn → Outcome
 perform_with sizes header s insn = if finds_maps sizes s (Some insn) then perform header s insn else Trap

@@ -7,6 +7,7 @@ use Rattle.slow_machine.specs.declared.turns.Turn.TheVariants as turns
 use Rattle.machine.specs.Memory.{Header}
 use Rattle.slow_machine.specs.Bytes.{bytes_in}
 use Rattle.slow_machine.specs.Effects.{registers_in}
+use Rattle.machine.specs.Sizes.{Maps}
 use Rattle.machine.specs.State.{State, state}
 use Rattle.machine.specs.Step.{Outcome, Next, Ask, Verdict, Trap, step_with}
 
@@ -14,7 +15,7 @@ use Rattle.machine.specs.Step.{Outcome, Next, Ask, Verdict, Trap, step_with}
 pub record MachineValue : Type 0 where
   pub program : Program
   pub header : Header
-  pub sizes : List ℕ
+  pub sizes : Maps
   pub steps : ℕ
   pub slot : ℕ
   pub registers : List Value
@@ -35,14 +36,15 @@ step_of m = step_with m.sizes m.program m.header (state_of m)
 -- what a turn says of an outcome, and the state after it: as it was, where it is not the next one
 abbrev pub IsTurn : Outcome → Turn → (before after : State) → Type 0
 IsTurn (Next t) turn before after = (turn ≡ turns.Next) × (after ≡ t)
-IsTurn (Ask helper map key on) turn before after = (turn ≡ turns.Ask helper map key) × (after ≡ before)
+IsTurn (Ask question on) turn before after =
+    (turn ≡ turns.Ask question.helper question.map question.key) × (after ≡ before)
 IsTurn (Verdict verdict) turn before after = (turn ≡ turns.Verdict verdict) × (after ≡ before)
 IsTurn Trap turn before after = (turn ≡ turns.Trap) × (after ≡ before)
 
 -- whether an outcome is a helper's question
 abbrev pub IsAsk : Outcome → Type 0
 IsAsk (Next t) = ⊥
-IsAsk (Ask helper map key on) = Unit {0}
+IsAsk (Ask question on) = Unit {0}
 IsAsk (Verdict verdict) = ⊥
 IsAsk Trap = ⊥
 
@@ -53,7 +55,7 @@ pub record IsSameRun (m n : MachineValue) : Type 0 where
   pub sizes : n.sizes ≡ m.sizes
 
 -- the run of a program on the parts of a header, with maps of these sizes
-pub record IsRunOf (m : MachineValue) (image : Program) (front tail maps : List ℕ) : Type 0 where
+pub record IsRunOf (m : MachineValue) (image : Program) (front tail : List ℕ) (maps : Maps) : Type 0 where
   pub program : m.program ≡ image
   pub header : m.header ≡ record { front = front; tail = tail }
   pub sizes : m.sizes ≡ maps

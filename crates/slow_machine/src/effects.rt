@@ -10,11 +10,10 @@ ghost use Rattle.machine.specs.Step.{operand, writes, lands, jumps, compares, lo
 use crate::arithmetic::{alu, byte_swap, move_signed, negate, number};
 use crate::memory::{Memory, place_of, read};
 use bpf_insn::{
-    AluOp, Callee, Condition, Insn, LoadSize, Operand, Register, Size, Swap, SwapBits, Width,
+    AluOp, Callee, Comparison, Condition, FRAME_POINTER, Insn, LoadSize, Operand, REGISTERS,
+    Register, Size, Swap, SwapBits, Width,
 };
-use machine::{
-    MapSizes, Region, Value, distance_of, holds_words, load_bytes, loaded, size_bytes, word,
-};
+use machine::{MapSizes, Region, Value, holds_words, loaded, word};
 
 /// What an instruction does.
 #[derive(Clone, Copy)]
@@ -49,7 +48,7 @@ pub enum Effect {
 #[derive(Clone, Copy)]
 pub struct Frame<'a> {
     pub slot: u32,
-    pub registers: &'a [Value; 11],
+    pub registers: &'a [Value; REGISTERS],
     pub memory: Memory<'a>,
 }
 
@@ -58,7 +57,7 @@ fn value_at(frame: Frame<'_>, number: u8) -> Value
     requires { number ≤ 10 }
     ensures { result ≡ slice_index_or frame.entry.registers.now number Value.Unset }
 {
-    let registers: &[Value; 11] = frame.registers;
+    let registers: &[Value; REGISTERS] = frame.registers;
     registers[usize::from(number)]
 }
 
@@ -88,7 +87,7 @@ fn write(frame: Frame<'_>, register: Register, value: Option<Value>, slots: u32)
     match value {
         None => Effect::Trap,
         Some(value) => {
-            if register.number() == 10 {
+            if register.number() == FRAME_POINTER {
                 Effect::Trap
             } else {
                 Effect::Write {
@@ -181,7 +180,7 @@ fn load(frame: Frame<'_>, size: LoadSize, base: Value, offset: i16) -> Option<Va
         } => match read(
             frame.memory,
             region,
-            load_bytes(size),
+            size.bytes(),
             start + i128::from(offset),
         ) {
             Some(number) => Some(Value::Num(loaded(size, number))),
@@ -212,7 +211,7 @@ fn store(frame: Frame<'_>, size: Size, base: Register, offset: i16, src: &Operan
             region: Region::Stack,
             offset: start,
         } => {
-            let bytes = size_bytes(size);
+            let bytes = size.bytes();
             match place_of(Region::Stack, bytes, start + i128::from(offset)) {
                 Some(place) => match number(operand(frame, src)) {
                     Some(number) => Effect::Put {
@@ -320,26 +319,18 @@ pub fn perform(frame: Frame<'_>, sizes: &MapSizes, insn: &Insn) -> Effect
             src,
         } => write(frame, dst, move_signed(extension, value_of(frame, src)), 1),
         Insn::ByteSwap { swap, bits, dst } => reorder(frame, swap, bits, dst),
-        Insn::Load {
-            size,
-            dst,
-            base,
-            offset,
-        } => load_into(frame, size, dst, base, offset),
-        Insn::Store {
-            size,
-            base,
-            offset,
-            src,
-        } => store(frame, size, base, offset, &src),
-        Insn::Jump {
-            condition,
-            width,
-            dst,
-            src,
-            offset,
-        } => compare(frame, condition, width, dst, &src, offset),
-        Insn::Goto { distance } => jump(frame, distance_of(distance)),
+        Insn::Load { size, dst, place } => load_into(frame, size, dst, place.base, place.offset),
+        Insn::Store { size, place, src } => store(frame, size, place.base, place.offset, &src),
+        Insn::Jump { comparison, offset } => {
+            let Comparison {
+                condition,
+                width,
+                dst,
+                src,
+            } = comparison;
+            compare(frame, condition, width, dst, &src, offset)
+        }
+        Insn::Goto { distance } => jump(frame, distance.slots()),
         Insn::Wide { dst, value } => write(frame, dst, Some(Value::Num(value)), 2),
         Insn::LoadMap { dst, index } => write(frame, dst, map_at(sizes, index), 2),
         Insn::LoadAddress { .. } => Effect::Trap,

@@ -9,7 +9,7 @@ ghost use Rattle.slow_machine.specs.Endings.{IsEnding};
 use crate::machines::Machine;
 use crate::turns::Turn;
 use bpf::Image;
-use machine::MapSizes;
+use machine::{MapSizes, questions_go_on};
 
 /// How a run ended.
 #[derive(Clone, Copy, Debug, PartialEq, Eq)]
@@ -29,6 +29,7 @@ fn walk(mut machine: Machine<'_>, answers: &[u64], limit: u32) -> Ending
     requires { machine.steps ≡ 0 }
     ensures { (port : ℕ) → state_of machine.entry ≡ entry_state port → IsEnding machine.entry.program machine.entry.header machine.entry.sizes port answers.now limit result }
 {
+    questions_go_on();
     let mut left = answers;
     for _step in 0..limit {
         match machine.step() {

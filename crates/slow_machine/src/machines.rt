@@ -12,8 +12,8 @@ use crate::effects::{Frame, perform};
 use crate::memory::Memory;
 use crate::turns::{Turn, apply};
 use bpf::Image;
-use bpf_insn::Insn;
-use machine::{MapSizes, Region, Value};
+use bpf_insn::{FRAME_POINTER, Insn, REGISTERS};
+use machine::{MapSizes, Region, Value, steps_perform};
 use std::marker::Model;
 
 /// A program that is run one instruction at a time, with every value tagged by its kind and every trap
@@ -26,7 +26,7 @@ pub struct Machine<'a> {
     tail: &'a [u8; 12],
     steps: u32,
     slot: u32,
-    registers: [Value; 11],
+    registers: [Value; REGISTERS],
     stack: [Option<u8>; 512],
 }
 
@@ -47,6 +47,7 @@ impl<'a> Model for Machine<'a> {
 fn fetch(image: &Image, slot: u32) -> Option<Insn>
     ensures value { result ≡ insn_at image.now slot }
     ensures inside { OnSome result (slot < 512) }
+    ensures version { image.now.version ≡ 1 }
 {
     if slot < u32::from(image.slots()) {
         image.insn(slot as u16)
@@ -57,11 +58,11 @@ fn fetch(image: &Image, slot: u32) -> Option<Insn>
 
 /// The registers at entry: r1 and r2 point to the parts of the header, r3 is the port, r10 points to
 /// the end of the stack.
-fn entry_registers(port: u8) -> [Value; 11]
+fn entry_registers(port: u8) -> [Value; REGISTERS]
     ensures value { registers_in result ≡ entry_register port }
     ensures near { AreNear 0 result }
 {
-    let mut registers = [Value::Unset; 11];
+    let mut registers = [Value::Unset; REGISTERS];
     registers[1] = Value::Ptr {
         region: Region::Front,
         offset: 0,
@@ -71,7 +72,7 @@ fn entry_registers(port: u8) -> [Value; 11]
         offset: 0,
     };
     registers[3] = Value::Num(u64::from(port));
-    registers[10] = Value::Ptr {
+    registers[usize::from(FRAME_POINTER)] = Value::Ptr {
         region: Region::Stack,
         offset: 0,
     };
@@ -125,6 +126,7 @@ impl<'a> Machine<'a> {
         ensures run { IsSameRun self.old self.new }
         ensures steps { self.new.steps ≡ self.old.steps + 1 }
     {
+        steps_perform();
         self.steps += 1;
         let Some(insn) = fetch(self.image, self.slot) else {
             return Turn::Trap;
@@ -160,7 +162,7 @@ impl<'a> Machine<'a> {
 }
 
 /// The registers after a call: the answer is in r0, and r1 to r5 are unset.
-fn after_call(registers: &mut [Value; 11], answer: u64)
+fn after_call(registers: &mut [Value; REGISTERS], answer: u64)
     ensures { registers_in registers.new ≡ register_after_call (registers_in registers.old) answer }
 {
     registers[5] = Value::Unset;

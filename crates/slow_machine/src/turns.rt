@@ -7,6 +7,7 @@ ghost use Rattle.slow_machine.specs.Effects.{outcome_of, IsPlaced};
 ghost use Rattle.slow_machine.specs.Machine.{state_with, IsTurn};
 
 use crate::effects::Effect;
+use bpf_insn::REGISTERS;
 use machine::Value;
 
 /// What one step of a machine came to.
@@ -37,7 +38,7 @@ fn put(stack: &mut [Option<u8>; 512], place: usize, bytes: usize, number: u64)
 /// Does what an instruction does.
 pub fn apply(
     slot: &mut u32,
-    registers: &mut [Value; 11],
+    registers: &mut [Value; REGISTERS],
     stack: &mut [Option<u8>; 512],
     effect: Effect,
 ) -> Turn

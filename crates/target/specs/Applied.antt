@@ -1,12 +1,12 @@
 -- How a judged command ends at a bank.
-use Rattle.std.specs.Prelude.{◌≡◌, ℕ, List, [], None, slice_index_or, slice_set}
+use Rattle.std.specs.Prelude.{◌≡◌, ℕ, List, [], true, false, None, slice_index_or, slice_set}
 use Rattle.rmap.specs.declared.places.Place.{Place}
 use Rattle.rmap.specs.declared.places.Place.TheVariants.{Bank, Staging, LoadResult, Control}
 use Rattle.rmap.specs.declared.status.Status.TheVariants.{GeneralError}
 use Rattle.rmap.specs.Command.{command_of}
 use Rattle.rmap.specs.Reply.{reply_of}
 use Rattle.bank.specs.declared.bank.Applied.{Applied}
-use Rattle.bank.specs.Records.{BankValue, ShareValue, JudgedValue, first_share, memory_of, answer_of, after_command, number_left, next_share}
+use Rattle.bank.specs.Records.{BankValue, ShareValue, JudgedValue, first_share, fits, memory_of, answer_of, after_command, number_left, next_share}
 use Rattle.target.specs.Passes.{PassValue}
 
 -- the port's share of the bank of that place
@@ -40,3 +40,8 @@ pub record IsRefused (old new : BankValue) (holder after : PassValue) (judged : 
   pub reply : bytes ≡ reply_of (command_of judged.packet) GeneralError []
   pub bank : new ≡ old
   pub shares : after ≡ holder
+
+-- how a judged command ends at a bank: it is applied where the port's share fits, else refused
+pub record IsFinished (old new : BankValue) (holder after : PassValue) (judged : JudgedValue) (result : Applied) (bytes : List ℕ) : Type 0 where
+  pub applied : fits old (share_of holder judged.place) judged ≡ true → IsApplied old new (share_of holder judged.place) holder after judged result bytes
+  pub refused : fits old (share_of holder judged.place) judged ≡ false → IsRefused old new holder after judged result bytes

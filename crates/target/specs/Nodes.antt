@@ -1,12 +1,15 @@
 -- How a node is made of its configuration.
-use Rattle.std.specs.Prelude.{◌≡◌, ◌<◌, ℕ, List, [], ◌∷◌, ◌++◌, map, length, slice_index_or, replicate, Bool, ◌&&◌, nat_le}
+use Rattle.std.specs.Prelude.{◌≡◌, ◌<◌, ℕ, List, [], ◌∷◌, ◌++◌, map, length, slice_index_or, replicate, Bool, ◌&&◌, not, nat_le, Option, None, Some, if◌then◌else◌}
 use Rattle.rmap.specs.Windows.{WindowsValue}
-use Rattle.std.specs.List.{list_all}
+use Rattle.std.specs.List.{list_all, range_with_len}
 use Rattle.bver.specs.Justified.{AcceptedValue}
-use Rattle.bank.specs.Limits.{is_bank_size}
+use Rattle.bank.specs.Limits.{is_bank_size, is_ports}
 use Rattle.bank.specs.Records.{BankValue, ShareValue, first_share, fresh_bank}
 use Rattle.target.specs.Passes.{PassValue}
 use Rattle.target.specs.declared.config.BankConfig.{BankConfig}
+use Rattle.target.specs.declared.config.NodeConfig.{NodeConfig}
+use Rattle.target.specs.declared.faults.NodeFault.{NodeFault}
+use Rattle.target.specs.declared.faults.NodeFault.TheVariants.{Memory, Ports, Banks}
 
 -- where a bank lies
 abbrev pub range_of : BankConfig → ℕ × ℕ
@@ -30,6 +33,14 @@ pub record ArePortShares (n ports : ℕ) (by_port : List (List ShareValue)) : Ty
 abbrev pub bank_of : ℕ → BankConfig → BankValue
 bank_of ports bank = fresh_bank bank.base bank.size (record { entries = []; room = bank.room }) ports
 
+-- the banks of those configurations
+abbrev pub fresh_banks : ℕ → List BankConfig → List BankValue
+fresh_banks ports banks = map (bank_of ports) banks
+
+-- for each port, by its number, a first share of each of those banks
+abbrev pub AreSharesOf : List BankConfig → ℕ → List (List ShareValue) → Type 0
+AreSharesOf banks ports by_port = ArePortShares (length banks) ports by_port
+
 -- what a port has of its node at first: the factory program, of generation 0
 abbrev pub first_pass : ℕ → List BankConfig → AcceptedValue → ℕ → PassValue
 first_pass address banks program port = record {
@@ -40,6 +51,11 @@ first_pass address banks program port = record {
   shares = replicate (length banks) (first_share port);
 }
 
+-- what the ports of a node have of it at first, in order
+abbrev pub first_passes : NodeConfig → AcceptedValue → List PassValue
+first_passes config program =
+    map (first_pass config.address config.banks.now program) (range_with_len 0 config.ports)
+
 -- whether a bank is within its limits
 abbrev pub is_within : BankConfig → Bool
 is_within bank = is_bank_size bank.base bank.size bank.room
@@ -47,3 +63,13 @@ is_within bank = is_bank_size bank.base bank.size bank.room
 -- whether a node may have those banks: 1 to 8, each within its limits
 abbrev pub are_within : List BankConfig → Bool
 are_within banks = nat_le 1 (length banks) && nat_le (length banks) 8 && list_all is_within banks
+
+-- the limit that so many ports and those banks pass, the ports' first
+abbrev pub limit_fault : ℕ → List BankConfig → Option NodeFault
+limit_fault ports banks =
+    if not (is_ports ports) then Some Ports else if not (are_within banks) then Some Banks else None
+
+-- why a node could not be made: a limit that was passed, else want of memory
+abbrev pub IsNodeFault : (limit : Option NodeFault) → NodeFault → Type 0
+IsNodeFault (Some limit) fault = fault ≡ limit
+IsNodeFault None fault = fault ≡ Memory

@@ -36,9 +36,13 @@ is_in_bank (Some LoadResult) = false
 is_in_bank (Some Control) = false
 is_in_bank None = false
 
--- what the node serves so far: reads of banks
+-- what the node serves so far of the commands with that place: reads of banks
+abbrev pub is_served_at : CommandValue → Option Place → Bool
+is_served_at c place = is_read (command_kind c) && is_in_bank place
+
+-- what the node serves so far
 abbrev pub is_served : CommandValue → WindowsValue → Bool
-is_served c w = is_read (command_kind c) && is_in_bank (place_of c w)
+is_served c w = is_served_at c (place_of c w)
 
 -- the packet is a command, and no check of its header holds
 pub record IsAllowed (p : Cargo) (w : WindowsValue) : Type 0 where
@@ -70,11 +74,14 @@ pub record IsUnread (p : Cargo) (w : WindowsValue) (reply : List ℕ) : Type 0 w
 abbrev pub IsBankBelow : Place → ℕ → Type 0
 IsBankBelow place n = (k : ℕ) × (place ≡ Bank k) × (k < n)
 
--- the program has a run within its budget on the packet's header, for that port, that ends with that
+-- the program has a run within its budget on the command's header, for that port, that ends with that
 -- verdict
+abbrev pub IsVerdictOn : AcceptedValue → ℕ → CommandValue → ℕ → Type 0
+IsVerdictOn program port c verdict = RunsWithin program.program (header c.front c.tail) port verdict
+
+-- the same of the command of a packet
 abbrev pub IsVerdict : AcceptedValue → ℕ → Cargo → ℕ → Type 0
-IsVerdict program port p verdict =
-    RunsWithin program.program (header (command_of p).front (command_of p).tail) port verdict
+IsVerdict program port p verdict = IsVerdictOn program port (command_of p) verdict
 
 -- the admitted command, judged for that port by the program of that generation
 pub record IsJudgedBy (program : AcceptedValue) (generation port : ℕ) (admitted : AdmittedValue) (j : JudgedValue) : Type 0 where

@@ -1,9 +1,8 @@
 //! The second half of a packet's way: its effect.
 
-ghost use Rattle.std.specs.Prelude.{◌≡◌, length, true, false};
-ghost use Rattle.bank.specs.Records.{fits};
+ghost use Rattle.std.specs.Prelude.{◌≡◌, length};
 ghost use Rattle.target.specs.Steps.{IsBankBelow};
-ghost use Rattle.target.specs.Applied.{share_of, IsApplied, IsRefused};
+ghost use Rattle.target.specs.Applied.{IsFinished};
 
 use crate::pass::Pass;
 use bank::{Applied, Bank, Judged};
@@ -15,8 +14,7 @@ use rmap::{Place, ReplyBuf};
 pub fn finish(pass: &mut Pass, bank: &mut Bank, judged: Judged, reply: &mut ReplyBuf) -> Applied
     requires { IsBankBelow judged.place (length pass.old.shares) }
 
-    ensures applied { fits bank.old (share_of pass.old judged.place) judged ≡ true → IsApplied bank.old bank.new (share_of pass.old judged.place) pass.old pass.new judged result reply.new }
-    ensures refused { fits bank.old (share_of pass.old judged.place) judged ≡ false → IsRefused bank.old bank.new pass.old pass.new judged result reply.new }
+    ensures finished { IsFinished bank.old bank.new pass.old pass.new judged result reply.new }
     ensures kept { length pass.new.shares ≡ length pass.old.shares }
 {
     let Place::Bank(k) = judged.place() else {

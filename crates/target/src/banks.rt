@@ -1,10 +1,10 @@
 //! The banks of a node.
 
-ghost use Rattle.std.specs.Prelude.{◌≡◌, ◌<◌, ◌≤◌, length, slice_get, Some, OnOk, IfOk, IfErr, Err, true, false, map};
+ghost use Rattle.std.specs.Prelude.{◌≡◌, ◌<◌, ◌≤◌, length, slice_get, Some, None, OnOk, IfOk, IfErr, true, map};
 ghost use Rattle.std.specs.List.{range_with_len, list_all};
 ghost use Rattle.bank.specs.Limits.{is_ports};
 ghost use Rattle.bank.specs.Records.{first_share};
-ghost use Rattle.target.specs.Nodes.{AreDistributed, ArePortShares, bank_of, is_within, are_within};
+ghost use Rattle.target.specs.Nodes.{AreDistributed, ArePortShares, AreSharesOf, IsNodeFault, bank_of, fresh_banks, is_within, are_within, limit_fault};
 
 use crate::config::{BankConfig, NodeConfig};
 use crate::faults::NodeFault;
@@ -99,9 +99,9 @@ fn make_banks(
     requires within { list_all is_within config.now.banks.now ≡ true }
     requires ports { is_ports config.now.ports ≡ true }
     requires by_port { ArePortShares 0 config.now.ports by_port.old.items }
-    ensures banks { IfOk result (λ banks. banks.items ≡ map (bank_of config.now.ports) config.now.banks.now) }
+    ensures banks { IfOk result (λ banks. banks.items ≡ fresh_banks config.now.ports config.now.banks.now) }
     ensures memory { IfErr result (λ fault. fault ≡ NodeFault.Memory) }
-    ensures by_port { OnOk result (ArePortShares (length config.now.banks.now) config.now.ports by_port.new.items) }
+    ensures by_port { OnOk result (AreSharesOf config.now.banks.now config.now.ports by_port.new.items) }
 {
     let mut banks = Vec::with_capacity(alloc, config.banks.len())?;
     for bank in config.banks {
@@ -119,12 +119,12 @@ impl Banks {
     /// Banks of zero bytes, and for each port, in order, its share of each. `Ports` and then `Banks`
     /// where a number is outside its limits; `Memory` where memory was refused.
     pub fn new(alloc: Global, config: &NodeConfig) -> Result<(Banks, Vec<PortShares>), NodeFault>
-        ensures banks { IfOk result (λ made. made.0 ≡ map (bank_of config.now.ports) config.now.banks.now) }
-        ensures by_port { IfOk result (λ made. ArePortShares (length config.now.banks.now) config.now.ports made.1.items) }
-        ensures limits { IfOk result (λ _. (config.now.ports ≤ PORTS) × (length config.now.banks.now ≤ MAX_BANKS)) }
-        ensures bad_ports { is_ports config.now.ports ≡ false → result ≡ Err NodeFault.Ports }
-        ensures bad_banks { is_ports config.now.ports ≡ true → are_within config.now.banks.now ≡ false → result ≡ Err NodeFault.Banks }
-        ensures memory { is_ports config.now.ports ≡ true → are_within config.now.banks.now ≡ true → IfErr result (λ fault. fault ≡ NodeFault.Memory) }
+        ensures banks { IfOk result (λ made. made.0 ≡ fresh_banks config.now.ports config.now.banks.now) }
+        ensures by_port { IfOk result (λ made. AreSharesOf config.now.banks.now config.now.ports made.1.items) }
+        ensures few_ports { IfOk result (λ _. config.now.ports ≤ PORTS) }
+        ensures few_banks { IfOk result (λ _. length config.now.banks.now ≤ MAX_BANKS) }
+        ensures limits { IfOk result (λ _. limit_fault config.now.ports config.now.banks.now ≡ None) }
+        ensures fault { IfErr result (IsNodeFault (limit_fault config.now.ports config.now.banks.now)) }
     {
         if config.ports == 0 || config.ports > PORTS {
             return Err(NodeFault::Ports);

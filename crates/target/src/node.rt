@@ -1,10 +1,8 @@
 //! A node.
 
-ghost use Rattle.std.specs.Prelude.{◌≡◌, ◌≤◌, length, IfOk, IfErr, Err, true, false, map};
-ghost use Rattle.std.specs.List.{range_with_len};
-ghost use Rattle.bank.specs.Limits.{is_ports};
+ghost use Rattle.std.specs.Prelude.{◌≡◌, ◌≤◌, length, IfOk, IfErr, None};
 ghost use Rattle.target.specs.Pairs.{ArePaired};
-ghost use Rattle.target.specs.Nodes.{ArePortShares, windows_of, bank_of, first_pass, are_within};
+ghost use Rattle.target.specs.Nodes.{AreSharesOf, IsNodeFault, windows_of, fresh_banks, first_passes, limit_fault};
 
 use crate::banks::Banks;
 use crate::bearing::Bearing;
@@ -55,8 +53,8 @@ fn passes(
 ) -> Result<Vec<Pass>, AllocError>
     requires banks { length config.now.banks.now ≤ MAX_BANKS }
     requires ports { config.now.ports ≤ PORTS }
-    requires by_port { ArePortShares (length config.now.banks.now) config.now.ports by_port.old.items }
-    ensures { IfOk result (λ passes. passes.items ≡ map (first_pass config.now.address config.now.banks.now factory.now) (range_with_len 0 config.now.ports)) }
+    requires by_port { AreSharesOf config.now.banks.now config.now.ports by_port.old.items }
+    ensures { IfOk result (λ passes. passes.items ≡ first_passes config.now factory.now) }
 {
     let mut passes = Vec::with_capacity(alloc, by_port.len())?;
     for port in 0..config.ports {
@@ -83,12 +81,11 @@ impl Node {
         config: &NodeConfig,
         factory: Accepted,
     ) -> Result<(Node, Vec<Pass>), NodeFault>
-        ensures banks { IfOk result (λ made. made.0 ≡ map (bank_of config.now.ports) config.now.banks.now) }
-        ensures passes { IfOk result (λ made. made.1.items ≡ map (first_pass config.now.address config.now.banks.now factory) (range_with_len 0 config.now.ports)) }
+        ensures banks { IfOk result (λ made. made.0 ≡ fresh_banks config.now.ports config.now.banks.now) }
+        ensures passes { IfOk result (λ made. made.1.items ≡ first_passes config.now factory) }
         ensures paired { IfOk result (λ made. ArePaired made.0 made.1.items) }
-        ensures bad_ports { is_ports config.now.ports ≡ false → result ≡ Err NodeFault.Ports }
-        ensures bad_banks { is_ports config.now.ports ≡ true → are_within config.now.banks.now ≡ false → result ≡ Err NodeFault.Banks }
-        ensures memory { is_ports config.now.ports ≡ true → are_within config.now.banks.now ≡ true → IfErr result (λ fault. fault ≡ NodeFault.Memory) }
+        ensures limits { IfOk result (λ _. limit_fault config.now.ports config.now.banks.now ≡ None) }
+        ensures fault { IfErr result (IsNodeFault (limit_fault config.now.ports config.now.banks.now)) }
     {
         let (banks, mut by_port) = Banks::new(alloc, config)?;
         let passes = passes(alloc, config, &mut by_port, &factory)?;

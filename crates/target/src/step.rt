@@ -1,9 +1,8 @@
 //! The first half of a packet's way: its verdict.
 
-ghost use Rattle.std.specs.Prelude.{◌≡◌, ◌&&◌, Some};
-ghost use Rattle.rmap.specs.Command.{command_of, command_kind};
-ghost use Rattle.brun.specs.Runs.{header, RunsWithin};
-ghost use Rattle.target.specs.Steps.{is_read, is_in_bank, IsJudgedBy, IsStep};
+ghost use Rattle.std.specs.Prelude.{◌≡◌, Some};
+ghost use Rattle.rmap.specs.Command.{command_of};
+ghost use Rattle.target.specs.Steps.{is_served_at, IsVerdictOn, IsJudgedBy, IsStep};
 
 use crate::bearing::Bearing;
 use crate::pass::Pass;
@@ -30,7 +29,7 @@ pub enum Step {
 
 /// Whether the node serves the command: so far, whether it is a read of a bank.
 fn is_served(admitted: &Admitted) -> bool
-    ensures { result ≡ (is_read (command_kind (command_of admitted.now.packet)) && is_in_bank (Some admitted.now.place)) }
+    ensures { result ≡ is_served_at (command_of admitted.now.packet) (Some admitted.now.place) }
 {
     matches!(admitted.command().kind(), Kind::Read) && matches!(admitted.place(), Place::Bank(_))
 }
@@ -38,7 +37,7 @@ fn is_served(admitted: &Admitted) -> bool
 /// The verdict of the program on the header of the command.
 fn verdict(bearing: &mut Bearing, program: &Accepted, command: &Command) -> u64
     ensures bearing { bearing.new ≡ bearing.old }
-    ensures verdict { RunsWithin program.now.program (header command.now.front command.now.tail) bearing.old.port result }
+    ensures verdict { IsVerdictOn program.now bearing.old.port command.now result }
 {
     run(
         program,

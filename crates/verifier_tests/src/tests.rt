@@ -4,6 +4,7 @@ mod agreement;
 mod corners;
 mod generated;
 mod generator;
+mod loops;
 mod machine_programs;
 mod ranges;
 mod rules;

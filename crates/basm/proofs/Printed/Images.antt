@@ -12,6 +12,7 @@ use Rattle.bpf.specs.Program.{AreLoops, AreSlots, IsProgram, Program}
 use Rattle.basm.specs.Printed.{budget_line, loop_line, printed_image, slot_line}
 use Rattle.basm.specs.Relation.{Defines, IsText, Item, budget_in, insn_in, loop_in}
 use Rattle.basm.specs.Relation.Item.{Nothing, Budget, OneLoop, Code}
+use Rattle.basm.proofs.Printed.Insns.{PrintedWords}
 use Rattle.basm.proofs.Printed.Items.{ArePrinted, item_line, lines_say, no_names, text_of}
 
 abbrev slot_items : List (Option Insn) → List Item
@@ -119,14 +120,14 @@ slots_again false (Some insn ∷ xs) are = ap (λ more. Some insn ∷ more) (slo
 no_definition : (name : List ℕ) (slot : ℕ) → (◌≡◌ {A = Option ℕ} None (Some slot)) ↔ Defines [] name slot
 no_definition name slot = (λ same. absurd (cc), λ none. absurd none)
 
-printed_items : (p : Program) → IsProgram p → IsText (text_of (items_of p)) p
-printed_items p is =
+printed_items : PrintedWords → (p : Program) → IsProgram p → IsText (text_of (items_of p)) p
+printed_items laws p is =
     let printed = are_printed p is in
     let none = no_names (length p.slots) 0 (items_of p) printed in
     record {
       items = items_of p ++ Nothing ∷ [];
       names = λ name. None;
-      lines = lines_say (λ name. None) (length p.slots) 0 is.slots.1 (items_of p) printed;
+      lines = lines_say laws (λ name. None) (length p.slots) 0 is.slots.1 (items_of p) printed;
       defined = rw none no_definition;
       apart = rw none tt;
       budget = ap (λ more. p.budget ∷ more) (loops_no_budget p.loops p.slots);
@@ -135,5 +136,5 @@ printed_items p is =
       program = is;
     }
 
-pub printed_is_text : (text : List ℕ) (p : Program) → IsProgram p → text ≡ printed_image p → IsText text p
-printed_is_text text p is printed = rw (printed ∙ image_printed p) (printed_items p is)
+pub printed_is_text : PrintedWords → (text : List ℕ) (p : Program) → IsProgram p → text ≡ printed_image p → IsText text p
+printed_is_text laws text p is printed = rw (printed ∙ image_printed p) (printed_items laws p is)

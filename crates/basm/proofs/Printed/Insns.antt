@@ -1,142 +1,71 @@
--- The printed name and operands of an instruction are words, and write it.
-use Rattle.std.proofs.Common.{ℕ, ◌<◌, List, Option, inr, refl, arith, lit<}
-use Rattle.bpf_insn.specs.declared.operation.Width.{Width}
-use Rattle.bpf_insn.specs.declared.operation.Width.TheVariants.{Bits32, Bits64}
-use Rattle.bpf_insn.specs.declared.operation.AluOp.{AluOp}
-use Rattle.bpf_insn.specs.declared.operation.AluOp.TheVariants.{Add}
+-- The printed operands of an instruction write it.
+use Rattle.std.proofs.Common.{◌≡◌, ℕ, ◌<◌, ◌≤◌, ◌^◌, ℤ, pos, List, ◌∷◌, ◌++◌, Option, inr, refl, lit<, arith}
+use Rattle.std.specs.Prelude.{◌==◌, decimal, FitsSigned}
+use Rattle.std.specs.Fmt.{signed_decimal}
+use Rattle.std.specs.Int.{w16, w32}
+use Rattle.std.specs.List.{slice_split}
+use Rattle.std.proofs.lemmas.Int.{ints}
+use Rattle.bpf_insn.specs.declared.memory.Place.{Place}
 use Rattle.bpf_insn.specs.declared.operation.Operand.{Operand}
 use Rattle.bpf_insn.specs.declared.operation.Operand.TheVariants.{FromRegister, Immediate}
-use Rattle.bpf_insn.specs.declared.operation.Extension.{Extension}
-use Rattle.bpf_insn.specs.declared.operation.Extension.TheVariants.{ByteTo32}
-use Rattle.bpf_insn.specs.declared.operation.Swap.{Swap}
-use Rattle.bpf_insn.specs.declared.operation.Swap.TheVariants.{ToLittle}
-use Rattle.bpf_insn.specs.declared.operation.SwapBits.{SwapBits}
-use Rattle.bpf_insn.specs.declared.operation.SwapBits.TheVariants.{Swap16}
-use Rattle.bpf_insn.specs.declared.operation.Condition.{Condition}
-use Rattle.bpf_insn.specs.declared.operation.Condition.TheVariants.{Equal}
-use Rattle.bpf_insn.specs.declared.memory.Size.{Size}
-use Rattle.bpf_insn.specs.declared.memory.Size.TheVariants.{Byte}
-use Rattle.bpf_insn.specs.declared.memory.LoadSize.{LoadSize}
-use Rattle.bpf_insn.specs.declared.memory.LoadSize.TheVariants.{LoadByte}
 use Rattle.bpf_insn.specs.declared.insn.Address.{Address}
 use Rattle.bpf_insn.specs.declared.insn.Address.TheVariants.{MapByFile}
-use Rattle.bpf_insn.specs.declared.insn.Callee.{Callee}
-use Rattle.bpf_insn.specs.declared.insn.Callee.TheVariants.{Helper}
 use Rattle.bpf_insn.specs.declared.insn.Distance.TheVariants.{Short, Long}
 use Rattle.bpf_insn.specs.declared.insn.Insn.{Insn}
 use Rattle.bpf_insn.specs.declared.insn.Insn.TheVariants.{Alu, Negate, MoveSigned, ByteSwap, Load, Store, Jump, Goto, Wide, LoadMap, LoadAddress, Call, Exit}
 use Rattle.bpf_insn.specs.Codes.{address_first, address_second, address_subtype}
 use Rattle.bpf_insn.specs.Spelling.{IsInsn, IsOperand}
-use Rattle.bpf_insn.specs.Text.{alu_name, callee_name, condition_name, extension_name, insn_name, insn_operands, load_suffix, operand_text, store_prefix, store_suffix, swap_bits_name, swap_name, width_suffix}
+use Rattle.bpf_insn.specs.Text.{bits_text, insn_name, insn_operands, operand_text, place_text, register_text, signed_text, written}
+use Rattle.basm_lex.specs.Lines.{operands_of, word_of}
+use Rattle.basm_lex.specs.Numbers.{WritesDistance, WritesNumber, WritesWide}
+use Rattle.basm_lex.specs.Places.{WritesPlace}
+use Rattle.basm_lex.specs.Printed.{AreWords, IsWord}
 use Rattle.basm.specs.Relation.{WritesOperand, WritesOperands}
-use Rattle.basm.proofs.Printed.Numerals.{bits_writes, distance_writes, number_writes, place_writes, short_distance_writes, signed_writes}
-use Rattle.basm.proofs.Printed.Plain.{ArePlain, IsWord, word_append}
-use Rattle.basm.proofs.Printed.Texts.{bits_word, decimal_word, distance_word, operand_word, place_word, register_word, short_distance_word, signed_decimal_word}
-use Rattle.basm.proofs.Printed.Words.{AreWords}
 
--- ---- names
-
-width_plain : (width : Width) → ArePlain (width_suffix width)
-width_plain Bits32 = refl
-width_plain Bits64 = refl
-
-alu_word : (op : AluOp) → IsWord (alu_name op)
-alu_word Add = refl
-alu_word _ = refl
-
-extension_word : (extension : Extension) → IsWord (extension_name extension)
-extension_word ByteTo32 = refl
-extension_word _ = refl
-
-swap_word : (swap : Swap) → IsWord (swap_name swap)
-swap_word ToLittle = refl
-swap_word _ = refl
-
-swap_bits_plain : (bits : SwapBits) → ArePlain (swap_bits_name bits)
-swap_bits_plain Swap16 = refl
-swap_bits_plain _ = refl
-
-load_plain : (size : LoadSize) → ArePlain (load_suffix size)
-load_plain LoadByte = refl
-load_plain _ = refl
-
-store_plain : (size : Size) → ArePlain (store_suffix size)
-store_plain Byte = refl
-store_plain _ = refl
-
-store_word : (src : Operand) → IsWord (store_prefix src)
-store_word (FromRegister register) = refl
-store_word (Immediate value) = refl
-
-condition_word : (condition : Condition) → IsWord (condition_name condition)
-condition_word Equal = refl
-condition_word _ = refl
-
-callee_word : (callee : Callee) → IsWord (callee_name callee)
-callee_word Helper = refl
-callee_word _ = refl
-
-pub name_word : (insn : Insn) → IsWord (insn_name insn)
-name_word (Alu op width dst src) = word_append (alu_name op) (width_suffix width) (alu_word op) (width_plain width)
-name_word (Negate width dst) = word_append (insn_name (Negate Bits64 dst)) (width_suffix width) refl (width_plain width)
-name_word (MoveSigned extension dst src) = extension_word extension
-name_word (ByteSwap swap bits dst) = word_append (swap_name swap) (swap_bits_name bits) (swap_word swap) (swap_bits_plain bits)
-name_word (Load size dst base offset) = load_plain size
-name_word (Store size base offset src) = word_append (store_prefix src) (store_suffix size) (store_word src) (store_plain size)
-name_word (Jump condition width dst src offset) = word_append (condition_name condition) (width_suffix width) (condition_word condition) (width_plain width)
-name_word (Goto (Short offset)) = refl
-name_word (Goto (Long distance)) = refl
-name_word (Wide dst value) = refl
-name_word (LoadMap dst index) = refl
-name_word (LoadAddress dst address) = refl
-name_word (Call callee number) = callee_word callee
-name_word Exit = refl
-
--- ---- operands
+-- the laws of `basm_lex` that are used
+pub record PrintedWords : Type 0 where
+  pub number : (n : ℕ) → n < 2 ^ 31 → WritesNumber (decimal n) (pos n)
+  pub signed : (z : ℤ) → FitsSigned w32 z → WritesNumber (signed_decimal z) z
+  pub distance : (z : ℤ) → FitsSigned w32 z → WritesDistance (signed_text z) z
+  pub place : (place : Place) → place.base ≤ 10 → FitsSigned w16 place.offset → WritesPlace (place_text place) place
+  pub constant : (value : ℕ) → value < 2 ^ 64 → WritesWide (bits_text value) value
+  pub numeral : (n : ℕ) → n < 2 ^ 64 → IsWord (decimal n)
+  pub register : (number : ℕ) → number ≤ 10 → IsWord (register_text number)
+  pub name : (insn : Insn) → IsWord (insn_name insn)
+  pub operands : (insn : Insn) → IsInsn insn → AreWords (insn_operands insn)
+  pub first : (name : List ℕ) (xs : List (List ℕ)) → IsWord name → AreWords xs → word_of (written name xs) ≡ name
+  pub rest : (name : List ℕ) (xs : List (List ℕ)) → IsWord name → AreWords xs → operands_of (written name xs) ≡ xs
+  pub line : (name : List ℕ) (xs : List (List ℕ)) (rest : List ℕ) → IsWord name → AreWords xs
+      → slice_split (λ c. c == 10) (written name xs ++ 10 ∷ rest) ≡ written name xs ∷ slice_split (λ c. c == 10) rest
 
 address_small : (address : Address) → address_subtype address < 7
 address_small (MapByFile first) = lit< tt
 address_small _ = lit< tt
 
-pub operands_words : (insn : Insn) → IsInsn insn → AreWords (insn_operands insn)
-operands_words (Alu op width dst src) is = (register_word dst is.0, (operand_word src is.1, tt))
-operands_words (Negate width dst) is = (register_word dst is, tt)
-operands_words (MoveSigned extension dst src) is = (register_word dst is.0, (register_word src is.1, tt))
-operands_words (ByteSwap swap bits dst) is = (register_word dst is, tt)
-operands_words (Load size dst base offset) is = (register_word dst is.0, (place_word base offset is.1 is.2, tt))
-operands_words (Store size base offset src) is = (place_word base offset is.0 is.1, (operand_word src is.2, tt))
-operands_words (Jump condition width dst src offset) is = (register_word dst is.0, (operand_word src is.1, (short_distance_word offset is.2, tt)))
-operands_words (Goto (Short offset)) is = (short_distance_word offset is, tt)
-operands_words (Goto (Long distance)) is = (distance_word distance is, tt)
-operands_words (Wide dst value) is = (register_word dst is.0, (bits_word value is.1, tt))
-operands_words (LoadMap dst index) is = (register_word dst is.0, (signed_decimal_word index is.1, tt))
-operands_words (LoadAddress dst address) is = (
-  decimal_word (address_subtype address) (omega (arith, address_small address)),
-  (register_word dst is.0, (signed_decimal_word (address_first address) is.1, (signed_decimal_word (address_second address) is.2, tt))),
-)
-operands_words (Call callee number) is = (signed_decimal_word number is, tt)
-operands_words Exit is = tt
+-- what fits 16 bits fits 32
+wider : (z : ℤ) → FitsSigned w16 z → FitsSigned w32 z
+wider z fits = omega (arith, ints)
 
-operand_writes : (src : Operand) → IsOperand src → WritesOperand (operand_text src) src
-operand_writes (FromRegister register) is = (is, refl)
-operand_writes (Immediate value) is = signed_writes value is
+operand_writes : PrintedWords → (src : Operand) → IsOperand src → WritesOperand (operand_text src) src
+operand_writes laws (FromRegister register) is = (is, refl)
+operand_writes laws (Immediate value) is = laws.signed value is
 
-pub operands_write : (names : List ℕ → Option ℕ) (slot : ℕ) (insn : Insn) → IsInsn insn → WritesOperands (λ x. x) names slot (insn_operands insn) insn
-operands_write names slot (Alu op width dst src) is = ((is.0, refl), operand_writes src is.1)
-operands_write names slot (Negate width dst) is = (is, refl)
-operands_write names slot (MoveSigned extension dst src) is = ((is.0, refl), (is.1, refl))
-operands_write names slot (ByteSwap swap bits dst) is = (is, refl)
-operands_write names slot (Load size dst base offset) is = ((is.0, refl), place_writes base offset is.1 is.2)
-operands_write names slot (Store size base offset src) is = (place_writes base offset is.0 is.1, operand_writes src is.2)
-operands_write names slot (Jump condition width dst src offset) is =
-    ((is.0, refl), (operand_writes src is.1, (inr (short_distance_writes offset is.2), is.2)))
-operands_write names slot (Goto (Short offset)) is = (inr (short_distance_writes offset is), is)
-operands_write names slot (Goto (Long distance)) is = (inr (distance_writes distance is), is)
-operands_write names slot (Wide dst value) is = ((is.0, refl), bits_writes value is.1)
-operands_write names slot (LoadMap dst index) is = ((is.0, refl), signed_writes index is.1)
-operands_write names slot (LoadAddress dst address) is = (
-  number_writes (address_subtype address) (omega (arith, address_small address)),
-  ((is.0, refl), (signed_writes (address_first address) is.1, signed_writes (address_second address) is.2)),
+pub operands_write : PrintedWords → (names : List ℕ → Option ℕ) (slot : ℕ) (insn : Insn) → IsInsn insn → WritesOperands names slot (insn_operands insn) insn
+operands_write laws names slot (Alu op width dst src) is = ((is.0, refl), operand_writes laws src is.1)
+operands_write laws names slot (Negate width dst) is = (is, refl)
+operands_write laws names slot (MoveSigned extension dst src) is = ((is.0, refl), (is.1, refl))
+operands_write laws names slot (ByteSwap swap bits dst) is = (is, refl)
+operands_write laws names slot (Load size dst place) is = ((is.0, refl), laws.place place is.1 is.2)
+operands_write laws names slot (Store size place src) is = (laws.place place is.0 is.1, operand_writes laws src is.2)
+operands_write laws names slot (Jump comparison offset) is =
+    ((is.0, refl), (operand_writes laws comparison.src is.1, (inr (laws.distance offset (wider offset is.2)), is.2)))
+operands_write laws names slot (Goto (Short offset)) is = (inr (laws.distance offset (wider offset is)), is)
+operands_write laws names slot (Goto (Long distance)) is = (inr (laws.distance distance is), is)
+operands_write laws names slot (Wide dst value) is = ((is.0, refl), laws.constant value is.1)
+operands_write laws names slot (LoadMap dst index) is = ((is.0, refl), laws.signed index is.1)
+operands_write laws names slot (LoadAddress dst address) is = (
+  laws.number (address_subtype address) (omega (arith, address_small address)),
+  ((is.0, refl), (laws.signed (address_first address) is.1, laws.signed (address_second address) is.2)),
 )
-operands_write names slot (Call callee number) is = signed_writes number is
-operands_write names slot Exit is = refl
+operands_write laws names slot (Call callee number) is = laws.signed number is
+operands_write laws names slot Exit is = refl

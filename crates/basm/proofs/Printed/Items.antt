@@ -8,12 +8,8 @@ use Rattle.bpf.specs.Program.{IsBudget, IsLoop}
 use Rattle.basm_lex.specs.Lines.{code_of, operands_of, rest_of, word_of}
 use Rattle.basm.specs.Relation.{AreLines, IsLine, Item, slots_in, names_from}
 use Rattle.basm.specs.Relation.Item.{Nothing, Label, Budget, OneLoop, Code}
-use Rattle.basm.proofs.Printed.Insns.{name_word, operands_words, operands_write}
-use Rattle.basm.proofs.Printed.Numerals.{number_writes}
-use Rattle.basm.proofs.Printed.Plain.{IsWord}
-use Rattle.basm.proofs.Printed.Splits.{split_at}
-use Rattle.basm.proofs.Printed.Texts.{decimal_word, register_word}
-use Rattle.basm.proofs.Printed.Words.{AreWords, operands_written, word_written, written_one_line}
+use Rattle.basm_lex.specs.Printed.{AreWords, IsWord}
+use Rattle.basm.proofs.Printed.Insns.{PrintedWords, operands_write}
 
 abbrev pub item_name : Item → List ℕ
 item_name Nothing = []
@@ -45,52 +41,52 @@ abbrev pub ArePrinted : (slots : ℕ) → List Item → Type 0
 ArePrinted slots [] = Unit {0}
 ArePrinted slots (item ∷ items) = IsPrinted slots item × ArePrinted slots items
 
-item_word : (slots : ℕ) (item : Item) → IsPrinted slots item → IsWord (item_name item)
-item_word slots Nothing is = absurd is
-item_word slots (Label name) is = absurd is
-item_word slots (Budget n) is = refl
-item_word slots (OneLoop l) is = refl
-item_word slots (Code insn) is = name_word insn
+item_word : PrintedWords → (slots : ℕ) (item : Item) → IsPrinted slots item → IsWord (item_name item)
+item_word laws slots Nothing is = absurd is
+item_word laws slots (Label name) is = absurd is
+item_word laws slots (Budget n) is = refl
+item_word laws slots (OneLoop l) is = refl
+item_word laws slots (Code insn) is = laws.name insn
 
-item_words : (slots : ℕ) → slots ≤ 512 → (item : Item) → IsPrinted slots item → AreWords (item_operands item)
-item_words slots few Nothing is = absurd is
-item_words slots few (Label name) is = absurd is
-item_words slots few (Budget n) is = (decimal_word n (omega (arith, is.1)), tt)
-item_words slots few (OneLoop l) is = (
-  decimal_word l.head (omega (arith, is.ordered, is.within)),
+item_words : PrintedWords → (slots : ℕ) → slots ≤ 512 → (item : Item) → IsPrinted slots item → AreWords (item_operands item)
+item_words laws slots few Nothing is = absurd is
+item_words laws slots few (Label name) is = absurd is
+item_words laws slots few (Budget n) is = (laws.numeral n (omega (arith, is.1)), tt)
+item_words laws slots few (OneLoop l) is = (
+  laws.numeral l.head (omega (arith, is.ordered, is.within)),
   (
-    decimal_word l.back (omega (arith, is.within)),
-    (decimal_word l.bound (omega (arith, is.high)), (register_word l.register (omega (arith, is.register)), tt)),
+    laws.numeral l.back (omega (arith, is.within)),
+    (laws.numeral l.bound (omega (arith, is.high)), (laws.register l.register (omega (arith, is.register)), tt)),
   ),
 )
-item_words slots few (Code insn) is = operands_words insn is
+item_words laws slots few (Code insn) is = laws.operands insn is
 
 -- the item, by the words of its line
-words_say : (names : List ℕ → Option ℕ) (slots slot : ℕ) → slots ≤ 512 → (item : Item) → IsPrinted slots item → (line : List ℕ)
+words_say : PrintedWords → (names : List ℕ → Option ℕ) (slots slot : ℕ) → slots ≤ 512 → (item : Item) → IsPrinted slots item → (line : List ℕ)
     → word_of line ≡ item_name item → operands_of line ≡ item_operands item → IsLine names slot line item
-words_say names slots slot few Nothing is line word operands = absurd is
-words_say names slots slot few (Label name) is line word operands = absurd is
-words_say names slots slot few (Budget n) is line word operands =
-    (word, rw operands (number_writes n (omega (arith, is.1))))
-words_say names slots slot few (OneLoop l) is line word operands = (
+words_say laws names slots slot few Nothing is line word operands = absurd is
+words_say laws names slots slot few (Label name) is line word operands = absurd is
+words_say laws names slots slot few (Budget n) is line word operands =
+    (word, rw operands (laws.number n (omega (arith, is.1))))
+words_say laws names slots slot few (OneLoop l) is line word operands = (
   word,
   rw operands (
-    inr (number_writes l.head (omega (arith, is.ordered, is.within))),
+    inr (laws.number l.head (omega (arith, is.ordered, is.within))),
     (
-      inr (number_writes l.back (omega (arith, is.within))),
-      (number_writes l.bound (omega (arith, is.high)), (omega (arith, is.register), refl)),
+      inr (laws.number l.back (omega (arith, is.within))),
+      (laws.number l.bound (omega (arith, is.high)), (omega (arith, is.register), refl)),
     ),
   ),
 )
-words_say names slots slot few (Code insn) is line word operands =
-    record { name = word; operands = rw operands (operands_write names slot insn is) }
+words_say laws names slots slot few (Code insn) is line word operands =
+    record { name = word; operands = rw operands (operands_write laws names slot insn is) }
 
-line_says : (names : List ℕ → Option ℕ) (slots slot : ℕ) → slots ≤ 512 → (item : Item) → IsPrinted slots item → IsLine names slot (item_line item) item
-line_says names slots slot few item is =
-    let name = item_word slots item is in
-    let words = item_words slots few item is in
-    words_say names slots slot few item is (item_line item) (word_written (item_name item) (item_operands item) name words)
-    (operands_written (item_name item) (item_operands item) name words)
+line_says : PrintedWords → (names : List ℕ → Option ℕ) (slots slot : ℕ) → slots ≤ 512 → (item : Item) → IsPrinted slots item → IsLine names slot (item_line item) item
+line_says laws names slots slot few item is =
+    let name = item_word laws slots item is in
+    let words = item_words laws slots few item is in
+    words_say laws names slots slot few item is (item_line item) (laws.first (item_name item) (item_operands item) name words)
+    (laws.rest (item_name item) (item_operands item) name words)
 
 -- ---- all lines, each with its end, and the empty one after the last end
 
@@ -102,14 +98,13 @@ nothing_said : (names : List ℕ → Option ℕ) (slot : ℕ) → IsLine names s
 unfolding word_of rest_of code_of
 nothing_said names slot = (refl, refl)
 
-pub lines_say : (names : List ℕ → Option ℕ) (slots slot : ℕ) → slots ≤ 512 → (items : List Item) → ArePrinted slots items
+pub lines_say : PrintedWords → (names : List ℕ → Option ℕ) (slots slot : ℕ) → slots ≤ 512 → (items : List Item) → ArePrinted slots items
     → AreLines names slot (slice_split (λ c. c == 10) (text_of items)) (items ++ Nothing ∷ [])
-lines_say names slots slot few [] are = (nothing_said names slot, tt)
-lines_say names slots slot few (item ∷ items) are =
-    let one_line = written_one_line (item_name item) (item_operands item) (item_word slots item are.0) (item_words slots few item are.0) in
-    let parts = split_at (λ c. c == 10) (item_line item) 10 (text_of items) one_line refl in
+lines_say laws names slots slot few [] are = (nothing_said names slot, tt)
+lines_say laws names slots slot few (item ∷ items) are =
+    let parts = laws.line (item_name item) (item_operands item) (text_of items) (item_word laws slots item are.0) (item_words laws slots few item are.0) in
     subst (λ lines. AreLines names slot lines (item ∷ (items ++ Nothing ∷ []))) (sym parts)
-    (line_says names slots slot few item are.0, lines_say names slots (slot + slots_in item) few items are.1)
+    (line_says laws names slots slot few item are.0, lines_say laws names slots (slot + slots_in item) few items are.1)
 
 -- no label is printed
 pub no_names : (slots slot : ℕ) (items : List Item) → ArePrinted slots items → names_from slot (items ++ Nothing ∷ []) ≡ []

@@ -1,10 +1,15 @@
 //! The jobs `asm` and `dis`.
 
-use super::folder::LOCKED;
-use super::{done, run, verdict_image};
+use super::{Outcome, done, run, verdict_image};
+use crate::LOCKED;
 use std::test::Fail;
 
 const YES: &str = ".budget 2\nmov r0, 0\nexit\n";
+
+/// The image that was written.
+fn image_in(made: &Outcome) -> Result<&[u8], Fail> {
+    Ok(made.folder.content("image").ok_or("no image")?)
+}
 
 #[test]
 fn text_to_image_and_back(rt: HostRuntime) -> Result<(), Fail> {
@@ -16,8 +21,8 @@ fn text_to_image_and_back(rt: HostRuntime) -> Result<(), Fail> {
     )?;
     assert_eq!(rt; made.printed.as_str(), "slots 2 loops 0 budget 2\n");
     assert_eq!(rt; made.status, 0);
-    assert_eq!(rt; made.written.as_slice(), verdict_image(0).as_slice());
-    let files = [("image", made.written.as_slice())];
+    assert_eq!(rt; image_in(&made)?, verdict_image(0).as_slice());
+    let files = [("image", image_in(&made)?)];
     let (printed, status) = run(alloc, &["dis", "image"], &files)?;
     assert_eq!(rt; printed.as_str(), YES);
     assert_eq!(rt; status, 0);
@@ -38,9 +43,9 @@ fn loops_are_assembled_and_refused(rt: HostRuntime) -> Result<(), Fail> {
     )?;
     assert_eq!(rt; made.printed.as_str(), "slots 6 loops 1 budget 15\n");
     // Slot 4, behind the header of 16 bytes and the loop of 8: jne r6, 0, -3.
-    let slot = made.written.as_slice().get(56..64).ok_or("too short")?;
+    let slot = image_in(&made)?.get(56..64).ok_or("too short")?;
     assert_eq!(rt; slot, [0x55, 0x06, 0xfd, 0xff, 0, 0, 0, 0].as_slice());
-    let files = [("image", made.written.as_slice())];
+    let files = [("image", image_in(&made)?)];
     let (printed, _) = run(alloc, &["dis", "image"], &files)?;
     assert_eq!(rt;
         printed.as_str(),

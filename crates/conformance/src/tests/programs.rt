@@ -17,7 +17,8 @@ fn image_of(alloc: Global, budget: u32, text: &str) -> Result<Vec<u8>, Fail> {
     let files = [("text", lines.as_bytes())];
     let made = done(alloc, &["asm", "text", "image"], &files)?;
     if made.status == 0 {
-        Ok(made.written)
+        let image = made.folder.content("image").ok_or("no image")?;
+        Ok(Vec::from_slice(alloc, image)?)
     } else {
         Err("the text is no image".into())
     }

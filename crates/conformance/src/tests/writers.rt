@@ -1,7 +1,7 @@
 //! Writers that fail, and memory that is refused.
 
-use super::folder::Folder;
-use super::{PLAIN_READ, judged};
+use super::{PLAIN_READ, folder_of, judged};
+use crate::Folder;
 use commands::{Job, WriteFault, perform, words};
 use std::alloc::Global;
 use std::io::{self, Write};
@@ -38,11 +38,11 @@ impl Write for Failing {
     }
 }
 
-/// Does the job over these lines with a writer that takes so many writes.
+/// Does the job over this folder with a writer that takes so many writes.
 fn perform_until(
     alloc: Global,
     job: &Job,
-    lines: &str,
+    folder: &mut Folder,
     writes: u32,
 ) -> (Failing, Result<u8, WriteFault>) {
     let mut out = Failing {
@@ -51,12 +51,7 @@ fn perform_until(
         late: 0,
         has_failed: false,
     };
-    let files = [("lines", lines.as_bytes())];
-    let mut folder = Folder {
-        files: &files,
-        written: Vec::new(alloc),
-    };
-    let done = perform(alloc, job, &mut folder, &mut out);
+    let done = perform(alloc, job, folder, &mut out);
     (out, done)
 }
 
@@ -67,9 +62,11 @@ fn writers_that_fail_at_each_write(rt: HostRuntime) -> Result<(), Fail> {
     let (whole, status) = judged(rt.alloc(), lines)?;
     assert_eq!(rt; status, 1);
     let job = words(rt.alloc(), &["judge", "lines"])?;
+    let files = [("lines", lines.as_bytes())];
+    let mut folder = folder_of(rt.alloc(), &files).map_err(|_| "no folder")?;
     let mut ended = false;
     for writes in 0..100 {
-        let (out, done) = perform_until(rt.alloc(), &job, lines, writes);
+        let (out, done) = perform_until(rt.alloc(), &job, &mut folder, writes);
         let written = str::from_utf8(out.written.as_slice())?;
         assert_eq!(rt; out.late, 0, "at {writes}");
         assert!(rt; whole.as_str().starts_with(written), "at {writes}");
@@ -86,15 +83,12 @@ fn writers_that_fail_at_each_write(rt: HostRuntime) -> Result<(), Fail> {
 }
 
 /// What `judge` prints of these lines, and the exit status; `None` where memory was refused to the
-/// words or to the writer.
+/// words, to the folder or to the writer.
 fn tried(alloc: Global, lines: &str) -> Option<(String, u8)> {
     let job = words(alloc, &["judge", "lines"]).ok()?;
     let files = [("lines", lines.as_bytes())];
     let mut out = Vec::new(alloc);
-    let mut folder = Folder {
-        files: &files,
-        written: Vec::new(alloc),
-    };
+    let mut folder = folder_of(alloc, &files).ok()?;
     let status = perform(alloc, &job, &mut folder, &mut out).ok()?;
     Some((String::from_utf8(out).ok()?, status))
 }

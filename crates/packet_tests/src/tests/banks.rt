@@ -8,11 +8,12 @@ use trial::{BASE, PLAIN_READ, PLAIN_WRITE, packet};
 
 const READ_MODIFY_WRITE: &str = "0 FE015C0067000400A000000000000297 F03CEE EOP";
 
-const WRITE_TO_ONE_ADDRESS: &str = "0 FE01680067000800A0000000000002BE 1122A3 EOP";
+/// A write of 11 22 to the bank's first address, without increment, as a packet line.
+pub const WRITE_TO_ONE_ADDRESS: &str = "0 FE01680067000800A0000000000002BE 1122A3 EOP";
 
-/// Applies the command of the line with a verdict; `None` where the header stops it or it does not
-/// fit.
-fn applied(
+/// Applies the command of the line at the share's port with a verdict; `None` where the header stops it
+/// or it does not fit.
+pub fn applied(
     alloc: Global,
     bank: &mut Bank,
     share: &mut Share,
@@ -29,7 +30,7 @@ fn applied(
     if !is_judged {
         return Ok(None);
     }
-    let judged = Judged::new(packet, &windows, 0, 7, verdict);
+    let judged = Judged::new(packet, &windows, share.port(), 7, verdict);
     if !bank.fits(share, &judged) {
         judged.answer_error(reply);
         return Ok(None);

@@ -2,7 +2,7 @@
 
 use super::YES;
 use bpf::{Image, ImageFault, Loop};
-use bpf_insn::{AluOp, Callee, Condition, Insn, Operand, Register, Width};
+use bpf_insn::{AluOp, Callee, Comparison, Condition, Insn, Operand, Register, Width};
 use std::alloc::Global;
 use std::process::Abort;
 use std::test::Fail;
@@ -224,11 +224,14 @@ fn tells_quota(rt: &impl Abort, image: &Image) {
         return;
     };
     let src = Operand::Immediate(5);
-    let jump = Insn::Jump {
+    let comparison = Comparison {
         condition: Condition::Less,
         width: Width::Bits64,
         dst: r0,
         src,
+    };
+    let jump = Insn::Jump {
+        comparison,
         offset: 2,
     };
     assert!(rt; image.insn(4) == Some(jump));

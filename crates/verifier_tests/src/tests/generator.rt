@@ -3,7 +3,7 @@
 
 ghost use Rattle.std.specs.Prelude.{◌<◌};
 
-use bpf_insn::{AluOp, Insn, LoadSize, Operand, Register, Size, Width};
+use bpf_insn::{AluOp, Comparison, Insn, LoadSize, Operand, Place, Register, Size, Width};
 use std::alloc::{AllocError, Global};
 use trial::{
     CONDITIONS, EXTENSIONS, LOAD_SIZES, OPERATIONS, Random, SIZES, SWAP_BITS, SWAPS, WIDTHS,
@@ -135,11 +135,14 @@ fn swap(random: &mut Random, dst: Register) -> Insn {
 
 /// A jump over one or two instructions.
 fn jump(random: &mut Random, dst: Register, src: Operand) -> Insn {
-    Insn::Jump {
+    let comparison = Comparison {
         condition: random.one_of(&CONDITIONS),
         width: random.one_of(&WIDTHS),
         dst,
         src,
+    };
+    Insn::Jump {
+        comparison,
         offset: 1 + random.below(2) as i16,
     }
 }
@@ -148,27 +151,29 @@ fn load(random: &mut Random, base: Register, offset: i16) -> Insn {
     Insn::Load {
         size: random.one_of(&LOAD_SIZES),
         dst: number(random),
-        base,
-        offset,
+        place: Place { base, offset },
     }
 }
 
 fn store(random: &mut Random, base: Register, offset: i16) -> Insn {
     Insn::Store {
         size: random.one_of(&SIZES),
-        base,
-        offset,
+        place: Place { base, offset },
         src: operand(random),
     }
 }
 
 /// A load of two bytes of the front.
 fn load_front(random: &mut Random) -> Insn {
-    Insn::Load {
-        size: LoadSize::LoadHalf,
-        dst: number(random),
+    let dst = number(random);
+    let place = Place {
         base: register(1),
         offset: random.below(3) as i16,
+    };
+    Insn::Load {
+        size: LoadSize::LoadHalf,
+        dst,
+        place,
     }
 }
 
@@ -272,10 +277,13 @@ fn set_stack(insns: &mut Vec<Insn>, random: &mut Random) -> Result<(), AllocErro
 
 /// Sets eight bytes of the stack.
 fn set_place(random: &mut Random, offset: i16) -> Insn {
-    Insn::Store {
-        size: Size::Double,
+    let place = Place {
         base: register(10),
         offset,
+    };
+    Insn::Store {
+        size: Size::Double,
+        place,
         src: operand(random),
     }
 }
@@ -299,11 +307,14 @@ fn mix_stack(insns: &mut Vec<Insn>) -> Result<(), AllocError> {
 
 /// Loads eight bytes of the stack into r4.
 fn get_place(offset: i16) -> Insn {
+    let place = Place {
+        base: register(10),
+        offset,
+    };
     Insn::Load {
         size: LoadSize::LoadDouble,
         dst: register(4),
-        base: register(10),
-        offset,
+        place,
     }
 }
 

@@ -36,13 +36,9 @@ fn result(alloc: Global, insn: &str, a: Range, b: Range) -> Result<Range, Fail> 
 /// What the instruction's comparison tells of its operands.
 fn edges(alloc: Global, insn: &str, a: Range, b: Range) -> Result<Edges, Fail> {
     match image_of_text(alloc, insn, 1)?.insn(0) {
-        Some(
-            Insn::Jump {
-                condition,
-                width,
-                ..
-            },
-        ) => Ok(refine(condition, width, a, b)),
+        Some(Insn::Jump { comparison, .. }) => {
+            Ok(refine(comparison.condition, comparison.width, a, b))
+        }
         _ => Err("no comparison".into()),
     }
 }

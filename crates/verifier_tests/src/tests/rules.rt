@@ -10,7 +10,7 @@ use std::test::Fail;
 use trial::{Row, image_of_text};
 
 /// The code and the slot of a refusal, or nothing.
-fn answer(text: &str) -> Result<Option<(u8, u16)>, Fail> {
+pub fn answer(text: &str) -> Result<Option<(u8, u16)>, Fail> {
     if text == "ok" {
         return Ok(None);
     }
@@ -178,7 +178,7 @@ a loop|.loop 2, 4, 4, r6; mov r0, 0; mov r6, 4; add r0, 1; add r6, -1; jne r6, 0
 the same without its loop|mov r0, 0; mov r6, 4; add r0, 1; add r6, -1; jne r6, 0, -3; exit|15||2 4
 two loops|.loop 2, 7, 3, r6; .loop 3, 5, 4, r7; mov r0, 0; mov r6, 3; mov r7, 4; add r0, 1; add r7, -1; jne r7, 0, -3; add r6, -1; jne r6, 0, -6; exit|48||16 5
 the frame pointer before a loop|.loop 2, 4, 4, r6; mov r10, 0; mov r6, 4; add r0, 1; add r6, -1; jne r6, 0, -3; exit|15||10 0
-a loop that ends in a second slot|.loop 0, 2, 1, r6; mov r0, 0; lddw r1, 1; exit|4||16 2
+a loop that ends in a second slot|.loop 0, 2, 1, r6; mov r0, 0; lddw r1, 1; exit|4||3 2
 the first slot decides|mov r0, 0; call 1; mov r10, 0; exit|4||13 1
 the form before the values|mov r0, r4; mov r10, 0; exit|3||10 1
 a byte that is set on one path|jeq r3, 0, +1; stb [r10-1], 1; ldxb r0, [r10-1]; exit|4||8 2

@@ -2,7 +2,7 @@
 
 use absdom::{AbsKind, Cause, Offsets, Region, State, refine};
 use absdom_num::Range;
-use bpf_insn::{AluOp, Condition, Insn, LoadSize, Operand, Register, Size, Width};
+use bpf_insn::{AluOp, Condition, Insn, LoadSize, Operand, Place, Register, Size, Width};
 use std::test::Fail;
 
 fn register(number: u8) -> Result<Register, &'static str> {
@@ -22,16 +22,14 @@ fn load(dst: Register, base: Register, offset: i16) -> Insn {
     Insn::Load {
         size: LoadSize::LoadDouble,
         dst,
-        base,
-        offset,
+        place: Place { base, offset },
     }
 }
 
 fn store(base: Register, offset: i16) -> Insn {
     Insn::Store {
         size: Size::Double,
-        base,
-        offset,
+        place: Place { base, offset },
         src: Operand::Immediate(-1),
     }
 }

@@ -4,6 +4,7 @@ use Rattle.std.proofs.lemmas.Int.{to_z-of_z}
 use Rattle.bpf_insn.specs.Codes.{address_subtype, address_first, address_second}
 use Rattle.basm.proofs.Addresses.{load_address, same_load}
 use Rattle.basm.proofs.OperandReadings.{no_value, one_value}
+use Rattle.basm.specs.Relation.{texts}
 use Rattle.basm.proofs.instructions.address_load.Goals as goal
 
 pub returns-in-Some-clause-writes : goal.returns-in-Some-clause-writes
@@ -15,7 +16,7 @@ returns-in-Some-clause-writes c = λ names slot.
     let second = same.2 ∙ to_z-of_z w32 found.second (search rules) in
     record {
       name = refl;
-      operands = load_address (λ operand. operand.now) names slot c.args.operands.now found.dst found.subtype found.first found.second
+      operands = load_address names slot (texts c.args.operands.now) found.dst found.subtype found.first found.second
           c.in-Some.address found.ensures.writes (subtype, first, second);
     }
 

@@ -1,8 +1,10 @@
-use Rattle.basm.proofs.OperandReadings.{same_place}
+use Rattle.std.proofs.Common.{ap}
+use Rattle.std.specs.Prelude.{Ok}
+use Rattle.basm.proofs.OperandReadings.{no_value, one_value}
 use Rattle.basm.proofs.instructions.memory.Goals as goal
 
 pub returns-in_err-read_place-clause-exact : goal.returns-in_err-read_place-clause-exact
-returns-in_err-read_place-clause-exact c = λ base offset w. absurd (c.in_err-read_place.ensures.exact base offset w)
+returns-in_err-read_place-clause-exact c = λ place w. absurd (no_value c.in_err-read_place.field-0.0 place (c.in_err-read_place.ensures.exact place w))
 
 pub returns-clause-exact : goal.returns-clause-exact
-returns-clause-exact c = λ base offset w. same_place c.in_ok-read_place.field-0 base offset (c.in_ok-read_place.ensures.exact base offset w)
+returns-clause-exact c = λ place w. ap (λ x. Ok x) (one_value c.in_ok-read_place.field-0 place (c.in_ok-read_place.ensures.exact place w))

@@ -1,21 +1,17 @@
-use Rattle.std.proofs.Common.{sym, ◌∙◌, rules}
-use Rattle.std.specs.Prelude.{FitsSigned}
-use Rattle.std.specs.Int.{w16}
-use Rattle.std.proofs.lemmas.Int.{to_z-of_z}
+use Rattle.std.proofs.Common.{sym, ◌∙◌}
 use Rattle.basm_lex.specs.Places.{WritesPlace, WritesRegister}
 use Rattle.basm.proofs.OperandReadings.{no_value, stored_register, two_read}
 use Rattle.basm.proofs.instructions.store_register.Goals as goal
 
 pub returns-in_err-place-clause-exact : goal.returns-in_err-place-clause-exact
-returns-in_err-place-clause-exact c = λ base src offset w.
-    let read = two_read (λ operand. operand.now) c.args.operands.now _ (λ a. WritesPlace a base offset) (λ b. WritesRegister b src) c.memory.result c.reg.result c.both.result (record { base = base; offset = offset }) src
-    c.both.ensures.exact (c.memory.ensures.exact base offset) (c.reg.ensures.exact src) w in
+returns-in_err-place-clause-exact c = λ place src w.
+    let read = two_read (λ operand. operand.now) c.args.operands.now _ (λ a. WritesPlace a place) (λ b. WritesRegister b src) c.memory.result c.reg.result c.both.result place src
+    c.both.ensures.exact (c.memory.ensures.exact place) (c.reg.ensures.exact src) w in
     absurd (no_value c.in_err-place.field-0.0 _ (sym c.in_err-place.was ∙ read))
 
 pub returns-clause-exact : goal.returns-clause-exact
-returns-clause-exact c = λ base src offset w.
+returns-clause-exact c = λ place src w.
     let x = c.in_ok-place in
-    let read = two_read (λ operand. operand.now) c.args.operands.now _ (λ a. WritesPlace a base offset) (λ b. WritesRegister b src) c.memory.result c.reg.result c.both.result (record { base = base; offset = offset }) src
-    c.both.ensures.exact (c.memory.ensures.exact base offset) (c.reg.ensures.exact src) w in
-    let near : FitsSigned w16 x.place.offset = search rules in
-    rw (to_z-of_z w16 x.place.offset near) (stored_register c.args.size x.place x.src base offset src (sym x.was ∙ read))
+    let read = two_read (λ operand. operand.now) c.args.operands.now _ (λ a. WritesPlace a place) (λ b. WritesRegister b src) c.memory.result c.reg.result c.both.result place src
+    c.both.ensures.exact (c.memory.ensures.exact place) (c.reg.ensures.exact src) w in
+    stored_register c.args.size x.place x.src place src (sym x.was ∙ read)

@@ -1,4 +1,4 @@
-use Rattle.std.proofs.Common.{◌++◌, Some, lit<}
+use Rattle.std.proofs.Common.{◌++◌, Some, Ok, lit<}
 use Rattle.bpf_insn.specs.Text.{register_text}
 use Rattle.std.proofs.lemmas.Str.Pattern.{split_parts}
 use Rattle.basm_lex.proofs.PlaceTexts.{place_of}
@@ -24,44 +24,45 @@ returns-in_ok-offset-in-None-clause-writes c =
     c.in_ok-inner.ensures split.0 c.in_ok-base-in-None.ensures.writes c.in_ok-offset-in-None.ensures.writes
 
 pub returns-in_err-inner-clause-exact : goal.returns-in_err-inner-clause-exact
-returns-in_err-inner-clause-exact c = λ base offset w. absurd (c.in_err-inner.ensures (register_text base ++ w.distance) w.word_is)
+returns-in_err-inner-clause-exact c = λ place w. absurd (c.in_err-inner.ensures (register_text place.base ++ w.distance) w.word_is)
 
 pub returns-in_err-base-in-Some-clause-exact : goal.returns-in_err-base-in-Some-clause-exact
-returns-in_err-base-in-Some-clause-exact c = λ base offset w.
-    let parts = at_plus c.args.word.now c.in_ok-inner.inner.now c.in_ok-inner.ensures (c.in-Some.base, c.in-Some.digits) c.in-Some.ensures.cases base offset w in
-    absurd (no_value c.in_err-base-in-Some.field-0.0 base (c.in_err-base-in-Some.ensures.exact base (w.is_base, parts.0)))
+returns-in_err-base-in-Some-clause-exact c = λ place w.
+    let parts = at_plus c.args.word.now c.in_ok-inner.inner.now c.in_ok-inner.ensures (c.in-Some.base, c.in-Some.digits) c.in-Some.ensures.cases place w in
+    absurd (no_value c.in_err-base-in-Some.field-0.0 place.base (c.in_err-base-in-Some.ensures.exact place.base (w.is_base, parts.0)))
 
 pub returns-in_err-offset-in-Some-clause-exact : goal.returns-in_err-offset-in-Some-clause-exact
-returns-in_err-offset-in-Some-clause-exact c = λ base offset w.
-    let parts = at_plus c.args.word.now c.in_ok-inner.inner.now c.in_ok-inner.ensures (c.in-Some.base, c.in-Some.digits) c.in-Some.ensures.cases base offset w in
-    absurd (no_value c.in_err-offset-in-Some.field-0.0 offset (c.in_err-offset-in-Some.ensures.exact offset parts.1 w.fits))
+returns-in_err-offset-in-Some-clause-exact c = λ place w.
+    let parts = at_plus c.args.word.now c.in_ok-inner.inner.now c.in_ok-inner.ensures (c.in-Some.base, c.in-Some.digits) c.in-Some.ensures.cases place w in
+    absurd (no_value c.in_err-offset-in-Some.field-0.0 place.offset (c.in_err-offset-in-Some.ensures.exact place.offset parts.1 w.fits))
 
 pub returns-in_ok-offset-in-Some-clause-exact : goal.returns-in_ok-offset-in-Some-clause-exact
-returns-in_ok-offset-in-Some-clause-exact c = λ base offset w.
-    let parts = at_plus c.args.word.now c.in_ok-inner.inner.now c.in_ok-inner.ensures (c.in-Some.base, c.in-Some.digits) c.in-Some.ensures.cases base offset w in (
-      one_value c.in_ok-base-in-Some.base base (c.in_ok-base-in-Some.ensures.exact base (w.is_base, parts.0)),
-      read_offset c.in_ok-offset-in-Some.offset offset (c.in_ok-offset-in-Some.ensures.exact offset parts.1 w.fits) w.fits,
-    )
+returns-in_ok-offset-in-Some-clause-exact c = λ place w.
+    let parts = at_plus c.args.word.now c.in_ok-inner.inner.now c.in_ok-inner.ensures (c.in-Some.base, c.in-Some.digits) c.in-Some.ensures.cases place w in
+    let base = one_value c.in_ok-base-in-Some.base place.base (c.in_ok-base-in-Some.ensures.exact place.base (w.is_base, parts.0)) in
+    let offset = read_offset c.in_ok-offset-in-Some.offset place.offset (c.in_ok-offset-in-Some.ensures.exact place.offset parts.1 w.fits) w.fits in
+    λ i. Ok (record { base = base i; offset = offset i })
 
 pub returns-in_default-clause-exact : goal.returns-in_default-clause-exact
-returns-in_default-clause-exact c = some_sign c.args.word.now c.in_ok-inner.inner.now c.in_ok-inner.ensures c.in-None.ensures.cases c.in_default.ensures.cases
+returns-in_default-clause-exact c = λ place w.
+    absurd (some_sign c.args.word.now c.in_ok-inner.inner.now c.in_ok-inner.ensures c.in-None.ensures.cases c.in_default.ensures.cases place w)
 
 pub returns-in_err-base-in-None-clause-exact : goal.returns-in_err-base-in-None-clause-exact
-returns-in_err-base-in-None-clause-exact c = λ base offset w.
+returns-in_err-base-in-None-clause-exact c = λ place w.
     let x = c.in-Some-split_once in
-    let parts = at_minus c.args.word.now c.in_ok-inner.inner.now c.in_ok-inner.ensures c.in-None.ensures.cases (x.base, x.digits) x.ensures.cases base offset w in
-    absurd (no_value c.in_err-base-in-None.field-0.0 base (c.in_err-base-in-None.ensures.exact base (w.is_base, parts.0)))
+    let parts = at_minus c.args.word.now c.in_ok-inner.inner.now c.in_ok-inner.ensures c.in-None.ensures.cases (x.base, x.digits) x.ensures.cases place w in
+    absurd (no_value c.in_err-base-in-None.field-0.0 place.base (c.in_err-base-in-None.ensures.exact place.base (w.is_base, parts.0)))
 
 pub returns-in_err-offset-in-None-clause-exact : goal.returns-in_err-offset-in-None-clause-exact
-returns-in_err-offset-in-None-clause-exact c = λ base offset w.
+returns-in_err-offset-in-None-clause-exact c = λ place w.
     let x = c.in-Some-split_once in
-    let parts = at_minus c.args.word.now c.in_ok-inner.inner.now c.in_ok-inner.ensures c.in-None.ensures.cases (x.base, x.digits) x.ensures.cases base offset w in
-    absurd (no_value c.in_err-offset-in-None.field-0.0 offset (c.in_err-offset-in-None.ensures.exact offset parts.1 w.fits))
+    let parts = at_minus c.args.word.now c.in_ok-inner.inner.now c.in_ok-inner.ensures c.in-None.ensures.cases (x.base, x.digits) x.ensures.cases place w in
+    absurd (no_value c.in_err-offset-in-None.field-0.0 place.offset (c.in_err-offset-in-None.ensures.exact place.offset parts.1 w.fits))
 
 pub returns-in_ok-offset-in-None-clause-exact : goal.returns-in_ok-offset-in-None-clause-exact
-returns-in_ok-offset-in-None-clause-exact c = λ base offset w.
+returns-in_ok-offset-in-None-clause-exact c = λ place w.
     let x = c.in-Some-split_once in
-    let parts = at_minus c.args.word.now c.in_ok-inner.inner.now c.in_ok-inner.ensures c.in-None.ensures.cases (x.base, x.digits) x.ensures.cases base offset w in (
-      one_value c.in_ok-base-in-None.base base (c.in_ok-base-in-None.ensures.exact base (w.is_base, parts.0)),
-      read_offset c.in_ok-offset-in-None.offset offset (c.in_ok-offset-in-None.ensures.exact offset parts.1 w.fits) w.fits,
-    )
+    let parts = at_minus c.args.word.now c.in_ok-inner.inner.now c.in_ok-inner.ensures c.in-None.ensures.cases (x.base, x.digits) x.ensures.cases place w in
+    let base = one_value c.in_ok-base-in-None.base place.base (c.in_ok-base-in-None.ensures.exact place.base (w.is_base, parts.0)) in
+    let offset = read_offset c.in_ok-offset-in-None.offset place.offset (c.in_ok-offset-in-None.ensures.exact place.offset parts.1 w.fits) w.fits in
+    λ i. Ok (record { base = base i; offset = offset i })

@@ -56,7 +56,7 @@ loop-step-preserved c =
             at = λ port entered.
                 let at = along_left _ _ _ _ _ _ _ _ _ w.in-Some.ensures.cases.0 (c.loop-step.invariant.at port entered) in
                 let small = given_small c.args.answers.now (answers_of at.calls) _ _ at.given c.type_inv.answers in
-                walk_asks _ _ _ _ _ _ before asked w.answer.new.self _ _ _ _ _ at w.in-Ask.ensures.turn w.in-Ask.ensures.run small w.answer.ensures.state w.answer.ensures.run;
+                walk_asks _ _ _ _ _ c.questions_go_on.ensures.steps _ before asked w.answer.new.self _ _ _ _ _ at w.in-Ask.ensures.turn w.in-Ask.ensures.run small w.answer.ensures.state w.answer.ensures.run;
           })
     ]
 

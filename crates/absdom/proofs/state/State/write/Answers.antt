@@ -1,5 +1,5 @@
 use Rattle.std.proofs.Common.{◌∙◌, length-set, rules}
-use Rattle.absdom.specs.Growth.{IsProper}
+use Rattle.absdom.specs.State.{IsProper}
 use Rattle.absdom.proofs.StateSteps.{proper_after}
 use Rattle.absdom.proofs.state.State.write.Goals as goal
 

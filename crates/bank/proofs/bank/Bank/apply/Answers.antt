@@ -1,4 +1,4 @@
-use Rattle.std.proofs.Common.{◌≡◌, ◌+◌, ℕ, true, set, ap, ◌∙◌}
+use Rattle.std.proofs.Common.{rules, ◌≡◌, true, ap, ◌∙◌}
 use Rattle.bank.specs.Records.{BankValue, fits}
 use Rattle.bank.proofs.Banks.{still_bank}
 use Rattle.bank.proofs.bank.Bank.apply.Goals as goal
@@ -11,6 +11,5 @@ invariant_of-self-2 c =
     let judged = c.args.judged in
     let fit : fits bank share judged ≡ true = ap (λ (b : BankValue). fits b share judged) c.self.view_is ∙ c.requires in
     let port : c.from.result ≡ judged.port = c.from.ensures ∙ c.port-2.ensures in
-    let counts = ap (λ (p : ℕ). set bank.counts p (share.number + 1)) port in
     rw (c.push.ensures, c.new.ensures, c.number-number.ensures)
-    (still_bank bank share judged c.answer-status.result c.answer-status.new.memory.items _ c.self.invariant fit c.answer-status.ensures.memory counts)
+    (still_bank bank share judged _ _ _ c.self.invariant fit (search rules) (rw port (search rules)))

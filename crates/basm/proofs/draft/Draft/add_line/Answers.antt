@@ -1,4 +1,4 @@
-use Rattle.std.proofs.Common.{◌≡◌, ℕ, List, map, ap, sym, ◌∙◌, subst}
+use Rattle.std.proofs.Common.{◌≡◌, ℕ, List, ap, sym, ◌∙◌, subst}
 use Rattle.std.proofs.lemmas.Option.{none-some}
 use Rattle.std.proofs.lemmas.Result.{IfOk-weaker}
 use Rattle.basm_lex.specs.Lines.{operands_of}
@@ -6,7 +6,7 @@ use Rattle.basm_lex.specs.Names.{IsName}
 use Rattle.basm.specs.Draft.{AddsItem, HasRoom, UnlessMemory}
 use Rattle.basm_lex.specs.Mnemonics.{mnemonic_word}
 use Rattle.basm.specs.Names.{slot_named}
-use Rattle.basm.specs.Relation.{Item}
+use Rattle.basm.specs.Relation.{Item, texts}
 use Rattle.basm.proofs.Arms.{budget_item, empty_adds, insn_item, label_item, loop_item}
 use Rattle.basm.proofs.Items.{adds_label, line_insn, line_label, line_loop, line_nothing}
 use Rattle.basm.proofs.draft.Draft.add_line.Goals as goal
@@ -21,35 +21,35 @@ returns-in-empty-clause-exact c = λ item says room.
 
 pub returns-in-text-clause-exact : goal.returns-in-text-clause-exact
 returns-in-text-clause-exact c = λ item says room.
-    let operands : map (λ operand. operand.now) c.as_slice-operands.result.now ≡ operands_of c.args.line.now = ap (map (λ operand. operand.now)) c.as_slice-operands.ensures.value ∙ c.in_ok-statement.ensures.operands in
+    let operands : texts c.as_slice-operands.result.now ≡ operands_of c.args.line.now = ap texts c.as_slice-operands.ensures.value ∙ c.in_ok-statement.ensures.operands in
     let Q : Item → Type 0 = λ item. HasRoom c.args.survey.now.slots item c.args.self.now → UnlessMemory c.add_budget.result (λ _. AddsItem item c.args.self.now c.add_budget.new.self) in
-    budget_item (λ operand. operand.now) c.as_slice-operands.result.now (slot_named c.args.survey.now.names) c.args.self.now.slots c.args.line.now item Q
+    budget_item (texts c.as_slice-operands.result.now) (slot_named c.args.survey.now.names) c.args.self.now.slots c.args.line.now item Q
     (λ found is. none-some found (c.in-None.ensures.exact found (c.in_ok-statement.ensures.word ∙ is))) (sym c.in_ok-statement.ensures.word ∙ c.in-text.is) operands says (λ n one room. c.add_budget.ensures.exact n one room.0 room.1) room
 
 pub returns-in-text-2-clause-adds : goal.returns-in-text-2-clause-adds
 returns-in-text-2-clause-adds c =
-    let operands : map (λ operand. operand.now) c.as_slice-operands.result.now ≡ operands_of c.args.line.now = ap (map (λ operand. operand.now)) c.as_slice-operands.ensures.value ∙ c.in_ok-statement.ensures.operands in
-    IfOk-weaker c.add_loop.result _ _ (λ x h. line_loop (λ operand. operand.now) c.as_slice-operands.result.now (slot_named c.args.survey.now.names) c.args.line.now c.args.self.now c.add_loop.new.self h.0
+    let operands : texts c.as_slice-operands.result.now ≡ operands_of c.args.line.now = ap texts c.as_slice-operands.ensures.value ∙ c.in_ok-statement.ensures.operands in
+    IfOk-weaker c.add_loop.result _ _ (λ x h. line_loop (texts c.as_slice-operands.result.now) (slot_named c.args.survey.now.names) c.args.line.now c.args.self.now c.add_loop.new.self h.0
     (sym c.in_ok-statement.ensures.word ∙ c.in-text-2.is) operands h.1 h.2) c.add_loop.ensures.adds
 
 pub returns-in-text-2-clause-exact : goal.returns-in-text-2-clause-exact
 returns-in-text-2-clause-exact c = λ item says room.
-    let operands : map (λ operand. operand.now) c.as_slice-operands.result.now ≡ operands_of c.args.line.now = ap (map (λ operand. operand.now)) c.as_slice-operands.ensures.value ∙ c.in_ok-statement.ensures.operands in
+    let operands : texts c.as_slice-operands.result.now ≡ operands_of c.args.line.now = ap texts c.as_slice-operands.ensures.value ∙ c.in_ok-statement.ensures.operands in
     let Q : Item → Type 0 = λ item. HasRoom c.args.survey.now.slots item c.args.self.now → UnlessMemory c.add_loop.result (λ _. AddsItem item c.args.self.now c.add_loop.new.self) in
-    loop_item (λ operand. operand.now) c.as_slice-operands.result.now (slot_named c.args.survey.now.names) c.args.self.now.slots c.args.line.now item Q
+    loop_item (texts c.as_slice-operands.result.now) (slot_named c.args.survey.now.names) c.args.self.now.slots c.args.line.now item Q
     (λ found is. none-some found (c.in-None.ensures.exact found (c.in_ok-statement.ensures.word ∙ is))) (sym c.in_ok-statement.ensures.word ∙ c.in-text-2.is) operands says (λ l four room. c.add_loop.ensures.exact l four room) room
 
 pub returns-in-Some-clause-adds : goal.returns-in-Some-clause-adds
 returns-in-Some-clause-adds c =
-    let operands : map (λ operand. operand.now) c.as_slice-operands.result.now ≡ operands_of c.args.line.now = ap (map (λ operand. operand.now)) c.as_slice-operands.ensures.value ∙ c.in_ok-statement.ensures.operands in
-    IfOk-weaker c.add_insn.result _ _ (λ x h. line_insn (λ operand. operand.now) c.as_slice-operands.result.now (slot_named c.args.survey.now.names) c.args.line.now (mnemonic_word c.in-Some.found) c.args.self.now c.add_insn.new.self h.0
+    let operands : texts c.as_slice-operands.result.now ≡ operands_of c.args.line.now = ap texts c.as_slice-operands.ensures.value ∙ c.in_ok-statement.ensures.operands in
+    IfOk-weaker c.add_insn.result _ _ (λ x h. line_insn (texts c.as_slice-operands.result.now) (slot_named c.args.survey.now.names) c.args.line.now (mnemonic_word c.in-Some.found) c.args.self.now c.add_insn.new.self h.0
     (sym c.in_ok-statement.ensures.word ∙ c.in-Some.ensures.names) operands h.1 h.2 h.3) c.add_insn.ensures.adds
 
 pub returns-in-Some-clause-exact : goal.returns-in-Some-clause-exact
 returns-in-Some-clause-exact c = λ item says room.
-    let operands : map (λ operand. operand.now) c.as_slice-operands.result.now ≡ operands_of c.args.line.now = ap (map (λ operand. operand.now)) c.as_slice-operands.ensures.value ∙ c.in_ok-statement.ensures.operands in
+    let operands : texts c.as_slice-operands.result.now ≡ operands_of c.args.line.now = ap texts c.as_slice-operands.ensures.value ∙ c.in_ok-statement.ensures.operands in
     let Q : Item → Type 0 = λ item. HasRoom c.args.survey.now.slots item c.args.self.now → UnlessMemory c.add_insn.result (λ _. AddsItem item c.args.self.now c.add_insn.new.self) in
-    insn_item (λ operand. operand.now) c.as_slice-operands.result.now (slot_named c.args.survey.now.names) c.args.self.now.slots c.args.line.now item c.in-Some.found Q
+    insn_item (texts c.as_slice-operands.result.now) (slot_named c.args.survey.now.names) c.args.self.now.slots c.args.line.now item c.in-Some.found Q
     (let P : List ℕ → Type 0 = IsName in subst P c.in_ok-statement.ensures.word c.in-Some.ensures.plain) (sym c.in_ok-statement.ensures.word ∙ c.in-Some.ensures.names) operands says (λ insn writes room. c.add_insn.ensures.exact insn writes room) room
 
 pub returns-clause-adds : goal.returns-clause-adds

@@ -1,0 +1,211 @@
+-- What is known at the head of a loop is raised, register by register.
+use Rattle.std.proofs.Common.{◌≡◌, ◌≢◌, ℕ, zero, suc, ◌+◌, ◌<◌, ◌≤◌, Bool, true, false, List, [], ◌∷◌, length, Option, None, Some, inl, inr, eqb, refl, sym, ap, subst, ◌∙◌, arith, get_or-set_same, get_or-set_other}
+use Rattle.std.specs.Prelude.{IsTrue, IfSome, ◌==◌, ◌&&◌, slice_set, slice_index_or}
+use Rattle.std.specs.List.{list_any}
+use Rattle.std.proofs.lemmas.Bool.{cases_lt, false≢true}
+use Rattle.std.proofs.lemmas.Bool.Decides.{nat_tests}
+use Rattle.std.proofs.lemmas.List.{get_or_past}
+use Rattle.bpf.specs.declared.loops.Loop.{Loop}
+use Rattle.bpf.specs.Program.{Program, IsProgram, IsLoop, insn_at}
+use Rattle.bpf_insn.specs.declared.flow.Flow.{Flow}
+use Rattle.bpf_insn.specs.declared.flow.Flow.TheVariants.{GoesOn, Branches, Jumps, Calls, Ends, Unsupported}
+use Rattle.bpf_insn.specs.declared.insn.Insn.{Insn}
+use Rattle.bpf_insn.specs.Flow.{flow_of, written_register, is_named, is_clobbered, is_written}
+use Rattle.bpf_insn.specs.declared.operation.Width.TheVariants.{Bits64}
+use Rattle.absdom_num.specs.Tables.{whole}
+use Rattle.absdom.specs.declared.kinds.AbsKind.{AbsKind}
+use Rattle.absdom.specs.declared.kinds.AbsKind.TheVariants.{Unset, Num, Ptr, Map}
+use Rattle.absdom.specs.Kinds.{IsKindBelow}
+use Rattle.absdom.specs.State.{StateValue, IsBelow, kind_at, with_kind}
+use Rattle.absdom.specs.State.{IsWhole, IsProper}
+use Rattle.absdom.specs.Laws.{BelowIsReflexive}
+use Rattle.bver_form.specs.Form.{IsFormed}
+use Rattle.bver_form.specs.Jumps.{is_loop_back}
+use Rattle.bver_form.specs.Loops.{holds}
+use Rattle.bver.specs.Justified.{IsHead, IsOpen, IsWrittenBy, IsWrittenIn}
+use Rattle.bver.specs.Heads.{IsDeclared, IsRaised, IsRaisedKind, IsWithinBound, counts, opens, keeps, opened_kind}
+use Rattle.bver.specs.Lowered.{is_lowered}
+use Rattle.bver.proofs.Counters.{inside_of, holds_at, loop_in, from_eqb}
+
+-- the registers below one were raised
+pub record IsRaising (p : Program) (l : Loop) (lowered : List Bool) (place : ℕ) (before now : StateValue) (from : ℕ) : Type 0 where
+  pub done : (register : ℕ) → register < from → IsRaisedKind p l lowered place register (kind_at before register) (kind_at now register)
+  pub rest : (register : ℕ) → from ≤ register → kind_at now register ≡ kind_at before register
+  pub marks : now.marks ≡ before.marks
+
+pub raising_none : (p : Program) (l : Loop) (lowered : List Bool) (place : ℕ) (before : StateValue) → IsRaising p l lowered place before before 0
+raising_none p l lowered place before = record {
+  done = λ register below. absurd (omega arith);
+  rest = λ register past. refl;
+  marks = refl;
+}
+
+pub raising_next : (p : Program) (l : Loop) (lowered : List Bool) (place : ℕ) (before now : StateValue) (from : ℕ) (kind : AbsKind) → IsWhole now → from ≤ 9 → IsRaising p l lowered place before now from → IsRaisedKind p l lowered place from (kind_at now from) kind → IsRaising p l lowered place before (with_kind now from kind) (from + 1)
+raising_next p l lowered place before now from kind whole low raising raised = record {
+  done = λ register below.
+      elim (cases_lt register from) [
+        | inl earlier ↦ rw (get_or-set_other now.kinds from register kind Unset (apart register earlier)) (raising.done register earlier)
+        | inr past ↦ same register (omega (arith, past, below))
+      ];
+  rest = λ register past. get_or-set_other now.kinds from register kind Unset (beyond register past) ∙ raising.rest register (omega (arith, past));
+  marks = raising.marks;
+}
+  where
+    apart : (register : ℕ) → register < from → register ≢ from
+    apart register below same = omega (arith, below, same)
+
+    beyond : (register : ℕ) → from + 1 ≤ register → register ≢ from
+    beyond register above same = omega (arith, above, same)
+
+    here : kind_at (with_kind now from kind) from ≡ kind
+    here = get_or-set_same now.kinds from kind Unset (omega (arith, whole.sizes.registers, low))
+
+    same : (register : ℕ) → register ≡ from → IsRaisedKind p l lowered place register (kind_at before register) (kind_at (with_kind now from kind) register)
+    same register is =
+        subst (λ (r : ℕ). IsRaisedKind p l lowered place r (kind_at before r) (kind_at (with_kind now from kind) r)) (sym is)
+        (rw (here, sym (raising.rest from (omega arith))) raised)
+
+pub raising_all : (p : Program) (l : Loop) (lowered : List Bool) (place : ℕ) (before now : StateValue) → IsRaising p l lowered place before now 10 → IsRaised p l lowered place before now
+raising_all p l lowered place before now raising = record {
+  registers = λ register low. raising.done register (omega (arith, low));
+  frame = raising.rest 10 (omega arith);
+  marks = raising.marks;
+}
+
+-- a loop none of whose slots writes the register
+pub unwritten : (p : Program) (l : Loop) (register : ℕ) → ((k : ℕ) → l.head ≤ k → k < l.back + 1 → IsWrittenBy (insn_at p k) register → ⊥) → IsWrittenIn p l register → ⊥
+unwritten p l register none h =
+    let within = inside_of l h.slot h.inside in
+    none h.slot within.0 (omega (arith, within.1)) h.writes
+
+pub written_at : (p : Program) (l : Loop) (register slot : ℕ) → l.head ≤ slot → slot < l.back + 1 → IsWrittenBy (insn_at p slot) register → IsWrittenIn p l register
+written_at p l register slot above below writes = record { slot = slot; inside = holds_at l slot above (omega (arith, below)); writes = writes }
+
+-- an element does not depend on what stands for the others
+pub any_default : (xs : List Loop) (k : ℕ) (d e : Loop) → k < length xs → slice_index_or xs k d ≡ slice_index_or xs k e
+any_default [] k d e below = absurd (omega arith)
+any_default (x ∷ xs) zero d e below = refl
+any_default (x ∷ xs) (suc k) d e below = any_default xs k d e (omega arith)
+
+-- of the loops below a place none is so
+abbrev pub NoneBefore : (Loop → Type 0) → Program → ℕ → Type 0
+NoneBefore P p n = (k : ℕ) (d : Loop) → k < n → P (slice_index_or p.loops k d) → ⊥
+
+pub none_next : (P : Loop → Type 0) (p : Program) (l : Loop) (n : ℕ) → NoneBefore P p n → IsDeclared p l n → (P l → ⊥) → NoneBefore P p (n + 1)
+none_next P p l n none declared is_not k d below so =
+    elim (cases_lt k n) [
+      | inl earlier ↦ none k d earlier so
+      | inr past ↦
+          let here : n ≡ k = omega (arith, past, below) in
+          is_not (subst P (declared.is d) (subst (λ (i : ℕ). P (slice_index_or p.loops i d)) (sym here) so))
+    ]
+
+-- where no loop has the back and the head, none is found
+none_back : (slot head : ℕ) (ls : List Loop) → ((k : ℕ) (d : Loop) → k < length ls → (slice_index_or ls k d).back ≡ slot × (slice_index_or ls k d).head ≡ head → ⊥) → list_any (λ l. l.back == slot && l.head == head) ls ≡ false
+none_back slot head [] none = refl
+none_back slot head (l ∷ ls) none =
+    rw (is_other l (none 0 l (omega arith))) (none_back slot head ls (λ k d below. none (suc k) d (omega (arith, below))))
+  where
+    is_other : (l : Loop) → (l.back ≡ slot × l.head ≡ head → ⊥) → (l.back == slot && l.head == head) ≡ false
+    is_other l other = by_back (eqb l.back slot) refl (eqb l.head head) refl
+      where
+        by_back : (b : Bool) → eqb l.back slot ≡ b → (h : Bool) → eqb l.head head ≡ h → (l.back == slot && l.head == head) ≡ false
+        by_back false back h at = rw back refl
+        by_back true back false at = rw (back, at) refl
+        by_back true back true at = absurd (other (from_eqb l.back slot back, from_eqb l.head head at))
+
+pub none_closes : (p : Program) (slot head n : ℕ) → length p.loops ≤ n → NoneBefore (λ l. l.back ≡ slot × l.head ≡ head) p n → is_loop_back p slot head ≡ false
+none_closes p slot head n all none = none_back slot head p.loops (λ k d below. none k d (omega (arith, below, all)))
+
+-- a loop that is declared at a place
+pub declared_at : (p : Program) (l : Loop) (place : ℕ) → IsProgram p → place < length p.loops → ((d : Loop) → slice_index_or p.loops place d ≡ l) → IsDeclared p l place
+declared_at p l place limits inside is = record { inside = inside; is = is; few = omega (arith, inside, limits.few_loops); limits = subst (IsLoop 512) (is l) (low_loop (loop_in (length p.slots) 0 p.loops place l limits.loops inside).1) }
+  where
+    low_loop : {m : Loop} → IsLoop (length p.slots) m → IsLoop 512 m
+    low_loop loop = record { ordered = loop.ordered; within = omega (arith, loop.within, limits.slots.1); low = loop.low; high = loop.high; register = loop.register }
+
+-- each kind is below itself, since each state is
+kind_below-refl : BelowIsReflexive → (k : AbsKind) → IsKindBelow k k
+kind_below-refl reflexive k = (reflexive (record { kinds = k ∷ []; marks = [] })).kinds 0
+
+-- ---- what is raised stands for every pass, and covers what was known
+
+open_kind : (lowered : Bool) (kind : AbsKind) → IsOpen (opened_kind lowered kind)
+open_kind lowered Unset = tt
+open_kind true (Num range) = tt
+open_kind false (Num range) = refl
+open_kind lowered (Ptr region offsets) = tt
+open_kind lowered (Map index) = tt
+
+opened_above : (lowered : Bool) (kind : AbsKind) → IsProper kind → IsKindBelow kind (opened_kind lowered kind)
+opened_above lowered Unset proper = tt
+opened_above true (Num range) proper = tt
+opened_above false (Num range) proper = record { above = omega arith; below = omega (arith, proper.words) }
+opened_above lowered (Ptr region offsets) proper = tt
+opened_above lowered (Map index) proper = tt
+
+counter_is : (p : Program) (l : Loop) (lowered : List Bool) (place register : ℕ) (before after : AbsKind) → register ≡ l.register → IsRaisedKind p l lowered place register before after → after ≡ Num (1, l.bound)
+counter_is p l lowered place register before after same (counts at is) = is
+counter_is p l lowered place register before after same (opens other written is) = absurd (other same)
+counter_is p l lowered place register before after same (keeps other written is) = absurd (other same)
+
+other_is : (p : Program) (l : Loop) (lowered : List Bool) (place register : ℕ) (before after : AbsKind) → register ≢ l.register → IsWrittenIn p l register → IsRaisedKind p l lowered place register before after → IsOpen after
+other_is p l lowered place register before after other written (counts at is) = absurd (other at)
+other_is p l lowered place register before after other written (opens o w is) = rw is (open_kind (is_lowered lowered place register) before)
+other_is p l lowered place register before after other written (keeps o w is) = absurd (w written)
+
+kind_is : BelowIsReflexive → (p : Program) (l : Loop) (lowered : List Bool) (place register : ℕ) (before after : AbsKind) → IsProper before → (register ≡ l.register → IsKindBelow before (Num (1, l.bound))) → IsRaisedKind p l lowered place register before after → IsKindBelow before after
+kind_is reflexive p l lowered place register before after proper within (counts at is) = rw is (within at)
+kind_is reflexive p l lowered place register before after proper within (opens o w is) = rw is (opened_above (is_lowered lowered place register) before proper)
+kind_is reflexive p l lowered place register before after proper within (keeps o w is) = rw is (kind_below-refl reflexive before)
+
+-- a formed program writes no frame pointer
+frame_named : (o : Option ℕ) → IfSome o (λ register. register ≢ 10) → is_named o 10 ≡ false
+frame_named None leaves = refl
+frame_named (Some register) leaves = differs register leaves
+  where
+    differs : (n : ℕ) → n ≢ 10 → eqb n 10 ≡ false
+    differs n other = grind (arith, nat_tests, other)
+
+frame_clobbered : (flow : Flow) → is_clobbered flow 10 ≡ false
+frame_clobbered GoesOn = refl
+frame_clobbered (Branches distance) = refl
+frame_clobbered (Jumps distance) = refl
+frame_clobbered (Calls callee number) = refl
+frame_clobbered Ends = refl
+frame_clobbered Unsupported = refl
+
+frame_kept : (p : Program) (slot : ℕ) (o : Option Insn) → insn_at p slot ≡ o → IsFormed p → IsWrittenBy o 10 → ⊥
+frame_kept p slot None is form writes = absurd writes
+frame_kept p slot (Some insn) is form writes =
+    let named = frame_named (written_register insn) (form.allowed slot insn is).leaves_frame in
+    let clobbered = frame_clobbered (flow_of insn) in
+    false≢true (sym (rw (named, clobbered) refl) ∙ writes)
+
+pub raised_head : (p : Program) (l : Loop) (lowered : List Bool) (place : ℕ) (before after : StateValue) → IsFormed p → l.register ≤ 9 → IsWhole after → IsRaised p l lowered place before after → IsHead p l after
+raised_head p l lowered place before after form low whole raised = record {
+  counter = counter_is p l lowered place l.register (kind_at before l.register) (kind_at after l.register) refl (raised.registers l.register low);
+  others = λ register other written.
+      elim (cases_lt register 10) [
+        | inl below ↦ other_is p l lowered place register (kind_at before register) (kind_at after register) other written (raised.registers register (omega (arith, below)))
+        | inr past ↦ elim (cases_lt 10 register) [
+          | inl beyond ↦ rw (get_or_past after.kinds register Unset (omega (arith, beyond, whole.sizes.registers))) tt
+          | inr at ↦ absurd (frame_kept p written.slot (insn_at p written.slot) refl form (subst (λ (r : ℕ). IsWrittenBy (insn_at p written.slot) r) (omega (arith, past, at)) written.writes))
+        ]
+      ];
+}
+
+pub raised_above : BelowIsReflexive → (p : Program) (l : Loop) (lowered : List Bool) (place : ℕ) (before after : StateValue) → IsWhole before → IsWhole after → IsWithinBound l before → IsRaised p l lowered place before after → IsBelow before after
+raised_above reflexive p l lowered place before after proper new_proper within raised = record {
+  kinds = λ register.
+      elim (cases_lt register 10) [
+        | inl below ↦ kind_is reflexive p l lowered place register (kind_at before register) (kind_at after register) (proper.kinds register) (λ same. subst (λ (r : ℕ). IsKindBelow (kind_at before r) (Num (1, l.bound))) (sym same) within) (raised.registers register (omega (arith, below)))
+        | inr past ↦ elim (cases_lt 10 register) [
+          | inl beyond ↦ rw (get_or_past after.kinds register Unset (omega (arith, beyond, new_proper.sizes.registers)), get_or_past before.kinds register Unset (omega (arith, beyond, proper.sizes.registers))) tt
+          | inr at ↦
+              let same : 10 ≡ register = omega (arith, past, at) in
+              subst (λ (r : ℕ). IsKindBelow (kind_at before r) (kind_at after r)) same (rw raised.frame (kind_below-refl reflexive (kind_at before 10)))
+        ]
+      ];
+  marks = λ mark is. rw (sym raised.marks) is;
+}

@@ -1,0 +1,169 @@
+-- Every path of a justified program stands at a slot with a state that fits what is known there.
+use Rattle.std.proofs.Common.{◌≡◌, ◌≢◌, ℕ, ◌+◌, ◌<◌, ℤ, pos, negsuc, Bool, true, false, List, Option, None, Some, Result, Ok, Err, refl, sym, subst}
+use Rattle.std.specs.Prelude.{IsTrue, if◌then◌else◌}
+use Rattle.bpf.specs.Program.{Program}
+use Rattle.bpf_insn.specs.declared.insn.Distance.TheVariants.{Short, Long}
+use Rattle.bpf_insn.specs.declared.insn.Insn.{Insn}
+use Rattle.bpf_insn.specs.declared.insn.Insn.TheVariants.{Alu, Negate, MoveSigned, ByteSwap, Load, Store, Jump, Goto, Wide, LoadMap, LoadAddress, Exit}
+use Rattle.bpf_insn.specs.declared.insn.Insn.TheVariants as insns
+use Rattle.bpf_insn.specs.Spelling.{IsInsn, slots_of}
+use Rattle.machine.specs.Sizes.{Maps}
+use Rattle.machine.specs.declared.calls.Call.{Call}
+use Rattle.machine.specs.declared.values.Value.{Value}
+use Rattle.machine.specs.declared.values.Value.TheVariants.{Unset as Nothing, Num as Number, Ptr as Pointer, Map as MapOf}
+use Rattle.machine.specs.Memory.{Header, IsHeader}
+use Rattle.machine.specs.Laws.{InstructionsLeave, StepPerforms}
+use Rattle.machine.specs.State.{State, state, entry_state}
+use Rattle.machine.specs.Step.{Outcome, Next, Ask, Verdict, Trap, step, perform, perform_at, insn_at, is_map, exits, lands, branches}
+use Rattle.machine.specs.Runs.{Path, entry, moves, answered}
+use Rattle.absdom.specs.declared.cause.Cause.{Cause}
+use Rattle.absdom.specs.declared.kinds.AbsKind.{AbsKind}
+use Rattle.absdom.specs.declared.kinds.AbsKind.TheVariants.{Unset, Num, Ptr, Map}
+use Rattle.absdom.specs.Edges.{Edges}
+use Rattle.absdom.specs.State.{StateValue, kind_at}
+use Rattle.absdom.specs.Effect.{applied}
+use Rattle.absdom.specs.Fits.{Fits, FitsKind, FitsEdge, IsSound, IsIndex, GoesStraight, TakesEdge, edge_where}
+use Rattle.absdom.specs.Laws.{BelowFits, EntryFits, ApplyFits, RefineFits}
+use Rattle.bver_form.specs.Form.{IsAllowed}
+use Rattle.bver_form.specs.Jumps.{target}
+use Rattle.bver_form.specs.Laws.{BeginsWithinWeight, EachStepTakesOne, OneIsLeft, LoopsAreEntered}
+use Rattle.bver.specs.Justified.{IsCovered, IsCoveredIfAny, IsResultCovered, AreEdgesCovered, IsNumber, Proceeds, IsPermitted, IsPermittedAt, IsJustified, known_at}
+use Rattle.bver.proofs.Slots.{insn_in}
+
+-- the laws of what is known, of steps, and of loops
+pub record Laws : Type 0 where
+  pub below : BelowFits
+  pub entry : EntryFits
+  pub apply : ApplyFits
+  pub refine : RefineFits
+  pub performs : StepPerforms
+  pub leaves : InstructionsLeave
+  pub begins : BeginsWithinWeight
+  pub takes : EachStepTakesOne
+  pub one : OneIsLeft
+  pub entered : LoopsAreEntered
+
+-- where a path stands
+pub record Stands (table : ℕ → Option StateValue) (s : State) : Type 0 where
+  pub known : StateValue
+  pub is : table s.slot ≡ Some known
+  pub fits : Fits s known
+
+-- what a step may give
+abbrev pub Continues : (ℕ → Option StateValue) → Outcome → Type 0
+Continues table (Next t) = Stands table t
+Continues table (Ask question on) = ⊥
+Continues table (Verdict v) = Unit {0}
+Continues table Trap = ⊥
+
+-- a state that fits what is covered at its slot stands there
+stands_by : BelowFits → (table : ℕ → Option StateValue) (t : State) (a : StateValue) (o : Option StateValue) → table t.slot ≡ o → Fits t a → IsCovered a o → Stands table t
+stands_by below table t a None is fits covered = absurd covered
+stands_by below table t a (Some b) is fits covered = record { known = b; is = is; fits = below t a b covered fits }
+
+arrives : BelowFits → (table : ℕ → Option StateValue) (t : State) (a : StateValue) → Fits t a → IsCovered a (table t.slot) → Stands table t
+arrives below table t a fits covered = stands_by below table t a (table t.slot) refl fits covered
+
+-- on to a slot
+goes_on : BelowFits → (table : ℕ → Option StateValue) (next : ℕ) (o : Outcome) (r : Result StateValue Cause) → IsSound o next r → IsResultCovered r (table next) → Continues table o
+goes_on below table next o (Err cause) sound covered = absurd covered
+goes_on below table next (Next t) (Ok a) sound covered =
+    arrives below table t a sound.1 (subst (λ (k : ℕ). IsCovered a (table k)) (sym sound.0) covered)
+goes_on below table next (Ask question on) (Ok a) sound covered = absurd sound
+goes_on below table next (Verdict v) (Ok a) sound covered = absurd sound
+goes_on below table next Trap (Ok a) sound covered = absurd sound
+
+-- the same registers and stack at another slot
+fits_at : (s : State) (a : StateValue) (slot : ℕ) → Fits s a → Fits (state slot s.registers s.stack) a
+fits_at s a slot fits = record { registers = fits.registers; bytes = fits.bytes }
+
+steps_to : BelowFits → (table : ℕ → Option StateValue) (s : State) (next : ℕ) (a : StateValue) → Fits s a → IsCovered a (table next) → Stands table (state next s.registers s.stack)
+steps_to below table s next a fits covered =
+    arrives below table (state next s.registers s.stack) a (fits_at s a next fits) covered
+
+-- a jump
+lands_on : BelowFits → (table : ℕ → Option StateValue) (s : State) (z : ℤ) (a : StateValue) → Fits s a → IsCovered a (known_at table z) → Continues table (lands s z)
+lands_on below table s (pos next) a fits covered = steps_to below table s next a fits covered
+lands_on below table s (negsuc m) a fits covered = absurd covered
+
+-- a comparison
+takes_edge : BelowFits → (table : ℕ → Option StateValue) (s : State) (offset : ℤ) (taken not_taken : Option StateValue) (holds : Bool) → FitsEdge s (if holds then taken else not_taken) → IsCoveredIfAny taken (known_at table (target s.slot offset)) → IsCoveredIfAny not_taken (table (s.slot + 1)) → Continues table (branches s offset holds)
+takes_edge below table s offset None not_taken true fits h g = absurd fits
+takes_edge below table s offset (Some a) not_taken true fits h g = lands_on below table s (target s.slot offset) a fits h
+takes_edge below table s offset taken None false fits h g = absurd fits
+takes_edge below table s offset taken (Some a) false fits h g = steps_to below table s (s.slot + 1) a fits g
+
+edge_is : (holds : Bool) (edges : Edges) (s : State) → FitsEdge s (edge_where holds edges) → FitsEdge s (if holds then edges.taken else edges.not_taken)
+edge_is true edges s fits = fits
+edge_is false edges s fits = fits
+
+compares_on : BelowFits → (table : ℕ → Option StateValue) (s : State) (offset : ℤ) (o : Outcome) (r : Result Edges Cause) → TakesEdge s offset o r → AreEdgesCovered r (known_at table (target s.slot offset)) (table (s.slot + 1)) → Continues table o
+compares_on below table s offset o (Err cause) edge covered = absurd covered
+compares_on below table s offset o (Ok edges) edge covered =
+    subst (λ (w : Outcome). Continues table w) (sym edge.1)
+    (takes_edge below table s offset edges.taken edges.not_taken edge.0 (edge_is edge.0 edges s edge.2) covered.0 covered.1)
+
+-- an exit
+exits_with : (table : ℕ → Option StateValue) (v : Value) (k : AbsKind) → FitsKind v k → IsNumber k → Continues table (exits v)
+exits_with table v Unset fits number = absurd number
+exits_with table Nothing (Num range) fits number = absurd fits
+exits_with table (Number m) (Num range) fits number = tt
+exits_with table (Pointer region z) (Num range) fits number = absurd fits
+exits_with table (MapOf index) (Num range) fits number = absurd fits
+exits_with table v (Ptr region offsets) fits number = absurd number
+exits_with table v (Map index) fits number = absurd number
+
+index_of : (sizes : Maps) (index : ℤ) → IsTrue (is_map sizes index) → IsIndex index
+index_of sizes (pos n) h = tt
+index_of sizes (negsuc n) h = absurd cc
+
+-- ---- the step at an instruction
+
+-- one that goes on to the next
+proceeds : Laws → (table : ℕ → Option StateValue) (header : Header) (s : State) (a : StateValue) (insn : Insn) → IsHeader header → Fits s a → GoesStraight insn → Proceeds table s.slot a insn → Continues table (perform header s insn)
+proceeds laws table header s a insn good fits straight h =
+    goes_on laws.below table (s.slot + slots_of insn) (perform header s insn) (applied a insn) (laws.apply header s a insn good straight fits) h
+
+continues_at : Laws → (p : Program) (sizes : Maps) (table : ℕ → Option StateValue) (header : Header) (s : State) (a : StateValue) (insn : Insn) → IsHeader header → Fits s a → IsAllowed p s.slot insn → IsInsn insn → IsPermitted sizes table s.slot a insn → Continues table (perform header s insn)
+continues_at laws p sizes table header s a (Alu op width dst src) good fits allowed is_insn h = proceeds laws table header s a (Alu op width dst src) good fits allowed.leaves_frame h
+continues_at laws p sizes table header s a (Negate width dst) good fits allowed is_insn h = proceeds laws table header s a (Negate width dst) good fits allowed.leaves_frame h
+continues_at laws p sizes table header s a (MoveSigned extension dst src) good fits allowed is_insn h = proceeds laws table header s a (MoveSigned extension dst src) good fits allowed.leaves_frame h
+continues_at laws p sizes table header s a (ByteSwap swap bits dst) good fits allowed is_insn h = proceeds laws table header s a (ByteSwap swap bits dst) good fits allowed.leaves_frame h
+continues_at laws p sizes table header s a (Load size dst place) good fits allowed is_insn h = proceeds laws table header s a (Load size dst place) good fits allowed.leaves_frame h
+continues_at laws p sizes table header s a (Store size place src) good fits allowed is_insn h = proceeds laws table header s a (Store size place src) good fits tt h
+continues_at laws p sizes table header s a (Jump comparison offset) good fits allowed is_insn h =
+    compares_on laws.below table s offset _ _ (laws.refine header s a comparison offset fits) h
+continues_at laws p sizes table header s a (Goto (Short offset)) good fits allowed is_insn h = lands_on laws.below table s (target s.slot offset) a fits h
+continues_at laws p sizes table header s a (Goto (Long immediate)) good fits allowed is_insn h = lands_on laws.below table s (target s.slot immediate) a fits h
+continues_at laws p sizes table header s a (Wide dst value) good fits allowed is_insn h = proceeds laws table header s a (Wide dst value) good fits (allowed.leaves_frame, is_insn.1) h
+continues_at laws p sizes table header s a (LoadMap dst index) good fits allowed is_insn h = proceeds laws table header s a (LoadMap dst index) good fits (allowed.leaves_frame, index_of sizes index h.0) h.1
+continues_at laws p sizes table header s a (LoadAddress dst address) good fits allowed is_insn h = absurd h
+continues_at laws p sizes table header s a (insns.Call callee number) good fits allowed is_insn h = absurd h
+continues_at laws p sizes table header s a Exit good fits allowed is_insn h = exits_with table (s.registers 0) (kind_at a 0) (fits.registers 0) h
+
+continues_from : Laws → (p : Program) (sizes : Maps) (h : IsJustified p sizes) (header : Header) (s : State) (at : Stands h.table s) (o : Option Insn) → IsHeader header → insn_at p s.slot ≡ o → IsPermittedAt sizes h.table s.slot (Some at.known) o → Continues h.table (perform_at header s o)
+continues_from laws p sizes h header s at None good is permitted = absurd permitted
+continues_from laws p sizes h header s at (Some insn) good is permitted =
+    continues_at laws p sizes h.table header s at.known insn good at.fits (h.formed.allowed s.slot insn is) (insn_in false p.slots s.slot insn h.limits.code is) permitted
+
+-- what is known where a path stands permits its instruction
+pub permitted_here : (p : Program) (sizes : Maps) (h : IsJustified p sizes) (s : State) (at : Stands h.table s) → IsPermittedAt sizes h.table s.slot (Some at.known) (insn_at p s.slot)
+permitted_here p sizes h s at =
+    subst (λ (k : Option StateValue). IsPermittedAt sizes h.table s.slot k (insn_at p s.slot)) at.is (h.permitted s.slot)
+
+pub continues : Laws → (p : Program) (sizes : Maps) (h : IsJustified p sizes) (header : Header) (s : State) → IsHeader header → Stands h.table s → Continues h.table (step p header s)
+continues laws p sizes h header s good at =
+    rw (laws.performs p header s h.limits.version)
+    (continues_from laws p sizes h header s at (insn_at p s.slot) good refl (permitted_here p sizes h s at))
+
+-- every path stands somewhere
+begins_at : Laws → (p : Program) (sizes : Maps) (h : IsJustified p sizes) (port : ℕ) → port < 32 → Stands h.table (entry_state port)
+begins_at laws p sizes h port low =
+    arrives laws.below h.table (entry_state port) h.entered.known (laws.entry h.entered.known port h.entered.entry low) h.entered.covered
+
+pub stands : Laws → (p : Program) (sizes : Maps) (h : IsJustified p sizes) (header : Header) (port : ℕ) (calls : List Call) (n : ℕ) (s : State) → IsHeader header → port < 32 → Path p header port calls n s → Stands h.table s
+stands laws p sizes h header port calls n s good low entry = begins_at laws p sizes h port low
+stands laws p sizes h header port calls n s good low (moves {n = m} {s = r} path e) =
+    subst (λ (o : Outcome). Continues h.table o) e (continues laws p sizes h header r good (stands laws p sizes h header port calls m r good low path))
+stands laws p sizes h header port calls n s good low (answered {n = m} {s = r} answer path e below) =
+    absurd (subst (λ (o : Outcome). Continues h.table o) e (continues laws p sizes h header r good (stands laws p sizes h header port _ m r good low path)))

@@ -1,0 +1,19 @@
+use Rattle.std.proofs.Common.{rules, ◌≡◌, ap, sym, ◌∙◌, List}
+use Rattle.std.specs.Prelude.{slice_index_or}
+use Rattle.bpf.specs.declared.loops.Loop.{Loop}
+use Rattle.bver.proofs.Raising.{any_default, declared_at}
+use Rattle.bver.proofs.body.Body.new.Goals as goal
+
+pub invariant_of-result : goal.invariant_of-result
+invariant_of-result c =
+    let loops = c.args.image.now.loops in
+    let found = c.index-loops-place.result in
+    let is : slice_index_or loops c.args.place found ≡ found = ap (λ (xs : List Loop). slice_index_or xs c.args.place found) (sym c.loops.ensures.value) ∙ sym c.index-loops-place.is in
+    declared_at c.args.image.now found c.args.place c.loops.ensures.program c.requires (λ d. any_default loops c.args.place d found c.requires ∙ is)
+
+pub returns-clause-declared : goal.returns-clause-declared
+returns-clause-declared c =
+    let loops = c.args.image.now.loops in
+    let found = c.index-loops-place.result in
+    let is : slice_index_or loops c.args.place found ≡ found = ap (λ (xs : List Loop). slice_index_or xs c.args.place found) (sym c.loops.ensures.value) ∙ sym c.index-loops-place.is in
+    declared_at c.args.image.now found c.args.place c.loops.ensures.program c.requires (λ d. any_default loops c.args.place d found c.requires ∙ is)

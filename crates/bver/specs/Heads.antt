@@ -1,0 +1,67 @@
+-- What the verifier makes of what is known at the head of a loop, so that it stands for every pass.
+use Rattle.std.specs.Prelude.{◌≡◌, ◌≢◌, ◌≤◌, ◌<◌, ℕ, Bool, true, false, if◌then◌else◌, List, length, slice_index_or, All, Option, Some, None, IsTrue, IfSome}
+use Rattle.bpf.specs.declared.loops.Loop.{Loop}
+use Rattle.bpf.specs.Program.{Program, IsLoop}
+use Rattle.bpf_insn.specs.declared.operation.Width.TheVariants.{Bits64}
+use Rattle.absdom_num.specs.Tables.{whole}
+use Rattle.absdom.specs.declared.kinds.AbsKind.{AbsKind}
+use Rattle.absdom.specs.declared.kinds.AbsKind.TheVariants.{Unset, Num, Ptr, Map}
+use Rattle.absdom.specs.Kinds.{IsKindBelow}
+use Rattle.absdom.specs.State.{StateValue, kind_at}
+use Rattle.bver_form.specs.declared.refusal.Refusal.{Refusal}
+use Rattle.bver_form.specs.declared.refusal.Refusal.TheVariants.{LoopEntry}
+use Rattle.bver.specs.Justified.{IsHead, IsWrittenIn}
+use Rattle.bver.specs.Lowered.{is_lowered, is_number, is_number_at}
+
+-- a loop that a program declares, and its place among those
+pub record BodyValue : Type 0 where
+  pub program : Program
+  pub declared : Loop
+  pub place : ℕ
+
+-- the loop is declared at that place
+pub record IsDeclared (p : Program) (l : Loop) (place : ℕ) : Type 0 where
+  pub inside : place < length p.loops
+  pub is : (d : Loop) → slice_index_or p.loops place d ≡ l
+  pub few : place < 8
+  pub limits : IsLoop 512 l
+
+-- of a number that the loop writes any number is kept, and nothing where it was lowered; nothing of any other kind
+abbrev pub opened_kind : (lowered : Bool) → AbsKind → AbsKind
+opened_kind lowered Unset = Unset
+opened_kind lowered (Num range) = if lowered then Unset else Num (whole Bits64)
+opened_kind lowered (Ptr region offsets) = Unset
+opened_kind lowered (Map index) = Unset
+
+-- how a register is raised at the head of a loop, the one at that place: its counter to 1 to the bound, one that the
+-- loop writes is opened, and any other is kept
+pub data IsRaisedKind (p : Program) (l : Loop) (lowered : List Bool) (place register : ℕ) (before after : AbsKind) : Type 0 where
+  counts : register ≡ l.register → after ≡ Num (1, l.bound) → IsRaisedKind p l lowered place register before after
+  opens : register ≢ l.register → IsWrittenIn p l register → after ≡ opened_kind (is_lowered lowered place register) before → IsRaisedKind p l lowered place register before after
+  keeps : register ≢ l.register → (IsWrittenIn p l register → ⊥) → after ≡ before → IsRaisedKind p l lowered place register before after
+
+-- what is known is raised: r0 to r9 are, and r10 and the stack are kept
+pub record IsRaised (p : Program) (l : Loop) (lowered : List Bool) (place : ℕ) (before after : StateValue) : Type 0 where
+  pub registers : (register : ℕ) → register ≤ 9 → IsRaisedKind p l lowered place register (kind_at before register) (kind_at after register)
+  pub frame : kind_at after 10 ≡ kind_at before 10
+  pub marks : after.marks ≡ before.marks
+
+-- a run comes to the head with a counter from 1 to the bound
+abbrev pub IsWithinBound : Loop → StateValue → Type 0
+IsWithinBound l a = IsKindBelow (kind_at a l.register) (Num (1, l.bound))
+
+-- a run may come to the head otherwise
+pub record IsEntryFault (l : Loop) (a : StateValue) (refusal : Refusal) : Type 0 where
+  pub code : refusal ≡ LoopEntry
+  pub outside : IsWithinBound l a → ⊥
+
+-- an edge back to the head lowers the register there: the loop writes it, and it is a number at the head and none
+-- on the edge
+pub record Falls (b : BodyValue) (head : Option StateValue) (edge : StateValue) (register : ℕ) : Type 0 where
+  pub head_number : IsTrue (is_number_at head register)
+  pub edge_number : is_number (kind_at edge register) ≡ false
+  pub written : IsWrittenIn b.program b.declared register
+
+-- at the head of each loop that has it at the slot, what is known stands for every pass
+abbrev pub AreHeadsAt : Program → (slot : ℕ) → Option StateValue → Type 0
+AreHeadsAt p slot known = All (λ l. l.head ≡ slot → IfSome known (IsHead p l)) p.loops

@@ -1,0 +1,210 @@
+//! A loop that a program declares, with what stands at its head for every pass.
+
+ghost use Rattle.std.specs.Prelude.{◌≡◌, ◌≤◌, ◌<◌, ◌↔◌, IsTrue, OnOk, MatchResult, length};
+ghost use Rattle.bpf.specs.Program.{insn_at};
+ghost use Rattle.bver.specs.Justified.{IsCovered, IsWrittenBy, IsWrittenIn};
+ghost use Rattle.bver.specs.Lowered.{IsMore, IsSettled};
+ghost use Rattle.bver.specs.Visit.{known_in};
+ghost use Rattle.bver.specs.Heads.{BodyValue, Falls, IsDeclared, IsEntryFault, IsRaised, IsRaisedKind, IsWithinBound, opened_kind};
+
+use crate::lowered::Lowered;
+use crate::table::{Table, is_number};
+use absdom::{AbsKind, State};
+use absdom_num::Range;
+use bpf::{Image, Loop};
+use bpf_insn::Register;
+use bver_form::{Refusal, Refused};
+use std::marker::Model;
+
+/// A loop that a program declares.
+#[derive(Drop)]
+pub(crate) struct Body<'a> {
+    image: &'a Image,
+    declared: Loop,
+    place: usize,
+}
+
+impl<'a> Model for Body<'a> {
+    ghost use Rattle.bver.specs.Lowered.{IsMore, IsSettled};
+    ghost use Rattle.bver.specs.Visit.{known_in};
+    ghost use Rattle.bver.specs.Heads.{BodyValue, Falls, IsDeclared};
+
+    ghost Value = { BodyValue };
+
+    ghost view = { λ b. record { program = b.image.now; declared = b.declared; place = b.place } };
+
+    ghost invariant = { λ b. IsDeclared b.image.now b.declared b.place };
+}
+
+/// Whether the instruction at the slot writes the register.
+fn writes_at(image: &Image, slot: u16, register: Register) -> bool
+    ensures { IsTrue result ↔ IsWrittenBy (insn_at image.now slot) register }
+{
+    match image.insn(slot) {
+        Some(insn) => insn.writes(register),
+        None => false,
+    }
+}
+
+/// What is kept at a loop's head of a register that the loop writes.
+fn opened(lowered: bool, kind: AbsKind) -> AbsKind
+    ensures { result ≡ opened_kind lowered kind }
+{
+    match kind {
+        AbsKind::Num(_) => {
+            if lowered {
+                AbsKind::Unset
+            } else {
+                AbsKind::Num(Range::whole())
+            }
+        }
+        AbsKind::Unset | AbsKind::Ptr(_, _) | AbsKind::Map(_) => AbsKind::Unset,
+    }
+}
+
+impl<'a> Body<'a> {
+    /// The loop at that place among those that the program declares.
+    pub(crate) fn new(image: &'a Image, place: usize) -> Body<'a>
+        requires { place < length image.now.loops }
+        ensures program { result.program ≡ image.now }
+        ensures place { result.place ≡ place }
+        ensures declared { IsDeclared image.now result.declared place }
+    {
+        Body {
+            image,
+            declared: image.loops()[place],
+            place,
+        }
+    }
+
+    /// The slot at which the loop begins.
+    pub(crate) fn head(&self) -> u16
+        ensures { result ≡ self.now.declared.head }
+    {
+        self.declared.head
+    }
+
+    /// The slot at which it ends, with the jump back.
+    pub(crate) fn back(&self) -> u16
+        ensures { result ≡ self.now.declared.back }
+    {
+        self.declared.back
+    }
+
+    /// Whether an instruction of the loop writes the register.
+    fn writes(&self, register: Register) -> bool
+        ensures { IsTrue result ↔ IsWrittenIn self.now.program self.now.declared register }
+    {
+        for slot in self.declared.head..self.declared.back + 1 {
+            if writes_at(self.image, slot, register) {
+                return true;
+            }
+        }
+        false
+    }
+
+    /// What is known of a register at the head, from what is known on the way there.
+    fn raised(&self, lowered: &Lowered, register: Register, kind: AbsKind) -> AbsKind
+        requires { register ≤ 9 }
+        ensures { IsRaisedKind self.now.program self.now.declared lowered.now self.now.place register kind result }
+    {
+        if register.number() == self.declared.register.number() {
+            return AbsKind::Num(Range::new(1, u64::from(self.declared.bound)));
+        }
+        if self.writes(register) {
+            opened(lowered.contains(self.place, register), kind)
+        } else {
+            kind
+        }
+    }
+
+    /// Raises each register.
+    fn raise_registers(&self, lowered: &Lowered, state: &mut State)
+        ensures { IsRaised self.now.program self.now.declared lowered.now self.now.place state.old state.new }
+    {
+        for number in 0..10 {
+            match Register::new(number) {
+                Some(register) => {
+                    let kind = self.raised(lowered, register, state.kind(register));
+                    state.stands_whole();
+                    state.write(register, kind);
+                }
+                None => unreachable!(),
+            }
+        }
+    }
+
+    /// Raises what is known at the head to what stands for every pass: the counter is 1 to the bound, of
+    /// each other register that the loop writes any number is known, and nothing where it was lowered or is
+    /// no number.
+    ///
+    /// # Errors
+    ///
+    /// `LoopEntry` where a run may come there with a counter outside its bound, or with none.
+    pub(crate) fn raise(&self, lowered: &Lowered, state: &mut State) -> Result<(), Refusal>
+        ensures raised { OnOk result (IsRaised self.now.program self.now.declared lowered.now self.now.place state.old state.new) }
+        ensures bound { MatchResult result (λ _. IsWithinBound self.now.declared state.old) (IsEntryFault self.now.declared state.old) }
+    {
+        let counter = AbsKind::Num(Range::new(1, u64::from(self.declared.bound)));
+        if !state.kind(self.declared.register).leq(&counter) {
+            return Err(Refusal::LoopEntry);
+        }
+        self.raise_registers(lowered, state);
+        Ok(())
+    }
+
+    /// Whether the register is lowered by an edge back to the head: the loop writes it, and it is a number at
+    /// the head and none on the edge.
+    fn falls(&self, table: &Table, edge: &State, register: Register) -> bool
+        requires { self.now.declared.head < length table.now }
+        ensures { IsTrue result ↔ Falls self.now (known_in table.now self.now.declared.head) edge.now register }
+    {
+        table.is_number(self.declared.head, register)
+            && !is_number(edge.kind(register))
+            && self.writes(register)
+    }
+
+    /// Lowers each register that an edge back to the head lowers.
+    fn lower(&self, table: &Table, edge: &State, lowered: &mut Lowered)
+        requires { self.now.declared.head < length table.now }
+        ensures { IsMore lowered.old lowered.new }
+    {
+        for number in 0..10 {
+            match Register::new(number) {
+                Some(register) => {
+                    if self.falls(table, edge, register) {
+                        lowered.lower(self.place, register);
+                    }
+                }
+                None => unreachable!(),
+            }
+        }
+    }
+
+    /// Follows an edge back to the head. What is known on the edge lowers registers there, or is covered.
+    ///
+    /// # Errors
+    ///
+    /// `LoopEntry` at the head where it is neither.
+    pub(crate) fn close(
+        &self,
+        table: &Table,
+        edge: &State,
+        lowered: &mut Lowered,
+    ) -> Result<(), Refused>
+        requires { self.now.declared.head < length table.now }
+        ensures more { IsMore lowered.old lowered.new }
+        ensures covered { OnOk result (IsSettled lowered.old lowered.new → IsCovered edge.now (known_in table.now self.now.declared.head)) }
+    {
+        let head = self.declared.head;
+        let before = lowered.count();
+        self.lower(table, edge, lowered);
+        if lowered.count() == before && !table.covers(head, edge) {
+            return Err(Refused {
+                code: Refusal::LoopEntry,
+                slot: head,
+            });
+        }
+        Ok(())
+    }
+}

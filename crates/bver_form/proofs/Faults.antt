@@ -1,0 +1,142 @@
+-- The first fault of a program's form: a program that has one has not its form, and has no other.
+use Rattle.std.proofs.Common.{◌≡◌, ◌≢◌, ◌⊎◌, inl, inr, ℕ, ◌<◌, ℤ, pos, negsuc, true, Option, Some, None, refl, sym, subst, ap, ◌∙◌, arith}
+use Rattle.std.specs.Prelude.{All, IfSome, nat_lt, ◌||◌, if◌then◌else◌, slice_index_or}
+use Rattle.std.proofs.lemmas.Bool.{cases_lt, or_left, or_right, lt-ltb}
+use Rattle.bpf.specs.declared.loops.Loop.{Loop}
+use Rattle.bpf.specs.Program.{Program}
+use Rattle.bpf_insn.specs.Flow.{flow_of, written_register}
+use Rattle.bpf_insn.specs.declared.flow.Flow.{Flow}
+use Rattle.bpf_insn.specs.declared.flow.Flow.TheVariants.{GoesOn, Branches, Jumps, Calls, Ends, Unsupported}
+use Rattle.bpf_insn.specs.declared.insn.Insn.{Insn}
+use Rattle.bver_form.specs.declared.refusal.Refusal.{Refusal}
+use Rattle.bver_form.specs.declared.refusal.Refusal.TheVariants.{FrameWrite}
+use Rattle.bver_form.specs.declared.refusal.Refused.{Refused}
+use Rattle.bver_form.specs.Support.{IsSupportedFlow, support_fault, frame_fault}
+use Rattle.bver_form.specs.Jumps.{IsAfter, IsBackToHead, IsFirstSlot, IsJump, first_slot, is_loop_back, jump_distance, slot_at, target}
+use Rattle.bver_form.specs.Loops.{IsLoopFormed}
+use Rattle.bver_form.specs.Form.{AreAllowed, IsAllowed, IsAllowedAt, IsFaultAt, of_insn, of_end, of_loop, of_weight, IsInsnFault, IsLoopFault, first_of, insn_fault, jump_fault, landing_fault}
+use Rattle.bver_form.specs.Laws.{FaultRefutesForm, FirstFaultIsOne}
+use Rattle.bver_form.proofs.Left.{by_eq}
+
+-- ---- what may stand at its slot has no fault there
+
+support_none : (f : Flow) → IsSupportedFlow f → support_fault f ≡ None
+support_none GoesOn h = refl
+support_none (Branches distance) h = refl
+support_none (Jumps distance) h = refl
+support_none (Calls callee number) h = absurd h
+support_none Ends h = refl
+support_none Unsupported h = absurd h
+
+frame_none : (o : Option ℕ) → IfSome o (λ register. register ≢ 10) → frame_fault o ≡ None
+frame_none None h = refl
+frame_none (Some register) h = by_eq (λ t. (if t then Some FrameWrite else None) ≡ None) register 10 (λ e. absurd (h e)) (λ _. refl)
+
+onward_none : (p : Program) (slot next : ℕ) → IsAfter slot (pos next) ⊎ IsBackToHead p slot (pos next) → landing_fault p slot (Some next) ≡ None
+onward_none p slot next onward =
+    let passes : (nat_lt slot next || is_loop_back p slot next) ≡ true = elim onward [ inl after ↦ or_left (nat_lt slot next) (is_loop_back p slot next) (lt-ltb slot next after) | inr back ↦ or_right (nat_lt slot next) (is_loop_back p slot next) back ] in
+    rw passes refl
+
+landing_none : (p : Program) (slot : ℕ) (z : ℤ) → IsFirstSlot p z → IsAfter slot z ⊎ IsBackToHead p slot z → landing_fault p slot (first_slot p z) ≡ None
+landing_none p slot (pos next) first onward = subst (λ t. landing_fault p slot (if t then Some next else None) ≡ None) (sym first) (onward_none p slot next onward)
+landing_none p slot (negsuc n) first onward = absurd first
+
+jump_none : (p : Program) (slot : ℕ) (o : Option ℤ) → IfSome o (λ distance. IsJump p slot distance) → jump_fault p slot o ≡ None
+jump_none p slot None h = refl
+jump_none p slot (Some distance) h = landing_none p slot (target slot distance) h.first_slot h.onward
+
+first_none : (a b : Option Refusal) → a ≡ None → b ≡ None → first_of a b ≡ None
+first_none None b e f = f
+first_none (Some x) b e f = absurd cc
+
+no_fault : (p : Program) (slot : ℕ) (insn : Insn) → IsAllowed p slot insn → insn_fault p slot insn ≡ None
+no_fault p slot insn h =
+    first_none (support_fault (flow_of insn)) (first_of (frame_fault (written_register insn)) (jump_fault p slot (jump_distance insn))) (support_none (flow_of insn) h.supported)
+    (first_none (frame_fault (written_register insn)) (jump_fault p slot (jump_distance insn)) (frame_none (written_register insn) h.leaves_frame) (jump_none p slot (jump_distance insn) h.jump))
+
+allowed_or_fault : (p : Program) (slot : ℕ) (o : Option Insn) (code : Refusal) → IsAllowedAt p slot o → IsFaultAt p slot o code → ⊥
+allowed_or_fault p slot None code allowed fault = fault
+allowed_or_fault p slot (Some insn) code allowed fault = let none = no_fault p slot insn allowed in absurd cc
+
+allowed_at : (p : Program) (slot : ℕ) (o : Option Insn) → slot_at p slot ≡ o → AreAllowed p → IsAllowedAt p slot o
+allowed_at p slot None is allowed = tt
+allowed_at p slot (Some insn) is allowed = allowed slot insn is
+
+all_or_fault : (p : Program) (refused : Refused) → AreAllowed p → IsInsnFault p refused → ⊥
+all_or_fault p refused allowed fault = allowed_or_fault p refused.slot (slot_at p refused.slot) refused.code (allowed_at p refused.slot (slot_at p refused.slot) refl allowed) fault.fault
+
+unformed_or_all : (p : Program) (refused : Refused) → All (IsLoopFormed p) p.loops → IsLoopFault p refused → ⊥
+unformed_or_all p refused all fault = fault.unformed (any_loop p) (all fault.place (any_loop p) fault.inside)
+  where
+    any_loop : Program → Loop
+    any_loop p = record { head = 0; back = 0; bound = 0; register = 0 }
+
+pub refutes : FaultRefutesForm
+refutes p refused (of_insn fault) form = all_or_fault p refused form.allowed fault
+refutes p refused (of_end allowed fault) form = fault.no_exit form.ends
+refutes p refused (of_loop allowed ends fault) form = unformed_or_all p refused form.loops fault
+refutes p refused (of_weight allowed ends loops fault) form = let heavy = fault.heavy in let light = form.within_budget in omega arith
+
+-- ---- the first is one
+
+refused : Refusal → ℕ → Refused
+refused code slot = record { code = code; slot = slot }
+
+same_refused : (one other : Refused) → one.code ≡ other.code → one.slot ≡ other.slot → one ≡ other
+unfolding refused
+same_refused one other code slot =
+    ap (λ c. refused c one.slot) code ∙ ap (λ s. refused other.code s) slot
+
+later_insn : (p : Program) (one other : Refused) → IsInsnFault p one → IsInsnFault p other → one.slot < other.slot → ⊥
+later_insn p one other f g before = allowed_or_fault p one.slot (slot_at p one.slot) one.code (g.earlier one.slot before) f.fault
+
+same_code : (p : Program) (slot : ℕ) (o : Option Insn) (a b : Refusal) → IsFaultAt p slot o a → IsFaultAt p slot o b → a ≡ b
+same_code p slot None a b f g = absurd f
+same_code p slot (Some insn) a b f g = cc
+
+one_insn : (p : Program) (one other : Refused) → IsInsnFault p one → IsInsnFault p other → one ≡ other
+one_insn p one other f g =
+    elim (cases_lt one.slot other.slot) [
+      | inl before ↦ absurd (later_insn p one other f g before)
+      | inr not_before ↦
+          elim (cases_lt other.slot one.slot) [
+            | inl after ↦ absurd (later_insn p other one g f after)
+            | inr not_after ↦
+                let same : other.slot ≡ one.slot = omega arith in
+                same_refused one other (same_code p one.slot (slot_at p one.slot) one.code other.code f.fault (subst (λ s. IsFaultAt p s (slot_at p s) other.code) same g.fault)) (sym same)
+          ]
+    ]
+
+later_loop : (p : Program) (one other : Refused) (d : Loop) → (f : IsLoopFault p one) (g : IsLoopFault p other) → f.place < g.place → ⊥
+later_loop p one other d f g before = f.unformed d (g.earlier f.place d before)
+
+one_loop : (p : Program) (one other : Refused) (d : Loop) → IsLoopFault p one → IsLoopFault p other → one ≡ other
+one_loop p one other d f g =
+    elim (cases_lt f.place g.place) [
+      | inl before ↦ absurd (later_loop p one other d f g before)
+      | inr not_before ↦
+          elim (cases_lt g.place f.place) [
+            | inl after ↦ absurd (later_loop p other one d g f after)
+            | inr not_after ↦
+                let same : f.place ≡ g.place = omega arith in
+                same_refused one other (f.code ∙ sym g.code) (f.slot d ∙ ap (λ k. (slice_index_or p.loops k d).back) same ∙ sym (g.slot d))
+          ]
+    ]
+
+pub one_fault : FirstFaultIsOne
+one_fault p one other (of_insn f) (of_insn g) = one_insn p one other f g
+one_fault p one other (of_insn f) (of_end allowed g) = absurd (all_or_fault p one allowed f)
+one_fault p one other (of_insn f) (of_loop allowed ends g) = absurd (all_or_fault p one allowed f)
+one_fault p one other (of_insn f) (of_weight allowed ends loops g) = absurd (all_or_fault p one allowed f)
+one_fault p one other (of_end allowed f) (of_insn g) = absurd (all_or_fault p other allowed g)
+one_fault p one other (of_end allowed f) (of_end also g) = same_refused one other (f.code ∙ sym g.code) (f.slot ∙ sym g.slot)
+one_fault p one other (of_end allowed f) (of_loop also ends g) = absurd (f.no_exit ends)
+one_fault p one other (of_end allowed f) (of_weight also ends loops g) = absurd (f.no_exit ends)
+one_fault p one other (of_loop allowed ends f) (of_insn g) = absurd (all_or_fault p other allowed g)
+one_fault p one other (of_loop allowed ends f) (of_end also g) = absurd (g.no_exit ends)
+one_fault p one other (of_loop allowed ends f) (of_loop also too g) = one_loop p one other (record { head = 0; back = 0; bound = 0; register = 0 }) f g
+one_fault p one other (of_loop allowed ends f) (of_weight also too loops g) = absurd (unformed_or_all p one loops f)
+one_fault p one other (of_weight allowed ends loops f) (of_insn g) = absurd (all_or_fault p other allowed g)
+one_fault p one other (of_weight allowed ends loops f) (of_end also g) = absurd (g.no_exit ends)
+one_fault p one other (of_weight allowed ends loops f) (of_loop also too g) = absurd (unformed_or_all p other loops g)
+one_fault p one other (of_weight allowed ends loops f) (of_weight also too more g) = same_refused one other (f.code ∙ sym g.code) (f.slot ∙ sym g.slot)

@@ -1,0 +1,82 @@
+//! Where an instruction jumps, and whether it may (RFC 9669, section 4.3).
+
+ghost use Rattle.std.specs.Prelude.{◌≡◌, OnOk, IfSome};
+ghost use Rattle.bver_form.specs.Form.{Tells, jump_fault};
+ghost use Rattle.bver_form.specs.Jumps.{IsJump, first_slot, is_loop_back, jump_distance, target};
+
+use crate::refusal::Refusal;
+use bpf::Image;
+use bpf_insn::{Flow, Insn};
+
+/// How far the instruction jumps, in slots from the next one.
+pub(crate) fn jump_distance(insn: &Insn) -> Option<i32>
+    ensures { result ≡ jump_distance insn.now }
+{
+    match insn.flow() {
+        Flow::Branches(distance) | Flow::Jumps(distance) => Some(distance),
+        Flow::GoesOn | Flow::Calls(_, _) | Flow::Ends | Flow::Unsupported => None,
+    }
+}
+
+/// Where a jump at the slot by so many slots leads, counted from the first slot.
+pub(crate) fn target(slot: u16, distance: i32) -> i64
+    ensures { result ≡ target slot distance }
+{
+    i64::from(slot) + 1 + i64::from(distance)
+}
+
+/// The slot to which a jump leads from the slot by a distance in slots from the next one. `None` where
+/// no instruction begins there: outside the code, or at a second slot.
+pub fn landing(image: &Image, slot: u16, distance: i32) -> Option<u16>
+    ensures { result ≡ first_slot image.now (target slot distance) }
+{
+    let landing = target(slot, distance);
+    if landing < 0 || landing >= i64::from(image.slots()) {
+        return None;
+    }
+    let landing = landing.cast_unsigned() as u16;
+    if image.insn(landing).is_some() {
+        Some(landing)
+    } else {
+        None
+    }
+}
+
+/// Whether a declared loop has its back at the one slot, and its head at the other.
+fn is_loop_back(image: &Image, slot: u16, head: u16) -> bool
+    ensures { result ≡ is_loop_back image.now slot head }
+{
+    image
+        .loops()
+        .iter()
+        .any(|declared| declared.back == slot && declared.head == head)
+}
+
+/// Tests that a jump by so many slots leads to where an instruction begins, and not backward, but at the
+/// back of a declared loop to its head.
+fn check_landing(image: &Image, slot: u16, distance: i32) -> Result<(), Refusal>
+    ensures jump { OnOk result (IsJump image.now slot distance) }
+    ensures fault { Tells result (jump_fault image.now slot (Some distance)) }
+{
+    match landing(image, slot, distance) {
+        Some(landing) => {
+            if landing > slot || is_loop_back(image, slot, landing) {
+                Ok(())
+            } else {
+                Err(Refusal::BackJump)
+            }
+        }
+        None => Err(Refusal::Target),
+    }
+}
+
+/// Tests where the instruction jumps, if it does.
+pub(crate) fn check_jump(image: &Image, slot: u16, insn: &Insn) -> Result<(), Refusal>
+    ensures jump { OnOk result (IfSome (jump_distance insn.now) (λ distance. IsJump image.now slot distance)) }
+    ensures fault { Tells result (jump_fault image.now slot (jump_distance insn.now)) }
+{
+    match jump_distance(insn) {
+        Some(distance) => check_landing(image, slot, distance),
+        None => Ok(()),
+    }
+}

@@ -1,0 +1,21 @@
+//! What the form of a program is worth. Each function does nothing: its contract is the law.
+
+ghost use Rattle.bver_form.specs.Laws.{BeginsWithinWeight, EachStepTakesOne, FaultRefutesForm, FirstFaultIsOne, LoopsAreEntered, OneIsLeft};
+
+/// A law and no work: a program that [`check`] refuses has not its form, and no other fault comes first.
+///
+/// [`check`]: crate::check
+pub fn first_faults()
+    ensures refutes { FaultRefutesForm }
+    ensures one { FirstFaultIsOne }
+{}
+
+/// A law and no work, in plain arithmetic: a run of a program that has its form takes no more
+/// instructions than the weight. What is left of a run is a function of its slot and of the loops'
+/// counters, and each step takes one from it.
+pub fn loops_are_counted()
+    ensures begins { BeginsWithinWeight }
+    ensures steps { EachStepTakesOne }
+    ensures one { OneIsLeft }
+    ensures entered { LoopsAreEntered }
+{}

@@ -1,0 +1,184 @@
+//! The form of the loops that a program declares.
+
+ghost use Rattle.std.specs.Prelude.{◌≡◌, ◌≢◌, ◌<◌, ◌+◌, ◌↔◌, ℕ, IsTrue, All, MatchResult, Some, IfSome, length, slice_index_or};
+ghost use Rattle.bpf.specs.Program.{IsLoop, insn_at};
+ghost use Rattle.bpf_insn.specs.Flow.{is_written};
+ghost use Rattle.bver_form.specs.Form.{IsLoopFault};
+ghost use Rattle.bver_form.specs.Jumps.{jump_distance, target};
+ghost use Rattle.bver_form.specs.Loops.{EntersAtHead, IsAmongOthers, IsBackJump, IsEnteredAtHead, IsLoopFormed, IsNestedOrApart, IsStep, EntersAtHeadFrom, LeavesCounter, LeavesCounterAt, back_jump, holds, step_down};
+
+use crate::jumps::{jump_distance, target};
+use crate::refusal::{Refusal, Refused};
+use bpf::{Image, Loop};
+use bpf_insn::{AluOp, Comparison, Condition, Insn, Operand, Width};
+
+/// Whether the loop holds the slot.
+fn holds(declared: &Loop, slot: u16) -> bool
+    ensures { result ≡ holds declared.now slot }
+{
+    declared.head <= slot && slot <= declared.back
+}
+
+/// The instruction that ends the loop.
+fn back_jump(declared: &Loop) -> Insn
+    requires { IsLoop 512 declared.now }
+    ensures { result ≡ back_jump declared.now }
+{
+    let len = (declared.back - declared.head).cast_signed();
+    Insn::Jump {
+        comparison: Comparison {
+            condition: Condition::NotEqual,
+            width: Width::Bits64,
+            dst: declared.register,
+            src: Operand::Immediate(0),
+        },
+        offset: -1 - len,
+    }
+}
+
+/// The instruction that counts.
+fn step_down(declared: &Loop) -> Insn
+    ensures { result ≡ step_down declared.now }
+{
+    Insn::Alu {
+        op: AluOp::Add,
+        width: Width::Bits64,
+        dst: declared.register,
+        src: Operand::Immediate(-1),
+    }
+}
+
+/// Whether the loop ends with its back jump.
+fn check_back(image: &Image, declared: &Loop) -> bool
+    requires { IsLoop 512 declared.now }
+    ensures { IsTrue result ↔ IsBackJump image.now declared.now }
+{
+    image.insn(declared.back) == Some(back_jump(declared))
+}
+
+/// Whether the slot before the back counts.
+fn check_step(image: &Image, declared: &Loop) -> bool
+    requires { IsLoop 512 declared.now }
+    ensures { IsTrue result ↔ IsStep image.now declared.now }
+{
+    image.insn(declared.back - 1) == Some(step_down(declared))
+}
+
+/// Whether the instruction at the slot leaves the loop's register, if it has to.
+fn leaves_counter(image: &Image, declared: &Loop, slot: u16) -> bool
+    requires { IsLoop 512 declared.now }
+    ensures { IsTrue result ↔ LeavesCounterAt image.now declared.now slot }
+{
+    if !holds(declared, slot) || slot == declared.back - 1 {
+        return true;
+    }
+    match image.insn(slot) {
+        Some(insn) => !insn.writes(declared.register),
+        None => true,
+    }
+}
+
+/// Whether no other slot of the loop writes its register.
+fn check_counter(image: &Image, declared: &Loop) -> bool
+    requires { IsLoop 512 declared.now }
+    ensures { IsTrue result ↔ LeavesCounter image.now declared.now }
+{
+    for slot in 0..image.slots() {
+        if !leaves_counter(image, declared, slot) {
+            return false;
+        }
+    }
+    true
+}
+
+/// Whether a jump from the slot to that place, counted from the first slot, does not lead to the loop's
+/// back, and leads into it from outside at its head alone.
+fn enters_at_head(declared: &Loop, slot: u16, landing: i64) -> bool
+    ensures { IsTrue result ↔ EntersAtHead declared.now slot landing }
+{
+    let back = i64::from(declared.back);
+    landing != back
+        && (landing <= i64::from(declared.head) || back < landing || holds(declared, slot))
+}
+
+/// The same of the instruction at the slot, where it jumps.
+fn enters_at_head_from(image: &Image, declared: &Loop, slot: u16) -> bool
+    ensures { IsTrue result ↔ EntersAtHeadFrom image.now declared.now slot }
+{
+    match image.insn(slot) {
+        Some(insn) => match jump_distance(&insn) {
+            Some(distance) => enters_at_head(declared, slot, target(slot, distance)),
+            None => true,
+        },
+        None => true,
+    }
+}
+
+/// Whether no jump leads to the loop's back, and none from outside into it but to its head.
+fn check_entry(image: &Image, declared: &Loop) -> bool
+    ensures { IsTrue result ↔ IsEnteredAtHead image.now declared.now }
+{
+    for slot in 0..image.slots() {
+        if !enters_at_head_from(image, declared, slot) {
+            return false;
+        }
+    }
+    true
+}
+
+/// Whether one of the loops is nested in the other, or they are apart.
+fn are_nested_or_apart(declared: &Loop, other: &Loop) -> bool
+    ensures { IsTrue result ↔ IsNestedOrApart declared.now other.now }
+{
+    declared.back < other.head
+        || other.back < declared.head
+        || (other.head < declared.head && declared.back < other.back)
+        || (declared.head < other.head && other.back < declared.back)
+}
+
+/// Whether the loop is so with every declared loop of another head.
+fn check_others(image: &Image, declared: &Loop) -> bool
+    ensures { IsTrue result ↔ IsAmongOthers image.now declared.now }
+{
+    for other in image.loops() {
+        if other.head != declared.head && !are_nested_or_apart(declared, other) {
+            return false;
+        }
+    }
+    true
+}
+
+/// Whether the declared loop has its form.
+fn is_loop_formed(image: &Image, declared: &Loop) -> bool
+    requires { IsLoop 512 declared.now }
+    ensures { IsTrue result ↔ IsLoopFormed image.now declared.now }
+{
+    check_back(image, declared)
+        && check_step(image, declared)
+        && check_counter(image, declared)
+        && check_entry(image, declared)
+        && check_others(image, declared)
+}
+
+/// The refusal of a loop, at its back.
+fn unformed(declared: &Loop) -> Refused
+    ensures code { result.code ≡ Refusal.LoopShape }
+    ensures slot { result.slot ≡ declared.now.back }
+{
+    Refused {
+        code: Refusal::LoopShape,
+        slot: declared.back,
+    }
+}
+
+/// Tests that each declared loop has its form. The first that has not, by rising head, is refused.
+pub(crate) fn check_loops(image: &Image) -> Result<(), Refused>
+    ensures { MatchResult result (λ _. All (IsLoopFormed image.now) image.now.loops) (IsLoopFault image.now) }
+{
+    for declared in image.loops() {
+        if !is_loop_formed(image, declared) {
+            return Err(unformed(declared));
+        }
+    }
+    Ok(())
+}

@@ -1,0 +1,81 @@
+-- What the job `judge` reads and prints.
+use Rattle.std.specs.Prelude.{◌≡◌, ◌⊎◌, ℕ, List, [], Option, Some, None}
+use Rattle.std.specs.Borrow.{Bor}
+use Rattle.bpf.specs.Program.{Program}
+use Rattle.bver.specs.Justified.{AcceptedValue}
+use Rattle.machine.specs.Runs.{IsSafe}
+use Rattle.commands.specs.Factory.{factory, IsNoFactory}
+use Rattle.commands.specs.Files.{Reads, HoldsImage, HoldsNoText}
+use Rattle.commands.specs.JobNode.{JobNodeValue, fresh_job_node}
+use Rattle.commands.specs.Lines.{IsBadLine, JudgesAll, lines_of}
+use Rattle.commands.specs.Reading.{IsNoProgram}
+use Rattle.commands.specs.declared.faults.Fault.{Fault}
+use Rattle.commands.specs.declared.faults.Fault.TheVariants.{CannotRead, NoMemory}
+
+module _ {S : Type 0} (reads : Reads S) where
+  -- the program is that of the image in the file of this name, or the factory program
+  abbrev pub HoldsProgram : (before : S) → Option (List ℕ) → Program → (after : S) → Type 0
+  HoldsProgram before None p after = (p ≡ factory) × (after ≡ before)
+  HoldsProgram before (Some name) p after = HoldsImage reads before name p after
+
+  -- the file of this name gives no program, or memory was refused to the factory program
+  abbrev pub HoldsNoProgram : (before : S) → Option (List ℕ) → (after : S) → Fault → Type 0
+  HoldsNoProgram before None after fault = (after ≡ before) × IsNoFactory fault
+  HoldsNoProgram before (Some name) after fault = IsNoProgram reads before name after fault
+
+  -- the file of lines cannot be read, or is not UTF-8
+  pub record LinesUnread (before : S) (lines : List ℕ) (after : S) (fault : Fault) : Type 0 where
+    pub file : Bor (List ℕ)
+    pub named : file.now ≡ lines
+    pub is_fault : fault ≡ CannotRead file
+    pub no_text : HoldsNoText reads before lines after
+
+  -- the lines were read, but there is no program
+  pub record ProgramUnread (before : S) (lines : List ℕ) (image : Option (List ℕ)) (after : S) (fault : Fault) : Type 0 where
+    pub text : List ℕ
+    pub between : S
+    pub read : reads before lines (Some text) between
+    pub no_program : HoldsNoProgram between image after fault
+
+  -- lines and program were read, in this order
+  pub record AreRead (before : S) (lines : List ℕ) (image : Option (List ℕ)) (text : List ℕ) (p : Program) (after : S) : Type 0 where
+    pub between : S
+    pub read : reads before lines (Some text) between
+    pub program : HoldsProgram between image p after
+
+  -- the text is that of the file of lines, and the node is a fresh one whose commands the program
+  -- judges, which is safe on it
+  pub record IsReady (before : S) (lines : List ℕ) (image : Option (List ℕ)) (text : List ℕ) (node : JobNodeValue) (after : S) : Type 0 where
+    pub program : AcceptedValue
+    pub read : AreRead before lines image text program.program after
+    pub safe : IsSafe program.program []
+    pub fresh : node ≡ fresh_job_node program
+
+  -- lines or program cannot be read, or memory was refused for the node
+  abbrev pub IsNotReady : (before : S) (lines : List ℕ) → Option (List ℕ) → (after : S) → Fault → Type 0
+  IsNotReady before lines image after fault =
+      LinesUnread before lines after fault
+      ⊎ ProgramUnread before lines image after fault
+      ⊎ ((fault ≡ NoMemory) × ((text : List ℕ) × (p : Program) × AreRead before lines image text p after))
+
+  -- each line of the file was judged in turn on that node
+  pub record JudgesFile (before : S) (lines : List ℕ) (image : Option (List ℕ)) (after : S) (old new : Option (List ℕ)) : Type 0 where
+    pub text : List ℕ
+    pub fresh : JobNodeValue
+    pub left : JobNodeValue
+    pub ready : IsReady before lines image text fresh after
+    pub all : JudgesAll (lines_of text) fresh left old new
+
+  -- each line up to a bad one was judged in turn on that node, or memory was refused
+  pub record StopsAtLine (before : S) (lines : List ℕ) (image : Option (List ℕ)) (after : S) (old new : Option (List ℕ)) (fault : Fault) : Type 0 where
+    pub text : List ℕ
+    pub fresh : JobNodeValue
+    pub left : JobNodeValue
+    pub ready : IsReady before lines image text fresh after
+    pub bad : IsBadLine (lines_of text) fresh left old new fault
+
+  -- why not all lines were judged: nothing was printed where lines or program cannot be read
+  abbrev pub IsNotJudged : (before : S) (lines : List ℕ) → Option (List ℕ) → (after : S) → (old new : Option (List ℕ)) → Fault → Type 0
+  IsNotJudged before lines image after old new fault =
+      ((new ≡ old) × IsNotReady before lines image after fault)
+      ⊎ StopsAtLine before lines image after old new fault

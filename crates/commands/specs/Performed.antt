@@ -1,0 +1,48 @@
+-- What each job does, with its fault and its exit status.
+use Rattle.std.specs.Prelude.{◌≡◌, ℕ, zero, suc, List, Option, option_map, string_bytes}
+use Rattle.std.specs.Io.KnownBytes.{Appends}
+use Rattle.commands.specs.Assembled.{Assembles, IsNotAssembled}
+use Rattle.commands.specs.Disassembled.{Disassembles, IsNotPrinted}
+use Rattle.commands.specs.Files.{Reads, Writes}
+use Rattle.commands.specs.Judged.{IsNotJudged, JudgesFile}
+use Rattle.commands.specs.Printed.{fault_line}
+use Rattle.commands.specs.Reading.{IsNoProgram}
+use Rattle.commands.specs.Verified.{Verifies}
+use Rattle.commands.specs.declared.faults.Fault.{Fault}
+use Rattle.commands.specs.declared.jobs.Job.{Job}
+use Rattle.commands.specs.declared.jobs.Job.TheVariants.{Assemble, Disassemble, Verify, Judge}
+
+module _ {S : Type 0} (reads : Reads S) (writes : Writes S) where
+  -- the job was done: what it read and wrote led from one state of the files to the other, and
+  -- what it prints was printed
+  abbrev pub IsDone : Job → (before after : S) → (old new : Option (List ℕ)) → Type 0
+  IsDone (Judge lines image) before after old new =
+      JudgesFile reads before (string_bytes lines) (option_map string_bytes image) after old new
+  IsDone (Assemble text image) before after old new =
+      Assembles reads writes before (string_bytes text) (string_bytes image) after old new
+  IsDone (Disassemble image) before after old new = Disassembles reads before (string_bytes image) after old new
+  IsDone (Verify image) before after old new = Verifies reads before (string_bytes image) after old new
+
+  -- the fault ended the job; only `judge` printed before it
+  abbrev pub IsEnded : Job → (before after : S) → (old new : Option (List ℕ)) → Fault → Type 0
+  IsEnded (Judge lines image) before after old new fault =
+      IsNotJudged reads before (string_bytes lines) (option_map string_bytes image) after old new fault
+  IsEnded (Assemble text image) before after old new fault =
+      IsNotAssembled reads writes before (string_bytes text) (string_bytes image) after fault × (new ≡ old)
+  IsEnded (Disassemble image) before after old new fault =
+      IsNotPrinted reads before (string_bytes image) after fault × (new ≡ old)
+  IsEnded (Verify image) before after old new fault =
+      IsNoProgram reads before (string_bytes image) after fault × (new ≡ old)
+
+  -- a fault ended the job, and its line was printed after what came before
+  pub record TellsFault (job : Job) (before after : S) (old new : Option (List ℕ)) : Type 0 where
+    pub fault : Fault
+    pub printed : Option (List ℕ)
+    pub ended : IsEnded job before after old printed fault
+    pub line : Appends printed new (fault_line fault)
+
+  -- the exit status of the job is 0 where it was done, and 1 where a fault ended it
+  abbrev pub Performs : Job → (before after : S) → (old new : Option (List ℕ)) → (status : ℕ) → Type 0
+  Performs job before after old new zero = IsDone job before after old new
+  Performs job before after old new (suc zero) = TellsFault job before after old new
+  Performs job before after old new (suc (suc n)) = ⊥

@@ -1,0 +1,24 @@
+-- What jobs leave in a folder.
+use Rattle.std.specs.Prelude.{◌≡◌, ℕ, zero, suc, List, Some, string_bytes}
+use Rattle.bpf.specs.Program.{Program, image_bytes}
+use Rattle.basm.specs.Relation.{IsText}
+use Rattle.commands.specs.declared.jobs.Job.{Job}
+use Rattle.commands.specs.declared.jobs.Job.TheVariants.{Assemble, Disassemble, Verify, Judge}
+use Rattle.conformance.specs.Folders.{FolderValue, Sets, content_of}
+
+-- the one file has the text of a program, and the other was set to its image
+pub record AssemblesIn (before : FolderValue) (text image : List ℕ) (after : FolderValue) : Type 0 where
+  pub bytes : List ℕ
+  pub program : Program
+  pub stands : content_of before text ≡ Some bytes
+  pub is_text : IsText bytes program
+  pub set : Sets before image (image_bytes program) after
+
+-- what a job that ended with this status leaves: `asm` sets OUT alone where it was done, and nothing else
+-- changes a file
+abbrev pub Leaves : Job → (before after : FolderValue) → (status : ℕ) → Type 0
+Leaves (Assemble text image) before after zero = AssemblesIn before (string_bytes text) (string_bytes image) after
+Leaves (Assemble text image) before after (suc n) = after ≡ before
+Leaves (Disassemble image) before after status = after ≡ before
+Leaves (Verify image) before after status = after ≡ before
+Leaves (Judge lines image) before after status = after ≡ before

@@ -1,0 +1,21 @@
+//! Jobs over files in memory.
+
+ghost use Rattle.std.specs.Prelude.{IfOk};
+ghost use Rattle.conformance.specs.Jobs.{Leaves};
+
+use crate::folder::Folder;
+use commands::{Job, WriteFault, perform};
+use std::alloc::Global;
+
+/// Does a job over the files of a folder, and gives what it printed and the exit status.
+pub fn perform_in(
+    alloc: Global,
+    job: &Job,
+    folder: &mut Folder,
+) -> Result<(Vec<u8>, u8), WriteFault>
+    ensures { IfOk result (λ done. Leaves job.now folder.old folder.new done.1) }
+{
+    let mut out = Vec::new(alloc);
+    let status = perform(alloc, job, folder, &mut out)?;
+    Ok((out, status))
+}
