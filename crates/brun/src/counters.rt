@@ -4,6 +4,7 @@ ghost use Rattle.std.specs.Prelude.{◌≡◌, ◌++◌, ◌∷◌, [], ℕ, Lis
 ghost use base.Stored.{Gv};
 ghost use Rattle.machine.specs.declared.calls.Call.{Call};
 ghost use Rattle.machine.specs.Runs.{call};
+ghost use Rattle.machine.specs.Step.{question};
 ghost use Rattle.machine.specs.Sizes.{AreSizes, IsInside};
 
 use machine::MapSizes;
@@ -30,7 +31,7 @@ pub trait Counters {
     /// The map and the key have to be inside the sizes, which `MapSizes::contains` tests.
     fn count(&mut self, map: u8, key: u16) -> u64
         requires { IsInside (sizes self.old) map key }
-        ensures asked { asked self.new ≡ asked self.old ++ call 1 map key result ∷ [] }
+        ensures asked { asked self.new ≡ asked self.old ++ call (question 1 map key) result ∷ [] }
         ensures sizes { sizes self.new ≡ sizes self.old }
         ensures home { home self.new ≡ home self.old };
 
@@ -40,7 +41,7 @@ pub trait Counters {
     /// The map and the key have to be inside the sizes, which `MapSizes::contains` tests.
     fn ticket(&mut self, map: u8, key: u16) -> u64
         requires { IsInside (sizes self.old) map key }
-        ensures asked { asked self.new ≡ asked self.old ++ call 2 map key result ∷ [] }
+        ensures asked { asked self.new ≡ asked self.old ++ call (question 2 map key) result ∷ [] }
         ensures sizes { sizes self.new ≡ sizes self.old }
         ensures home { home self.new ≡ home self.old };
 }

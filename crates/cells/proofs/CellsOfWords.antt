@@ -11,6 +11,7 @@ use Rattle.std.proofs.Math.Nat.{mod-eq_of_lt}
 use Rattle.machine.specs.Sizes.{IsInside}
 use Rattle.machine.specs.declared.calls.Call.{Call}
 use Rattle.machine.specs.Runs.{call}
+use Rattle.machine.specs.Step.{question}
 use Rattle.cells.specs.declared.hands.Draw.{Draw}
 use Rattle.cells.specs.Draws.{word_of, cell_of, draw, calls_of, tickets, tickets_of, is_ticket, asks_ticket, IsBehind, AreNumbersBelow}
 use Rattle.cells.specs.Counting.{IsCounted, IsDrawn}
@@ -59,14 +60,14 @@ word_of_cell (size ∷ sizes) word below =
 
 -- the calls with one draw more
 pub asked : (sizes : List ℕ) (m key helper answer : ℕ) (before after : List Draw) → IsInside sizes m key → IsDrawn helper (word_of sizes m key) before answer after
-    → calls_of sizes after ≡ calls_of sizes before ++ call helper m key answer ∷ []
+    → calls_of sizes after ≡ calls_of sizes before ++ call (question helper m key) answer ∷ []
 asked sizes m key helper answer before after h d =
     ap (calls_of sizes) d.draws ∙ map-append _ before (draw helper (word_of sizes m key) d.exact answer ∷ [])
-    ∙ ap (λ (c : ℕ × ℕ). calls_of sizes before ++ call helper c.0 c.1 answer ∷ []) (cell_of_word sizes m key h.map_exists h.key_exists)
+    ∙ ap (λ (c : ℕ × ℕ). calls_of sizes before ++ call (question helper c.0 c.1) answer ∷ []) (cell_of_word sizes m key h.map_exists h.key_exists)
 
 -- a draw is a ticket of the word where its call drew a ticket of the cell
 asks_is : (sizes : List ℕ) (m key : ℕ) → IsInside sizes m key → (d : Draw) → d.word < sum sizes
-    → asks_ticket m key (call d.helper (cell_of sizes d.word).0 (cell_of sizes d.word).1 d.answer) ≡ is_ticket (word_of sizes m key) d
+    → asks_ticket m key (call (question d.helper (cell_of sizes d.word).0 (cell_of sizes d.word).1) d.answer) ≡ is_ticket (word_of sizes m key) d
 asks_is sizes m key h d below =
     let c = cell_of sizes d.word in
     let word = word_of sizes m key in
@@ -106,7 +107,7 @@ same_tickets : (sizes : List ℕ) (m key n : ℕ) → IsInside sizes m key → n
 same_tickets sizes m key n h small [] are behind = refl
 same_tickets sizes m key n h small (d ∷ ds) are behind =
     let word = word_of sizes m key in
-    let c : Call = call d.helper (cell_of sizes d.word).0 (cell_of sizes d.word).1 d.answer in
+    let c : Call = call (question d.helper (cell_of sizes d.word).0 (cell_of sizes d.word).1) d.answer in
     let of : IsOf sizes d = All-head (IsOf sizes) d ds are in
     let rest = same_tickets sizes m key n h small ds (All-tail (IsOf sizes) d ds are) (All-tail (IsBehind word n) d ds behind) in
     let cs = filter (asks_ticket m key) (calls_of sizes ds) in
@@ -119,7 +120,7 @@ same_length : (sizes : List ℕ) (m key : ℕ) → IsInside sizes m key → (ds 
 same_length sizes m key h [] are = refl
 same_length sizes m key h (d ∷ ds) are =
     let word = word_of sizes m key in
-    let c : Call = call d.helper (cell_of sizes d.word).0 (cell_of sizes d.word).1 d.answer in
+    let c : Call = call (question d.helper (cell_of sizes d.word).0 (cell_of sizes d.word).1) d.answer in
     let of : IsOf sizes d = All-head (IsOf sizes) d ds are in
     let cs = filter (asks_ticket m key) (calls_of sizes ds) in
     ap (λ (b : Bool). length (answers (cond b (c ∷ cs) cs))) (asks_is sizes m key h d of.0)

@@ -2,6 +2,7 @@
 use Rattle.std.specs.Prelude.{ℕ, suc, ◌+◌, ◌-◌, ◌≤◌, ◌≡◌, ◌==◌, ◌&&◌, Bool, List, [], ◌∷◌, map, filter, sum, take, count_by, cond, nat_lt}
 use Rattle.machine.specs.declared.calls.Call.{Call}
 use Rattle.machine.specs.Runs.{call}
+use Rattle.machine.specs.Step.{question}
 use Rattle.cells.specs.declared.hands.Draw.{Draw}
 
 -- the word of a cell: the cells of the maps before its own come first
@@ -19,7 +20,7 @@ draw helper word exact answer = record { helper = helper; word = word; exact = e
 
 -- the calls that were answered by these draws
 abbrev pub calls_of : (sizes : List ℕ) → List Draw → List Call
-calls_of sizes draws = map (λ d. call d.helper (cell_of sizes d.word).0 (cell_of sizes d.word).1 d.answer) draws
+calls_of sizes draws = map (λ d. call (question d.helper (cell_of sizes d.word).0 (cell_of sizes d.word).1) d.answer) draws
 
 -- how many tickets are drawn from a cell at least, once the draw is done: a ticket is one more
 abbrev pub drawn_after : Draw → ℕ

@@ -3,6 +3,7 @@
 ghost use Rattle.std.specs.Prelude.{◌≡◌, ◌++◌, ◌∷◌, []};
 ghost use Rattle.std.specs.Arc.{arc_value};
 ghost use Rattle.machine.specs.Runs.{call};
+ghost use Rattle.machine.specs.Step.{question};
 ghost use Rattle.machine.specs.Sizes.{AreSizes, IsInside};
 ghost use Rattle.cells.specs.Counting.{IsDrawn};
 ghost use Rattle.cells.specs.Draws.{word_of};
@@ -47,7 +48,7 @@ impl CellSeat {
     /// One load of the word of a cell.
     fn load(&mut self, map: u8, key: u16) -> u64
         requires { IsInside self.old.sizes map key }
-        ensures asked { calls self.new ≡ calls self.old ++ call 1 map key result ∷ [] }
+        ensures asked { calls self.new ≡ calls self.old ++ call (question 1 map key) result ∷ [] }
         ensures sizes { self.new.sizes ≡ self.old.sizes }
         ensures home { self.new.home ≡ self.old.home }
         ensures drawn { IsDrawn 1 (word_of self.old.sizes map key) self.old.draws result self.new.draws }
@@ -59,7 +60,7 @@ impl CellSeat {
     /// One `fetch_add` of the word of a cell.
     fn fetch_add(&mut self, map: u8, key: u16) -> u64
         requires { IsInside self.old.sizes map key }
-        ensures asked { calls self.new ≡ calls self.old ++ call 2 map key result ∷ [] }
+        ensures asked { calls self.new ≡ calls self.old ++ call (question 2 map key) result ∷ [] }
         ensures sizes { self.new.sizes ≡ self.old.sizes }
         ensures home { self.new.home ≡ self.old.home }
         ensures drawn { IsDrawn 2 (word_of self.old.sizes map key) self.old.draws result self.new.draws }
@@ -89,7 +90,7 @@ impl Counters for CellSeat {
 
     fn count(&mut self, map: u8, key: u16) -> u64
         requires { IsInside self.old.sizes map key }
-        ensures asked { calls self.new ≡ calls self.old ++ call 1 map key result ∷ [] }
+        ensures asked { calls self.new ≡ calls self.old ++ call (question 1 map key) result ∷ [] }
         ensures sizes { self.new.sizes ≡ self.old.sizes }
         ensures home { self.new.home ≡ self.old.home }
         ensures drawn { IsDrawn 1 (word_of self.old.sizes map key) self.old.draws result self.new.draws }
@@ -99,7 +100,7 @@ impl Counters for CellSeat {
 
     fn ticket(&mut self, map: u8, key: u16) -> u64
         requires { IsInside self.old.sizes map key }
-        ensures asked { calls self.new ≡ calls self.old ++ call 2 map key result ∷ [] }
+        ensures asked { calls self.new ≡ calls self.old ++ call (question 2 map key) result ∷ [] }
         ensures sizes { self.new.sizes ≡ self.old.sizes }
         ensures home { self.new.home ≡ self.old.home }
         ensures drawn { IsDrawn 2 (word_of self.old.sizes map key) self.old.draws result self.new.draws }

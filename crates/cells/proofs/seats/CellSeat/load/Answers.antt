@@ -1,5 +1,6 @@
 use Rattle.std.proofs.Common.{◌≡◌, ◌++◌, ◌∷◌, [], ◌∙◌, ℕ, subst, sym, arith}
 use Rattle.machine.specs.Runs.{call}
+use Rattle.machine.specs.Step.{question}
 use Rattle.machine.specs.Sizes.{IsInside}
 use Rattle.cells.specs.Counting.{IsDrawn}
 use Rattle.cells.specs.Draws.{calls_of}
@@ -25,5 +26,5 @@ returns-clause-asked c =
     let after = c.load.new.seat.me.0.draws in
     let inside = subst (λ (v : CellSeatValue). IsInside v.sizes c.args.map c.args.key) (sym c.self.view_is) c.requires in
     let drawn = subst (λ (word : ℕ). IsDrawn 1 word before c.load.result after) c.word_at-word.ensures.word c.load.ensures.2.drawn in
-    subst (λ (v : CellSeatValue). calls_of sizes after ≡ calls v ++ call 1 c.args.map c.args.key c.load.result ∷ []) c.self.view_is
+    subst (λ (v : CellSeatValue). calls_of sizes after ≡ calls v ++ call (question 1 c.args.map c.args.key) c.load.result ∷ []) c.self.view_is
     (asked sizes c.args.map c.args.key 1 c.load.result before after inside drawn)
