@@ -31,7 +31,7 @@ pub record IsTable (sizes : List ℕ) (table : State (Unit {0}) Hand) : Type 0 w
   pub idle : (seat : ℕ) (h : Hand) → get_elem? table.views seat ≡ some h → h.parts ≡ 0 → h.draws ≡ []
   pub cells : (word : ℕ) → word < length table.words → IsCounted word (slice_index table.words word) (all_draws table.views)
 
--- one draw more of a word, which knew of all tickets that those before it knew
+-- one draw more of a word, which knew of all tickets of which those before it knew
 pub record IsDrawn (helper word : ℕ) (before : List Draw) (answer : ℕ) (after : List Draw) : Type 0 where
   pub exact : ℕ
   pub wraps : answer ≡ exact % 2 ^ 64
@@ -44,7 +44,7 @@ pub record Answers (helper : ℕ) (s : Step (Unit {0})) (before : Me (Unit {0}) 
   pub parts : after.0.parts ≡ before.0.parts
   pub slots : after.1 ≡ before.1
 
--- the word stands for a number of tickets that no draw is behind
+-- the word stands for a number of tickets than which no draw knew of more
 pub record IsAhead (word value : ℕ) (draws : List Draw) : Type 0 where
   pub drawn : ℕ
   pub wraps : value ≡ drawn % 2 ^ 64

@@ -25,7 +25,7 @@ calls_of sizes draws = map (λ d. call d.helper (cell_of sizes d.word).0 (cell_o
 abbrev pub drawn_after : Draw → ℕ
 drawn_after d = d.exact + cond (d.helper == 2) 1 0
 
--- no draw of that cell was done later than when so many tickets were drawn from it
+-- a draw of that cell knew of no more tickets than so many
 abbrev pub IsBehind : (word drawn : ℕ) → Draw → Type 0
 IsBehind word drawn d = d.word ≡ word → drawn_after d ≤ drawn
 

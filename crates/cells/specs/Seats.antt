@@ -48,11 +48,11 @@ calls s = calls_of s.sizes s.draws
 abbrev pub calls_back : CellsValue → List Call
 calls_back it = calls_of it.sizes it.draws
 
--- the draw is of one of the cells, and its answer is its number modulo 2^64
+-- the draw is of one of these cells, and its answer is its number modulo 2^64
 abbrev pub IsOf : List ℕ → Draw → Type 0
 IsOf sizes d = (d.word < sum sizes) × (d.answer ≡ d.exact % 2 ^ 64)
 
--- all draws are
+-- each draw is of one of the cells, and its answer is its number modulo 2^64
 abbrev pub AreOf : List ℕ → List Draw → Type 0
 AreOf sizes draws = All (IsOf sizes) draws
 

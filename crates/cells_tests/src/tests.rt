@@ -29,7 +29,8 @@ fn ticket(seat: &mut CellSeat, map: u8, key: u16) -> Option<u64> {
 /// Gives the seats back.
 fn give_back(cells: &mut Cells, mut seats: Vec<CellSeat>)
     requires { All (IsSeatOf cells.old) seats.items }
-    ensures { cells.new.parts ≡ cells.old.parts + vec_len seats }
+    ensures parts { cells.new.parts ≡ cells.old.parts + vec_len seats }
+    ensures sizes { cells.new.sizes ≡ cells.old.sizes }
 {
     while let Some(seat) = seats.pop() {
         cells.take_back(seat);
