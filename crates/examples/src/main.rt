@@ -9,7 +9,12 @@ use std::io::{self, Write};
 use std::rt;
 
 /// The names of the programs. NAME.bpf is the text of one.
-const PROGRAMS: [&str; 3] = ["read_only_window", "one_initiator", "two_windows"];
+const PROGRAMS: [&str; 4] = [
+    "read_only_window",
+    "one_initiator",
+    "two_windows",
+    "four_initiators",
+];
 
 /// The packet lines that each program judges.
 const LINES: &str = "reads.txt";

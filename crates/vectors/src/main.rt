@@ -1,10 +1,15 @@
-//! Compares instructions and whole texts with what independent assemblers make of them.
+//! Compares instructions, whole texts and programs with loops with what independent assemblers, a verifier and an
+//! interpreter make of them.
 //!
 //! Each line of the input has the text of an instruction, a tab and its bytes in hexadecimal. Each line of the
 //! file `texts.txt` has an answer, a tab and the text of a program, whose lines are apart by `|`; the answer is
-//! the bytes of the image in hexadecimal, or the fault. A line that begins with `#` says where the others come
-//! from. Prints each line at which a reader, printer or encoder of this workspace differs, and how many lines agree.
+//! the bytes of the image in hexadecimal, or the fault. Each line of the file `loops.txt` has an image in
+//! hexadecimal, a tab and the verifier's answer, and behind another tab the verdict and the steps of a run where it
+//! is accepted. A line that begins with `#` says where the others come from. Prints each line at which this
+//! workspace differs, and how many lines agree.
 #![tactic(auto)]
+
+mod loops;
 
 use anyhow::{Context, Result};
 use basm::{assemble, disassemble};
@@ -14,6 +19,9 @@ use std::fs;
 
 /// The file of texts.
 const TEXTS: &str = "texts.txt";
+
+/// The file of programs with loops.
+const LOOPS: &str = "loops.txt";
 
 /// Whether the bytes are the instruction's, all of them.
 fn is_spelling(insn: &Insn, bytes: &[u8]) -> bool {
@@ -125,5 +133,18 @@ fn main(rt: HostRuntime) -> Result<()> {
     }
     let Tally { agreeing, lines } = texts;
     println!(rt; "{agreeing} of {lines} texts agree")?;
+
+    let mut programs = Tally::new();
+    for line in fs::read_to_string(&rt, LOOPS)?.lines() {
+        let Some((image, row)) = line.split_once('\t') else {
+            continue;
+        };
+        let (answer, run) = row.split_once('\t').unwrap_or((row, ""));
+        if !programs.count(loops::agrees(rt.alloc(), image, answer, run)?) {
+            println!(rt; "differs: {line}")?;
+        }
+    }
+    let Tally { agreeing, lines } = programs;
+    println!(rt; "{agreeing} of {lines} programs with loops agree")?;
     Ok(())
 }
