@@ -2,6 +2,7 @@
 
 const MOV: u8 = 0xB7;
 const MOV32_REGISTER: u8 = 0xBC;
+const ADD: u8 = 0x07;
 const ADD_REGISTER: u8 = 0x0F;
 const XOR: u8 = 0xA7;
 const LSH: u8 = 0x67;
@@ -23,15 +24,27 @@ fn insn(opcode: u8, dst: u8, src: u8, offset: i16, immediate: u32) -> Slot {
     [opcode, src << 4 | dst, o0, o1, i0, i1, i2, i3]
 }
 
-/// The image of these slots, without loops, whose budget is its number of instructions.
-fn image(slots: &[Slot]) -> Vec<u8> {
-    let count = slots.len() as u16;
-    let mut bytes = b"BPFA\x01\x00".to_vec();
-    bytes.extend(count.to_le_bytes());
-    bytes.extend(u32::from(count).to_le_bytes());
+/// A declared loop: its first and last slot, its bound and its register.
+fn declared(head: u16, back: u16, bound: u16, register: u8) -> Slot {
+    let ([h0, h1], [b0, b1], [n0, n1]) = (head.to_le_bytes(), back.to_le_bytes(), bound.to_le_bytes());
+    [h0, h1, b0, b1, n0, n1, register, 0]
+}
+
+/// The image of these loops and slots.
+fn image_with(budget: u32, loops: &[Slot], slots: &[Slot]) -> Vec<u8> {
+    let mut bytes = b"BPFA\x01".to_vec();
+    bytes.push(loops.len() as u8);
+    bytes.extend((slots.len() as u16).to_le_bytes());
+    bytes.extend(budget.to_le_bytes());
     bytes.extend([0; 4]);
+    bytes.extend(loops.iter().flatten());
     bytes.extend(slots.iter().flatten());
     bytes
+}
+
+/// The image of these slots, without loops, whose budget is its number of slots.
+fn image(slots: &[Slot]) -> Vec<u8> {
+    image_with(slots.len() as u32, &[], slots)
 }
 
 /// How many slots an image has.
@@ -44,24 +57,80 @@ pub fn yes() -> Vec<u8> {
     image(&[insn(MOV, 0, 0, 0, 0), insn(EXIT, 0, 0, 0, 0)])
 }
 
-/// 512 slots of arithmetic, loads from the header, the stack and jumps that are not taken.
+/// Eight slots of arithmetic, loads from the header, the stack and a jump that is not taken.
+fn work(offset: i16) -> [Slot; 8] {
+    [
+        insn(LDXB, 5, 2, offset, 0),
+        insn(ADD_REGISTER, 0, 5, 0, 0),
+        insn(STXDW, 10, 0, -8, 0),
+        insn(LDXDW, 6, 10, -8, 0),
+        insn(XOR, 6, 0, 0, 0x55),
+        insn(LSH, 6, 0, 0, 1),
+        insn(JEQ, 6, 0, 1, 0x7FFF_FFFF),
+        insn(MOV32_REGISTER, 7, 6, 0, 0),
+    ]
+}
+
+/// The end of a loop: the register is counted down, and while it is not zero so many slots are gone back.
+fn again(register: u8, back: i16) -> [Slot; 2] {
+    [
+        insn(ADD, register, 0, 0, u32::MAX),
+        insn(JNE, register, 0, back, 0),
+    ]
+}
+
+/// 512 slots of work.
 pub fn straight() -> Vec<u8> {
     let mut slots = vec![insn(MOV, 0, 0, 0, 1), insn(STXDW, 10, 0, -8, 0)];
     for k in 0..63 {
-        slots.extend([
-            insn(LDXB, 5, 2, k % 12, 0),
-            insn(ADD_REGISTER, 0, 5, 0, 0),
-            insn(STXDW, 10, 0, -8, 0),
-            insn(LDXDW, 6, 10, -8, 0),
-            insn(XOR, 6, 0, 0, 0x55),
-            insn(LSH, 6, 0, 0, 1),
-            insn(JEQ, 6, 0, 1, 0x7FFF_FFFF),
-            insn(MOV32_REGISTER, 7, 6, 0, 0),
-        ]);
+        slots.extend(work(k % 12));
     }
     slots.resize(510, insn(MOV, 8, 0, 0, 0));
     slots.extend([insn(MOV, 0, 0, 0, 0), insn(EXIT, 0, 0, 0, 0)]);
     image(&slots)
+}
+
+/// 4,096 rounds of a loop of three slots: 12,291 steps.
+pub fn counting() -> Vec<u8> {
+    let mut slots = vec![
+        insn(MOV, 0, 0, 0, 0),
+        insn(MOV, 6, 0, 0, 4096),
+        insn(MOV, 7, 0, 0, 0),
+    ];
+    slots.extend(again(6, -3));
+    slots.push(insn(EXIT, 0, 0, 0, 0));
+    image_with(12_291, &[declared(2, 4, 4096, 6)], &slots)
+}
+
+/// Eight loops of two rounds in one another.
+pub fn nested() -> Vec<u8> {
+    let mut slots: Vec<Slot> = (1..9).map(|register| insn(MOV, register, 0, 0, 2)).collect();
+    for inside in 0..8u8 {
+        slots.extend(again(8 - inside, -2 - 3 * i16::from(inside)));
+    }
+    slots.extend([insn(MOV, 0, 0, 0, 0), insn(EXIT, 0, 0, 0, 0)]);
+    let loops: Vec<Slot> = (1..9u8)
+        .map(|k| declared(u16::from(k), 25 - 2 * u16::from(k), 2, k))
+        .collect();
+    image_with(1_277, &loops, &slots)
+}
+
+/// 512 slots of work in eight loops of two rounds, one after the other.
+pub fn looping() -> Vec<u8> {
+    let mut slots = vec![insn(MOV, 0, 0, 0, 1), insn(STXDW, 10, 0, -8, 0)];
+    let mut loops = Vec::new();
+    for _ in 0..8 {
+        slots.push(insn(MOV, 8, 0, 0, 2));
+        let head = slots.len() as u16;
+        for k in 0..7 {
+            slots.extend(work(k));
+        }
+        slots.extend(again(8, -58));
+        loops.push(declared(head, slots.len() as u16 - 1, 2, 8));
+    }
+    slots.resize(510, insn(MOV, 9, 0, 0, 0));
+    slots.extend([insn(MOV, 0, 0, 0, 0), insn(EXIT, 0, 0, 0, 0)]);
+    image_with(65_536, &loops, &slots)
 }
 
 /// Fourteen rules on initiator and address, of which the last one says yes.

@@ -27,9 +27,17 @@ fn main() {
     measure("run of 512 slots", "instructions", slots * 20_000.0, || {
         timed(|| speed::run(&straight, &READ, 20_000))
     });
-    measure("verify of 512 slots", "images", 200.0, || {
-        timed(|| speed::verify(&straight, 200))
+    let counting = images::counting();
+    measure("run of a loop of 4096 rounds", "instructions", 12_291.0 * 1_000.0, || {
+        timed(|| speed::run(&counting, &READ, 1_000))
     });
+    for (name, image) in [
+        ("verify of 512 slots", straight),
+        ("verify of 512 slots with eight loops", images::looping()),
+        ("verify of eight loops in one another", images::nested()),
+    ] {
+        measure(name, "images", 200.0, || timed(|| speed::verify(&image, 200)));
+    }
 
     for (name, image) in [
         ("judge and finish, yes image", images::yes()),
