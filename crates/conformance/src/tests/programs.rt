@@ -45,6 +45,17 @@ fn refused_programs(rt: HostRuntime) -> Result<(), Fail> {
         (2, "ldmap r0, 0; exit", "refused V12 slot 0\n"),
         (3, "call 1; mov r0, 0; exit", "refused V13 slot 0\n"),
         (3, "stb [r1+0], 1; mov r0, 0; exit", "refused V9 slot 0\n"),
+        // The counting loop with a step of two, and begun above its bound.
+        (
+            15,
+            ".loop 2, 4, 4, r6; mov r0, 0; mov r6, 4; add r0, 1; add r6, -2; jne r6, 0, -3; exit",
+            "refused V3 slot 4\n",
+        ),
+        (
+            15,
+            ".loop 2, 4, 4, r6; mov r0, 0; mov r6, 5; add r0, 1; add r6, -1; jne r6, 0, -3; exit",
+            "refused V4 slot 2\n",
+        ),
     ] {
         let image = image_of(alloc, budget, text)?;
         let (printed, status) = run(alloc, &["verify", "image"], &[("image", image.as_slice())])?;
@@ -68,6 +79,26 @@ fn accepted_programs_judge(rt: HostRuntime) -> Result<(), Fail> {
         ),
         (3, "stb [r10-512], 1; mov r0, 0; exit", PLAIN_REPLY),
         (2, "ldxdw r0, [r2+4]; exit", DENIED),
+        // The counting loop, whose verdict 4 is no status of an application.
+        (
+            15,
+            ".loop 2, 4, 4, r6; mov r0, 0; mov r6, 4; add r0, 1; add r6, -1; jne r6, 0, -3; exit",
+            DENIED,
+        ),
+        // Three times four rounds of nested loops: invalid target logical address.
+        (
+            48,
+            ".loop 2, 7, 3, r6; .loop 3, 5, 4, r7; mov r0, 0; mov r6, 3; mov r7, 4; add r0, 1; add r7, -1; \
+             jne r7, 0, -3; add r6, -1; jne r6, 0, -6; exit",
+            "0 67010C0CFE000100000000EB00 EOP",
+        ),
+        // The sum of the last twelve bytes of the header, less 481.
+        (
+            76,
+            ".loop 2, 7, 12, r6; mov r0, 0; mov r6, 12; mov r4, r2; add r4, r6; ldxb r5, [r4-1]; add r0, r5; \
+             add r6, -1; jne r6, 0, -6; sub r0, 481; exit",
+            PLAIN_REPLY,
+        ),
         // The instruction byte of a read with increment, the initiator, and the port.
         (
             5,
