@@ -97,7 +97,7 @@ fn weights_of_loops(rt: HostRuntime) -> Result<(), Fail> {
             check(&image_of_text(alloc, program, weight)?).is_ok(),
             "{name}"
         );
-        let heavy = image_of_text(alloc, program, weight - 1)?;
+        let heavy = image_of_text(alloc, program, weight.saturating_sub(1))?;
         assert!(rt;
             check(&heavy).is_err_and(|refused| refused.code.code() == 15),
             "{name}"
