@@ -43,11 +43,9 @@ fn main() {
         ("judge and finish, yes image", images::yes()),
         ("judge and finish, 100 instructions", images::fields()),
     ] {
-        measure(name, "packets", f64::from(PACKETS), || {
-            let whole = timed(|| speed::judge(&image, &READ, PACKETS))?;
-            let prepared = timed(|| speed::prepare(&image, &READ, PACKETS))?;
-            Some(whole.saturating_sub(prepared))
-        });
+        let whole = rounds(|| timed(|| speed::judge(&image, &READ, PACKETS)));
+        let prepared = rounds(|| timed(|| speed::prepare(&image, &READ, PACKETS)));
+        tell(name, "packets", f64::from(PACKETS), less(whole, prepared));
     }
 }
 
@@ -58,18 +56,37 @@ fn timed(call: impl FnOnce() -> u64) -> Option<Duration> {
     (sum != speed::REFUSED).then(|| start.elapsed())
 }
 
+/// The times of the rounds, the best first, or `None` where an input is refused.
+fn rounds(round: impl FnMut() -> Option<Duration>) -> Option<Vec<Duration>> {
+    let mut times: Vec<Duration> = std::iter::repeat_with(round)
+        .take(ROUNDS)
+        .collect::<Option<_>>()?;
+    times.sort();
+    Some(times)
+}
+
+/// The times of the rounds without those of others: the best without the best, and so on, so that one slow round
+/// of the others is not taken off a quick one.
+fn less(whole: Option<Vec<Duration>>, others: Option<Vec<Duration>>) -> Option<Vec<Duration>> {
+    let pairs = whole?.into_iter().zip(others?);
+    Some(pairs.map(|(time, other)| time.saturating_sub(other)).collect())
+}
+
 /// Prints how many of the unit a second the best and the median round did.
-fn measure(name: &str, unit: &str, amount: f64, mut round: impl FnMut() -> Option<Duration>) {
-    let rounds: Option<Vec<Duration>> = (0..ROUNDS).map(|_| round()).collect();
-    let Some(mut rounds) = rounds else {
+fn measure(name: &str, unit: &str, amount: f64, round: impl FnMut() -> Option<Duration>) {
+    tell(name, unit, amount, rounds(round));
+}
+
+/// Prints the rates of the best and the median of some rounds.
+fn tell(name: &str, unit: &str, amount: f64, times: Option<Vec<Duration>>) {
+    let Some(times) = times else {
         println!("{name}: refused");
         return;
     };
-    rounds.sort();
     let rate = |time: Duration| amount / time.as_secs_f64();
     println!(
         "{name}: best {:.4e}, median {:.4e} {unit} a second",
-        rate(rounds[0]),
-        rate(rounds[ROUNDS / 2]),
+        rate(times[0]),
+        rate(times[ROUNDS / 2]),
     );
 }

@@ -30,10 +30,14 @@ abbrev pub with_source : StateValue → Operand → Range → StateValue
 with_source a (FromRegister register) range = with_kind a register (Num range)
 with_source a (Immediate value) range = a
 
+-- the new ranges of both operands
+abbrev pub with_operands : StateValue → (dst : ℕ) → Operand → Operands → StateValue
+with_operands a dst src new = with_source (with_kind a dst (Num new.dst)) src new.src
+
 -- what is known on an edge, which is not followed where a range is empty
 abbrev pub on_edge : StateValue → (dst : ℕ) → Operand → Option Operands → Option StateValue
 on_edge a dst src None = None
-on_edge a dst src (Some new) = Some (with_source (with_kind a dst (Num new.dst)) src new.src)
+on_edge a dst src (Some new) = Some (with_operands a dst src new)
 
 -- both edges with what was known before
 abbrev pub unrefined : StateValue → Edges

@@ -175,11 +175,15 @@ abbrev pub wrote_at : StateValue → (bytes : ℕ) → Option (ℕ × ℕ) → R
 wrote_at a bytes None = Err OutOfRegion
 wrote_at a bytes (Some places) = Ok (wrote a bytes places)
 
+-- a store to the stack at one of these offsets
+abbrev pub wrote_stack : StateValue → (bytes : ℕ) → ℤ × ℤ → (offset : ℤ) → Result StateValue Cause
+wrote_stack a bytes offsets offset = wrote_at a bytes (access_places Stack bytes offsets offset)
+
 -- a store to a region: the header is read-only
 abbrev pub wrote_to : StateValue → (bytes : ℕ) → Region → ℤ × ℤ → (offset : ℤ) → Result StateValue Cause
 wrote_to a bytes Front offsets offset = Err HeaderWrite
 wrote_to a bytes Tail offsets offset = Err HeaderWrite
-wrote_to a bytes Stack offsets offset = wrote_at a bytes (access_places Stack bytes offsets offset)
+wrote_to a bytes Stack offsets offset = wrote_stack a bytes offsets offset
 
 -- a store of a number through a pointer
 abbrev pub stored : StateValue → (bytes : ℕ) → (base : AbsKind) → (offset : ℤ) → Result Range Cause → Result StateValue Cause
@@ -222,3 +226,11 @@ applied a Exit = Ok a
 abbrev pub Becomes : Result (Unit {0}) Cause → (old new : StateValue) → (given : Result StateValue Cause) → Type 0
 Becomes (Ok done) old new given = given ≡ Ok new
 Becomes (Err cause) old new given = (given ≡ Err cause) × (new ≡ old)
+
+-- a store of so many bytes of a value through a pointer, in place
+abbrev pub Stores : Result (Unit {0}) Cause → (old new : StateValue) → (bytes : ℕ) → (base : AbsKind) → (offset : ℤ) → (value : AbsKind) → Type 0
+Stores done old new bytes base offset value = Becomes done old new (stored old bytes base offset (number_of value))
+
+-- an instruction in place
+abbrev pub Applies : Result (Unit {0}) Cause → (old new : StateValue) → Insn → Type 0
+Applies done old new insn = Becomes done old new (applied old insn)

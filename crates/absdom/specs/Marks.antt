@@ -1,5 +1,5 @@
 -- Which bytes of the stack are set: a mark for each place (a choice of this project).
-use Rattle.std.specs.Prelude.{ℕ, zero, suc, ◌+◌, Bool, true, false, ◌&&◌, List, slice_index_or, slice_set}
+use Rattle.std.specs.Prelude.{◌≡◌, ℕ, zero, suc, ◌+◌, Bool, true, false, ◌&&◌, List, slice_index_or, slice_set}
 
 -- whether the byte at a place is known to be set
 abbrev pub mark_at : List Bool → ℕ → Bool
@@ -14,3 +14,11 @@ all_marked marks first (suc count) = all_marked marks first count && mark_at mar
 unfoldable pub marked : List Bool → (first bytes : ℕ) → List Bool
 marked marks first zero = marks
 marked marks first (suc bytes) = slice_set (marked marks first bytes) (first + bytes) true
+
+-- each mark of the first list stands in the second too
+abbrev pub AreMarkedIn : (first second : List Bool) → Type 0
+AreMarkedIn first second = (place : ℕ) → mark_at first place ≡ true → mark_at second place ≡ true
+
+-- the marks that stand in both lists
+abbrev pub AreInBoth : (first second both : List Bool) → Type 0
+AreInBoth first second both = (place : ℕ) → mark_at both place ≡ (mark_at first place && mark_at second place)

@@ -7,7 +7,7 @@ use Rattle.absdom_num.specs.Tables.{whole}
 use Rattle.absdom.specs.declared.kinds.AbsKind.{AbsKind}
 use Rattle.absdom.specs.declared.kinds.AbsKind.TheVariants.{Unset, Num, Ptr, Map}
 use Rattle.absdom.specs.Kinds.{joined, IsKindBelow}
-use Rattle.absdom.specs.Marks.{mark_at}
+use Rattle.absdom.specs.Marks.{mark_at, AreInBoth, AreMarkedIn}
 
 -- a kind for each register, and a mark for each byte of the stack that is known to be set
 pub record StateValue : Type 0 where
@@ -74,12 +74,12 @@ AreJoined first second joint = (register : ℕ) → kind_in joint register ≡ j
 -- the first says all that the second says
 pub record IsBelow (a b : StateValue) : Type 0 where
   pub kinds : AreBelow a.kinds b.kinds
-  pub marks : (place : ℕ) → mark_at b.marks place ≡ true → mark_at a.marks place ≡ true
+  pub marks : AreMarkedIn b.marks a.marks
 
 -- register by register the least kind above both; a byte is set where it is in both
 pub record IsJoin (a b joint : StateValue) : Type 0 where
   pub kinds : AreJoined a.kinds b.kinds joint.kinds
-  pub marks : (place : ℕ) → mark_at joint.marks place ≡ (mark_at a.marks place && mark_at b.marks place)
+  pub marks : AreInBoth a.marks b.marks joint.marks
 
 -- the same kind of each register, and the same mark of each byte
 pub record AreAlike (a b : StateValue) : Type 0 where

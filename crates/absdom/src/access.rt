@@ -1,11 +1,10 @@
 //! Loads and stores through a pointer (RFC 9669, section 5).
 
 ghost use Rattle.std.specs.Prelude.{◌≡◌, ◌+◌, ◌-◌, ◌^◌, ◌<◌, ◌≤◌, ◌≤ℤ◌, ◌+ℤ◌, pos, negsuc, IfSome, Some};
-ghost use Rattle.bpf_insn.specs.Sizes.{size_bytes, load_bytes};
+ghost use Rattle.bpf_insn.specs.Sizes.{size_bytes};
 ghost use Rattle.machine.specs.Memory.{place_within, place_of};
 ghost use Rattle.absdom.specs.Offsets.{IsOffset};
-ghost use Rattle.absdom.specs.Kinds.{number_of};
-ghost use Rattle.absdom.specs.Effect.{access_places, is_set, loaded_range, read_kind, load_kind, wrote, wrote_at, wrote_to, stored, AreInside, Becomes};
+ghost use Rattle.absdom.specs.Effect.{access_places, is_set, loaded_range, load_kind, wrote, wrote_stack, AreInside, Becomes, Stores};
 
 use crate::cause::Cause;
 use crate::kinds::AbsKind;
@@ -114,7 +113,7 @@ fn read(
     offsets: Offsets,
     offset: i16,
 ) -> Result<AbsKind, Cause>
-    ensures { result ≡ read_kind state.now size region (access_places region (load_bytes size) offsets offset) }
+    ensures { result ≡ load_kind state.now size (AbsKind.Ptr region offsets) offset }
 {
     let bytes = size.bytes();
     match access(region, bytes, offsets, offset) {
@@ -149,7 +148,7 @@ pub(crate) fn load(
 /// A store to the stack at one of these offsets: it sets its bytes where there is one offset alone.
 fn write(state: &mut State, bytes: usize, offsets: Offsets, offset: i16) -> Result<(), Cause>
     requires { bytes ≤ 8 }
-    ensures { Becomes result state.old state.new (wrote_at state.old bytes (access_places Region.Stack bytes offsets offset)) }
+    ensures { Becomes result state.old state.new (wrote_stack state.old bytes offsets offset) }
 {
     match access(Region::Stack, bytes, offsets, offset) {
         Some((lowest, highest)) => {
@@ -170,7 +169,7 @@ pub(crate) fn store(
     offset: i16,
     value: &AbsKind,
 ) -> Result<(), Cause>
-    ensures { Becomes result state.old state.new (stored state.old (size_bytes size) base.now offset (number_of value.now)) }
+    ensures { Stores result state.old state.new (size_bytes size) base.now offset value.now }
 {
     match base {
         AbsKind::Unset => Err(Cause::UnsetOperand),
@@ -197,7 +196,7 @@ fn store_to(
     value: &AbsKind,
 ) -> Result<(), Cause>
     requires { bytes ≤ 8 }
-    ensures { Becomes result state.old state.new (stored state.old bytes (AbsKind.Ptr region offsets) offset (number_of value.now)) }
+    ensures { Stores result state.old state.new bytes (AbsKind.Ptr region offsets) offset value.now }
 {
     let _ = value.number()?;
     match region {

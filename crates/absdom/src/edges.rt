@@ -2,8 +2,7 @@
 
 ghost use Rattle.std.specs.Prelude.{◌≡◌, Ok, Err, MatchResult};
 ghost use Rattle.machine.specs.Words.{word, low};
-ghost use Rattle.absdom.specs.State.{with_kind};
-ghost use Rattle.absdom.specs.Edges.{compared, with_source, on_edges, is_itself, ranges_of, refined_edges};
+ghost use Rattle.absdom.specs.Edges.{compared, with_operands, on_edges, is_itself, ranges_of, refined_edges};
 
 use crate::cause::Cause;
 use crate::kinds::AbsKind;
@@ -78,7 +77,9 @@ pub fn refine(
     dst: Register,
     src: &Operand,
 ) -> Result<Edges, Cause>
-    ensures { MatchResult result (λ new. refined_edges state.now condition width dst src.now ≡ Ok (on_edges state.now dst src.now new)) (λ cause. refined_edges state.now condition width dst src.now ≡ Err cause) }
+    ensures { MatchResult result
+        (λ new. refined_edges state.now condition width dst src.now ≡ Ok (on_edges state.now dst src.now new))
+        (λ cause. refined_edges state.now condition width dst src.now ≡ Err cause) }
 {
     let left = state.kind(dst).number()?;
     let right = source(state, width, src)?;
@@ -88,7 +89,7 @@ pub fn refine(
 impl State {
     /// Changes to what is known on an edge of a comparison, with the ranges of its operands there.
     pub fn narrow(&mut self, dst: Register, src: &Operand, new: &Operands)
-        ensures { self.new ≡ with_source (with_kind self.old dst (AbsKind.Num new.now.dst)) src.now new.now.src }
+        ensures { self.new ≡ with_operands self.old dst src.now new.now }
     {
         self.write(dst, AbsKind::Num(new.dst));
         match src {

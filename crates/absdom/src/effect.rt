@@ -1,7 +1,7 @@
 //! What an instruction does to what is known.
 
 ghost use Rattle.std.specs.Prelude.{◌≡◌};
-ghost use Rattle.absdom.specs.Effect.{operand_kind, map_kind, written, applied, Becomes};
+ghost use Rattle.absdom.specs.Effect.{operand_kind, map_kind, written, applied, Applies, Becomes};
 
 use crate::access::{load, store};
 use crate::arithmetic::{alu, byte_swap, move_signed, negate};
@@ -47,7 +47,7 @@ fn arithmetic(
     dst: Register,
     src: &Operand,
 ) -> Result<(), Cause>
-    ensures { Becomes result state.old state.new (applied state.old (Insn.Alu op width dst src.now)) }
+    ensures { Applies result state.old state.new (Insn.Alu op width dst src.now) }
 {
     let kind = alu(op, width, &state.kind(dst), &operand(state, src));
     write(state, dst, kind)
@@ -55,7 +55,7 @@ fn arithmetic(
 
 /// A load from a place into a register.
 fn fetch(state: &mut State, size: LoadSize, dst: Register, place: &Place) -> Result<(), Cause>
-    ensures { Becomes result state.old state.new (applied state.old (Insn.Load size dst place.now)) }
+    ensures { Applies result state.old state.new (Insn.Load size dst place.now) }
 {
     let kind = load(state, size, &state.kind(place.base), place.offset);
     write(state, dst, kind)
@@ -63,7 +63,7 @@ fn fetch(state: &mut State, size: LoadSize, dst: Register, place: &Place) -> Res
 
 /// A store of an operand to a place.
 fn put(state: &mut State, size: Size, place: &Place, src: &Operand) -> Result<(), Cause>
-    ensures { Becomes result state.old state.new (applied state.old (Insn.Store size place.now src.now)) }
+    ensures { Applies result state.old state.new (Insn.Store size place.now src.now) }
 {
     let pointer = state.kind(place.base);
     let value = operand(state, src);

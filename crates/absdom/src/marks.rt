@@ -1,7 +1,7 @@
 //! Which bytes of the stack are set.
 
-ghost use Rattle.std.specs.Prelude.{◌≡◌, ℕ, ◌+◌, ◌-◌, ◌<◌, ◌≤◌, ◌↔◌, ◌&&◌, IsTrue, true, false, length, slice_set};
-ghost use Rattle.absdom.specs.Marks.{mark_at, all_marked, marked};
+ghost use Rattle.std.specs.Prelude.{◌≡◌, ℕ, ◌+◌, ◌-◌, ◌<◌, ◌≤◌, ◌↔◌, IsTrue, true, false, length, slice_set};
+ghost use Rattle.absdom.specs.Marks.{mark_at, all_marked, marked, AreInBoth, AreMarkedIn};
 
 use machine::STACK_SIZE;
 use std::marker::Model;
@@ -82,7 +82,7 @@ impl Marks {
 
     /// Keeps the marks that stand in both.
     pub(crate) fn join(&mut self, other: &Marks)
-        ensures both { (place : ℕ) → mark_at self.new place ≡ (mark_at self.old place && mark_at other.now place) }
+        ensures both { AreInBoth self.old other.now self.new }
         ensures length { length self.new ≡ 512 }
     {
         for k in 0..WORDS {
@@ -93,7 +93,7 @@ impl Marks {
 
     /// Whether each mark of the other stands here too.
     pub(crate) fn leq(&self, other: &Marks) -> bool
-        ensures { IsTrue result ↔ ((place : ℕ) → mark_at other.now place ≡ true → mark_at self.now place ≡ true) }
+        ensures { IsTrue result ↔ AreMarkedIn other.now self.now }
     {
         let _ = &other.words;
         for place in 0..STACK_SIZE {

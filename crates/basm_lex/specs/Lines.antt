@@ -58,3 +58,7 @@ operands_of line = separated (rest_of line)
 -- the line is the label of the name, with nothing behind it
 abbrev pub IsLabel : List ℕ → List ℕ → Type 0
 IsLabel line name = IsName name × (word_of line ≡ name ++ codes ":") × (operands_of line ≡ [])
+
+-- the line is no label
+abbrev pub IsNoLabel : List ℕ → Type 0
+IsNoLabel line = (name : List ℕ) → ¬ IsLabel line name

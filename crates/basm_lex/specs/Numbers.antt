@@ -15,6 +15,18 @@ decimal_value word = cond (starts_with_minus word) (neg_ℤ (pos (digits_value 1
 abbrev pub WritesDecimal : List ℕ → ℤ → Type 0
 WritesDecimal word value = IsDecimal word × (value ≡ decimal_value word)
 
+-- a decimal of 32 bits
+abbrev pub IsShortDecimal : List ℕ → Type 0
+IsShortDecimal word = IsDecimal word × FitsSigned w32 (decimal_value word)
+
+-- decimal digits of a number below the limit
+abbrev pub IsNumeralBelow : (limit : ℕ) → List ℕ → Type 0
+IsNumeralBelow limit digits = IsNumeral 10 digits × (digits_value 10 digits < limit)
+
+-- the number of 32 bits whose bits the hexadecimal digits write
+abbrev pub pattern_value : List ℕ → ℤ
+pattern_value digits = cast_signed w32 (digits_value 16 digits)
+
 -- at most so many hexadecimal digits, in either case
 abbrev pub IsHexadecimal : ℕ → List ℕ → Type 0
 IsHexadecimal most digits = IsNumeral 16 digits × (length digits ≤ most)

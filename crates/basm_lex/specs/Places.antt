@@ -1,5 +1,5 @@
 -- What words write: places in memory.
-use Rattle.std.specs.Prelude.{◌≡◌, ◌≤◌, ℕ, ℤ, List, ◌++◌, codes, FitsSigned}
+use Rattle.std.specs.Prelude.{◌≡◌, ◌≤◌, ℕ, ℤ, List, [], ◌∷◌, ◌++◌, codes, FitsSigned}
 use Rattle.std.specs.Int.{w16}
 use Rattle.bpf_insn.specs.declared.memory.Place.{Place}
 use Rattle.bpf_insn.specs.Text.{register_text}
@@ -8,6 +8,22 @@ use Rattle.basm_lex.specs.Numbers.{WritesDistance}
 -- a register by its name
 abbrev pub WritesRegister : List ℕ → ℕ → Type 0
 WritesRegister word number = (number ≤ 10) × (word ≡ register_text number)
+
+-- no register has that name
+abbrev pub IsNoRegister : List ℕ → Type 0
+IsNoRegister word = (number : ℕ) → ¬ WritesRegister word number
+
+-- a distance of 16 bits
+abbrev pub WritesOffset : List ℕ → ℤ → Type 0
+WritesOffset word offset = WritesDistance word offset × FitsSigned w16 offset
+
+-- a word in brackets
+abbrev pub IsBracketed : (word inner : List ℕ) → Type 0
+IsBracketed word inner = word ≡ 91 ∷ (inner ++ 93 ∷ [])
+
+-- a word that is not in brackets
+abbrev pub IsUnbracketed : List ℕ → Type 0
+IsUnbracketed word = (inner : List ℕ) → ¬ IsBracketed word inner
 
 -- a register and a distance in brackets
 pub record WritesPlace (word : List ℕ) (place : Place) : Type 0 where

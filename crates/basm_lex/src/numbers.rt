@@ -4,7 +4,7 @@ ghost use Rattle.std.specs.Prelude.{◌≡◌, ◌≤◌, ◌<◌, ◌^◌, ℕ,
 ghost use Rattle.std.specs.Bool.{MatchBool};
 ghost use Rattle.std.specs.Int.{w32, cast_signed};
 ghost use Rattle.std.specs.Str.Parse.{IsNumeral, digits_value};
-ghost use Rattle.basm_lex.specs.Numbers.{IsDecimal, IsHexadecimal, WritesDistance, WritesMagnitude, WritesNumber, WritesWide, WritesWideDecimal, decimal_value};
+ghost use Rattle.basm_lex.specs.Numbers.{IsDecimal, IsHexadecimal, IsNumeralBelow, IsShortDecimal, WritesDistance, WritesMagnitude, WritesNumber, WritesWide, WritesWideDecimal, decimal_value, pattern_value};
 
 use thiserror::Error;
 
@@ -62,7 +62,8 @@ pub fn distance(word: &str) -> Result<i64, NumberFault>
 pub fn magnitude(word: &str) -> Result<i64, NumberFault>
     ensures writes { IfOk result (WritesMagnitude word.now) }
     ensures low { IfOk result (λ n. negsuc 2147483647 ≤ℤ n) }
-    ensures exact { (value : ℤ) → WritesMagnitude word.now value → value ≤ℤ pos 2147483648 → result ≡ Ok value }
+    ensures exact { (value : ℤ) → WritesMagnitude word.now value → value ≤ℤ pos 2147483648
+        → result ≡ Ok value }
 {
     match word.strip_prefix("0x") {
         Some(digits) => Ok(i64::from(pattern(digits)?)),
@@ -71,7 +72,7 @@ pub fn magnitude(word: &str) -> Result<i64, NumberFault>
 }
 
 fn pattern(digits: &str) -> Result<i32, NumberFault>
-    ensures { OkIff result (IsHexadecimal 8 digits.now) (cast_signed w32 (digits_value 16 digits.now)) }
+    ensures { OkIff result (IsHexadecimal 8 digits.now) (pattern_value digits.now) }
 {
     if !is_numeral(digits, 16) {
         return Err(NumberFault::Form);
@@ -101,7 +102,7 @@ fn wide_pattern(digits: &str) -> Result<u64, NumberFault>
 }
 
 fn decimal(word: &str) -> Result<i32, NumberFault>
-    ensures { OkIff result (IsDecimal word.now × FitsSigned w32 (decimal_value word.now)) (decimal_value word.now) }
+    ensures { OkIff result (IsShortDecimal word.now) (decimal_value word.now) }
 {
     if !is_decimal(word) {
         return Err(NumberFault::Form);
@@ -134,7 +135,7 @@ fn wide_decimal(word: &str) -> Result<u64, NumberFault>
 
 /// A decimal without a sign.
 fn long_decimal(digits: &str) -> Result<u32, NumberFault>
-    ensures { OkIff result (IsNumeral 10 digits.now × (digits_value 10 digits.now < 2 ^ 32)) (digits_value 10 digits.now) }
+    ensures { OkIff result (IsNumeralBelow (2 ^ 32) digits.now) (digits_value 10 digits.now) }
 {
     if !is_numeral(digits, 10) {
         return Err(NumberFault::Form);

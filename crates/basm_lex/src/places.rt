@@ -1,9 +1,7 @@
 //! Places in memory in a text.
 
-ghost use Rattle.std.specs.Prelude.{◌≡◌, ◌≢◌, ℕ, ℤ, List, ◌∷◌, ◌++◌, [], IfOk, MatchOption, MatchResult, FitsSigned};
-ghost use Rattle.std.specs.Int.{w16};
-ghost use Rattle.basm_lex.specs.Numbers.{WritesDistance};
-ghost use Rattle.basm_lex.specs.Places.{WritesPlace, WritesRegister};
+ghost use Rattle.std.specs.Prelude.{◌≡◌, ℕ, ℤ, ◌∷◌, IfOk, MatchOption, MatchResult};
+ghost use Rattle.basm_lex.specs.Places.{IsBracketed, IsUnbracketed, WritesOffset, WritesPlace, WritesRegister};
 
 use crate::numbers::{NumberFault, magnitude};
 use crate::registers::register;
@@ -34,8 +32,8 @@ pub fn read_place(word: &str) -> Result<Place, NumberFault>
 
 /// The offset that digits after a plus write.
 fn forward(digits: &str) -> Result<i16, NumberFault>
-    ensures writes { IfOk result (λ offset. WritesDistance (43 ∷ digits.now) offset × FitsSigned w16 offset) }
-    ensures exact { (offset : ℤ) → WritesDistance (43 ∷ digits.now) offset → FitsSigned w16 offset → result ≡ Ok offset }
+    ensures writes { IfOk result (WritesOffset (43 ∷ digits.now)) }
+    ensures exact { (offset : ℤ) → WritesOffset (43 ∷ digits.now) offset → result ≡ Ok offset }
 {
     let offset = magnitude(digits)?;
     i16::try_from(offset).map_err(|_| NumberFault::Range)
@@ -43,8 +41,8 @@ fn forward(digits: &str) -> Result<i16, NumberFault>
 
 /// The offset that digits after a minus write.
 fn backward(digits: &str) -> Result<i16, NumberFault>
-    ensures writes { IfOk result (λ offset. WritesDistance (45 ∷ digits.now) offset × FitsSigned w16 offset) }
-    ensures exact { (offset : ℤ) → WritesDistance (45 ∷ digits.now) offset → FitsSigned w16 offset → result ≡ Ok offset }
+    ensures writes { IfOk result (WritesOffset (45 ∷ digits.now)) }
+    ensures exact { (offset : ℤ) → WritesOffset (45 ∷ digits.now) offset → result ≡ Ok offset }
 {
     let offset = -magnitude(digits)?;
     i16::try_from(offset).map_err(|_| NumberFault::Range)
@@ -52,7 +50,7 @@ fn backward(digits: &str) -> Result<i16, NumberFault>
 
 /// What stands between the brackets.
 fn inside(word: &str) -> Result<&str, NumberFault>
-    ensures { MatchResult result (λ inner. word.now ≡ 91 ∷ (inner.now ++ 93 ∷ [])) (λ _. (inner : List ℕ) → word.now ≢ 91 ∷ (inner ++ 93 ∷ [])) }
+    ensures { MatchResult result (λ inner. IsBracketed word.now inner.now) (λ _. IsUnbracketed word.now) }
 {
     match within(word) {
         Some(inner) => Ok(inner),
@@ -61,7 +59,7 @@ fn inside(word: &str) -> Result<&str, NumberFault>
 }
 
 fn within(word: &str) -> Option<&str>
-    ensures { MatchOption result ((inner : List ℕ) → word.now ≢ 91 ∷ (inner ++ 93 ∷ [])) (λ inner. word.now ≡ 91 ∷ (inner.now ++ 93 ∷ [])) }
+    ensures { MatchOption result (IsUnbracketed word.now) (λ inner. IsBracketed word.now inner.now) }
 {
     match word.strip_prefix('[') {
         Some(rest) => rest.strip_suffix(']'),

@@ -1,13 +1,13 @@
 //! Registers in a text.
 
 ghost use Rattle.std.specs.Prelude.{◌≡◌, ℕ, MatchOption};
-ghost use Rattle.basm_lex.specs.Places.{WritesRegister};
+ghost use Rattle.basm_lex.specs.Places.{IsNoRegister, WritesRegister};
 
 use bpf_insn::Register;
 
 /// The register that a word names: `r0` to `r10`.
 pub fn register(word: &str) -> Option<Register>
-    ensures writes { MatchOption result ((n : ℕ) → ¬ WritesRegister word.now n) (λ n. WritesRegister word.now n) }
+    ensures writes { MatchOption result (IsNoRegister word.now) (λ n. WritesRegister word.now n) }
     ensures exact { (n : ℕ) → WritesRegister word.now n → result ≡ Some n }
 {
     match register_number(word) {
@@ -17,7 +17,7 @@ pub fn register(word: &str) -> Option<Register>
 }
 
 fn register_number(word: &str) -> Option<u8>
-    ensures { MatchOption result ((n : ℕ) → ¬ WritesRegister word.now n) (λ n. WritesRegister word.now n) }
+    ensures { MatchOption result (IsNoRegister word.now) (λ n. WritesRegister word.now n) }
 {
     match word {
         "r0" => Some(0),

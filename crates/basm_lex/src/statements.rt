@@ -1,8 +1,8 @@
 //! The words of a line.
 
-ghost use Rattle.std.specs.Prelude.{◌≡◌, ℕ, List, map, IfOk, MatchOption};
+ghost use Rattle.std.specs.Prelude.{◌≡◌, map, IfOk, MatchOption};
 ghost use Rattle.std.specs.List.{before_first};
-ghost use Rattle.basm_lex.specs.Lines.{IsLabel, code_of, drop_spaces, is_semicolon, operands_of, rest_of, separated, skip_spaces, trimmed, word_of};
+ghost use Rattle.basm_lex.specs.Lines.{IsLabel, IsNoLabel, code_of, drop_spaces, is_semicolon, operands_of, rest_of, separated, skip_spaces, trimmed, word_of};
 
 use crate::names::label_name;
 use std::alloc::{AllocError, Global};
@@ -56,7 +56,7 @@ pub fn first_word(line: &str) -> &str
 
 /// The name that a line defines: a label, and nothing behind it.
 pub fn label(line: &str) -> Option<&str>
-    ensures { MatchOption result ((name : List ℕ) → ¬ IsLabel line.now name) (λ name. IsLabel line.now name.now) }
+    ensures { MatchOption result (IsNoLabel line.now) (λ name. IsLabel line.now name.now) }
 {
     let (word, after) = split_word(line);
     if after.is_empty() {
@@ -74,7 +74,8 @@ pub fn label(line: &str) -> Option<&str>
 /// `AllocError` where memory was refused.
 pub fn read_statement<'a>(alloc: Global, line: &'a str) -> Result<Statement<'a>, AllocError>
     ensures word { IfOk result (λ found. found.word.now ≡ word_of line.now) }
-    ensures operands { IfOk result (λ found. map (λ operand. operand.now) found.operands.items ≡ operands_of line.now) }
+    ensures operands { IfOk result
+        (λ found. map (λ operand. operand.now) found.operands.items ≡ operands_of line.now) }
 {
     let (word, rest) = split_word(line);
     let operands = read_operands(alloc, rest)?;
@@ -83,7 +84,8 @@ pub fn read_statement<'a>(alloc: Global, line: &'a str) -> Result<Statement<'a>,
 
 /// What stands between commas, without the spaces around it.
 fn read_operands(alloc: Global, rest: &str) -> Result<Vec<&str>, AllocError>
-    ensures { IfOk result (λ operands. map (λ operand. operand.now) operands.items ≡ separated rest.now) }
+    ensures { IfOk result
+        (λ operands. map (λ operand. operand.now) operands.items ≡ separated rest.now) }
 {
     if rest.is_empty() {
         Ok(Vec::new(alloc))

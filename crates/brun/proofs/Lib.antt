@@ -3,4 +3,6 @@ pub mod Bytes
 pub mod Values
 pub mod Following
 pub mod Running
+pub mod Questions
+pub mod Pausing
 pub mod Cells

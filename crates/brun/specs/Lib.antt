@@ -2,3 +2,4 @@ pub mod Refinement
 pub mod Words
 pub mod Simulation
 pub mod Runs
+pub mod Pauses

@@ -21,13 +21,29 @@ use Rattle.machine.specs.Words.{holds_words}
 use Rattle.machine.specs.Memory.{Header, place_of}
 use Rattle.bpf_insn.specs.Sizes.{size_bytes}
 use Rattle.machine.specs.State.{State, state, register_after}
-use Rattle.machine.specs.Step.{Outcome, Next, Ask, Verdict, Trap, perform, insn_at, operand, writes, puts, stores, compares, branches, lands, asks, calls, exits, map_at, is_helper}
+use Rattle.machine.specs.Step.{Question, Outcome, Next, Ask, Verdict, Trap, perform, insn_at, operand, writes, puts, stores, compares, branches, lands, asks, calls, exits, map_at, is_helper}
 use Rattle.bver_form.specs.Jumps.{target}
 use Rattle.bver_form.specs.Loops.{IsEdge, GoesTo}
 
+-- a step leads to a state: at once, or by an answer to its question
+pub data LeadsTo (o : Outcome) (t : State) : Type 0 where
+  at_once : o ≡ Next t → LeadsTo o t
+  by_answer : (question : Question) (on : ℕ → State) (answer : ℕ) → o ≡ Ask question on → on answer ≡ t → LeadsTo o t
+
+-- each state to which a step leads is so
+abbrev pub After : (State → Type 0) → Outcome → Type 0
+After P (Next t) = P t
+After P (Ask question on) = (answer : ℕ) → P (on answer)
+After P (Verdict n) = Unit {0}
+After P Trap = Unit {0}
+
+pub is_after : (P : State → Type 0) (o : Outcome) (t : State) → LeadsTo o t → After P o → P t
+is_after P o t (at_once e) after = subst (λ (w : Outcome). After P w) e after
+is_after P o t (by_answer question on answer e is) after = subst P is (subst (λ (w : Outcome). After P w) e after answer)
+
 abbrev IsAt : ℕ → Outcome → Type 0
 IsAt next (Next t) = t.slot ≡ next
-IsAt next (Ask question on) = Unit {0}
+IsAt next (Ask question on) = (answer : ℕ) → (on answer).slot ≡ next
 IsAt next (Verdict n) = Unit {0}
 IsAt next Trap = Unit {0}
 
@@ -56,14 +72,11 @@ stores_at s size (Map index) offset value = tt
 
 -- a run of an instruction goes on so
 abbrev IsOnEdge : Flow → (slot after : ℕ) → Outcome → Type 0
-IsOnEdge flow slot after (Next t) = GoesTo flow slot after t.slot
-IsOnEdge flow slot after (Ask question on) = Unit {0}
-IsOnEdge flow slot after (Verdict n) = Unit {0}
-IsOnEdge flow slot after Trap = Unit {0}
+IsOnEdge flow slot after o = After (λ t. GoesTo flow slot after t.slot) o
 
 straight_edge : (slot next : ℕ) (o : Outcome) → IsAt next o → IsOnEdge GoesOn slot next o
 straight_edge slot next (Next t) at = at
-straight_edge slot next (Ask question on) at = tt
+straight_edge slot next (Ask question on) at = at
 straight_edge slot next (Verdict n) at = tt
 straight_edge slot next Trap at = tt
 
@@ -94,23 +107,23 @@ exits_edge slot after (Num n) = tt
 exits_edge slot after (Ptr region offset) = tt
 exits_edge slot after (Map index) = tt
 
-asks_edge : (s : State) (callee : Callee) (number helper : ℤ) (after : ℕ) (map key : Value) → IsOnEdge (Calls callee number) s.slot after (asks s helper map key)
-asks_edge s callee number helper after (Map map) (Num key) = tt
-asks_edge s callee number helper after (Map map) Unset = tt
-asks_edge s callee number helper after (Map map) (Ptr region offset) = tt
-asks_edge s callee number helper after (Map map) (Map index) = tt
-asks_edge s callee number helper after Unset key = tt
-asks_edge s callee number helper after (Num n) key = tt
-asks_edge s callee number helper after (Ptr region offset) key = tt
+asks_edge : (s : State) (callee : Callee) (number helper : ℤ) (map key : Value) → IsOnEdge (Calls callee number) s.slot (s.slot + 1) (asks s helper map key)
+asks_edge s callee number helper (Map map) (Num key) = λ answer. refl
+asks_edge s callee number helper (Map map) Unset = tt
+asks_edge s callee number helper (Map map) (Ptr region offset) = tt
+asks_edge s callee number helper (Map map) (Map index) = tt
+asks_edge s callee number helper Unset key = tt
+asks_edge s callee number helper (Num n) key = tt
+asks_edge s callee number helper (Ptr region offset) key = tt
 
-calls_edge : (s : State) (callee : Callee) (number : ℤ) (after : ℕ) → IsOnEdge (Calls callee number) s.slot after (calls s callee number)
-calls_edge s Helper number after = by_helper (is_helper number)
+calls_edge : (s : State) (callee : Callee) (number : ℤ) → IsOnEdge (Calls callee number) s.slot (s.slot + 1) (calls s callee number)
+calls_edge s Helper number = by_helper (is_helper number)
   where
-    by_helper : (is : Bool) → IsOnEdge (Calls Helper number) s.slot after (if is then asks s number (s.registers 1) (s.registers 2) else Trap)
-    by_helper true = asks_edge s Helper number number after (s.registers 1) (s.registers 2)
+    by_helper : (is : Bool) → IsOnEdge (Calls Helper number) s.slot (s.slot + 1) (if is then asks s number (s.registers 1) (s.registers 2) else Trap)
+    by_helper true = asks_edge s Helper number number (s.registers 1) (s.registers 2)
     by_helper false = tt
-calls_edge s Local number after = tt
-calls_edge s ByTypeId number after = tt
+calls_edge s Local number = tt
+calls_edge s ByTypeId number = tt
 
 follows : (header : Header) (s : State) (insn : Insn) → IsOnEdge (flow_of insn) s.slot (s.slot + slots_of insn) (perform header s insn)
 follows header s (Alu op width dst src) = straight_edge s.slot (s.slot + 1) _ (writes_at s (s.slot + 1) dst _)
@@ -124,10 +137,10 @@ follows header s (Goto distance) = jump_edge s (distance_of distance) (s.slot + 
 follows header s (Wide dst value) = straight_edge s.slot (s.slot + 2) _ (writes_at s (s.slot + 2) dst (Some (Num value)))
 follows header s (LoadMap dst index) = straight_edge s.slot (s.slot + 2) _ (writes_at s (s.slot + 2) dst (map_at index))
 follows header s (LoadAddress dst address) = tt
-follows header s (insns.Call callee number) = calls_edge s callee number (s.slot + 1)
+follows header s (insns.Call callee number) = calls_edge s callee number
 follows header s Exit = exits_edge s.slot (s.slot + 1) (s.registers 0)
 
 -- every step of the machine follows an edge
-pub edge_of : (p : Program) (header : Header) (s t : State) (insn : Insn) → insn_at p s.slot ≡ Some insn → perform header s insn ≡ Next t → IsEdge p s.slot t.slot
+pub edge_of : (p : Program) (header : Header) (s t : State) (insn : Insn) → insn_at p s.slot ≡ Some insn → LeadsTo (perform header s insn) t → IsEdge p s.slot t.slot
 edge_of p header s t insn is e =
-    record { insn = insn; begins = is; goes = subst (λ (o : Outcome). IsOnEdge (flow_of insn) s.slot (s.slot + slots_of insn) o) e (follows header s insn) }
+    record { insn = insn; begins = is; goes = is_after (λ u. GoesTo (flow_of insn) s.slot (s.slot + slots_of insn) u.slot) (perform header s insn) t e (follows header s insn) }

@@ -27,8 +27,9 @@ use Rattle.machine.specs.declared.regions.Region.TheVariants.{Front, Tail, Stack
 use Rattle.machine.specs.Memory.{Header, place_of}
 use Rattle.bpf_insn.specs.Sizes.{size_bytes}
 use Rattle.machine.specs.State.{State, state, register_after}
-use Rattle.machine.specs.Step.{Outcome, Next, Ask, Verdict, Trap, perform, insn_at, operand, alu, writes, puts, stores, compares, branches, lands, asks, calls, exits, map_at, is_helper}
+use Rattle.machine.specs.Step.{Question, Outcome, Next, Ask, Verdict, Trap, perform, insn_at, operand, alu, writes, puts, stores, compares, branches, lands, asks, calls, exits, map_at, is_helper}
 use Rattle.bver_form.specs.Jumps.{target}
+use Rattle.bver.proofs.Arrivals.{After, LeadsTo, at_once, by_answer, is_after}
 use Rattle.bver_form.specs.Loops.{IsCounted, ComesIn, IsLoopFormed, holds, step_down, back_jump}
 
 -- the number of a value, and 0 of any other
@@ -108,7 +109,7 @@ taken_down (suc m) low high = omega arith
 -- the next slot, and a register that is one less than it was
 abbrev IsDown : State → (register was : ℕ) → Outcome → Type 0
 IsDown s register was (Next t) = (t.slot ≡ s.slot + 1) × (m : ℕ) × (t.registers register ≡ Num m) × (m + 1 ≡ was)
-IsDown s register was (Ask question on) = Unit {0}
+IsDown s register was (Ask question on) = ⊥
 IsDown s register was (Verdict n) = Unit {0}
 IsDown s register was Trap = Unit {0}
 
@@ -117,20 +118,21 @@ counts_down s register n value low is above below =
     rw (is, eqb_other register 10 (omega arith), eqb_same register)
     (refl, alu_words Add Bits64 n (word (negsuc 0)), refl, taken_down n above below)
 
-pub steps_down : (header : Header) (l : Loop) (s t : State) (n : ℕ) → l.register ≤ 9 → s.registers l.register ≡ Num n → 1 ≤ n → n ≤ 4096 → perform header s (step_down l) ≡ Next t → IsDown s l.register n (Next t)
+pub steps_down : (header : Header) (l : Loop) (s t : State) (n : ℕ) → l.register ≤ 9 → s.registers l.register ≡ Num n → 1 ≤ n → n ≤ 4096 → LeadsTo (perform header s (step_down l)) t → IsDown s l.register n (Next t)
 steps_down header l s t n low is above below e =
-    subst (λ (o : Outcome). IsDown s l.register n o) e (counts_down s l.register n (s.registers l.register) low is above below)
+    down_to s l.register n (perform header s (step_down l)) t e (counts_down s l.register n (s.registers l.register) low is above below)
+  where
+    down_to : (s : State) (register was : ℕ) (o : Outcome) (t : State) → LeadsTo o t → IsDown s register was o → IsDown s register was (Next t)
+    down_to s register was o t (at_once same) down = subst (λ (w : Outcome). IsDown s register was w) same down
+    down_to s register was o t (by_answer question on answer same to) down = absurd (subst (λ (w : Outcome). IsDown s register was w) same down)
 
 -- a back jump that goes back found a counter that is not zero
 abbrev IsTurn : State → (was : ℕ) → Outcome → Type 0
-IsTurn s was (Next t) = (t.slot ≡ s.slot + 1) ⊎ (1 ≤ was)
-IsTurn s was (Ask question on) = Unit {0}
-IsTurn s was (Verdict n) = Unit {0}
-IsTurn s was Trap = Unit {0}
+IsTurn s was o = After (λ t. (t.slot ≡ s.slot + 1) ⊎ (1 ≤ was)) o
 
 not_zero : (s : State) (n : ℕ) (o : Outcome) → 1 ≤ n → IsTurn s n o
 not_zero s n (Next t) low = inr low
-not_zero s n (Ask question on) low = tt
+not_zero s n (Ask question on) low = λ answer. inr low
 not_zero s n (Verdict v) low = tt
 not_zero s n Trap low = tt
 
@@ -138,10 +140,10 @@ turns : (s : State) (z : ℤ) (n : ℕ) → IsTurn s n (compares NotEqual Bits64
 turns s z zero = inl refl
 turns s z (suc n) = not_zero s (suc n) (compares NotEqual Bits64 s z (Num (suc n)) (Num (word (pos 0)))) (omega arith)
 
-pub goes_back : (header : Header) (l : Loop) (s t : State) (n : ℕ) → s.registers l.register ≡ Num n → perform header s (back_jump l) ≡ Next t → (t.slot ≡ s.slot + 1) ⊎ (1 ≤ n)
+pub goes_back : (header : Header) (l : Loop) (s t : State) (n : ℕ) → s.registers l.register ≡ Num n → LeadsTo (perform header s (back_jump l)) t → (t.slot ≡ s.slot + 1) ⊎ (1 ≤ n)
 goes_back header l s t n is e =
     let distance : ℤ = negsuc (l.back - l.head) in
-    subst (λ (o : Outcome). IsTurn s n o) e
+    is_after (λ u. (u.slot ≡ s.slot + 1) ⊎ (1 ≤ n)) (perform header s (back_jump l)) t e
     (subst (λ (v : Value). IsTurn s n (compares NotEqual Bits64 s distance v (Num (word (pos 0))))) (sym is) (turns s distance n))
 
 -- ---- what a step does to the counter of a loop
@@ -190,7 +192,7 @@ comes_in slots l s t limits out comes begins = (
 )
 
 -- before the back of a loop
-counts_off : (slots : ℕ) (header : Header) (l : Loop) (s t : State) → IsLoop slots l → IsTrue (holds l s.slot) → s.slot + 1 ≡ l.back → IsCounting l s → perform header s (step_down l) ≡ Next t → IsStepped l s t
+counts_off : (slots : ℕ) (header : Header) (l : Loop) (s t : State) → IsLoop slots l → IsTrue (holds l s.slot) → s.slot + 1 ≡ l.back → IsCounting l s → LeadsTo (perform header s (step_down l)) t → IsStepped l s t
 counts_off slots header l s t limits inside before counting e =
     let differs : s.slot ≢ l.back = λ same. absurd (omega (arith, same, before)) in
     let down = steps_down header l s t counting.value limits.register counting.is (counting.low differs) (omega (arith, counting.high, limits.high)) e in (
@@ -210,7 +212,7 @@ counts_off slots header l s t limits inside before counting e =
     )
 
 -- elsewhere in a loop
-goes_round : (slots : ℕ) (header : Header) (l : Loop) (s t : State) → IsLoop slots l → IsTrue (holds l s.slot) → s.slot + 1 ≢ l.back → ComesIn l s.slot t.slot → IsCounting l s → t.registers l.register ≡ s.registers l.register → (s.slot ≡ l.back → perform header s (back_jump l) ≡ Next t) → IsStepped l s t
+goes_round : (slots : ℕ) (header : Header) (l : Loop) (s t : State) → IsLoop slots l → IsTrue (holds l s.slot) → s.slot + 1 ≢ l.back → ComesIn l s.slot t.slot → IsCounting l s → t.registers l.register ≡ s.registers l.register → (s.slot ≡ l.back → LeadsTo (perform header s (back_jump l)) t) → IsStepped l s t
 goes_round slots header l s t limits inside other comes counting kept turn = (
   record {
     stays = λ held on differs. ap amount kept;
@@ -251,11 +253,11 @@ if_insn : (P : Insn → Type 0) (o : Option Insn) (insn : Insn) → o ≡ Some i
 if_insn P o insn is h = subst (λ (i : Option Insn). IfSome i P) is h
 
 -- a step in a program that has its form
-pub stepped : (slots : ℕ) (p : Program) (header : Header) (l : Loop) (s t : State) (insn : Insn) → IsLoop slots l → IsLoopFormed p l → ComesIn l s.slot t.slot → insn_at p s.slot ≡ Some insn → perform header s insn ≡ Next t → (is_written insn l.register ≡ false → t.registers l.register ≡ s.registers l.register) → (IsTrue (holds l s.slot) → IsCounting l s) → IsBegun l t → IsStepped l s t
+pub stepped : (slots : ℕ) (p : Program) (header : Header) (l : Loop) (s t : State) (insn : Insn) → IsLoop slots l → IsLoopFormed p l → ComesIn l s.slot t.slot → insn_at p s.slot ≡ Some insn → LeadsTo (perform header s insn) t → (is_written insn l.register ≡ false → t.registers l.register ≡ s.registers l.register) → (IsTrue (holds l s.slot) → IsCounting l s) → IsBegun l t → IsStepped l s t
 stepped slots p header l s t insn limits form comes is e leaves counting begins = by_place (holds l s.slot) refl
   where
-    performs : (at : Insn) → insn ≡ at → perform header s at ≡ Next t
-    performs at same = subst (λ (i : Insn). perform header s i ≡ Next t) same e
+    performs : (at : Insn) → insn ≡ at → LeadsTo (perform header s at) t
+    performs at same = subst (λ (i : Insn). LeadsTo (perform header s i) t) same e
 
     within : IsTrue (holds l s.slot) → (b : Bool) → eqb (s.slot + 1) l.back ≡ b → IsStepped l s t
     within inside true same =

@@ -6,7 +6,7 @@ use Rattle.bpf_insn.specs.Spelling.{slots_of}
 use Rattle.machine.specs.Sizes.{Maps}
 use Rattle.bpf_insn.specs.Flow.{distance_of}
 use Rattle.absdom.specs.declared.cause.Cause.{Cause}
-use Rattle.absdom.specs.State.{StateValue}
+use Rattle.absdom.specs.State.{StateValue, after_call}
 use Rattle.absdom.specs.Effect.{applied}
 use Rattle.absdom.specs.Edges.{Edges, refined_edges}
 use Rattle.absdom.specs.Laws.{BelowIsReflexive, BelowIsTransitive}
@@ -62,7 +62,8 @@ permitted_more transitive sizes old new slot a (Goto distance) grown h =
 permitted_more transitive sizes old new slot a (Wide dst value) grown h = proceeds_more transitive old new slot a (Wide dst value) grown h
 permitted_more transitive sizes old new slot a (LoadMap dst index) grown h = (h.0, proceeds_more transitive old new slot a (LoadMap dst index) grown h.1)
 permitted_more transitive sizes old new slot a (LoadAddress dst address) grown h = absurd h
-permitted_more transitive sizes old new slot a (Call callee number) grown h = absurd h
+permitted_more transitive sizes old new slot a (Call callee number) grown h =
+    (h.0, covered_more transitive (after_call a) (old (slot + 1)) (new (slot + 1)) h.1 (grown (slot + 1)))
 permitted_more transitive sizes old new slot a Exit grown h = h
 
 pub permitted_at_more : BelowIsTransitive → (sizes : Maps) (old new : ℕ → Option StateValue) (slot : ℕ) (o : Option StateValue) (i : Option Insn) → AreCovered old new → IsPermittedAt sizes old slot o i → IsPermittedAt sizes new slot o i

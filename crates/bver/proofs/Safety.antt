@@ -1,7 +1,8 @@
 -- A justified program is safe: each step of a path takes one from what is left of the weight, and where it stands one
 -- is left.
 use Rattle.std.proofs.Common.{◌≡◌, ◌≢◌, ℕ, ◌+◌, ◌<◌, ◌≤◌, Bool, true, false, List, length, Option, None, Some, refl, sym, ap, subst, ◌∙◌, arith, add-one}
-use Rattle.std.specs.Prelude.{slice_index_or, All, IfSome, IsSome, IsTrue}
+use Rattle.std.specs.Prelude.{slice_index, slice_index_or, All, IfSome, IsSome, IsTrue}
+use Rattle.std.proofs.lemmas.Bool.{lt-ltb}
 use Rattle.bpf.specs.declared.loops.Loop.{Loop}
 use Rattle.bpf.specs.Program.{Program}
 use Rattle.bpf.specs.Weight.{weight_of}
@@ -15,17 +16,17 @@ use Rattle.machine.specs.declared.values.Value.{Value}
 use Rattle.machine.specs.declared.values.Value.TheVariants.{Unset as Nothing, Num as Number, Ptr as Pointer, Map as MapOf}
 use Rattle.machine.specs.Memory.{Header, IsHeader}
 use Rattle.machine.specs.State.{State, entry_state}
-use Rattle.machine.specs.Step.{Outcome, Next, Trap, step, perform, perform_at, insn_at, finds_maps}
+use Rattle.machine.specs.Step.{Outcome, Next, Trap, step, perform, perform_at, insn_at, finds_maps, is_cell}
 use Rattle.machine.specs.Laws.{AreLeftBy}
 use Rattle.machine.specs.Runs.{Path, entry, moves, answered, IsSafe}
 use Rattle.absdom.specs.declared.kinds.AbsKind.{AbsKind}
 use Rattle.absdom.specs.declared.kinds.AbsKind.TheVariants.{Unset, Num, Ptr, Map}
 use Rattle.absdom.specs.State.{StateValue, kind_at}
-use Rattle.absdom.specs.Fits.{FitsKind}
+use Rattle.absdom.specs.Fits.{Fits, FitsKind}
 use Rattle.bver_form.specs.Loops.{IsEdge, left_at}
-use Rattle.bver.specs.Justified.{IsHead, IsPermittedAt, IsJustified}
+use Rattle.bver.specs.Justified.{AsksCell, IsHead, IsPermittedAt, IsJustified}
 use Rattle.bver.proofs.Standing.{Laws, Stands, Continues, continues, permitted_here, stands}
-use Rattle.bver.proofs.Arrivals.{edge_of}
+use Rattle.bver.proofs.Arrivals.{LeadsTo, at_once, by_answer, edge_of}
 use Rattle.bver.proofs.Counters.{AreCounting, IsBegun, IsStepped, IsNumberIn, begun, begun_high, inside_of, loop_in, stepped, values_at, values_of}
 
 -- ---- at the head of a loop
@@ -84,11 +85,14 @@ counted_first laws p sizes h port at = record {
         subst (λ (head : ℕ). values head ≤ l.bound) first (rw (values_at (length p.slots) 0 p.loops s k d h.limits.loops below) high)
 
 -- an instruction that goes on leaves the registers that it does not write
-left_by : (insn : Insn) (s t : State) (o : Outcome) → o ≡ Next t → AreLeftBy insn s o → (register : ℕ) → is_written insn register ≡ false → t.registers register ≡ s.registers register
-left_by insn s t o e left = (subst (λ (w : Outcome). AreLeftBy insn s w) e left).registers
+left_by : (insn : Insn) (s t : State) (o : Outcome) → LeadsTo o t → AreLeftBy insn s o → (register : ℕ) → is_written insn register ≡ false → t.registers register ≡ s.registers register
+left_by insn s t o (at_once e) left = (subst (λ (w : Outcome). AreLeftBy insn s w) e left).registers
+left_by insn s t o (by_answer question on answer e is) left =
+    subst (λ (u : State). (register : ℕ) → is_written insn register ≡ false → u.registers register ≡ s.registers register) is
+    (subst (λ (w : Outcome). AreLeftBy insn s w) e left answer).registers
 
 -- a step
-counted_next : Laws → (p : Program) (sizes : Maps) (h : IsJustified p sizes) (header : Header) (n : ℕ) (s t : State) (insn : Insn) → Stands h.table t → insn_at p s.slot ≡ Some insn → perform header s insn ≡ Next t → Counted p n s → Counted p (n + 1) t
+counted_next : Laws → (p : Program) (sizes : Maps) (h : IsJustified p sizes) (header : Header) (n : ℕ) (s t : State) (insn : Insn) → Stands h.table t → insn_at p s.slot ≡ Some insn → LeadsTo (perform header s insn) t → Counted p n s → Counted p (n + 1) t
 counted_next laws p sizes h header n s t insn at is e counted = record {
   counting = λ k d below. (each k d below).1;
   within = omega (
@@ -113,7 +117,7 @@ counted_next laws p sizes h header n s t insn at is e counted = record {
         (h.formed.loops k d below) (laws.entered p s.slot t.slot h.limits h.formed edge begins k d below) is e
         (left_by insn s t (perform header s insn) e (laws.leaves header insn s) l.register) (counted.counting k d below) (begun_at p sizes h t at k d below)
 
-counted_from : Laws → (p : Program) (sizes : Maps) (h : IsJustified p sizes) (header : Header) (n : ℕ) (s t : State) (o : Option Insn) → Stands h.table t → insn_at p s.slot ≡ o → IsSome o → perform_at header s o ≡ Next t → Counted p n s → Counted p (n + 1) t
+counted_from : Laws → (p : Program) (sizes : Maps) (h : IsJustified p sizes) (header : Header) (n : ℕ) (s t : State) (o : Option Insn) → Stands h.table t → insn_at p s.slot ≡ o → IsSome o → LeadsTo (perform_at header s o) t → Counted p n s → Counted p (n + 1) t
 counted_from laws p sizes h header n s t None at is some e counted = absurd cc
 counted_from laws p sizes h header n s t (Some insn) at is some e counted = counted_next laws p sizes h header n s t insn at is e counted
 
@@ -123,31 +127,53 @@ counts laws p sizes h header port calls n s good low (moves {n = m} {s = r} path
     let there = stands laws p sizes h header port calls m r good low path in
     let here = stands laws p sizes h header port calls n s good low (moves path e) in
     rw (← add-one)
-    (counted_from laws p sizes h header m r s (insn_at p r.slot) here refl (insn_here p sizes h r there) (sym (laws.performs p header r h.limits.version) ∙ e) (counts laws p sizes h header port calls m r good low path))
-counts laws p sizes h header port calls n s good low (answered {n = m} {s = r} answer path e below) =
-    absurd (subst (λ (o : Outcome). Continues h.table o) e (continues laws p sizes h header r good (stands laws p sizes h header port _ m r good low path)))
+    (counted_from laws p sizes h header m r s (insn_at p r.slot) here refl (insn_here p sizes h r there) (at_once (sym (laws.performs p header r h.limits.version) ∙ e)) (counts laws p sizes h header port calls m r good low path))
+counts laws p sizes h header port calls n s good low (answered {n = m} {s = r} {question = asked} {on = on} answer path e below) =
+    let there = stands laws p sizes h header port _ m r good low path in
+    let here = stands laws p sizes h header port calls n s good low (answered answer path e below) in
+    rw (← add-one)
+    (counted_from laws p sizes h header m r s (insn_at p r.slot) here refl (insn_here p sizes h r there) (by_answer asked on answer (sym (laws.performs p header r h.limits.version) ∙ e) refl) (counts laws p sizes h header port _ m r good low path))
 
 -- ---- safe
 
 no_trap_of : (table : ℕ → Option StateValue) (o : Outcome) → Continues table o → o ≢ Trap
 no_trap_of table o c e = subst (λ (w : Outcome). Continues table w) e c
 
+-- a permitted call finds its map and key
+finds_cell : (sizes : Maps) (map key : Value) (k q : AbsKind) → FitsKind map k → FitsKind key q → AsksCell sizes k q → is_cell sizes map key ≡ true
+finds_cell sizes map key Unset q is has cell = absurd cell
+finds_cell sizes map key (Num range) q is has cell = absurd cell
+finds_cell sizes map key (Ptr region offsets) q is has cell = absurd cell
+finds_cell sizes map key (Map index) Unset is has cell = absurd cell
+finds_cell sizes map key (Map index) (Ptr region offsets) is has cell = absurd cell
+finds_cell sizes map key (Map index) (Map other) is has cell = absurd cell
+finds_cell sizes Nothing key (Map index) (Num range) is has cell = absurd is
+finds_cell sizes (Number n) key (Map index) (Num range) is has cell = absurd is
+finds_cell sizes (Pointer region z) key (Map index) (Num range) is has cell = absurd is
+finds_cell sizes (MapOf own) Nothing (Map index) (Num range) is has cell = absurd has
+finds_cell sizes (MapOf own) (Pointer region z) (Map index) (Num range) is has cell = absurd has
+finds_cell sizes (MapOf own) (MapOf other) (Map index) (Num range) is has cell = absurd has
+finds_cell sizes (MapOf own) (Number n) (Map index) (Num range) is has cell =
+    let below : n < slice_index sizes index = omega (arith, has.below, cell) in
+    lt-ltb n (slice_index sizes own) (subst (λ (m : ℕ). n < slice_index sizes m) (sym is) below)
+
 -- a permitted instruction finds its map
-finds : (sizes : Maps) (table : ℕ → Option StateValue) (s : State) (a : StateValue) (o : Option Insn) → IsPermittedAt sizes table s.slot (Some a) o → finds_maps sizes s o ≡ true
-finds sizes table s a None h = absurd h
-finds sizes table s a (Some (Alu op width dst src)) h = refl
-finds sizes table s a (Some (Negate width dst)) h = refl
-finds sizes table s a (Some (MoveSigned extension dst src)) h = refl
-finds sizes table s a (Some (ByteSwap swap bits dst)) h = refl
-finds sizes table s a (Some (Load size dst place)) h = refl
-finds sizes table s a (Some (Store size place src)) h = refl
-finds sizes table s a (Some (Jump comparison offset)) h = refl
-finds sizes table s a (Some (Goto distance)) h = refl
-finds sizes table s a (Some (Wide dst value)) h = refl
-finds sizes table s a (Some (LoadMap dst index)) h = h.0
-finds sizes table s a (Some (LoadAddress dst address)) h = absurd h
-finds sizes table s a (Some (insns.Call callee number)) h = absurd h
-finds sizes table s a (Some Exit) h = refl
+finds : (sizes : Maps) (table : ℕ → Option StateValue) (s : State) (a : StateValue) (o : Option Insn) → Fits s a → IsPermittedAt sizes table s.slot (Some a) o → finds_maps sizes s o ≡ true
+finds sizes table s a None fits h = absurd h
+finds sizes table s a (Some (Alu op width dst src)) fits h = refl
+finds sizes table s a (Some (Negate width dst)) fits h = refl
+finds sizes table s a (Some (MoveSigned extension dst src)) fits h = refl
+finds sizes table s a (Some (ByteSwap swap bits dst)) fits h = refl
+finds sizes table s a (Some (Load size dst place)) fits h = refl
+finds sizes table s a (Some (Store size place src)) fits h = refl
+finds sizes table s a (Some (Jump comparison offset)) fits h = refl
+finds sizes table s a (Some (Goto distance)) fits h = refl
+finds sizes table s a (Some (Wide dst value)) fits h = refl
+finds sizes table s a (Some (LoadMap dst index)) fits h = h.0
+finds sizes table s a (Some (LoadAddress dst address)) fits h = absurd h
+finds sizes table s a (Some (insns.Call callee number)) fits h =
+    finds_cell sizes (s.registers 1) (s.registers 2) (kind_at a 1) (kind_at a 2) (fits.registers 1) (fits.registers 2) h.0
+finds sizes table s a (Some Exit) fits h = refl
 
 pub is_safe : Laws → (p : Program) (sizes : Maps) → IsJustified p sizes → IsSafe p sizes
 is_safe laws p sizes h = record {
@@ -157,5 +183,5 @@ is_safe laws p sizes h = record {
       omega (arith, counted.within, laws.one p s.slot (values_of p.loops s) h.limits h.formed (insn_here p sizes h s at), h.formed.within_budget);
   no_trap = λ header port calls n s good low path.
       let at = stands laws p sizes h header port calls n s good low path in
-      rw (finds sizes h.table s at.known (insn_at p s.slot) (permitted_here p sizes h s at)) (no_trap_of h.table (step p header s) (continues laws p sizes h header s good at));
+      rw (finds sizes h.table s at.known (insn_at p s.slot) at.fits (permitted_here p sizes h s at)) (no_trap_of h.table (step p header s) (continues laws p sizes h header s good at));
 }

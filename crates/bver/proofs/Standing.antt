@@ -1,8 +1,10 @@
 -- Every path of a justified program stands at a slot with a state that fits what is known there.
-use Rattle.std.proofs.Common.{◌≡◌, ◌≢◌, ℕ, ◌+◌, ◌<◌, ℤ, pos, negsuc, Bool, true, false, List, Option, None, Some, Result, Ok, Err, refl, sym, subst}
+use Rattle.std.proofs.Common.{◌≡◌, ◌≢◌, ℕ, ◌+◌, ◌^◌, ◌<◌, ℤ, pos, negsuc, Bool, true, false, List, Option, None, Some, Result, Ok, Err, refl, sym, subst}
 use Rattle.std.specs.Prelude.{IsTrue, if◌then◌else◌}
 use Rattle.bpf.specs.Program.{Program}
 use Rattle.bpf_insn.specs.declared.insn.Distance.TheVariants.{Short, Long}
+use Rattle.bpf_insn.specs.declared.insn.Callee.{Callee}
+use Rattle.bpf_insn.specs.declared.insn.Callee.TheVariants.{Helper, Local, ByTypeId}
 use Rattle.bpf_insn.specs.declared.insn.Insn.{Insn}
 use Rattle.bpf_insn.specs.declared.insn.Insn.TheVariants.{Alu, Negate, MoveSigned, ByteSwap, Load, Store, Jump, Goto, Wide, LoadMap, LoadAddress, Exit}
 use Rattle.bpf_insn.specs.declared.insn.Insn.TheVariants as insns
@@ -14,20 +16,21 @@ use Rattle.machine.specs.declared.values.Value.TheVariants.{Unset as Nothing, Nu
 use Rattle.machine.specs.Memory.{Header, IsHeader}
 use Rattle.machine.specs.Laws.{InstructionsLeave, StepPerforms}
 use Rattle.machine.specs.State.{State, state, entry_state}
-use Rattle.machine.specs.Step.{Outcome, Next, Ask, Verdict, Trap, step, perform, perform_at, insn_at, is_map, exits, lands, branches}
+use Rattle.machine.specs.Step.{Outcome, Next, Ask, Verdict, Trap, step, perform, perform_at, insn_at, is_map, answered as answer_to, asks, calls, exits, is_helper, lands, branches}
 use Rattle.machine.specs.Runs.{Path, entry, moves, answered}
 use Rattle.absdom.specs.declared.cause.Cause.{Cause}
 use Rattle.absdom.specs.declared.kinds.AbsKind.{AbsKind}
 use Rattle.absdom.specs.declared.kinds.AbsKind.TheVariants.{Unset, Num, Ptr, Map}
 use Rattle.absdom.specs.Edges.{Edges}
-use Rattle.absdom.specs.State.{StateValue, kind_at}
+use Rattle.absdom.specs.State.{StateValue, after_call, kind_at}
 use Rattle.absdom.specs.Effect.{applied}
 use Rattle.absdom.specs.Fits.{Fits, FitsKind, FitsEdge, IsSound, IsIndex, GoesStraight, TakesEdge, edge_where}
-use Rattle.absdom.specs.Laws.{BelowFits, EntryFits, ApplyFits, RefineFits}
+use Rattle.absdom.specs.Laws.{BelowFits, CallFits, EntryFits, ApplyFits, RefineFits}
 use Rattle.bver_form.specs.Form.{IsAllowed}
+use Rattle.bver_form.specs.Support.{IsSupportedCall}
 use Rattle.bver_form.specs.Jumps.{target}
 use Rattle.bver_form.specs.Laws.{BeginsWithinWeight, EachStepTakesOne, OneIsLeft, LoopsAreEntered}
-use Rattle.bver.specs.Justified.{IsCovered, IsCoveredIfAny, IsResultCovered, AreEdgesCovered, IsNumber, Proceeds, IsPermitted, IsPermittedAt, IsJustified, known_at}
+use Rattle.bver.specs.Justified.{AsksCell, IsCovered, IsCoveredIfAny, IsResultCovered, AreEdgesCovered, IsNumber, Proceeds, IsPermitted, IsPermittedAt, IsJustified, known_at}
 use Rattle.bver.proofs.Slots.{insn_in}
 
 -- the laws of what is known, of steps, and of loops
@@ -35,6 +38,7 @@ pub record Laws : Type 0 where
   pub below : BelowFits
   pub entry : EntryFits
   pub apply : ApplyFits
+  pub call : CallFits
   pub refine : RefineFits
   pub performs : StepPerforms
   pub leaves : InstructionsLeave
@@ -52,7 +56,7 @@ pub record Stands (table : ℕ → Option StateValue) (s : State) : Type 0 where
 -- what a step may give
 abbrev pub Continues : (ℕ → Option StateValue) → Outcome → Type 0
 Continues table (Next t) = Stands table t
-Continues table (Ask question on) = ⊥
+Continues table (Ask question on) = (answer : ℕ) → answer < 2 ^ 64 → Stands table (on answer)
 Continues table (Verdict v) = Unit {0}
 Continues table Trap = ⊥
 
@@ -113,6 +117,29 @@ exits_with table (MapOf index) (Num range) fits number = absurd fits
 exits_with table v (Ptr region offsets) fits number = absurd number
 exits_with table v (Map index) fits number = absurd number
 
+-- a helper's question, whatever is answered
+asks_on : BelowFits → CallFits → (sizes : Maps) (table : ℕ → Option StateValue) (s : State) (a : StateValue) (helper : ℤ) (map key : Value) (k q : AbsKind) → FitsKind map k → FitsKind key q → AsksCell sizes k q → Fits s a → IsCovered (after_call a) (table (s.slot + 1)) → Continues table (asks s helper map key)
+asks_on below call sizes table s a helper map key Unset q is has cell fits covered = absurd cell
+asks_on below call sizes table s a helper map key (Num range) q is has cell fits covered = absurd cell
+asks_on below call sizes table s a helper map key (Ptr region offsets) q is has cell fits covered = absurd cell
+asks_on below call sizes table s a helper map key (Map index) Unset is has cell fits covered = absurd cell
+asks_on below call sizes table s a helper map key (Map index) (Ptr region offsets) is has cell fits covered = absurd cell
+asks_on below call sizes table s a helper map key (Map index) (Map other) is has cell fits covered = absurd cell
+asks_on below call sizes table s a helper Nothing key (Map index) (Num range) is has cell fits covered = absurd is
+asks_on below call sizes table s a helper (Number n) key (Map index) (Num range) is has cell fits covered = absurd is
+asks_on below call sizes table s a helper (Pointer region z) key (Map index) (Num range) is has cell fits covered = absurd is
+asks_on below call sizes table s a helper (MapOf own) Nothing (Map index) (Num range) is has cell fits covered = absurd has
+asks_on below call sizes table s a helper (MapOf own) (Pointer region z) (Map index) (Num range) is has cell fits covered = absurd has
+asks_on below call sizes table s a helper (MapOf own) (MapOf other) (Map index) (Num range) is has cell fits covered = absurd has
+asks_on below call sizes table s a helper (MapOf own) (Number n) (Map index) (Num range) is has cell fits covered =
+    λ answer low. arrives below table (answer_to s answer) (after_call a) (call s a answer low fits) covered
+
+calls_on : BelowFits → CallFits → (sizes : Maps) (table : ℕ → Option StateValue) (s : State) (a : StateValue) (callee : Callee) (number : ℤ) → IsSupportedCall callee number → AsksCell sizes (kind_at a 1) (kind_at a 2) → Fits s a → IsCovered (after_call a) (table (s.slot + 1)) → Continues table (calls s callee number)
+calls_on below call sizes table s a Helper number supported cell fits covered =
+    rw supported (asks_on below call sizes table s a number (s.registers 1) (s.registers 2) (kind_at a 1) (kind_at a 2) (fits.registers 1) (fits.registers 2) cell fits covered)
+calls_on below call sizes table s a Local number supported cell fits covered = absurd supported
+calls_on below call sizes table s a ByTypeId number supported cell fits covered = absurd supported
+
 index_of : (sizes : Maps) (index : ℤ) → IsTrue (is_map sizes index) → IsIndex index
 index_of sizes (pos n) h = tt
 index_of sizes (negsuc n) h = absurd cc
@@ -138,7 +165,8 @@ continues_at laws p sizes table header s a (Goto (Long immediate)) good fits all
 continues_at laws p sizes table header s a (Wide dst value) good fits allowed is_insn h = proceeds laws table header s a (Wide dst value) good fits (allowed.leaves_frame, is_insn.1) h
 continues_at laws p sizes table header s a (LoadMap dst index) good fits allowed is_insn h = proceeds laws table header s a (LoadMap dst index) good fits (allowed.leaves_frame, index_of sizes index h.0) h.1
 continues_at laws p sizes table header s a (LoadAddress dst address) good fits allowed is_insn h = absurd h
-continues_at laws p sizes table header s a (insns.Call callee number) good fits allowed is_insn h = absurd h
+continues_at laws p sizes table header s a (insns.Call callee number) good fits allowed is_insn h =
+    calls_on laws.below laws.call sizes table s a callee number allowed.supported h.0 fits h.1
 continues_at laws p sizes table header s a Exit good fits allowed is_insn h = exits_with table (s.registers 0) (kind_at a 0) (fits.registers 0) h
 
 continues_from : Laws → (p : Program) (sizes : Maps) (h : IsJustified p sizes) (header : Header) (s : State) (at : Stands h.table s) (o : Option Insn) → IsHeader header → insn_at p s.slot ≡ o → IsPermittedAt sizes h.table s.slot (Some at.known) o → Continues h.table (perform_at header s o)
@@ -166,4 +194,4 @@ stands laws p sizes h header port calls n s good low entry = begins_at laws p si
 stands laws p sizes h header port calls n s good low (moves {n = m} {s = r} path e) =
     subst (λ (o : Outcome). Continues h.table o) e (continues laws p sizes h header r good (stands laws p sizes h header port calls m r good low path))
 stands laws p sizes h header port calls n s good low (answered {n = m} {s = r} answer path e below) =
-    absurd (subst (λ (o : Outcome). Continues h.table o) e (continues laws p sizes h header r good (stands laws p sizes h header port _ m r good low path)))
+    subst (λ (o : Outcome). Continues h.table o) e (continues laws p sizes h header r good (stands laws p sizes h header port _ m r good low path)) answer below

@@ -1,7 +1,7 @@
 -- When a program may judge (a choice of this project, since RFC 9669 leaves verification to the
 -- implementation): it has its form, and there is a table of what is known at its slots under which no
 -- instruction can go wrong.
-use Rattle.std.specs.Prelude.{◌≡◌, ◌≢◌, ℕ, ◌+◌, ℤ, pos, negsuc, List, Option, Some, None, Result, Ok, Err, IsTrue, IfSome, All, slice_index_or}
+use Rattle.std.specs.Prelude.{◌≡◌, ◌≢◌, ◌<◌, ℕ, ◌+◌, ℤ, pos, negsuc, List, Option, Some, None, Result, Ok, Err, IsTrue, IfSome, All, slice_index, slice_index_or}
 use Rattle.bpf.specs.declared.loops.Loop.{Loop}
 use Rattle.bpf.specs.Program.{Program, IsProgram}
 use Rattle.bpf_insn.specs.declared.insn.Insn.{Insn}
@@ -17,7 +17,7 @@ use Rattle.absdom_num.specs.Tables.{whole}
 use Rattle.absdom.specs.declared.cause.Cause.{Cause}
 use Rattle.absdom.specs.declared.kinds.AbsKind.{AbsKind}
 use Rattle.absdom.specs.declared.kinds.AbsKind.TheVariants.{Unset, Num, Ptr, Map}
-use Rattle.absdom.specs.State.{StateValue, IsEntry, IsBelow, kind_at}
+use Rattle.absdom.specs.State.{StateValue, IsEntry, IsBelow, after_call, kind_at}
 use Rattle.absdom.specs.Effect.{applied}
 use Rattle.absdom.specs.Edges.{Edges, refined_edges}
 use Rattle.absdom.specs.State.{IsWhole}
@@ -70,8 +70,19 @@ IsNumber (Num range) = Unit {0}
 IsNumber (Ptr region offsets) = ⊥
 IsNumber (Map index) = ⊥
 
+-- a helper is asked for a cell: of a map, with a number that is below the map's size, whichever of its range it is
+abbrev pub AsksCell : (sizes : Maps) → (map key : AbsKind) → Type 0
+AsksCell sizes Unset key = ⊥
+AsksCell sizes (Num range) key = ⊥
+AsksCell sizes (Ptr region offsets) key = ⊥
+AsksCell sizes (Map map) Unset = ⊥
+AsksCell sizes (Map map) (Num range) = range.1 < slice_index sizes map
+AsksCell sizes (Map map) (Ptr region offsets) = ⊥
+AsksCell sizes (Map map) (Map index) = ⊥
+
 -- with what is known at its slot an instruction cannot go wrong, and on every edge that a run may take
--- what it leaves is covered: a map that is loaded exists, and EXIT has a number for its answer
+-- what it leaves is covered: a map that is loaded exists, a helper is asked for a cell of r1 and r2, and EXIT has a
+-- number for its answer
 abbrev pub IsPermitted : (sizes : Maps) (table : ℕ → Option StateValue) (slot : ℕ) → StateValue → Insn → Type 0
 IsPermitted sizes table slot a (Alu op width dst src) = Proceeds table slot a (Alu op width dst src)
 IsPermitted sizes table slot a (Negate width dst) = Proceeds table slot a (Negate width dst)
@@ -86,7 +97,8 @@ IsPermitted sizes table slot a (Wide dst value) = Proceeds table slot a (Wide ds
 IsPermitted sizes table slot a (LoadMap dst index) =
     IsTrue (is_map sizes index) × Proceeds table slot a (LoadMap dst index)
 IsPermitted sizes table slot a (LoadAddress dst address) = ⊥
-IsPermitted sizes table slot a (Call callee number) = ⊥
+IsPermitted sizes table slot a (Call callee number) =
+    AsksCell sizes (kind_at a 1) (kind_at a 2) × IsCovered (after_call a) (table (slot + 1))
 IsPermitted sizes table slot a Exit = IsNumber (kind_at a 0)
 
 -- the same at a slot: a table has states only where instructions begin, and where it has none no run comes

@@ -5,7 +5,7 @@ use Rattle.machine.specs.declared.regions.Region.{Region}
 use Rattle.machine.specs.Sizes.{Maps}
 use Rattle.machine.specs.Runs.{IsSafe}
 use Rattle.bver.specs.Justified.{IsJustified, IsJudged}
-use Rattle.bver.specs.Resolved.{IsResolved, AsksNobody}
+use Rattle.bver.specs.Resolved.{IsResolved}
 
 -- a justified program is safe: no run of it traps, and each ends within the budget
 abbrev pub JustifiedIsSafe : Type 0
@@ -14,7 +14,3 @@ JustifiedIsSafe = (program : Program) (sizes : Maps) → IsJustified program siz
 -- its regions are those of every access that a run makes
 abbrev pub JudgedIsResolved : Type 0
 JudgedIsResolved = (program : Program) (sizes : Maps) (regions : List (Option Region)) → IsJudged program sizes regions → IsResolved program regions
-
--- so far it calls nobody
-abbrev pub JustifiedAsksNobody : Type 0
-JustifiedAsksNobody = (program : Program) (sizes : Maps) → IsJustified program sizes → AsksNobody program

@@ -78,7 +78,7 @@ abbrev pub HasNextBy : VisitValue → List (Option StateValue) → (slots : ℕ)
 HasNextBy v table slots GoesOn = IsNext v table slots
 HasNextBy v table slots (Branches distance) = IsNext v table slots
 HasNextBy v table slots (Jumps distance) = Unit {0}
-HasNextBy v table slots (Calls callee number) = Unit {0}
+HasNextBy v table slots (Calls callee number) = IsNext v table slots
 HasNextBy v table slots Ends = Unit {0}
 HasNextBy v table slots Unsupported = Unit {0}
 

@@ -1,15 +1,16 @@
 //! What an instruction does to the table: the edges that it follows, and why it is refused.
 
-ghost use Rattle.std.specs.Prelude.{◌≡◌, ◌+◌, IsTrue, OnOk, Ok, length};
+ghost use Rattle.std.specs.Prelude.{◌≡◌, ◌+◌, IfOk, IsTrue, OnOk, Ok, length};
 ghost use Rattle.bpf_insn.specs.Spelling.{slots_of};
 ghost use Rattle.machine.specs.Step.{is_map};
 ghost use Rattle.absdom.specs.Effect.{applied};
 ghost use Rattle.absdom.specs.Edges.{on_edge, on_edges};
-ghost use Rattle.absdom.specs.State.{kind_at};
+ghost use Rattle.absdom.specs.Kinds.{map_of, number_of};
+ghost use Rattle.absdom.specs.State.{after_call, kind_at};
 ghost use Rattle.bver_form.specs.Form.{IsAllowed};
 ghost use Rattle.bver_form.specs.Jumps.{IsJump};
 ghost use Rattle.bver.specs.Codes.{refusal_of};
-ghost use Rattle.bver.specs.Justified.{IsCovered, IsCoveredIfAny, IsResultCovered, AreEdgesCovered, edges_of_comparison, IsNumber, IsPermitted, known_at, pointed, accessed};
+ghost use Rattle.bver.specs.Justified.{AsksCell, IsCovered, IsCoveredIfAny, IsResultCovered, AreEdgesCovered, edges_of_comparison, IsNumber, IsPermitted, known_at, pointed, accessed};
 ghost use Rattle.bver.specs.Lowered.{IsMore, IsSettled};
 ghost use Rattle.bver.specs.Visit.{IsTableOf, IsExtendedAfter, IsNext, HasNext, known_in, taken_in};
 
@@ -17,6 +18,7 @@ use crate::lowered::Lowered;
 use crate::table::Table;
 use crate::visit::Visit;
 use absdom::{AbsKind, Cause, Edges, Operands, Region, State, order_of_states, refine};
+use absdom_num::Range;
 use bpf_insn::{Comparison, Insn, Register};
 use bver_form::{Refusal, Refused};
 
@@ -223,6 +225,59 @@ fn check_answer(visit: &Visit, state: &State) -> Result<(), Refused>
     }
 }
 
+/// The map in r1, which a helper asks.
+fn asked_map(visit: &Visit, state: &State) -> Result<u8, Refused>
+    ensures { IfOk result (λ map. map_of (kind_at state.now 1) ≡ Ok map) }
+{
+    match Register::new(1) {
+        Some(register) => {
+            let map = state.kind(register).map();
+            map.map_err(|cause| visit.refused(refusal_of(cause)))
+        }
+        None => unreachable!(),
+    }
+}
+
+/// The keys that may be in r2, for one of which a helper asks.
+fn asked_keys(visit: &Visit, state: &State) -> Result<Range, Refused>
+    ensures { IfOk result (λ keys. number_of (kind_at state.now 2) ≡ Ok keys) }
+{
+    match Register::new(2) {
+        Some(register) => {
+            let keys = state.kind(register).number();
+            keys.map_err(|cause| visit.refused(refusal_of(cause)))
+        }
+        None => unreachable!(),
+    }
+}
+
+/// Tests that r1 is a map and r2 a key of it, as a helper wants.
+fn check_cell(visit: &Visit, state: &State) -> Result<(), Refused>
+    ensures { OnOk result (AsksCell visit.now.sizes (kind_at state.now 1) (kind_at state.now 2)) }
+{
+    let map = asked_map(visit, state)?;
+    let keys = asked_keys(visit, state)?;
+    if !visit.has_keys(map, keys.high()) {
+        return Err(visit.refused(Refusal::MapKey));
+    }
+    Ok(())
+}
+
+/// A helper's call, which goes on with any answer.
+fn ask(visit: &Visit, table: &mut Table, state: &mut State) -> Result<(), Refused>
+    requires { IsNext visit.now table.old 1 }
+    ensures cell { OnOk result (AsksCell visit.now.sizes (kind_at state.old 1) (kind_at state.old 2)) }
+    ensures left { OnOk result (state.new ≡ after_call state.old) }
+    ensures covered { OnOk result (IsCovered (after_call state.old) (known_in table.new (visit.now.slot + 1))) }
+    ensures extended { IsExtendedAfter visit.now table.old table.new }
+{
+    order_of_states();
+    check_cell(visit, state)?;
+    state.call();
+    table.follow(visit.slot() + 1, state);
+    Ok(())
+}
+
 /// The region of a pointer.
 fn pointed(kind: &AbsKind) -> Option<Region>
     ensures { result ≡ pointed kind.now }
@@ -251,7 +306,7 @@ pub(crate) fn accessed(state: &State, insn: &Insn) -> Option<Region>
 ///
 /// # Errors
 ///
-/// The first of `Unset` and `KindMismatch`, the destination before the source, `PointerRange`,
+/// The first of `Unset` and `KindMismatch`, the destination before the source and r1 before r2, `PointerRange`,
 /// `HeaderWrite`, `OutOfRegion`, `UnsetStack` and `MapKey`; or `LoopEntry` at a head that an edge back
 /// to it neither lowers nor finds covered.
 pub(crate) fn flow(
@@ -286,6 +341,7 @@ pub(crate) fn flow(
         }
         Insn::Goto { distance } => jump(visit, table, lowered, distance.slots(), state),
         Insn::Exit => check_answer(visit, state),
-        Insn::LoadAddress { .. } | Insn::Call { .. } => unreachable!(),
+        Insn::Call { .. } => ask(visit, table, state),
+        Insn::LoadAddress { .. } => unreachable!(),
     }
 }

@@ -1,6 +1,6 @@
 //! A slot that is visited.
 
-ghost use Rattle.std.specs.Prelude.{◌≡◌, ◌≢◌, IfSome, None, All, false, length};
+ghost use Rattle.std.specs.Prelude.{◌≡◌, ◌≢◌, IfSome, None, All, false, length, nat_lt, slice_index};
 ghost use Rattle.bpf.specs.Program.{IsProgram};
 ghost use Rattle.machine.specs.Step.{insn_at};
 ghost use Rattle.bver_form.specs.Form.{IsFormed};
@@ -75,6 +75,16 @@ impl<'a> Visit<'a> {
         ensures { result ≡ length self.now.sizes }
     {
         self.sizes.maps()
+    }
+
+    /// Whether the map exists and has all keys up to the last.
+    pub(crate) fn has_keys(&self, map: u8, last: u64) -> bool
+        ensures { result ≡ nat_lt last (slice_index self.now.sizes map) }
+    {
+        match self.sizes.cells(map) {
+            Some(cells) => last < u64::from(cells),
+            None => false,
+        }
     }
 
     /// The declared loop that has its head at the slot.

@@ -7,11 +7,14 @@ use Rattle.bpf.specs.Program.{Program}
 use Rattle.bpf_insn.specs.Flow.{flow_of, written_register}
 use Rattle.bpf_insn.specs.declared.flow.Flow.{Flow}
 use Rattle.bpf_insn.specs.declared.flow.Flow.TheVariants.{GoesOn, Branches, Jumps, Calls, Ends, Unsupported}
+use Rattle.bpf_insn.specs.declared.insn.Callee.{Callee}
+use Rattle.bpf_insn.specs.declared.insn.Callee.TheVariants.{Local, ByTypeId}
+use Rattle.bpf_insn.specs.declared.insn.Callee.TheVariants as callees
 use Rattle.bpf_insn.specs.declared.insn.Insn.{Insn}
 use Rattle.bver_form.specs.declared.refusal.Refusal.{Refusal}
 use Rattle.bver_form.specs.declared.refusal.Refusal.TheVariants.{FrameWrite}
 use Rattle.bver_form.specs.declared.refusal.Refused.{Refused}
-use Rattle.bver_form.specs.Support.{IsSupportedFlow, support_fault, frame_fault}
+use Rattle.bver_form.specs.Support.{IsSupportedCall, IsSupportedFlow, call_fault, support_fault, frame_fault}
 use Rattle.bver_form.specs.Jumps.{IsAfter, IsBackToHead, IsFirstSlot, IsJump, first_slot, is_loop_back, jump_distance, slot_at, target}
 use Rattle.bver_form.specs.Loops.{IsLoopFormed}
 use Rattle.bver_form.specs.Form.{AreAllowed, IsAllowed, IsAllowedAt, IsFaultAt, of_insn, of_end, of_loop, of_weight, IsInsnFault, IsLoopFault, first_of, insn_fault, jump_fault, landing_fault}
@@ -20,11 +23,16 @@ use Rattle.bver_form.proofs.Left.{by_eq}
 
 -- ---- what may stand at its slot has no fault there
 
+call_none : (callee : Callee) (number : ℤ) → IsSupportedCall callee number → call_fault callee number ≡ None
+call_none callees.Helper number h = rw h refl
+call_none Local number h = absurd h
+call_none ByTypeId number h = absurd h
+
 support_none : (f : Flow) → IsSupportedFlow f → support_fault f ≡ None
 support_none GoesOn h = refl
 support_none (Branches distance) h = refl
 support_none (Jumps distance) h = refl
-support_none (Calls callee number) h = absurd h
+support_none (Calls callee number) h = call_none callee number h
 support_none Ends h = refl
 support_none Unsupported h = absurd h
 

@@ -41,12 +41,12 @@ fn check_slots(image: &Image) -> Result<(), Refused>
     Ok(())
 }
 
-/// Tests the form of a program (RFC 9669, sections 2, 4.3 and 5.4). So far helpers are refused.
+/// Tests the form of a program (RFC 9669, sections 2, 4.3 and 5.4).
 ///
 /// # Errors
 ///
-/// The first that is met. By rising slot, for the instruction at the slot: `Unsupported`, `Helper`,
-/// `FrameWrite`, `Target`, `BackJump`. Then `FallOff` at the last instruction, `LoopShape` at the back of
+/// The first that is met. By rising slot, for the instruction at the slot: `Unsupported`, `Helper` where a
+/// helper is called by a number other than 1 and 2, `FrameWrite`, `Target`, `BackJump`. Then `FallOff` at the last instruction, `LoopShape` at the back of
 /// the first declared loop, by rising head, that has not its form, and `Budget` at slot 0.
 pub fn check(image: &Image) -> Result<(), Refused>
     ensures formed { OnOk result (IsFormed image.now) }

@@ -62,21 +62,23 @@ draws_more sizes s seat v word value d h at part inside here counted =
           (words_after s word value d inside here counted h.cells k below);
     }
 
--- an answer of `count`
-pub counts : (sizes : List ℕ) (slots seat word : ℕ) (me : Me (Unit {0}) Hand) → 0 < me.0.parts → word < sum sizes
-    → Allows (IsTable sizes) slots seat me word (λ n. n) (Answers 1 (step slots word 0 0 none) me)
-counts sizes slots seat word me part below s h len at fits =
+-- an answer, where the word afterwards counts one draw more of it
+answers : (helper amount : ℕ) (more : ℕ → ℕ)
+    → ((word found : ℕ) (ds : List Draw) → IsCounted word found ds → IsCounted word (more found) (ds ++ draw helper word (length (tickets word ds)) found ∷ []))
+    → (sizes : List ℕ) (slots seat word : ℕ) (me : Me (Unit {0}) Hand) → 0 < me.0.parts → word < sum sizes
+    → Allows (IsTable sizes) slots seat me word more (Answers helper (step slots word amount 0 none) me)
+answers helper amount more counted sizes slots seat word me part below s h len at fits =
     let v : Hand = me.0 in
     let ds = all_draws s.views in
     let n = length (tickets word ds) in
     let found = slice_index s.words word in
     let inside : word < length s.words = (let long = h.words in omega arith) in
     let c = h.cells word inside in
-    let d : Draw = draw 1 word n found in (
+    let d : Draw = draw helper word n found in (
       hand v.parts (v.draws ++ d ∷ []),
       keeps,
       tt,
-      draws_more sizes s seat v word found d h at part inside refl (counted_count word found found ds c),
+      draws_more sizes s seat v word (more found) d h at part inside refl (counted word found ds c),
       record {
         drawn = record { exact = n; wraps = c.counts; rising = of_hand (IsBehind word n) s.views seat v at c.behind; draws = refl };
         parts = refl;
@@ -84,27 +86,15 @@ counts sizes slots seat word me part below s h len at fits =
       },
     )
 
+-- an answer of `count`
+pub counts : (sizes : List ℕ) (slots seat word : ℕ) (me : Me (Unit {0}) Hand) → 0 < me.0.parts → word < sum sizes
+    → Allows (IsTable sizes) slots seat me word (λ n. n) (Answers 1 (step slots word 0 0 none) me)
+counts = answers 1 0 (λ n. n) (λ word found ds. counted_count word found found ds)
+
 -- an answer of `ticket`
 pub draws : (sizes : List ℕ) (slots seat word : ℕ) (me : Me (Unit {0}) Hand) → 0 < me.0.parts → word < sum sizes
     → Allows (IsTable sizes) slots seat me word (λ n. (n + 1) % 2 ^ 64) (Answers 2 (step slots word 1 0 none) me)
-draws sizes slots seat word me part below s h len at fits =
-    let v : Hand = me.0 in
-    let ds = all_draws s.views in
-    let n = length (tickets word ds) in
-    let found = slice_index s.words word in
-    let inside : word < length s.words = (let long = h.words in omega arith) in
-    let c = h.cells word inside in
-    let d : Draw = draw 2 word n found in (
-      hand v.parts (v.draws ++ d ∷ []),
-      keeps,
-      tt,
-      draws_more sizes s seat v word ((found + 1) % 2 ^ 64) d h at part inside refl (counted_ticket word found found ds c),
-      record {
-        drawn = record { exact = n; wraps = c.counts; rising = of_hand (IsBehind word n) s.views seat v at c.behind; draws = refl };
-        parts = refl;
-        slots = refl;
-      },
-    )
+draws = answers 2 1 (λ n. (n + 1) % 2 ^ 64) (λ word found ds. counted_ticket word found found ds)
 
 -- who has all parts has all draws
 whole : (hands : List Hand) (seat : ℕ) (v : Hand) → get_elem? hands seat ≡ some v → sum_by (λ (u : Hand). u.parts) hands ≡ 256

@@ -1,13 +1,16 @@
 -- What a seat has, and what the owner of the cells has.
-use Rattle.std.specs.Prelude.{ℕ, ◌≡◌, ◌+◌, ◌%◌, ◌^◌, ◌<◌, List, [], All, sum}
+use Rattle.std.specs.Prelude.{ℕ, ◌≡◌, ◌+◌, ◌%◌, ◌^◌, ◌<◌, List, [], ◌∷◌, ◌++◌, All, length, sum}
 use base.Stored.{Gv}
 use Rattle.atomic_table.specs.Seated.{TableId}
 use Rattle.atomic_table.specs.declared.shared.Seat.{Seat}
 use Rattle.machine.specs.Sizes.{AreSizes}
 use Rattle.machine.specs.declared.calls.Call.{Call}
+use Rattle.machine.specs.Runs.{call}
+use Rattle.machine.specs.Step.{question}
 use Rattle.cells.specs.declared.hands.Draw.{Draw}
 use Rattle.cells.specs.declared.hands.Hand.{Hand}
-use Rattle.cells.specs.Draws.{calls_of}
+use Rattle.cells.specs.Draws.{calls_of, tickets_of, word_of, AreNumbersBelow}
+use Rattle.cells.specs.Counting.{IsDrawn}
 
 -- a seat: the sizes of the maps, the name of its table, and what it drew
 pub record CellSeatValue : Type 0 where
@@ -44,9 +47,25 @@ IsWhole it = it.parts ≡ 256
 abbrev pub calls : CellSeatValue → List Call
 calls s = calls_of s.sizes s.draws
 
+-- the seat asked once more: a helper answered it, and counted as the rule of the words says
+pub record Asks (helper map key : ℕ) (before : CellSeatValue) (answer : ℕ) (after : CellSeatValue) : Type 0 where
+  pub asked : calls after ≡ calls before ++ call (question helper map key) answer ∷ []
+  pub sizes : after.sizes ≡ before.sizes
+  pub home : after.home ≡ before.home
+  pub drawn : IsDrawn helper (word_of before.sizes map key) before.draws answer after.draws
+
+-- the cells where that seat came back
+abbrev pub cells_with : CellsValue → CellSeatValue → CellsValue
+cells_with it s = cells it.sizes it.home (it.parts + 1) (it.draws ++ s.draws)
+
 -- the calls of the seats that came back
 abbrev pub calls_back : CellsValue → List Call
 calls_back it = calls_of it.sizes it.draws
+
+-- the tickets of a cell that came back are the numbers below n, each once, where fewer than 2^64 came back
+abbrev pub AreNumbered : CellsValue → (map key n : ℕ) → Type 0
+AreNumbered it map key n =
+    let tickets = tickets_of map key (calls_back it) in length tickets < 2 ^ 64 → AreNumbersBelow n tickets
 
 -- the draw is of one of these cells, and its answer is its number modulo 2^64
 abbrev pub IsOf : List ℕ → Draw → Type 0

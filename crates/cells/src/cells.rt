@@ -1,12 +1,12 @@
 //! All cells of a node.
 
-ghost use Rattle.std.specs.Prelude.{◌≡◌, ◌+◌, ◌-◌, ◌<◌, ◌^◌, ◌++◌, [], IfOk, length, replicate};
+ghost use Rattle.std.specs.Prelude.{◌≡◌, ◌-◌, ◌<◌, [], IfOk, replicate};
 ghost use Rattle.std.specs.Arc.{arc_value};
 ghost use Rattle.atomic_table.specs.Seated.{table_id_coded};
 ghost use Rattle.machine.specs.Sizes.{IsInside};
 ghost use Rattle.cells.specs.Counting.{hand, IsAhead, IsCounted};
-ghost use Rattle.cells.specs.Draws.{word_of, tickets_of, AreNumbersBelow};
-ghost use Rattle.cells.specs.Seats.{seat, cells, calls_back, IsPlaced, IsSeatOf, IsWhole};
+ghost use Rattle.cells.specs.Draws.{word_of};
+ghost use Rattle.cells.specs.Seats.{seat, cells, cells_with, AreNumbered, IsPlaced, IsSeatOf, IsWhole};
 
 use crate::hands::Hand;
 use crate::rule::{Parts, Totals, Words};
@@ -50,7 +50,8 @@ fn zeros() -> [u64; MOST]
 
 /// The words of maps of these sizes, each 0, and the one place in them, which has all parts.
 fn words(alloc: Global, sizes: &MapSizes) -> Result<(Words, Seat<(), Hand>), AllocError>
-    ensures placed { IfOk result (λ made. IsPlaced sizes.now made.0.shared.key made.0.shared.table_id made.1) }
+    ensures placed { IfOk result
+        (λ made. IsPlaced sizes.now made.0.shared.key made.0.shared.table_id made.1) }
     ensures whole { IfOk result (λ made. made.1.me.0 ≡ hand 256 []) }
 {
     let zeros = zeros();
@@ -65,7 +66,8 @@ fn new_seat(
     words: &Arc<Words>,
     rest: &mut Seat<(), Hand>,
 ) -> Result<CellSeat, AllocError>
-    requires placed { IsPlaced sizes.now (arc_value words.now).shared.key (arc_value words.now).shared.table_id rest.old }
+    requires placed { IsPlaced sizes.now (arc_value words.now).shared.key
+        (arc_value words.now).shared.table_id rest.old }
     requires fresh { rest.old.me.0.draws ≡ [] }
     requires part { 0 < rest.old.me.0.parts }
     ensures seat { IfOk result (λ s. s ≡ seat sizes.now (table_id_coded.code rest.old.table_id) []) }
@@ -113,7 +115,7 @@ impl Cells {
     /// Takes back a seat of these cells, with what it drew.
     pub fn take_back(&mut self, seat: CellSeat)
         requires { IsSeatOf self.old seat }
-        ensures { self.new ≡ cells self.old.sizes self.old.home (self.old.parts + 1) (self.old.draws ++ seat.draws) }
+        ensures { self.new ≡ cells_with self.old seat }
     {
         let CellSeat { place, .. } = seat;
         self.words.shared.join_seat::<Parts>(&mut self.rest, place);
@@ -128,7 +130,7 @@ impl Cells {
         ensures same { self.new ≡ self.old }
         ensures ahead { IsAhead (word_of self.old.sizes map key) result self.old.draws }
         ensures counted { IsWhole self.old → IsCounted (word_of self.old.sizes map key) result self.old.draws }
-        ensures tickets { IsWhole self.old → length (tickets_of map key (calls_back self.old)) < 2 ^ 64 → AreNumbersBelow result (tickets_of map key (calls_back self.old)) }
+        ensures tickets { IsWhole self.old → AreNumbered self.old map key result }
     {
         let word = word_at(&self.sizes, map, key);
         self.words.shared.load::<Totals>(&mut self.rest, word)

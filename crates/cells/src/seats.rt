@@ -1,13 +1,9 @@
 //! A seat, by which a thread counts.
 
-ghost use Rattle.std.specs.Prelude.{◌≡◌, ◌++◌, ◌∷◌, []};
+ghost use Rattle.std.specs.Prelude.{◌≡◌};
 ghost use Rattle.std.specs.Arc.{arc_value};
-ghost use Rattle.machine.specs.Runs.{call};
-ghost use Rattle.machine.specs.Step.{question};
 ghost use Rattle.machine.specs.Sizes.{AreSizes, IsInside};
-ghost use Rattle.cells.specs.Counting.{IsDrawn};
-ghost use Rattle.cells.specs.Draws.{word_of};
-ghost use Rattle.cells.specs.Seats.{calls};
+ghost use Rattle.cells.specs.Seats.{Asks};
 
 use crate::hands::Hand;
 use crate::rule::{Counts, Tickets, Words};
@@ -48,10 +44,7 @@ impl CellSeat {
     /// One load of the word of a cell.
     fn load(&mut self, map: u8, key: u16) -> u64
         requires { IsInside self.old.sizes map key }
-        ensures asked { calls self.new ≡ calls self.old ++ call (question 1 map key) result ∷ [] }
-        ensures sizes { self.new.sizes ≡ self.old.sizes }
-        ensures home { self.new.home ≡ self.old.home }
-        ensures drawn { IsDrawn 1 (word_of self.old.sizes map key) self.old.draws result self.new.draws }
+        ensures asks { Asks 1 map key self.old result self.new }
     {
         let word = word_at(&self.sizes, map, key);
         self.words.shared.load::<Counts>(&mut self.place, word)
@@ -60,10 +53,7 @@ impl CellSeat {
     /// One `fetch_add` of the word of a cell.
     fn fetch_add(&mut self, map: u8, key: u16) -> u64
         requires { IsInside self.old.sizes map key }
-        ensures asked { calls self.new ≡ calls self.old ++ call (question 2 map key) result ∷ [] }
-        ensures sizes { self.new.sizes ≡ self.old.sizes }
-        ensures home { self.new.home ≡ self.old.home }
-        ensures drawn { IsDrawn 2 (word_of self.old.sizes map key) self.old.draws result self.new.draws }
+        ensures asks { Asks 2 map key self.old result self.new }
     {
         let word = word_at(&self.sizes, map, key);
         self.words
@@ -90,20 +80,14 @@ impl Counters for CellSeat {
 
     fn count(&mut self, map: u8, key: u16) -> u64
         requires { IsInside self.old.sizes map key }
-        ensures asked { calls self.new ≡ calls self.old ++ call (question 1 map key) result ∷ [] }
-        ensures sizes { self.new.sizes ≡ self.old.sizes }
-        ensures home { self.new.home ≡ self.old.home }
-        ensures drawn { IsDrawn 1 (word_of self.old.sizes map key) self.old.draws result self.new.draws }
+        ensures asks { Asks 1 map key self.old result self.new }
     {
         self.load(map, key)
     }
 
     fn ticket(&mut self, map: u8, key: u16) -> u64
         requires { IsInside self.old.sizes map key }
-        ensures asked { calls self.new ≡ calls self.old ++ call (question 2 map key) result ∷ [] }
-        ensures sizes { self.new.sizes ≡ self.old.sizes }
-        ensures home { self.new.home ≡ self.old.home }
-        ensures drawn { IsDrawn 2 (word_of self.old.sizes map key) self.old.draws result self.new.draws }
+        ensures asks { Asks 2 map key self.old result self.new }
     {
         self.fetch_add(map, key)
     }

@@ -1,5 +1,6 @@
 mod FactoryImage
 mod LinesInTurn
+mod MapLists
 mod Matching
-mod OnePort
+mod OwnPort
 mod TextLines

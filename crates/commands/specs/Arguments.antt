@@ -10,6 +10,10 @@ use Rattle.commands.specs.declared.usage.UsageFault.TheVariants.{Parse, BadOptio
 abbrev pub file_rule : Text → Rule
 file_rule id = record (new_rule id) { value_names = 1; required = true }
 
+-- an option that may be left out, with one value: --NAME VALUE
+abbrev pub option_rule : Text → Rule
+option_rule name = record (new_rule name) { long = Some name; value_names = 1 }
+
 -- a subcommand of this name with the file of an image: NAME FILE
 abbrev pub image_app : Text → App
 image_app name = with_rule (new_app name) (file_rule (codes "image"))

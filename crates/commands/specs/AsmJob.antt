@@ -18,8 +18,8 @@ abbrev pub NamesAsm : List Row → Job → Type 0
 NamesAsm rows (Assemble text image) = (first_of (codes "text") rows ≡ Some (string_bytes text))
     × (first_of (codes "image") rows ≡ Some (string_bytes image))
 NamesAsm rows (Disassemble image) = ⊥
-NamesAsm rows (Verify image) = ⊥
-NamesAsm rows (Judge lines image) = ⊥
+NamesAsm rows (Verify image sizes) = ⊥
+NamesAsm rows (Judge lines image sizes ports) = ⊥
 
 -- matches of asm without one of its files, or memory was refused
 abbrev pub LacksEither : List Row → UsageFault → Type 0

@@ -7,8 +7,8 @@ use Rattle.clap.specs.declared.error.kind.ErrorKind.{ErrorKind}
 use Rattle.clap.specs.declared.error.kind.ErrorKind.TheVariants.{OutOfMemory}
 use Rattle.commands.specs.AsmJob.{asm_app, NamesAsm}
 use Rattle.commands.specs.DisJob.{dis_app, NamesDis}
-use Rattle.commands.specs.VerifyJob.{verify_app, NamesVerify}
-use Rattle.commands.specs.JudgeJob.{judge_app, NamesJudge}
+use Rattle.commands.specs.VerifyJob.{verify_app, NamesVerify, SpoilsVerify}
+use Rattle.commands.specs.JudgeJob.{judge_app, NamesJudge, SpoilsJudge}
 use Rattle.commands.specs.declared.jobs.Job.{Job}
 use Rattle.commands.specs.declared.jobs.Job.TheVariants.{Assemble, Disassemble, Verify, Judge}
 use Rattle.commands.specs.declared.usage.UsageFault.{UsageFault}
@@ -37,8 +37,8 @@ abbrev pub Names : Option (Text × List Row) → Job → Type 0
 Names None job = ⊥
 Names (Some found) (Assemble text image) = (found.0 ≡ codes "asm") × NamesAsm found.1 (Assemble text image)
 Names (Some found) (Disassemble image) = (found.0 ≡ codes "dis") × NamesDis found.1 (Disassemble image)
-Names (Some found) (Verify image) = (found.0 ≡ codes "verify") × NamesVerify found.1 (Verify image)
-Names (Some found) (Judge lines image) = (found.0 ≡ codes "judge") × NamesJudge found.1 (Judge lines image)
+Names (Some found) (Verify image sizes) = (found.0 ≡ codes "verify") × NamesVerify found.1 (Verify image sizes)
+Names (Some found) (Judge lines image sizes ports) = (found.0 ≡ codes "judge") × NamesJudge found.1 (Judge lines image sizes ports)
 
 -- what the user is told of a refusal by clap of this kind
 abbrev pub TellsRefusal : ErrorKind → UsageFault → Type 0
@@ -46,17 +46,17 @@ TellsRefusal kind Memory = Unit {0}
 TellsRefusal kind BadOption = ⊥
 TellsRefusal kind (Parse text) = kind ≢ OutOfMemory
 
--- the subcommand lacks a file that has to be given
-pub record LacksFile (found : Text × List Row) : Type 0 where
+-- the subcommand lacks a file that has to be given, or has an option with a value that it may not have
+pub record IsSpoiled (found : Text × List Row) : Type 0 where
   pub asm : found.0 ≡ codes "asm" → (first_of (codes "text") found.1 ≡ None) ⊎ (first_of (codes "image") found.1 ≡ None)
   pub dis : found.0 ≡ codes "dis" → first_of (codes "image") found.1 ≡ None
-  pub verify : found.0 ≡ codes "verify" → first_of (codes "image") found.1 ≡ None
-  pub judge : found.0 ≡ codes "judge" → first_of (codes "lines") found.1 ≡ None
+  pub verify : found.0 ≡ codes "verify" → SpoilsVerify found.1
+  pub judge : found.0 ≡ codes "judge" → SpoilsJudge found.1
 
--- clap found a subcommand without what it needs
+-- clap found no subcommand, or one without what it needs
 abbrev pub IsIncomplete : Option (Text × List Row) → Type 0
 IsIncomplete None = Unit {0}
-IsIncomplete (Some found) = LacksFile found
+IsIncomplete (Some found) = IsSpoiled found
 
 -- the matches name no job, or memory was refused
 abbrev pub LacksJob : Option (Text × List Row) → UsageFault → Type 0

@@ -14,5 +14,5 @@ dis_app = image_app (codes "dis")
 abbrev pub NamesDis : List Row → Job → Type 0
 NamesDis rows (Assemble text image) = ⊥
 NamesDis rows (Disassemble image) = first_of (codes "image") rows ≡ Some (string_bytes image)
-NamesDis rows (Verify image) = ⊥
-NamesDis rows (Judge lines image) = ⊥
+NamesDis rows (Verify image sizes) = ⊥
+NamesDis rows (Judge lines image sizes ports) = ⊥

@@ -1,5 +1,7 @@
--- The node that the jobs run, with its one port.
-use Rattle.std.specs.Prelude.{ℕ, List, [], ◌∷◌}
+-- The node that the jobs run, with its ports.
+use Rattle.std.specs.Prelude.{◌≡◌, ℕ, List, [], ◌∷◌, map, slice_get, slice_set, Some}
+use Rattle.std.specs.List.{range_with_len}
+use base.Stored.{Gv}
 use Rattle.bank.specs.Records.{BankValue}
 use Rattle.bver.specs.Justified.{AcceptedValue}
 use Rattle.spw.specs.Cargo.{Cargo}
@@ -8,31 +10,40 @@ use Rattle.target.specs.declared.served.Served.{Served}
 use Rattle.target.specs.Served.{IsAnswered}
 use Rattle.target.specs.Nodes.{bank_of, first_pass}
 use Rattle.target.specs.Passes.{PassValue}
-use Rattle.target.specs.Pairs.{IsPaired}
+use Rattle.target.specs.Pairs.{ArePaired}
 
--- the node's banks, what its port has of it, and the reply to the last packet
+-- the node's banks, what each port has of it, and the reply to the last packet
 pub record JobNodeValue : Type 0 where
   pub banks : List BankValue
-  pub holder : PassValue
+  pub holders : List PassValue
   pub reply : List ℕ
 
--- the node of these banks and this port, with this reply
-abbrev pub job_node : List BankValue → PassValue → List ℕ → JobNodeValue
-job_node banks holder reply = record { banks = banks; holder = holder; reply = reply }
+-- the node of these banks and these ports, with this reply
+abbrev pub job_node : List BankValue → List PassValue → List ℕ → JobNodeValue
+job_node banks holders reply = record { banks = banks; holders = holders; reply = reply }
 
--- banks and port were made together, or are as packets left them
+-- banks and ports were made together, or are as packets left them
 pub record IsJobNode (s : JobNodeValue) : Type 0 where
-  pub paired : IsPaired s.banks s.holder
+  pub paired : ArePaired s.banks s.holders
 
 -- logical address FE, and one bank of 65,536 zero bytes at A0000000 with room for 1,024 entries
 abbrev pub own_bank : BankConfig
 own_bank = record { base = 2684354560; size = 65536; room = 1024 }
 
--- a fresh node whose commands the program judges
-abbrev pub fresh_job_node : AcceptedValue → JobNodeValue
-fresh_job_node program = job_node (bank_of 1 own_bank ∷ []) (first_pass 254 (own_bank ∷ []) program 0) []
+-- what each of so many ports has of a fresh node at first, with seats at those cells
+abbrev pub first_holders : (ports : ℕ) → AcceptedValue → (home : Gv) → List PassValue
+first_holders ports program home = map (first_pass 254 (own_bank ∷ []) program home) (range_with_len 0 ports)
 
--- this became of the packet, and the node has the reply that is due
-abbrev pub Serves : Served → Cargo → (before after : JobNodeValue) → Type 0
-Serves served packet before after =
-    IsAnswered served packet before.banks after.banks before.holder after.holder after.reply
+-- a fresh node with so many ports, at each of which the program judges
+abbrev pub IsFresh : (ports : ℕ) → AcceptedValue → JobNodeValue → Type 0
+IsFresh ports program node =
+    (home : Gv) × (node ≡ job_node (bank_of ports own_bank ∷ []) (first_holders ports program home) [])
+
+-- this became of the packet that came in at the port, the node has the reply that is due, and no other
+-- port changed
+pub record Serves (served : Served) (port : ℕ) (packet : Cargo) (before after : JobNodeValue) : Type 0 where
+  pub holder : PassValue
+  pub left : PassValue
+  pub own : slice_get before.holders port ≡ Some holder
+  pub others : after.holders ≡ slice_set before.holders port left
+  pub answered : IsAnswered served packet before.banks after.banks holder left after.reply

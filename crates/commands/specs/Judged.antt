@@ -1,12 +1,13 @@
 -- What the job `judge` reads and prints.
-use Rattle.std.specs.Prelude.{◌≡◌, ◌⊎◌, ℕ, List, [], Option, Some, None}
+use Rattle.std.specs.Prelude.{◌≡◌, ◌⊎◌, ℕ, List, Option, Some, None}
 use Rattle.std.specs.Borrow.{Bor}
 use Rattle.bpf.specs.Program.{Program}
 use Rattle.bver.specs.Justified.{AcceptedValue}
 use Rattle.machine.specs.Runs.{IsSafe}
+use Rattle.machine.specs.Sizes.{Maps}
 use Rattle.commands.specs.Factory.{factory, IsNoFactory}
 use Rattle.commands.specs.Files.{Reads, HoldsImage, HoldsNoText}
-use Rattle.commands.specs.JobNode.{JobNodeValue, fresh_job_node}
+use Rattle.commands.specs.JobNode.{JobNodeValue, IsFresh}
 use Rattle.commands.specs.Lines.{IsBadLine, JudgesAll, lines_of}
 use Rattle.commands.specs.Reading.{IsNoProgram}
 use Rattle.commands.specs.declared.faults.Fault.{Fault}
@@ -43,20 +44,22 @@ module _ {S : Type 0} (reads : Reads S) where
     pub read : reads before lines (Some text) between
     pub program : HoldsProgram between image p after
 
-  -- the text is that of the file of lines, and the node is a fresh one whose commands the program
-  -- judges, which is safe on it
-  pub record IsReady (before : S) (lines : List ℕ) (image : Option (List ℕ)) (text : List ℕ) (node : JobNodeValue) (after : S) : Type 0 where
-    pub program : AcceptedValue
-    pub read : AreRead before lines image text program.program after
-    pub safe : IsSafe program.program []
-    pub fresh : node ≡ fresh_job_node program
-
   -- lines or program cannot be read, or memory was refused for the node
   abbrev pub IsNotReady : (before : S) (lines : List ℕ) → Option (List ℕ) → (after : S) → Fault → Type 0
   IsNotReady before lines image after fault =
       LinesUnread before lines after fault
       ⊎ ProgramUnread before lines image after fault
       ⊎ ((fault ≡ NoMemory) × ((text : List ℕ) × (p : Program) × AreRead before lines image text p after))
+
+module _ {S : Type 0} (reads : Reads S) (sizes : Maps) (ports : ℕ) where
+  -- the text is that of the file of lines, and the node is a fresh one with so many ports, whose
+  -- commands the program judges, which is safe on it
+  pub record IsReady (before : S) (lines : List ℕ) (image : Option (List ℕ)) (text : List ℕ) (node : JobNodeValue) (after : S) : Type 0 where
+    pub program : AcceptedValue
+    pub read : AreRead reads before lines image text program.program after
+    pub sizes_of : program.sizes ≡ sizes
+    pub safe : IsSafe program.program sizes
+    pub fresh : IsFresh ports program node
 
   -- each line of the file was judged in turn on that node
   pub record JudgesFile (before : S) (lines : List ℕ) (image : Option (List ℕ)) (after : S) (old new : Option (List ℕ)) : Type 0 where
@@ -77,5 +80,5 @@ module _ {S : Type 0} (reads : Reads S) where
   -- why not all lines were judged: nothing was printed where lines or program cannot be read
   abbrev pub IsNotJudged : (before : S) (lines : List ℕ) → Option (List ℕ) → (after : S) → (old new : Option (List ℕ)) → Fault → Type 0
   IsNotJudged before lines image after old new fault =
-      ((new ≡ old) × IsNotReady before lines image after fault)
+      ((new ≡ old) × IsNotReady reads before lines image after fault)
       ⊎ StopsAtLine before lines image after old new fault

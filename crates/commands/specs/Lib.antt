@@ -10,6 +10,7 @@ pub mod JudgeJob
 pub mod Factory
 pub mod Judged
 pub mod Lines
+pub mod Options
 pub mod Performed
 pub mod Printed
 pub mod Reading

@@ -1,5 +1,5 @@
 -- The packet lines of a text, and what is printed of each.
-use Rattle.std.specs.Prelude.{◌≡◌, ◌≢◌, ◌⊎◌, ◌==◌, ℕ, suc, cond, List, [], ◌∷◌, ◌++◌, length, Option}
+use Rattle.std.specs.Prelude.{◌≡◌, ◌≤◌, ◌⊎◌, ◌==◌, ℕ, suc, cond, List, [], ◌∷◌, ◌++◌, length, Option}
 use Rattle.std.specs.Io.KnownBytes.{Appends}
 use Rattle.std.specs.List.{onto_first, slice_split}
 use Rattle.spw.specs.Cargo.{Cargo}
@@ -31,14 +31,13 @@ served_line port (Stopped (Answered status)) reply = reply_line port reply
 served_line port Unread reply = reply_line port reply
 served_line port (Done applied) reply = reply_line port reply
 
--- the line writes a packet of the node's port, the node served it, and what came of it was printed
+-- the line writes a packet of a port of the node, which served it, and what came of it was printed
 pub record Judges (line : List ℕ) (before after : JobNodeValue) (old new : Option (List ℕ)) : Type 0 where
   pub port : ℕ
   pub packet : Cargo
   pub served : Served
   pub written : IsPacketLine line port packet
-  pub own_port : port ≡ before.holder.port
-  pub step : Serves served packet before after
+  pub step : Serves served port packet before after
   pub printed : Appends old new (served_line port served after.reply)
 
 -- the lines were judged in turn, each on the node that the earlier ones left
@@ -52,7 +51,7 @@ pub record HasNoPort (line : List ℕ) (node : JobNodeValue) : Type 0 where
   pub port : ℕ
   pub packet : Cargo
   pub written : IsPacketLine line port packet
-  pub other : port ≢ node.holder.port
+  pub other : length node.holders ≤ port
 
 -- the number of the fault of a line: it is no packet line, or it has no port of the node
 abbrev pub IsBad : List ℕ → JobNodeValue → ℕ → Type 0

@@ -1,21 +1,35 @@
 -- The job `verify`: its words, and what it prints of a program that may judge.
-use Rattle.std.specs.Prelude.{◌≡◌, ℕ, List, [], ◌∷◌, ◌++◌, Some, codes, decimal, string_bytes}
+use Rattle.std.specs.Prelude.{◌≡◌, ◌⊎◌, ℕ, List, [], ◌∷◌, ◌++◌, Some, None, codes, decimal, string_bytes}
 use Rattle.clap.specs.Walk.{Row, first_of}
-use Rattle.clap.specs.Simple.{App}
-use Rattle.commands.specs.Arguments.{image_app}
+use Rattle.clap.specs.Simple.{App, with_rule}
+use Rattle.commands.specs.Arguments.{image_app, option_rule}
+use Rattle.commands.specs.Options.{GivesSizes, IsBadList}
 use Rattle.commands.specs.declared.jobs.Job.{Job}
 use Rattle.commands.specs.declared.jobs.Job.TheVariants.{Assemble, Disassemble, Verify, Judge}
+use Rattle.commands.specs.declared.usage.UsageFault.{UsageFault}
+use Rattle.commands.specs.declared.usage.UsageFault.TheVariants.{Parse, BadOption, Memory}
 
--- verify FILE
+-- verify FILE [--maps LIST]
 abbrev pub verify_app : App
-verify_app = image_app (codes "verify")
+verify_app = with_rule (image_app (codes "verify")) (option_rule (codes "maps"))
 
 -- the job is that of verify with these matches
 abbrev pub NamesVerify : List Row → Job → Type 0
 NamesVerify rows (Assemble text image) = ⊥
 NamesVerify rows (Disassemble image) = ⊥
-NamesVerify rows (Verify image) = first_of (codes "image") rows ≡ Some (string_bytes image)
-NamesVerify rows (Judge lines image) = ⊥
+NamesVerify rows (Verify image sizes) = (first_of (codes "image") rows ≡ Some (string_bytes image))
+    × GivesSizes (first_of (codes "maps") rows) sizes
+NamesVerify rows (Judge lines image sizes ports) = ⊥
+
+-- matches without the file, or with a list of maps that is none
+abbrev pub SpoilsVerify : List Row → Type 0
+SpoilsVerify rows = (first_of (codes "image") rows ≡ None) ⊎ IsBadList (first_of (codes "maps") rows)
+
+-- such matches, or memory was refused
+abbrev pub RefusesVerify : List Row → UsageFault → Type 0
+RefusesVerify rows Memory = Unit {0}
+RefusesVerify rows BadOption = SpoilsVerify rows
+RefusesVerify rows (Parse text) = ⊥
 
 -- the line of a program that may judge
 abbrev pub accepted_line : (weight budget : ℕ) → List ℕ

@@ -5,7 +5,7 @@ ghost use Rattle.clap.specs.Simple.{app_of};
 ghost use Rattle.clap.specs.declared.builder.command.Command.TheViews.{out-Command as fields_of};
 ghost use Rattle.clap.specs.Walk.{first_of, rows_of, rule_of};
 ghost use Rattle.clap.specs.Matches.{found_of};
-ghost use Rattle.commands.specs.Arguments.{HasName, Lacks, file_rule, image_app};
+ghost use Rattle.commands.specs.Arguments.{HasName, Lacks, file_rule, image_app, option_rule};
 
 use crate::usage::UsageFault;
 use clap::{Arg, ArgMatches, Command};
@@ -20,6 +20,17 @@ pub fn file<'a>(alloc: Global, id: &'a str, name: &'a str, help: &'a str) -> Arg
         .value_name(name)
         .help(help)
         .required(true)
+}
+
+/// An option with a value, which may be left out: `--NAME VALUE`.
+pub fn option<'a>(alloc: Global, name: &'a str, value: &'a str, help: &'a str) -> Arg<'a>
+    ensures rule { rule_of result ≡ option_rule name.now }
+    ensures local { result.global ≡ false }
+{
+    Arg::new(alloc, name)
+        .long(name)
+        .value_name(value)
+        .help(help)
 }
 
 /// A subcommand with the file of a BPF image: `NAME FILE`.

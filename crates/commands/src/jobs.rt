@@ -10,11 +10,12 @@ use crate::judge::judge_file;
 use crate::stops::{Stop, WriteFault};
 use crate::storage::Files;
 use crate::verify::verify_file;
+use bver::MapSizes;
 use std::alloc::Global;
 use std::io::Write;
 
 /// A job, as a command line names it.
-#[derive(Debug, PartialEq, Eq, Drop)]
+#[derive(Debug, Drop)]
 pub enum Job {
     /// Judges each packet line of a file, and prints what comes of it.
     Judge {
@@ -22,6 +23,10 @@ pub enum Job {
         lines: String,
         /// The name of the file of the BPF image that judges; without it the factory image does.
         image: Option<String>,
+        /// How many cells each counter map of the node has.
+        sizes: MapSizes,
+        /// How many ports the node has: 1 to 32. With any other number the job ends as for want of memory.
+        ports: u8,
     },
     /// Assembles a text, and writes the image.
     Assemble {
@@ -39,6 +44,8 @@ pub enum Job {
     Verify {
         /// The name of the file of the image.
         image: String,
+        /// How many cells each counter map has of the node that it may judge on.
+        sizes: MapSizes,
     },
 }
 
@@ -55,14 +62,20 @@ fn attempt<'a, F: Files, W: Write>(
         (W.contents out.old) (W.contents out.new))) }
 {
     match job {
-        Job::Judge { lines, image } => {
-            judge_file(alloc, lines.as_str(), image.as_deref(), files, out)
+        Job::Judge {
+            lines,
+            image,
+            sizes,
+            ports,
+        } => {
+            let image = image.as_deref();
+            judge_file(alloc, lines.as_str(), image, *sizes, *ports, files, out)
         }
         Job::Assemble { text, image } => {
             assemble_file(alloc, text.as_str(), image.as_str(), files, out)
         }
         Job::Disassemble { image } => disassemble_file(alloc, image.as_str(), files, out),
-        Job::Verify { image } => verify_file(alloc, image.as_str(), files, out),
+        Job::Verify { image, sizes } => verify_file(alloc, image.as_str(), *sizes, files, out),
     }
 }
 

@@ -1,32 +1,33 @@
 //! The job `judge`.
 
-ghost use Rattle.std.specs.Prelude.{◌≡◌, ◌≢◌, IfErr, IfOk, OnOk, [], codes, false, string_bytes};
+ghost use Rattle.std.specs.Prelude.{◌≡◌, ◌≢◌, IfErr, IfOk, OnOk, [], false, string_bytes};
 ghost use Rattle.clap.specs.Simple.{app_of};
 ghost use Rattle.clap.specs.declared.builder.command.Command.TheViews.{out-Command as fields_of};
 ghost use Rattle.clap.specs.Walk.{rows_of};
 ghost use Rattle.clap.specs.Matches.{found_of};
 ghost use Rattle.machine.specs.Runs.{IsSafe};
-ghost use Rattle.commands.specs.Arguments.{Lacks, name_in};
+ghost use Rattle.commands.specs.Arguments.{name_in};
 ghost use Rattle.commands.specs.Factory.{IsNoFactory, factory, factory_insns};
-ghost use Rattle.commands.specs.JudgeJob.{NamesJudge, discard_line, judge_app, reply_line};
+ghost use Rattle.commands.specs.JudgeJob.{NamesJudge, RefusesJudge, discard_line, judge_app, reply_line};
 ghost use Rattle.commands.specs.Judged.{HoldsNoProgram, HoldsProgram, IsNotJudged, IsNotReady, IsReady, JudgesFile};
 ghost use Rattle.commands.specs.Lines.{IsBadLine, IsBadPacket, Judges, JudgesAll, lines_of, pieces_of, served_line};
 ghost use Rattle.commands.specs.Printed.{Prints};
 ghost use Rattle.commands.specs.Stops.{StopsBy};
 ghost use Rattle.commands.specs.declared.faults.Fault.TheVariants.{NoMemory};
 
-use crate::arguments::{file, name_of, text_of};
+use crate::arguments::{file, name_of, option, text_of};
 use crate::faults::Fault;
 use crate::jobs::Job;
 use crate::node::JobNode;
-use crate::programs::{no_maps, program_in, text_in};
+use crate::options::{ports_of, sizes_of};
+use crate::programs::{program_in, text_in};
 use crate::stops::Stop;
 use crate::storage::Files;
 use crate::usage::UsageFault;
 use bpf::Image;
 use bpf_insn::{AluOp, Insn, Operand, Register, Width};
-use bver::{Accepted, verify};
-use clap::{Arg, ArgMatches, Command};
+use bver::{Accepted, MapSizes, verify};
+use clap::{ArgMatches, Command};
 use rmap::Discard;
 use spw::read_line;
 use std::alloc::{AllocError, Global};
@@ -36,34 +37,45 @@ use target::{Served, Stop as Header};
 /// The budget of the factory program, which has two steps.
 const FACTORY_BUDGET: u32 = 2;
 
-/// `judge LINES [--image FILE]`.
+/// `judge LINES [--image FILE] [--maps LIST] [--ports N]`.
 pub fn judge_command<'a>(alloc: Global) -> Result<Command<'a>, AllocError>
     ensures shape { IfOk result (λ c. app_of c ≡ judge_app) }
     ensures local { IfOk result (λ c. (fields_of c).has_globals ≡ false) }
 {
     let help = "The file of packet lines, or - for standard input";
     let lines = file(alloc, "lines", "LINES", help);
-    let image = Arg::new(alloc, "image")
-        .long("image")
-        .value_name("FILE")
-        .help("The file of the BPF image that judges, in place of the factory image");
+    let help = "The file of the BPF image that judges, in place of the factory image";
+    let image = option(alloc, "image", "FILE", help);
+    let help = "How many cells each counter map has, as 5,1; without it there are no maps";
+    let maps = option(alloc, "maps", "LIST", help);
+    let help = "How many ports the node has, 1 to 32; without it one";
+    let ports = option(alloc, "ports", "N", help);
     Command::new(alloc, "judge")
         .about("Judges each packet line and prints its reply")
         .arg(lines)?
-        .arg(image)
+        .arg(image)?
+        .arg(maps)?
+        .arg(ports)
 }
 
 /// The job of `judge` with these matches.
 pub fn judge_job(alloc: Global, found: &ArgMatches) -> Result<Job, UsageFault>
     ensures ok { IfOk result (NamesJudge (rows_of (found_of found.now))) }
-    ensures err { IfErr result (Lacks (codes "lines") (rows_of (found_of found.now))) }
+    ensures err { IfErr result (RefusesJudge (rows_of (found_of found.now))) }
 {
     let lines = name_of(alloc, found, "lines")?;
     let image = match text_of(found, "image") {
         Some(name) => Some(String::from_str(alloc, name)?),
         None => None,
     };
-    Ok(Job::Judge { lines, image })
+    let sizes = sizes_of(alloc, found)?;
+    let ports = ports_of(found)?;
+    Ok(Job::Judge {
+        lines,
+        image,
+        sizes,
+        ports,
+    })
 }
 
 /// The instructions of the factory program, `mov r0, 0; exit`: yes to every command.
@@ -81,14 +93,14 @@ fn factory_insns() -> [Insn; 2]
 }
 
 /// The factory program, which judges where no image is named.
-fn factory_program<'a>(alloc: Global) -> Result<Accepted, Fault<'a>>
+fn factory_program<'a>(alloc: Global, sizes: MapSizes) -> Result<Accepted, Fault<'a>>
     ensures program { IfOk result (λ program. program.program ≡ factory) }
-    ensures sizes { IfOk result (λ program. program.sizes ≡ []) }
-    ensures safe { IfOk result (λ program. IsSafe program.program []) }
+    ensures sizes { IfOk result (λ program. program.sizes ≡ sizes) }
+    ensures safe { IfOk result (λ program. IsSafe program.program sizes) }
     ensures refused { IfErr result IsNoFactory }
 {
     let image = Image::new(alloc, &factory_insns(), &[], FACTORY_BUDGET)?;
-    Ok(verify(alloc, image, &no_maps())?)
+    Ok(verify(alloc, image, &sizes)?)
 }
 
 /// The program of the image file of this name, or the factory program where there is no name.
@@ -96,17 +108,18 @@ fn judging_program<'a, F: Files>(
     alloc: Global,
     files: &mut F,
     image: Option<&'a str>,
+    sizes: MapSizes,
 ) -> Result<Accepted, Fault<'a>>
     ensures program { IfOk result (λ program.
         HoldsProgram F.reads files.old (name_in image.entry) program.program files.new) }
-    ensures sizes { IfOk result (λ program. program.sizes ≡ []) }
-    ensures safe { IfOk result (λ program. IsSafe program.program []) }
+    ensures sizes { IfOk result (λ program. program.sizes ≡ sizes) }
+    ensures safe { IfOk result (λ program. IsSafe program.program sizes) }
     ensures refused { IfErr result
         (HoldsNoProgram F.reads files.old (name_in image.entry) files.new) }
 {
     match image {
-        Some(name) => program_in(alloc, files, name),
-        None => factory_program(alloc),
+        Some(name) => program_in(alloc, files, name, sizes),
+        None => factory_program(alloc, sizes),
     }
 }
 
@@ -221,26 +234,29 @@ fn judge_text<'a, W: Write>(
     judge_lines(alloc, node, without_last_feed(text), out)
 }
 
-/// The text of a file of packet lines, and a fresh node whose commands the program of an image
-/// file, or the factory program, judges.
+/// The text of a file of packet lines, and a fresh node with so many ports, whose commands the program of
+/// an image file, or the factory program, judges.
 fn lines_and_node<'a, F: Files>(
     alloc: Global,
     lines: &'a str,
     image: Option<&'a str>,
+    sizes: MapSizes,
+    ports: u8,
     files: &mut F,
 ) -> Result<(String, JobNode), Fault<'a>>
-    ensures ready { IfOk result (λ made. IsReady F.reads files.old lines.now (name_in image.entry)
+    ensures ready { IfOk result (λ made. IsReady F.reads sizes ports files.old lines.now (name_in image.entry)
         (string_bytes made.0) made.1 files.new) }
     ensures refused { IfErr result
         (IsNotReady F.reads files.old lines.now (name_in image.entry) files.new) }
 {
     let text = text_in(alloc, files, lines)?;
-    let program = judging_program(alloc, files, image)?;
-    let node = JobNode::new(alloc, program)?;
+    let program = judging_program(alloc, files, image, sizes)?;
+    let node = JobNode::new(alloc, ports, program)?;
     Ok((text, node))
 }
 
-/// Judges the packet lines of a file by the program of an image file, or by the factory program.
+/// Judges the packet lines of a file by the program of an image file, or by the factory program, on a node
+/// with counter maps of these sizes and so many ports.
 ///
 /// Faults are found in this order: the file of lines (`CannotRead`, also where it is not UTF-8),
 /// the image file, its image, and then each line.
@@ -248,14 +264,16 @@ pub fn judge_file<'a, F: Files, W: Write>(
     alloc: Global,
     lines: &'a str,
     image: Option<&'a str>,
+    sizes: MapSizes,
+    ports: u8,
     files: &mut F,
     out: &mut W,
 ) -> Result<(), Stop<'a>>
-    ensures done { OnOk result (JudgesFile F.reads files.old lines.now
+    ensures done { OnOk result (JudgesFile F.reads sizes ports files.old lines.now
         (name_in image.entry) files.new (W.contents out.old) (W.contents out.new)) }
-    ensures stops { IfErr result (StopsBy (IsNotJudged F.reads files.old lines.now
+    ensures stops { IfErr result (StopsBy (IsNotJudged F.reads sizes ports files.old lines.now
         (name_in image.entry) files.new (W.contents out.old) (W.contents out.new))) }
 {
-    let (text, mut node) = lines_and_node(alloc, lines, image, files)?;
+    let (text, mut node) = lines_and_node(alloc, lines, image, sizes, ports, files)?;
     judge_text(alloc, &mut node, text.as_str(), out)
 }

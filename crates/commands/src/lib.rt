@@ -9,6 +9,7 @@ mod host;
 mod jobs;
 mod judge;
 mod node;
+mod options;
 mod programs;
 mod stops;
 mod storage;

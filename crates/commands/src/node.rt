@@ -1,17 +1,16 @@
 //! The node that the jobs run.
 
-ghost use Rattle.std.specs.Prelude.{◌≡◌, ◌≢◌, [], None, IfErr, IfOk, IfSome};
-ghost use Rattle.commands.specs.JobNode.{Serves, fresh_job_node};
+ghost use Rattle.std.specs.Prelude.{◌≡◌, ◌≢◌, ◌≤◌, ◌<◌, None, IfErr, IfOk, IfSome, length};
+ghost use Rattle.commands.specs.JobNode.{Serves, IsFresh};
 ghost use Rattle.commands.specs.declared.faults.Fault.TheVariants.{NoMemory};
 
 use crate::faults::Fault;
-use crate::programs::no_maps;
 use bver::Accepted;
 use rmap::ReplyBuf;
 use spw::Packet;
 use std::alloc::Global;
 use std::marker::Model;
-use target::{BankConfig, Node, NodeConfig, Pass, Served, serve_packet};
+use target::{BankConfig, Banks, NodeConfig, Pass, Served, banks_and_passes, serve_packet};
 
 /// The logical address of the node.
 const NODE_ADDRESS: u8 = 0xFE;
@@ -23,11 +22,11 @@ const BANK: BankConfig = BankConfig {
     room: 1024,
 };
 
-/// A node of one bank and one port, with room for one reply.
+/// A node of one bank and some ports, with room for one reply.
 #[derive(Drop)]
 pub struct JobNode {
-    node: Node,
-    pass: Pass,
+    banks: Banks,
+    passes: Vec<Pass>,
     reply: ReplyBuf,
 }
 
@@ -36,46 +35,44 @@ impl Model for JobNode {
 
     ghost Value = { JobNodeValue };
 
-    ghost view = { λ b. job_node b.node b.pass b.reply };
+    ghost view = { λ b. job_node b.banks b.passes.items b.reply };
 
-    ghost invariant = { λ b. IsJobNode (job_node b.node b.pass b.reply) };
+    ghost invariant = { λ b. IsJobNode (job_node b.banks b.passes.items b.reply) };
 }
 
 impl JobNode {
-    /// A node of zero bytes whose commands this program judges.
-    pub fn new<'a>(alloc: Global, program: Accepted) -> Result<JobNode, Fault<'a>>
-        requires { program.sizes ≡ [] }
-        ensures made { IfOk result (λ node. node ≡ fresh_job_node program) }
+    /// A node of zero bytes with so many ports, whose commands this program judges at each.
+    pub fn new<'a>(alloc: Global, ports: u8, program: Accepted) -> Result<JobNode, Fault<'a>>
+        ensures made { IfOk result (IsFresh ports program) }
         ensures refused { IfErr result (λ fault. fault ≡ NoMemory) }
     {
         let config = NodeConfig {
             address: NODE_ADDRESS,
-            ports: 1,
+            ports,
             banks: &[BANK],
-            sizes: no_maps(),
+            sizes: program.sizes(),
         };
-        let (node, mut passes) = Node::new(alloc, &config, program)?;
-        let Some(pass) = passes.pop() else {
-            unreachable!()
-        };
+        let (banks, _cells, passes) = banks_and_passes(alloc, &config, program)?;
         Ok(JobNode {
-            node,
-            pass,
+            banks,
+            passes,
             reply: ReplyBuf::new(),
         })
     }
 
     /// What becomes of a packet that comes in at a port, or `None` where there is no such port.
     pub fn serve(&mut self, port: u8, packet: Packet) -> Option<Served>
-        ensures served { IfSome result (λ served. Serves served packet self.old self.new) }
-        ensures no_port { port ≢ self.old.holder.port → (result ≡ None) × (self.new ≡ self.old) }
-        ensures own_port { port ≡ self.old.holder.port → result ≢ None }
+        ensures served { IfSome result (λ served. Serves served port packet self.old self.new) }
+        ensures no_port { length self.old.holders ≤ port → (result ≡ None) × (self.new ≡ self.old) }
+        ensures own_port { port < length self.old.holders → result ≢ None }
     {
-        if port != self.pass.port() {
+        let place = usize::from(port);
+        if place >= self.passes.len() {
             return None;
         }
-        let banks = self.node.plain_banks_mut();
-        Some(serve_packet(banks, &mut self.pass, packet, &mut self.reply))
+        let banks = &mut self.banks;
+        let pass = &mut self.passes[place];
+        Some(serve_packet(banks, pass, packet, &mut self.reply))
     }
 
     /// The reply to the last packet that was served; no bytes where none is due.

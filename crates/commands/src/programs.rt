@@ -1,6 +1,6 @@
 //! The texts, images and programs of files.
 
-ghost use Rattle.std.specs.Prelude.{◌≡◌, IfErr, IfOk, MatchResult, None, Some, [], string_bytes};
+ghost use Rattle.std.specs.Prelude.{◌≡◌, IfErr, IfOk, MatchResult, None, Some, string_bytes};
 ghost use Rattle.machine.specs.Runs.{IsSafe};
 ghost use Rattle.commands.specs.Files.{HoldsImage, HoldsNoText};
 ghost use Rattle.commands.specs.Reading.{IsNoImage, IsNoProgram};
@@ -11,13 +11,6 @@ use crate::storage::Files;
 use bpf::Image;
 use bver::{Accepted, MapSizes, verify};
 use std::alloc::Global;
-
-/// The sizes of no counter maps.
-pub fn no_maps() -> MapSizes
-    ensures { result ≡ [] }
-{
-    MapSizes::new(&[]).unwrap()
-}
 
 /// The bytes of the file of this name.
 fn bytes_in<'a, F: Files>(alloc: Global, files: &mut F, name: &'a str) -> Result<Vec<u8>, Fault<'a>>
@@ -60,18 +53,19 @@ pub fn image_in<'a, F: Files>(
     Ok(Image::read(alloc, bytes.as_slice())?)
 }
 
-/// The program of the image file of this name, for a node without counter maps.
+/// The program of the image file of this name, for a node with counter maps of these sizes.
 pub fn program_in<'a, F: Files>(
     alloc: Global,
     files: &mut F,
     name: &'a str,
+    sizes: MapSizes,
 ) -> Result<Accepted, Fault<'a>>
     ensures program { IfOk result (λ program.
         HoldsImage F.reads files.old name.now program.program files.new) }
-    ensures sizes { IfOk result (λ program. program.sizes ≡ []) }
-    ensures safe { IfOk result (λ program. IsSafe program.program []) }
+    ensures sizes { IfOk result (λ program. program.sizes ≡ sizes) }
+    ensures safe { IfOk result (λ program. IsSafe program.program sizes) }
     ensures refused { IfErr result (IsNoProgram F.reads files.old name.now files.new) }
 {
     let image = image_in(alloc, files, name)?;
-    Ok(verify(alloc, image, &no_maps())?)
+    Ok(verify(alloc, image, &sizes)?)
 }

@@ -15,7 +15,7 @@ use crate::judge::{judge_command, judge_job};
 use crate::verify::{verify_command, verify_job};
 use clap::error::ErrorKind;
 use clap::{ArgMatches, Command, Error};
-use std::alloc::{AllocError, Global};
+use std::alloc::{AllocError, AllocFailed, Global};
 use thiserror::Error as ThisError;
 
 /// Why a command line names no job.
@@ -48,6 +48,14 @@ impl From<AllocError> for UsageFault {
     ghost from_gives = { λ _ fault. fault ≡ Memory };
 
     fn from(_refused: AllocError) -> UsageFault {
+        UsageFault::Memory
+    }
+}
+
+impl<T: Drop> From<AllocFailed<T>> for UsageFault {
+    ghost from_gives = { λ _ fault. fault ≡ Memory };
+
+    fn from(_refused: AllocFailed<T>) -> UsageFault {
         UsageFault::Memory
     }
 }

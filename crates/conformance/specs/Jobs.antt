@@ -20,5 +20,5 @@ abbrev pub Leaves : Job → (before after : FolderValue) → (status : ℕ) → 
 Leaves (Assemble text image) before after zero = AssemblesIn before (string_bytes text) (string_bytes image) after
 Leaves (Assemble text image) before after (suc n) = after ≡ before
 Leaves (Disassemble image) before after status = after ≡ before
-Leaves (Verify image) before after status = after ≡ before
-Leaves (Judge lines image) before after status = after ≡ before
+Leaves (Verify image sizes) before after status = after ≡ before
+Leaves (Judge lines image sizes ports) before after status = after ≡ before

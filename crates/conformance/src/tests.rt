@@ -1,20 +1,28 @@
 //! Jobs over files in memory: what they print, and their exit statuses.
 
 mod assembling;
+mod counters;
 mod faults;
 mod images;
+mod modifying;
 mod nodes;
+mod ports;
 mod programs;
 mod reads;
 mod replies;
+mod rooms;
+mod tables;
 mod usage;
 mod verifying;
 mod writers;
+mod writes;
 
 use crate::{Folder, perform_in};
 use commands::{Cannot, Files, words};
 use std::alloc::Global;
+use std::process::Abort;
 use std::test::Fail;
+use trial::Row;
 pub use trial::{PLAIN_READ, PLAIN_REPLY};
 
 /// What a job printed, its exit status, and the folder as it left it.
@@ -55,6 +63,27 @@ pub fn run(alloc: Global, given: &[&str], files: &[(&str, &[u8])]) -> Result<(St
 /// What `judge` prints of these lines by the factory program, and the exit status.
 pub fn judged(alloc: Global, lines: &str) -> Result<(String, u8), Fail> {
     run(alloc, &["judge", "lines"], &[("lines", lines.as_bytes())])
+}
+
+/// Compares what `judge` prints of the packet line of a row by the factory program. A row has bars between
+/// what it shows, the line and the answer.
+fn compare_answer(rt: &impl Abort, alloc: Global, row: &str) -> Result<(), Fail> {
+    let mut row = Row::of(row);
+    let shows = row.part()?;
+    let line = row.part()?;
+    let wanted = row.part()?;
+    let (printed, status) = judged(alloc, line)?;
+    let answer = printed.as_str().strip_suffix('\n');
+    assert_eq!(rt; (answer, status), (Some(wanted), 0), "at {shows}");
+    Ok(())
+}
+
+/// Compares each row of a table, each on a fresh node.
+pub fn compare_answers(rt: &impl Abort, alloc: Global, table: &str) -> Result<(), Fail> {
+    for row in table.lines() {
+        compare_answer(rt, alloc, row)?;
+    }
+    Ok(())
 }
 
 /// The factory program with the verdict V in place of 0: `mov r0, V; exit`.

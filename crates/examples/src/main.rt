@@ -3,6 +3,7 @@
 #![tactic(auto)]
 
 use anyhow::{Result, anyhow};
+use bver::MapSizes;
 use commands::{HostFiles, Job, perform};
 use std::alloc::{AllocError, Global};
 use std::io::{self, Write};
@@ -17,7 +18,7 @@ const PROGRAMS: [&str; 4] = [
 ];
 
 /// The packet lines that each program judges.
-const LINES: &str = "reads.txt";
+const LINES: &str = "packets.txt";
 
 /// The name of the image's file.
 fn image_of(alloc: Global, name: &str) -> Result<String, AllocError> {
@@ -25,7 +26,8 @@ fn image_of(alloc: Global, name: &str) -> Result<String, AllocError> {
 }
 
 /// The jobs of one program: its text is assembled, its image is verified, and it judges.
-fn jobs(alloc: Global, name: &str) -> Result<[Job; 3], AllocError> {
+fn jobs(alloc: Global, name: &str) -> Result<[Job; 3]> {
+    let sizes = MapSizes::new(&[])?;
     Ok([
         Job::Assemble {
             text: format!(in alloc; "{name}.bpf")?,
@@ -33,10 +35,13 @@ fn jobs(alloc: Global, name: &str) -> Result<[Job; 3], AllocError> {
         },
         Job::Verify {
             image: image_of(alloc, name)?,
+            sizes,
         },
         Job::Judge {
             lines: String::from_str(alloc, LINES)?,
             image: Some(image_of(alloc, name)?),
+            sizes,
+            ports: 1,
         },
     ])
 }

@@ -15,12 +15,8 @@ use Rattle.bpf_insn.specs.declared.operation.SwapBits.{SwapBits}
 use Rattle.bpf_insn.specs.declared.operation.SwapBits.TheVariants.{Swap16, Swap32, Swap64}
 use Rattle.bpf_insn.specs.declared.operation.Operand.{Operand}
 use Rattle.bpf_insn.specs.declared.operation.Operand.TheVariants.{FromRegister, Immediate}
-use Rattle.bpf_insn.specs.declared.operation.Condition.{Condition}
-use Rattle.bpf_insn.specs.declared.memory.Size.{Size}
 use Rattle.bpf_insn.specs.declared.memory.LoadSize.{LoadSize}
 use Rattle.bpf_insn.specs.declared.memory.LoadSize.TheVariants.{LoadByte, LoadHalf, LoadWord, LoadDouble, SignedByte, SignedHalf, SignedWord}
-use Rattle.bpf_insn.specs.declared.insn.Callee.{Callee}
-use Rattle.bpf_insn.specs.declared.insn.Callee.TheVariants.{Helper, Local, ByTypeId}
 use Rattle.bpf_insn.specs.declared.insn.Insn.{Insn}
 use Rattle.bpf_insn.specs.declared.insn.Insn.TheVariants as insns
 use Rattle.bpf_insn.specs.Flow.{flow_of}
@@ -31,14 +27,15 @@ use Rattle.machine.specs.declared.regions.Region.{Region}
 use Rattle.machine.specs.declared.regions.Region.TheVariants.{Front, Tail, Stack}
 use Rattle.machine.specs.declared.values.Value.{Value}
 use Rattle.machine.specs.declared.values.Value.TheVariants.{Unset, Num, Ptr, Map}
-use Rattle.machine.specs.Words.{modulus, low, word, alu_words, negated, extended, swapped, holds_words}
+use Rattle.machine.specs.Words.{modulus, low, word, alu_words, negated, extended, swapped}
 use Rattle.bpf_insn.specs.Sizes.{load_bytes}
-use Rattle.machine.specs.Memory.{Header, IsHeader, place_of, byte_of, byte_below, little, loaded}
-use Rattle.machine.specs.State.{State, entry_state}
-use Rattle.machine.specs.Step.{Outcome, Next, Ask, Verdict, Trap, operand, on_number, copied, copied_by, moved_by, alu, writes, lands, branches, compares, load_value, bytes_at, loads, puts, stores, map_at, is_helper, answered, asks, calls, exits, perform, knows_flow, perform_in, insn_at, step}
+use Rattle.machine.specs.Memory.{Header, IsHeader, place_of, byte_of, byte_after, byte_below, little, loaded}
+use Rattle.machine.specs.State.{State, state, entry_state}
+use Rattle.machine.specs.Step.{Outcome, Next, Ask, Verdict, Trap, operand, on_number, copied, copied_by, moved_by, alu, writes, load_value, bytes_at, loads, map_at, answered, exits, perform, knows_flow, perform_in, insn_at, step}
 use Rattle.machine.specs.Runs.{Path, entry, moves, Runs}
 use Rattle.machine.specs.Runs as runs
 use Rattle.machine.specs.Laws.{FitsWord, FitsByte, IsBounded}
+use Rattle.machine.proofs.Outcomes.{unless, where_so, lands_so, compares_so, stores_so, calls_so}
 use Rattle.machine.proofs.Results.{results_small, residue_small}
 
 -- ---- values
@@ -202,19 +199,11 @@ IsBoundedAfter (Ask question on) = (answer : ℕ) → answer < 2 ^ 64 → IsBoun
 IsBoundedAfter (Verdict verdict) = verdict < 2 ^ 64
 IsBoundedAfter Trap = Unit {0}
 
-unless : (b : Bool) (o : Outcome) → IsBoundedAfter o → IsBoundedAfter (cond b Trap o)
-unless true o h = tt
-unless false o h = h
-
-where_so : (b : Bool) (o : Outcome) → IsBoundedAfter o → IsBoundedAfter (cond b o Trap)
-where_so true o h = h
-where_so false o h = tt
-
 module _ (header : Header) (s : State) (is_header : IsHeader header) (bounded : IsBounded s) where
   writes_fit : (next register : ℕ) (v : Option Value) → FitsResult v → IsBoundedAfter (writes s next register v)
   writes_fit next register None h = tt
   writes_fit next register (Some v) h =
-      unless (eqb register 10) (Next _)
+      unless IsBoundedAfter tt (eqb register 10) (Next _)
       (record { registers = λ k. either_fits (eqb k register) v (s.registers k) h (bounded.registers k); bytes = bounded.bytes })
 
   operand_fits : (src : Operand) → FitsWord (operand s src)
@@ -237,41 +226,15 @@ module _ (header : Header) (s : State) (is_header : IsHeader header) (bounded : 
       load_value_fits size _ (bytes_fit region (load_bytes size) (place_of region (load_bytes size) (start +ℤ offset)))
   loads_fit size (Map index) offset = tt
 
-  lands_fit : (z : ℤ) → IsBoundedAfter (lands s z)
-  lands_fit (pos target) = record { registers = bounded.registers; bytes = bounded.bytes }
-  lands_fit (negsuc n) = tt
+  moves_fit : (slot : ℕ) → IsBoundedAfter (Next (state slot s.registers s.stack))
+  moves_fit slot = record { registers = bounded.registers; bytes = bounded.bytes }
 
-  branches_fit : (offset : ℤ) (b : Bool) → IsBoundedAfter (branches s offset b)
-  branches_fit offset true = lands_fit _
-  branches_fit offset false = record { registers = bounded.registers; bytes = bounded.bytes }
-
-  compares_fit : (condition : Condition) (width : Width) (offset : ℤ) (a b : Value) → IsBoundedAfter (compares condition width s offset a b)
-  compares_fit condition width offset (Num a) (Num b) = branches_fit offset (holds_words condition width a b)
-  compares_fit condition width offset (Num a) Unset = tt
-  compares_fit condition width offset (Num a) (Ptr region start) = tt
-  compares_fit condition width offset (Num a) (Map index) = tt
-  compares_fit condition width offset Unset b = tt
-  compares_fit condition width offset (Ptr region start) b = tt
-  compares_fit condition width offset (Map index) b = tt
-
-  puts_fit : (bytes : ℕ) (place : Option ℕ) (v : Value) → IsBoundedAfter (puts s bytes place v)
-  puts_fit bytes None v = tt
-  puts_fit bytes (Some place) Unset = tt
-  puts_fit bytes (Some start) (Num n) =
+  stored_fits : (bytes start n : ℕ) → IsBoundedAfter (Next (state (s.slot + 1) s.registers (byte_after s.stack bytes start n)))
+  stored_fits bytes start n =
       record {
         registers = bounded.registers;
         bytes = λ place. either_byte (nat_le start place && nat_lt place (start + bytes)) (Some (n / 256 ^ (place - start) % 256)) (s.stack place) (mod_below (n / 256 ^ (place - start)) 256 (lit< tt)) (bounded.bytes place);
       }
-  puts_fit bytes (Some place) (Ptr region start) = tt
-  puts_fit bytes (Some place) (Map index) = tt
-
-  stores_fit : (size : Size) (base : Value) (offset : ℤ) (v : Value) → IsBoundedAfter (stores s size base offset v)
-  stores_fit size Unset offset v = tt
-  stores_fit size (Num n) offset v = tt
-  stores_fit size (Ptr Front start) offset v = tt
-  stores_fit size (Ptr Tail start) offset v = tt
-  stores_fit size (Ptr Stack start) offset v = puts_fit _ _ v
-  stores_fit size (Map index) offset v = tt
 
   map_at_fits : (index : ℤ) → FitsResult (map_at index)
   map_at_fits (pos index) = tt
@@ -290,20 +253,6 @@ module _ (header : Header) (s : State) (is_header : IsHeader header) (bounded : 
         bytes = bounded.bytes;
       }
 
-  asks_fit : (helper : ℤ) (map key : Value) → IsBoundedAfter (asks s helper map key)
-  asks_fit helper (Map map) (Num key) = answered_fits
-  asks_fit helper (Map map) Unset = tt
-  asks_fit helper (Map map) (Ptr region start) = tt
-  asks_fit helper (Map map) (Map index) = tt
-  asks_fit helper Unset key = tt
-  asks_fit helper (Num n) key = tt
-  asks_fit helper (Ptr region start) key = tt
-
-  calls_fit : (callee : Callee) (number : ℤ) → IsBoundedAfter (calls s callee number)
-  calls_fit Helper number = where_so (is_helper number) _ (asks_fit number (s.registers 1) (s.registers 2))
-  calls_fit Local number = tt
-  calls_fit ByTypeId number = tt
-
   exits_fit : (v : Value) → FitsWord v → IsBoundedAfter (exits v)
   exits_fit Unset h = tt
   exits_fit (Num verdict) h = h
@@ -316,13 +265,13 @@ module _ (header : Header) (s : State) (is_header : IsHeader header) (bounded : 
   perform_fits (insns.MoveSigned extension dst src) i = writes_fit _ dst _ (on_number_fits (extended extension) (extended_fits extension) (s.registers src) (bounded.registers src))
   perform_fits (insns.ByteSwap swap bits dst) i = writes_fit _ dst _ (on_number_fits (swapped swap bits) (swapped_fits swap bits) (s.registers dst) (bounded.registers dst))
   perform_fits (insns.Load size dst place) i = writes_fit _ dst _ (loads_fit size (s.registers place.base) place.offset)
-  perform_fits (insns.Store size place src) i = stores_fit size (s.registers place.base) place.offset (operand s src)
-  perform_fits (insns.Jump comparison offset) i = compares_fit comparison.condition comparison.width offset (s.registers comparison.dst) (operand s comparison.src)
-  perform_fits (insns.Goto distance) i = lands_fit _
+  perform_fits (insns.Store size place src) i = stores_so IsBoundedAfter tt s stored_fits size (s.registers place.base) place.offset (operand s src)
+  perform_fits (insns.Jump comparison offset) i = compares_so IsBoundedAfter tt s moves_fit comparison.condition comparison.width offset (s.registers comparison.dst) (operand s comparison.src)
+  perform_fits (insns.Goto distance) i = lands_so IsBoundedAfter tt s moves_fit _
   perform_fits (insns.Wide dst value) i = writes_fit (s.slot + 2) dst (Some (Num value)) i.1
   perform_fits (insns.LoadMap dst index) i = writes_fit _ dst _ (map_at_fits index)
   perform_fits (insns.LoadAddress dst address) i = tt
-  perform_fits (insns.Call callee number) i = calls_fit callee number
+  perform_fits (insns.Call callee number) i = calls_so IsBoundedAfter tt s (λ helper map key. answered_fits) callee number
   perform_fits insns.Exit i = exits_fit (s.registers 0) (bounded.registers 0)
 
 -- ---- programs
@@ -344,7 +293,7 @@ insn_in false (Some insn ∷ xs) (suc slot) h = insn_in (is_some (second_immedia
 perform_in_fits : (version : ℕ) (header : Header) (s : State) (insn : Option Insn) → IsHeader header → IsBounded s → IsInsnAt insn → IsBoundedAfter (perform_in version header s insn)
 perform_in_fits version header s None is_header bounded i = tt
 perform_in_fits version header s (Some insn) is_header bounded i =
-    where_so (knows_flow version (flow_of insn)) _ (perform_fits header s is_header bounded insn i)
+    where_so IsBoundedAfter tt (knows_flow version (flow_of insn)) _ (perform_fits header s is_header bounded insn i)
 
 step_fits : (program : Program) (header : Header) (s : State) → IsProgram program → IsHeader header → IsBounded s → IsBoundedAfter (step program header s)
 step_fits program header s is_program is_header bounded =

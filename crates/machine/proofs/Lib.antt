@@ -1,4 +1,5 @@
 mod Agreement
+mod Outcomes
 mod Results
 mod Fitting
 mod Filled

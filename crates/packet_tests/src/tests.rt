@@ -6,6 +6,7 @@ mod banks;
 mod crc;
 mod journals;
 mod lines;
+mod locks;
 mod nodes;
 mod protocol;
 

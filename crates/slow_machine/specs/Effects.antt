@@ -1,5 +1,5 @@
 -- What the slow program finds for an instruction, as an outcome of the definition.
-use Rattle.std.specs.Prelude.{ℕ, ℤ, pos, ◌+◌, ◌≤◌, if◌then◌else◌, List, slice_index_or, Some}
+use Rattle.std.specs.Prelude.{◌≡◌, ℕ, ℤ, pos, ◌+◌, ◌≤◌, if◌then◌else◌, List, slice_index_or, Option, Some}
 use Rattle.bpf_insn.specs.declared.insn.Callee.{Callee}
 use Rattle.bpf_insn.specs.declared.insn.Insn.{Insn}
 use Rattle.slow_machine.specs.declared.effects.Effect.{Effect}
@@ -8,10 +8,10 @@ use Rattle.slow_machine.specs.declared.effects.Frame.{Frame}
 use Rattle.machine.specs.declared.values.Value.{Value}
 use Rattle.machine.specs.declared.values.Value.TheVariants.{Unset}
 use Rattle.machine.specs.Memory.{Header, byte_after}
-use Rattle.slow_machine.specs.Bytes.{bytes_in}
+use Rattle.slow_machine.specs.Bytes.{bytes_in, header_in}
 use Rattle.machine.specs.Sizes.{Maps}
 use Rattle.machine.specs.State.{State, state, register_after}
-use Rattle.machine.specs.Step.{Outcome, Next, Ask, Verdict, Trap, question, answered, asks, calls, is_cell, perform, finds_maps}
+use Rattle.machine.specs.Step.{Outcome, Next, Ask, Verdict, Trap, question, answered, asks, calls, is_cell, perform, finds_maps, writes}
 
 -- a list of values, asked by register
 abbrev pub registers_in : List Value → ℕ → Value
@@ -29,6 +29,20 @@ outcome_of s (effects.Go slot) = Next (state slot s.registers s.stack)
 outcome_of s (effects.Ask helper map key) = Ask (question helper map key) (answered s)
 outcome_of s (effects.Verdict verdict) = Verdict verdict
 outcome_of s effects.Trap = Trap
+
+-- what an effect makes of the state of a frame
+abbrev pub outcome_in : Frame → Effect → Outcome
+outcome_in frame effect = outcome_of (state_in frame) effect
+
+-- the effect writes the register, so many slots further
+abbrev pub Writes : Frame → (register : ℕ) → Option Value → (slots : ℕ) → Effect → Type 0
+Writes frame register value slots effect =
+    outcome_in frame effect ≡ writes (state_in frame) (frame.slot + slots) register value
+
+-- the effect is what the instruction does
+abbrev pub Does : Frame → Insn → Effect → Type 0
+Does frame insn effect =
+    outcome_in frame effect ≡ perform (header_in frame.memory) (state_in frame) insn
 
 -- what it writes is there: the next slot is near, and the bytes lie in the stack
 abbrev pub IsPlaced : Effect → Type 0
@@ -50,3 +64,8 @@ calls_with sizes s callee number = if is_cell sizes (s.registers 1) (s.registers
 -- what an instruction does with maps of these sizes
 abbrev pub perform_with : (sizes : Maps) → Header → State → Insn → Outcome
 perform_with sizes header s insn = if finds_maps sizes s (Some insn) then perform header s insn else Trap
+
+-- the effect is what the instruction does with maps of these sizes
+abbrev pub DoesWith : (sizes : Maps) → Frame → Insn → Effect → Type 0
+DoesWith sizes frame insn effect =
+    outcome_in frame effect ≡ perform_with sizes (header_in frame.memory) (state_in frame) insn

@@ -6,9 +6,9 @@ use Rattle.slow_machine.specs.declared.endings.Ending.{Ending}
 use Rattle.slow_machine.specs.declared.endings.Ending.TheVariants as endings
 use Rattle.machine.specs.Memory.{Header}
 use Rattle.machine.specs.Sizes.{Maps}
-use Rattle.machine.specs.State.{State}
+use Rattle.machine.specs.State.{State, entry_state}
 use Rattle.machine.specs.Step.{Trap, step_with}
-use Rattle.slow_machine.specs.Machine.{IsAsk}
+use Rattle.slow_machine.specs.Machine.{MachineValue, IsAsk, state_of}
 use Rattle.machine.specs.Runs.{Path, entry, moves, answered, Runs}
 
 -- the answers that were given, in order
@@ -67,3 +67,8 @@ IsEnding program header sizes port answers limit (endings.Verdict verdict) = Wal
 IsEnding program header sizes port answers limit endings.Trap = WalkTraps program header sizes port answers limit
 IsEnding program header sizes port answers limit endings.Unanswered = WalkAsks program header sizes port answers limit
 IsEnding program header sizes port answers limit endings.OutOfSteps = Walk program header sizes port answers limit
+
+-- how a walk ends that begins where the machine stands: at the entry, whatever the port
+abbrev pub EndsFrom : MachineValue → (answers : List ℕ) → (limit : ℕ) → Ending → Type 0
+EndsFrom m answers limit ending =
+    (port : ℕ) → state_of m ≡ entry_state port → IsEnding m.program m.header m.sizes port answers limit ending

@@ -2,11 +2,12 @@
 use Rattle.std.specs.Prelude.{◌≡◌, ℕ, List, Option}
 use Rattle.bpf.specs.Program.{Program}
 use Rattle.machine.specs.declared.values.Value.{Value}
+use Rattle.slow_machine.specs.declared.effects.Effect.{Effect}
 use Rattle.slow_machine.specs.declared.turns.Turn.{Turn}
 use Rattle.slow_machine.specs.declared.turns.Turn.TheVariants as turns
 use Rattle.machine.specs.Memory.{Header}
-use Rattle.slow_machine.specs.Bytes.{bytes_in}
-use Rattle.slow_machine.specs.Effects.{registers_in}
+use Rattle.slow_machine.specs.Bytes.{bytes_in, header_of}
+use Rattle.slow_machine.specs.Effects.{outcome_of, registers_in}
 use Rattle.machine.specs.Sizes.{Maps}
 use Rattle.machine.specs.State.{State, state}
 use Rattle.machine.specs.Step.{Outcome, Next, Ask, Verdict, Trap, step_with}
@@ -41,6 +42,10 @@ IsTurn (Ask question on) turn before after =
 IsTurn (Verdict verdict) turn before after = (turn ≡ turns.Verdict verdict) × (after ≡ before)
 IsTurn Trap turn before after = (turn ≡ turns.Trap) × (after ≡ before)
 
+-- what a turn says of an effect that was done
+abbrev pub IsTurnOf : Effect → Turn → (before after : State) → Type 0
+IsTurnOf effect turn before after = IsTurn (outcome_of before effect) turn before after
+
 -- whether an outcome is a helper's question
 abbrev pub IsAsk : Outcome → Type 0
 IsAsk (Next t) = ⊥
@@ -57,5 +62,5 @@ pub record IsSameRun (m n : MachineValue) : Type 0 where
 -- the run of a program on the parts of a header, with maps of these sizes
 pub record IsRunOf (m : MachineValue) (image : Program) (front tail : List ℕ) (maps : Maps) : Type 0 where
   pub program : m.program ≡ image
-  pub header : m.header ≡ record { front = front; tail = tail }
+  pub header : m.header ≡ header_of front tail
   pub sizes : m.sizes ≡ maps

@@ -1,17 +1,16 @@
 //! What each instruction does, found before it is done (RFC 9669, sections 4 and 5).
 
-ghost use Rattle.std.specs.Prelude.{◌≡◌, ◌^◌, ◌<◌, ◌≤◌, ◌+◌, ◌<ℤ◌, pos, slice_index, slice_index_or, if◌then◌else◌, nat_lt};
+ghost use Rattle.std.specs.Prelude.{◌≡◌, ◌^◌, ◌<◌, ◌≤◌, ◌<ℤ◌, pos, slice_index, slice_index_or, if◌then◌else◌, nat_lt};
 ghost use Rattle.slow_machine.specs.Bytes.{header_in};
 ghost use Rattle.slow_machine.specs.Near.{IsNear, AreNear};
-ghost use Rattle.slow_machine.specs.Effects.{state_in, outcome_of, IsPlaced, asks_with, calls_with, perform_with};
-ghost use Rattle.machine.specs.Words.{swapped};
-ghost use Rattle.machine.specs.Step.{operand, writes, lands, jumps, compares, loads, stores, map_at, is_map, exits, alu, on_number};
+ghost use Rattle.slow_machine.specs.Effects.{state_in, outcome_in, Does, DoesWith, IsPlaced, Writes, asks_with, calls_with};
+ghost use Rattle.machine.specs.Step.{operand, lands, jumps, loads, map_at, is_map};
 
 use crate::arithmetic::{alu, byte_swap, move_signed, negate, number};
 use crate::memory::{Memory, place_of, read};
 use bpf_insn::{
-    AluOp, Callee, Comparison, Condition, FRAME_POINTER, Insn, LoadSize, Operand, REGISTERS,
-    Register, Size, Swap, SwapBits, Width,
+    AluOp, Callee, Comparison, FRAME_POINTER, Insn, LoadSize, Operand, Place, REGISTERS, Register,
+    Size, Swap, SwapBits, Width,
 };
 use machine::{MapSizes, Region, Value, holds_words, loaded, word};
 
@@ -81,7 +80,7 @@ fn operand(frame: Frame<'_>, src: &Operand) -> Value
 /// The register is written, unless there is no value, or the register is r10.
 fn write(frame: Frame<'_>, register: Register, value: Option<Value>, slots: u32) -> Effect
     requires { slots ≤ 2 }
-    ensures outcome { outcome_of (state_in frame.entry) result ≡ writes (state_in frame.entry) (frame.entry.slot + slots) register value }
+    ensures outcome { Writes frame.entry register value slots result }
     ensures placed { IsPlaced result }
 {
     match value {
@@ -103,7 +102,7 @@ fn write(frame: Frame<'_>, register: Register, value: Option<Value>, slots: u32)
 /// An operation on a register and a source.
 fn calculate(frame: Frame<'_>, op: AluOp, width: Width, dst: Register, src: &Operand) -> Effect
     requires { AreNear (2 ^ 126) frame.registers.now }
-    ensures outcome { outcome_of (state_in frame.entry) result ≡ writes (state_in frame.entry) (frame.entry.slot + 1) dst (alu op width (slice_index_or frame.entry.registers.now dst Value.Unset) (operand (state_in frame.entry) src.now)) }
+    ensures outcome { Does frame.entry (Insn.Alu op width dst src.now) result }
     ensures placed { IsPlaced result }
 {
     let value = alu(op, width, value_of(frame, dst), operand(frame, src));
@@ -112,7 +111,7 @@ fn calculate(frame: Frame<'_>, op: AluOp, width: Width, dst: Register, src: &Ope
 
 /// END: the bytes of a register in another order.
 fn reorder(frame: Frame<'_>, swap: Swap, bits: SwapBits, dst: Register) -> Effect
-    ensures outcome { outcome_of (state_in frame.entry) result ≡ writes (state_in frame.entry) (frame.entry.slot + 1) dst (on_number (swapped swap bits) (slice_index_or frame.entry.registers.now dst Value.Unset)) }
+    ensures outcome { Does frame.entry (Insn.ByteSwap swap bits dst) result }
     ensures placed { IsPlaced result }
 {
     write(frame, dst, byte_swap(swap, bits, value_of(frame, dst)), 1)
@@ -121,7 +120,7 @@ fn reorder(frame: Frame<'_>, swap: Swap, bits: SwapBits, dst: Register) -> Effec
 /// The next instruction is at the target, unless that is before the code.
 fn land(frame: Frame<'_>, target: i64) -> Effect
     requires { target <ℤ pos (2 ^ 32) }
-    ensures outcome { outcome_of (state_in frame.entry) result ≡ lands (state_in frame.entry) target }
+    ensures outcome { outcome_in frame.entry result ≡ lands (state_in frame.entry) target }
     ensures placed { IsPlaced result }
 {
     if target < 0 {
@@ -134,29 +133,22 @@ fn land(frame: Frame<'_>, target: i64) -> Effect
 /// A jump by so many slots from the next one.
 fn jump(frame: Frame<'_>, offset: i32) -> Effect
     requires { frame.slot < 512 }
-    ensures outcome { outcome_of (state_in frame.entry) result ≡ jumps (state_in frame.entry) offset }
+    ensures outcome { outcome_in frame.entry result ≡ jumps (state_in frame.entry) offset }
     ensures placed { IsPlaced result }
 {
     land(frame, i64::from(frame.slot) + 1 + i64::from(offset))
 }
 
 /// A jump where the condition holds of a register and a source, which must be numbers.
-fn compare(
-    frame: Frame<'_>,
-    condition: Condition,
-    width: Width,
-    dst: Register,
-    src: &Operand,
-    offset: i16,
-) -> Effect
+fn compare(frame: Frame<'_>, comparison: &Comparison, offset: i16) -> Effect
     requires { frame.slot < 512 }
-    ensures outcome { outcome_of (state_in frame.entry) result ≡ compares condition width (state_in frame.entry) offset (slice_index_or frame.entry.registers.now dst Value.Unset) (operand (state_in frame.entry) src.now) }
+    ensures outcome { Does frame.entry (Insn.Jump comparison.now offset) result }
     ensures placed { IsPlaced result }
 {
-    match value_of(frame, dst) {
-        Value::Num(a) => match operand(frame, src) {
+    match value_of(frame, comparison.dst) {
+        Value::Num(a) => match operand(frame, &comparison.src) {
             Value::Num(b) => {
-                if holds_words(condition, width, a, b) {
+                if holds_words(comparison.condition, comparison.width, a, b) {
                     jump(frame, i32::from(offset))
                 } else {
                     Effect::Go(frame.slot + 1)
@@ -191,28 +183,28 @@ fn load(frame: Frame<'_>, size: LoadSize, base: Value, offset: i16) -> Option<Va
 }
 
 /// A load into a register, through the pointer in another.
-fn load_into(frame: Frame<'_>, size: LoadSize, dst: Register, base: Register, offset: i16) -> Effect
+fn load_into(frame: Frame<'_>, size: LoadSize, dst: Register, place: &Place) -> Effect
     requires { AreNear (2 ^ 126) frame.registers.now }
-    ensures outcome { outcome_of (state_in frame.entry) result ≡ writes (state_in frame.entry) (frame.entry.slot + 1) dst (loads (header_in frame.entry.memory) (state_in frame.entry) size (slice_index_or frame.entry.registers.now base Value.Unset) offset) }
+    ensures outcome { Does frame.entry (Insn.Load size dst place.now) result }
     ensures placed { IsPlaced result }
 {
-    let value = load(frame, size, value_of(frame, base), offset);
+    let value = load(frame, size, value_of(frame, place.base), place.offset);
     write(frame, dst, value, 1)
 }
 
 /// A store of a number through a register's pointer into the stack.
-fn store(frame: Frame<'_>, size: Size, base: Register, offset: i16, src: &Operand) -> Effect
+fn store(frame: Frame<'_>, size: Size, place: &Place, src: &Operand) -> Effect
     requires { AreNear (2 ^ 126) frame.registers.now }
-    ensures outcome { outcome_of (state_in frame.entry) result ≡ stores (state_in frame.entry) size (slice_index_or frame.entry.registers.now base Value.Unset) offset (operand (state_in frame.entry) src.now) }
+    ensures outcome { Does frame.entry (Insn.Store size place.now src.now) result }
     ensures placed { IsPlaced result }
 {
-    match value_of(frame, base) {
+    match value_of(frame, place.base) {
         Value::Ptr {
             region: Region::Stack,
             offset: start,
         } => {
             let bytes = size.bytes();
-            match place_of(Region::Stack, bytes, start + i128::from(offset)) {
+            match place_of(Region::Stack, bytes, start + i128::from(place.offset)) {
                 Some(place) => match number(operand(frame, src)) {
                     Some(number) => Effect::Put {
                         place,
@@ -257,7 +249,7 @@ fn key_in(sizes: &MapSizes, map: u8, key: u64) -> Option<u16>
 
 /// The question of a helper: r1 is a map, r2 a key below its size.
 fn ask(frame: Frame<'_>, sizes: &MapSizes, helper: u8) -> Effect
-    ensures outcome { outcome_of (state_in frame.entry) result ≡ asks_with sizes.now (state_in frame.entry) helper }
+    ensures outcome { outcome_in frame.entry result ≡ asks_with sizes.now (state_in frame.entry) helper }
     ensures placed { IsPlaced result }
 {
     match value_at(frame, 1) {
@@ -274,7 +266,8 @@ fn ask(frame: Frame<'_>, sizes: &MapSizes, helper: u8) -> Effect
 
 /// A call.
 fn call(frame: Frame<'_>, sizes: &MapSizes, callee: Callee, number: i32) -> Effect
-    ensures outcome { outcome_of (state_in frame.entry) result ≡ calls_with sizes.now (state_in frame.entry) callee number }
+    ensures outcome { outcome_in frame.entry result
+        ≡ calls_with sizes.now (state_in frame.entry) callee number }
     ensures placed { IsPlaced result }
 {
     match callee {
@@ -289,7 +282,7 @@ fn call(frame: Frame<'_>, sizes: &MapSizes, callee: Callee, number: i32) -> Effe
 
 /// EXIT: r0 is the verdict.
 fn exit(frame: Frame<'_>) -> Effect
-    ensures outcome { outcome_of (state_in frame.entry) result ≡ exits (slice_index_or frame.entry.registers.now 0 Value.Unset) }
+    ensures outcome { Does frame.entry Insn.Exit result }
     ensures placed { IsPlaced result }
 {
     match value_at(frame, 0) {
@@ -302,7 +295,7 @@ fn exit(frame: Frame<'_>) -> Effect
 pub fn perform(frame: Frame<'_>, sizes: &MapSizes, insn: &Insn) -> Effect
     requires inside { frame.slot < 512 }
     requires near { AreNear (2 ^ 126) frame.registers.now }
-    ensures outcome { outcome_of (state_in frame.entry) result ≡ perform_with sizes.now (header_in frame.entry.memory) (state_in frame.entry) insn.now }
+    ensures outcome { DoesWith sizes.now frame.entry insn.now result }
     ensures placed { IsPlaced result }
 {
     match *insn {
@@ -319,17 +312,9 @@ pub fn perform(frame: Frame<'_>, sizes: &MapSizes, insn: &Insn) -> Effect
             src,
         } => write(frame, dst, move_signed(extension, value_of(frame, src)), 1),
         Insn::ByteSwap { swap, bits, dst } => reorder(frame, swap, bits, dst),
-        Insn::Load { size, dst, place } => load_into(frame, size, dst, place.base, place.offset),
-        Insn::Store { size, place, src } => store(frame, size, place.base, place.offset, &src),
-        Insn::Jump { comparison, offset } => {
-            let Comparison {
-                condition,
-                width,
-                dst,
-                src,
-            } = comparison;
-            compare(frame, condition, width, dst, &src, offset)
-        }
+        Insn::Load { size, dst, place } => load_into(frame, size, dst, &place),
+        Insn::Store { size, place, src } => store(frame, size, &place, &src),
+        Insn::Jump { comparison, offset } => compare(frame, &comparison, offset),
         Insn::Goto { distance } => jump(frame, distance.slots()),
         Insn::Wide { dst, value } => write(frame, dst, Some(Value::Num(value)), 2),
         Insn::LoadMap { dst, index } => write(frame, dst, map_at(sizes, index), 2),

@@ -1,10 +1,8 @@
 //! Whole runs of the slow machine.
 
-ghost use Rattle.std.specs.Prelude.{◌≡◌, ℕ};
-ghost use Rattle.machine.specs.Memory.{Header};
-ghost use Rattle.machine.specs.State.{entry_state};
-ghost use Rattle.slow_machine.specs.Machine.{state_of};
-ghost use Rattle.slow_machine.specs.Endings.{IsEnding};
+ghost use Rattle.std.specs.Prelude.{◌≡◌};
+ghost use Rattle.slow_machine.specs.Bytes.{header_of};
+ghost use Rattle.slow_machine.specs.Endings.{EndsFrom, IsEnding};
 
 use crate::machines::Machine;
 use crate::turns::Turn;
@@ -27,7 +25,7 @@ pub enum Ending {
 /// Goes on from the entry of a program for at most `limit` steps.
 fn walk(mut machine: Machine<'_>, answers: &[u64], limit: u32) -> Ending
     requires { machine.steps ≡ 0 }
-    ensures { (port : ℕ) → state_of machine.entry ≡ entry_state port → IsEnding machine.entry.program machine.entry.header machine.entry.sizes port answers.now limit result }
+    ensures { EndsFrom machine.entry answers.now limit result }
 {
     questions_go_on();
     let mut left = answers;
@@ -59,7 +57,8 @@ pub fn run(
     answers: &[u64],
     limit: u32,
 ) -> Ending
-    ensures { IsEnding image.now (record { front = front.now; tail = tail.now }) sizes.now port answers.now limit result }
+    ensures { IsEnding image.now (header_of front.now tail.now) sizes.now port answers.now limit
+        result }
 {
     let machine = Machine::start(image, sizes, front, tail, port);
     walk(machine, answers, limit)

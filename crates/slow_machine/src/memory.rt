@@ -2,8 +2,7 @@
 
 ghost use Rattle.std.specs.Prelude.{◌≡◌, ◌+◌, ◌*◌, ◌^◌, ◌<◌, ◌≤◌, IfSome, unsigned_abs};
 ghost use Rattle.machine.specs.Memory.{place_of, little};
-ghost use Rattle.slow_machine.specs.Bytes.{byte_seen, bytes_in, header_in};
-ghost use Rattle.machine.specs.Step.{bytes_at};
+ghost use Rattle.slow_machine.specs.Bytes.{byte_seen, number_seen};
 
 use machine::Region;
 
@@ -76,7 +75,7 @@ fn little(memory: Memory<'_>, region: Region, bytes: usize, place: usize) -> Opt
 pub fn read(memory: Memory<'_>, region: Region, bytes: usize, offset: i128) -> Option<u64>
     requires few { bytes ≤ 8 }
     requires near { unsigned_abs offset ≤ 2 ^ 126 + 2 ^ 15 }
-    ensures value { result ≡ bytes_at (header_in memory.entry) (bytes_in memory.entry.stack.now) region bytes (place_of region bytes offset) }
+    ensures value { result ≡ number_seen memory.entry region bytes offset }
     ensures bound { IfSome result (λ n. n < 256 ^ bytes) }
 {
     match place_of(region, bytes, offset) {

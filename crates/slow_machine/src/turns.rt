@@ -3,8 +3,8 @@
 ghost use Rattle.std.specs.Prelude.{◌≡◌, ◌+◌, ◌<◌, ◌≤◌};
 ghost use Rattle.slow_machine.specs.Bytes.{bytes_in};
 ghost use Rattle.machine.specs.Memory.{byte_after};
-ghost use Rattle.slow_machine.specs.Effects.{outcome_of, IsPlaced};
-ghost use Rattle.slow_machine.specs.Machine.{state_with, IsTurn};
+ghost use Rattle.slow_machine.specs.Effects.{IsPlaced};
+ghost use Rattle.slow_machine.specs.Machine.{state_with, IsTurnOf};
 
 use crate::effects::Effect;
 use bpf_insn::REGISTERS;
@@ -44,7 +44,8 @@ pub fn apply(
 ) -> Turn
     requires inside { slot.old < 512 }
     requires placed { IsPlaced effect }
-    ensures { IsTurn (outcome_of (state_with slot.old registers.old stack.old) effect) result (state_with slot.old registers.old stack.old) (state_with slot.new registers.new stack.new) }
+    ensures { IsTurnOf effect result (state_with slot.old registers.old stack.old)
+        (state_with slot.new registers.new stack.new) }
 {
     match effect {
         Effect::Write {

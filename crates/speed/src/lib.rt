@@ -9,6 +9,7 @@ mod packets;
 use bpf::Image;
 use brun::run;
 use bver::{Accepted, MapSizes, verify};
+use cells::Cells;
 use rcrc::crc_more;
 use std::alloc::Global;
 
@@ -66,11 +67,17 @@ pub extern "C" fn speed_run(alloc: Global, image: &[u8], header: &[u8], rounds: 
     let Some((tail, _)) = rest.split_first_chunk::<12>() else {
         return REFUSED;
     };
+    let Ok((_cells, mut seats)) = Cells::new(alloc, &program.sizes(), 1) else {
+        return REFUSED;
+    };
+    let Some(seat) = seats.first_mut() else {
+        return REFUSED;
+    };
     let mut stack = [0; 512];
     let mut sum: u64 = 0;
     for round in 0..rounds {
         let port = (round % 32) as u8;
-        sum = sum.wrapping_add(run(&program, front, tail, port, &mut stack));
+        sum = sum.wrapping_add(run(&program, front, tail, port, &mut stack, seat));
     }
     sum
 }

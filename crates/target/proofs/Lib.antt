@@ -2,3 +2,4 @@ pub mod Places
 pub mod Makings
 pub mod Pairings
 pub mod Services
+pub mod Askings

@@ -14,13 +14,16 @@ use Rattle.rmap.specs.declared.places.Place.TheVariants.{Bank}
 use Rattle.rmap.specs.Command.{CommandValue, command_of, extended_of}
 use Rattle.rmap.specs.Windows.{WindowsValue, bank_place, lies_inside}
 use Rattle.bver.specs.Justified.{AcceptedValue}
+use Rattle.bank.specs.declared.bank.Applied.{Applied}
 use Rattle.bank.specs.Laws.{ExtentsStay}
-use Rattle.bank.specs.Records.{BankValue, ShareValue, JudgedValue, extent_of, after_command, after_record, answer_of, has_room, next_share, first_share}
+use Rattle.bank.specs.Records.{BankValue, ShareValue, JudgedValue, extent_of, after_command, after_record, answer_of, has_room, next_share, first_share, is_next, fits}
 use Rattle.target.specs.declared.config.BankConfig.{BankConfig}
-use Rattle.target.specs.Passes.{PassValue}
+use base.Stored.{Gv}
+use Rattle.machine.specs.declared.calls.Call.{Call}
+use Rattle.target.specs.Passes.{PassValue, pass_after}
 use Rattle.target.specs.Nodes.{bank_of, first_pass, range_of}
-use Rattle.target.specs.Steps.{is_in_bank}
-use Rattle.target.specs.Applied.{share_of, with_share}
+use Rattle.target.specs.Steps.{is_in_bank, IsBankBelow}
+use Rattle.target.specs.Applied.{share_of, with_share, IsFinished}
 use Rattle.target.specs.Pairs.{IsShareOf, IsPaired, MadeArePaired, PairedCommandsFit, OwnStaysPaired, OthersStayPaired}
 use Rattle.target.proofs.Places.{no_bank, same_bank}
 
@@ -60,6 +63,32 @@ own_share b share j port h same =
           (h.0, next_at (set b.counts j.port (share.number + 1)) share.port (share.number + 1) long count)
       | false ↦ h
     ]
+
+three : (a b c : Bool) → (a && b && c) ≡ true → (a ≡ true) × (b ≡ true)
+three true true c e = (refl, refl)
+three true false c e = absurd cc
+three false b c e = absurd cc
+
+same_port : (a b : ℕ) → eqb a b ≡ true → a ≡ b
+same_port a b e = grind (arith, nat_tests)
+
+-- a share that was written is the one that is read
+share_written : (h : PassValue) (place : Place) (share : ShareValue) → IsBankBelow place (length h.shares) → share_of (with_share h place share) place ≡ share
+share_written h place share below =
+    rw (below.1) (get_or-set_at h.shares below.0 below.0 share (first_share h.port) refl below.2)
+
+-- where a command was applied, share and count agree
+pub agrees : (old new : BankValue) (h after : PassValue) (j : JudgedValue) (result : Applied) (bytes : List ℕ) → IsBankBelow j.place (length h.shares) → IsFinished old new h after j result bytes → fits old (share_of h j.place) j ≡ true → is_next new (share_of after j.place) ≡ true
+agrees old new h after j result bytes below finished fit =
+    let share = share_of h j.place in
+    let end = finished.applied fit in
+    let tests = three (eqb share.port j.port) (is_next old share) (lies_inside old.first (length old.bytes) (command_of j.packet)) fit in
+    let own = own_share old share j share.port (refl, tests.1) (sym (same_port share.port j.port tests.0)) in
+    let next : is_next (after_command old share j) (next_share old share j) ≡ true = own.1 in
+    let written : share_of (with_share h j.place (next_share old share j)) j.place ≡ next_share old share j = share_written h j.place (next_share old share j) below in
+    let bank : is_next new (next_share old share j) ≡ true = subst (λ b. is_next b (next_share old share j) ≡ true) (sym end.bank) next in
+    let read : is_next new (share_of (with_share h j.place (next_share old share j)) j.place) ≡ true = subst (λ s. is_next new s ≡ true) (sym written) bank in
+    subst (λ x. is_next new (share_of x j.place) ≡ true) (sym end.shares) read
 
 -- a share of another port is the next one still
 other_share : (b : BankValue) (share : ShareValue) (j : JudgedValue) (port : ℕ) (other : ShareValue) → IsShareOf b port other → port ≢ j.port → IsShareOf (after_command b share j) port other
@@ -153,7 +182,7 @@ extent_at banks k b range at window =
     some_same range (extent_of b) (sym window ∙ slice_get-map extent_of banks k ∙ ap (option_map extent_of) at)
 
 pub paired_commands_fit : PairedCommandsFit
-paired_commands_fit banks h program generation k p j b paired judged place at =
+paired_commands_fit banks h program generation k calls p j b paired judged place at =
     let share = paired.shares k b at in
     let found = in_window h.windows (command_of p) k (slice_get h.windows.banks (extended_of (command_of p))) refl (judged.placed.lies ∙ ap (λ x. Some x) place) in
     let window : slice_get (map extent_of banks) k ≡ Some found.range = subst (λ l. slice_get l k ≡ Some found.range) paired.windows found.window in
@@ -166,6 +195,10 @@ paired_commands_fit banks h program generation k p j b paired judged place at =
   where
     same_ports : (a b : ℕ) → a ≡ b → eqb a b ≡ true
     same_ports a b e = grind (arith, nat_tests)
+
+-- what programs asked says nothing of banks and shares
+pub asked_paired : (banks : List BankValue) (h : PassValue) (calls : List Call) → IsPaired banks h → IsPaired banks (pass_after h calls)
+asked_paired banks h calls paired = record { count = paired.count; windows = paired.windows; shares = paired.shares }
 
 -- as banks and ports are made
 windows_made : (ports : ℕ) (banks : List BankConfig) → map range_of banks ≡ map extent_of (map (bank_of ports) banks)
@@ -186,8 +219,8 @@ share_made ports port k banks b (Some bank) below at e =
     let share : get_or (replicate (length banks) (first_share port)) k (first_share port) ≡ first_share port = get_or-replicate (length banks) k (first_share port) (first_share port) within in
     rw (is, share) (fresh_share ports port bank below)
 
-one_paired : (address ports : ℕ) (banks : List BankConfig) (program : AcceptedValue) (port : ℕ) → port < ports → IsPaired (map (bank_of ports) banks) (first_pass address banks program port)
-one_paired address ports banks program port below = record {
+one_paired : (address ports : ℕ) (banks : List BankConfig) (program : AcceptedValue) (home : Gv) (port : ℕ) → port < ports → IsPaired (map (bank_of ports) banks) (first_pass address banks program home port)
+one_paired address ports banks program home port below = record {
   count = length-replicate (length banks) (first_share port) ∙ sym (length-map banks (bank_of ports));
   windows = windows_made ports banks;
   shares = λ k b found. share_made ports port k banks b (slice_get banks k) below refl (sym found ∙ slice_get-map (bank_of ports) banks k);
@@ -205,12 +238,12 @@ made_at f ports k h found =
     record { pass = sym (get_or_from_slice_get passes k h h found) ∙ get_or-map-range_with_len f 0 ports k k h below (omega arith); below = below }
 
 pub made_are_paired : MadeArePaired
-made_are_paired address ports banks program =
-    let f = first_pass address banks program in
+made_are_paired address ports banks program home =
+    let f = first_pass address banks program home in
     record {
       each = λ k h found.
           let made = made_at f ports k h found in
-          rw (made.pass) (one_paired address ports banks program k made.below);
+          rw (made.pass) (one_paired address ports banks program home k made.below);
       ports = λ k h found.
           let made = made_at f ports k h found in
           rw (made.pass) refl;

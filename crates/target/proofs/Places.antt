@@ -1,5 +1,5 @@
 -- A bank that a command has as its place is one of the node's.
-use Rattle.std.proofs.Common.{◌≡◌, ℕ, ◌<◌, Bool, true, false, cond, eqb, ◌&&◌, length, Option, None, Some, refl, sym, ap, ◌∙◌}
+use Rattle.std.proofs.Common.{◌≡◌, ℕ, ◌<◌, Bool, true, false, cond, eqb, length, Option, None, Some, refl, sym, ap, ◌∙◌}
 use Rattle.std.specs.Prelude.{slice_get}
 use Rattle.std.proofs.lemmas.Option.{slice_get_within}
 use Rattle.rmap.specs.declared.kind.Kind.{Kind}
@@ -8,7 +8,7 @@ use Rattle.rmap.specs.declared.places.Place.{Place}
 use Rattle.rmap.specs.declared.places.Place.TheVariants.{Bank, Staging, LoadResult, Control}
 use Rattle.rmap.specs.Command.{CommandValue, extended_of, command_kind}
 use Rattle.rmap.specs.Windows.{WindowsValue, place_of, bank_place, boot_place, register_of, is_register, is_staged, lies_inside}
-use Rattle.target.specs.Steps.{is_in_bank, is_served, is_read, IsBankBelow}
+use Rattle.target.specs.Steps.{is_in_bank, is_served, IsBankBelow}
 
 either : (b : Bool) (x y : Option Place) → is_in_bank x ≡ false → is_in_bank y ≡ false → is_in_bank (cond b x y) ≡ false
 either true x y h k = h
@@ -32,12 +32,8 @@ bank_below : (w : WindowsValue) (c : CommandValue) (place : Place) (found : Opti
 bank_below w c place None e h served = let both : true ≡ false = sym served ∙ no_bank c in absurd cc
 bank_below w c place (Some bank) e h served = (extended_of c, in_bank (extended_of c) (lies_inside bank.0 bank.1 c) place h, slice_get_within w.banks (extended_of c) bank e)
 
-second : (a b : Bool) → (a && b) ≡ true → b ≡ true
-second true b e = e
-second false b e = absurd cc
-
 pub served_bank : (w : WindowsValue) (c : CommandValue) (place : Place) → is_served c w ≡ true → place_of c w ≡ Some place → IsBankBelow place (length w.banks)
-served_bank w c place served h = bank_below w c place (slice_get w.banks (extended_of c)) refl h (second (is_read (command_kind c)) (is_in_bank (place_of c w)) served)
+served_bank w c place served h = bank_below w c place (slice_get w.banks (extended_of c)) refl h served
 
 number_of : Place → ℕ
 number_of (Bank k) = k

@@ -1,6 +1,7 @@
 pub mod Codes
 pub mod Passes
 pub mod Steps
+pub mod Slots
 pub mod Nodes
 pub mod Applied
 pub mod Loans

@@ -1,10 +1,11 @@
 -- How a node is made of its configuration.
-use Rattle.std.specs.Prelude.{◌≡◌, ◌<◌, ℕ, List, [], ◌∷◌, ◌++◌, map, length, slice_index_or, replicate, Bool, ◌&&◌, not, nat_le, Option, None, Some, if◌then◌else◌}
+use Rattle.std.specs.Prelude.{◌≡◌, ◌<◌, ℕ, List, [], ◌∷◌, ◌++◌, map, length, slice_index, slice_index_or, replicate, Bool, ◌&&◌, not, nat_le, Option, None, Some, if◌then◌else◌}
 use Rattle.rmap.specs.Windows.{WindowsValue}
 use Rattle.std.specs.List.{list_all, range_with_len}
 use Rattle.bver.specs.Justified.{AcceptedValue}
 use Rattle.bank.specs.Limits.{is_bank_size, is_ports}
 use Rattle.bank.specs.Records.{BankValue, ShareValue, first_share, fresh_bank}
+use base.Stored.{Gv}
 use Rattle.target.specs.Passes.{PassValue}
 use Rattle.target.specs.declared.config.BankConfig.{BankConfig}
 use Rattle.target.specs.declared.config.NodeConfig.{NodeConfig}
@@ -41,20 +42,26 @@ fresh_banks ports banks = map (bank_of ports) banks
 abbrev pub AreSharesOf : List BankConfig → ℕ → List (List ShareValue) → Type 0
 AreSharesOf banks ports by_port = ArePortShares (length banks) ports by_port
 
--- what a port has of its node at first: the factory program, of generation 0
-abbrev pub first_pass : ℕ → List BankConfig → AcceptedValue → ℕ → PassValue
-first_pass address banks program port = record {
+-- what a port has of its node at first: the factory program, of generation 0, and a seat at the cells of
+-- that name, for the program's maps, of which nothing was asked
+abbrev pub first_pass : ℕ → List BankConfig → AcceptedValue → Gv → ℕ → PassValue
+first_pass address banks program home port = record {
   port = port;
   windows = windows_of address banks;
   program = program;
   generation = 0;
+  seat = record { sizes = program.sizes; home = home; asked = [] };
   shares = replicate (length banks) (first_share port);
 }
 
 -- what the ports of a node have of it at first, in order
-abbrev pub first_passes : NodeConfig → AcceptedValue → List PassValue
-first_passes config program =
-    map (first_pass config.address config.banks.now program) (range_with_len 0 config.ports)
+abbrev pub first_passes : NodeConfig → AcceptedValue → Gv → List PassValue
+first_passes config program home =
+    map (first_pass config.address config.banks.now program home) (range_with_len 0 config.ports)
+
+-- each number is its place
+abbrev pub AreNumbered : List ℕ → Type 0
+AreNumbered numbers = (k : ℕ) → k < length numbers → slice_index numbers k ≡ k
 
 -- whether a bank is within its limits
 abbrev pub is_within : BankConfig → Bool

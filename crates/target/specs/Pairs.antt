@@ -4,6 +4,8 @@ use Rattle.std.specs.List.{range_with_len}
 use Rattle.spw.specs.Cargo.{Cargo}
 use Rattle.rmap.specs.declared.places.Place.TheVariants.{Bank}
 use Rattle.bver.specs.Justified.{AcceptedValue}
+use base.Stored.{Gv}
+use Rattle.machine.specs.declared.calls.Call.{Call}
 use Rattle.bank.specs.Records.{BankValue, ShareValue, JudgedValue, extent_of, is_next, fits, after_command, next_share}
 use Rattle.target.specs.declared.config.BankConfig.{BankConfig}
 use Rattle.target.specs.Passes.{PassValue}
@@ -29,14 +31,14 @@ pub record ArePaired (banks : List BankValue) (passes : List PassValue) : Type 0
 -- the banks and the passes of all ports are paired as they are made
 abbrev pub MadeArePaired : Type 0
 MadeArePaired =
-    (address ports : ℕ) (banks : List BankConfig) (program : AcceptedValue)
-    → ArePaired (map (bank_of ports) banks) (map (first_pass address banks program) (range_with_len 0 ports))
+    (address ports : ℕ) (banks : List BankConfig) (program : AcceptedValue) (home : Gv)
+    → ArePaired (map (bank_of ports) banks) (map (first_pass address banks program home) (range_with_len 0 ports))
 
 -- where banks and a port are paired, a command that was judged for the port fits the bank of its place
 abbrev pub PairedCommandsFit : Type 0
 PairedCommandsFit =
-    (banks : List BankValue) (h : PassValue) (program : AcceptedValue) (generation k : ℕ) (p : Cargo) (j : JudgedValue) (b : BankValue)
-    → IsPaired banks h → IsJudgedFor program generation h.port h.windows p j
+    (banks : List BankValue) (h : PassValue) (program : AcceptedValue) (generation k : ℕ) (calls : List Call) (p : Cargo) (j : JudgedValue) (b : BankValue)
+    → IsPaired banks h → IsJudgedFor program generation h.port h.windows calls p j
     → j.place ≡ Bank k → slice_get banks k ≡ Some b → fits b (share_of h j.place) j ≡ true
 
 -- a command that is applied with the port's share leaves the port paired

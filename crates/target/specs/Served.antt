@@ -7,7 +7,8 @@ use Rattle.bank.specs.declared.bank.Applied.{Applied}
 use Rattle.bank.specs.Records.{BankValue, ShareValue, JudgedValue, fits}
 use Rattle.target.specs.declared.served.Served.{Served}
 use Rattle.target.specs.declared.served.Served.TheVariants.{Stopped, Unread, Done}
-use Rattle.target.specs.Passes.{PassValue}
+use Rattle.machine.specs.declared.calls.Call.{Call}
+use Rattle.target.specs.Passes.{PassValue, pass_after}
 use Rattle.target.specs.Steps.{is_served, IsStopped, IsUnread, IsJudgedFor}
 use Rattle.target.specs.Applied.{share_of, IsApplied, IsRefused}
 
@@ -25,17 +26,19 @@ pub record IsEnded (before behind : BankValue) (share : ShareValue) (holder afte
   pub applied : fits before share judged ≡ true → IsApplied before behind share holder after judged result bytes
   pub refused : fits before share judged ≡ false → IsRefused before behind holder after judged result bytes
 
--- the command was judged, and ended so at the bank of its place alone
+-- the command was judged in one run, of which the port has the calls, and ended so at the bank of its
+-- place alone
 pub record IsDone (Ends : Ending) (old new : List BankValue) (holder after : PassValue) (p : Cargo) (result : Applied) (bytes : List ℕ) : Type 0 where
   pub judged : JudgedValue
+  pub calls : List Call
   pub number : ℕ
   pub before : BankValue
   pub behind : BankValue
-  pub judged_for : IsJudgedFor holder.program holder.generation holder.port holder.windows p judged
+  pub judged_for : IsJudgedFor holder.program holder.generation holder.port holder.windows calls p judged
   pub place : judged.place ≡ Bank number
   pub bank : slice_get old number ≡ Some before
   pub node : new ≡ slice_set old number behind
-  pub ended : Ends before behind (share_of holder judged.place) holder after judged result bytes
+  pub ended : Ends before behind (share_of (pass_after holder calls) judged.place) (pass_after holder calls) after judged result bytes
 
 -- what becomes of a packet, of the banks and of the port, and the reply that is due, where commands
 -- end so

@@ -1,13 +1,11 @@
 -- What becomes of a packet before memory is touched.
-use Rattle.std.specs.Prelude.{◌≡◌, ◌<◌, ℕ, Bool, true, false, ◌&&◌, List, [], Option, None, Some}
+use Rattle.std.specs.Prelude.{◌≡◌, ◌<◌, ℕ, Bool, true, false, List, [], Option, None, Some}
 use Rattle.spw.specs.Cargo.{Cargo}
-use Rattle.rmap.specs.declared.kind.Kind.{Kind}
-use Rattle.rmap.specs.declared.kind.Kind.TheVariants.{Read, Write, Rmw, Unused}
 use Rattle.rmap.specs.declared.places.Place.{Place}
 use Rattle.rmap.specs.declared.places.Place.TheVariants.{Bank, Staging, LoadResult, Control}
 use Rattle.rmap.specs.declared.status.Status.{Status}
 use Rattle.rmap.specs.declared.status.Status.TheVariants.{GeneralError}
-use Rattle.rmap.specs.Command.{CommandValue, command_kind, command_of, discard_of}
+use Rattle.rmap.specs.Command.{CommandValue, command_of, discard_of}
 use Rattle.rmap.specs.Windows.{WindowsValue, place_of}
 use Rattle.rmap.specs.Checks.{header_line}
 use Rattle.rmap.specs.Reply.{reply_of}
@@ -15,18 +13,12 @@ use Rattle.bver.specs.Justified.{AcceptedValue}
 use Rattle.bank.specs.Admission.{IsPlacedBy}
 use Rattle.bank.specs.Records.{AdmittedValue, JudgedValue, judgement}
 use Rattle.brun.specs.Runs.{header, RunsWithin}
-use Rattle.target.specs.Passes.{PassValue}
+use Rattle.machine.specs.declared.calls.Call.{Call}
+use Rattle.target.specs.Passes.{PassValue, BearingValue, bearing_after, pass_after}
 use Rattle.target.specs.declared.step.Step.{Step}
 use Rattle.target.specs.declared.step.Step.TheVariants.{Discarded, Answered, Unread, Judged}
 use Rattle.target.specs.declared.stop.Stop.{Stop}
 use Rattle.target.specs.declared.stop.Stop.TheVariants.{Discarded as NoCommand, Answered as Fault}
-
--- whether it is a read
-abbrev pub is_read : Kind → Bool
-is_read Read = true
-is_read Write = false
-is_read Rmw = false
-is_read Unused = false
 
 -- whether the place is a bank
 abbrev pub is_in_bank : Option Place → Bool
@@ -36,13 +28,9 @@ is_in_bank (Some LoadResult) = false
 is_in_bank (Some Control) = false
 is_in_bank None = false
 
--- what the node serves so far of the commands with that place: reads of banks
-abbrev pub is_served_at : CommandValue → Option Place → Bool
-is_served_at c place = is_read (command_kind c) && is_in_bank place
-
--- what the node serves so far
+-- what the node serves so far of the commands that no check of the header stops: those to its banks
 abbrev pub is_served : CommandValue → WindowsValue → Bool
-is_served c w = is_served_at c (place_of c w)
+is_served c w = is_in_bank (place_of c w)
 
 -- the packet is a command, and no check of its header holds
 pub record IsAllowed (p : Cargo) (w : WindowsValue) : Type 0 where
@@ -74,34 +62,55 @@ pub record IsUnread (p : Cargo) (w : WindowsValue) (reply : List ℕ) : Type 0 w
 abbrev pub IsBankBelow : Place → ℕ → Type 0
 IsBankBelow place n = (k : ℕ) × (place ≡ Bank k) × (k < n)
 
--- the program has a run within its budget on the command's header, for that port, that ends with that
--- verdict
-abbrev pub IsVerdictOn : AcceptedValue → ℕ → CommandValue → ℕ → Type 0
-IsVerdictOn program port c verdict = RunsWithin program.program (header c.front c.tail) port verdict
+-- the program has a run within its budget on the command's header, for that port and with those calls,
+-- that ends with that verdict
+abbrev pub IsVerdictOn : AcceptedValue → ℕ → List Call → CommandValue → ℕ → Type 0
+IsVerdictOn program port calls c verdict =
+    RunsWithin program.program (header c.front c.tail) port calls verdict
 
 -- the same of the command of a packet
-abbrev pub IsVerdict : AcceptedValue → ℕ → Cargo → ℕ → Type 0
-IsVerdict program port p verdict = IsVerdictOn program port (command_of p) verdict
+abbrev pub IsVerdict : AcceptedValue → ℕ → List Call → Cargo → ℕ → Type 0
+IsVerdict program port calls p verdict = IsVerdictOn program port calls (command_of p) verdict
 
--- the admitted command, judged for that port by the program of that generation
-pub record IsJudgedBy (program : AcceptedValue) (generation port : ℕ) (admitted : AdmittedValue) (j : JudgedValue) : Type 0 where
+-- the program had one run on the command's header, which asked what the bearing's port asked more, and
+-- ended with that verdict
+pub record HasRun (program : AcceptedValue) (old new : BearingValue) (c : CommandValue) (verdict : ℕ) : Type 0 where
+  pub calls : List Call
+  pub asked : new ≡ bearing_after old calls
+  pub run : IsVerdictOn program old.port calls c verdict
+
+-- the admitted command, judged for that port by the program of that generation, in a run with those calls
+pub record IsJudgedBy (program : AcceptedValue) (generation port : ℕ) (calls : List Call) (admitted : AdmittedValue) (j : JudgedValue) : Type 0 where
   pub judged : j ≡ judgement admitted port generation j.verdict
-  pub verdict : IsVerdict program port admitted.packet j.verdict
+  pub verdict : IsVerdict program port calls admitted.packet j.verdict
+
+-- the admitted command was judged in one run, and the bearing's port asked what that run asked
+pub record IsJudgedOnce (program : AcceptedValue) (generation : ℕ) (old new : BearingValue) (admitted : AdmittedValue) (j : JudgedValue) : Type 0 where
+  pub calls : List Call
+  pub asked : new ≡ bearing_after old calls
+  pub judged : IsJudgedBy program generation old.port calls admitted j
 
 -- the command of the packet as it came, with its place under those windows, judged for that port by
--- the program of that generation
-pub record IsJudgedFor (program : AcceptedValue) (generation port : ℕ) (w : WindowsValue) (p : Cargo) (j : JudgedValue) : Type 0 where
+-- the program of that generation, in a run with those calls
+pub record IsJudgedFor (program : AcceptedValue) (generation port : ℕ) (w : WindowsValue) (calls : List Call) (p : Cargo) (j : JudgedValue) : Type 0 where
   pub packet : j.packet ≡ p
   pub placed : IsPlacedBy w p j.place
   pub port_of : j.port ≡ port
   pub generation_of : j.generation ≡ generation
-  pub verdict : IsVerdict program port p j.verdict
+  pub verdict : IsVerdict program port calls p j.verdict
 
--- how far a packet comes by itself, and the reply that is due then
-abbrev pub IsStep : Step → Cargo → PassValue → List ℕ → Type 0
-IsStep (Discarded d back) p h reply = (back ≡ p) × IsStopped (NoCommand d) p h.windows reply
-IsStep (Answered status back) p h reply = (back ≡ p) × IsStopped (Fault status) p h.windows reply
-IsStep (Unread back) p h reply = (back ≡ p) × IsUnread p h.windows reply
-IsStep (Judged j) p h reply =
-    IsJudgedFor h.program h.generation h.port h.windows p j
+-- the command of the packet was judged in one run, and the port asked what that run asked
+pub record IsJudgement (h after : PassValue) (p : Cargo) (j : JudgedValue) : Type 0 where
+  pub calls : List Call
+  pub asked : after ≡ pass_after h calls
+  pub judged_for : IsJudgedFor h.program h.generation h.port h.windows calls p j
+
+-- how far a packet comes by itself, what becomes of the port, and the reply that is due then: no
+-- program runs but for a command that is judged, and for that one it runs once
+abbrev pub IsStep : Step → Cargo → (before after : PassValue) → List ℕ → Type 0
+IsStep (Discarded d back) p h after reply = (back ≡ p) × (after ≡ h) × IsStopped (NoCommand d) p h.windows reply
+IsStep (Answered status back) p h after reply = (back ≡ p) × (after ≡ h) × IsStopped (Fault status) p h.windows reply
+IsStep (Unread back) p h after reply = (back ≡ p) × (after ≡ h) × IsUnread p h.windows reply
+IsStep (Judged j) p h after reply =
+    IsJudgement h after p j
     × (is_served (command_of p) h.windows ≡ true) × (reply ≡ [])

@@ -1,19 +1,17 @@
 //! The second half of a packet's way: its effect.
 
-ghost use Rattle.std.specs.Prelude.{◌≡◌, length};
+ghost use Rattle.std.specs.Prelude.{◌≡◌, length, true};
+ghost use Rattle.bank.specs.Records.{fits, is_next};
 ghost use Rattle.target.specs.Steps.{IsBankBelow};
-ghost use Rattle.target.specs.Applied.{IsFinished};
+ghost use Rattle.target.specs.Applied.{IsFinished, share_of};
 
 use crate::pass::Pass;
 use bank::{Applied, Bank, Judged};
 use rmap::{Place, ReplyBuf};
 
-/// Applies a judged command to the bank of its place, with the port's share of it, and leaves the
-/// reply. Where [`Bank::fits`] says no, it is a general error, and nothing changes: that does not
-/// happen where bank and pass were made together ([`paired_commands_fit`](crate::paired_commands_fit)).
-pub fn finish(pass: &mut Pass, bank: &mut Bank, judged: Judged, reply: &mut ReplyBuf) -> Applied
+/// How a judged command ends at the bank of its place.
+fn end(pass: &mut Pass, bank: &mut Bank, judged: Judged, reply: &mut ReplyBuf) -> Applied
     requires { IsBankBelow judged.place (length pass.old.shares) }
-
     ensures finished { IsFinished bank.old bank.new pass.old pass.new judged result reply.new }
     ensures kept { length pass.new.shares ≡ length pass.old.shares }
 {
@@ -28,4 +26,20 @@ pub fn finish(pass: &mut Pass, bank: &mut Bank, judged: Judged, reply: &mut Repl
         };
     }
     bank.apply(&mut pass.shares[k], judged, reply)
+}
+
+/// Applies a judged command to the bank of its place, with the port's share of it, and leaves the
+/// reply. Where [`Bank::fits`] says no, it is a general error, and nothing changes: that does not
+/// happen where bank and pass were made together ([`paired_commands_fit`](crate::paired_commands_fit)).
+pub fn finish(pass: &mut Pass, bank: &mut Bank, judged: Judged, reply: &mut ReplyBuf) -> Applied
+    requires { IsBankBelow judged.place (length pass.old.shares) }
+
+    ensures finished { IsFinished bank.old bank.new pass.old pass.new judged result reply.new }
+    ensures kept { length pass.new.shares ≡ length pass.old.shares }
+
+    // Where it is applied, share and count agree before, and so they do afterwards.
+    ensures agrees { fits bank.old (share_of pass.old judged.place) judged ≡ true
+        → is_next bank.new (share_of pass.new judged.place) ≡ true }
+{
+    end(pass, bank, judged, reply)
 }

@@ -137,6 +137,13 @@ impl Banks {
         Ok((Banks { banks }, by_port))
     }
 
+    /// The banks, by number.
+    pub(crate) fn into_banks(self) -> Vec<Bank>
+        ensures { result.items ≡ self }
+    {
+        self.banks
+    }
+
     /// How many banks there are.
     pub fn len(&self) -> usize
         ensures { result ≡ length self.now }

@@ -1,7 +1,9 @@
 //! What a run needs of a port.
 
 ghost use Rattle.std.specs.Prelude.{◌≡◌, ◌<◌};
+ghost use Rattle.target.specs.Passes.{seat_of};
 
+use cells::CellSeat;
 use rmap::Windows;
 use spw::PORTS;
 use std::marker::Model;
@@ -9,36 +11,38 @@ use std::marker::Model;
 /// The bytes of a program's stack.
 pub(crate) const STACK: usize = 512;
 
-/// What a run needs of a port: its number, the windows of its node, and the stack of the programs
-/// that run for it.
-#[derive(Debug, Drop)]
+/// What a run needs of a port: its number, the windows of its node, its seat at the node's counters, and
+/// the stack of the programs that run for it.
+#[derive(Drop)]
 pub struct Bearing {
     pub(crate) port: u8,
     pub(crate) windows: Windows,
+    pub(crate) seat: CellSeat,
     pub(crate) stack: [u8; STACK],
 }
 
 impl Model for Bearing {
     ghost use Rattle.std.specs.Prelude.{◌<◌};
-    ghost use Rattle.target.specs.Passes.{BearingValue};
+    ghost use Rattle.target.specs.Passes.{BearingValue, seat_of};
 
     ghost Value = { BearingValue };
 
-    ghost view = { λ b. record { port = b.port; windows = b.windows } };
+    ghost view = { λ b. record { port = b.port; windows = b.windows; seat = seat_of b.seat } };
 
     ghost invariant = { λ b. b.port < 32 };
 }
 
 impl Bearing {
-    /// The bearing of the port of that number in a node with those windows. The condition is a port
-    /// below 32.
-    pub fn new(port: u8, windows: Windows) -> Bearing
+    /// The bearing of the port of that number in a node with those windows, with that seat at its
+    /// counters. The condition is a port below 32.
+    pub fn new(port: u8, windows: Windows, seat: CellSeat) -> Bearing
         requires { port < PORTS }
-        ensures { result ≡ record { port = port; windows = windows } }
+        ensures { result ≡ record { port = port; windows = windows; seat = seat_of seat } }
     {
         Bearing {
             port,
             windows,
+            seat,
             stack: [0; STACK],
         }
     }

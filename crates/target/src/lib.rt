@@ -2,6 +2,9 @@
 //!
 //! [`serve_packet`] is the whole way of one packet: [`judge`] admits it ([`admit`]) and
 //! runs the port's program on it ([`judge_by`]), and [`finish`] applies the verdict to the bank that it names.
+//!
+//! [`banks_and_passes`] makes the plain parts of a node, which [`serve_packet`] works on. [`Node`] has locks
+//! round the same banks, so that each port may have its thread: a lock is held round [`finish`] alone.
 #![tactic(auto)]
 
 mod applied;
@@ -10,10 +13,13 @@ mod bearing;
 mod config;
 mod faults;
 mod laws;
+mod lock;
 mod node;
+mod parts;
 mod pass;
 mod served;
 mod shares;
+mod slots;
 mod step;
 mod stop;
 
@@ -23,9 +29,12 @@ pub use bearing::Bearing;
 pub use config::{BankConfig, NodeConfig};
 pub use faults::NodeFault;
 pub use laws::{made_are_paired, paired_commands_fit, pairs_stay};
+pub use lock::BankLock;
 pub use node::Node;
+pub use parts::banks_and_passes;
 pub use pass::Pass;
 pub use served::{Served, serve_packet};
 pub use shares::PortShares;
+pub use slots::slot;
 pub use step::{Step, judge, judge_by};
 pub use stop::{Stop, admit};

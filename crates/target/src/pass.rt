@@ -9,9 +9,9 @@ use bver::Accepted;
 use spw::PORTS;
 use std::marker::Model;
 
-/// What one port has of its node: its bearing, the program that judges its commands, and a share of
-/// each bank. Only [`Node::new`](crate::Node::new) makes passes.
-#[derive(Debug, Drop)]
+/// What one port has of its node: its bearing, with its seat at the counters, the program that judges
+/// its commands, and a share of each bank. Only [`banks_and_passes`](crate::banks_and_passes) makes passes.
+#[derive(Drop)]
 pub struct Pass {
     pub(crate) bearing: Bearing,
     pub(crate) program: Accepted,
@@ -20,13 +20,13 @@ pub struct Pass {
 }
 
 impl Model for Pass {
-    ghost use Rattle.target.specs.Passes.{PassValue, IsPass};
+    ghost use Rattle.target.specs.Passes.{PassValue, IsPass, pass_of};
 
     ghost Value = { PassValue };
 
-    ghost view = { λ p. record { port = p.bearing.port; windows = p.bearing.windows; program = p.program; generation = p.generation; shares = p.shares.items } };
+    ghost view = { λ p. pass_of p.bearing p.program p.generation p.shares.items };
 
-    ghost invariant = { λ p. IsPass (record { port = p.bearing.port; windows = p.bearing.windows; program = p.program; generation = p.generation; shares = p.shares.items }) };
+    ghost invariant = { λ p. IsPass (pass_of p.bearing p.program p.generation p.shares.items) };
 }
 
 impl Pass {

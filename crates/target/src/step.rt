@@ -1,8 +1,7 @@
 //! The first half of a packet's way: its verdict.
 
 ghost use Rattle.std.specs.Prelude.{◌≡◌, Some};
-ghost use Rattle.rmap.specs.Command.{command_of};
-ghost use Rattle.target.specs.Steps.{is_served_at, IsVerdictOn, IsJudgedBy, IsStep};
+ghost use Rattle.target.specs.Steps.{is_in_bank, HasRun, IsJudgedOnce, IsStep};
 
 use crate::bearing::Bearing;
 use crate::pass::Pass;
@@ -10,7 +9,7 @@ use crate::stop::{Stop, admit};
 use bank::{Admitted, Judged};
 use brun::run;
 use bver::Accepted;
-use rmap::{Command, Discard, Kind, Place, ReplyBuf, Status, put_reply};
+use rmap::{Command, Discard, Place, ReplyBuf, Status, put_reply};
 use spw::Packet;
 
 /// How far a packet came by itself. Each step but `Judged` hands the packet back as it came.
@@ -21,23 +20,23 @@ pub enum Step {
     /// A check of the header holds: its status is the reply's, and no program was run.
     Answered(Status, Packet),
     /// The node has nothing that serves the command: the reply is a general error, and no program
-    /// was run. So far these are writes, read-modify-writes and the boot window.
+    /// was run. So far these are the commands to the boot window.
     Unread(Packet),
     /// The program gave its verdict; the reply is still to come.
     Judged(Judged),
 }
 
-/// Whether the node serves the command: so far, whether it is a read of a bank.
+/// Whether the node serves the command: so far, whether its bytes lie in a bank.
 fn is_served(admitted: &Admitted) -> bool
-    ensures { result ≡ is_served_at (command_of admitted.now.packet) (Some admitted.now.place) }
+    ensures { result ≡ is_in_bank (Some admitted.now.place) }
 {
-    matches!(admitted.command().kind(), Kind::Read) && matches!(admitted.place(), Place::Bank(_))
+    matches!(admitted.place(), Place::Bank(_))
 }
 
-/// The verdict of the program on the header of the command.
+/// The verdict of the program on the header of the command: one run.
 fn verdict(bearing: &mut Bearing, program: &Accepted, command: &Command) -> u64
-    ensures bearing { bearing.new ≡ bearing.old }
-    ensures verdict { IsVerdictOn program.now bearing.old.port command.now result }
+    requires { bearing.old.seat.sizes ≡ program.now.sizes }
+    ensures { HasRun program.now bearing.old bearing.new command.now result }
 {
     run(
         program,
@@ -45,19 +44,20 @@ fn verdict(bearing: &mut Bearing, program: &Accepted, command: &Command) -> u64
         command.tail(),
         bearing.port,
         &mut bearing.stack,
+        &mut bearing.seat,
     )
 }
 
 /// Judges an admitted command by the program of that generation: one run on its header, for the
-/// bearing's port.
+/// bearing's port. The condition is a program that was accepted for the maps of the bearing's counters.
 pub fn judge_by(
     bearing: &mut Bearing,
     program: &Accepted,
     generation: u32,
     admitted: Admitted,
 ) -> Judged
-    ensures bearing { bearing.new ≡ bearing.old }
-    ensures judged { IsJudgedBy program.now generation bearing.old.port admitted result }
+    requires { bearing.old.seat.sizes ≡ program.now.sizes }
+    ensures { IsJudgedOnce program.now generation bearing.old bearing.new admitted result }
 {
     let verdict = verdict(bearing, program, &admitted.command());
     Judged::of(admitted, bearing.port, generation, verdict)
@@ -66,8 +66,7 @@ pub fn judge_by(
 /// Judges a packet: discards it, answers it by its header, or runs the port's program on the header
 /// of its command. `reply` holds the reply that is due then, if any.
 pub fn judge(pass: &mut Pass, packet: Packet, reply: &mut ReplyBuf) -> Step
-    ensures pass { pass.new ≡ pass.old }
-    ensures step { IsStep result packet pass.old reply.new }
+    ensures step { IsStep result packet pass.old pass.new reply.new }
 {
     let admitted = match admit(packet, &pass.bearing.windows, reply) {
         Ok(admitted) => admitted,

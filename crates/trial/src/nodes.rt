@@ -6,7 +6,9 @@ use rmap::ReplyBuf;
 use spw::{Packet, read_line};
 use std::alloc::Global;
 use std::test::Fail;
-use target::{BankConfig, Node, NodeConfig, NodeFault, Pass, Served, serve_packet};
+use target::{
+    BankConfig, Banks, NodeConfig, NodeFault, Pass, Served, banks_and_passes, serve_packet,
+};
 
 /// The address of the bank's first byte.
 pub const BASE: u32 = 0xA000_0000;
@@ -43,31 +45,33 @@ pub fn program(alloc: Global, verdict: u8) -> Result<Accepted, Fail> {
     Ok(verify(alloc, image, &MapSizes::new(&[])?)?)
 }
 
-/// A node of logical address 0xFE without maps, whose ports have that program, and their passes.
+/// The plain banks of a node of logical address 0xFE without maps, and the passes of its ports, which
+/// have that program.
 pub fn node(
     alloc: Global,
     ports: u8,
     banks: &[BankConfig],
     factory: Accepted,
-) -> Result<(Node, Vec<Pass>), NodeFault> {
+) -> Result<(Banks, Vec<Pass>), NodeFault> {
     let config = NodeConfig {
         address: 0xFE,
         ports,
         banks,
         sizes: factory.sizes(),
     };
-    Node::new(alloc, &config, factory)
+    let (banks, _cells, passes) = banks_and_passes(alloc, &config, factory)?;
+    Ok((banks, passes))
 }
 
 /// What becomes of the packet at the pass's port. It fails where the pass is that of another node.
 pub fn served(
-    node: &mut Node,
+    banks: &mut Banks,
     pass: &mut Pass,
     packet: Packet,
     reply: &mut ReplyBuf,
 ) -> Result<Served, Fail> {
-    if pass.banks() != node.banks() {
+    if pass.banks() != banks.len() {
         return Err("another number of banks".into());
     }
-    Ok(serve_packet(node.plain_banks_mut(), pass, packet, reply))
+    Ok(serve_packet(banks, pass, packet, reply))
 }

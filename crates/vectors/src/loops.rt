@@ -1,17 +1,11 @@
 //! Programs with declared loops, as a verifier and an interpreter that were written apart answer them.
 
+use crate::{FRONT, TAIL};
 use anyhow::{Context, Result};
 use bpf::Image;
 use bver::{MapSizes, verify};
 use slow_machine::{Ending, run};
 use std::alloc::Global;
-
-/// The front and the tail of the plain read (docs/PROTOCOL.md).
-const FRONT: [u8; 4] = [0xfe, 0x01, 0x4c, 0x00];
-
-const TAIL: [u8; 12] = [
-    0x67, 0x00, 0x01, 0x00, 0xa0, 0x00, 0x00, 0x00, 0x00, 0x00, 0x10, 0xc9,
-];
 
 /// Whether a run of so many steps on the plain read at port 0, and none of fewer, ends with the verdict.
 fn ends(image: &Image, none: &MapSizes, verdict: u64, steps: u32) -> bool {

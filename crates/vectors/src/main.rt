@@ -1,27 +1,45 @@
-//! Compares instructions, whole texts and programs with loops with what independent assemblers, a verifier and an
-//! interpreter make of them.
+//! Compares instructions, whole texts, programs with loops, programs that ask counters and packets with what
+//! independent assemblers, a verifier, an interpreter and a target make of them.
 //!
 //! Each line of the input has the text of an instruction, a tab and its bytes in hexadecimal. Each line of the
 //! file `texts.txt` has an answer, a tab and the text of a program, whose lines are apart by `|`; the answer is
 //! the bytes of the image in hexadecimal, or the fault. Each line of the file `loops.txt` has an image in
 //! hexadecimal, a tab and the verifier's answer, and behind another tab the verdict and the steps of a run where it
-//! is accepted. A line that begins with `#` says where the others come from. Prints each line at which this
-//! workspace differs, and how many lines agree.
+//! is accepted. Each line of the file `calls.txt` has map sizes between the image and the answer, and the questions
+//! behind the steps. The file `packets.txt` has packet lines of two ports, and `replies.txt` has for each, in order,
+//! what is printed of it on one fresh node by the factory program. A line that begins with `#` says where the others
+//! come from. Prints each line at which this workspace differs, and how many lines agree.
 #![tactic(auto)]
 
+mod calls;
 mod loops;
+mod packets;
 
 use anyhow::{Context, Result};
 use basm::{assemble, disassemble};
 use bpf_insn::{Insn, decode, encode, text};
 use std::alloc::{AllocError, Global};
 use std::fs;
+use std::io::{self, Write};
 
 /// The file of texts.
 const TEXTS: &str = "texts.txt";
 
 /// The file of programs with loops.
 const LOOPS: &str = "loops.txt";
+
+/// The file of replies.
+const REPLIES: &str = "replies.txt";
+
+/// The file of programs that ask counters.
+const CALLS: &str = "calls.txt";
+
+/// The front and the tail of the plain read (docs/PROTOCOL.md).
+const FRONT: [u8; 4] = [0xfe, 0x01, 0x4c, 0x00];
+
+const TAIL: [u8; 12] = [
+    0x67, 0x00, 0x01, 0x00, 0xa0, 0x00, 0x00, 0x00, 0x00, 0x00, 0x10, 0xc9,
+];
 
 /// Whether the bytes are the instruction's, all of them.
 fn is_spelling(insn: &Insn, bytes: &[u8]) -> bool {
@@ -108,6 +126,39 @@ impl Tally {
     }
 }
 
+/// Compares the programs with loops, and prints where they differ.
+fn compare_loops<W: Write>(alloc: Global, table: &str, out: &mut W) -> Result<()> {
+    let mut programs = Tally::new();
+    for line in table.lines() {
+        let Some((image, row)) = line.split_once('\t') else {
+            continue;
+        };
+        let (answer, run) = row.split_once('\t').unwrap_or((row, ""));
+        if !programs.count(loops::agrees(alloc, image, answer, run)?) {
+            writeln!(out, "differs: {line}")?;
+        }
+    }
+    let Tally { agreeing, lines } = programs;
+    writeln!(out, "{agreeing} of {lines} programs with loops agree")?;
+    Ok(())
+}
+
+/// Compares the programs that ask counters, and prints where they differ.
+fn compare_calls<W: Write>(alloc: Global, table: &str, out: &mut W) -> Result<()> {
+    let mut programs = Tally::new();
+    for line in table.lines() {
+        let Some((image, row)) = line.split_once('\t') else {
+            continue;
+        };
+        if !programs.count(calls::agrees(alloc, image, row)?) {
+            writeln!(out, "differs: {line}")?;
+        }
+    }
+    let Tally { agreeing, lines } = programs;
+    writeln!(out, "{agreeing} of {lines} programs with calls agree")?;
+    Ok(())
+}
+
 fn main(rt: HostRuntime) -> Result<()> {
     let mut insns = Tally::new();
     for line in rt.lines(rt.alloc()) {
@@ -134,17 +185,19 @@ fn main(rt: HostRuntime) -> Result<()> {
     let Tally { agreeing, lines } = texts;
     println!(rt; "{agreeing} of {lines} texts agree")?;
 
-    let mut programs = Tally::new();
-    for line in fs::read_to_string(&rt, LOOPS)?.lines() {
-        let Some((image, row)) = line.split_once('\t') else {
-            continue;
-        };
-        let (answer, run) = row.split_once('\t').unwrap_or((row, ""));
-        if !programs.count(loops::agrees(rt.alloc(), image, answer, run)?) {
-            println!(rt; "differs: {line}")?;
+    let mut out = io::writer(&rt);
+    compare_loops(rt.alloc(), &fs::read_to_string(&rt, LOOPS)?, &mut out)?;
+    compare_calls(rt.alloc(), &fs::read_to_string(&rt, CALLS)?, &mut out)?;
+
+    let mut replies = Tally::new();
+    let printed = packets::printed(&rt, rt.alloc())?;
+    let mut found = printed.lines();
+    for wanted in fs::read_to_string(&rt, REPLIES)?.lines() {
+        if !replies.count(found.next() == Some(wanted)) {
+            println!(rt; "differs: {wanted}")?;
         }
     }
-    let Tally { agreeing, lines } = programs;
-    println!(rt; "{agreeing} of {lines} programs with loops agree")?;
+    let Tally { agreeing, lines } = replies;
+    println!(rt; "{agreeing} of {lines} replies agree")?;
     Ok(())
 }

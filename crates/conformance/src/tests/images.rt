@@ -1,32 +1,44 @@
 //! The program that judges.
 
-use super::{PLAIN_READ, PLAIN_REPLY, run, verdict_image};
+use super::{PLAIN_READ, run, verdict_image};
+use std::alloc::Global;
+use std::process::Abort;
 use std::test::Fail;
+use trial::Row;
+
+/// What the plain read prints under the program that always gives the verdict of a row.
+const VERDICTS: &str = "\
+0|0 67010C00FE0001000000106D0000000000000000000000000000000000 EOP
+3|0 67010C03FE000100000000B700 EOP
+C|0 67010C0CFE000100000000EB00 EOP
+A|0 67010C0AFE000100000000A600 EOP
+1|0 67010C0AFE000100000000A600 EOP
+";
 
 /// What the plain read prints under an image, and the exit status.
-const WORDS: [&str; 4] = ["judge", "--image", "image", "lines"];
+fn judged_by(alloc: Global, image: &[u8]) -> Result<(String, u8), Fail> {
+    run(
+        alloc,
+        &["judge", "--image", "image", "lines"],
+        &[("lines", PLAIN_READ.as_bytes()), ("image", image)],
+    )
+}
+
+/// Compares one row.
+fn compare_verdict(rt: &impl Abort, alloc: Global, row: &str) -> Result<(), Fail> {
+    let mut row = Row::of(row);
+    let verdict = u8::try_from(row.hexadecimal()?)?;
+    let image = verdict_image(verdict);
+    let (printed, status) = judged_by(alloc, image.as_slice())?;
+    let answer = printed.as_str().strip_suffix('\n');
+    assert_eq!(rt; (answer, status), (Some(row.part()?), 0), "at {verdict}");
+    Ok(())
+}
 
 #[test]
 fn verdicts(rt: HostRuntime) -> Result<(), Fail> {
-    for (verdict, answer) in [
-        (0, PLAIN_REPLY),
-        (3, "0 67010C03FE000100000000B700 EOP"),
-        (12, "0 67010C0CFE000100000000EB00 EOP"),
-        (10, "0 67010C0AFE000100000000A600 EOP"),
-        (1, "0 67010C0AFE000100000000A600 EOP"),
-    ] {
-        let image = verdict_image(verdict);
-        let files = [
-            ("lines", PLAIN_READ.as_bytes()),
-            ("image", image.as_slice()),
-        ];
-        let (printed, status) = run(rt.alloc(), &WORDS, &files)?;
-        assert_eq!(rt;
-            printed.as_str().strip_suffix('\n'),
-            Some(answer),
-            "at {verdict}"
-        );
-        assert_eq!(rt; status, 0);
+    for row in VERDICTS.lines() {
+        compare_verdict(&rt, rt.alloc(), row)?;
     }
     Ok(())
 }
@@ -69,10 +81,8 @@ fn refused_images(rt: HostRuntime) -> Result<(), Fail> {
             "image fault 7 slot 1\n",
         ),
     ] {
-        let files = [("lines", PLAIN_READ.as_bytes()), ("image", image)];
-        let (printed, status) = run(rt.alloc(), &WORDS, &files)?;
-        assert_eq!(rt; printed.as_str(), told);
-        assert_eq!(rt; status, 1);
+        let (printed, status) = judged_by(rt.alloc(), image)?;
+        assert_eq!(rt; (printed.as_str(), status), (told, 1));
     }
     Ok(())
 }

@@ -3,15 +3,15 @@
 use bank::Applied;
 use rmap::{ReplyBuf, Status};
 use std::test::Fail;
-use target::{Node, Served};
+use target::{Banks, Served};
 use trial::{PLAIN_READ, bank, node, packet, program, served};
 
 /// How many entries the bank's journal has, and how many of them are port 0's.
-fn recorded(node: &Node) -> Result<(usize, u64), Fail> {
-    if node.banks() == 0 {
+fn recorded(banks: &Banks) -> Result<(usize, u64), Fail> {
+    if banks.len() == 0 {
         return Err("no bank".into());
     }
-    let bank = node.plain_banks().bank(0);
+    let bank = banks.bank(0);
     if bank.ports() == 0 {
         return Err("no port".into());
     }
@@ -23,7 +23,7 @@ fn recorded(node: &Node) -> Result<(usize, u64), Fail> {
 #[test]
 fn journal_with_room_for_one(rt: HostRuntime) -> Result<(), Fail> {
     let alloc = rt.alloc();
-    let (mut node, mut passes) = node(alloc, 1, &[bank(1)], program(alloc, 0)?)?;
+    let (mut banks, mut passes) = node(alloc, 1, &[bank(1)], program(alloc, 0)?)?;
     let pass = passes.first_mut().ok_or("no pass")?;
     let mut reply = ReplyBuf::new();
     for (line, status, number, length) in [
@@ -36,10 +36,10 @@ fn journal_with_room_for_one(rt: HostRuntime) -> Result<(), Fail> {
             13,
         ),
     ] {
-        let what = served(&mut node, pass, packet(alloc, line)?, &mut reply)?;
+        let what = served(&mut banks, pass, packet(alloc, line)?, &mut reply)?;
         assert_eq!(rt; what, Served::Done(Applied { status, number }), "at {line}");
         assert_eq!(rt; reply.bytes().len(), length, "at {line}");
-        assert_eq!(rt; recorded(&node)?, (1, 1), "at {line}");
+        assert_eq!(rt; recorded(&banks)?, (1, 1), "at {line}");
     }
     Ok(())
 }

@@ -2,6 +2,7 @@
 
 use super::word;
 use bver::{Accepted, MapSizes, verify};
+use cells::Cells;
 use hex::decode;
 use rmap::{ReplyBuf, Status, Windows};
 use std::alloc::Global;
@@ -94,7 +95,9 @@ fn verdicts(rt: &impl Abort, alloc: Global, line: &str) -> Result<(), Fail> {
     let port = u8::try_from(row.hexadecimal()?)?;
     assert!(rt; port < 32);
     let want = row.hexadecimal()?;
-    let mut bearing = Bearing::new(port, windows());
+    let (_cells, mut seats) = Cells::new(alloc, &program.sizes(), 1)?;
+    let seat = seats.pop().ok_or("no seat")?;
+    let mut bearing = Bearing::new(port, windows(), seat);
     let mut reply = ReplyBuf::new();
     for generation in [0, 7] {
         let sent = packet(alloc, PLAIN_READ)?;
@@ -119,12 +122,15 @@ fn verdicts_of_programs(rt: HostRuntime) -> Result<(), Fail> {
 }
 
 #[test]
-fn bearings_keep_port_and_windows(rt: HostRuntime) {
+fn bearings_keep_port_and_windows(rt: HostRuntime) -> Result<(), Fail> {
     for port in [0, 1, 31] {
-        let bearing = Bearing::new(port, windows());
-        assert_eq!(rt; bearing.port(), port);
-        assert_eq!(rt; bearing.windows().node_address(), 0xFE);
-        assert_eq!(rt; bearing.windows().bank(0), Some((BASE, 65_536)));
-        assert_eq!(rt; bearing.windows().bank(1), None);
+        let (_cells, mut seats) = Cells::new(rt.alloc(), &MapSizes::new(&[3, 1])?, 1)?;
+        let seat = seats.pop().ok_or("no seat")?;
+        let bearing = Bearing::new(port, windows(), seat);
+        let windows = bearing.windows();
+        assert_eq!(rt; (bearing.port(), windows.node_address()), (port, 0xFE));
+        let banks = (windows.bank(0), windows.bank(1));
+        assert_eq!(rt; banks, (Some((BASE, 65_536)), None));
     }
+    Ok(())
 }

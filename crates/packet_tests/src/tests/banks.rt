@@ -45,13 +45,23 @@ fn success(number: u64) -> Option<Applied> {
     })
 }
 
+/// A bank of that size whose journal has that room, and the shares of so many ports.
+pub fn fresh(
+    alloc: Global,
+    size: u32,
+    room: u32,
+    ports: u8,
+) -> Result<(Bank, Vec<Share>), BankFault> {
+    let journal = Journal::new(alloc, room)?;
+    Bank::new(alloc, BASE, size, journal, ports)
+}
+
 #[test]
 fn plain_write_then_read(rt: HostRuntime) -> Result<(), Fail> {
     let alloc = rt.alloc();
-    let journal = Journal::new(alloc, 4)?;
-    let (mut bank, mut shares) = Bank::new(alloc, BASE, 65_536, journal, 2)?;
+    let (mut bank, mut shares) = fresh(alloc, 65_536, 4, 2)?;
     assert_eq!(rt; shares.len(), 2);
-    let share = &mut shares[0];
+    let share = shares.first_mut().ok_or("no share")?;
     let mut reply = ReplyBuf::new();
     let done = applied(alloc, &mut bank, share, PLAIN_WRITE, 0, &mut reply)?;
     assert_eq!(rt; done, success(0));
@@ -59,13 +69,13 @@ fn plain_write_then_read(rt: HostRuntime) -> Result<(), Fail> {
         reply.bytes(),
         [0x67, 0x01, 0x2C, 0x00, 0xFE, 0x00, 0x00, 0xED].as_slice()
     );
-    assert_eq!(rt; bank.memory(BASE + 1), Some(0x23));
-    assert_eq!(rt; bank.base(BASE + 1), Some(0));
+    let second = (bank.memory(BASE + 1), bank.base(BASE + 1));
+    assert_eq!(rt; second, (Some(0x23), Some(0)));
     assert_eq!(rt; bank.memory(BASE - 1), None);
     let done = applied(alloc, &mut bank, share, PLAIN_READ, 0, &mut reply)?;
     assert_eq!(rt; done, success(1));
-    assert_eq!(rt; reply.bytes().len(), 29);
-    assert_eq!(rt; reply.bytes().last(), Some(&0x56));
+    let ends = (reply.bytes().len(), reply.bytes().last());
+    assert_eq!(rt; ends, (29, Some(&0x56)));
     assert_eq!(rt; bank.entries().len(), 2);
     Ok(())
 }
@@ -73,18 +83,18 @@ fn plain_write_then_read(rt: HostRuntime) -> Result<(), Fail> {
 #[test]
 fn read_modify_write_and_one_address(rt: HostRuntime) -> Result<(), Fail> {
     let alloc = rt.alloc();
-    let journal = Journal::new(alloc, 4)?;
-    let (mut bank, mut shares) = Bank::new(alloc, BASE, 65_536, journal, 1)?;
+    let (mut bank, mut shares) = fresh(alloc, 65_536, 4, 1)?;
     assert_eq!(rt; shares.len(), 1);
-    let share = &mut shares[0];
+    let share = shares.first_mut().ok_or("no share")?;
     let mut reply = ReplyBuf::new();
-    let _ = applied(alloc, &mut bank, share, PLAIN_WRITE, 0, &mut reply)?;
-    let done = applied(alloc, &mut bank, share, READ_MODIFY_WRITE, 0, &mut reply)?;
-    assert_eq!(rt; done, success(1));
-    assert_eq!(rt; bank.memory(BASE), Some(0x31));
-    let done = applied(alloc, &mut bank, share, WRITE_TO_ONE_ADDRESS, 0, &mut reply)?;
-    assert_eq!(rt; done, success(2));
-    assert_eq!(rt; bank.memory(BASE), Some(0x22));
+    for (number, line, first) in [
+        (0, PLAIN_WRITE, 0x01),
+        (1, READ_MODIFY_WRITE, 0x31),
+        (2, WRITE_TO_ONE_ADDRESS, 0x22),
+    ] {
+        let done = applied(alloc, &mut bank, share, line, 0, &mut reply)?;
+        assert_eq!(rt; (done, bank.memory(BASE)), (success(number), Some(first)));
+    }
     assert_eq!(rt; bank.memory(BASE + 1), Some(0x23));
     Ok(())
 }
@@ -92,10 +102,9 @@ fn read_modify_write_and_one_address(rt: HostRuntime) -> Result<(), Fail> {
 #[test]
 fn refused_commands_leave_memory_and_an_entry(rt: HostRuntime) -> Result<(), Fail> {
     let alloc = rt.alloc();
-    let journal = Journal::new(alloc, 2)?;
-    let (mut bank, mut shares) = Bank::new(alloc, BASE, 65_536, journal, 1)?;
+    let (mut bank, mut shares) = fresh(alloc, 65_536, 2, 1)?;
     assert_eq!(rt; shares.len(), 1);
-    let share = &mut shares[0];
+    let share = shares.first_mut().ok_or("no share")?;
     let mut reply = ReplyBuf::new();
     for (verdict, status, number) in [
         (3, Status::InvalidKey, Some(0)),
@@ -104,8 +113,8 @@ fn refused_commands_leave_memory_and_an_entry(rt: HostRuntime) -> Result<(), Fai
         (0, Status::GeneralError, None),
     ] {
         let done = applied(alloc, &mut bank, share, PLAIN_WRITE, verdict, &mut reply)?;
-        assert_eq!(rt; done, Some(Applied { status, number }));
-        assert_eq!(rt; bank.memory(BASE), Some(0));
+        let wanted = Some(Applied { status, number });
+        assert_eq!(rt; (done, bank.memory(BASE)), (wanted, Some(0)));
     }
     assert_eq!(rt; bank.entries().len(), 2);
     Ok(())

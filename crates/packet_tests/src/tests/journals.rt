@@ -1,6 +1,6 @@
 //! `bank`: journals that turn over, and their replay.
 
-use super::banks::{WRITE_TO_ONE_ADDRESS, applied};
+use super::banks::{WRITE_TO_ONE_ADDRESS, applied, fresh};
 use bank::{Bank, Entry, Journal, Share, extents_stay, parts_replay, replay};
 use hex::{decode, encode_upper};
 use rmap::ReplyBuf;
@@ -39,12 +39,6 @@ fn line_of(word: &str) -> Result<&'static str, Fail> {
         "broken" => Ok(BROKEN),
         _ => Err("no such packet".into()),
     }
-}
-
-/// A bank whose journal has that room, and the shares of so many ports.
-fn fresh(alloc: Global, room: u32, ports: u8) -> Result<(Bank, Vec<Share>), Fail> {
-    let journal = Journal::new(alloc, room)?;
-    Ok(Bank::new(alloc, BASE, SIZE, journal, ports)?)
 }
 
 /// Does entries again on bytes that begin at an address.
@@ -94,7 +88,7 @@ fn replay_row(rt: &impl Abort, alloc: Global, line: &str) -> Result<(), Fail> {
     let shows = row.part()?;
     let words = row.part()?;
     let verdict = row.hexadecimal()?;
-    let (mut bank, mut shares) = fresh(alloc, 4, 1)?;
+    let (mut bank, mut shares) = fresh(alloc, SIZE, 4, 1)?;
     let share = shares.first_mut().ok_or("no share")?;
     let mut reply = ReplyBuf::new();
     for word in words.split(' ') {
@@ -242,7 +236,7 @@ fn turn(
     ports: u8,
     steps: &str,
 ) -> Result<Turning, Fail> {
-    let (bank, shares) = fresh(alloc, room, ports)?;
+    let (bank, shares) = fresh(alloc, SIZE, room, ports)?;
     let mut turning = Turning {
         bank,
         shares,
@@ -264,8 +258,8 @@ fn rotation_of_a_full_journal(rt: HostRuntime) -> Result<(), Fail> {
     let bank = &turning.bank;
     assert_eq!(rt; bank.ports(), 1);
     assert_eq!(rt; bank.count(0), 2);
-    assert_eq!(rt; bank.memory(BASE + 1), Some(0x23));
-    assert_eq!(rt; bank.base(BASE + 1), Some(0x23));
+    let second = (bank.memory(BASE + 1), bank.base(BASE + 1));
+    assert_eq!(rt; second, (Some(0x23), Some(0x23)));
     Ok(())
 }
 

@@ -7,7 +7,7 @@ use hex::decode;
 use rmap::{Discard, ReplyBuf, Status};
 use std::alloc::Global;
 use std::test::Fail;
-use target::{BankConfig, Node, NodeFault, Served, Stop};
+use target::{BankConfig, Banks, NodeFault, Served, Stop};
 use trial::{PLAIN_READ, PLAIN_REPLY, bank, node, packet, program, served};
 
 /// What becomes of the packet of a line at port 0 of a fresh node.
@@ -17,9 +17,9 @@ fn served_afresh(
     line: &str,
     reply: &mut ReplyBuf,
 ) -> Result<Served, Fail> {
-    let (mut node, mut passes) = node(alloc, 2, &[bank(1024)], program(alloc, verdict)?)?;
+    let (mut banks, mut passes) = node(alloc, 2, &[bank(1024)], program(alloc, verdict)?)?;
     let pass = passes.first_mut().ok_or("no pass")?;
-    served(&mut node, pass, packet(alloc, line)?, reply)
+    served(&mut banks, pass, packet(alloc, line)?, reply)
 }
 
 /// The first command of a port, with that status.
@@ -77,8 +77,7 @@ const READS: [&str; 3] = [
 ];
 
 /// The ports of a bank's entries and their numbers, oldest first.
-fn entries(alloc: Global, node: &Node, k: u8) -> Result<Vec<(u8, u64)>, Fail> {
-    let banks = node.plain_banks();
+fn entries(alloc: Global, banks: &Banks, k: u8) -> Result<Vec<(u8, u64)>, Fail> {
     if usize::from(k) >= banks.len() {
         return Err("no bank".into());
     }
@@ -92,8 +91,8 @@ fn entries(alloc: Global, node: &Node, k: u8) -> Result<Vec<(u8, u64)>, Fail> {
 #[test]
 fn numbers_of_three_ports_at_three_banks(rt: HostRuntime) -> Result<(), Fail> {
     let alloc = rt.alloc();
-    let banks = [bank(16), bank(16), bank(16)];
-    let (mut node, mut passes) = node(alloc, 3, &banks, program(alloc, 0)?)?;
+    let three = [bank(16), bank(16), bank(16)];
+    let (mut banks, mut passes) = node(alloc, 3, &three, program(alloc, 0)?)?;
     let mut reply = ReplyBuf::new();
     for (port, k, number) in [
         (0, 0, 0),
@@ -111,7 +110,7 @@ fn numbers_of_three_ports_at_three_banks(rt: HostRuntime) -> Result<(), Fail> {
     ] {
         let pass = passes.get_mut(port).ok_or("no pass")?;
         let line = READS.get(k).copied().ok_or("no line")?;
-        let what = served(&mut node, pass, packet(alloc, line)?, &mut reply)?;
+        let what = served(&mut banks, pass, packet(alloc, line)?, &mut reply)?;
         let counted = Applied {
             status: Status::Success,
             number: Some(number),
@@ -121,9 +120,9 @@ fn numbers_of_three_ports_at_three_banks(rt: HostRuntime) -> Result<(), Fail> {
     let first = [(0, 0), (0, 1), (1, 0), (2, 0), (1, 1), (0, 2)];
     let second = [(2, 0), (2, 1), (1, 0), (2, 2)];
     let third = [(0, 0), (1, 0)];
-    assert_eq!(rt; entries(alloc, &node, 0)?.as_slice(), first.as_slice());
-    assert_eq!(rt; entries(alloc, &node, 1)?.as_slice(), second.as_slice());
-    assert_eq!(rt; entries(alloc, &node, 2)?.as_slice(), third.as_slice());
+    assert_eq!(rt; entries(alloc, &banks, 0)?.as_slice(), first.as_slice());
+    assert_eq!(rt; entries(alloc, &banks, 1)?.as_slice(), second.as_slice());
+    assert_eq!(rt; entries(alloc, &banks, 2)?.as_slice(), third.as_slice());
     Ok(())
 }
 
@@ -156,7 +155,7 @@ fn made(alloc: Global) -> Option<Result<(usize, usize), NodeFault>> {
     let sizes = MapSizes::new(&[]).ok()?;
     let factory = verify(alloc, image, &sizes).ok()?;
     match node(alloc, 2, &[bank(1024)], factory) {
-        Ok((node, passes)) => Some(Ok((node.banks(), passes.len()))),
+        Ok((banks, passes)) => Some(Ok((banks.len(), passes.len()))),
         Err(fault) => Some(Err(fault)),
     }
 }

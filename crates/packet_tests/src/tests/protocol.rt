@@ -44,6 +44,30 @@ fn packets_that_are_no_commands(rt: HostRuntime) -> Result<(), Fail> {
     Ok(())
 }
 
+/// The numbers of the header, in their order.
+fn numbers(command: &Command) -> [u32; 8] {
+    [
+        u32::from(command.target()),
+        u32::from(command.instruction().0),
+        u32::from(command.key()),
+        u32::from(command.initiator()),
+        u32::from(command.transaction()),
+        u32::from(command.extended()),
+        command.address(),
+        command.length(),
+    ]
+}
+
+/// Whether the command writes, verifies, wants a reply and increments.
+fn options(command: &Command) -> [bool; 4] {
+    [
+        command.writes(),
+        command.verifies(),
+        command.wants_reply(),
+        command.increments(),
+    ]
+}
+
 #[test]
 fn fields_of_a_header(rt: HostRuntime) -> Result<(), Fail> {
     let line = "0 20014E33 0000000000000506 674455 11 89ABCDEF 123456 74 AABB EOP";
@@ -51,23 +75,15 @@ fn fields_of_a_header(rt: HostRuntime) -> Result<(), Fail> {
     let command = Command::view(&sent)?;
     assert_eq!(rt; *command.front(), [0x20, 0x01, 0x4E, 0x33]);
     assert_eq!(rt; command.reply_path(), [0, 0, 0, 0, 0, 0, 5, 6].as_slice());
-    assert_eq!(rt; command.tail()[0], 0x67);
-    assert_eq!(rt; command.tail()[11], 0x74);
+    let tail = [
+        0x67, 0x44, 0x55, 0x11, 0x89, 0xAB, 0xCD, 0xEF, 0x12, 0x34, 0x56, 0x74,
+    ];
+    assert_eq!(rt; *command.tail(), tail);
     assert_eq!(rt; command.body(), [0xAA, 0xBB].as_slice());
-    assert_eq!(rt; command.end(), End::Eop);
-    assert_eq!(rt; command.target(), 0x20);
-    assert_eq!(rt; command.instruction().0, 0x4E);
-    assert_eq!(rt; command.key(), 0x33);
-    assert_eq!(rt; command.initiator(), 0x67);
-    assert_eq!(rt; command.transaction(), 0x4455);
-    assert_eq!(rt; command.extended(), 0x11);
-    assert_eq!(rt; command.address(), 0x89AB_CDEF);
-    assert_eq!(rt; command.length(), 0x12_3456);
-    assert_eq!(rt; command.kind(), Kind::Read);
-    assert!(rt; !command.writes());
-    assert!(rt; !command.verifies());
-    assert!(rt; command.wants_reply());
-    assert!(rt; command.increments());
+    assert_eq!(rt; (command.kind(), command.end()), (Kind::Read, End::Eop));
+    let wanted = [0x20, 0x4E, 0x33, 0x67, 0x4455, 0x11, 0x89AB_CDEF, 0x12_3456];
+    assert_eq!(rt; numbers(&command), wanted);
+    assert_eq!(rt; options(&command), [false, false, true, true]);
     Ok(())
 }
 

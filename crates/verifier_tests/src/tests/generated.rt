@@ -1,10 +1,11 @@
 //! Random programs, many of them refused, against the slow machine: what is accepted ends with a verdict
 //! within its budget.
 
-use super::generator::instructions;
+use super::generator::{instructions, program_with_loops};
 use bpf::Image;
 use bver::{Accepted, MapSizes, verify};
 use slow_machine::{Ending, run};
+use std::alloc::Global;
 use std::process::Abort;
 use std::test::Fail;
 use trial::Random;
@@ -52,6 +53,36 @@ fn accepted_programs_end_with_a_verdict(rt: HostRuntime) -> Result<(), Fail> {
     }
     assert!(rt;
         60 < accepted_programs && accepted_programs < 540,
+        "{accepted_programs}"
+    );
+    Ok(())
+}
+
+/// The image of a random program with declared loops, whose budget is its weight.
+fn looped_image(alloc: Global, random: &mut Random) -> Result<Image, Fail> {
+    let loops = 1 + random.below(4);
+    let program = program_with_loops(alloc, random, loops, 60)?;
+    let heavy = Image::new(alloc, &program.insns, &program.loops, 65_536)?;
+    let weight = (heavy.weight() % 65_536) as u32;
+    Ok(Image::new(alloc, &program.insns, &program.loops, weight)?)
+}
+
+/// Of 200 programs with loops more than half are accepted, and each that is runs to its verdict.
+#[test]
+fn accepted_loops_end_with_a_verdict(rt: HostRuntime) -> Result<(), Fail> {
+    let alloc = rt.alloc();
+    let none = MapSizes::new(&[])?;
+    let mut random = Random::new(2);
+    let mut accepted_programs = 0u32;
+    for _turn in 0..200 {
+        let image = looped_image(alloc, &mut random)?;
+        if let Ok(accepted) = verify(alloc, image, &none) {
+            check_runs(&rt, &accepted, &none);
+            accepted_programs = accepted_programs.saturating_add(1);
+        }
+    }
+    assert!(rt;
+        100 < accepted_programs && accepted_programs < 200,
         "{accepted_programs}"
     );
     Ok(())

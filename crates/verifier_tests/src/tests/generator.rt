@@ -1,9 +1,12 @@
 //! Random programs. Each sets its registers and a part of its stack, does what the random numbers say,
-//! and answers with a mixture of all.
+//! and answers with a mixture of all. Some have declared loops.
 
 ghost use Rattle.std.specs.Prelude.{◌<◌};
 
-use bpf_insn::{AluOp, Comparison, Insn, LoadSize, Operand, Place, Register, Size, Width};
+use bpf::Loop;
+use bpf_insn::{
+    AluOp, Comparison, Condition, Insn, LoadSize, Operand, Place, Register, Size, Width,
+};
 use std::alloc::{AllocError, Global};
 use trial::{
     CONDITIONS, EXTENSIONS, LOAD_SIZES, OPERATIONS, Random, SIZES, SWAP_BITS, SWAPS, WIDTHS,
@@ -38,7 +41,7 @@ pub fn instructions(
 }
 
 /// Adds an instruction at the end.
-fn add(insns: &mut Vec<Insn>, insn: Insn) -> Result<(), AllocError> {
+pub fn add(insns: &mut Vec<Insn>, insn: Insn) -> Result<(), AllocError> {
     insns.extend_from_slice(&[insn])
 }
 
@@ -54,7 +57,7 @@ fn next(random: &mut Random, wild: u64) -> Insn
 }
 
 /// The register of this number.
-fn register(number: u8) -> Register
+pub fn register(number: u8) -> Register
     requires { number < 11 }
 {
     match Register::new(number) {
@@ -75,7 +78,7 @@ fn number_register(place: u64) -> Register
 }
 
 /// A register that holds a number.
-fn number(random: &mut Random) -> Register {
+pub fn number(random: &mut Random) -> Register {
     number_register(random.below(NUMBERS))
 }
 
@@ -84,7 +87,8 @@ fn any_register(random: &mut Random) -> Register {
     register(random.below(11) as u8)
 }
 
-fn immediate(random: &mut Random) -> i32 {
+/// An immediate: often zero or near it.
+pub fn immediate(random: &mut Random) -> i32 {
     match random.below(4) {
         0 => 0,
         1 => random.below(64) as i32,
@@ -93,7 +97,8 @@ fn immediate(random: &mut Random) -> i32 {
     }
 }
 
-fn operand(random: &mut Random) -> Operand {
+/// An immediate, or a register that holds a number.
+pub fn operand(random: &mut Random) -> Operand {
     if random.below(2) == 0 {
         Operand::Immediate(immediate(random))
     } else {
@@ -101,7 +106,8 @@ fn operand(random: &mut Random) -> Operand {
     }
 }
 
-fn arithmetic(random: &mut Random, dst: Register, src: Operand) -> Insn {
+/// Any operation of arithmetic on the operands.
+pub fn arithmetic(random: &mut Random, dst: Register, src: Operand) -> Insn {
     Insn::Alu {
         op: random.one_of(&OPERATIONS),
         width: random.one_of(&WIDTHS),
@@ -110,14 +116,16 @@ fn arithmetic(random: &mut Random, dst: Register, src: Operand) -> Insn {
     }
 }
 
-fn negation(random: &mut Random, dst: Register) -> Insn {
+/// `dst = -dst` at any width.
+pub fn negation(random: &mut Random, dst: Register) -> Insn {
     Insn::Negate {
         width: random.one_of(&WIDTHS),
         dst,
     }
 }
 
-fn extension(random: &mut Random, dst: Register, src: Register) -> Insn {
+/// Any move that extends a sign.
+pub fn extension(random: &mut Random, dst: Register, src: Register) -> Insn {
     Insn::MoveSigned {
         extension: random.one_of(&EXTENSIONS),
         dst,
@@ -125,7 +133,8 @@ fn extension(random: &mut Random, dst: Register, src: Register) -> Insn {
     }
 }
 
-fn swap(random: &mut Random, dst: Register) -> Insn {
+/// Any order of bytes.
+pub fn swap(random: &mut Random, dst: Register) -> Insn {
     Insn::ByteSwap {
         swap: random.one_of(&SWAPS),
         bits: random.one_of(&SWAP_BITS),
@@ -134,7 +143,7 @@ fn swap(random: &mut Random, dst: Register) -> Insn {
 }
 
 /// A jump over one or two instructions.
-fn jump(random: &mut Random, dst: Register, src: Operand) -> Insn {
+pub fn jump(random: &mut Random, dst: Register, src: Operand) -> Insn {
     let comparison = Comparison {
         condition: random.one_of(&CONDITIONS),
         width: random.one_of(&WIDTHS),
@@ -147,7 +156,8 @@ fn jump(random: &mut Random, dst: Register, src: Operand) -> Insn {
     }
 }
 
-fn load(random: &mut Random, base: Register, offset: i16) -> Insn {
+/// A load of any size, into a register that holds a number.
+pub fn load(random: &mut Random, base: Register, offset: i16) -> Insn {
     Insn::Load {
         size: random.one_of(&LOAD_SIZES),
         dst: number(random),
@@ -155,7 +165,8 @@ fn load(random: &mut Random, base: Register, offset: i16) -> Insn {
     }
 }
 
-fn store(random: &mut Random, base: Register, offset: i16) -> Insn {
+/// A store of any size.
+pub fn store(random: &mut Random, base: Register, offset: i16) -> Insn {
     Insn::Store {
         size: random.one_of(&SIZES),
         place: Place { base, offset },
@@ -232,7 +243,7 @@ fn any(random: &mut Random) -> Insn {
 }
 
 /// `dst op= src` at 64 bits.
-fn alu(op: AluOp, dst: u8, src: Operand) -> Insn
+pub fn alu(op: AluOp, dst: u8, src: Operand) -> Insn
     requires { dst < 11 }
 {
     Insn::Alu {
@@ -244,7 +255,7 @@ fn alu(op: AluOp, dst: u8, src: Operand) -> Insn
 }
 
 /// Numbers in r0 and r4 to r7, a place of the tail in r8, and the lowest place that is set in r9.
-fn set_registers(insns: &mut Vec<Insn>, random: &mut Random) -> Result<(), AllocError> {
+pub fn set_registers(insns: &mut Vec<Insn>, random: &mut Random) -> Result<(), AllocError> {
     for place in 0..NUMBERS {
         add(
             insns,
@@ -268,7 +279,8 @@ fn set_registers(insns: &mut Vec<Insn>, random: &mut Random) -> Result<(), Alloc
     Ok(())
 }
 
-fn set_stack(insns: &mut Vec<Insn>, random: &mut Random) -> Result<(), AllocError> {
+/// Sets the places of the stack.
+pub fn set_stack(insns: &mut Vec<Insn>, random: &mut Random) -> Result<(), AllocError> {
     for offset in PLACES {
         add(insns, set_place(random, offset))?;
     }
@@ -289,7 +301,7 @@ fn set_place(random: &mut Random, offset: i16) -> Insn {
 }
 
 /// Mixes all numbers into r0.
-fn mix_numbers(insns: &mut Vec<Insn>) -> Result<(), AllocError> {
+pub fn mix_numbers(insns: &mut Vec<Insn>) -> Result<(), AllocError> {
     for place in 0..NUMBERS {
         mix_in(insns, number_register(place))?;
     }
@@ -297,7 +309,7 @@ fn mix_numbers(insns: &mut Vec<Insn>) -> Result<(), AllocError> {
 }
 
 /// Mixes all places of the stack into r0, by r4.
-fn mix_stack(insns: &mut Vec<Insn>) -> Result<(), AllocError> {
+pub fn mix_stack(insns: &mut Vec<Insn>) -> Result<(), AllocError> {
     for offset in PLACES {
         add(insns, get_place(offset))?;
         mix_in(insns, register(4))?;
@@ -323,4 +335,106 @@ fn mix_in(insns: &mut Vec<Insn>, src: Register) -> Result<(), AllocError> {
     add(insns, alu(AluOp::Mul, 0, Operand::Immediate(31)))?;
     add(insns, alu(AluOp::Add, 0, Operand::FromRegister(src)))?;
     Ok(())
+}
+
+/// A program with declared loops.
+#[derive(Drop)]
+pub struct Looped {
+    pub insns: Vec<Insn>,
+    pub loops: Vec<Loop>,
+}
+
+/// The greatest bound of a loop of a random program.
+const BOUND: u64 = 8;
+
+/// The register that counts the loops of a random program. Nothing else writes it, but where any register is
+/// taken.
+const COUNTER: u8 = 3;
+
+/// A random program with so many loops one behind the other, and random instructions before each. One of these in
+/// `wild` takes any registers and any place, so that programs are refused too.
+pub fn program_with_loops(
+    alloc: Global,
+    random: &mut Random,
+    loops: u64,
+    wild: u64,
+) -> Result<Looped, AllocError>
+    requires { 0 < wild }
+{
+    let mut insns = Vec::new(alloc);
+    let mut declared = Vec::new(alloc);
+    set_registers(&mut insns, random)?;
+    set_stack(&mut insns, random)?;
+    for _loop in 0..loops {
+        add_some(&mut insns, random, wild)?;
+        let next = add_loop(&mut insns, random, wild)?;
+        declared.extend_from_slice(&[next])?;
+    }
+    mix_numbers(&mut insns)?;
+    mix_stack(&mut insns)?;
+    add(&mut insns, Insn::Exit)?;
+    Ok(Looped {
+        insns,
+        loops: declared,
+    })
+}
+
+/// Up to six random instructions, and two that do not jump: no jump of those before leads behind them.
+fn add_some(insns: &mut Vec<Insn>, random: &mut Random, wild: u64) -> Result<(), AllocError>
+    requires { 0 < wild }
+{
+    for _insn in 0..random.below(7) {
+        add(insns, next(random, wild))?;
+    }
+    for _insn in 0..2 {
+        let (dst, src) = (number(random), operand(random));
+        add(insns, arithmetic(random, dst, src))?;
+    }
+    Ok(())
+}
+
+/// A loop that begins with a counter within its bound.
+fn add_loop(insns: &mut Vec<Insn>, random: &mut Random, wild: u64) -> Result<Loop, AllocError>
+    requires { 0 < wild }
+{
+    let bound = 1 + random.below(BOUND);
+    let count = 1 + random.below(bound);
+    add(
+        insns,
+        alu(AluOp::Mov, COUNTER, Operand::Immediate(count as i32)),
+    )?;
+    let head = slots(insns);
+    add_some(insns, random, wild)?;
+    add(insns, alu(AluOp::Add, COUNTER, Operand::Immediate(-1)))?;
+    let back = slots(insns);
+    add(insns, go_back(head, back))?;
+    Ok(Loop {
+        head,
+        back,
+        bound: bound as u16,
+        register: register(COUNTER),
+    })
+}
+
+/// How many slots the instructions take.
+fn slots(insns: &[Insn]) -> u16 {
+    let mut slots = 0u16;
+    for insn in insns {
+        slots = slots.saturating_add(insn.slots());
+    }
+    slots
+}
+
+/// The jump from the back of a loop to its head.
+fn go_back(head: u16, back: u16) -> Insn {
+    let comparison = Comparison {
+        condition: Condition::NotEqual,
+        width: Width::Bits64,
+        dst: register(COUNTER),
+        src: Operand::Immediate(0),
+    };
+    Insn::Jump {
+        comparison,
+        offset: -1 - back.saturating_sub(head).cast_signed(),
+    }
 }

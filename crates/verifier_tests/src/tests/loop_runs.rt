@@ -3,7 +3,6 @@
 
 use super::rules::answer;
 use super::{FRONT, TAIL};
-use brun::run;
 use bver::{MapSizes, verify};
 use slow_machine::Ending;
 use std::alloc::Global;
@@ -74,7 +73,7 @@ fn check_run(
     let port = row.part()?.parse::<u8>()? % 32;
     let steps = row.part()?.parse::<u32>()?;
     let verdict = row.part()?.parse::<u64>()?;
-    let fast = run(&program, &FRONT, &TAIL, port, &mut [0xa5; 512]);
+    let fast = super::verdict(alloc, &program, port, 0xa5)?;
     assert!(rt; fast == verdict, "{text}: {fast}");
     let slow = slow_machine::run(&image, &none, &FRONT, &TAIL, port, &[], steps);
     assert!(rt; slow == Ending::Verdict(verdict), "{text}: {slow:?}");

@@ -159,7 +159,7 @@ a pointer moves by a number of unknown sign|ldxdw r4, [r2+0]; add r1, r4; exit|3
 there is no map|ldmap r1, 0; mov r0, 0; exit|3||12 0
 there is no second map|ldmap r1, 1; mov r0, 0; exit|3|3|12 0
 a map of a negative index|ldmap r1, -1; mov r0, 0; exit|3|3|12 0
-helper 1|call 1; exit|2|1|13 0
+helper 0|call 0; exit|2|1|13 0
 an unknown helper|mov r0, 0; call 7; exit|3||13 1
 no exit at the end|mov r0, 0|1||14 0
 a constant of two slots at the end|mov r0, 0; lddw r1, 1|2||14 1
@@ -179,7 +179,7 @@ the same without its loop|mov r0, 0; mov r6, 4; add r0, 1; add r6, -1; jne r6, 0
 two loops|.loop 2, 7, 3, r6; .loop 3, 5, 4, r7; mov r0, 0; mov r6, 3; mov r7, 4; add r0, 1; add r7, -1; jne r7, 0, -3; add r6, -1; jne r6, 0, -6; exit|48||ok
 the frame pointer before a loop|.loop 2, 4, 4, r6; mov r10, 0; mov r6, 4; add r0, 1; add r6, -1; jne r6, 0, -3; exit|15||10 0
 a loop that ends in a second slot|.loop 0, 2, 1, r6; mov r0, 0; lddw r1, 1; exit|4||3 2
-the first slot decides|mov r0, 0; call 1; mov r10, 0; exit|4||13 1
+the first slot decides|mov r0, 0; call 3; mov r10, 0; exit|4||13 1
 the form before the values|mov r0, r4; mov r10, 0; exit|3||10 1
 a byte that is set on one path|jeq r3, 0, +1; stb [r10-1], 1; ldxb r0, [r10-1]; exit|4||8 2
 a byte that is set on the other path|jeq r3, 0, +2; mov r4, 0; ja +1; stb [r10-1], 1; ldxb r0, [r10-1]; exit|6||8 4

@@ -1,7 +1,6 @@
 //! Whole programs on the interpreter. The verdicts were computed by hand from RFC 9669.
 
-use super::{FRONT, TAIL};
-use brun::run;
+use super::verdict;
 use bver::{MapSizes, verify};
 use std::alloc::Global;
 use std::process::Abort;
@@ -49,7 +48,7 @@ fn check(rt: &impl Abort, alloc: Global, line: &str) -> Result<(), Fail> {
     let wanted = row.hexadecimal()?;
     let program = verify(alloc, image, &MapSizes::new(&[])?)?;
     for old in [0x00, 0xa5] {
-        let verdict = run(&program, &FRONT, &TAIL, port, &mut [old; 512]);
+        let verdict = verdict(alloc, &program, port, old)?;
         assert!(rt; verdict == wanted, "{name}: {verdict:#x}");
     }
     Ok(())

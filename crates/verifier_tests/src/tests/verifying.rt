@@ -12,6 +12,30 @@ const LOADS: [u8; 32] = [
     0, 0, 0, 0, 0, 0, 0,
 ];
 
+/// Two nested loops of 3 and 4 rounds, with a budget of their weight, 48.
+const NESTED: [u8; 104] = [
+    0x42, 0x50, 0x46, 0x41, 1, 2, 9, 0, 48, 0, 0, 0, 0, 0, 0, 0, 2, 0, 7, 0, 3, 0, 6, 0, 3, 0, 5,
+    0, 4, 0, 7, 0, 0xb7, 0, 0, 0, 0, 0, 0, 0, 0xb7, 6, 0, 0, 3, 0, 0, 0, 0xb7, 7, 0, 0, 4, 0, 0, 0,
+    7, 0, 0, 0, 1, 0, 0, 0, 7, 7, 0, 0, 0xff, 0xff, 0xff, 0xff, 0x55, 7, 0xfd, 0xff, 0, 0, 0, 0, 7,
+    6, 0, 0, 0xff, 0xff, 0xff, 0xff, 0x55, 6, 0xfa, 0xff, 0, 0, 0, 0, 0x95, 0, 0, 0, 0, 0, 0, 0,
+];
+
+#[test]
+fn accepts_the_image_of_nested_loops(rt: HostRuntime) -> Result<(), Fail> {
+    let alloc = rt.alloc();
+    let image = Image::read(alloc, &NESTED)?;
+    assert_eq!(rt; image.weight(), 48);
+    let text =
+        "mov r0, 0; mov r6, 3; mov r7, 4; add r0, 1; add r7, -1; jne r7, 0, -3; add r6, -1; jne r6, 0, -6; exit";
+    let loops = ".loop 2, 7, 3, r6; .loop 3, 5, 4, r7;";
+    let same = image_of_text(alloc, &format!(in alloc; "{loops}{text}")?, 48)?;
+    assert!(rt; same.write()?.as_slice() == NESTED.as_slice());
+    let accepted = verify(alloc, image, &MapSizes::new(&[])?)?;
+    assert_eq!(rt; accepted.budget(), 48);
+    assert_eq!(rt; accepted.image().loops().len(), 2);
+    Ok(())
+}
+
 #[test]
 fn sizes_are_counted(rt: HostRuntime) {
     assert!(rt; MapSizes::new(&[32; 8]).is_ok());
@@ -78,5 +102,31 @@ fn verifies_where_memory_may_be_refused(rt: HostRuntime) -> Result<(), Fail> {
     let copy = accepted.copy().or_else(|_| accepted.copy())?;
     assert_eq!(rt; copy.budget(), 9);
     assert_eq!(rt; copy.region(0), Some(Region::Tail));
+    Ok(())
+}
+
+/// The image with loops, where the first readings may be refused memory.
+fn nested(alloc: Global) -> Result<Image, ImageFault> {
+    Image::read(alloc, &NESTED)
+        .or_else(|_| Image::read(alloc, &NESTED))
+        .or_else(|_| Image::read(alloc, &NESTED))
+}
+
+/// The same of a program with loops.
+#[test]
+fn verifies_loops_where_memory_may_be_refused(rt: HostRuntime) -> Result<(), Fail> {
+    let alloc = rt.alloc();
+    let none = MapSizes::new(&[])?;
+    let accepted = match verify(alloc, nested(alloc)?, &none) {
+        Ok(accepted) => accepted,
+        Err(refused) => {
+            assert_eq!(rt; refused.code, Refusal::Memory);
+            assert_eq!(rt; refused.slot, 0);
+            verify(alloc, nested(alloc)?, &none)?
+        }
+    };
+    let copy = accepted.copy().or_else(|_| accepted.copy())?;
+    assert_eq!(rt; copy.budget(), 48);
+    assert_eq!(rt; copy.image().loops().len(), 2);
     Ok(())
 }

@@ -34,13 +34,13 @@ returns-in_err-base-in-Some-clause-exact c = λ place w.
 pub returns-in_err-offset-in-Some-clause-exact : goal.returns-in_err-offset-in-Some-clause-exact
 returns-in_err-offset-in-Some-clause-exact c = λ place w.
     let parts = at_plus c.args.word.now c.in_ok-inner.inner.now c.in_ok-inner.ensures (c.in-Some.base, c.in-Some.digits) c.in-Some.ensures.cases place w in
-    absurd (no_value c.in_err-offset-in-Some.field-0.0 place.offset (c.in_err-offset-in-Some.ensures.exact place.offset parts.1 w.fits))
+    absurd (no_value c.in_err-offset-in-Some.field-0.0 place.offset (c.in_err-offset-in-Some.ensures.exact place.offset (parts.1, w.fits)))
 
 pub returns-in_ok-offset-in-Some-clause-exact : goal.returns-in_ok-offset-in-Some-clause-exact
 returns-in_ok-offset-in-Some-clause-exact c = λ place w.
     let parts = at_plus c.args.word.now c.in_ok-inner.inner.now c.in_ok-inner.ensures (c.in-Some.base, c.in-Some.digits) c.in-Some.ensures.cases place w in
     let base = one_value c.in_ok-base-in-Some.base place.base (c.in_ok-base-in-Some.ensures.exact place.base (w.is_base, parts.0)) in
-    let offset = read_offset c.in_ok-offset-in-Some.offset place.offset (c.in_ok-offset-in-Some.ensures.exact place.offset parts.1 w.fits) w.fits in
+    let offset = read_offset c.in_ok-offset-in-Some.offset place.offset (c.in_ok-offset-in-Some.ensures.exact place.offset (parts.1, w.fits)) w.fits in
     λ i. Ok (record { base = base i; offset = offset i })
 
 pub returns-in_default-clause-exact : goal.returns-in_default-clause-exact
@@ -57,12 +57,12 @@ pub returns-in_err-offset-in-None-clause-exact : goal.returns-in_err-offset-in-N
 returns-in_err-offset-in-None-clause-exact c = λ place w.
     let x = c.in-Some-split_once in
     let parts = at_minus c.args.word.now c.in_ok-inner.inner.now c.in_ok-inner.ensures c.in-None.ensures.cases (x.base, x.digits) x.ensures.cases place w in
-    absurd (no_value c.in_err-offset-in-None.field-0.0 place.offset (c.in_err-offset-in-None.ensures.exact place.offset parts.1 w.fits))
+    absurd (no_value c.in_err-offset-in-None.field-0.0 place.offset (c.in_err-offset-in-None.ensures.exact place.offset (parts.1, w.fits)))
 
 pub returns-in_ok-offset-in-None-clause-exact : goal.returns-in_ok-offset-in-None-clause-exact
 returns-in_ok-offset-in-None-clause-exact c = λ place w.
     let x = c.in-Some-split_once in
     let parts = at_minus c.args.word.now c.in_ok-inner.inner.now c.in_ok-inner.ensures c.in-None.ensures.cases (x.base, x.digits) x.ensures.cases place w in
     let base = one_value c.in_ok-base-in-None.base place.base (c.in_ok-base-in-None.ensures.exact place.base (w.is_base, parts.0)) in
-    let offset = read_offset c.in_ok-offset-in-None.offset place.offset (c.in_ok-offset-in-None.ensures.exact place.offset parts.1 w.fits) w.fits in
+    let offset = read_offset c.in_ok-offset-in-None.offset place.offset (c.in_ok-offset-in-None.ensures.exact place.offset (parts.1, w.fits)) w.fits in
     λ i. Ok (record { base = base i; offset = offset i })

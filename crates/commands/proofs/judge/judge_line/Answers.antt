@@ -9,7 +9,6 @@ returns-clause-judged g c = record {
   packet = c.in_ok-port.packet;
   served = c.in_ok-served.served;
   written = search rules;
-  own_port = search rules;
   step = search rules;
   printed = subst (λ (reply : List ℕ). Appends (g.W.Write.contents c.args.out.now) (g.W.Write.contents c.print_served.new.out) (served_line c.in_ok-port.port c.in_ok-served.served reply))
       c.reply.ensures (search rules);

@@ -1,8 +1,7 @@
-use Rattle.std.proofs.Common.{◌<◌, ◌^◌, ℕ, length, sym, subst}
+use Rattle.std.proofs.Common.{ℕ, sym, subst}
 use Rattle.machine.specs.Sizes.{IsInside}
 use Rattle.cells.specs.Counting.{IsCounted}
-use Rattle.cells.specs.Draws.{tickets_of, AreNumbersBelow}
-use Rattle.cells.specs.Seats.{CellsValue, IsWhole, calls_back}
+use Rattle.cells.specs.Seats.{CellsValue, AreNumbered, IsWhole}
 use Rattle.cells.proofs.CellsOfWords.{told}
 use Rattle.cells.proofs.Places.{tells_at}
 use Rattle.cells.proofs.cells.Cells.drawn.Goals as goal
@@ -17,5 +16,5 @@ returns-clause-tickets c =
     let found = c.load.result in
     let draws = c.self.inside.rest.me.0.draws in
     let inside = subst (λ (v : CellsValue). IsInside v.sizes map key) (sym c.self.view_is) c.requires in
-    subst (λ (v : CellsValue). IsWhole v → length (tickets_of map key (calls_back v)) < 2 ^ 64 → AreNumbersBelow found (tickets_of map key (calls_back v))) c.self.view_is
+    subst (λ (v : CellsValue). IsWhole v → AreNumbered v map key found) c.self.view_is
     (λ all. told c.self.inside.sizes map key found draws inside c.self.invariant.draws (subst (λ (word : ℕ). IsCounted word found draws) c.word_at-word.ensures.word (c.load.ensures.2.counted all)))

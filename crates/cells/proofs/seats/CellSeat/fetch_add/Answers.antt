@@ -1,12 +1,8 @@
-use Rattle.std.proofs.Common.{◌≡◌, ◌++◌, ◌∷◌, [], ◌∙◌, ℕ, subst, sym, arith}
-use Rattle.machine.specs.Runs.{call}
-use Rattle.machine.specs.Step.{question}
+use Rattle.std.proofs.Common.{◌∙◌, subst, sym, arith}
+use Rattle.atomic_table.specs.Seated.{table_id_coded}
 use Rattle.machine.specs.Sizes.{IsInside}
-use Rattle.cells.specs.Counting.{IsDrawn}
-use Rattle.cells.specs.Draws.{calls_of}
-use Rattle.cells.specs.Seats.{CellSeatValue, calls}
-use Rattle.cells.proofs.CellsOfWords.{asked}
-use Rattle.cells.proofs.Places.{draws_at, placed_after}
+use Rattle.cells.specs.Seats.{CellSeatValue, Asks, seat}
+use Rattle.cells.proofs.Places.{asks_after, draws_at, placed_after}
 use Rattle.cells.proofs.seats.CellSeat.fetch_add.Goals as goal
 
 pub fetch_add-requires : goal.fetch_add-requires
@@ -19,12 +15,11 @@ invariant_of-self c =
     let answers = c.fetch_add.ensures.2 in
     (placed_after _ _ _ c.self.inside.place c.self.invariant.0 2 c.fetch_add.result _ c.fetch_add.new.seat c.word_at-word.ensures.inside c.fetch_add.ensures.0 answers, answers.parts ∙ c.self.invariant.1)
 
-pub returns-clause-asked : goal.returns-clause-asked
-returns-clause-asked c =
-    let sizes = c.self.inside.sizes in
-    let before = c.self.inside.place.me.0.draws in
-    let after = c.fetch_add.new.seat.me.0.draws in
+pub returns : goal.returns
+returns c =
+    let after : CellSeatValue = seat c.self.inside.sizes (table_id_coded.code c.fetch_add.new.seat.table_id) c.fetch_add.new.seat.me.0.draws in
     let inside = subst (λ (v : CellSeatValue). IsInside v.sizes c.args.map c.args.key) (sym c.self.view_is) c.requires in
-    let drawn = subst (λ (word : ℕ). IsDrawn 2 word before c.fetch_add.result after) c.word_at-word.ensures.word c.fetch_add.ensures.2.drawn in
-    subst (λ (v : CellSeatValue). calls_of sizes after ≡ calls v ++ call (question 2 c.args.map c.args.key) c.fetch_add.result ∷ []) c.self.view_is
-    (asked sizes c.args.map c.args.key 2 c.fetch_add.result before after inside drawn)
+    record {
+      asks = subst (λ (v : CellSeatValue). Asks 2 c.args.map c.args.key v c.fetch_add.result after) c.self.view_is
+          (asks_after _ _ _ c.self.inside.place c.self.invariant.0 c.args.map c.args.key 2 c.fetch_add.result _ c.fetch_add.new.seat inside c.word_at-word.ensures.word c.fetch_add.ensures.0 c.fetch_add.ensures.2);
+    }

@@ -1,0 +1,64 @@
+-- The values of the options: the sizes of counter maps, and how many ports a node has.
+use Rattle.std.specs.Prelude.{◌≡◌, ◌≤◌, ◌==◌, codes, ℕ, List, [], map, All, Option, Some, None}
+use Rattle.std.specs.List.{slice_split}
+use Rattle.std.specs.Str.Parse.{IsNumeral, digits_value}
+use Rattle.clap.specs.Walk.{Row, first_of}
+use Rattle.machine.specs.Sizes.{Maps, AreSizes}
+use Rattle.commands.specs.declared.usage.UsageFault.{UsageFault}
+use Rattle.commands.specs.declared.usage.UsageFault.TheVariants.{Parse, BadOption, Memory}
+
+-- decimal digits, leading zeros among them, that write a number from the one to the other
+abbrev pub IsNumberWithin : (least most : ℕ) → List ℕ → Type 0
+IsNumberWithin least most word = IsNumeral 10 word × (least ≤ digits_value 10 word) × (digits_value 10 word ≤ most)
+
+-- how many cells a map has: one to 256
+abbrev pub IsSize : List ℕ → Type 0
+IsSize part = IsNumberWithin 1 256 part
+
+-- what stands between the commas (44) of a list
+abbrev pub list_parts : List ℕ → List (List ℕ)
+list_parts text = slice_split (λ code. code == 44) text
+
+-- the numbers that the parts of a list write
+abbrev pub numbers_written : List ℕ → List ℕ
+numbers_written text = map (λ part. digits_value 10 part) (list_parts text)
+
+-- a list of sizes that the counter maps of a node may have
+abbrev pub IsMapList : List ℕ → Type 0
+IsMapList text = All (λ part. IsSize part) (list_parts text) × AreSizes (numbers_written text)
+
+-- how many ports a node has: one to 32
+abbrev pub IsPortCount : List ℕ → Type 0
+IsPortCount word = IsNumberWithin 1 32 word
+
+-- the sizes are those that the option's value writes; without the option there are no maps
+abbrev pub GivesSizes : Option (List ℕ) → Maps → Type 0
+GivesSizes None sizes = sizes ≡ []
+GivesSizes (Some text) sizes = IsMapList text × (sizes ≡ numbers_written text)
+
+-- the number of ports is what the option's value writes; without the option it is one
+abbrev pub GivesPorts : Option (List ℕ) → ℕ → Type 0
+GivesPorts None ports = ports ≡ 1
+GivesPorts (Some word) ports = IsPortCount word × (ports ≡ digits_value 10 word)
+
+-- the option has a value that is no list of sizes
+abbrev pub IsBadList : Option (List ℕ) → Type 0
+IsBadList None = ⊥
+IsBadList (Some text) = ¬ IsMapList text
+
+-- the option has a value that is no number of ports
+abbrev pub IsBadCount : Option (List ℕ) → Type 0
+IsBadCount None = ⊥
+IsBadCount (Some word) = ¬ IsPortCount word
+
+-- matches with such a list for --maps, or memory was refused
+abbrev pub RefusesList : List Row → UsageFault → Type 0
+RefusesList rows Memory = Unit {0}
+RefusesList rows BadOption = IsBadList (first_of (codes "maps") rows)
+RefusesList rows (Parse text) = ⊥
+
+-- matches with such a count for --ports
+abbrev pub RefusesCount : List Row → UsageFault → Type 0
+RefusesCount rows Memory = ⊥
+RefusesCount rows BadOption = IsBadCount (first_of (codes "ports") rows)
+RefusesCount rows (Parse text) = ⊥

@@ -1,0 +1,128 @@
+//! Writes: each status, each place and each reply path, with the memory after them.
+
+use super::tables::{compare_all, printed};
+use std::alloc::Global;
+use std::test::Fail;
+use trial::Row;
+
+/// Verdicts on writes.
+const VERDICTS: &str = "\
+a plain write, then a read||W,R|67012C00FE0000ED,D
+a wrong data CRC leaves memory||V,R|67012C04FE00009E,Z
+a write that is denied|mov r0, 10; exit|W,R|67012C0AFE0000D2,67010C0AFE000100000000A600
+a write with a wrong key|mov r0, 3; exit|W|67012C03FE0000B8
+a write to a wrong logical address|mov r0, 12; exit|W|67012C0CFE000078
+a verdict that is no status|mov r0, 1; exit|W|67012C0AFE0000D2
+a verdict whose low half is yes|lddw r0, 0x100000000; exit|W|67012C0AFE0000D2
+the verdict before the data|mov r0, 3; exit|V|67012C03FE0000B8
+a write that is denied leaves memory|ldxb r4, [r1+2]; mov r0, 10; jeq r4, 0x6C, +1; mov r0, 0; exit|W,R|67012C0AFE0000D2,Z
+a key that fits|ldxb r4, [r1+3]; mov r0, 3; jne r4, 0x20, +1; mov r0, 0; exit|FE016C2067006500A0000000000010450123456789ABCDEF101112131415161756|67012C00FE006533
+a key that does not|ldxb r4, [r1+3]; mov r0, 3; jne r4, 0x20, +1; mov r0, 0; exit|FE016C2167006600A0000000000010630123456789ABCDEF101112131415161756|67012C03FE006614
+a read-modify-write whose key does not fit|ldxb r4, [r1+3]; mov r0, 3; jne r4, 0x20, +1; mov r0, 0; exit|FE015C2167006700A0000000000002F7000000|67011C03FE006700000000D300
+";
+
+/// Bodies that are not as the header has them.
+const BODIES: &str = "\
+cut after 20 bytes||FE016C0067000000A00000000000109F01234567,R|67012C05FE000012,Z
+cut after 20 bytes, with an error end||FE016C0067000000A00000000000109F01234567 EEP,R|67012C07FE0000CB,Z
+cut after 10 bytes||FE016C0067000000A000,R|discard 1,Z
+an error end||FE016C0067000000A00000000000109F0123456789ABCDEF101112131415161756 EEP,R|67012C07FE0000CB,Z
+without the last byte||FE016C0067000000A00000000000109F0123456789ABCDEF1011121314151617,R|67012C05FE000012,Z
+the header alone||FE016C0067000000A00000000000109F,R|67012C05FE000012,Z
+a byte too many||FE016C0067000000A00000000000109F0123456789ABCDEF10111213141516175600,R|67012C06FE000047,Z
+a byte too many and another data CRC||FE016C0067000000A00000000000109F0123456789ABCDEF10111213141516175700,R|67012C06FE000047,Z
+a byte too many, with an error end||FE016C0067000000A00000000000109F0123456789ABCDEF10111213141516175600 EEP,R|67012C07FE0000CB,Z
+no bytes||FE016C0067001000A00000000000000000|67012C00FE0010F1
+no bytes and another data CRC||FE016C0067001000A00000000000000001|67012C04FE001082
+no bytes and no data CRC||FE016C0067001000A000000000000000|67012C05FE00100E
+no bytes and a byte too many||FE016C0067001000A0000000000000000000|67012C06FE00105B
+a verified write with another data CRC||FE017C0067002200A00000000000103D0123456789ABCDEF101112131415161757,FE014C0067002300A00000000000044D|67013C04FE0022DD,67010C00FE002300000004940000000000
+";
+
+/// The ends of the bank.
+const PLACES: &str = "\
+the last byte||FE016C0067001100A000FFFF000001AA5A81,FE014C0067000100A000FFFF00000153|67012C00FE001160,67010C00FE000100000001E05A81
+over the end||FE016C0067001200A000FFFF000002AC5AA53F,FE014C0067000100A000FFFF00000153|67012C0AFE00122D,67010C00FE000100000001E00000
+two bytes to the last without increment||FE01680067001300A000FFFF000002FF5AA53F,FE014C0067001400A000FFFE000002B2|67012800FE0013A5,67010C00FE001400000002C500A54E
+one byte below the bank||FE016C00670015009FFFFFFF000002D95AA53F,R|67012C0AFE001558,Z
+no bytes at the end||FE016C0067001700A0010000000000F300|67012C0AFE0017BB
+no bytes at the last byte||FE016C0067001800A000FFFF000000B600,FE014C0067000100A000FFFF00000153|67012C00FE0018FF,67010C00FE000100000001E00000
+the last of two bytes without increment||FE01680067000800A0000000000002BE1122A3,FE014C0067001900A000000000000214|67012800FE0008C5,67010C00FE001900000002462200F0
+";
+
+/// Reply paths, writes without a reply, and checks of the header.
+const REPLIES: &str = "\
+without reply||FE01640067002700A0000000000010620123456789ABCDEF101112131415161756,FE01640067002800A0000000000010070000000000000000000000000000000001,FE014C0067002900A0000000000010AF|-,-,67010C00FE002900000010D00123456789ABCDEF101112131415161756
+a reply path of two bytes||FE016D000000050667002A00A0000000000004C60123456799,FE014D000000050667000200A0000000000004BC|050667012D00FE002AD1,050667010D00FE000200000004A00123456799
+a reply path of twelve zeros||FE016F0000000000000000000000000067002B00A0000000000004DE0123456799,FE014D000000000067000200A000000000000461|0067012F00FE002B53,0067010D00FE000200000004A00123456799
+a reply path of eight bytes||FE016E00070000000000000067002C00A0000000000004010123456799|070000000000000067012E00FE002CCF
+a reply path of zeros, with another data CRC||FE016D000000000067002D00A0000000000004DF0123456700,R|0067012D04FE002DD7,Z
+an unused code||FE01580067000700A00000000000007F|67011802FE0007000000004C00
+reserved packet types||FE01AC0067006000A0000000000000D6,FE018C0067006000A0000000000000AC|67012C02FE00607C,67010C02FE0060000000007100
+to another logical address||FD016C0067006100A00000000000107A0123456789ABCDEF101112131415161756,R|67012C0CFD006110,Z
+to a bank that is not there||FE016C0067006201A0000000000010B20123456789ABCDEF101112131415161756,R|67012C0AFE006279,Z
+a wrong header CRC||FE016C0067000000A00000000000109E0123456789ABCDEF101112131415161756,R|discard 4,Z
+to staging, which is not served||FE016C00670063FF00000000000010ED0123456789ABCDEF101112131415161756,R|67012C01FE00635B,Z
+";
+
+#[test]
+fn verdicts_on_writes(rt: HostRuntime) -> Result<(), Fail> {
+    compare_all(&rt, rt.alloc(), VERDICTS)
+}
+
+#[test]
+fn bodies_of_writes(rt: HostRuntime) -> Result<(), Fail> {
+    compare_all(&rt, rt.alloc(), BODIES)
+}
+
+#[test]
+fn places_of_writes(rt: HostRuntime) -> Result<(), Fail> {
+    compare_all(&rt, rt.alloc(), PLACES)
+}
+
+#[test]
+fn replies_to_writes(rt: HostRuntime) -> Result<(), Fail> {
+    compare_all(&rt, rt.alloc(), REPLIES)
+}
+
+/// The packet line of a write of this header, whose bytes are 0, 7, 14 and so on modulo 256.
+fn stepped_write(alloc: Global, header: &str, bytes: u64, crc: &str) -> Result<String, Fail> {
+    let mut line = format!(in alloc; "0 {header}")?;
+    let mut byte: u8 = 0;
+    for _ in 0..bytes {
+        line.push_str(format!(in alloc; "{byte:02X}")?.as_str())?;
+        byte = byte.wrapping_add(7);
+    }
+    line.push_str(crc)?;
+    line.push_str(" EOP\n")?;
+    Ok(line)
+}
+
+/// Long writes on a fresh node: what a row shows, the header, how many bytes in hexadecimal digits, their CRC,
+/// and a read behind the write; then the two replies.
+const LONG_WRITES: &str = "\
+1,024 bytes that are verified|FE017C0067002000A00000000004000C|400|72|FE014C0067000100A00003FE0000042F|67013C00FE00204D|67010C00FE00010000000476F2F90000E5
+1,025 bytes that are verified|FE017C0067002000A00000000004019D|401|B7|FE014C0067000100A00003FE0000042F|67013C09FE002027|67010C00FE000100000004760000000000
+4,096 bytes|FE016C0067002400A0000000001000E1|1000|05|FE014C0067002500A0000FFC000008E2|67012C00FE0024D2|67010C00FE002500000008A8E4EBF2F900000000D6
+4,097 bytes|FE016C0067002400A000000000100170|1001|96|FE014C0067002500A0000FFC000008E2|67012C0AFE0024ED|67010C00FE002500000008A8000000000000000000
+";
+
+#[test]
+fn long_writes(rt: HostRuntime) -> Result<(), Fail> {
+    let alloc = rt.alloc();
+    for line in LONG_WRITES.lines() {
+        let mut row = Row::of(line);
+        let shows = row.part()?;
+        let header = row.part()?;
+        let bytes = row.hexadecimal()?;
+        let mut lines = stepped_write(alloc, header, bytes, row.part()?)?;
+        let read = row.part()?;
+        lines.push_str(format!(in alloc; "0 {read} EOP")?.as_str())?;
+        let written = row.part()?;
+        let reply = row.part()?;
+        let wanted = format!(in alloc; "0 {written} EOP\n0 {reply} EOP\n")?;
+        let found = printed(alloc, "", lines.as_str())?;
+        assert_eq!(rt; found.as_str(), wanted.as_str(), "at {shows}");
+    }
+    Ok(())
+}

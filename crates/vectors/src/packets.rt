@@ -1,0 +1,23 @@
+//! Packets of two ports on one node.
+
+use anyhow::{Result, anyhow};
+use bver::MapSizes;
+use commands::{HostFiles, Job, perform};
+use std::alloc::Global;
+use std::rt;
+
+/// The file of packet lines.
+const PACKETS: &str = "packets.txt";
+
+/// What `judge` prints of the packet lines by the factory program, on a node of two ports without counter maps.
+pub fn printed<R: rt::Files + Input>(rt: &R, alloc: Global) -> Result<String> {
+    let job = Job::Judge {
+        lines: String::from_str(alloc, PACKETS)?,
+        image: None,
+        sizes: MapSizes::new(&[])?,
+        ports: 2,
+    };
+    let mut out = Vec::new(alloc);
+    perform(alloc, &job, &mut HostFiles { rt }, &mut out).map_err(|_| anyhow!("cannot write"))?;
+    Ok(String::from_utf8(out)?)
+}
