@@ -13,7 +13,10 @@ const LDXDW: u8 = 0x79;
 const STXDW: u8 = 0x7B;
 const JEQ: u8 = 0x15;
 const JNE: u8 = 0x55;
+const JLT: u8 = 0xA5;
 const JGT32: u8 = 0x26;
+const CALL: u8 = 0x85;
+const LOAD_MAP: (u8, u8) = (0x18, 5);
 const EXIT: u8 = 0x95;
 
 type Slot = [u8; 8];
@@ -55,6 +58,23 @@ pub fn slots(image: &[u8]) -> f64 {
 /// Yes to every command.
 pub fn yes() -> Vec<u8> {
     image(&[insn(MOV, 0, 0, 0, 0), insn(EXIT, 0, 0, 0, 0)])
+}
+
+/// A ticket of the only cell of map 0: the first five runs say yes.
+pub fn quota() -> Vec<u8> {
+    let (opcode, subtype) = LOAD_MAP;
+    let slots = [
+        insn(opcode, 1, subtype, 0, 0),
+        insn(0, 0, 0, 0, 0),
+        insn(MOV, 2, 0, 0, 0),
+        insn(CALL, 0, 0, 0, 2),
+        insn(JLT, 0, 0, 2, 5),
+        insn(MOV, 0, 0, 0, 10),
+        insn(EXIT, 0, 0, 0, 0),
+        insn(MOV, 0, 0, 0, 0),
+        insn(EXIT, 0, 0, 0, 0),
+    ];
+    image_with(8, &[], &slots)
 }
 
 /// Eight slots of arithmetic, loads from the header, the stack and a jump that is not taken.

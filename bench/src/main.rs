@@ -1,6 +1,7 @@
 //! Times the target: one line a measure, with the best and the median of several rounds.
 
 mod images;
+mod packets;
 mod speed;
 
 use std::time::{Duration, Instant};
@@ -8,13 +9,16 @@ use std::time::{Duration, Instant};
 /// How often a measure is taken.
 const ROUNDS: usize = 9;
 
-/// The plain read of 16 bytes at 0xA0000000 (docs/PROTOCOL.md).
+/// The header of the plain read of 16 bytes at 0xA0000000 (docs/PROTOCOL.md).
 const READ: [u8; 16] = [
     0xFE, 0x01, 0x4C, 0x00, 0x67, 0x00, 0x01, 0x00, 0xA0, 0x00, 0x00, 0x00, 0x00, 0x00, 0x10, 0xC9,
 ];
 
 /// The packets of one node: its journal holds no more.
 const PACKETS: u32 = 65_536;
+
+/// The packets of one node where they are long.
+const LONG_PACKETS: u32 = 8_192;
 
 fn main() {
     let block: Vec<u8> = (0..4096u32).map(|k| (k * 31 % 251) as u8).collect();
@@ -39,14 +43,30 @@ fn main() {
         measure(name, "images", 200.0, || timed(|| speed::verify(&image, 200)));
     }
 
-    for (name, image) in [
-        ("judge and finish, yes image", images::yes()),
-        ("judge and finish, 100 instructions", images::fields()),
+    let quota = images::quota();
+    measure("run of the quota image", "runs", 1_000_000.0, || {
+        timed(|| speed::run(&quota, &READ, 1_000_000))
+    });
+
+    let read = packets::read();
+    serve("plain read, yes image", &images::yes(), &read, PACKETS);
+    serve("plain read, 100 instructions", &images::fields(), &read, PACKETS);
+    serve("plain read, quota image", &quota, &read, PACKETS);
+    for (name, packet, count) in [
+        ("write of 16 bytes", packets::write(16), PACKETS),
+        ("write of 4096 bytes", packets::write(4096), LONG_PACKETS),
+        ("read-modify-write of 4 bytes", packets::modify(), PACKETS),
     ] {
-        let whole = rounds(|| timed(|| speed::judge(&image, &READ, PACKETS)));
-        let prepared = rounds(|| timed(|| speed::prepare(&image, &READ, PACKETS)));
-        tell(name, "packets", f64::from(PACKETS), less(whole, prepared));
+        serve(name, &images::yes(), &packet, count);
     }
+}
+
+/// Measures `judge` and `finish` of so many packets of a fresh node, which are made before.
+fn serve(name: &str, image: &[u8], packet: &[u8], count: u32) {
+    let whole = rounds(|| timed(|| speed::judge(image, packet, count)));
+    let prepared = rounds(|| timed(|| speed::prepare(image, packet, count)));
+    let name = format!("judge and finish, {name}");
+    tell(&name, "packets", f64::from(count), less(whole, prepared));
 }
 
 /// The time of a call, or `None` where an input is refused.

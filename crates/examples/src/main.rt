@@ -9,7 +9,7 @@ use std::alloc::{AllocError, Global};
 use std::io::{self, Write};
 use std::rt;
 
-/// The names of the programs. NAME.bpf is the text of one.
+/// The programs that ask no counters. NAME.bpf is the text of one.
 const PROGRAMS: [&str; 4] = [
     "read_only_window",
     "one_initiator",
@@ -17,8 +17,15 @@ const PROGRAMS: [&str; 4] = [
     "four_initiators",
 ];
 
-/// The packet lines that each program judges.
-const LINES: &str = "packets.txt";
+/// The node on which a program judges, and the packet lines.
+#[derive(Copy)]
+struct Node<'a> {
+    /// The name of the file of packet lines.
+    lines: &'a str,
+    /// How many cells each counter map has.
+    sizes: MapSizes,
+    ports: u8,
+}
 
 /// The name of the image's file.
 fn image_of(alloc: Global, name: &str) -> Result<String, AllocError> {
@@ -26,8 +33,7 @@ fn image_of(alloc: Global, name: &str) -> Result<String, AllocError> {
 }
 
 /// The jobs of one program: its text is assembled, its image is verified, and it judges.
-fn jobs(alloc: Global, name: &str) -> Result<[Job; 3]> {
-    let sizes = MapSizes::new(&[])?;
+fn jobs(alloc: Global, name: &str, node: &Node<'_>) -> Result<[Job; 3]> {
     Ok([
         Job::Assemble {
             text: format!(in alloc; "{name}.bpf")?,
@@ -35,13 +41,13 @@ fn jobs(alloc: Global, name: &str) -> Result<[Job; 3]> {
         },
         Job::Verify {
             image: image_of(alloc, name)?,
-            sizes,
+            sizes: node.sizes,
         },
         Job::Judge {
-            lines: String::from_str(alloc, LINES)?,
+            lines: String::from_str(alloc, node.lines)?,
             image: Some(image_of(alloc, name)?),
-            sizes,
-            ports: 1,
+            sizes: node.sizes,
+            ports: node.ports,
         },
     ])
 }
@@ -51,10 +57,11 @@ fn show<R: rt::Files + Input, W: Write>(
     rt: &R,
     alloc: Global,
     name: &str,
+    node: &Node<'_>,
     out: &mut W,
 ) -> Result<()> {
     writeln!(out, "== {name}")?;
-    for job in &jobs(alloc, name)? {
+    for job in &jobs(alloc, name, node)? {
         let status = perform(alloc, job, &mut HostFiles { rt }, out).map_err(|_| anyhow!(
             "cannot write"
         ))?;
@@ -67,8 +74,18 @@ fn show<R: rt::Files + Input, W: Write>(
 
 fn main(rt: HostRuntime) -> Result<()> {
     let mut out = io::writer(&rt);
+    let alone = Node {
+        lines: "packets.txt",
+        sizes: MapSizes::new(&[])?,
+        ports: 1,
+    };
     for name in PROGRAMS {
-        show(&rt, rt.alloc(), name, &mut out)?;
+        show(&rt, rt.alloc(), name, &alone, &mut out)?;
     }
-    Ok(())
+    let pair = Node {
+        lines: "two_ports.txt",
+        sizes: MapSizes::new(&[32])?,
+        ports: 2,
+    };
+    show(&rt, rt.alloc(), "quota", &pair, &mut out)
 }

@@ -16,9 +16,9 @@ use std::alloc::Global;
 /// The checksum where an input was refused.
 pub const REFUSED: u64 = u64::MAX;
 
-/// The program of an image, without maps.
+/// The program of an image, for one map of one cell.
 fn accepted(alloc: Global, image: &[u8]) -> Option<Accepted> {
-    let sizes = MapSizes::new(&[]).ok()?;
+    let sizes = MapSizes::new(&[1]).ok()?;
     let image = Image::read(alloc, image).ok()?;
     verify(alloc, image, &sizes).ok()
 }
@@ -70,14 +70,14 @@ pub extern "C" fn speed_run(alloc: Global, image: &[u8], header: &[u8], rounds: 
     let Ok((_cells, mut seats)) = Cells::new(alloc, &program.sizes(), 1) else {
         return REFUSED;
     };
-    let Some(seat) = seats.first_mut() else {
+    let Some(mut seat) = seats.pop() else {
         return REFUSED;
     };
     let mut stack = [0; 512];
     let mut sum: u64 = 0;
     for round in 0..rounds {
         let port = (round % 32) as u8;
-        sum = sum.wrapping_add(run(&program, front, tail, port, &mut stack, seat));
+        sum = sum.wrapping_add(run(&program, front, tail, port, &mut stack, &mut seat));
     }
     sum
 }

@@ -5,4 +5,4 @@ abbrev pub invariant-loop-packet : goal.invariant-loop-packet
 invariant-loop-packet l =
     (goal.iterator-loop-packet).can_next l.packet-iterator
     × (goal.iterator-loop-packet).is_finite l.packet-iterator
-    × (length l.pass.shares ≡ length l.node)
+    × (length l.pass.shares ≡ length l.banks)
