@@ -79,7 +79,7 @@ impl<'a> Wanted<'a> {
             program: row.part()?,
             budget: row.part()?.parse::<u32>()?,
             sizes: sizes(alloc, row.part()?)?,
-            port: row.part()?.parse::<u8>()? % 32,
+            port: row.part()?.parse::<u8>()?,
             answers: answers_of(alloc, row.part()?)?,
             questions: row.part()?,
             verdict: row.part()?.parse::<u64>()?,
@@ -94,13 +94,15 @@ fn check(rt: &impl Abort, alloc: Global, line: &str) -> Result<(), Fail> {
     let mut row = Row::of(line);
     let name = row.part()?;
     let wanted = Wanted::read(alloc, &mut row)?;
+    let port = wanted.port;
+    assert!(rt; port < 32);
     let image = image_of_text(alloc, wanted.program, wanted.budget)?;
     let accepted = verify(alloc, image.copy()?, &wanted.sizes)?;
     for old in [0x00, 0xa5] {
         let mut questions = String::new(alloc);
         let found = by_turns(
             &accepted,
-            wanted.port,
+            port,
             &mut [old; 512],
             &wanted.answers,
             &mut questions,
@@ -117,7 +119,7 @@ fn check(rt: &impl Abort, alloc: Global, line: &str) -> Result<(), Fail> {
             &wanted.sizes,
             &FRONT,
             &TAIL,
-            wanted.port,
+            port,
             &wanted.answers,
             steps,
         )
