@@ -46,8 +46,10 @@ pub fn assemble(alloc: Global, text: &str) -> Result<Image, AsmFault>
 
 /// What the lines declare.
 fn read_lines(alloc: Global, text: &str, survey: &Survey) -> Result<Draft, AsmFault>
-    ensures parts { IfOk result (SayParts (slot_named survey.now.names) (slice_split (λ c. c == 10) text.now)) }
-    ensures exact { (p : Program) (t : IsText text.now p) → SurveysText t survey.now → MatchResult result (ArePartsOf t.items) (λ fault. fault ≡ out_of_memory) }
+    ensures parts { IfOk result
+        (SayParts (slot_named survey.now.names) (slice_split (λ c. c == 10) text.now)) }
+    ensures exact { (p : Program) (t : IsText text.now p) → SurveysText t survey.now
+        → MatchResult result (ArePartsOf t.items) (λ fault. fault ≡ out_of_memory) }
 {
     let mut parts = Draft::new(alloc);
     let mut number: u32 = 0;

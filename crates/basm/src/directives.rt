@@ -16,8 +16,10 @@ use bpf::{Loop, MAX_SLOTS, is_budget};
 
 /// The budget that the operands of `.budget` declare.
 pub fn read_budget(operands: &[&str]) -> Result<u32, AsmCode>
-    ensures writes { IfOk result (λ budget. One (texts operands.now) (λ a. WritesNumber a (pos budget))) }
-    ensures exact { (n : ℕ) → IsBudget n → One (texts operands.now) (λ a. WritesNumber a (pos n)) → result ≡ Ok n }
+    ensures writes { IfOk result
+        (λ budget. One (texts operands.now) (λ a. WritesNumber a (pos budget))) }
+    ensures exact { (n : ℕ) → IsBudget n → One (texts operands.now) (λ a. WritesNumber a (pos n))
+        → result ≡ Ok n }
 {
     let [budget] = operands else {
         return Err(AsmCode::BadOperand);
@@ -33,7 +35,8 @@ pub fn read_budget(operands: &[&str]) -> Result<u32, AsmCode>
 /// The loop that the operands of `.loop` declare.
 pub fn read_loop(operands: &[&str], survey: &Survey) -> Result<Loop, AsmCode>
     ensures writes { IfOk result (WritesLoop (slot_named survey.now.names) (texts operands.now)) }
-    ensures exact { (l : Loop) → IsLoop survey.now.slots l → survey.now.slots ≤ 512 → WritesLoop (slot_named survey.now.names) (texts operands.now) l → result ≡ Ok l }
+    ensures exact { (l : Loop) → IsLoop survey.now.slots l → survey.now.slots ≤ 512
+        → WritesLoop (slot_named survey.now.names) (texts operands.now) l → result ≡ Ok l }
 {
     let [head, back, bound, counter] = operands else {
         return Err(AsmCode::BadOperand);
@@ -76,7 +79,8 @@ fn most_slots(survey: &Survey) -> u16
 /// A number of 16 bits in a field of `.loop`.
 fn read_short(word: &str) -> Result<u16, AsmCode>
     ensures writes { IfOk result (λ value. WritesNumber word.now (pos value)) }
-    ensures exact { (value : ℕ) → value < 65536 → WritesNumber word.now (pos value) → result ≡ Ok value }
+    ensures exact { (value : ℕ) → value < 65536 → WritesNumber word.now (pos value)
+        → result ≡ Ok value }
 {
     let value = field(word, AsmCode::BadLoop)?;
     u16::try_from(value).map_err(|_| AsmCode::BadLoop)
@@ -85,7 +89,8 @@ fn read_short(word: &str) -> Result<u16, AsmCode>
 /// A slot, by its number or a name.
 fn read_end(word: &str, names: &Names) -> Result<u16, AsmCode>
     ensures writes { IfOk result (WritesEnd (slot_named names.now) word.now) }
-    ensures exact { (slot : ℕ) → slot < 65536 → WritesEnd (slot_named names.now) word.now slot → result ≡ Ok slot }
+    ensures exact { (slot : ℕ) → slot < 65536 → WritesEnd (slot_named names.now) word.now slot
+        → result ≡ Ok slot }
 {
     if is_name(word) {
         let slot = names.slot_of(word).ok_or(AsmCode::BadLabel)?;

@@ -48,8 +48,12 @@ impl Draft {
 
     /// Adds what a line says.
     pub fn add_line(&mut self, alloc: Global, survey: &Survey, line: &str) -> Result<(), AsmCode>
-        ensures adds { IfOk result (λ _. AddsLine (slot_named survey.now.names) line.now self.old self.new) }
-        ensures exact { (item : Item) → IsLine (slot_named survey.now.names) self.old.slots line.now item → HasRoom survey.now.slots item self.old → UnlessMemory result (λ _. AddsItem item self.old self.new) }
+        ensures adds { IfOk result
+            (λ _. AddsLine (slot_named survey.now.names) line.now self.old self.new) }
+        ensures exact { (item : Item)
+            → IsLine (slot_named survey.now.names) self.old.slots line.now item
+            → HasRoom survey.now.slots item self.old
+            → UnlessMemory result (λ _. AddsItem item self.old self.new) }
     {
         let statement = read_statement(alloc, line)?;
         let operands = statement.operands.as_slice();
@@ -65,8 +69,12 @@ impl Draft {
     }
 
     fn add_budget(&mut self, operands: &[&str]) -> Result<(), AsmCode>
-        ensures adds { IfOk result (λ _. (n : ℕ) × One (texts operands.now) (λ a. WritesNumber a (pos n)) × AddsItem (Budget n) self.old self.new) }
-        ensures exact { (n : ℕ) → One (texts operands.now) (λ a. WritesNumber a (pos n)) → IsBudget n → self.old.budget ≡ None → UnlessMemory result (λ _. AddsItem (Budget n) self.old self.new) }
+        ensures adds { IfOk result
+            (λ _. (n : ℕ) × One (texts operands.now) (λ a. WritesNumber a (pos n))
+            × AddsItem (Budget n) self.old self.new) }
+        ensures exact { (n : ℕ) → One (texts operands.now) (λ a. WritesNumber a (pos n))
+            → IsBudget n → self.old.budget ≡ None
+            → UnlessMemory result (λ _. AddsItem (Budget n) self.old self.new) }
     {
         let budget = read_budget(operands)?;
         if self.budget.is_some() {
@@ -77,8 +85,13 @@ impl Draft {
     }
 
     fn add_loop(&mut self, operands: &[&str], survey: &Survey) -> Result<(), AsmCode>
-        ensures adds { IfOk result (λ _. (l : ALoop) × WritesLoop (slot_named survey.now.names) (texts operands.now) l × AddsItem (OneLoop l) self.old self.new) }
-        ensures exact { (l : ALoop) → WritesLoop (slot_named survey.now.names) (texts operands.now) l → HasRoom survey.now.slots (OneLoop l) self.old → UnlessMemory result (λ _. AddsItem (OneLoop l) self.old self.new) }
+        ensures adds { IfOk result
+            (λ _. (l : ALoop) × WritesLoop (slot_named survey.now.names) (texts operands.now) l
+            × AddsItem (OneLoop l) self.old self.new) }
+        ensures exact { (l : ALoop)
+            → WritesLoop (slot_named survey.now.names) (texts operands.now) l
+            → HasRoom survey.now.slots (OneLoop l) self.old
+            → UnlessMemory result (λ _. AddsItem (OneLoop l) self.old self.new) }
     {
         let (found, _) = both(read_loop(operands, survey), self.loop_room())?;
         if self.has_head(found.head) {
@@ -110,8 +123,15 @@ impl Draft {
         operands: &[&str],
         survey: &Survey,
     ) -> Result<(), AsmCode>
-        ensures adds { IfOk result (λ _. (insn : AnInsn) × WritesInsn (slot_named survey.now.names) self.old.slots (mnemonic_word found) (texts operands.now) insn × AddsItem (Code insn) self.old self.new × (self.new.slots ≤ 512)) }
-        ensures exact { (insn : AnInsn) → WritesInsn (slot_named survey.now.names) self.old.slots (mnemonic_word found) (texts operands.now) insn → self.old.slots + slots_of insn ≤ 512 → UnlessMemory result (λ _. AddsItem (Code insn) self.old self.new) }
+        ensures adds { IfOk result
+            (λ _. (insn : AnInsn)
+            × WritesInsn (slot_named survey.now.names) self.old.slots (mnemonic_word found)
+            (texts operands.now) insn × AddsItem (Code insn) self.old self.new
+            × (self.new.slots ≤ 512)) }
+        ensures exact { (insn : AnInsn)
+            → WritesInsn (slot_named survey.now.names) self.old.slots (mnemonic_word found)
+            (texts operands.now) insn → self.old.slots + slots_of insn ≤ 512
+            → UnlessMemory result (λ _. AddsItem (Code insn) self.old self.new) }
     {
         self.slots = add_insn(&mut self.insns, found, operands, &survey.names, self.slots)?;
         Ok(())

@@ -30,8 +30,14 @@ pub fn add_insn(
     names: &Names,
     slot: u32,
 ) -> Result<u32, AsmCode>
-    ensures writes { IfOk result (λ after. (insn : AnInsn) × WritesInsn (slot_named names.now) slot (mnemonic_word found) (texts operands.now) insn × PushesInsn insns.old.items insns.new.items slot insn after) }
-    ensures exact { (insn : AnInsn) → WritesInsn (slot_named names.now) slot (mnemonic_word found) (texts operands.now) insn → slot + slots_of insn ≤ 512 → UnlessMemory result (PushesInsn insns.old.items insns.new.items slot insn) }
+    ensures writes { IfOk result
+        (λ after. (insn : AnInsn)
+        × WritesInsn (slot_named names.now) slot (mnemonic_word found) (texts operands.now) insn
+        × PushesInsn insns.old.items insns.new.items slot insn after) }
+    ensures exact { (insn : AnInsn)
+        → WritesInsn (slot_named names.now) slot (mnemonic_word found) (texts operands.now) insn
+        → slot + slots_of insn ≤ 512
+        → UnlessMemory result (PushesInsn insns.old.items insns.new.items slot insn) }
 {
     match read_insn(found, operands, names, slot) {
         Ok(insn) => push_insn(insns, slot, &insn),
@@ -63,8 +69,11 @@ fn slot_after(slot: u32, insn: &Insn) -> Result<u32, AsmCode>
 
 /// The instruction of this name with these operands, at the slot.
 fn read_insn(found: Mnemonic, operands: &[&str], names: &Names, slot: u32) -> Result<Insn, AsmCode>
-    ensures writes { IfOk result (WritesInsn (slot_named names.now) slot (mnemonic_word found) (texts operands.now)) }
-    ensures exact { (insn : Insn) → WritesInsn (slot_named names.now) slot (mnemonic_word found) (texts operands.now) insn → result ≡ Ok insn }
+    ensures writes { IfOk result
+        (WritesInsn (slot_named names.now) slot (mnemonic_word found) (texts operands.now)) }
+    ensures exact { (insn : Insn)
+        → WritesInsn (slot_named names.now) slot (mnemonic_word found) (texts operands.now) insn
+        → result ≡ Ok insn }
 {
     mnemonic_laws();
     match found {
@@ -120,8 +129,13 @@ fn source(word: &str) -> Result<Operand, AsmCode>
 }
 
 fn arithmetic(op: AluOp, width: Width, operands: &[&str]) -> Result<Insn, AsmCode>
-    ensures writes { (names : List ℕ → Option ℕ) (slot : ℕ) → IfOk result (WritesInsn names slot (mnemonic_word (Mnemonic.Arithmetic op width)) (texts operands.now)) }
-    ensures exact { (dst : ℕ) (src : Operand) → Two (texts operands.now) (λ a. WritesRegister a dst) (λ b. WritesOperand b src) → result ≡ Ok (Insn.Alu op width dst src) }
+    ensures writes { (names : List ℕ → Option ℕ) (slot : ℕ)
+        → IfOk result
+        (WritesInsn names slot (mnemonic_word (Mnemonic.Arithmetic op width))
+        (texts operands.now)) }
+    ensures exact { (dst : ℕ) (src : Operand)
+        → Two (texts operands.now) (λ a. WritesRegister a dst) (λ b. WritesOperand b src)
+        → result ≡ Ok (Insn.Alu op width dst src) }
 {
     let [dst, src] = operands else {
         return Err(AsmCode::BadOperand);
@@ -136,8 +150,11 @@ fn arithmetic(op: AluOp, width: Width, operands: &[&str]) -> Result<Insn, AsmCod
 }
 
 fn negation(width: Width, operands: &[&str]) -> Result<Insn, AsmCode>
-    ensures writes { (names : List ℕ → Option ℕ) (slot : ℕ) → IfOk result (WritesInsn names slot (mnemonic_word (Mnemonic.Negation width)) (texts operands.now)) }
-    ensures exact { (dst : ℕ) → One (texts operands.now) (λ a. WritesRegister a dst) → result ≡ Ok (Insn.Negate width dst) }
+    ensures writes { (names : List ℕ → Option ℕ) (slot : ℕ)
+        → IfOk result
+        (WritesInsn names slot (mnemonic_word (Mnemonic.Negation width)) (texts operands.now)) }
+    ensures exact { (dst : ℕ) → One (texts operands.now) (λ a. WritesRegister a dst)
+        → result ≡ Ok (Insn.Negate width dst) }
 {
     let [dst] = operands else {
         return Err(AsmCode::BadOperand);
@@ -147,8 +164,13 @@ fn negation(width: Width, operands: &[&str]) -> Result<Insn, AsmCode>
 }
 
 fn signed_move(extension: Extension, operands: &[&str]) -> Result<Insn, AsmCode>
-    ensures writes { (names : List ℕ → Option ℕ) (slot : ℕ) → IfOk result (WritesInsn names slot (mnemonic_word (Mnemonic.SignedMove extension)) (texts operands.now)) }
-    ensures exact { (dst src : ℕ) → Two (texts operands.now) (λ a. WritesRegister a dst) (λ b. WritesRegister b src) → result ≡ Ok (Insn.MoveSigned extension dst src) }
+    ensures writes { (names : List ℕ → Option ℕ) (slot : ℕ)
+        → IfOk result
+        (WritesInsn names slot (mnemonic_word (Mnemonic.SignedMove extension))
+        (texts operands.now)) }
+    ensures exact { (dst src : ℕ)
+        → Two (texts operands.now) (λ a. WritesRegister a dst) (λ b. WritesRegister b src)
+        → result ≡ Ok (Insn.MoveSigned extension dst src) }
 {
     let [dst, src] = operands else {
         return Err(AsmCode::BadOperand);
@@ -162,8 +184,11 @@ fn signed_move(extension: Extension, operands: &[&str]) -> Result<Insn, AsmCode>
 }
 
 fn byte_swap(swap: Swap, bits: SwapBits, operands: &[&str]) -> Result<Insn, AsmCode>
-    ensures writes { (names : List ℕ → Option ℕ) (slot : ℕ) → IfOk result (WritesInsn names slot (mnemonic_word (Mnemonic.Swapping swap bits)) (texts operands.now)) }
-    ensures exact { (dst : ℕ) → One (texts operands.now) (λ a. WritesRegister a dst) → result ≡ Ok (Insn.ByteSwap swap bits dst) }
+    ensures writes { (names : List ℕ → Option ℕ) (slot : ℕ)
+        → IfOk result
+        (WritesInsn names slot (mnemonic_word (Mnemonic.Swapping swap bits)) (texts operands.now)) }
+    ensures exact { (dst : ℕ) → One (texts operands.now) (λ a. WritesRegister a dst)
+        → result ≡ Ok (Insn.ByteSwap swap bits dst) }
 {
     let [dst] = operands else {
         return Err(AsmCode::BadOperand);
@@ -173,8 +198,12 @@ fn byte_swap(swap: Swap, bits: SwapBits, operands: &[&str]) -> Result<Insn, AsmC
 }
 
 fn load(size: LoadSize, operands: &[&str]) -> Result<Insn, AsmCode>
-    ensures writes { (names : List ℕ → Option ℕ) (slot : ℕ) → IfOk result (WritesInsn names slot (mnemonic_word (Mnemonic.Loading size)) (texts operands.now)) }
-    ensures exact { (dst : ℕ) (place : Place) → Two (texts operands.now) (λ a. WritesRegister a dst) (λ b. WritesPlace b place) → result ≡ Ok (Insn.Load size dst place) }
+    ensures writes { (names : List ℕ → Option ℕ) (slot : ℕ)
+        → IfOk result
+        (WritesInsn names slot (mnemonic_word (Mnemonic.Loading size)) (texts operands.now)) }
+    ensures exact { (dst : ℕ) (place : Place)
+        → Two (texts operands.now) (λ a. WritesRegister a dst) (λ b. WritesPlace b place)
+        → result ≡ Ok (Insn.Load size dst place) }
 {
     let [dst, place] = operands else {
         return Err(AsmCode::BadOperand);
@@ -184,8 +213,12 @@ fn load(size: LoadSize, operands: &[&str]) -> Result<Insn, AsmCode>
 }
 
 fn store(size: Size, operands: &[&str]) -> Result<Insn, AsmCode>
-    ensures writes { (names : List ℕ → Option ℕ) (slot : ℕ) → IfOk result (WritesInsn names slot (mnemonic_word (Mnemonic.Storing size)) (texts operands.now)) }
-    ensures exact { (place : Place) (value : ℤ) → Two (texts operands.now) (λ a. WritesPlace a place) (λ b. WritesNumber b value) → result ≡ Ok (Insn.Store size place (Operand.Immediate value)) }
+    ensures writes { (names : List ℕ → Option ℕ) (slot : ℕ)
+        → IfOk result
+        (WritesInsn names slot (mnemonic_word (Mnemonic.Storing size)) (texts operands.now)) }
+    ensures exact { (place : Place) (value : ℤ)
+        → Two (texts operands.now) (λ a. WritesPlace a place) (λ b. WritesNumber b value)
+        → result ≡ Ok (Insn.Store size place (Operand.Immediate value)) }
 {
     let [place, src] = operands else {
         return Err(AsmCode::BadOperand);
@@ -196,8 +229,13 @@ fn store(size: Size, operands: &[&str]) -> Result<Insn, AsmCode>
 }
 
 fn store_register(size: Size, operands: &[&str]) -> Result<Insn, AsmCode>
-    ensures writes { (names : List ℕ → Option ℕ) (slot : ℕ) → IfOk result (WritesInsn names slot (mnemonic_word (Mnemonic.StoringRegister size)) (texts operands.now)) }
-    ensures exact { (place : Place) (src : ℕ) → Two (texts operands.now) (λ a. WritesPlace a place) (λ b. WritesRegister b src) → result ≡ Ok (Insn.Store size place (Operand.FromRegister src)) }
+    ensures writes { (names : List ℕ → Option ℕ) (slot : ℕ)
+        → IfOk result
+        (WritesInsn names slot (mnemonic_word (Mnemonic.StoringRegister size))
+        (texts operands.now)) }
+    ensures exact { (place : Place) (src : ℕ)
+        → Two (texts operands.now) (λ a. WritesPlace a place) (λ b. WritesRegister b src)
+        → result ≡ Ok (Insn.Store size place (Operand.FromRegister src)) }
 {
     let [place, src] = operands else {
         return Err(AsmCode::BadOperand);
@@ -214,8 +252,14 @@ fn jump(
     names: &Names,
     slot: u32,
 ) -> Result<Insn, AsmCode>
-    ensures writes { IfOk result (WritesInsn (slot_named names.now) slot (mnemonic_word (Mnemonic.Jumping condition width)) (texts operands.now)) }
-    ensures exact { (dst : ℕ) (src : Operand) (offset : ℤ) → Three (texts operands.now) (λ a. WritesRegister a dst) (λ b. WritesOperand b src) (λ c. WritesTarget (slot_named names.now) slot c offset × FitsSigned w16 offset) → result ≡ Ok (Insn.Jump (record { condition = condition; width = width; dst = dst; src = src }) offset) }
+    ensures writes { IfOk result
+        (WritesInsn (slot_named names.now) slot (mnemonic_word (Mnemonic.Jumping condition width))
+        (texts operands.now)) }
+    ensures exact { (dst : ℕ) (src : Operand) (offset : ℤ)
+        → Three (texts operands.now) (λ a. WritesRegister a dst) (λ b. WritesOperand b src)
+        (λ c. WritesTarget (slot_named names.now) slot c offset × FitsSigned w16 offset)
+        → result ≡ Ok
+        (Insn.Jump (record { condition = condition; width = width; dst = dst; src = src }) offset) }
 {
     let [dst, src, target] = operands else {
         return Err(AsmCode::BadOperand);
@@ -232,8 +276,13 @@ fn jump(
 }
 
 fn short_goto(operands: &[&str], names: &Names, slot: u32) -> Result<Insn, AsmCode>
-    ensures writes { IfOk result (WritesInsn (slot_named names.now) slot (mnemonic_word (Mnemonic.ShortGoto)) (texts operands.now)) }
-    ensures exact { (offset : ℤ) → One (texts operands.now) (λ a. WritesTarget (slot_named names.now) slot a offset × FitsSigned w16 offset) → result ≡ Ok (Insn.Goto (Distance.Short offset)) }
+    ensures writes { IfOk result
+        (WritesInsn (slot_named names.now) slot (mnemonic_word (Mnemonic.ShortGoto))
+        (texts operands.now)) }
+    ensures exact { (offset : ℤ)
+        → One (texts operands.now)
+        (λ a. WritesTarget (slot_named names.now) slot a offset × FitsSigned w16 offset)
+        → result ≡ Ok (Insn.Goto (Distance.Short offset)) }
 {
     let [target] = operands else {
         return Err(AsmCode::BadOperand);
@@ -245,8 +294,13 @@ fn short_goto(operands: &[&str], names: &Names, slot: u32) -> Result<Insn, AsmCo
 }
 
 fn long_goto(operands: &[&str], names: &Names, slot: u32) -> Result<Insn, AsmCode>
-    ensures writes { IfOk result (WritesInsn (slot_named names.now) slot (mnemonic_word (Mnemonic.LongGoto)) (texts operands.now)) }
-    ensures exact { (slots : ℤ) → One (texts operands.now) (λ a. WritesTarget (slot_named names.now) slot a slots × FitsSigned w32 slots) → result ≡ Ok (Insn.Goto (Distance.Long slots)) }
+    ensures writes { IfOk result
+        (WritesInsn (slot_named names.now) slot (mnemonic_word (Mnemonic.LongGoto))
+        (texts operands.now)) }
+    ensures exact { (slots : ℤ)
+        → One (texts operands.now)
+        (λ a. WritesTarget (slot_named names.now) slot a slots × FitsSigned w32 slots)
+        → result ≡ Ok (Insn.Goto (Distance.Long slots)) }
 {
     let [target] = operands else {
         return Err(AsmCode::BadOperand);
@@ -258,8 +312,12 @@ fn long_goto(operands: &[&str], names: &Names, slot: u32) -> Result<Insn, AsmCod
 }
 
 fn wide(operands: &[&str]) -> Result<Insn, AsmCode>
-    ensures writes { (names : List ℕ → Option ℕ) (slot : ℕ) → IfOk result (WritesInsn names slot (mnemonic_word (Mnemonic.WideLoad)) (texts operands.now)) }
-    ensures exact { (dst value : ℕ) → Two (texts operands.now) (λ a. WritesRegister a dst) (λ b. WritesWide b value) → result ≡ Ok (Insn.Wide dst value) }
+    ensures writes { (names : List ℕ → Option ℕ) (slot : ℕ)
+        → IfOk result
+        (WritesInsn names slot (mnemonic_word (Mnemonic.WideLoad)) (texts operands.now)) }
+    ensures exact { (dst value : ℕ)
+        → Two (texts operands.now) (λ a. WritesRegister a dst) (λ b. WritesWide b value)
+        → result ≡ Ok (Insn.Wide dst value) }
 {
     let [dst, value] = operands else {
         return Err(AsmCode::BadOperand);
@@ -270,8 +328,12 @@ fn wide(operands: &[&str]) -> Result<Insn, AsmCode>
 }
 
 fn map(operands: &[&str]) -> Result<Insn, AsmCode>
-    ensures writes { (names : List ℕ → Option ℕ) (slot : ℕ) → IfOk result (WritesInsn names slot (mnemonic_word (Mnemonic.MapLoad)) (texts operands.now)) }
-    ensures exact { (dst : ℕ) (index : ℤ) → Two (texts operands.now) (λ a. WritesRegister a dst) (λ b. WritesNumber b index) → result ≡ Ok (Insn.LoadMap dst index) }
+    ensures writes { (names : List ℕ → Option ℕ) (slot : ℕ)
+        → IfOk result
+        (WritesInsn names slot (mnemonic_word (Mnemonic.MapLoad)) (texts operands.now)) }
+    ensures exact { (dst : ℕ) (index : ℤ)
+        → Two (texts operands.now) (λ a. WritesRegister a dst) (λ b. WritesNumber b index)
+        → result ≡ Ok (Insn.LoadMap dst index) }
 {
     let [dst, index] = operands else {
         return Err(AsmCode::BadOperand);
@@ -282,8 +344,14 @@ fn map(operands: &[&str]) -> Result<Insn, AsmCode>
 
 /// A load of another kind of address.
 fn address_load(operands: &[&str]) -> Result<Insn, AsmCode>
-    ensures writes { (names : List ℕ → Option ℕ) (slot : ℕ) → IfOk result (WritesInsn names slot (mnemonic_word Mnemonic.AddressLoad) (texts operands.now)) }
-    ensures exact { (dst : ℕ) (address : Address) → Four (texts operands.now) (λ a. WritesNumber a (pos (address_subtype address))) (λ b. WritesRegister b dst) (λ c. WritesNumber c (address_first address)) (λ d. WritesNumber d (address_second address)) → result ≡ Ok (Insn.LoadAddress dst address) }
+    ensures writes { (names : List ℕ → Option ℕ) (slot : ℕ)
+        → IfOk result
+        (WritesInsn names slot (mnemonic_word Mnemonic.AddressLoad) (texts operands.now)) }
+    ensures exact { (dst : ℕ) (address : Address)
+        → Four (texts operands.now) (λ a. WritesNumber a (pos (address_subtype address)))
+        (λ b. WritesRegister b dst) (λ c. WritesNumber c (address_first address))
+        (λ d. WritesNumber d (address_second address))
+        → result ≡ Ok (Insn.LoadAddress dst address) }
 {
     let (subtype, (dst, (first, second))) = address_operands(operands)?;
     match address(subtype, first, second) {
@@ -294,8 +362,14 @@ fn address_load(operands: &[&str]) -> Result<Insn, AsmCode>
 
 /// A subtype, a register and two numbers.
 fn address_operands(operands: &[&str]) -> Result<(i32, (Register, (i32, i32))), AsmCode>
-    ensures writes { IfOk result (λ found. Four (texts operands.now) (λ a. WritesNumber a found.0) (λ b. WritesRegister b found.1.0) (λ c. WritesNumber c found.1.1.0) (λ d. WritesNumber d found.1.1.1)) }
-    ensures exact { (subtype : ℤ) (dst : ℕ) (first second : ℤ) → Four (texts operands.now) (λ a. WritesNumber a subtype) (λ b. WritesRegister b dst) (λ c. WritesNumber c first) (λ d. WritesNumber d second) → result ≡ Ok (subtype, (dst, (first, second))) }
+    ensures writes { IfOk result
+        (λ found. Four (texts operands.now) (λ a. WritesNumber a found.0)
+        (λ b. WritesRegister b found.1.0) (λ c. WritesNumber c found.1.1.0)
+        (λ d. WritesNumber d found.1.1.1)) }
+    ensures exact { (subtype : ℤ) (dst : ℕ) (first second : ℤ)
+        → Four (texts operands.now) (λ a. WritesNumber a subtype) (λ b. WritesRegister b dst)
+        (λ c. WritesNumber c first) (λ d. WritesNumber d second)
+        → result ≡ Ok (subtype, (dst, (first, second))) }
 {
     let [subtype, rest @ ..] = operands else {
         return Err(AsmCode::BadOperand);
@@ -305,8 +379,12 @@ fn address_operands(operands: &[&str]) -> Result<(i32, (Register, (i32, i32))), 
 
 /// A register and two numbers.
 fn address_place(operands: &[&str]) -> Result<(Register, (i32, i32)), AsmCode>
-    ensures writes { IfOk result (λ found. Three (texts operands.now) (λ a. WritesRegister a found.0) (λ b. WritesNumber b found.1.0) (λ c. WritesNumber c found.1.1)) }
-    ensures exact { (dst : ℕ) (first second : ℤ) → Three (texts operands.now) (λ a. WritesRegister a dst) (λ b. WritesNumber b first) (λ c. WritesNumber c second) → result ≡ Ok (dst, (first, second)) }
+    ensures writes { IfOk result
+        (λ found. Three (texts operands.now) (λ a. WritesRegister a found.0)
+        (λ b. WritesNumber b found.1.0) (λ c. WritesNumber c found.1.1)) }
+    ensures exact { (dst : ℕ) (first second : ℤ)
+        → Three (texts operands.now) (λ a. WritesRegister a dst) (λ b. WritesNumber b first)
+        (λ c. WritesNumber c second) → result ≡ Ok (dst, (first, second)) }
 {
     let [dst, rest @ ..] = operands else {
         return Err(AsmCode::BadOperand);
@@ -315,8 +393,12 @@ fn address_place(operands: &[&str]) -> Result<(Register, (i32, i32)), AsmCode>
 }
 
 fn two_numbers(operands: &[&str]) -> Result<(i32, i32), AsmCode>
-    ensures writes { IfOk result (λ found. Two (texts operands.now) (λ a. WritesNumber a found.0) (λ b. WritesNumber b found.1)) }
-    ensures exact { (first second : ℤ) → Two (texts operands.now) (λ a. WritesNumber a first) (λ b. WritesNumber b second) → result ≡ Ok (first, second) }
+    ensures writes { IfOk result
+        (λ found. Two (texts operands.now) (λ a. WritesNumber a found.0)
+        (λ b. WritesNumber b found.1)) }
+    ensures exact { (first second : ℤ)
+        → Two (texts operands.now) (λ a. WritesNumber a first) (λ b. WritesNumber b second)
+        → result ≡ Ok (first, second) }
 {
     let [first, second] = operands else {
         return Err(AsmCode::BadOperand);
@@ -326,8 +408,11 @@ fn two_numbers(operands: &[&str]) -> Result<(i32, i32), AsmCode>
 
 /// The address of this subtype; `None` where there is none with these numbers.
 fn address(subtype: i32, first: i32, second: i32) -> Option<Address>
-    ensures writes { IfSome result (λ found. (pos (address_subtype found) ≡ subtype) × (address_first found ≡ first) × (address_second found ≡ second)) }
-    ensures exact { (found : Address) → pos (address_subtype found) ≡ subtype → address_first found ≡ first → address_second found ≡ second → result ≡ Some found }
+    ensures writes { IfSome result
+        (λ found. (pos (address_subtype found) ≡ subtype) × (address_first found ≡ first)
+        × (address_second found ≡ second)) }
+    ensures exact { (found : Address) → pos (address_subtype found) ≡ subtype
+        → address_first found ≡ first → address_second found ≡ second → result ≡ Some found }
 {
     match u8::try_from(subtype) {
         Ok(subtype) => {
@@ -344,15 +429,20 @@ fn address(subtype: i32, first: i32, second: i32) -> Option<Address>
 
 /// The address of this subtype, which may leave the second number out.
 fn known_address(subtype: u8, first: i32, second: i32) -> Option<Address>
-    ensures writes { IfSome result (λ found. (address_subtype found ≡ subtype) × (address_first found ≡ first)) }
-    ensures exact { (found : Address) → address_subtype found ≡ subtype → address_first found ≡ first → address_second found ≡ second → result ≡ Some found }
+    ensures writes { IfSome result
+        (λ found. (address_subtype found ≡ subtype) × (address_first found ≡ first)) }
+    ensures exact { (found : Address) → address_subtype found ≡ subtype
+        → address_first found ≡ first → address_second found ≡ second → result ≡ Some found }
 {
     Address::from_parts(subtype, first, second)
 }
 
 fn call(callee: Callee, operands: &[&str]) -> Result<Insn, AsmCode>
-    ensures writes { (names : List ℕ → Option ℕ) (slot : ℕ) → IfOk result (WritesInsn names slot (mnemonic_word (Mnemonic.Calling callee)) (texts operands.now)) }
-    ensures exact { (number : ℤ) → One (texts operands.now) (λ a. WritesNumber a number) → result ≡ Ok (Insn.Call callee number) }
+    ensures writes { (names : List ℕ → Option ℕ) (slot : ℕ)
+        → IfOk result
+        (WritesInsn names slot (mnemonic_word (Mnemonic.Calling callee)) (texts operands.now)) }
+    ensures exact { (number : ℤ) → One (texts operands.now) (λ a. WritesNumber a number)
+        → result ≡ Ok (Insn.Call callee number) }
 {
     let [number] = operands else {
         return Err(AsmCode::BadOperand);
@@ -362,7 +452,9 @@ fn call(callee: Callee, operands: &[&str]) -> Result<Insn, AsmCode>
 }
 
 fn exit(operands: &[&str]) -> Result<Insn, AsmCode>
-    ensures writes { (names : List ℕ → Option ℕ) (slot : ℕ) → IfOk result (WritesInsn names slot (mnemonic_word (Mnemonic.Exiting)) (texts operands.now)) }
+    ensures writes { (names : List ℕ → Option ℕ) (slot : ℕ)
+        → IfOk result
+        (WritesInsn names slot (mnemonic_word (Mnemonic.Exiting)) (texts operands.now)) }
     ensures exact { operands.now ≡ [] → result ≡ Ok Insn.Exit }
 {
     if operands.is_empty() {

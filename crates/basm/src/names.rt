@@ -44,8 +44,11 @@ impl<'a> Names<'a> {
     /// Lets the name stand for a slot, unless it stands for one. Gives whether it does so now.
     pub fn define(&mut self, name: &'a str, slot: u32) -> Result<bool, AllocError>
         // A name keeps its first slot.
-        ensures names { IfOk result (λ _. (other : List ℕ) → slot_named self.new other ≡ slot_named (self.old ++ (name.now, slot) ∷ []) other) }
-        ensures is_new { IfOk result (λ is_new. IsTrue is_new ↔ (slot_named self.old name.now ≡ None)) }
+        ensures names { IfOk result
+            (λ _. (other : List ℕ)
+            → slot_named self.new other ≡ slot_named (self.old ++ (name.now, slot) ∷ []) other) }
+        ensures is_new { IfOk result
+            (λ is_new. IsTrue is_new ↔ (slot_named self.old name.now ≡ None)) }
     {
         if self.slots.contains_key(name) {
             return Ok(false);

@@ -48,7 +48,8 @@ fn print_budget(text: &mut String, budget: u32) -> Result<(), AllocError>
 }
 
 fn print_loops(text: &mut String, loops: &[Loop]) -> Result<(), AllocError>
-    ensures { OnOk result (string_bytes text.new ≡ string_bytes text.old ++ flat_map loop_line loops.now) }
+    ensures { OnOk result
+        (string_bytes text.new ≡ string_bytes text.old ++ flat_map loop_line loops.now) }
 {
     for found in loops {
         print_loop(text, found)?;
@@ -67,7 +68,8 @@ fn print_loop(text: &mut String, found: &Loop) -> Result<(), AllocError>
 }
 
 fn print_slots(text: &mut String, image: &Image) -> Result<(), AllocError>
-    ensures { OnOk result (string_bytes text.new ≡ string_bytes text.old ++ flat_map slot_line image.now.slots) }
+    ensures { OnOk result
+        (string_bytes text.new ≡ string_bytes text.old ++ flat_map slot_line image.now.slots) }
 {
     for slot in 0..image.slots() {
         print_slot(text, image.insn(slot))?;

@@ -42,7 +42,9 @@ impl<'a> Survey<'a> {
     }
 
     fn add_line(&mut self, number: u32, line: &'a str) -> Result<(), AllocError>
-        ensures { IfOk result (λ _. (lines : List (List ℕ)) → IsSurvey lines self.old → IsSurvey (lines ++ line.now ∷ []) self.new) }
+        ensures { IfOk result
+            (λ _. (lines : List (List ℕ)) → IsSurvey lines self.old
+            → IsSurvey (lines ++ line.now ∷ []) self.new) }
     {
         match label(line) {
             Some(name) => self.add_name(number, name),

@@ -12,7 +12,8 @@ use basm_lex::{NumberFault, distance, is_name};
 /// How far a jump at the slot goes to the target, in slots from the next one: `+N`, `-N` or a name.
 pub fn read_target(word: &str, names: &Names, slot: u32) -> Result<i64, AsmCode>
     ensures writes { IfOk result (WritesTarget (slot_named names.now) slot word.now) }
-    ensures exact { (offset : ℤ) → WritesTarget (slot_named names.now) slot word.now offset → FitsSigned w32 offset → result ≡ Ok offset }
+    ensures exact { (offset : ℤ) → WritesTarget (slot_named names.now) slot word.now offset
+        → FitsSigned w32 offset → result ≡ Ok offset }
 {
     if is_name(word) {
         match names.slot_of(word) {
@@ -30,8 +31,10 @@ pub fn read_target(word: &str, names: &Names, slot: u32) -> Result<i64, AsmCode>
 
 /// The same in a field of 16 bits.
 pub fn read_short_target(word: &str, names: &Names, slot: u32) -> Result<i16, AsmCode>
-    ensures writes { IfOk result (λ slots. WritesTarget (slot_named names.now) slot word.now slots × FitsSigned w16 slots) }
-    ensures exact { (offset : ℤ) → WritesTarget (slot_named names.now) slot word.now offset → FitsSigned w16 offset → result ≡ Ok offset }
+    ensures writes { IfOk result
+        (λ slots. WritesTarget (slot_named names.now) slot word.now slots × FitsSigned w16 slots) }
+    ensures exact { (offset : ℤ) → WritesTarget (slot_named names.now) slot word.now offset
+        → FitsSigned w16 offset → result ≡ Ok offset }
 {
     let slots = read_target(word, names, slot)?;
     i16::try_from(slots).map_err(|_| AsmCode::Reach)
@@ -39,8 +42,10 @@ pub fn read_short_target(word: &str, names: &Names, slot: u32) -> Result<i16, As
 
 /// The same in a field of 32 bits.
 pub fn read_long_target(word: &str, names: &Names, slot: u32) -> Result<i32, AsmCode>
-    ensures writes { IfOk result (λ slots. WritesTarget (slot_named names.now) slot word.now slots × FitsSigned w32 slots) }
-    ensures exact { (offset : ℤ) → WritesTarget (slot_named names.now) slot word.now offset → FitsSigned w32 offset → result ≡ Ok offset }
+    ensures writes { IfOk result
+        (λ slots. WritesTarget (slot_named names.now) slot word.now slots × FitsSigned w32 slots) }
+    ensures exact { (offset : ℤ) → WritesTarget (slot_named names.now) slot word.now offset
+        → FitsSigned w32 offset → result ≡ Ok offset }
 {
     let slots = read_target(word, names, slot)?;
     i32::try_from(slots).map_err(|_| AsmCode::Reach)

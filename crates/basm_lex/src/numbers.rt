@@ -47,7 +47,8 @@ pub fn wide_number(word: &str) -> Result<u64, NumberFault>
 /// hexadecimal digits, which are the bits of a number of 32 bits.
 pub fn distance(word: &str) -> Result<i64, NumberFault>
     ensures writes { IfOk result (WritesDistance word.now) }
-    ensures exact { (value : ℤ) → WritesDistance word.now value → FitsSigned w32 value → result ≡ Ok value }
+    ensures exact { (value : ℤ) → WritesDistance word.now value → FitsSigned w32 value
+        → result ≡ Ok value }
 {
     if let Some(rest) = word.strip_prefix('+') {
         return magnitude(rest);

@@ -50,7 +50,8 @@ fn backward(digits: &str) -> Result<i16, NumberFault>
 
 /// What stands between the brackets.
 fn inside(word: &str) -> Result<&str, NumberFault>
-    ensures { MatchResult result (λ inner. IsBracketed word.now inner.now) (λ _. IsUnbracketed word.now) }
+    ensures { MatchResult result (λ inner. IsBracketed word.now inner.now)
+        (λ _. IsUnbracketed word.now) }
 {
     match within(word) {
         Some(inner) => Ok(inner),
@@ -59,7 +60,8 @@ fn inside(word: &str) -> Result<&str, NumberFault>
 }
 
 fn within(word: &str) -> Option<&str>
-    ensures { MatchOption result (IsUnbracketed word.now) (λ inner. IsBracketed word.now inner.now) }
+    ensures { MatchOption result (IsUnbracketed word.now)
+        (λ inner. IsBracketed word.now inner.now) }
 {
     match word.strip_prefix('[') {
         Some(rest) => rest.strip_suffix(']'),

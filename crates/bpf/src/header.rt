@@ -29,7 +29,8 @@ impl Header {
     /// before one of the budget.
     pub fn new(loops: usize, slots: usize, reserved: u32, budget: u32) -> Result<Header, ImageFault>
         ensures value { result ≡ declared loops slots reserved budget }
-        ensures limits { IfOk result (λ h. (h.loops ≤ 8) × IsSlotCount h.slots × IsBudget h.budget) }
+        ensures limits { IfOk result
+            (λ h. (h.loops ≤ 8) × IsSlotCount h.slots × IsBudget h.budget) }
     {
         if !is_count(loops, slots, reserved) {
             return Err(ImageFault::Count);
@@ -50,7 +51,8 @@ impl Header {
 pub fn read_header(bytes: &[u8]) -> Result<Header, ImageFault>
     ensures value { result ≡ header_reading bytes.now }
     ensures limits { IfOk result (λ h. (h.loops ≤ 8) × IsSlotCount h.slots × IsBudget h.budget) }
-    ensures spelled { IfOk result (λ h. take 16 bytes.now ≡ header_bytes 1 h.loops h.slots h.budget) }
+    ensures spelled { IfOk result
+        (λ h. take 16 bytes.now ≡ header_bytes 1 h.loops h.slots h.budget) }
 {
     if !bytes.starts_with(&MAGIC) {
         return Err(ImageFault::Magic);
@@ -75,7 +77,8 @@ fn read_counts(bytes: &[u8]) -> Result<Header, ImageFault>
     requires { 16 ≤ length bytes.now }
     ensures value { result ≡ counts_reading bytes.now }
     ensures limits { IfOk result (λ h. (h.loops ≤ 8) × IsSlotCount h.slots × IsBudget h.budget) }
-    ensures spelled { IfOk result (λ h. drop 5 (take 16 bytes.now) ≡ drop 5 (header_bytes 1 h.loops h.slots h.budget)) }
+    ensures spelled { IfOk result
+        (λ h. drop 5 (take 16 bytes.now) ≡ drop 5 (header_bytes 1 h.loops h.slots h.budget)) }
 {
     let loops = bytes[5];
     let slots = u16::from_le_bytes([bytes[6], bytes[7]]);

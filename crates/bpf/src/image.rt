@@ -46,7 +46,8 @@ impl Image {
         ensures found { IfOk result (λ image. IsProgram image × (bytes.now ≡ image_bytes image)) }
 
         // What spells a program is read as it, unless memory is refused.
-        ensures only { (p : Program) → IsProgram p → bytes.now ≡ image_bytes p → Gives (λ image. image) result (Ok p) }
+        ensures only { (p : Program) → IsProgram p → bytes.now ≡ image_bytes p
+            → Gives (λ image. image) result (Ok p) }
 
         // The first fault, or the image, unless memory is refused.
         ensures exact { Gives (λ image. image) result (image_reading bytes.now) }

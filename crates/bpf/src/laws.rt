@@ -14,13 +14,17 @@ pub fn image_laws()
     ensures read { (p : Program) → IsProgram p → image_reading (image_bytes p) ≡ Ok p }
 
     // No bytes spell two programs.
-    ensures one_meaning { (p q : Program) → IsProgram p → IsProgram q → image_bytes p ≡ image_bytes q → p ≡ q }
+    ensures one_meaning { (p q : Program) → IsProgram p → IsProgram q
+        → image_bytes p ≡ image_bytes q → p ≡ q }
 
     // No image begins another.
-    ensures apart { (p q : Program) (after more : List ℕ) → IsProgram p → IsProgram q → image_bytes p ++ after ≡ image_bytes q ++ more → p ≡ q }
+    ensures apart { (p q : Program) (after more : List ℕ) → IsProgram p → IsProgram q
+        → image_bytes p ++ after ≡ image_bytes q ++ more → p ≡ q }
 
     // The fault of an instruction that is read stands in the bytes of its slot.
-    ensures fault { (bytes : List ℕ) (slot : ℕ) (fault : BadInsn) → ((i : ℕ) → slice_index bytes i < 256) → image_reading bytes ≡ Err (Insn slot fault) → IsFaultAt bytes (Insn slot fault) }
+    ensures fault { (bytes : List ℕ) (slot : ℕ) (fault : BadInsn)
+        → ((i : ℕ) → slice_index bytes i < 256) → image_reading bytes ≡ Err (Insn slot fault)
+        → IsFaultAt bytes (Insn slot fault) }
 {
     spelling_laws();
 }

@@ -16,7 +16,8 @@ pub fn read_slots(alloc: Global, bytes: &[u8], count: u16) -> Result<Vec<Option<
     requires { length bytes.now ≡ 8 * count }
     ensures value { Gives (λ v. v.items) result (slots_reading count 0 false bytes.now) }
     ensures length { IfOk result (λ slots. length slots.items ≡ count) }
-    ensures spelled { IfOk result (λ slots. AreSlots false slots.items × (bytes.now ≡ flat_map slot_bytes slots.items)) }
+    ensures spelled { IfOk result
+        (λ slots. AreSlots false slots.items × (bytes.now ≡ flat_map slot_bytes slots.items)) }
 {
     let mut slots = Vec::with_capacity(alloc, usize::from(count))?;
     let mut rest = bytes;
@@ -38,7 +39,8 @@ fn push_slot(
     bytes: &[u8],
 ) -> Result<bool, ImageFault>
     requires { 8 ≤ length bytes.now }
-    ensures pushed { IfOk result (PushesSlot slots.old.items slots.new.items slot second bytes.now) }
+    ensures pushed { IfOk result
+        (PushesSlot slots.old.items slots.new.items slot second bytes.now) }
     ensures fails { IfErr result (λ e. Fails e (slot_reading slot second bytes.now)) }
 {
     if second {

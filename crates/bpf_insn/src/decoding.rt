@@ -62,7 +62,8 @@ impl BadInsn {
 pub fn decode(bytes: &[u8; 8], next: Option<&[u8; 8]>) -> Result<Insn, BadInsn>
     // What is decoded is spelled so, and what is spelled so is decoded.
     ensures found { IfOk result (Spells bytes.now (option_copied next.entry)) }
-    ensures only { (insn : Insn) → Spells bytes.now (option_copied next.entry) insn → result ≡ Ok insn }
+    ensures only { (insn : Insn) → Spells bytes.now (option_copied next.entry) insn
+        → result ≡ Ok insn }
 
     // An error is the first fault.
     ensures fault { IfErr result (IsFault bytes.now (option_copied next.entry)) }
@@ -73,7 +74,8 @@ pub fn decode(bytes: &[u8; 8], next: Option<&[u8; 8]>) -> Result<Insn, BadInsn>
 /// The instruction that has these fields, and in the next slot its own.
 #[tactic(auto, unfolding(crate::specs::Reading::reading_of))]
 fn checked(fields: &Fields, next: Option<&[u8; 8]>) -> Result<Insn, BadInsn>
-    ensures value { result ≡ reading_of fields.now (option_map fields_in (option_copied next.entry)) }
+    ensures value { result
+        ≡ reading_of fields.now (option_map fields_in (option_copied next.entry)) }
     ensures insn { IfOk result IsInsn }
     ensures own { IfOk result (λ insn. HasSlots insn fields.now (option_copied next.entry)) }
 {
@@ -87,7 +89,8 @@ fn checked(fields: &Fields, next: Option<&[u8; 8]>) -> Result<Insn, BadInsn>
 
 /// Whether these are the instruction's fields, unused ones too.
 fn has_fields(insn: &Insn, fields: &Fields, next: Option<&[u8; 8]>) -> bool
-    ensures value { result ≡ has_fields insn.now fields.now (option_map fields_in (option_copied next.entry)) }
+    ensures value { result
+        ≡ has_fields insn.now fields.now (option_map fields_in (option_copied next.entry)) }
     ensures own { IsTrue result → HasSlots insn.now fields.now (option_copied next.entry) }
 {
     first_fields(insn) == *fields && has_second(second_immediate(insn), next)
@@ -95,7 +98,8 @@ fn has_fields(insn: &Insn, fields: &Fields, next: Option<&[u8; 8]>) -> bool
 
 /// Whether the next slot, where a second one is wanted, holds nothing but the immediate.
 fn has_second(immediate: Option<i32>, next: Option<&[u8; 8]>) -> bool
-    ensures value { result ≡ same_second immediate (option_map fields_in (option_copied next.entry)) }
+    ensures value { result
+        ≡ same_second immediate (option_map fields_in (option_copied next.entry)) }
     ensures own { IsTrue result → HasSecond immediate (option_copied next.entry) }
 {
     match immediate {

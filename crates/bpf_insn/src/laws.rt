@@ -10,16 +10,20 @@ ghost use Rattle.bpf_insn.specs.Reading.{reading};
 /// What holds of all spellings: it does nothing, and its contract is the laws.
 pub fn spelling_laws()
     // What is spelled so is read so.
-    ensures read { (bytes : List ℕ) (next : Option (List ℕ)) (insn : Insn) → Spells bytes next insn → reading bytes next ≡ Ok insn }
+    ensures read { (bytes : List ℕ) (next : Option (List ℕ)) (insn : Insn) → Spells bytes next insn
+        → reading bytes next ≡ Ok insn }
 
     // No bytes spell two instructions.
-    ensures one_meaning { (bytes : List ℕ) (next : Option (List ℕ)) (a b : Insn) → Spells bytes next a → Spells bytes next b → a ≡ b }
+    ensures one_meaning { (bytes : List ℕ) (next : Option (List ℕ)) (a b : Insn)
+        → Spells bytes next a → Spells bytes next b → a ≡ b }
 
     // No spelling begins another.
-    ensures apart { (a b : Insn) (after more : List ℕ) → IsInsn a → IsInsn b → spelling a ++ after ≡ spelling b ++ more → a ≡ b }
+    ensures apart { (a b : Insn) (after more : List ℕ) → IsInsn a → IsInsn b
+        → spelling a ++ after ≡ spelling b ++ more → a ≡ b }
 
     // A fault that is read stands in the bytes.
-    ensures fault { (bytes : List ℕ) (next : Option (List ℕ)) (e : BadInsn) → slice_index bytes 0 < 256 → reading bytes next ≡ Err e → IsFault bytes next e }
+    ensures fault { (bytes : List ℕ) (next : Option (List ℕ)) (e : BadInsn)
+        → slice_index bytes 0 < 256 → reading bytes next ≡ Err e → IsFault bytes next e }
 
     // An instruction that is read from slots is the one that they spell.
     ensures spelled { (bytes : List ℕ) (next : Option (List ℕ)) (insn : Insn)

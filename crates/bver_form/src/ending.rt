@@ -33,7 +33,8 @@ pub(crate) fn check_end(image: &Image) -> Result<(), Refused>
 
 /// Tests that the weight is within the budget.
 pub(crate) fn check_budget(image: &Image) -> Result<(), Refused>
-    ensures { MatchResult result (λ _. weight_of image.now ≤ image.now.budget) (IsBudgetFault image.now) }
+    ensures { MatchResult result (λ _. weight_of image.now ≤ image.now.budget)
+        (IsBudgetFault image.now) }
 {
     if image.weight() > u64::from(image.budget()) {
         return Err(Refused {

@@ -23,7 +23,8 @@ fn check_insn(image: &Image, slot: u16, insn: &Insn) -> Result<(), Refusal>
 
 /// Tests that the instruction that begins at the slot, if one does, may stand there.
 fn check_slot(image: &Image, slot: u16) -> Result<(), Refusal>
-    ensures { MatchResult result (λ _. IsAllowedAt image.now slot (slot_at image.now slot)) (IsFaultAt image.now slot (slot_at image.now slot)) }
+    ensures { MatchResult result (λ _. IsAllowedAt image.now slot (slot_at image.now slot))
+        (IsFaultAt image.now slot (slot_at image.now slot)) }
 {
     match image.insn(slot) {
         Some(insn) => check_insn(image, slot, &insn),

@@ -72,7 +72,8 @@ fn check_landing(image: &Image, slot: u16, distance: i32) -> Result<(), Refusal>
 
 /// Tests where the instruction jumps, if it does.
 pub(crate) fn check_jump(image: &Image, slot: u16, insn: &Insn) -> Result<(), Refusal>
-    ensures jump { OnOk result (IfSome (jump_distance insn.now) (λ distance. IsJump image.now slot distance)) }
+    ensures jump { OnOk result
+        (IfSome (jump_distance insn.now) (λ distance. IsJump image.now slot distance)) }
     ensures fault { Tells result (jump_fault image.now slot (jump_distance insn.now)) }
 {
     match jump_distance(insn) {

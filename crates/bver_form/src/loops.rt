@@ -173,7 +173,8 @@ fn unformed(declared: &Loop) -> Refused
 
 /// Tests that each declared loop has its form. The first that has not, by rising head, is refused.
 pub(crate) fn check_loops(image: &Image) -> Result<(), Refused>
-    ensures { MatchResult result (λ _. All (IsLoopFormed image.now) image.now.loops) (IsLoopFault image.now) }
+    ensures { MatchResult result (λ _. All (IsLoopFormed image.now) image.now.loops)
+        (IsLoopFault image.now) }
 {
     for declared in image.loops() {
         if !is_loop_formed(image, declared) {

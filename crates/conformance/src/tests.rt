@@ -65,6 +65,12 @@ pub fn judged(alloc: Global, lines: &str) -> Result<(String, u8), Fail> {
     run(alloc, &["judge", "lines"], &[("lines", lines.as_bytes())])
 }
 
+/// What `judge` prints of these lines by the program of an image, and the exit status.
+pub fn judged_by<'a>(alloc: Global, image: &'a [u8], lines: &'a str) -> Result<(String, u8), Fail> {
+    let files = [("lines", lines.as_bytes()), ("image", image)];
+    run(alloc, &["judge", "lines", "--image", "image"], &files)
+}
+
 /// Compares what `judge` prints of the packet line of a row by the factory program. A row has bars between
 /// what it shows, the line and the answer.
 fn compare_answer(rt: &impl Abort, alloc: Global, row: &str) -> Result<(), Fail> {

@@ -175,8 +175,10 @@ impl Front {
     /// Takes over another beginning where that is not shorter. Either begins the longer one.
     pub(crate) fn advance(&mut self, other: &Front)
         requires { other.now.room ≡ self.old.room }
-        ensures longer { length self.old.programs ≤ length other.now.programs → self.new ≡ other.now }
-        ensures shorter { length other.now.programs < length self.old.programs → self.new ≡ self.old }
+        ensures longer { length self.old.programs ≤ length other.now.programs
+            → self.new ≡ other.now }
+        ensures shorter { length other.now.programs < length self.old.programs
+            → self.new ≡ self.old }
         ensures this { IsPrefix self.old.programs self.new.programs }
         ensures that { IsPrefix other.now.programs self.new.programs }
         ensures room { self.new.room ≡ self.old.room }
@@ -195,7 +197,9 @@ impl Front {
         requires here { history.now ≡ self.old.room }
         requires room { length self.old.programs < 2 ^ 62 }
         ensures room { self.new.room ≡ self.old.room }
-        ensures added { result ≡ true → self.new.programs ≡ extended self.old.programs publish.now.0 (arc_value publish.now.1) }
+        ensures added { result ≡ true
+            → self.new.programs
+            ≡ extended self.old.programs publish.now.0 (arc_value publish.now.1) }
         ensures same { result ≡ false → self.new ≡ self.old }
     {
         let mut seen = self.seen.again();

@@ -19,7 +19,8 @@ pub fn published_programs()
 
 /// What a reader knows and what was published are beginnings of one history: one begins the other.
 pub fn one_history<J: Room, R: Wait + Drop>(reader: &Reader<J>, publisher: &Publisher<J, R>)
-    ensures { IsPrefix reader.now.programs publisher.now ⊎ IsPrefix publisher.now reader.now.programs }
+    ensures { IsPrefix reader.now.programs publisher.now
+        ⊎ IsPrefix publisher.now reader.now.programs }
 {
     let mut longer = reader.front().again();
     longer.advance(publisher.front());

@@ -30,7 +30,8 @@ impl Programs {
     ) -> Result<(Publisher<J, R>, Vec<Reader<J>>), AllocError>
         requires { opened ≡ J.book }
         ensures publisher { IfOk result (λ made. made.0 ≡ entry 0 factory ∷ []) }
-        ensures readers { IfOk result (λ made. made.1.items ≡ replicate readers (known (entry 0 factory ∷ []) None)) }
+        ensures readers { IfOk result
+            (λ made. made.1.items ≡ replicate readers (known (entry 0 factory ∷ []) None)) }
     {
         let sizes = factory.sizes();
         let (history, mut front) = opened.parts();

@@ -73,8 +73,10 @@ impl<J: Room, R: Wait + Drop> Publisher<J, R> {
         ensures told { IfOk result (λ told. told ≡ self.new) }
         ensures same { OnErr result (self.new ≡ self.old) }
         ensures slot { 3 < slot → result ≡ Err PublishFault.Slot }
-        ensures full { slot ≤ 3 → 2 ^ 32 ≤ length self.old → result ≡ Err PublishFault.GenerationsFull }
-        ensures memory { slot ≤ 3 → length self.old < 2 ^ 32 → IfErr result (λ fault. fault ≡ PublishFault.Memory) }
+        ensures full { slot ≤ 3 → 2 ^ 32 ≤ length self.old
+            → result ≡ Err PublishFault.GenerationsFull }
+        ensures memory { slot ≤ 3 → length self.old < 2 ^ 32
+            → IfErr result (λ fault. fault ≡ PublishFault.Memory) }
     {
         if slot > LAST_SLOT {
             return Err(PublishFault::Slot);
@@ -133,9 +135,12 @@ fn flushed<J: Room, R: Wait>(
     rt: &R,
     writer: Writer<Table, Table, Sight, InRoom<J>>,
 ) -> (Writer<Table, Table, Sight, InRoom<J>>, ())
-    requires room { (fold (λ _ t. t) writer.desk.shown.value (drop writer.behind writer.log.items)).room ≡ J.book }
-    requires longer { IsPrefix writer.desk.shown.value.programs (fold (λ _ t. t) writer.desk.shown.value (drop writer.behind writer.log.items)).programs }
-    ensures shown { result.0.desk.shown.value ≡ fold (λ _ t. t) writer.desk.shown.value (drop writer.behind writer.log.items) }
+    requires room { (fold (λ _ t. t) writer.desk.shown.value (drop writer.behind writer.log.items)).room
+        ≡ J.book }
+    requires longer { IsPrefix writer.desk.shown.value.programs
+        (fold (λ _ t. t) writer.desk.shown.value (drop writer.behind writer.log.items)).programs }
+    ensures shown { result.0.desk.shown.value
+        ≡ fold (λ _ t. t) writer.desk.shown.value (drop writer.behind writer.log.items) }
     ensures pending { drop result.0.behind result.0.log.items ≡ [] }
 {
     let mut writer = writer;

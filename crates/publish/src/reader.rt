@@ -112,12 +112,15 @@ impl<J: Room> Reader<J> {
     /// Takes the program of a slot. `None` where a program that was taken was never let go of.
     pub fn take(&mut self, slot: u8) -> Option<Taken<'_, J>>
         requires slot { slot < 4 }
-        ensures* unchanged { sem 𝓛 (RestsIfNone (the_row J.row J.Room) self.entry (λ t. t.reader.ghost_name) result (λ n. n ≡ self.old)) }
+        ensures* unchanged { sem 𝓛
+            (RestsIfNone (the_row J.row J.Room) self.entry (λ t. t.reader.ghost_name) result
+            (λ n. n ≡ self.old)) }
         ensures same_reference { IfSome result (λ t. t.reader.ghost_name ≡ self.entry.ghost_name) }
         ensures seen { IfSome result (λ t. IsPrefix self.old.programs t.reader.now.programs) }
         ensures inside { IfSome result (λ t. IsInside t.reader.now) }
         ensures slot { IfSome result (λ t. t.slot ≡ slot) }
-        ensures sizes { IfSome result (λ t. sizes_of t.reader.now.programs ≡ sizes_of self.old.programs) }
+        ensures sizes { IfSome result
+            (λ t. sizes_of t.reader.now.programs ≡ sizes_of self.old.programs) }
     {
         if self.enter() {
             Some(Taken { reader: self, slot })
@@ -128,7 +131,8 @@ impl<J: Room> Reader<J> {
 
     /// Enters the table, where it shows no less than is known, and knows that.
     fn enter(&mut self) -> bool
-        ensures entered { result ≡ true → IsPrefix self.old.programs self.new.programs × IsInside self.new }
+        ensures entered { result ≡ true → IsPrefix self.old.programs self.new.programs
+            × IsInside self.new }
         ensures out { result ≡ false → self.new ≡ self.old }
         ensures sizes { sizes_of self.new.programs ≡ sizes_of self.old.programs }
     {

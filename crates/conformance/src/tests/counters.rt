@@ -36,15 +36,25 @@ fn at_ports(alloc: Global, lines: &[(u8, &str)]) -> Result<String, Fail> {
     Ok(text)
 }
 
-/// What `judge` prints of these lines by the program of this text, on a node with those maps and two ports.
-fn counted(alloc: Global, program: &str, maps: &str, lines: &str) -> Result<String, Fail> {
-    let image = image_of_text(alloc, program, 16)?.write()?;
-    let files = [("lines", lines.as_bytes()), ("image", image.as_slice())];
+/// What `judge` prints of these lines by the program of an image, on a node with those maps and two ports.
+fn printed_by<'a>(
+    alloc: Global,
+    image: &'a [u8],
+    maps: &'a str,
+    lines: &'a str,
+) -> Result<String, Fail> {
+    let files = [("lines", lines.as_bytes()), ("image", image)];
     let words = [
         "judge", "lines", "--image", "image", "--maps", maps, "--ports", "2",
     ];
     let (printed, _) = run(alloc, &words, &files)?;
     Ok(printed)
+}
+
+/// What `judge` prints of these lines by the program of this text, on a node with those maps and two ports.
+fn counted(alloc: Global, program: &str, maps: &str, lines: &str) -> Result<String, Fail> {
+    let image = image_of_text(alloc, program, 16)?.write()?;
+    printed_by(alloc, image.as_slice(), maps, lines)
 }
 
 /// The line at the ports 0 and 1 in turn, twenty times.

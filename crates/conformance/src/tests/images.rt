@@ -1,6 +1,6 @@
 //! The program that judges.
 
-use super::{PLAIN_READ, run, verdict_image};
+use super::{PLAIN_READ, judged_by, verdict_image};
 use std::alloc::Global;
 use std::process::Abort;
 use std::test::Fail;
@@ -15,21 +15,12 @@ A|0 67010C0AFE000100000000A600 EOP
 1|0 67010C0AFE000100000000A600 EOP
 ";
 
-/// What the plain read prints under an image, and the exit status.
-fn judged_by(alloc: Global, image: &[u8]) -> Result<(String, u8), Fail> {
-    run(
-        alloc,
-        &["judge", "--image", "image", "lines"],
-        &[("lines", PLAIN_READ.as_bytes()), ("image", image)],
-    )
-}
-
 /// Compares one row.
 fn compare_verdict(rt: &impl Abort, alloc: Global, row: &str) -> Result<(), Fail> {
     let mut row = Row::of(row);
     let verdict = u8::try_from(row.hexadecimal()?)?;
     let image = verdict_image(verdict);
-    let (printed, status) = judged_by(alloc, image.as_slice())?;
+    let (printed, status) = judged_by(alloc, image.as_slice(), PLAIN_READ)?;
     let answer = printed.as_str().strip_suffix('\n');
     assert_eq!(rt; (answer, status), (Some(row.part()?), 0), "at {verdict}");
     Ok(())
@@ -81,7 +72,7 @@ fn refused_images(rt: HostRuntime) -> Result<(), Fail> {
             "image fault 7 slot 1\n",
         ),
     ] {
-        let (printed, status) = judged_by(rt.alloc(), image)?;
+        let (printed, status) = judged_by(rt.alloc(), image, PLAIN_READ)?;
         assert_eq!(rt; (printed.as_str(), status), (told, 1));
     }
     Ok(())

@@ -1,6 +1,6 @@
 //! Programs by their text: what the verifier says, and how they judge the plain read.
 
-use super::{PLAIN_READ, PLAIN_REPLY, done, run};
+use super::{PLAIN_READ, PLAIN_REPLY, done, judged_by, run};
 use std::alloc::Global;
 use std::process::Abort;
 use std::test::Fail;
@@ -87,22 +87,13 @@ fn reply_of(word: &str) -> &str {
     }
 }
 
-/// What `judge` prints of the plain read by an image.
-fn judged_by(alloc: Global, image: &[u8]) -> Result<(String, u8), Fail> {
-    run(
-        alloc,
-        &["judge", "lines", "--image", "image"],
-        &[("lines", PLAIN_READ.as_bytes()), ("image", image)],
-    )
-}
-
 /// Compares one row.
 fn compare_judging(rt: &impl Abort, alloc: Global, row: &str) -> Result<(), Fail> {
     let mut row = Row::of(row);
     let shows = row.part()?;
     let budget = row.part()?;
     let image = image_of(alloc, budget, row.part()?)?;
-    let (printed, status) = judged_by(alloc, image.as_slice())?;
+    let (printed, status) = judged_by(alloc, image.as_slice(), PLAIN_READ)?;
     let reply = printed.as_str().strip_suffix('\n');
     let wanted = reply_of(row.part()?);
     assert_eq!(rt; (reply, status), (Some(wanted), 0), "at {shows}");

@@ -1,6 +1,6 @@
 //! Where a read may reach, and each status that a read can get.
 
-use super::{compare_answers, judged, run, verdict_image};
+use super::{compare_answers, judged, judged_by, verdict_image};
 use std::alloc::Global;
 use std::process::Abort;
 use std::test::Fail;
@@ -60,12 +60,6 @@ a byte too many with an error end|0|0 FE014C0067000100A0000000000010C900 EEP|0 6
 a verdict that is not yes comes before the body|3|0 FE014C0067000100A0000000000010C9 EEP|0 67010C03FE000100000000B700 EOP
 a header check comes before the verdict|3|0 FE014C0067000901A000000000001095 EOP|0 67010C0AFE000900000000EA00 EOP
 ";
-
-/// What `judge` prints of one line under the program of an image.
-fn judged_by<'a>(alloc: Global, image: &'a [u8], line: &'a str) -> Result<(String, u8), Fail> {
-    let files = [("lines", line.as_bytes()), ("image", image)];
-    run(alloc, &["judge", "--image", "image", "lines"], &files)
-}
 
 /// Compares one row.
 fn compare_status(rt: &impl Abort, alloc: Global, row: &str) -> Result<(), Fail> {

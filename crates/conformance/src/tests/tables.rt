@@ -6,7 +6,7 @@
 //! their place. Some stand for themselves by a letter: `W`, the plain write; `V`, the same with another data
 //! CRC; `R`, the plain read; and as answers to it `D`, the bytes of the plain write, and `Z`, zeros.
 
-use super::{PLAIN_READ, PLAIN_REPLY, judged, run};
+use super::{PLAIN_READ, PLAIN_REPLY, judged, judged_by};
 use std::alloc::{AllocError, Global};
 use std::process::Abort;
 use std::test::Fail;
@@ -30,8 +30,7 @@ pub fn printed(alloc: Global, program: &str, lines: &str) -> Result<String, Fail
         return Ok(printed);
     }
     let image = image_of_text(alloc, program, BUDGET)?.write()?;
-    let files = [("lines", lines.as_bytes()), ("image", image.as_slice())];
-    let (printed, _) = run(alloc, &["judge", "lines", "--image", "image"], &files)?;
+    let (printed, _) = judged_by(alloc, image.as_slice(), lines)?;
     Ok(printed)
 }
 
