@@ -8,6 +8,7 @@ use commands::{HostFiles, Job, perform};
 use std::alloc::{AllocError, Global};
 use std::io::{self, Write};
 use std::rt;
+use std::sync::Wait;
 
 /// The names of the programs. NAME.bpf is the text of one.
 const PROGRAMS: [&str; 4] = [
@@ -47,7 +48,7 @@ fn jobs(alloc: Global, name: &str) -> Result<[Job; 3]> {
 }
 
 /// Does the jobs of one program, below a line with its name.
-fn show<R: rt::Files + Input, W: Write>(
+fn show<R: rt::Files + Input + Wait, W: Write>(
     rt: &R,
     alloc: Global,
     name: &str,
@@ -55,7 +56,7 @@ fn show<R: rt::Files + Input, W: Write>(
 ) -> Result<()> {
     writeln!(out, "== {name}")?;
     for job in &jobs(alloc, name)? {
-        let status = perform(alloc, job, &mut HostFiles { rt }, out).map_err(|_| anyhow!(
+        let status = perform(rt, alloc, job, &mut HostFiles { rt }, out).map_err(|_| anyhow!(
             "cannot write"
         ))?;
         if status != 0 {

@@ -2,6 +2,7 @@
 
 use super::{PLAIN_READ, run, verdict_image};
 use std::alloc::Global;
+use std::sync::Wait;
 use std::process::Abort;
 use std::test::Fail;
 use trial::Row;
@@ -16,20 +17,20 @@ A|0 67010C0AFE000100000000A600 EOP
 ";
 
 /// What the plain read prints under an image, and the exit status.
-fn judged_by(alloc: Global, image: &[u8]) -> Result<(String, u8), Fail> {
+fn judged_by(rt: &impl Wait, alloc: Global, image: &[u8]) -> Result<(String, u8), Fail> {
     run(
-        alloc,
+        rt, alloc,
         &["judge", "--image", "image", "lines"],
         &[("lines", PLAIN_READ.as_bytes()), ("image", image)],
     )
 }
 
 /// Compares one row.
-fn compare_verdict(rt: &impl Abort, alloc: Global, row: &str) -> Result<(), Fail> {
+fn compare_verdict(rt: &(impl Abort + Wait), alloc: Global, row: &str) -> Result<(), Fail> {
     let mut row = Row::of(row);
     let verdict = u8::try_from(row.hexadecimal()?)?;
     let image = verdict_image(verdict);
-    let (printed, status) = judged_by(alloc, image.as_slice())?;
+    let (printed, status) = judged_by(rt, alloc, image.as_slice())?;
     let answer = printed.as_str().strip_suffix('\n');
     assert_eq!(rt; (answer, status), (Some(row.part()?), 0), "at {verdict}");
     Ok(())
@@ -81,7 +82,7 @@ fn refused_images(rt: HostRuntime) -> Result<(), Fail> {
             "image fault 7 slot 1\n",
         ),
     ] {
-        let (printed, status) = judged_by(rt.alloc(), image)?;
+        let (printed, status) = judged_by(&rt, rt.alloc(), image)?;
         assert_eq!(rt; (printed.as_str(), status), (told, 1));
     }
     Ok(())
