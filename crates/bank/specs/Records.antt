@@ -145,6 +145,10 @@ fresh_bank base size journal ports = record {
 abbrev pub answer_of : BankValue → JudgedValue → Answer
 answer_of b judged = answer (memory_of b) (has_room b judged.port) (command_of judged.packet) judged.verdict
 
+-- what a judged command is answered on those bytes from the first address on, where there is always room
+abbrev pub answer_on : (first : ℕ) → List ℕ → JudgedValue → Answer
+answer_on first bytes judged = answer (memory_at first bytes) true (command_of judged.packet) judged.verdict
+
 -- the entry with that number of a judged command that ended with that status
 abbrev pub numbered_entry : ℕ → JudgedValue → Status → EntryValue
 numbered_entry number judged status = record {

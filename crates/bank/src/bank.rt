@@ -1,21 +1,21 @@
 //! Banks of memory.
 
 ghost use Rattle.std.specs.Prelude.{◌≡◌, ◌≤◌, ◌<◌, ◌+◌, ◌-◌, ◌^◌, ◌⊎◌, ◌↔◌, [], ◌∷◌, ◌++◌, length, true, Some, None, IfOk, IsErrOf, slice_index, map, false};
-ghost use Rattle.rmap.specs.Windows.{lies_inside};
-ghost use Rattle.rmap.specs.Command.{command_of};
-ghost use Rattle.bank.specs.Effect.{memory_at};
-ghost use Rattle.bank.specs.Answer.{judged_line, status_of};
 ghost use Rattle.std.specs.List.{range_with_len};
+ghost use Rattle.rmap.specs.Command.{command_of};
+ghost use Rattle.rmap.specs.Windows.{lies_inside};
+ghost use Rattle.bank.specs.Answer.{status_of};
+ghost use Rattle.bank.specs.Effect.{memory_at};
 ghost use Rattle.bank.specs.Limits.{is_bank_size, is_range, is_bank};
 ghost use Rattle.bank.specs.Records.{first_share, fresh_bank, byte_in, fits, is_next, has_room, IsBank, IsExecutable, memory_of, memory_from, reply_from, base_of, replay, answer_of, after_command, after_rotation, number_left, next_share};
 
-use crate::effect::execute;
+use crate::answering::carry_out;
 use crate::entry::Entry;
 use crate::faults::BankFault;
 use crate::journal::{Journal, is_room};
 use crate::judged::Judged;
 use crate::share::Share;
-use rmap::{Command, ReplyBuf, Status, body_fault, put_reply};
+use rmap::{ReplyBuf, Status};
 use spw::PORTS;
 use std::alloc::{AllocError, Global};
 use std::marker::Model;
@@ -78,19 +78,6 @@ fn shares(alloc: Global, ports: u8) -> Result<Vec<Share>, AllocError>
         shares.push(Share::first(port))?;
     }
     Ok(shares)
-}
-
-/// What stops a judged command before memory is touched: a verdict other than yes, then a fault of
-/// the body.
-fn judged_fault(command: &Command, verdict: u64) -> Option<Status>
-    ensures { result ≡ judged_line command.now verdict }
-{
-    match verdict {
-        0 => body_fault(command),
-        3 => Some(Status::InvalidKey),
-        12 => Some(Status::InvalidLogicalAddress),
-        _ => Some(Status::NotAuthorised),
-    }
 }
 
 impl Bank {
@@ -246,7 +233,7 @@ impl Bank {
     }
 }
 
-/// Does what a judged command asks for, if it may be done, and leaves the reply.
+/// Does what a judged command asks for to the bytes of a bank, if it may be done, and leaves the reply.
 fn answer(
     bytes: &mut Vec<u8>,
     first: u32,
@@ -260,16 +247,5 @@ fn answer(
     ensures reply { reply.new ≡ reply_from result first bytes.old.items judged.now }
     ensures executed { IsExecutable result judged.now.packet }
 {
-    let command = judged.command();
-    match judged_fault(&command, judged.verdict()) {
-        None if room => {
-            execute(bytes, first, &command, reply);
-            Status::Success
-        }
-        fault => {
-            let status = fault.unwrap_or(Status::GeneralError);
-            put_reply(reply, &command, status, &[]);
-            status
-        }
-    }
+    carry_out(bytes, first, room, judged, reply)
 }

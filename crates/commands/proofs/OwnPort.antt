@@ -8,13 +8,15 @@ use Rattle.std.proofs.lemmas.Option.{slice_get_within, get_or_from_slice_get, sl
 use Rattle.spw.specs.Cargo.{Cargo}
 use Rattle.rmap.specs.declared.places.Place.{Place}
 use Rattle.rmap.specs.declared.places.Place.TheVariants.{Bank, Staging, LoadResult, Control}
-use Rattle.bank.specs.Records.{BankValue, ShareValue}
+use Rattle.rmap.specs.declared.status.Status.{Status}
+use Rattle.bank.specs.Records.{BankValue, JudgedValue, ShareValue}
 use Rattle.target.specs.Applied.{with_share}
 use Rattle.target.specs.Pairs.{ArePaired, IsPaired}
-use Rattle.target.specs.Passes.{PassValue, pass_after}
-use Rattle.target.specs.Served.{IsAnswered}
+use Rattle.target.specs.Passes.{PassValue}
+use Rattle.target.specs.Served.{EndsAtWindow, IsAnswered}
+use Rattle.target.specs.Steps.{IsJudgement}
 use Rattle.target.specs.declared.served.Served.{Served}
-use Rattle.target.specs.declared.served.Served.TheVariants.{Stopped, Unread, Done}
+use Rattle.target.specs.declared.served.Served.TheVariants.{Stopped, Unread, Done, Window}
 
 -- what stands at a place of a list of which one element was written
 at_written : {A : Type 0} (xs : List A) (k j : ℕ) (old new x : A) → slice_get xs k ≡ Some old → j ≡ k → slice_get (set xs k new) j ≡ Some x → x ≡ new
@@ -34,11 +36,25 @@ port_of_share h Staging share = refl
 port_of_share h LoadResult share = refl
 port_of_share h Control share = refl
 
+-- a run leaves the port its number
+port_of_run : (h between : PassValue) (p : Cargo) (j : JudgedValue) → IsJudgement h between p j → between.port ≡ h.port
+port_of_run h between p j is = ap (λ (x : PassValue). x.port) is.asked
+
+-- a command to the boot window leaves the port its number
+port_at_window : (place : Place) (h left : PassValue) (j : JudgedValue) (status : Status) (reply : List ℕ) → EndsAtWindow place h left j status reply → left.port ≡ h.port
+port_at_window (Bank k) h left j status reply is = absurd is
+port_at_window Staging h left j status reply is = ap (λ (x : PassValue). x.port) is.rest
+port_at_window LoadResult h left j status reply is = ap (λ (x : PassValue). x.port) is.rest
+port_at_window Control h left j status reply is = ap (λ (x : PassValue). x.port) is.holder_after
+
 -- whatever becomes of a packet, the port keeps its number
 pub same_port : (served : Served) (p : Cargo) (old new : List BankValue) (h left : PassValue) (reply : List ℕ) → IsAnswered served p old new h left reply → left.port ≡ h.port
 same_port (Stopped stop) p old new h left reply is = ap (λ (x : PassValue). x.port) is.1.holder_after
 same_port Unread p old new h left reply is = ap (λ (x : PassValue). x.port) is.1.holder_after
-same_port (Done result) p old new h left reply is = ap (λ (x : PassValue). x.port) is.1.ended.shares ∙ port_of_share (pass_after h is.1.calls) _ _
+same_port (Done result) p old new h left reply is =
+    ap (λ (x : PassValue). x.port) is.ended.shares ∙ port_of_share is.between _ _ ∙ port_of_run h is.between p is.judged is.judgement
+same_port (Window status) p old new h left reply is =
+    port_at_window is.judged.place is.between left is.judged status reply is.ended ∙ port_of_run h is.between p is.judged is.judgement
 
 -- banks and ports stay paired
 pub pairs_stay : (old new : List BankValue) (holders : List PassValue) (port : ℕ) (h left : PassValue)

@@ -5,22 +5,25 @@ use base.Stored.{Gv}
 use Rattle.bank.specs.Records.{BankValue}
 use Rattle.bver.specs.Justified.{AcceptedValue}
 use Rattle.spw.specs.Cargo.{Cargo}
+use Rattle.publish.specs.declared.history.Publish.{Publish}
 use Rattle.target.specs.declared.config.BankConfig.{BankConfig}
 use Rattle.target.specs.declared.served.Served.{Served}
 use Rattle.target.specs.Served.{IsAnswered}
-use Rattle.target.specs.Nodes.{bank_of, first_pass}
+use Rattle.target.specs.Nodes.{bank_of, first_pass, first_programs}
 use Rattle.target.specs.Passes.{PassValue}
 use Rattle.target.specs.Pairs.{ArePaired}
 
--- the node's banks, what each port has of it, and the reply to the last packet
+-- the node's banks, the programs that were published of it, what each port has of it, and the reply to the
+-- last packet
 pub record JobNodeValue : Type 0 where
   pub banks : List BankValue
+  pub programs : List Publish
   pub holders : List PassValue
   pub reply : List ℕ
 
--- the node of these banks and these ports, with this reply
-abbrev pub job_node : List BankValue → List PassValue → List ℕ → JobNodeValue
-job_node banks holders reply = record { banks = banks; holders = holders; reply = reply }
+-- the node of these banks, programs and ports, with this reply
+abbrev pub job_node : List BankValue → List Publish → List PassValue → List ℕ → JobNodeValue
+job_node banks programs holders reply = record { banks = banks; programs = programs; holders = holders; reply = reply }
 
 -- banks and ports were made together, or are as packets left them
 pub record IsJobNode (s : JobNodeValue) : Type 0 where
@@ -37,13 +40,14 @@ first_holders ports program home = map (first_pass 254 (own_bank ∷ []) program
 -- a fresh node with so many ports, at each of which the program judges
 abbrev pub IsFresh : (ports : ℕ) → AcceptedValue → JobNodeValue → Type 0
 IsFresh ports program node =
-    (home : Gv) × (node ≡ job_node (bank_of ports own_bank ∷ []) (first_holders ports program home) [])
+    (home : Gv) × (node ≡ job_node (bank_of ports own_bank ∷ []) (first_programs program) (first_holders ports program home) [])
 
--- this became of the packet that came in at the port, the node has the reply that is due, and no other
--- port changed
+-- this became of the packet that came in at the port, the node has the reply that is due, no other port
+-- changed, and nothing was published
 pub record Serves (served : Served) (port : ℕ) (packet : Cargo) (before after : JobNodeValue) : Type 0 where
   pub holder : PassValue
   pub left : PassValue
   pub own : slice_get before.holders port ≡ Some holder
   pub others : after.holders ≡ slice_set before.holders port left
+  pub programs : after.programs ≡ before.programs
   pub answered : IsAnswered served packet before.banks after.banks holder left after.reply

@@ -8,7 +8,7 @@ use Rattle.spw.specs.Line.{HasFault, IsPacketLine}
 use Rattle.spw.specs.declared.faults.LineFault.{LineFault}
 use Rattle.spw.specs.declared.faults.LineFault.TheVariants as line_faults
 use Rattle.target.specs.declared.served.Served.{Served}
-use Rattle.target.specs.declared.served.Served.TheVariants.{Stopped, Unread, Done}
+use Rattle.target.specs.declared.served.Served.TheVariants.{Stopped, Unread, Done, Window}
 use Rattle.target.specs.declared.stop.Stop.TheVariants.{Discarded, Answered}
 use Rattle.commands.specs.JobNode.{JobNodeValue, Serves}
 use Rattle.commands.specs.JudgeJob.{discard_line, reply_line}
@@ -30,6 +30,7 @@ served_line port (Stopped (Discarded discard)) reply = discard_line port discard
 served_line port (Stopped (Answered status)) reply = reply_line port reply
 served_line port Unread reply = reply_line port reply
 served_line port (Done applied) reply = reply_line port reply
+served_line port (Window status) reply = reply_line port reply
 
 -- the line writes a packet of a port of the node, which served it, and what came of it was printed
 pub record Judges (line : List ℕ) (before after : JobNodeValue) (old new : Option (List ℕ)) : Type 0 where

@@ -13,6 +13,7 @@ use crate::verify::verify_file;
 use bver::MapSizes;
 use std::alloc::Global;
 use std::io::Write;
+use std::sync::Wait;
 
 /// A job, as a command line names it.
 #[derive(Debug, Drop)]
@@ -50,7 +51,8 @@ pub enum Job {
 }
 
 /// Does a job, up to its end or the fault that ends it, which is still to be printed.
-fn attempt<'a, F: Files, W: Write>(
+fn attempt<'a, R: Wait, F: Files, W: Write>(
+    rt: &R,
     alloc: Global,
     job: &'a Job,
     files: &mut F,
@@ -69,7 +71,7 @@ fn attempt<'a, F: Files, W: Write>(
             ports,
         } => {
             let image = image.as_deref();
-            judge_file(alloc, lines.as_str(), image, *sizes, *ports, files, out)
+            judge_file(rt, alloc, lines.as_str(), image, *sizes, *ports, files, out)
         }
         Job::Assemble { text, image } => {
             assemble_file(alloc, text.as_str(), image.as_str(), files, out)
@@ -80,10 +82,12 @@ fn attempt<'a, F: Files, W: Write>(
 }
 
 /// Does a job over any files and any writer, and gives the exit status: 1 where an image was
-/// refused or a fault was printed, else 0. What the writer holds back is not flushed.
+/// refused or a fault was printed, else 0. What the writer holds back is not flushed. It may wait: `judge` has a
+/// node, whose end does.
 ///
 /// `WriteFault` where the writer failed; nothing is written after that.
-pub fn perform<F: Files, W: Write>(
+pub fn perform<R: Wait, F: Files, W: Write>(
+    rt: &R,
     alloc: Global,
     job: &Job,
     files: &mut F,
@@ -92,7 +96,7 @@ pub fn perform<F: Files, W: Write>(
     ensures { IfOk result (Performs F.reads F.writes job.now files.old files.new
         (W.contents out.old) (W.contents out.new)) }
 {
-    match attempt(alloc, job, files, out) {
+    match attempt(rt, alloc, job, files, out) {
         Ok(()) => Ok(0),
         Err(Stop::Ended(fault)) => {
             writeln!(out, "{fault}")?;

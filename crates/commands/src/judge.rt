@@ -28,10 +28,13 @@ use bpf::Image;
 use bpf_insn::{AluOp, Insn, Operand, Register, Width};
 use bver::{Accepted, MapSizes, verify};
 use clap::{ArgMatches, Command};
+use publish::{Opened, Room};
 use rmap::Discard;
 use spw::read_line;
 use std::alloc::{AllocError, Global};
 use std::io::{self, Write};
+use std::marker::Brand;
+use std::sync::Wait;
 use target::{Served, Stop as Header};
 
 /// The budget of the factory program, which has two steps.
@@ -164,16 +167,19 @@ fn print_served<'a, W: Write>(
 {
     match served {
         Served::Stopped(Header::Discarded(discard)) => Ok(print_discard(out, port, discard)?),
-        Served::Stopped(Header::Answered(_)) | Served::Unread | Served::Done(_) => {
+        Served::Stopped(Header::Answered(_))
+        | Served::Unread
+        | Served::Done(_)
+        | Served::Window(_) => {
             print_reply(alloc, out, port, reply)
         }
     }
 }
 
 /// Judges the packet of one line, and prints what comes of it. `number` is that of the line.
-fn judge_line<'a, W: Write>(
+fn judge_line<'a, J: Room, R: Wait + Drop, W: Write>(
     alloc: Global,
-    node: &mut JobNode,
+    node: &mut JobNode<J, R>,
     line: &str,
     number: usize,
     out: &mut W,
@@ -189,9 +195,9 @@ fn judge_line<'a, W: Write>(
 }
 
 /// Judges each line of a text in turn. Lines are separated by line feeds.
-fn judge_lines<'a, W: Write>(
+fn judge_lines<'a, J: Room, R: Wait + Drop, W: Write>(
     alloc: Global,
-    node: &mut JobNode,
+    node: &mut JobNode<J, R>,
     text: &str,
     out: &mut W,
 ) -> Result<(), Stop<'a>>
@@ -217,9 +223,9 @@ fn without_last_feed(text: &str) -> &str
 }
 
 /// Judges each line of a text in turn. A line is ended by a line feed, which the last may lack.
-fn judge_text<'a, W: Write>(
+fn judge_text<'a, J: Room, R: Wait + Drop, W: Write>(
     alloc: Global,
-    node: &mut JobNode,
+    node: &mut JobNode<J, R>,
     text: &str,
     out: &mut W,
 ) -> Result<(), Stop<'a>>
@@ -236,14 +242,17 @@ fn judge_text<'a, W: Write>(
 
 /// The text of a file of packet lines, and a fresh node with so many ports, whose commands the program of
 /// an image file, or the factory program, judges.
-fn lines_and_node<'a, F: Files>(
+fn lines_and_node<'a, J: Room, R: Wait + Drop, F: Files>(
     alloc: Global,
+    rt: R,
+    opened: Opened,
     lines: &'a str,
     image: Option<&'a str>,
     sizes: MapSizes,
     ports: u8,
     files: &mut F,
-) -> Result<(String, JobNode), Fault<'a>>
+) -> Result<(String, JobNode<J, R>), Fault<'a>>
+    requires { opened ≡ J.book }
     ensures ready { IfOk result (λ made. IsReady F.reads sizes ports files.old lines.now (name_in image.entry)
         (string_bytes made.0) made.1 files.new) }
     ensures refused { IfErr result
@@ -251,16 +260,40 @@ fn lines_and_node<'a, F: Files>(
 {
     let text = text_in(alloc, files, lines)?;
     let program = judging_program(alloc, files, image, sizes)?;
-    let node = JobNode::new(alloc, ports, program)?;
+    let node = JobNode::new(alloc, rt, opened, ports, program)?;
     Ok((text, node))
 }
 
+/// Judges the packet lines of a file on a node with that history.
+fn judge_opened<'a, J: Room, R: Wait, F: Files, W: Write>(
+    rt: &R,
+    alloc: Global,
+    opened: Opened,
+    lines: &'a str,
+    image: Option<&'a str>,
+    sizes: MapSizes,
+    ports: u8,
+    files: &mut F,
+    out: &mut W,
+) -> Result<(), Stop<'a>>
+    requires { opened ≡ J.book }
+    ensures done { OnOk result (JudgesFile F.reads sizes ports files.old lines.now
+        (name_in image.entry) files.new (W.contents out.old) (W.contents out.new)) }
+    ensures stops { IfErr result (StopsBy (IsNotJudged F.reads sizes ports files.old lines.now
+        (name_in image.entry) files.new (W.contents out.old) (W.contents out.new))) }
+{
+    let (text, mut node) =
+        lines_and_node::<J, _, _>(alloc, rt, opened, lines, image, sizes, ports, files)?;
+    judge_text(alloc, &mut node, text.as_str(), out)
+}
+
 /// Judges the packet lines of a file by the program of an image file, or by the factory program, on a node
-/// with counter maps of these sizes and so many ports.
+/// with counter maps of these sizes and so many ports. It may wait: the end of the node does.
 ///
 /// Faults are found in this order: the file of lines (`CannotRead`, also where it is not UTF-8),
 /// the image file, its image, and then each line.
-pub fn judge_file<'a, F: Files, W: Write>(
+pub fn judge_file<'a, R: Wait, F: Files, W: Write>(
+    rt: &R,
     alloc: Global,
     lines: &'a str,
     image: Option<&'a str>,
@@ -274,6 +307,5 @@ pub fn judge_file<'a, F: Files, W: Write>(
     ensures stops { IfErr result (StopsBy (IsNotJudged F.reads sizes ports files.old lines.now
         (name_in image.entry) files.new (W.contents out.old) (W.contents out.new))) }
 {
-    let (text, mut node) = lines_and_node(alloc, lines, image, sizes, ports, files)?;
-    judge_text(alloc, &mut node, text.as_str(), out)
+    judge_opened::<Brand, _, _, _>(rt, alloc, Opened::new(), lines, image, sizes, ports, files, out)
 }

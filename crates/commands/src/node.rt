@@ -6,10 +6,12 @@ ghost use Rattle.commands.specs.declared.faults.Fault.TheVariants.{NoMemory};
 
 use crate::faults::Fault;
 use bver::Accepted;
+use publish::{Opened, Publisher, Room};
 use rmap::ReplyBuf;
 use spw::Packet;
 use std::alloc::Global;
 use std::marker::Model;
+use std::sync::Wait;
 use target::{BankConfig, Banks, NodeConfig, Pass, Served, banks_and_passes, serve_packet};
 
 /// The logical address of the node.
@@ -22,27 +24,35 @@ const BANK: BankConfig = BankConfig {
     room: 1024,
 };
 
-/// A node of one bank and some ports, with room for one reply.
+/// A node of one bank and some ports, with room for one reply. Its end waits for readers.
 #[derive(Drop)]
-pub struct JobNode {
+pub struct JobNode<J: Room, R: Wait + Drop> {
     banks: Banks,
-    passes: Vec<Pass>,
+    publisher: Publisher<J, R>,
+    passes: Vec<Pass<J>>,
     reply: ReplyBuf,
 }
 
-impl Model for JobNode {
+impl<J: Room, R: Wait + Drop> Model for JobNode<J, R> {
     ghost use Rattle.commands.specs.JobNode.{JobNodeValue, IsJobNode, job_node};
 
     ghost Value = { JobNodeValue };
 
-    ghost view = { λ b. job_node b.banks b.passes.items b.reply };
+    ghost view = { λ b. job_node b.banks b.publisher b.passes.items b.reply };
 
-    ghost invariant = { λ b. IsJobNode (job_node b.banks b.passes.items b.reply) };
+    ghost invariant = { λ b. IsJobNode (job_node b.banks b.publisher b.passes.items b.reply) };
 }
 
-impl JobNode {
-    /// A node of zero bytes with so many ports, whose commands this program judges at each.
-    pub fn new<'a>(alloc: Global, ports: u8, program: Accepted) -> Result<JobNode, Fault<'a>>
+impl<J: Room, R: Wait + Drop> JobNode<J, R> {
+    /// A node of zero bytes with so many ports, at each of which this program judges at first.
+    pub fn new<'a>(
+        alloc: Global,
+        rt: R,
+        opened: Opened,
+        ports: u8,
+        program: Accepted,
+    ) -> Result<JobNode<J, R>, Fault<'a>>
+        requires { opened ≡ J.book }
         ensures made { IfOk result (IsFresh ports program) }
         ensures refused { IfErr result (λ fault. fault ≡ NoMemory) }
     {
@@ -52,9 +62,11 @@ impl JobNode {
             banks: &[BANK],
             sizes: program.sizes(),
         };
-        let (banks, _cells, passes) = banks_and_passes(alloc, &config, program)?;
+        let (banks, _cells, publisher, passes) =
+            banks_and_passes(alloc, rt, opened, &config, program)?;
         Ok(JobNode {
             banks,
+            publisher,
             passes,
             reply: ReplyBuf::new(),
         })

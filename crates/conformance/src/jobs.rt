@@ -6,9 +6,11 @@ ghost use Rattle.conformance.specs.Jobs.{Leaves};
 use crate::folder::Folder;
 use commands::{Job, WriteFault, perform};
 use std::alloc::Global;
+use std::sync::Wait;
 
 /// Does a job over the files of a folder, and gives what it printed and the exit status.
-pub fn perform_in(
+pub fn perform_in<R: Wait>(
+    rt: &R,
     alloc: Global,
     job: &Job,
     folder: &mut Folder,
@@ -16,6 +18,6 @@ pub fn perform_in(
     ensures { IfOk result (λ done. Leaves job.now folder.old folder.new done.1) }
 {
     let mut out = Vec::new(alloc);
-    let status = perform(alloc, job, folder, &mut out)?;
+    let status = perform(rt, alloc, job, folder, &mut out)?;
     Ok((out, status))
 }

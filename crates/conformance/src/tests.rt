@@ -14,12 +14,14 @@ mod rooms;
 mod tables;
 mod usage;
 mod verifying;
+mod window;
 mod writers;
 mod writes;
 
 use crate::{Folder, perform_in};
 use commands::{Cannot, Files, words};
 use std::alloc::Global;
+use std::sync::Wait;
 use std::process::Abort;
 use std::test::Fail;
 use trial::Row;
@@ -43,10 +45,10 @@ pub fn folder_of(alloc: Global, files: &[(&str, &[u8])]) -> Result<Folder, Canno
 }
 
 /// What comes of these words over these files.
-pub fn done(alloc: Global, given: &[&str], files: &[(&str, &[u8])]) -> Result<Outcome, Fail> {
+pub fn done(rt: &impl Wait, alloc: Global, given: &[&str], files: &[(&str, &[u8])]) -> Result<Outcome, Fail> {
     let job = words(alloc, given)?;
     let mut folder = folder_of(alloc, files).map_err(|_| "no folder")?;
-    let (out, status) = perform_in(alloc, &job, &mut folder)?;
+    let (out, status) = perform_in(rt, alloc, &job, &mut folder)?;
     Ok(Outcome {
         printed: String::from_utf8(out)?,
         status,
@@ -55,37 +57,42 @@ pub fn done(alloc: Global, given: &[&str], files: &[(&str, &[u8])]) -> Result<Ou
 }
 
 /// What these words print over these files, and the exit status.
-pub fn run(alloc: Global, given: &[&str], files: &[(&str, &[u8])]) -> Result<(String, u8), Fail> {
-    let done = done(alloc, given, files)?;
+pub fn run(rt: &impl Wait, alloc: Global, given: &[&str], files: &[(&str, &[u8])]) -> Result<(String, u8), Fail> {
+    let done = done(rt, alloc, given, files)?;
     Ok((done.printed, done.status))
 }
 
 /// What `judge` prints of these lines by the factory program, and the exit status.
-pub fn judged(alloc: Global, lines: &str) -> Result<(String, u8), Fail> {
-    run(alloc, &["judge", "lines"], &[("lines", lines.as_bytes())])
+pub fn judged(rt: &impl Wait, alloc: Global, lines: &str) -> Result<(String, u8), Fail> {
+    run(rt, alloc, &["judge", "lines"], &[("lines", lines.as_bytes())])
 }
 
 /// What `judge` prints of these lines by the program of an image, and the exit status.
-pub fn judged_by<'a>(alloc: Global, image: &'a [u8], lines: &'a str) -> Result<(String, u8), Fail> {
+pub fn judged_by<'a>(
+    rt: &impl Wait,
+    alloc: Global,
+    image: &'a [u8],
+    lines: &'a str,
+) -> Result<(String, u8), Fail> {
     let files = [("lines", lines.as_bytes()), ("image", image)];
-    run(alloc, &["judge", "lines", "--image", "image"], &files)
+    run(rt, alloc, &["judge", "lines", "--image", "image"], &files)
 }
 
 /// Compares what `judge` prints of the packet line of a row by the factory program. A row has bars between
 /// what it shows, the line and the answer.
-fn compare_answer(rt: &impl Abort, alloc: Global, row: &str) -> Result<(), Fail> {
+fn compare_answer(rt: &(impl Abort + Wait), alloc: Global, row: &str) -> Result<(), Fail> {
     let mut row = Row::of(row);
     let shows = row.part()?;
     let line = row.part()?;
     let wanted = row.part()?;
-    let (printed, status) = judged(alloc, line)?;
+    let (printed, status) = judged(rt, alloc, line)?;
     let answer = printed.as_str().strip_suffix('\n');
     assert_eq!(rt; (answer, status), (Some(wanted), 0), "at {shows}");
     Ok(())
 }
 
 /// Compares each row of a table, each on a fresh node.
-pub fn compare_answers(rt: &impl Abort, alloc: Global, table: &str) -> Result<(), Fail> {
+pub fn compare_answers(rt: &(impl Abort + Wait), alloc: Global, table: &str) -> Result<(), Fail> {
     for row in table.lines() {
         compare_answer(rt, alloc, row)?;
     }

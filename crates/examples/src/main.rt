@@ -8,6 +8,7 @@ use commands::{HostFiles, Job, perform};
 use std::alloc::{AllocError, Global};
 use std::io::{self, Write};
 use std::rt;
+use std::sync::Wait;
 
 /// The programs that ask no counters. NAME.bpf is the text of one.
 const PROGRAMS: [&str; 4] = [
@@ -53,7 +54,7 @@ fn jobs(alloc: Global, name: &str, node: &Node<'_>) -> Result<[Job; 3]> {
 }
 
 /// Does the jobs of one program, below a line with its name.
-fn show<R: rt::Files + Input, W: Write>(
+fn show<R: rt::Files + Input + Wait, W: Write>(
     rt: &R,
     alloc: Global,
     name: &str,
@@ -62,7 +63,7 @@ fn show<R: rt::Files + Input, W: Write>(
 ) -> Result<()> {
     writeln!(out, "== {name}")?;
     for job in &jobs(alloc, name, node)? {
-        let status = perform(alloc, job, &mut HostFiles { rt }, out).map_err(|_| anyhow!(
+        let status = perform(rt, alloc, job, &mut HostFiles { rt }, out).map_err(|_| anyhow!(
             "cannot write"
         ))?;
         if status != 0 {

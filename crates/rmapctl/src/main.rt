@@ -7,6 +7,7 @@ use std::alloc::Global;
 use std::io::{BufWriter, Write};
 use std::process::ExitCode;
 use std::rt::{self, Env};
+use std::sync::Wait;
 use std::{env, io};
 
 /// What the program does where its command line has no word: it judges standard input.
@@ -16,13 +17,13 @@ const WITHOUT_WORDS: [&str; 2] = ["judge", "-"];
 const FAILED: u8 = 1;
 
 /// Does a job over this machine's files and standard output, and gives the exit status.
-fn do_job<R: rt::Files + Input + Print>(
+fn do_job<R: rt::Files + Input + Print + Wait>(
     rt: &R,
     alloc: Global,
     job: &Job,
 ) -> Result<u8, WriteFault> {
     let mut out = BufWriter::new(alloc, io::writer(rt))?;
-    let status = perform(alloc, job, &mut HostFiles { rt }, &mut out)?;
+    let status = perform(rt, alloc, job, &mut HostFiles { rt }, &mut out)?;
     out.flush()?;
     Ok(status)
 }

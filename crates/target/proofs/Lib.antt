@@ -3,3 +3,4 @@ pub mod Makings
 pub mod Pairings
 pub mod Services
 pub mod Askings
+pub mod Judgements

@@ -20,12 +20,15 @@ use Rattle.bank.specs.Records.{BankValue, ShareValue, JudgedValue, extent_of, af
 use Rattle.target.specs.declared.config.BankConfig.{BankConfig}
 use base.Stored.{Gv}
 use Rattle.machine.specs.declared.calls.Call.{Call}
-use Rattle.target.specs.Passes.{PassValue, pass_after}
+use Rattle.spw.specs.Cargo.{Cargo}
+use Rattle.publish.specs.declared.history.Publish.{Publish}
+use Rattle.publish.specs.Staged.{Staged}
+use Rattle.target.specs.Passes.{PassValue, pass_after, with_staging}
 use Rattle.target.specs.Nodes.{bank_of, first_pass, range_of}
-use Rattle.target.specs.Steps.{is_in_bank, IsBankBelow}
+use Rattle.target.specs.Steps.{IsBankBelow, IsJudgement}
 use Rattle.target.specs.Applied.{share_of, with_share, IsFinished}
 use Rattle.target.specs.Pairs.{IsShareOf, IsPaired, MadeArePaired, PairedCommandsFit, OwnStaysPaired, OthersStayPaired}
-use Rattle.target.proofs.Places.{no_bank, same_bank}
+use Rattle.target.proofs.Places.{is_in_bank, no_bank, same_bank}
 
 both : (a b : Bool) → (a && b) ≡ true → (a ≡ true) × (b ≡ true)
 both true b e = (refl, e)
@@ -196,9 +199,25 @@ paired_commands_fit banks h program generation k calls p j b paired judged place
     same_ports : (a b : ℕ) → a ≡ b → eqb a b ≡ true
     same_ports a b e = grind (arith, nat_tests)
 
--- what programs asked says nothing of banks and shares
-pub asked_paired : (banks : List BankValue) (h : PassValue) (calls : List Call) → IsPaired banks h → IsPaired banks (pass_after h calls)
-asked_paired banks h calls paired = record { count = paired.count; windows = paired.windows; shares = paired.shares }
+-- what was seen and asked says nothing of banks and shares
+pub asked_paired : (banks : List BankValue) (h : PassValue) (seen : List Publish) (calls : List Call) → IsPaired banks h → IsPaired banks (pass_after h seen calls)
+asked_paired banks h seen calls paired = record { count = paired.count; windows = paired.windows; shares = paired.shares }
+
+-- a run leaves a port paired
+pub judged_paired : (banks : List BankValue) (h between : PassValue) (p : Cargo) (j : JudgedValue) → IsJudgement h between p j → IsPaired banks h → IsPaired banks between
+judged_paired banks h between p j run paired =
+    subst (λ (x : PassValue). IsPaired banks x) (sym run.asked) (asked_paired banks h run.seen run.calls paired)
+
+-- and the command that was judged fits
+pub judged_fits : (banks : List BankValue) (h between : PassValue) (p : Cargo) (j : JudgedValue) (k : ℕ) (b : BankValue) → IsJudgement h between p j → IsPaired banks h → j.place ≡ Bank k → slice_get banks k ≡ Some b → fits b (share_of between j.place) j ≡ true
+judged_fits banks h between p j k b run paired place at =
+    let asked = pass_after h run.seen run.calls in
+    subst (λ (x : PassValue). fits b (share_of x j.place) j ≡ true) (sym run.asked)
+        (paired_commands_fit banks asked run.program j.generation k run.calls p j b (asked_paired banks h run.seen run.calls paired) run.judged_for place at)
+
+-- another staging leaves a port paired
+pub staged_paired : (banks : List BankValue) (h : PassValue) (staging : Staged) → IsPaired banks h → IsPaired banks (with_staging h staging)
+staged_paired banks h staging paired = record { count = paired.count; windows = paired.windows; shares = paired.shares }
 
 -- as banks and ports are made
 windows_made : (ports : ℕ) (banks : List BankConfig) → map range_of banks ≡ map extent_of (map (bank_of ports) banks)

@@ -8,7 +8,15 @@ use Rattle.rmap.specs.declared.places.Place.{Place}
 use Rattle.rmap.specs.declared.places.Place.TheVariants.{Bank, Staging, LoadResult, Control}
 use Rattle.rmap.specs.Command.{CommandValue, extended_of, command_kind}
 use Rattle.rmap.specs.Windows.{WindowsValue, place_of, bank_place, boot_place, register_of, is_register, is_staged, lies_inside}
-use Rattle.target.specs.Steps.{is_in_bank, is_served, IsBankBelow}
+use Rattle.target.specs.Steps.{IsBankBelow}
+
+-- whether the place is a bank
+abbrev pub is_in_bank : Option Place → Bool
+is_in_bank (Some (Bank k)) = true
+is_in_bank (Some Staging) = false
+is_in_bank (Some LoadResult) = false
+is_in_bank (Some Control) = false
+is_in_bank None = false
 
 either : (b : Bool) (x y : Option Place) → is_in_bank x ≡ false → is_in_bank y ≡ false → is_in_bank (cond b x y) ≡ false
 either true x y h k = h
@@ -28,13 +36,6 @@ in_bank : (k : ℕ) (b : Bool) (place : Place) → cond b (Some (Bank k)) None �
 in_bank k true place e = cc
 in_bank k false place e = absurd cc
 
-bank_below : (w : WindowsValue) (c : CommandValue) (place : Place) (found : Option (ℕ × ℕ)) → slice_get w.banks (extended_of c) ≡ found → bank_place found c ≡ Some place → is_in_bank (bank_place found c) ≡ true → IsBankBelow place (length w.banks)
-bank_below w c place None e h served = let both : true ≡ false = sym served ∙ no_bank c in absurd cc
-bank_below w c place (Some bank) e h served = (extended_of c, in_bank (extended_of c) (lies_inside bank.0 bank.1 c) place h, slice_get_within w.banks (extended_of c) bank e)
-
-pub served_bank : (w : WindowsValue) (c : CommandValue) (place : Place) → is_served c w ≡ true → place_of c w ≡ Some place → IsBankBelow place (length w.banks)
-served_bank w c place served h = bank_below w c place (slice_get w.banks (extended_of c)) refl h served
-
 number_of : Place → ℕ
 number_of (Bank k) = k
 number_of Staging = 0
@@ -44,6 +45,16 @@ number_of Control = 0
 pub same_bank : (n k : ℕ) → Bank n ≡ Bank k → n ≡ k
 unfolding number_of
 same_bank n k e = ap number_of e
+
+bank_below : (w : WindowsValue) (c : CommandValue) (k : ℕ) (found : Option (ℕ × ℕ)) → slice_get w.banks (extended_of c) ≡ found → bank_place found c ≡ Some (Bank k) → k < length w.banks
+bank_below w c k None e h = let both : true ≡ false = sym (ap is_in_bank h) ∙ no_bank c in absurd cc
+bank_below w c k (Some bank) e h =
+    let same : Bank k ≡ Bank (extended_of c) = in_bank (extended_of c) (lies_inside bank.0 bank.1 c) (Bank k) h in
+    rw (same_bank k (extended_of c) same) (slice_get_within w.banks (extended_of c) bank e)
+
+-- a bank that a command has as its place is one of the node's
+pub judged_bank : (w : WindowsValue) (c : CommandValue) (place : Place) (k : ℕ) → place_of c w ≡ Some place → place ≡ Bank k → k < length w.banks
+judged_bank w c place k h at = bank_below w c k (slice_get w.banks (extended_of c)) refl (h ∙ ap (λ x. Some x) at)
 
 pub below : (place : Place) (k n : ℕ) → place ≡ Bank k → IsBankBelow place n → k < n
 unfolding number_of

@@ -18,7 +18,7 @@ share_of h Control = first_share h.port
 
 -- the port with another share of the bank of that place
 abbrev pub with_share : PassValue → Place → ShareValue → PassValue
-with_share h (Bank k) share = record { port = h.port; windows = h.windows; program = h.program; generation = h.generation; seat = h.seat; shares = slice_set h.shares k share }
+with_share h (Bank k) share = record h { shares = slice_set h.shares k share }
 with_share h Staging share = h
 with_share h LoadResult share = h
 with_share h Control share = h

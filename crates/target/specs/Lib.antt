@@ -1,9 +1,10 @@
 pub mod Codes
 pub mod Passes
-pub mod Steps
 pub mod Slots
+pub mod Steps
 pub mod Nodes
 pub mod Applied
+pub mod Stagings
 pub mod Loans
 pub mod Served
 pub mod Pairs

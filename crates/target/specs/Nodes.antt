@@ -5,6 +5,11 @@ use Rattle.std.specs.List.{list_all, range_with_len}
 use Rattle.bver.specs.Justified.{AcceptedValue}
 use Rattle.bank.specs.Limits.{is_bank_size, is_ports}
 use Rattle.bank.specs.Records.{BankValue, ShareValue, first_share, fresh_bank}
+use Rattle.publish.specs.declared.history.Publish.{Publish}
+use Rattle.publish.specs.Histories.{entry}
+use Rattle.publish.specs.Reached.{Known, known}
+use Rattle.cells.specs.Seats.{CellSeatValue, seat}
+use Rattle.publish.specs.Staged.{Staged, staged}
 use base.Stored.{Gv}
 use Rattle.target.specs.Passes.{PassValue}
 use Rattle.target.specs.declared.config.BankConfig.{BankConfig}
@@ -42,22 +47,35 @@ fresh_banks ports banks = map (bank_of ports) banks
 abbrev pub AreSharesOf : List BankConfig → ℕ → List (List ShareValue) → Type 0
 AreSharesOf banks ports by_port = ArePortShares (length banks) ports by_port
 
--- what a port has of its node at first: the factory program, of generation 0, and a seat at the cells of
+-- what was published of a node at first: the factory program
+abbrev pub first_programs : AcceptedValue → List Publish
+first_programs factory = entry 0 factory ∷ []
+
+-- a staging at first: zero bytes, and a load result of zeros
+abbrev pub first_staging : Staged
+first_staging = staged (replicate 16384 0) (replicate 8 0)
+
+-- so many seats at the cells of that name, for the program's maps, and readers that know of the program
+pub record AreFirst (factory : AcceptedValue) (home : Gv) (ports : ℕ) (seats : List CellSeatValue) (readers : List Known) : Type 0 where
+  pub seats_are : seats ≡ replicate ports (seat factory.sizes home [])
+  pub readers_are : readers ≡ replicate ports (known (first_programs factory) None)
+
+-- what a port has of its node at first: it knows of the factory program, and has a seat at the cells of
 -- that name, for the program's maps, of which nothing was asked
 abbrev pub first_pass : ℕ → List BankConfig → AcceptedValue → Gv → ℕ → PassValue
-first_pass address banks program home port = record {
+first_pass address banks factory home port = record {
   port = port;
   windows = windows_of address banks;
-  program = program;
-  generation = 0;
-  seat = record { sizes = program.sizes; home = home; asked = [] };
+  programs = first_programs factory;
+  seat = record { sizes = factory.sizes; home = home; asked = [] };
   shares = replicate (length banks) (first_share port);
+  staging = first_staging;
 }
 
 -- what the ports of a node have of it at first, in order
 abbrev pub first_passes : NodeConfig → AcceptedValue → Gv → List PassValue
-first_passes config program home =
-    map (first_pass config.address config.banks.now program home) (range_with_len 0 config.ports)
+first_passes config factory home =
+    map (first_pass config.address config.banks.now factory home) (range_with_len 0 config.ports)
 
 -- each number is its place
 abbrev pub AreNumbered : List ℕ → Type 0

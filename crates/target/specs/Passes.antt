@@ -1,8 +1,10 @@
 -- What a node and a port's pass are to those who read them.
 use Rattle.std.specs.Prelude.{◌≡◌, ◌<◌, ℕ, List, ◌++◌, length}
-use Rattle.bver.specs.Justified.{AcceptedValue}
 use Rattle.rmap.specs.Windows.{WindowsValue}
 use Rattle.bank.specs.Records.{ShareValue}
+use Rattle.publish.specs.declared.history.Publish.{Publish}
+use Rattle.publish.specs.Published.{sizes_of}
+use Rattle.publish.specs.Staged.{Staged}
 use base.Stored.{Gv}
 use Rattle.machine.specs.declared.calls.Call.{Call}
 use Rattle.cells.specs.Seats.{CellSeatValue, calls}
@@ -32,34 +34,38 @@ pub record BearingValue : Type 0 where
 abbrev pub bearing_after : BearingValue → List Call → BearingValue
 bearing_after b more = record { port = b.port; windows = b.windows; seat = seat_after b.seat more }
 
--- what a port has of its node: the node's windows, the program that judges with its generation, the
--- counters, and a share of each bank
+-- what a port has of its node: the node's windows, what it knows of the programs that were published, the
+-- counters, a share of each bank, and its own staging with the result of its last load
 pub record PassValue : Type 0 where
   pub port : ℕ
   pub windows : WindowsValue
-  pub program : AcceptedValue
-  pub generation : ℕ
+  pub programs : List Publish
   pub seat : SeatValue
   pub shares : List ShareValue
+  pub staging : Staged
 
 -- what a port has, by its bearing
-abbrev pub pass_of : BearingValue → AcceptedValue → ℕ → List ShareValue → PassValue
-pass_of b program generation shares = record {
+abbrev pub pass_of : BearingValue → List Publish → List ShareValue → Staged → PassValue
+pass_of b programs shares staging = record {
   port = b.port;
   windows = b.windows;
-  program = program;
-  generation = generation;
+  programs = programs;
   seat = b.seat;
   shares = shares;
+  staging = staging;
 }
 
--- a pass after more calls
-abbrev pub pass_after : PassValue → List Call → PassValue
-pass_after h more = record h { seat = seat_after h.seat more }
+-- a pass that saw those programs, after more calls
+abbrev pub pass_after : PassValue → List Publish → List Call → PassValue
+pass_after h seen more = record h { programs = seen; seat = seat_after h.seat more }
 
--- a port's number is below 32, it has a share of each bank of its node, and its program was accepted
--- for the maps of its counters
+-- a pass with another staging
+abbrev pub with_staging : PassValue → Staged → PassValue
+with_staging h staging = record h { staging = staging }
+
+-- a port's number is below 32, it has a share of each bank of its node, and the programs of its node
+-- are accepted for the maps of its counters
 pub record IsPass (p : PassValue) : Type 0 where
   pub port : p.port < 32
-  pub sizes : p.seat.sizes ≡ p.program.sizes
+  pub sizes : p.seat.sizes ≡ sizes_of p.programs
   pub shares : length p.shares ≡ length p.windows.banks

@@ -1,12 +1,13 @@
 -- What becomes of a packet before memory is touched.
-use Rattle.std.specs.Prelude.{◌≡◌, ◌<◌, ℕ, Bool, true, false, List, [], Option, None, Some}
+use Rattle.std.specs.Prelude.{◌≡◌, ◌<◌, ℕ, List, [], None, Some}
+use mathlib.Core.List.{IsPrefix}
 use Rattle.spw.specs.Cargo.{Cargo}
 use Rattle.rmap.specs.declared.places.Place.{Place}
-use Rattle.rmap.specs.declared.places.Place.TheVariants.{Bank, Staging, LoadResult, Control}
+use Rattle.rmap.specs.declared.places.Place.TheVariants.{Bank}
 use Rattle.rmap.specs.declared.status.Status.{Status}
 use Rattle.rmap.specs.declared.status.Status.TheVariants.{GeneralError}
-use Rattle.rmap.specs.Command.{CommandValue, command_of, discard_of}
-use Rattle.rmap.specs.Windows.{WindowsValue, place_of}
+use Rattle.rmap.specs.Command.{CommandValue, command_of, command_kind, discard_of}
+use Rattle.rmap.specs.Windows.{WindowsValue}
 use Rattle.rmap.specs.Checks.{header_line}
 use Rattle.rmap.specs.Reply.{reply_of}
 use Rattle.bver.specs.Justified.{AcceptedValue}
@@ -14,23 +15,14 @@ use Rattle.bank.specs.Admission.{IsPlacedBy}
 use Rattle.bank.specs.Records.{AdmittedValue, JudgedValue, judgement}
 use Rattle.brun.specs.Runs.{header, RunsWithin}
 use Rattle.machine.specs.declared.calls.Call.{Call}
+use Rattle.publish.specs.declared.history.Publish.{Publish}
+use Rattle.publish.specs.Published.{published}
+use Rattle.target.specs.Slots.{slot_of}
 use Rattle.target.specs.Passes.{PassValue, BearingValue, bearing_after, pass_after}
 use Rattle.target.specs.declared.step.Step.{Step}
 use Rattle.target.specs.declared.step.Step.TheVariants.{Discarded, Answered, Unread, Judged}
 use Rattle.target.specs.declared.stop.Stop.{Stop}
 use Rattle.target.specs.declared.stop.Stop.TheVariants.{Discarded as NoCommand, Answered as Fault}
-
--- whether the place is a bank
-abbrev pub is_in_bank : Option Place → Bool
-is_in_bank (Some (Bank k)) = true
-is_in_bank (Some Staging) = false
-is_in_bank (Some LoadResult) = false
-is_in_bank (Some Control) = false
-is_in_bank None = false
-
--- what the node serves so far of the commands that no check of the header stops: those to its banks
-abbrev pub is_served : CommandValue → WindowsValue → Bool
-is_served c w = is_in_bank (place_of c w)
 
 -- the packet is a command, and no check of its header holds
 pub record IsAllowed (p : Cargo) (w : WindowsValue) : Type 0 where
@@ -52,10 +44,9 @@ pub record IsAdmission (admitted : AdmittedValue) (p : Cargo) (w : WindowsValue)
   pub packet : admitted.packet ≡ p
   pub placed : IsPlacedBy w p admitted.place
 
--- nothing serves the command of the packet: the reply is a general error
+-- nothing judged the command of the packet: the reply is a general error
 pub record IsUnread (p : Cargo) (w : WindowsValue) (reply : List ℕ) : Type 0 where
   pub allowed : IsAllowed p w
-  pub unserved : is_served (command_of p) w ≡ false
   pub error : reply ≡ reply_of (command_of p) GeneralError []
 
 -- the place is a bank below n
@@ -99,11 +90,27 @@ pub record IsJudgedFor (program : AcceptedValue) (generation port : ℕ) (w : Wi
   pub generation_of : j.generation ≡ generation
   pub verdict : IsVerdict program port calls p j.verdict
 
--- the command of the packet was judged in one run, and the port asked what that run asked
+-- in a list of publishes that begins with what was known, the program of that generation is published in the
+-- slot of the command's place
+pub record IsTaken (known seen : List Publish) (c : CommandValue) (place : Place) (program : AcceptedValue) (generation : ℕ) : Type 0 where
+  pub longer : IsPrefix known seen
+  pub shown : published seen (slot_of (command_kind c) place) ≡ Some (program, generation)
+
+-- the admitted command was judged once, by the program that was taken in the slot of its place
+pub record IsJudgedByTaken (known seen : List Publish) (old new : BearingValue) (admitted : AdmittedValue) (j : JudgedValue) : Type 0 where
+  pub program : AcceptedValue
+  pub taken : IsTaken known seen (command_of admitted.packet) admitted.place program j.generation
+  pub once : IsJudgedOnce program j.generation old new admitted j
+
+-- the command of the packet was judged in one run, by the program that the port took in the slot of its
+-- place, and the port asked what that run asked
 pub record IsJudgement (h after : PassValue) (p : Cargo) (j : JudgedValue) : Type 0 where
+  pub seen : List Publish
+  pub program : AcceptedValue
   pub calls : List Call
-  pub asked : after ≡ pass_after h calls
-  pub judged_for : IsJudgedFor h.program h.generation h.port h.windows calls p j
+  pub taken : IsTaken h.programs seen (command_of p) j.place program j.generation
+  pub asked : after ≡ pass_after h seen calls
+  pub judged_for : IsJudgedFor program j.generation h.port h.windows calls p j
 
 -- how far a packet comes by itself, what becomes of the port, and the reply that is due then: no
 -- program runs but for a command that is judged, and for that one it runs once
@@ -111,6 +118,4 @@ abbrev pub IsStep : Step → Cargo → (before after : PassValue) → List ℕ �
 IsStep (Discarded d back) p h after reply = (back ≡ p) × (after ≡ h) × IsStopped (NoCommand d) p h.windows reply
 IsStep (Answered status back) p h after reply = (back ≡ p) × (after ≡ h) × IsStopped (Fault status) p h.windows reply
 IsStep (Unread back) p h after reply = (back ≡ p) × (after ≡ h) × IsUnread p h.windows reply
-IsStep (Judged j) p h after reply =
-    IsJudgement h after p j
-    × (is_served (command_of p) h.windows ≡ true) × (reply ≡ [])
+IsStep (Judged j) p h after reply = IsJudgement h after p j × (reply ≡ [])

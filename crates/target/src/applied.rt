@@ -7,10 +7,16 @@ ghost use Rattle.target.specs.Applied.{IsFinished, share_of};
 
 use crate::pass::Pass;
 use bank::{Applied, Bank, Judged};
+use publish::Room;
 use rmap::{Place, ReplyBuf};
 
 /// How a judged command ends at the bank of its place.
-fn end(pass: &mut Pass, bank: &mut Bank, judged: Judged, reply: &mut ReplyBuf) -> Applied
+fn end<J: Room>(
+    pass: &mut Pass<J>,
+    bank: &mut Bank,
+    judged: Judged,
+    reply: &mut ReplyBuf,
+) -> Applied
     requires { IsBankBelow judged.place (length pass.old.shares) }
     ensures finished { IsFinished bank.old bank.new pass.old pass.new judged result reply.new }
     ensures kept { length pass.new.shares ≡ length pass.old.shares }
@@ -31,7 +37,12 @@ fn end(pass: &mut Pass, bank: &mut Bank, judged: Judged, reply: &mut ReplyBuf) -
 /// Applies a judged command to the bank of its place, with the port's share of it, and leaves the
 /// reply. Where [`Bank::fits`] says no, it is a general error, and nothing changes: that does not
 /// happen where bank and pass were made together ([`paired_commands_fit`](crate::paired_commands_fit)).
-pub fn finish(pass: &mut Pass, bank: &mut Bank, judged: Judged, reply: &mut ReplyBuf) -> Applied
+pub fn finish<J: Room>(
+    pass: &mut Pass<J>,
+    bank: &mut Bank,
+    judged: Judged,
+    reply: &mut ReplyBuf,
+) -> Applied
     requires { IsBankBelow judged.place (length pass.old.shares) }
 
     ensures finished { IsFinished bank.old bank.new pass.old pass.new judged result reply.new }

@@ -1,10 +1,12 @@
 //! A node: what becomes of a packet, from its bytes to its reply (ECSS-E-ST-50-52C).
 //!
-//! [`serve_packet`] is the whole way of one packet: [`judge`] admits it ([`admit`]) and
-//! runs the port's program on it ([`judge_by`]), and [`finish`] applies the verdict to the bank that it names.
+//! [`serve_packet`] is the whole way of one packet: [`judge`] admits it ([`admit`]), takes the program that is
+//! published in the slot of its place ([`slot`]) and runs it ([`judge_by`]); then [`finish`] applies the verdict to
+//! the bank that it names, or [`stage`] to the port's own staging.
 //!
 //! [`banks_and_passes`] makes the plain parts of a node, which [`serve_packet`] works on. [`Node`] has locks
-//! round the same banks, so that each port may have its thread: a lock is held round [`finish`] alone.
+//! round the same banks and the publisher, so that each port may have its thread: the lock of a bank is held round
+//! [`finish`] alone.
 #![tactic(auto)]
 
 mod applied;
@@ -20,6 +22,7 @@ mod pass;
 mod served;
 mod shares;
 mod slots;
+mod staged;
 mod step;
 mod stop;
 
@@ -36,5 +39,6 @@ pub use pass::Pass;
 pub use served::{Served, serve_packet};
 pub use shares::PortShares;
 pub use slots::slot;
+pub use staged::{answer_staged, stage};
 pub use step::{Step, judge, judge_by};
 pub use stop::{Stop, admit};

@@ -11,19 +11,21 @@ use crate::lock::BankLock;
 use crate::parts::banks_and_passes;
 use crate::pass::Pass;
 use bver::Accepted;
-use cells::Cells;
+use publish::{Opened, Publisher, Room};
 use rmap::MAX_BANKS;
 use std::alloc::{AllocError, Global};
 use std::marker::Model;
+use std::sync::{Mutex, Wait};
 
-/// A node, as threads share it: its banks, each behind its lock. What belongs to one port is in the
-/// port's [`Pass`], its seat at the counters too. The value of a node is how many banks it has.
+/// A node, as threads share it: its banks and what publishes its programs, each behind its lock. What belongs to
+/// one port is in the port's [`Pass`]. The value of a node is how many banks it has. Its end waits for readers.
 #[derive(Drop)]
-pub struct Node {
+pub struct Node<J: Room, R: Wait + Drop> {
     banks: Vec<BankLock>,
+    publisher: Mutex<Publisher<J, R>>,
 }
 
-impl Model for Node {
+impl<J: Room, R: Wait + Drop> Model for Node<J, R> {
     ghost use Rattle.std.specs.Prelude.{ℕ, length};
     ghost use base.Stored.{Gv};
     ghost use Rattle.target.specs.Nodes.{AreNumbered};
@@ -50,25 +52,29 @@ fn locks(alloc: Global, banks: Banks) -> Result<Vec<BankLock>, AllocError>
     Ok(locks)
 }
 
-impl Node {
-    /// A node with locks round banks of zero bytes, and a pass for each port, in order: the parts that
-    /// [`banks_and_passes`] makes. `Ports` and then `Banks` where a number is outside its limits;
-    /// `Memory` where memory was refused. The condition is a program that was accepted for the maps of the
-    /// configuration.
+impl<J: Room, R: Wait + Drop> Node<J, R> {
+    /// A node with locks round banks of zero bytes and round what publishes its programs, and a pass for each
+    /// port, in order: the parts that [`banks_and_passes`] makes. `Ports` and then `Banks` where a number is
+    /// outside its limits; `Memory` where memory was refused: a publisher that was made already ends then, which
+    /// may wait. The condition is a program that was accepted for the maps of the configuration.
     pub fn new(
         alloc: Global,
+        rt: R,
+        opened: Opened,
         config: &NodeConfig,
         factory: Accepted,
-    ) -> Result<(Node, Vec<Pass>), NodeFault>
-        requires { factory.sizes ≡ config.now.sizes }
+    ) -> Result<(Node<J, R>, Vec<Pass<J>>), NodeFault>
+        requires room { opened ≡ J.book }
+        requires sizes { factory.sizes ≡ config.now.sizes }
         ensures banks { IfOk result (λ made. made.0 ≡ length config.now.banks.now) }
         ensures passes { IfOk result (λ made. (home : Gv) × (made.1.items ≡ first_passes config.now factory home)) }
         ensures limits { IfOk result (λ _. limit_fault config.now.ports config.now.banks.now ≡ None) }
         ensures fault { IfErr result (IsNodeFault (limit_fault config.now.ports config.now.banks.now)) }
     {
-        let (banks, _cells, passes) = banks_and_passes(alloc, config, factory)?;
+        let (banks, _cells, publisher, passes) = banks_and_passes(alloc, rt, opened, config, factory)?;
         let banks = locks(alloc, banks)?;
-        Ok((Node { banks }, passes))
+        let publisher = Mutex::new(publisher);
+        Ok((Node { banks, publisher }, passes))
     }
 
     /// How many banks the node has.
@@ -84,5 +90,10 @@ impl Node {
         ensures { result.now ≡ k }
     {
         &self.banks[usize::from(k)]
+    }
+
+    /// What publishes the programs of the node, behind its lock.
+    pub fn publisher(&self) -> &Mutex<Publisher<J, R>> {
+        &self.publisher
     }
 }

@@ -1,10 +1,11 @@
 //! The plain parts of a node.
 
-ghost use Rattle.std.specs.Prelude.{◌≡◌, ◌≤◌, ◌-◌, [], length, replicate, IfOk, IfErr, None};
+ghost use Rattle.std.specs.Prelude.{◌≡◌, ◌≤◌, ◌-◌, [], length, IfOk, IfErr, None};
 ghost use base.Stored.{Gv};
-ghost use Rattle.cells.specs.Seats.{cells, seat};
+ghost use Rattle.bver.specs.Justified.{AcceptedValue};
+ghost use Rattle.cells.specs.Seats.{cells};
 ghost use Rattle.target.specs.Pairs.{ArePaired};
-ghost use Rattle.target.specs.Nodes.{AreSharesOf, IsNodeFault, windows_of, fresh_banks, first_passes, limit_fault};
+ghost use Rattle.target.specs.Nodes.{AreFirst, AreSharesOf, IsNodeFault, windows_of, fresh_banks, first_passes, first_programs, limit_fault};
 
 use crate::banks::Banks;
 use crate::bearing::Bearing;
@@ -14,9 +15,11 @@ use crate::pass::Pass;
 use crate::shares::PortShares;
 use bver::Accepted;
 use cells::{CellSeat, Cells};
+use publish::{Opened, Programs, Publisher, Reader, Room, Staging};
 use rmap::{MAX_BANKS, Windows};
 use spw::PORTS;
 use std::alloc::{AllocError, Global};
+use std::sync::Wait;
 
 /// The windows of the node.
 fn windows(config: &NodeConfig) -> Windows
@@ -32,56 +35,63 @@ fn windows(config: &NodeConfig) -> Windows
 }
 
 /// The pass of each port, in order.
-fn passes(
+fn passes<J: Room>(
     alloc: Global,
     config: &NodeConfig,
     by_port: &mut Vec<PortShares>,
     mut seats: Vec<CellSeat>,
-    factory: &Accepted,
-) -> Result<Vec<Pass>, AllocError>
+    mut readers: Vec<Reader<J>>,
+) -> Result<Vec<Pass<J>>, AllocError>
     requires banks { length config.now.banks.now ≤ MAX_BANKS }
     requires ports { config.now.ports ≤ PORTS }
     requires by_port { AreSharesOf config.now.banks.now config.now.ports by_port.old.items }
-    requires seats { (home : Gv) × (seats.items ≡ replicate config.now.ports (seat factory.now.sizes home [])) }
-    ensures { (home : Gv) → seats.items ≡ replicate config.now.ports (seat factory.now.sizes home [])
-        → IfOk result (λ passes. passes.items ≡ first_passes config.now factory.now home) }
+    requires made { (factory : AcceptedValue) × (home : Gv) × AreFirst factory home config.now.ports seats.items readers.items }
+    ensures { (factory : AcceptedValue) (home : Gv) → AreFirst factory home config.now.ports seats.items readers.items
+        → IfOk result (λ passes. passes.items ≡ first_passes config.now factory home) }
 {
     let mut passes = Vec::with_capacity(alloc, by_port.len())?;
     for port in 0..config.ports {
-        let Some(seat) = seats.pop() else {
+        let (Some(seat), Some(reader)) = (seats.pop(), readers.pop()) else {
             unreachable!()
         };
         let pass = Pass {
             bearing: Bearing::new(port, windows(config), seat),
-            program: factory.copy()?,
-            generation: 0,
+            reader,
             shares: by_port[usize::from(port)].take(alloc),
+            staging: Staging::new(alloc)?,
         };
         passes.push(pass)?;
     }
     Ok(passes)
 }
 
-/// The plain parts of a node, for one thread: banks of zero bytes, the cells of its counter maps, each 0,
-/// and a pass for each port, in order, with a seat at the cells. Each port has its own copy of the factory
-/// program, of generation 0. `Ports` and then `Banks` where a number is outside its limits; `Memory` where
-/// memory was refused. The condition is a program that was accepted for the maps of the configuration.
-pub fn banks_and_passes(
+/// The plain parts of a node, for one thread: banks of zero bytes, the cells of its counter maps, each 0, what
+/// publishes its programs, and a pass for each port, in order, with a seat at the cells and a reader of the
+/// programs. In each slot the factory program judges, of generation 0. `Ports` and then `Banks` where a number
+/// is outside its limits; `Memory` where memory was refused: a publisher that was made already ends then, which
+/// may wait. The publisher keeps `rt`. The condition is a program that was accepted for the maps of the
+/// configuration.
+pub fn banks_and_passes<J: Room, R: Wait + Drop>(
     alloc: Global,
+    rt: R,
+    opened: Opened,
     config: &NodeConfig,
     factory: Accepted,
-) -> Result<(Banks, Cells, Vec<Pass>), NodeFault>
-    requires { factory.sizes ≡ config.now.sizes }
+) -> Result<(Banks, Cells, Publisher<J, R>, Vec<Pass<J>>), NodeFault>
+    requires room { opened ≡ J.book }
+    requires sizes { factory.sizes ≡ config.now.sizes }
     ensures banks { IfOk result (λ made. made.0 ≡ fresh_banks config.now.ports config.now.banks.now) }
     ensures cells { IfOk result (λ made. made.1 ≡ cells config.now.sizes made.1.home (256 - config.now.ports) []) }
-    ensures passes { IfOk result (λ made. made.2.items ≡ first_passes config.now factory made.1.home) }
-    ensures paired { IfOk result (λ made. ArePaired made.0 made.2.items) }
+    ensures publisher { IfOk result (λ made. made.2 ≡ first_programs factory) }
+    ensures passes { IfOk result (λ made. made.3.items ≡ first_passes config.now factory made.1.home) }
+    ensures paired { IfOk result (λ made. ArePaired made.0 made.3.items) }
     ensures few_banks { IfOk result (λ _. length config.now.banks.now ≤ MAX_BANKS) }
     ensures limits { IfOk result (λ _. limit_fault config.now.ports config.now.banks.now ≡ None) }
     ensures fault { IfErr result (IsNodeFault (limit_fault config.now.ports config.now.banks.now)) }
 {
     let (banks, mut by_port) = Banks::new(alloc, config)?;
     let (cells, seats) = Cells::new(alloc, &config.sizes, config.ports)?;
-    let passes = passes(alloc, config, &mut by_port, seats, &factory)?;
-    Ok((banks, cells, passes))
+    let (publisher, readers) = Programs::new(alloc, rt, opened, factory, config.ports)?;
+    let passes = passes(alloc, config, &mut by_port, seats, readers)?;
+    Ok((banks, cells, publisher, passes))
 }

@@ -5,31 +5,31 @@ ghost use Rattle.target.specs.Passes.{IsPass};
 
 use crate::bearing::Bearing;
 use bank::Share;
-use bver::Accepted;
+use publish::{Reader, Room, Staging};
 use spw::PORTS;
 use std::marker::Model;
 
-/// What one port has of its node: its bearing, with its seat at the counters, the program that judges
-/// its commands, and a share of each bank. Only [`banks_and_passes`](crate::banks_and_passes) makes passes.
+/// What one port has of its node: its bearing, with its seat at the counters, its reader of the programs that
+/// judge, a share of each bank, and its staging. Only [`banks_and_passes`](crate::banks_and_passes) makes passes.
 #[derive(Drop)]
-pub struct Pass {
+pub struct Pass<J: Room> {
     pub(crate) bearing: Bearing,
-    pub(crate) program: Accepted,
-    pub(crate) generation: u32,
+    pub(crate) reader: Reader<J>,
     pub(crate) shares: Vec<Share>,
+    pub(crate) staging: Staging,
 }
 
-impl Model for Pass {
+impl<J: Room> Model for Pass<J> {
     ghost use Rattle.target.specs.Passes.{PassValue, IsPass, pass_of};
 
     ghost Value = { PassValue };
 
-    ghost view = { λ p. pass_of p.bearing p.program p.generation p.shares.items };
+    ghost view = { λ p. pass_of p.bearing p.reader.programs p.shares.items p.staging };
 
-    ghost invariant = { λ p. IsPass (pass_of p.bearing p.program p.generation p.shares.items) };
+    ghost invariant = { λ p. IsPass (pass_of p.bearing p.reader.programs p.shares.items p.staging) };
 }
 
-impl Pass {
+impl<J: Room> Pass<J> {
     /// The port's number.
     pub fn port(&self) -> u8
         ensures value { result ≡ self.now.port }
@@ -52,5 +52,12 @@ impl Pass {
         ensures { slice_get self.now.shares k ≡ Some result.now }
     {
         &self.shares[usize::from(k)]
+    }
+
+    /// The port's staging, with the result of its last load.
+    pub fn staging(&self) -> &Staging
+        ensures { result.now ≡ self.now.staging }
+    {
+        &self.staging
     }
 }

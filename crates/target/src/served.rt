@@ -8,10 +8,12 @@ ghost use Rattle.target.specs.Pairs.{IsPaired};
 use crate::applied::finish;
 use crate::banks::Banks;
 use crate::pass::Pass;
+use crate::staged::stage;
 use crate::step::{Step, judge};
 use crate::stop::Stop;
 use bank::{Applied, extents_stay};
-use rmap::{Place, ReplyBuf};
+use publish::Room;
+use rmap::{Place, ReplyBuf, Status};
 use spw::Packet;
 
 /// What became of a packet.
@@ -19,39 +21,47 @@ use spw::Packet;
 pub enum Served {
     /// It went no further than its header.
     Stopped(Stop),
-    /// The node has nothing that serves it.
+    /// No program judged it.
     Unread,
     /// It was judged, and applied to its bank.
     Done(Applied),
+    /// It was judged, and ended with that status in the boot window.
+    Window(Status),
 }
 
 /// What becomes of a packet, whatever the banks and the port.
-fn serve(banks: &mut Banks, pass: &mut Pass, packet: Packet, reply: &mut ReplyBuf) -> Served
+fn serve<J: Room>(
+    banks: &mut Banks,
+    pass: &mut Pass<J>,
+    packet: Packet,
+    reply: &mut ReplyBuf,
+) -> Served
     requires { length pass.old.shares ≡ length banks.old }
     ensures served { IsServed result packet banks.old banks.new pass.old pass.new reply.new }
     ensures banks { length banks.new ≡ length banks.old }
     ensures pass { length pass.new.shares ≡ length pass.old.shares }
 {
     let _banks = pass.banks();
-    match judge(pass, packet, reply) {
-        Step::Discarded(discard, _packet) => Served::Stopped(Stop::Discarded(discard)),
-        Step::Answered(status, _packet) => Served::Stopped(Stop::Answered(status)),
-        Step::Unread(_packet) => Served::Unread,
-        Step::Judged(judged) => {
-            let Place::Bank(k) = judged.place() else {
-                unreachable!()
-            };
-            Served::Done(finish(pass, banks.bank_mut(k), judged, reply))
-        }
+    let judged = match judge(pass, packet, reply) {
+        Step::Discarded(discard, _packet) => return Served::Stopped(Stop::Discarded(discard)),
+        Step::Answered(status, _packet) => return Served::Stopped(Stop::Answered(status)),
+        Step::Unread(_packet) => return Served::Unread,
+        Step::Judged(judged) => judged,
+    };
+    match judged.place() {
+        Place::Bank(k) => Served::Done(finish(pass, banks.bank_mut(k), judged, reply)),
+        Place::Staging | Place::LoadResult => Served::Window(stage(pass, judged, reply)),
+        Place::Control => Served::Window(judged.answer_error(reply)),
     }
 }
 
 /// Serves one packet that came in at the pass's port: judges it, and applies the verdict to the bank
-/// that it names. `reply` holds the reply that is due then, if any. The condition is a pass with the
-/// number of banks; where banks and pass were made together each command that is judged is applied.
-pub fn serve_packet(
+/// that it names, or to the port's staging. `reply` holds the reply that is due then, if any. The condition
+/// is a pass with the number of banks; where banks and pass were made together each command that is judged
+/// is applied.
+pub fn serve_packet<J: Room>(
     banks: &mut Banks,
-    pass: &mut Pass,
+    pass: &mut Pass<J>,
     packet: Packet,
     reply: &mut ReplyBuf,
 ) -> Served

@@ -1,15 +1,18 @@
 //! The first half of a packet's way: its verdict.
 
-ghost use Rattle.std.specs.Prelude.{◌≡◌, Some};
-ghost use Rattle.target.specs.Steps.{is_in_bank, HasRun, IsJudgedOnce, IsStep};
+ghost use Rattle.std.specs.Prelude.{◌≡◌, IfErr, IfOk, OnErr};
+ghost use Rattle.publish.specs.Published.{sizes_of};
+ghost use Rattle.target.specs.Steps.{HasRun, IsJudgedByTaken, IsJudgedOnce, IsStep};
 
 use crate::bearing::Bearing;
 use crate::pass::Pass;
+use crate::slots::slot;
 use crate::stop::{Stop, admit};
 use bank::{Admitted, Judged};
 use brun::run;
 use bver::Accepted;
-use rmap::{Command, Discard, Place, ReplyBuf, Status, put_reply};
+use publish::{Reader, Room};
+use rmap::{Command, Discard, ReplyBuf, Status, put_reply};
 use spw::Packet;
 
 /// How far a packet came by itself. Each step but `Judged` hands the packet back as it came.
@@ -19,18 +22,11 @@ pub enum Step {
     Discarded(Discard, Packet),
     /// A check of the header holds: its status is the reply's, and no program was run.
     Answered(Status, Packet),
-    /// The node has nothing that serves the command: the reply is a general error, and no program
-    /// was run. So far these are the commands to the boot window.
+    /// No program was given for the command: the reply is a general error, and no program was run. It does not
+    /// happen while the publisher lives.
     Unread(Packet),
     /// The program gave its verdict; the reply is still to come.
     Judged(Judged),
-}
-
-/// Whether the node serves the command: so far, whether its bytes lie in a bank.
-fn is_served(admitted: &Admitted) -> bool
-    ensures { result ≡ is_in_bank (Some admitted.now.place) }
-{
-    matches!(admitted.place(), Place::Bank(_))
 }
 
 /// The verdict of the program on the header of the command: one run.
@@ -63,9 +59,30 @@ pub fn judge_by(
     Judged::of(admitted, bearing.port, generation, verdict)
 }
 
-/// Judges a packet: discards it, answers it by its header, or runs the port's program on the header
-/// of its command. `reply` holds the reply that is due then, if any.
-pub fn judge(pass: &mut Pass, packet: Packet, reply: &mut ReplyBuf) -> Step
+/// Judges an admitted command by the program that the reader takes in the slot of its place: one run on its
+/// header. The command comes back where no program is given.
+fn judge_taken<J: Room>(
+    bearing: &mut Bearing,
+    reader: &mut Reader<J>,
+    admitted: Admitted,
+) -> Result<Judged, Admitted>
+    requires { bearing.old.seat.sizes ≡ sizes_of reader.old.programs }
+    ensures judged { IfOk result (λ j.
+        IsJudgedByTaken reader.old.programs reader.new.programs bearing.old bearing.new admitted j) }
+    ensures back { IfErr result (λ back. back ≡ admitted) }
+    ensures same { OnErr result ((bearing.new ≡ bearing.old) × (reader.new ≡ reader.old)) }
+    ensures sizes { sizes_of reader.new.programs ≡ sizes_of reader.old.programs }
+{
+    let slot = slot(admitted.command().kind(), admitted.place());
+    match reader.take(slot) {
+        Some(taken) => Ok(judge_by(bearing, taken.accepted(), taken.generation(), admitted)),
+        None => Err(admitted),
+    }
+}
+
+/// Judges a packet: discards it, answers it by its header, or runs the program of its place's slot on the
+/// header of its command. `reply` holds the reply that is due then, if any.
+pub fn judge<J: Room>(pass: &mut Pass<J>, packet: Packet, reply: &mut ReplyBuf) -> Step
     ensures step { IsStep result packet pass.old pass.new reply.new }
 {
     let admitted = match admit(packet, &pass.bearing.windows, reply) {
@@ -73,9 +90,12 @@ pub fn judge(pass: &mut Pass, packet: Packet, reply: &mut ReplyBuf) -> Step
         Err((Stop::Discarded(discard), packet)) => return Step::Discarded(discard, packet),
         Err((Stop::Answered(status), packet)) => return Step::Answered(status, packet),
     };
-    if !is_served(&admitted) {
-        put_reply(reply, &admitted.command(), Status::GeneralError, &[]);
-        return Step::Unread(admitted.into_packet());
-    }
-    Step::Judged(judge_by(&mut pass.bearing, &pass.program, pass.generation, admitted))
+    let judged = match judge_taken(&mut pass.bearing, &mut pass.reader, admitted) {
+        Ok(judged) => judged,
+        Err(admitted) => {
+            put_reply(reply, &admitted.command(), Status::GeneralError, &[]);
+            return Step::Unread(admitted.into_packet());
+        }
+    };
+    Step::Judged(judged)
 }

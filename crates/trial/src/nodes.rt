@@ -1,10 +1,14 @@
 //! Nodes of one bank, and what they need: programs, packets and the plain commands.
 
+ghost use Rattle.std.specs.Prelude.{◌≡◌};
+
 use crate::images::image_of_text;
 use bver::{Accepted, MapSizes, verify};
+use publish::{Opened, Publisher, Room};
 use rmap::ReplyBuf;
 use spw::{Packet, read_line};
 use std::alloc::Global;
+use std::sync::Wait;
 use std::test::Fail;
 use target::{
     BankConfig, Banks, NodeConfig, NodeFault, Pass, Served, banks_and_passes, serve_packet,
@@ -45,28 +49,32 @@ pub fn program(alloc: Global, verdict: u8) -> Result<Accepted, Fail> {
     Ok(verify(alloc, image, &MapSizes::new(&[])?)?)
 }
 
-/// The plain banks of a node of logical address 0xFE without maps, and the passes of its ports, which
-/// have that program.
-pub fn node(
+/// The plain parts of a node of logical address 0xFE without maps: its banks, what publishes its programs, and
+/// the passes of its ports. That program judges at first.
+pub fn node<J: Room, R: Wait + Drop>(
     alloc: Global,
+    rt: R,
+    opened: Opened,
     ports: u8,
     banks: &[BankConfig],
     factory: Accepted,
-) -> Result<(Banks, Vec<Pass>), NodeFault> {
+) -> Result<(Banks, Publisher<J, R>, Vec<Pass<J>>), NodeFault>
+    requires { opened ≡ J.book }
+{
     let config = NodeConfig {
         address: 0xFE,
         ports,
         banks,
         sizes: factory.sizes(),
     };
-    let (banks, _cells, passes) = banks_and_passes(alloc, &config, factory)?;
-    Ok((banks, passes))
+    let (banks, _cells, publisher, passes) = banks_and_passes(alloc, rt, opened, &config, factory)?;
+    Ok((banks, publisher, passes))
 }
 
 /// What becomes of the packet at the pass's port. It fails where the pass is that of another node.
-pub fn served(
+pub fn served<J: Room>(
     banks: &mut Banks,
-    pass: &mut Pass,
+    pass: &mut Pass<J>,
     packet: Packet,
     reply: &mut ReplyBuf,
 ) -> Result<Served, Fail> {

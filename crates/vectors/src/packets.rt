@@ -5,12 +5,13 @@ use bver::MapSizes;
 use commands::{HostFiles, Job, perform};
 use std::alloc::Global;
 use std::rt;
+use std::sync::Wait;
 
 /// The file of packet lines.
 const PACKETS: &str = "packets.txt";
 
 /// What `judge` prints of the packet lines by the factory program, on a node of two ports without counter maps.
-pub fn printed<R: rt::Files + Input>(rt: &R, alloc: Global) -> Result<String> {
+pub fn printed<R: rt::Files + Input + Wait>(rt: &R, alloc: Global) -> Result<String> {
     let job = Job::Judge {
         lines: String::from_str(alloc, PACKETS)?,
         image: None,
@@ -18,6 +19,6 @@ pub fn printed<R: rt::Files + Input>(rt: &R, alloc: Global) -> Result<String> {
         ports: 2,
     };
     let mut out = Vec::new(alloc);
-    perform(alloc, &job, &mut HostFiles { rt }, &mut out).map_err(|_| anyhow!("cannot write"))?;
+    perform(rt, alloc, &job, &mut HostFiles { rt }, &mut out).map_err(|_| anyhow!("cannot write"))?;
     Ok(String::from_utf8(out)?)
 }

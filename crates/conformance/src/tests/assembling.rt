@@ -15,7 +15,7 @@ fn image_in(made: &Outcome) -> Result<&[u8], Fail> {
 fn text_to_image_and_back(rt: HostRuntime) -> Result<(), Fail> {
     let alloc = rt.alloc();
     let made = done(
-        alloc,
+        &rt, alloc,
         &["asm", "text", "image"],
         &[("text", YES.as_bytes())],
     )?;
@@ -23,7 +23,7 @@ fn text_to_image_and_back(rt: HostRuntime) -> Result<(), Fail> {
     assert_eq!(rt; made.status, 0);
     assert_eq!(rt; image_in(&made)?, verdict_image(0).as_slice());
     let files = [("image", image_in(&made)?)];
-    let (printed, status) = run(alloc, &["dis", "image"], &files)?;
+    let (printed, status) = run(&rt, alloc, &["dis", "image"], &files)?;
     assert_eq!(rt; printed.as_str(), YES);
     assert_eq!(rt; status, 0);
     Ok(())
@@ -37,7 +37,7 @@ fn loops_are_assembled_and_refused(rt: HostRuntime) -> Result<(), Fail> {
         "; counts to four\n.budget 15\nmov r0, 0\nmov r6, 4 ; the counter\nhead:\nadd r0, 1\nadd r6, -1\n\
         back:\njne r6, 0, head\nexit\n.loop head, back, 4, r6\n";
     let made = done(
-        alloc,
+        &rt, alloc,
         &["asm", "text", "image"],
         &[("text", text.as_bytes())],
     )?;
@@ -46,12 +46,12 @@ fn loops_are_assembled_and_refused(rt: HostRuntime) -> Result<(), Fail> {
     let slot = image_in(&made)?.get(56..64).ok_or("too short")?;
     assert_eq!(rt; slot, [0x55, 0x06, 0xfd, 0xff, 0, 0, 0, 0].as_slice());
     let files = [("image", image_in(&made)?)];
-    let (printed, _) = run(alloc, &["dis", "image"], &files)?;
+    let (printed, _) = run(&rt, alloc, &["dis", "image"], &files)?;
     assert_eq!(rt;
         printed.as_str(),
         ".budget 15\n.loop 2, 4, 4, r6\nmov r0, 0\nmov r6, 4\nadd r0, 1\nadd r6, -1\njne r6, 0, -3\nexit\n"
     );
-    let (printed, status) = run(alloc, &["verify", "image"], &files)?;
+    let (printed, status) = run(&rt, alloc, &["verify", "image"], &files)?;
     assert_eq!(rt; printed.as_str(), "accepted weight 15 budget 15\n");
     assert_eq!(rt; status, 0);
     Ok(())
@@ -68,11 +68,11 @@ fn faults_of_asm(rt: HostRuntime) -> Result<(), Fail> {
         (YES.as_bytes(), LOCKED, "cannot write locked\n"),
         (b".budget 1\nleave\n", LOCKED, "asm fault 1 line 2\n"),
     ] {
-        let (printed, status) = run(rt.alloc(), &["asm", "text", image], &[("text", text)])?;
+        let (printed, status) = run(&rt, rt.alloc(), &["asm", "text", image], &[("text", text)])?;
         assert_eq!(rt; printed.as_str(), told);
         assert_eq!(rt; status, 1);
     }
-    let (printed, status) = run(rt.alloc(), &["asm", "text", LOCKED], &[("other", b"")])?;
+    let (printed, status) = run(&rt, rt.alloc(), &["asm", "text", LOCKED], &[("other", b"")])?;
     assert_eq!(rt; printed.as_str(), "cannot read text\n");
     assert_eq!(rt; status, 1);
     Ok(())
@@ -87,11 +87,11 @@ fn faults_of_dis(rt: HostRuntime) -> Result<(), Fail> {
         (b"".as_slice(), "image fault 1 slot 0\n"),
         (unknown.as_slice(), "image fault 7 slot 1\n"),
     ] {
-        let (printed, status) = run(rt.alloc(), &["dis", "image"], &[("image", image)])?;
+        let (printed, status) = run(&rt, rt.alloc(), &["dis", "image"], &[("image", image)])?;
         assert_eq!(rt; printed.as_str(), told);
         assert_eq!(rt; status, 1);
     }
-    let (printed, status) = run(rt.alloc(), &["dis", "image"], &[("other", b"")])?;
+    let (printed, status) = run(&rt, rt.alloc(), &["dis", "image"], &[("other", b"")])?;
     assert_eq!(rt; printed.as_str(), "cannot read image\n");
     assert_eq!(rt; status, 1);
     Ok(())

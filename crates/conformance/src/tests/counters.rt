@@ -2,6 +2,7 @@
 
 use super::run;
 use std::alloc::Global;
+use std::sync::Wait;
 use std::test::Fail;
 use trial::image_of_text;
 
@@ -38,6 +39,7 @@ fn at_ports(alloc: Global, lines: &[(u8, &str)]) -> Result<String, Fail> {
 
 /// What `judge` prints of these lines by the program of an image, on a node with those maps and two ports.
 fn printed_by<'a>(
+    rt: &impl Wait,
     alloc: Global,
     image: &'a [u8],
     maps: &'a str,
@@ -47,14 +49,20 @@ fn printed_by<'a>(
     let words = [
         "judge", "lines", "--image", "image", "--maps", maps, "--ports", "2",
     ];
-    let (printed, _) = run(alloc, &words, &files)?;
+    let (printed, _) = run(rt, alloc, &words, &files)?;
     Ok(printed)
 }
 
 /// What `judge` prints of these lines by the program of this text, on a node with those maps and two ports.
-fn counted(alloc: Global, program: &str, maps: &str, lines: &str) -> Result<String, Fail> {
+fn counted(
+    rt: &impl Wait,
+    alloc: Global,
+    program: &str,
+    maps: &str,
+    lines: &str,
+) -> Result<String, Fail> {
     let image = image_of_text(alloc, program, 16)?.write()?;
-    printed_by(alloc, image.as_slice(), maps, lines)
+    printed_by(rt, alloc, image.as_slice(), maps, lines)
 }
 
 /// The line at the ports 0 and 1 in turn, twenty times.
@@ -92,7 +100,7 @@ fn quota_of_five_over_two_ports(rt: HostRuntime) -> Result<(), Fail> {
         (READ, ZEROS, DENIED),
         (WRITE, "67012C00FE0000ED EOP", "67012C0AFE0000D2 EOP"),
     ] {
-        let printed = counted(alloc, QUOTA, "1", in_turn(alloc, line)?.as_str())?;
+        let printed = counted(&rt, alloc, QUOTA, "1", in_turn(alloc, line)?.as_str())?;
         let wanted = first_five(alloc, allowed, denied)?;
         assert_eq!(rt; printed.as_str(), wanted.as_str(), "at {line}");
     }
@@ -104,7 +112,7 @@ fn one_of_each_port(rt: HostRuntime) -> Result<(), Fail> {
     let alloc = rt.alloc();
     let lines = at_ports(alloc, &[(0, READ), (1, READ), (1, READ), (0, READ)])?;
     let wanted = at_ports(alloc, &[(0, ZEROS), (1, ZEROS), (1, DENIED), (0, DENIED)])?;
-    let printed = counted(alloc, ONE_EACH, "32", lines.as_str())?;
+    let printed = counted(&rt, alloc, ONE_EACH, "32", lines.as_str())?;
     assert_eq!(rt; printed.as_str(), wanted.as_str());
     Ok(())
 }
@@ -124,7 +132,7 @@ fn count_of_tickets(rt: HostRuntime) -> Result<(), Fail> {
     )?;
     wanted.push_str(at_ports(alloc, &[(0, DENIED); 8])?.as_str())?;
     wanted.push_str("0 67010C0CFE000100000000EB00 EOP\n")?;
-    let printed = counted(alloc, COUNTED, "1", lines.as_str())?;
+    let printed = counted(&rt, alloc, COUNTED, "1", lines.as_str())?;
     assert_eq!(rt; printed.as_str(), wanted.as_str());
     Ok(())
 }
@@ -163,7 +171,7 @@ fn no_run_draws_no_ticket(rt: HostRuntime) -> Result<(), Fail> {
             (0, DENIED),
         ],
     )?;
-    let printed = counted(alloc, QUOTA, "1", lines.as_str())?;
+    let printed = counted(&rt, alloc, QUOTA, "1", lines.as_str())?;
     assert_eq!(rt; printed.as_str(), wanted.as_str());
     Ok(())
 }
@@ -189,7 +197,7 @@ fn error_ends_draw_tickets(rt: HostRuntime) -> Result<(), Fail> {
             (0, DENIED),
         ],
     )?;
-    let printed = counted(alloc, QUOTA, "1", lines.as_str())?;
+    let printed = counted(&rt, alloc, QUOTA, "1", lines.as_str())?;
     assert_eq!(rt; printed.as_str(), wanted.as_str());
     Ok(())
 }

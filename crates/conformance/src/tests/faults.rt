@@ -3,6 +3,7 @@
 use super::{PLAIN_READ, judged, run};
 use std::alloc::{AllocError, Global};
 use std::process::Abort;
+use std::sync::Wait;
 use std::test::Fail;
 use trial::Row;
 
@@ -34,12 +35,12 @@ fn with_line_feeds(alloc: Global, part: &str) -> Result<String, AllocError> {
 }
 
 /// Compares one row.
-fn compare_fault(rt: &impl Abort, alloc: Global, row: &str) -> Result<(), Fail> {
+fn compare_fault(rt: &(impl Abort + Wait), alloc: Global, row: &str) -> Result<(), Fail> {
     let mut row = Row::of(row);
     let part = row.part()?;
     let lines = with_line_feeds(alloc, part)?;
     let told = with_line_feeds(alloc, row.part()?)?;
-    let (printed, status) = judged(alloc, lines.as_str())?;
+    let (printed, status) = judged(rt, alloc, lines.as_str())?;
     assert_eq!(rt;
         (printed.as_str(), status),
         (told.as_str(), 1),
@@ -64,7 +65,7 @@ fn packets_of_4200_bytes_and_more(rt: HostRuntime) -> Result<(), Fail> {
             line.push_str("FE")?;
         }
         line.push_str(" EOP")?;
-        let (printed, status) = judged(rt.alloc(), line.as_str())?;
+        let (printed, status) = judged(&rt, rt.alloc(), line.as_str())?;
         assert_eq!(rt; printed.as_str(), told);
         assert_eq!(rt; status, wanted);
     }
@@ -94,12 +95,12 @@ fn bytes_of(name: &str) -> &'static [u8] {
 }
 
 /// Compares one row.
-fn compare_files(rt: &impl Abort, alloc: Global, row: &str) -> Result<(), Fail> {
+fn compare_files(rt: &(impl Abort + Wait), alloc: Global, row: &str) -> Result<(), Fail> {
     let mut row = Row::of(row);
     let first = (row.part()?, bytes_of(row.part()?));
     let second = (row.part()?, bytes_of(row.part()?));
     let words = ["judge", "lines", "--image", "image"];
-    let (printed, status) = run(alloc, &words, &[first, second])?;
+    let (printed, status) = run(rt, alloc, &words, &[first, second])?;
     let told = printed.as_str().strip_suffix('\n');
     assert_eq!(rt; (told, status), (Some(row.part()?), 1));
     Ok(())

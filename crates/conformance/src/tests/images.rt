@@ -2,6 +2,7 @@
 
 use super::{PLAIN_READ, judged_by, verdict_image};
 use std::alloc::Global;
+use std::sync::Wait;
 use std::process::Abort;
 use std::test::Fail;
 use trial::Row;
@@ -16,11 +17,11 @@ A|0 67010C0AFE000100000000A600 EOP
 ";
 
 /// Compares one row.
-fn compare_verdict(rt: &impl Abort, alloc: Global, row: &str) -> Result<(), Fail> {
+fn compare_verdict(rt: &(impl Abort + Wait), alloc: Global, row: &str) -> Result<(), Fail> {
     let mut row = Row::of(row);
     let verdict = u8::try_from(row.hexadecimal()?)?;
     let image = verdict_image(verdict);
-    let (printed, status) = judged_by(alloc, image.as_slice(), PLAIN_READ)?;
+    let (printed, status) = judged_by(rt, alloc, image.as_slice(), PLAIN_READ)?;
     let answer = printed.as_str().strip_suffix('\n');
     assert_eq!(rt; (answer, status), (Some(row.part()?), 0), "at {verdict}");
     Ok(())
@@ -72,7 +73,7 @@ fn refused_images(rt: HostRuntime) -> Result<(), Fail> {
             "image fault 7 slot 1\n",
         ),
     ] {
-        let (printed, status) = judged_by(rt.alloc(), image, PLAIN_READ)?;
+        let (printed, status) = judged_by(&rt, rt.alloc(), image, PLAIN_READ)?;
         assert_eq!(rt; (printed.as_str(), status), (told, 1));
     }
     Ok(())

@@ -1,7 +1,14 @@
 //! Nodes other than that of the program: journals that fill.
 
+ghost use Rattle.std.specs.Prelude.{◌≡◌};
+
 use bank::Applied;
+use publish::{Opened, Room};
 use rmap::{ReplyBuf, Status};
+use std::alloc::Global;
+use std::marker::Brand;
+use std::process::Abort;
+use std::sync::Wait;
 use std::test::Fail;
 use target::{Banks, Served};
 use trial::{PLAIN_READ, bank, node, packet, program, served};
@@ -22,8 +29,15 @@ fn recorded(banks: &Banks) -> Result<(usize, u64), Fail> {
 /// verdict or of the body would stand.
 #[test]
 fn journal_with_room_for_one(rt: HostRuntime) -> Result<(), Fail> {
-    let alloc = rt.alloc();
-    let (mut banks, mut passes) = node(alloc, 1, &[bank(1)], program(alloc, 0)?)?;
+    one_entry::<Brand, _>(&rt, rt.alloc(), Opened::new())
+}
+
+fn one_entry<J: Room, R: Wait + Abort>(rt: &R, alloc: Global, opened: Opened) -> Result<(), Fail>
+    requires { opened ≡ J.book }
+{
+    let factory = program(alloc, 0)?;
+    let (mut banks, _publisher, mut passes) =
+        node::<J, _>(alloc, rt, opened, 1, &[bank(1)], factory)?;
     let pass = passes.first_mut().ok_or("no pass")?;
     let mut reply = ReplyBuf::new();
     for (line, status, number, length) in [

@@ -18,7 +18,7 @@ fn ports_share_the_bank(rt: HostRuntime) -> Result<(), Fail> {
     let read = at_port(alloc, 1, PLAIN_READ)?;
     let lines = format!(in alloc; "{PLAIN_WRITE}\n{read}\n{PLAIN_READ}\n")?;
     let files = [("lines", lines.as_bytes())];
-    let (printed, status) = run(alloc, &["judge", "lines", "--ports", "2"], &files)?;
+    let (printed, status) = run(&rt, alloc, &["judge", "lines", "--ports", "2"], &files)?;
     assert_eq!(rt;
         printed.as_str(),
         "0 67012C00FE0000ED EOP\n1 67010C00FE0001000000106D0123456789ABCDEF101112131415161756 EOP\n\
@@ -45,7 +45,7 @@ fn ports_that_do_not_exist(rt: HostRuntime) -> Result<(), Fail> {
         ("1", "1 FE EOP\n", "line 1 fault 6\n"),
     ] {
         let words = ["judge", "lines", "--ports", ports];
-        let (printed, status) = run(rt.alloc(), &words, &[("lines", lines.as_bytes())])?;
+        let (printed, status) = run(&rt, rt.alloc(), &words, &[("lines", lines.as_bytes())])?;
         assert_eq!(rt; printed.as_str(), told, "at {lines:?}");
         assert_eq!(rt; status, 1);
     }
@@ -58,7 +58,7 @@ fn port_31(rt: HostRuntime) -> Result<(), Fail> {
     let alloc = rt.alloc();
     let line = at_port(alloc, 31, PLAIN_READ)?;
     let words = ["judge", "lines", "--ports", "32"];
-    let (printed, status) = run(alloc, &words, &[("lines", line.as_bytes())])?;
+    let (printed, status) = run(&rt, alloc, &words, &[("lines", line.as_bytes())])?;
     let wanted = at_port(alloc, 31, PLAIN_REPLY)?;
     assert_eq!(rt; printed.as_str().strip_suffix('\n'), Some(wanted.as_str()));
     assert_eq!(rt; status, 0);

@@ -2,6 +2,7 @@
 
 use super::{PLAIN_READ, PLAIN_REPLY, done, judged_by, run};
 use std::alloc::Global;
+use std::sync::Wait;
 use std::process::Abort;
 use std::test::Fail;
 use trial::Row;
@@ -10,14 +11,14 @@ use trial::Row;
 const DENIED: &str = "0 67010C0AFE000100000000A600 EOP";
 
 /// The image of a text, whose lines are ended by semicolons here, with a budget.
-fn image_of(alloc: Global, budget: &str, text: &str) -> Result<Vec<u8>, Fail> {
+fn image_of(rt: &impl Wait, alloc: Global, budget: &str, text: &str) -> Result<Vec<u8>, Fail> {
     let mut lines = format!(in alloc; ".budget {budget}\n")?;
     for line in text.split(';') {
         lines.push_str(line.trim())?;
         lines.push_str("\n")?;
     }
     let files = [("text", lines.as_bytes())];
-    let made = done(alloc, &["asm", "text", "image"], &files)?;
+    let made = done(rt, alloc, &["asm", "text", "image"], &files)?;
     if made.status == 0 {
         let image = made.folder.content("image").ok_or("no image")?;
         Ok(Vec::from_slice(alloc, image)?)
@@ -43,12 +44,12 @@ const REFUSED: &str = "\
 ";
 
 /// Compares one row.
-fn compare_refusal(rt: &impl Abort, alloc: Global, row: &str) -> Result<(), Fail> {
+fn compare_refusal(rt: &(impl Abort + Wait), alloc: Global, row: &str) -> Result<(), Fail> {
     let mut row = Row::of(row);
     let budget = row.part()?;
     let text = row.part()?;
-    let image = image_of(alloc, budget, text)?;
-    let (printed, status) = run(alloc, &["verify", "image"], &[("image", image.as_slice())])?;
+    let image = image_of(rt, alloc, budget, text)?;
+    let (printed, status) = run(rt, alloc, &["verify", "image"], &[("image", image.as_slice())])?;
     let told = printed.as_str().strip_suffix('\n');
     assert_eq!(rt; (told, status), (Some(row.part()?), 1), "at {text}");
     Ok(())
@@ -88,12 +89,12 @@ fn reply_of(word: &str) -> &str {
 }
 
 /// Compares one row.
-fn compare_judging(rt: &impl Abort, alloc: Global, row: &str) -> Result<(), Fail> {
+fn compare_judging(rt: &(impl Abort + Wait), alloc: Global, row: &str) -> Result<(), Fail> {
     let mut row = Row::of(row);
     let shows = row.part()?;
     let budget = row.part()?;
-    let image = image_of(alloc, budget, row.part()?)?;
-    let (printed, status) = judged_by(alloc, image.as_slice(), PLAIN_READ)?;
+    let image = image_of(rt, alloc, budget, row.part()?)?;
+    let (printed, status) = judged_by(rt, alloc, image.as_slice(), PLAIN_READ)?;
     let reply = printed.as_str().strip_suffix('\n');
     let wanted = reply_of(row.part()?);
     assert_eq!(rt; (reply, status), (Some(wanted), 0), "at {shows}");

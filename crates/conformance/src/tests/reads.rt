@@ -2,6 +2,7 @@
 
 use super::{compare_answers, judged, judged_by, verdict_image};
 use std::alloc::Global;
+use std::sync::Wait;
 use std::process::Abort;
 use std::test::Fail;
 use trial::Row;
@@ -38,7 +39,7 @@ fn reads_of_4096_bytes_and_more(rt: HostRuntime) -> Result<(), Fail> {
     }
     // The data CRC of zero bytes is zero.
     longest.push_str("00 EOP\n")?;
-    let (printed, status) = judged(rt.alloc(), "0 FE014C0067000100A0000000001000C0 EOP")?;
+    let (printed, status) = judged(&rt, rt.alloc(), "0 FE014C0067000100A0000000001000C0 EOP")?;
     assert_eq!(rt; (printed.as_str(), status), (longest.as_str(), 0));
     compare_answers(&rt, rt.alloc(), TOO_LONG)
 }
@@ -62,11 +63,11 @@ a header check comes before the verdict|3|0 FE014C0067000901A000000000001095 EOP
 ";
 
 /// Compares one row.
-fn compare_status(rt: &impl Abort, alloc: Global, row: &str) -> Result<(), Fail> {
+fn compare_status(rt: &(impl Abort + Wait), alloc: Global, row: &str) -> Result<(), Fail> {
     let mut row = Row::of(row);
     let shows = row.part()?;
     let image = verdict_image(u8::try_from(row.hexadecimal()?)?);
-    let (printed, status) = judged_by(alloc, image.as_slice(), row.part()?)?;
+    let (printed, status) = judged_by(rt, alloc, image.as_slice(), row.part()?)?;
     let answer = printed.as_str().strip_suffix('\n');
     assert_eq!(rt; (answer, status), (Some(row.part()?), 0), "at {shows}");
     Ok(())

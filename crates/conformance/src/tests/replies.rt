@@ -11,7 +11,7 @@ fn plain_read(rt: HostRuntime) -> Result<(), Fail> {
         "0 FE 01 4C 00 67 00 01 00 A0 00 00 00 00 00 10 C9 EOP\n",
         "  00  fe014c00 67000100 a0000000 000010 c9  EOP  ",
     ] {
-        let (printed, status) = judged(rt.alloc(), line)?;
+        let (printed, status) = judged(&rt, rt.alloc(), line)?;
         let line_of_reply = printed.as_str().strip_suffix('\n');
         assert_eq!(rt; line_of_reply, Some(PLAIN_REPLY), "at {line}");
         assert_eq!(rt; status, 0);
@@ -23,7 +23,7 @@ fn plain_read(rt: HostRuntime) -> Result<(), Fail> {
 const ANSWERS: &str = "\
 the plain write|0 FE016C0067000000A00000000000109F0123456789ABCDEF101112131415161756 EOP|0 67012C00FE0000ED EOP
 the same with no reply wanted|0 FE01640067000000A0000000000010610123456789ABCDEF101112131415161756 EOP|0 -
-a read of the load result, which the node does not serve yet|0 FE014C00670006FF000100000000 08A6 EOP|0 67010C01FE0006000000005000 EOP
+a read of the load result before any load|0 FE014C00670006FF000100000000 08A6 EOP|0 67010C00FE000600000008A3000000000000000000 EOP
 no bank 1|0 FE014C0067000901A000000000001095 EOP|0 67010C0AFE000900000000EA00 EOP
 a read-modify-write of length 3|0 FE015C0067000300A0000000000003C200000000 EOP|0 67011C0BFE000300000000CB00 EOP
 the unused command code 0110|0 FE01580067000700A00000000000007F EOP|0 67011802FE0007000000004C00 EOP
@@ -73,11 +73,11 @@ fn reply_paths(rt: HostRuntime) -> Result<(), Fail> {
 fn lines_in_order(rt: HostRuntime) -> Result<(), Fail> {
     let lines =
         "0 EOP\n0 FE014C0067000901A000000000001095 EOP\n0 FE014C0067000100A0000000000010C8 EEP\n";
-    let (printed, status) = judged(rt.alloc(), lines)?;
+    let (printed, status) = judged(&rt, rt.alloc(), lines)?;
     let answers = "0 discard 1\n0 67010C0AFE000900000000EA00 EOP\n0 discard 4\n";
     assert_eq!(rt; printed.as_str(), answers);
     assert_eq!(rt; status, 0);
-    let (printed, status) = judged(rt.alloc(), "")?;
+    let (printed, status) = judged(&rt, rt.alloc(), "")?;
     assert_eq!(rt; printed.as_str(), "");
     assert_eq!(rt; status, 0);
     Ok(())
@@ -90,7 +90,7 @@ fn journal_of_1024_entries(rt: HostRuntime) -> Result<(), Fail> {
         lines.push_str(PLAIN_READ)?;
         lines.push_str("\n")?;
     }
-    let (printed, status) = judged(rt.alloc(), lines.as_str())?;
+    let (printed, status) = judged(&rt, rt.alloc(), lines.as_str())?;
     let replies: Vec<&str> = printed.as_str().lines().collect(rt.alloc())?;
     assert_eq!(rt; replies.len(), 1025);
     assert!(rt; replies.iter().take(1024).all(|reply| *reply == PLAIN_REPLY));

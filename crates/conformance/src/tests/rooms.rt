@@ -5,6 +5,7 @@ use super::tables::{WRONG_WRITE, printed};
 use rcrc::crc;
 use std::alloc::Global;
 use std::fmt::Write;
+use std::sync::Wait;
 use std::test::Fail;
 
 /// How many writes of one byte come first.
@@ -46,8 +47,8 @@ fn lines(alloc: Global) -> Result<String, Fail> {
 
 /// The lines that `judge` prints by that program: how many begin like the reply to a write that was done, and
 /// the last five of them.
-fn ends(alloc: Global, program: &str) -> Result<(usize, String), Fail> {
-    let found = printed(alloc, program, lines(alloc)?.as_str())?;
+fn ends(rt: &impl Wait, alloc: Global, program: &str) -> Result<(usize, String), Fail> {
+    let found = printed(rt, alloc, program, lines(alloc)?.as_str())?;
     let done = found
         .as_str()
         .lines()
@@ -63,7 +64,7 @@ fn ends(alloc: Global, program: &str) -> Result<(usize, String), Fail> {
 
 #[test]
 fn journal_without_room(rt: HostRuntime) -> Result<(), Fail> {
-    let (done, last) = ends(rt.alloc(), "")?;
+    let (done, last) = ends(&rt, rt.alloc(), "")?;
     assert_eq!(rt; done, 1024);
     assert_eq!(rt;
         last.as_str(),
@@ -74,7 +75,7 @@ fn journal_without_room(rt: HostRuntime) -> Result<(), Fail> {
 
 #[test]
 fn verdicts_stand_without_room(rt: HostRuntime) -> Result<(), Fail> {
-    let (done, last) = ends(rt.alloc(), "mov r0, 10; exit")?;
+    let (done, last) = ends(&rt, rt.alloc(), "mov r0, 10; exit")?;
     assert_eq!(rt; done, 0);
     assert_eq!(rt;
         last.as_str(),

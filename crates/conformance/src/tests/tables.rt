@@ -9,6 +9,7 @@
 use super::{PLAIN_READ, PLAIN_REPLY, judged, judged_by};
 use std::alloc::{AllocError, Global};
 use std::process::Abort;
+use std::sync::Wait;
 use std::test::Fail;
 use trial::{PLAIN_WRITE, Row, image_of_text};
 
@@ -24,18 +25,18 @@ const BUDGET: u32 = 16;
 
 /// What `judge` prints of these lines by the program of this text, or by the factory program where it is
 /// empty.
-pub fn printed(alloc: Global, program: &str, lines: &str) -> Result<String, Fail> {
+pub fn printed(rt: &impl Wait, alloc: Global, program: &str, lines: &str) -> Result<String, Fail> {
     if program.is_empty() {
-        let (printed, _) = judged(alloc, lines)?;
+        let (printed, _) = judged(rt, alloc, lines)?;
         return Ok(printed);
     }
     let image = image_of_text(alloc, program, BUDGET)?.write()?;
-    let (printed, _) = judged_by(alloc, image.as_slice(), lines)?;
+    let (printed, _) = judged_by(rt, alloc, image.as_slice(), lines)?;
     Ok(printed)
 }
 
 /// The packet line of a packet of a row.
-fn packet_line(alloc: Global, packet: &str) -> Result<String, AllocError> {
+pub fn packet_line(alloc: Global, packet: &str) -> Result<String, AllocError> {
     match packet {
         "W" => String::from_str(alloc, PLAIN_WRITE),
         "V" => String::from_str(alloc, WRONG_WRITE),
@@ -46,7 +47,7 @@ fn packet_line(alloc: Global, packet: &str) -> Result<String, AllocError> {
 }
 
 /// What is printed for an answer of a row.
-fn answer_line(alloc: Global, answer: &str) -> Result<String, AllocError> {
+pub fn answer_line(alloc: Global, answer: &str) -> Result<String, AllocError> {
     match answer {
         "D" => String::from_str(alloc, WRITTEN_REPLY),
         "Z" => String::from_str(alloc, PLAIN_REPLY),
@@ -76,19 +77,19 @@ fn answer_lines(alloc: Global, answers: &str) -> Result<String, Fail> {
 }
 
 /// Compares one row, on a fresh node.
-fn compare(rt: &impl Abort, alloc: Global, line: &str) -> Result<(), Fail> {
+fn compare(rt: &(impl Abort + Wait), alloc: Global, line: &str) -> Result<(), Fail> {
     let mut row = Row::of(line);
     let shows = row.part()?;
     let program = row.part()?;
     let lines = packet_lines(alloc, row.part()?)?;
     let wanted = answer_lines(alloc, row.part()?)?;
-    let found = printed(alloc, program, lines.as_str())?;
+    let found = printed(rt, alloc, program, lines.as_str())?;
     assert_eq!(rt; found.as_str(), wanted.as_str(), "at {shows}");
     Ok(())
 }
 
 /// Compares each row of a table, each on a fresh node.
-pub fn compare_all(rt: &impl Abort, alloc: Global, table: &str) -> Result<(), Fail> {
+pub fn compare_all(rt: &(impl Abort + Wait), alloc: Global, table: &str) -> Result<(), Fail> {
     for line in table.lines() {
         compare(rt, alloc, line)?;
     }

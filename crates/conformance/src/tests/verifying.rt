@@ -26,7 +26,7 @@ fn accepted_and_refused_images(rt: HostRuntime) -> Result<(), Fail> {
         (&accepted[..31], "image fault 3 slot 0\n", 1),
         (b"", "image fault 1 slot 0\n", 1),
     ] {
-        let (printed, status) = run(rt.alloc(), &WORDS, &[("image", image)])?;
+        let (printed, status) = run(&rt, rt.alloc(), &WORDS, &[("image", image)])?;
         assert_eq!(rt; printed.as_str(), told);
         assert_eq!(rt; status, wanted);
     }
@@ -35,7 +35,7 @@ fn accepted_and_refused_images(rt: HostRuntime) -> Result<(), Fail> {
 
 #[test]
 fn image_that_cannot_be_read(rt: HostRuntime) -> Result<(), Fail> {
-    let (printed, status) = run(rt.alloc(), &WORDS, &[("other", b"")])?;
+    let (printed, status) = run(&rt, rt.alloc(), &WORDS, &[("other", b"")])?;
     assert_eq!(rt; printed.as_str(), "cannot read image\n");
     assert_eq!(rt; status, 1);
     Ok(())

@@ -5,6 +5,7 @@ use crate::Folder;
 use commands::{Job, WriteFault, perform, words};
 use std::alloc::Global;
 use std::io::{self, Write};
+use std::sync::Wait;
 use std::test::Fail;
 
 /// A writer that takes some writes, and then fails at each.
@@ -40,6 +41,7 @@ impl Write for Failing {
 
 /// Does the job over this folder with a writer that takes so many writes.
 fn perform_until(
+    rt: &impl Wait,
     alloc: Global,
     job: &Job,
     folder: &mut Folder,
@@ -51,7 +53,7 @@ fn perform_until(
         late: 0,
         has_failed: false,
     };
-    let done = perform(alloc, job, folder, &mut out);
+    let done = perform(rt, alloc, job, folder, &mut out);
     (out, done)
 }
 
@@ -59,14 +61,14 @@ fn perform_until(
 fn writers_that_fail_at_each_write(rt: HostRuntime) -> Result<(), Fail> {
     let lines =
         "0 EOP\n0 FE014C0067000901A000000000001095 EOP\n0 FE01640067000000A0000000000010610123456789ABCDEF101112131415161756 EOP\nport\n";
-    let (whole, status) = judged(rt.alloc(), lines)?;
+    let (whole, status) = judged(&rt, rt.alloc(), lines)?;
     assert_eq!(rt; status, 1);
     let job = words(rt.alloc(), &["judge", "lines"])?;
     let files = [("lines", lines.as_bytes())];
     let mut folder = folder_of(rt.alloc(), &files).map_err(|_| "no folder")?;
     let mut ended = false;
     for writes in 0..100 {
-        let (out, done) = perform_until(rt.alloc(), &job, &mut folder, writes);
+        let (out, done) = perform_until(&rt, rt.alloc(), &job, &mut folder, writes);
         let written = str::from_utf8(out.written.as_slice())?;
         assert_eq!(rt; out.late, 0, "at {writes}");
         assert!(rt; whole.as_str().starts_with(written), "at {writes}");
@@ -84,12 +86,12 @@ fn writers_that_fail_at_each_write(rt: HostRuntime) -> Result<(), Fail> {
 
 /// What `judge` prints of these lines, and the exit status; `None` where memory was refused to the
 /// words, to the folder or to the writer.
-fn tried(alloc: Global, lines: &str) -> Option<(String, u8)> {
+fn tried(rt: &impl Wait, alloc: Global, lines: &str) -> Option<(String, u8)> {
     let job = words(alloc, &["judge", "lines"]).ok()?;
     let files = [("lines", lines.as_bytes())];
     let mut out = Vec::new(alloc);
     let mut folder = folder_of(alloc, &files).ok()?;
-    let status = perform(alloc, &job, &mut folder, &mut out).ok()?;
+    let status = perform(rt, alloc, &job, &mut folder, &mut out).ok()?;
     Some((String::from_utf8(out).ok()?, status))
 }
 
@@ -105,8 +107,8 @@ fn is_refused(printed: &str) -> bool {
 #[test]
 fn refused_memory(rt: HostRuntime) -> Result<(), Fail> {
     // With memory refused once, the answer is the job's, a fault of memory, or an error.
-    if let Some((printed, status)) = tried(rt.alloc(), PLAIN_READ) {
-        let (whole, wanted) = judged(rt.alloc(), PLAIN_READ)?;
+    if let Some((printed, status)) = tried(&rt, rt.alloc(), PLAIN_READ) {
+        let (whole, wanted) = judged(&rt, rt.alloc(), PLAIN_READ)?;
         if status == wanted {
             assert_eq!(rt; printed, whole);
         } else {
@@ -115,7 +117,7 @@ fn refused_memory(rt: HostRuntime) -> Result<(), Fail> {
         }
     }
     // With ample memory again the answer is the whole.
-    let (whole, status) = judged(rt.alloc(), PLAIN_READ)?;
+    let (whole, status) = judged(&rt, rt.alloc(), PLAIN_READ)?;
     assert_eq!(rt; whole.as_str().len(), super::PLAIN_REPLY.len() + 1);
     assert_eq!(rt; status, 0);
     Ok(())

@@ -62,7 +62,7 @@ reserved packet types||FE01AC0067006000A0000000000000D6,FE018C0067006000A0000000
 to another logical address||FD016C0067006100A00000000000107A0123456789ABCDEF101112131415161756,R|67012C0CFD006110,Z
 to a bank that is not there||FE016C0067006201A0000000000010B20123456789ABCDEF101112131415161756,R|67012C0AFE006279,Z
 a wrong header CRC||FE016C0067000000A00000000000109E0123456789ABCDEF101112131415161756,R|discard 4,Z
-to staging, which is not served||FE016C00670063FF00000000000010ED0123456789ABCDEF101112131415161756,R|67012C01FE00635B,Z
+to staging, which leaves the bank||FE016C00670063FF00000000000010ED0123456789ABCDEF101112131415161756,R|67012C00FE0063D7,Z
 ";
 
 #[test]
@@ -121,7 +121,7 @@ fn long_writes(rt: HostRuntime) -> Result<(), Fail> {
         let written = row.part()?;
         let reply = row.part()?;
         let wanted = format!(in alloc; "0 {written} EOP\n0 {reply} EOP\n")?;
-        let found = printed(alloc, "", lines.as_str())?;
+        let found = printed(&rt, alloc, "", lines.as_str())?;
         assert_eq!(rt; found.as_str(), wanted.as_str(), "at {shows}");
     }
     Ok(())

@@ -1,17 +1,28 @@
 //! `target`: a node as threads share it. What a lock hides no clause can say.
 
+ghost use Rattle.std.specs.Prelude.{◌≡◌};
+
 use bank::Applied;
+use publish::{Opened, Room};
 use rcrc::crc;
 use rmap::{Place, ReplyBuf, Status};
 use spw::{End, Packet};
 use std::alloc::Global;
+use std::marker::Brand;
+use std::process::Abort;
 use std::sync::Wait;
 use std::test::Fail;
 use target::{BankConfig, Node, NodeConfig, Pass, Step, finish, judge};
 use trial::{BASE, PLAIN_READ, Random, bank, packet, program};
 
 /// A node of two ports and two banks, the second of 300 bytes from the address 0x1000 on, and its passes.
-fn shared(alloc: Global) -> Result<(Node, Vec<Pass>), Fail> {
+fn shared<J: Room, R: Wait + Drop>(
+    rt: R,
+    alloc: Global,
+    opened: Opened,
+) -> Result<(Node<J, R>, Vec<Pass<J>>), Fail>
+    requires { opened ≡ J.book }
+{
     let factory = program(alloc, 0)?;
     let small = BankConfig {
         base: 0x1000,
@@ -24,12 +35,18 @@ fn shared(alloc: Global) -> Result<(Node, Vec<Pass>), Fail> {
         banks: &[bank(1024), small],
         sizes: factory.sizes(),
     };
-    Ok(Node::new(alloc, &config, factory)?)
+    Ok(Node::new(alloc, rt, opened, &config, factory)?)
 }
 
 #[test]
 fn fresh_banks_behind_their_locks(rt: HostRuntime) -> Result<(), Fail> {
-    let (node, passes) = shared(rt.alloc())?;
+    fresh_banks::<Brand, _>(&rt, rt.alloc(), Opened::new())
+}
+
+fn fresh_banks<J: Room, R: Wait + Abort>(rt: &R, alloc: Global, opened: Opened) -> Result<(), Fail>
+    requires { opened ≡ J.book }
+{
+    let (node, passes) = shared::<J, _>(rt, alloc, opened)?;
     assert_eq!(rt; (node.banks(), passes.len()), (2, 2));
     for (k, first, last, size) in [(0, BASE, 0xA000_FFFF, 65_536), (1, 0x1000, 0x112B, 300)] {
         if usize::from(k) >= node.banks() {
@@ -37,7 +54,7 @@ fn fresh_banks_behind_their_locks(rt: HostRuntime) -> Result<(), Fail> {
         }
         let lock = node.bank(k);
         assert_eq!(rt; lock.number(), k);
-        let bank = lock.lock(&rt);
+        let bank = lock.lock(rt);
         assert_eq!(rt; (bank.range(), bank.ports()), ((first, size), 2));
         let ends = (bank.memory(first), bank.memory(last), bank.memory(last + 1));
         assert_eq!(rt; ends, (Some(0), Some(0), None), "at bank {k}");
@@ -48,10 +65,10 @@ fn fresh_banks_behind_their_locks(rt: HostRuntime) -> Result<(), Fail> {
 
 /// Judges a packet at the pass's port and finishes it at its bank, under the lock: whether it fits the
 /// bank, and how it ended.
-fn finished(
+fn finished<J: Room, R: Wait + Drop>(
     rt: &impl Wait,
-    node: &Node,
-    pass: &mut Pass,
+    node: &Node<J, R>,
+    pass: &mut Pass<J>,
     packet: Packet,
     reply: &mut ReplyBuf,
 ) -> Result<(bool, Applied), Fail> {
@@ -77,12 +94,18 @@ fn finished(
 
 #[test]
 fn a_command_of_another_port_sees_the_bank(rt: HostRuntime) -> Result<(), Fail> {
-    let (node, mut passes) = shared(rt.alloc())?;
+    both_ports_read::<Brand, _>(&rt, rt.alloc(), Opened::new())
+}
+
+fn both_ports_read<J: Room, R: Wait + Abort>(rt: &R, alloc: Global, opened: Opened) -> Result<(), Fail>
+    requires { opened ≡ J.book }
+{
+    let (node, mut passes) = shared::<J, _>(rt, alloc, opened)?;
     let mut reply = ReplyBuf::new();
     for port in [0, 1] {
         let pass = passes.get_mut(port).ok_or("no pass")?;
-        let sent = packet(rt.alloc(), PLAIN_READ)?;
-        let (fits, applied) = finished(&rt, &node, pass, sent, &mut reply)?;
+        let sent = packet(alloc, PLAIN_READ)?;
+        let (fits, applied) = finished(rt, &node, pass, sent, &mut reply)?;
         assert!(rt; fits);
         assert_eq!(rt;
             (applied.status, applied.number),
@@ -91,7 +114,7 @@ fn a_command_of_another_port_sees_the_bank(rt: HostRuntime) -> Result<(), Fail> 
         if node.banks() == 0 {
             return Err("no bank".into());
         }
-        assert_eq!(rt; node.bank(0).lock(&rt).entries().len(), port + 1);
+        assert_eq!(rt; node.bank(0).lock(rt).entries().len(), port + 1);
     }
     Ok(())
 }
@@ -120,15 +143,20 @@ fn generated(alloc: Global, random: &mut Random) -> Result<Packet, Fail> {
 
 #[test]
 fn generated_commands_fit(rt: HostRuntime) -> Result<(), Fail> {
-    let alloc = rt.alloc();
-    let (node, mut passes) = shared(alloc)?;
+    generated_commands::<Brand, _>(&rt, rt.alloc(), Opened::new())
+}
+
+fn generated_commands<J: Room, R: Wait + Abort>(rt: &R, alloc: Global, opened: Opened) -> Result<(), Fail>
+    requires { opened ≡ J.book }
+{
+    let (node, mut passes) = shared::<J, _>(rt, alloc, opened)?;
     let mut random = Random::new(23);
     let mut reply = ReplyBuf::new();
     for round in 0..1000 {
         let port = random.below(2) as usize;
         let pass = passes.get_mut(port).ok_or("no pass")?;
         let sent = generated(alloc, &mut random)?;
-        let (fits, applied) = finished(&rt, &node, pass, sent, &mut reply)?;
+        let (fits, applied) = finished(rt, &node, pass, sent, &mut reply)?;
         assert!(rt; fits, "in round {round}");
         assert_eq!(rt; applied.status, Status::Success, "in round {round}");
         assert!(rt; applied.number.is_some());

@@ -1,23 +1,44 @@
 //! `target`: outside rows, each call once, and memory that is refused.
 
+ghost use Rattle.std.specs.Prelude.{◌≡◌};
+
 use bank::Applied;
 use basm::assemble;
-use bver::{MapSizes, verify};
-use hex::decode;
+use bver::{Accepted, MapSizes, verify};
+use publish::{Opened, Room};
 use rmap::{Discard, ReplyBuf, Status};
 use std::alloc::Global;
+use std::marker::Brand;
+use std::process::Abort;
+use std::sync::Wait;
 use std::test::Fail;
 use target::{BankConfig, Banks, NodeFault, Served, Stop};
 use trial::{PLAIN_READ, PLAIN_REPLY, bank, node, packet, program, served};
 
 /// What becomes of the packet of a line at port 0 of a fresh node.
 fn served_afresh(
+    rt: &impl Wait,
     alloc: Global,
     verdict: u8,
     line: &str,
     reply: &mut ReplyBuf,
 ) -> Result<Served, Fail> {
-    let (mut banks, mut passes) = node(alloc, 2, &[bank(1024)], program(alloc, verdict)?)?;
+    served_on::<Brand, _>(rt, alloc, Opened::new(), verdict, line, reply)
+}
+
+fn served_on<J: Room, R: Wait>(
+    rt: &R,
+    alloc: Global,
+    opened: Opened,
+    verdict: u8,
+    line: &str,
+    reply: &mut ReplyBuf,
+) -> Result<Served, Fail>
+    requires { opened ≡ J.book }
+{
+    let factory = program(alloc, verdict)?;
+    let (mut banks, _publisher, mut passes) =
+        node::<J, _>(alloc, rt, opened, 2, &[bank(1024)], factory)?;
     let pass = passes.first_mut().ok_or("no pass")?;
     served(&mut banks, pass, packet(alloc, line)?, reply)
 }
@@ -52,8 +73,8 @@ fn packets_and_what_becomes_of_them(rt: HostRuntime) -> Result<(), Fail> {
         (
             0,
             "0 FE014C00670006FF00010000000008A6 EOP",
-            Served::Unread,
-            "0 67010C01FE0006000000005000 EOP",
+            Served::Window(Status::Success),
+            "0 67010C00FE000600000008A3000000000000000000 EOP",
         ),
         (
             0,
@@ -62,7 +83,7 @@ fn packets_and_what_becomes_of_them(rt: HostRuntime) -> Result<(), Fail> {
             "0 EOP",
         ),
     ] {
-        let found = served_afresh(alloc, verdict, line, &mut reply)?;
+        let found = served_afresh(&rt, alloc, verdict, line, &mut reply)?;
         assert_eq!(rt; found, what, "at {line}");
         assert_eq!(rt; reply.bytes(), packet(alloc, answer)?.bytes(), "at {line}");
     }
@@ -90,9 +111,20 @@ fn entries(alloc: Global, banks: &Banks, k: u8) -> Result<Vec<(u8, u64)>, Fail> 
 
 #[test]
 fn numbers_of_three_ports_at_three_banks(rt: HostRuntime) -> Result<(), Fail> {
-    let alloc = rt.alloc();
+    numbers_of_three_ports::<Brand, _>(&rt, rt.alloc(), Opened::new())
+}
+
+fn numbers_of_three_ports<J: Room, R: Wait + Abort>(
+    rt: &R,
+    alloc: Global,
+    opened: Opened,
+) -> Result<(), Fail>
+    requires { opened ≡ J.book }
+{
     let three = [bank(16), bank(16), bank(16)];
-    let (mut banks, mut passes) = node(alloc, 3, &three, program(alloc, 0)?)?;
+    let factory = program(alloc, 0)?;
+    let (mut banks, _publisher, mut passes) =
+        node::<J, _>(alloc, rt, opened, 3, &three, factory)?;
     let mut reply = ReplyBuf::new();
     for (port, k, number) in [
         (0, 0, 0),
@@ -141,7 +173,8 @@ fn nodes_outside_their_limits(rt: HostRuntime) -> Result<(), Fail> {
         (1, [].as_slice(), 3),
         (1, wide.as_slice(), 3),
     ] {
-        match node(alloc, ports, banks, program(alloc, 0)?) {
+        let factory = program(alloc, 0)?;
+        match made::<Brand, _>(&rt, alloc, Opened::new(), ports, banks, factory) {
             Ok(_) => assert!(rt; false),
             Err(fault) => assert_eq!(rt; fault.code(), code),
         }
@@ -149,21 +182,33 @@ fn nodes_outside_their_limits(rt: HostRuntime) -> Result<(), Fail> {
     Ok(())
 }
 
-/// Makes a node and tells how many banks and passes it has; `None` where the program takes no memory.
-fn made(alloc: Global) -> Option<Result<(usize, usize), NodeFault>> {
+/// How many banks and passes a node has that is made with so many ports and those banks.
+fn made<J: Room, R: Wait>(
+    rt: &R,
+    alloc: Global,
+    opened: Opened,
+    ports: u8,
+    banks: &[BankConfig],
+    factory: Accepted,
+) -> Result<(usize, usize), NodeFault>
+    requires { opened ≡ J.book }
+{
+    let (banks, _publisher, passes) = node::<J, _>(alloc, rt, opened, ports, banks, factory)?;
+    Ok((banks.len(), passes.len()))
+}
+
+/// The same of a node of one bank and two ports; `None` where the program takes no memory.
+fn made_small(rt: &impl Wait, alloc: Global) -> Option<Result<(usize, usize), NodeFault>> {
     let image = assemble(alloc, ".budget 2\nmov r0, 0\nexit").ok()?;
     let sizes = MapSizes::new(&[]).ok()?;
     let factory = verify(alloc, image, &sizes).ok()?;
-    match node(alloc, 2, &[bank(1024)], factory) {
-        Ok((banks, passes)) => Some(Ok((banks.len(), passes.len()))),
-        Err(fault) => Some(Err(fault)),
-    }
+    Some(made::<Brand, _>(rt, alloc, Opened::new(), 2, &[bank(1024)], factory))
 }
 
 #[test]
 fn memory_refused_while_made(rt: HostRuntime) {
-    let first = made(rt.alloc());
+    let first = made_small(&rt, rt.alloc());
     let full = Some(Ok((1, 2)));
     assert!(rt; first == full || first == Some(Err(NodeFault::Memory)) || first.is_none());
-    assert!(rt; first == full || made(rt.alloc()) == full);
+    assert!(rt; first == full || made_small(&rt, rt.alloc()) == full);
 }

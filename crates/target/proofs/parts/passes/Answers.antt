@@ -1,13 +1,12 @@
-use Rattle.std.proofs.Common.{◌≡◌, ℕ, ◌+◌, ◌-◌, ◌<◌, ◌≤◌, ◌∷◌, ◌++◌, ap, [], List, get_or, length, sym, ◌∙◌, arith, rules}
-use Rattle.std.proofs.lemmas.Grind.{common_steps}
+use Rattle.std.proofs.Common.{◌≡◌, ◌≢◌, ℕ, ◌+◌, ◌-◌, ◌<◌, ◌≤◌, ◌∷◌, ◌++◌, ap, [], List, get_or, length, set, sym, ◌∙◌, arith, rules}
 use Rattle.std.proofs.lemmas.List.FromFn.{map-range_with_len_more}
 use Rattle.std.specs.Prelude.{replicate}
-use base.Stored.{Gv}
-use Rattle.std.proofs.lemmas.List.{length-replicate, length-map, get_or_read, replicate_more}
-use Rattle.cells.specs.Seats.{CellSeatValue, seat}
+use Rattle.std.proofs.lemmas.List.{length-replicate, length-map, get_or_read, get_or-set_other, replicate_more}
+use Rattle.cells.specs.Seats.{CellSeatValue}
+use Rattle.publish.specs.Published.{sizes_of}
+use Rattle.publish.specs.Reached.{Known}
 use Rattle.target.proofs.Askings.{same_before, same_last}
 use Rattle.bank.specs.Records.{ShareValue, first_share}
-use Rattle.bver.specs.Justified.{AcceptedValue}
 use Rattle.target.specs.Passes.{BearingValue}
 use Rattle.target.specs.Nodes.{range_of, first_pass}
 use Rattle.target.proofs.parts.passes.Goals as goal
@@ -18,38 +17,55 @@ taken by_port n ports port from shares own count below same is read rest =
     let within : from < length by_port = omega arith in
     is ∙ get_or_read by_port from own within read [] ∙ rw same (rest port (omega arith) below)
 
--- the seat that is taken is one of those that are left, which are all the same
-last_seat : (ports port : ℕ) (one taken : CellSeatValue) (before after : List CellSeatValue) → port < ports → before ≡ replicate (ports - port) one → before ≡ after ++ taken ∷ [] → (after ≡ replicate (ports - (port + 1)) one) × (taken ≡ one)
-last_seat ports port one taken before after below all last =
+-- the shares of later ports are still there
+later : (by_port : List (List ShareValue)) (n ports port from : ℕ) (left : List ShareValue) → from ≡ port → ((k : ℕ) → port ≤ k → k < ports → get_or by_port k [] ≡ replicate n (first_share k)) → (k : ℕ) → port + 1 ≤ k → k < ports → get_or (set by_port from left) k [] ≡ replicate n (first_share k)
+later by_port n ports port from left same rest k above below =
+    let other : k ≢ from = λ e. absurd (omega (arith, e, same, above)) in
+    get_or-set_other by_port from k left [] other ∙ rest k (omega (arith, above)) below
+
+-- what is taken is one of those that are left, which are all the same
+last_of : {A : Type 0} (ports port : ℕ) (one taken : A) (before after : List A) → port < ports → before ≡ replicate (ports - port) one → before ≡ after ++ taken ∷ [] → (after ≡ replicate (ports - (port + 1)) one) × (taken ≡ one)
+last_of ports port one taken before after below all last =
     let count : ports - port ≡ ports - (port + 1) + 1 = omega arith in
     let begins : replicate (ports - (port + 1)) one ++ one ∷ [] ≡ after ++ taken ∷ [] =
     replicate_more (ports - (port + 1)) one ∙ sym (ap (λ n. replicate n one) count) ∙ sym all ∙ last in
     (sym (same_before _ _ _ _ begins), sym (same_last _ _ _ _ begins))
 
 pub invariant_of-pass : goal.invariant_of-pass
-invariant_of-pass c =
+invariant_of-pass g c =
     let banks = c.args.config.now.banks.now in
-    let shares : c.take.result.items ≡ replicate (length banks) (first_share c.loop-port.port) =
-    taken c.loop-port.by_port.items (length banks) c.args.config.now.ports c.loop-port.port c.from.result c.take.result.items c.index_mut.result.now c.loop-port.invariant.count c.loop-port-test.true c.from.ensures c.take.ensures.shares c.index_mut.ensures.value c.loop-port.invariant.rest in
-    let popped = last_seat c.args.config.now.ports c.loop-port.port (seat c.args.factory.now.sizes c.requires.seats.0 []) c.in-Some.seat c.loop-port.seats.items _ c.loop-port-test.true (c.loop-port.invariant.seats c.requires.seats.0 c.requires.seats.1) c.in-Some.ensures.items in
+    let ports = c.args.config.now.ports in
+    let port = c.loop-port.port in
+    let shares : c.take.result.items ≡ replicate (length banks) (first_share port) =
+    taken c.loop-port.by_port.items (length banks) ports port c.from.result c.take.result.items c.index_mut.result.now c.loop-port.invariant.count c.loop-port-test.true c.from.ensures c.take.ensures.shares c.index_mut.ensures.value c.loop-port.invariant.rest in
+    let made = c.requires.made in
+    let first = c.loop-port.invariant.parts made.0 made.1 made.2 in
+    let seat = last_of ports port _ c.in-Some-Some.seat c.loop-port.seats.items _ c.loop-port-test.true first.seats_are c.in-Some-Some.ensures.items in
+    let reader = last_of ports port _ c.in-Some-Some.reader c.loop-port.readers.items _ c.loop-port-test.true first.readers_are c.in-Some-Some.ensures'.items in
     record {
-      sizes = ap (λ (b : BearingValue). b.seat.sizes) c.new.ensures ∙ ap (λ (s : CellSeatValue). s.sizes) popped.1 ∙ sym (ap (λ (a : AcceptedValue). a.sizes) c.in_ok-copy.ensures);
+      sizes = ap (λ (b : BearingValue). b.seat.sizes) c.new.ensures ∙ ap (λ (s : CellSeatValue). s.sizes) seat.1 ∙ sym (ap (λ (r : Known). sizes_of r.programs) reader.1);
       port = rw (c.new.ensures) (omega (arith, c.requires.ports, c.loop-port-test.true));
-      shares = rw (shares, c.new.ensures, c.windows.ensures, length-map banks range_of) (length-replicate (length banks) (first_share c.loop-port.port));
+      shares = rw (shares, c.new.ensures, c.windows.ensures, length-map banks range_of) (length-replicate (length banks) (first_share port));
     }
 
 pub loop-port-preserved : goal.loop-port-preserved
-loop-port-preserved c =
+loop-port-preserved g c =
     let banks = c.args.config.now.banks.now in
-    let popped = λ (home : Gv) (begins : c.args.seats.items ≡ replicate c.args.config.now.ports (seat c.args.factory.now.sizes home [])).
-    last_seat c.args.config.now.ports c.loop-port.port (seat c.args.factory.now.sizes home []) c.in-Some.seat c.loop-port.seats.items _ c.loop-port-test.true (c.loop-port.invariant.seats home begins) c.in-Some.ensures.items in
-    let shares : c.take.result.items ≡ replicate (length banks) (first_share c.loop-port.port) =
-    taken c.loop-port.by_port.items (length banks) c.args.config.now.ports c.loop-port.port c.from.result c.take.result.items c.index_mut.result.now c.loop-port.invariant.count c.loop-port-test.true c.from.ensures c.take.ensures.shares c.index_mut.ensures.value c.loop-port.invariant.rest in
+    let ports = c.args.config.now.ports in
+    let port = c.loop-port.port in
+    let shares : c.take.result.items ≡ replicate (length banks) (first_share port) =
+    taken c.loop-port.by_port.items (length banks) ports port c.from.result c.take.result.items c.index_mut.result.now c.loop-port.invariant.count c.loop-port-test.true c.from.ensures c.take.ensures.shares c.index_mut.ensures.value c.loop-port.invariant.rest in
+    let first = c.loop-port.invariant.parts in
     record {
       count = search rules;
-      seats = λ home begins. (popped home begins).0;
-      passes = λ home begins.
-          let more = map-range_with_len_more (first_pass c.args.config.now.address banks c.args.factory.now home) 0 c.loop-port.port c.loop-port.port (omega arith) in
-          c.in_ok-push.ensures.items ∙ rw (c.loop-port.invariant.passes home begins, c.new.ensures, (popped home begins).1, c.windows.ensures, c.in_ok-copy.ensures, shares) (sym more);
-      rest = λ k above below. grind (arith, common_steps);
+      parts = λ factory home begins. record {
+        seats_are = (last_of ports port _ c.in-Some-Some.seat c.loop-port.seats.items _ c.loop-port-test.true (first factory home begins).seats_are c.in-Some-Some.ensures.items).0;
+        readers_are = (last_of ports port _ c.in-Some-Some.reader c.loop-port.readers.items _ c.loop-port-test.true (first factory home begins).readers_are c.in-Some-Some.ensures'.items).0;
+      };
+      passes = λ factory home begins.
+          let seat = last_of ports port _ c.in-Some-Some.seat c.loop-port.seats.items _ c.loop-port-test.true (first factory home begins).seats_are c.in-Some-Some.ensures.items in
+          let reader = last_of ports port _ c.in-Some-Some.reader c.loop-port.readers.items _ c.loop-port-test.true (first factory home begins).readers_are c.in-Some-Some.ensures'.items in
+          let more = map-range_with_len_more (first_pass c.args.config.now.address banks factory home) 0 port port (omega arith) in
+          c.in_ok-push.ensures.items ∙ rw (c.loop-port.invariant.passes factory home begins, c.new.ensures, seat.1, c.windows.ensures, reader.1, shares, c.in_ok-new.ensures) (sym more);
+      rest = later c.loop-port.by_port.items (length banks) ports port c.from.result _ c.from.ensures c.loop-port.invariant.rest;
     }

@@ -1,16 +1,16 @@
 use Rattle.std.proofs.Common.{◌≡◌, ◌<◌, ◌≤◌, ◌-◌, ℕ, [], length, get_or}
 use Rattle.std.specs.Prelude.{map, replicate}
 use Rattle.std.specs.List.{range_with_len}
-use Rattle.target.specs.Nodes.{first_pass}
+use Rattle.bver.specs.Justified.{AcceptedValue}
+use Rattle.target.specs.Nodes.{AreFirst, first_pass}
 use base.Stored.{Gv}
 use Rattle.bank.specs.Records.{first_share}
-use Rattle.cells.specs.Seats.{seat}
 use Rattle.target.proofs.parts.passes.Given as goal
 
 abbrev pub invariant-loop-port : goal.invariant-loop-port
-invariant-loop-port l = record {
+invariant-loop-port g l = record {
   count : length l.by_port.items ≡ l.config.ports;
-  seats : (home : Gv) → l.initial.seats.items ≡ replicate l.config.ports (seat l.factory.sizes home []) → l.seats.items ≡ replicate (l.config.ports - l.port) (seat l.factory.sizes home []);
-  passes : (home : Gv) → l.initial.seats.items ≡ replicate l.config.ports (seat l.factory.sizes home []) → l.passes.items ≡ map (first_pass l.config.address l.config.banks.now l.factory home) (range_with_len 0 l.port);
+  parts : (factory : AcceptedValue) (home : Gv) → AreFirst factory home l.config.ports l.initial.seats.items l.initial.readers.items → AreFirst factory home (l.config.ports - l.port) l.seats.items l.readers.items;
+  passes : (factory : AcceptedValue) (home : Gv) → AreFirst factory home l.config.ports l.initial.seats.items l.initial.readers.items → l.passes.items ≡ map (first_pass l.config.address l.config.banks.now factory home) (range_with_len 0 l.port);
   rest : (k : ℕ) → l.port ≤ k → k < l.config.ports → get_or l.by_port.items k [] ≡ replicate (length l.config.banks.now) (first_share k);
 }

@@ -2,10 +2,10 @@ use Rattle.target.proofs.Services.{answered, stays_paired, others_paired}
 use Rattle.target.proofs.served.serve_packet.Goals as goal
 
 pub returns-clause-answered : goal.returns-clause-answered
-returns-clause-answered c = answered _ _ _ _ _ _ _ c.serve.ensures.served
+returns-clause-answered g c = answered _ _ _ _ _ _ _ c.serve.ensures.served
 
 pub returns-clause-paired : goal.returns-clause-paired
-returns-clause-paired c = stays_paired c.extents_stay.ensures _ _ _ _ _ _ _ c.serve.ensures.served
+returns-clause-paired g c = stays_paired c.extents_stay.ensures _ _ _ _ _ _ _ c.serve.ensures.served
 
 pub returns-clause-others : goal.returns-clause-others
-returns-clause-others c = others_paired c.extents_stay.ensures _ _ _ _ _ _ _ c.serve.ensures.served
+returns-clause-others g c = others_paired c.extents_stay.ensures _ _ _ _ _ _ _ c.serve.ensures.served

@@ -9,7 +9,7 @@ use Rattle.commands.proofs.OwnPort.{pairs_stay, same_port}
 use Rattle.commands.proofs.node.JobNode.serve.Goals as goal
 
 pub invariant_of-self : goal.invariant_of-self
-invariant_of-self c =
+invariant_of-self g c =
     let holders = c.self.inside.passes.items in
     let pass = c.index_mut-pass.result.now in
     let below : c.from-place.result < length holders = search rules in
@@ -23,7 +23,7 @@ invariant_of-self c =
     }
 
 pub returns-clause-served : goal.returns-clause-served
-returns-clause-served c =
+returns-clause-served g c =
     let holders = c.self.inside.passes.items in
     let pass = c.index_mut-pass.result.now in
     let below : c.from-place.result < length holders = search rules in
@@ -36,6 +36,7 @@ returns-clause-served c =
       own = ap (λ (s : JobNodeValue). slice_get s.holders c.args.port) (sym c.self.view_is)
           ∙ ap (λ (k : ℕ). slice_get holders k) (sym c.from-place.ensures) ∙ own;
       others = search rules;
+      programs = ap (λ (s : JobNodeValue). s.programs) c.self.view_is;
       answered = subst (λ (banks : List BankValue). IsAnswered c.serve_packet.result c.args.packet banks c.serve_packet.new.banks pass c.serve_packet.new.pass c.serve_packet.new.reply)
           (ap (λ (s : JobNodeValue). s.banks) c.self.view_is) (c.serve_packet.ensures.answered paired);
     }
