@@ -1,6 +1,6 @@
 -- Which slots have an entry in the table, and what is known there.
 use Rattle.std.proofs.Common.{◌≡◌, ◌≢◌, ℕ, zero, suc, ◌+◌, ◌-◌, ◌<◌, ◌≤◌, ◌⊎◌, inl, inr, ℤ, pos, negsuc, ◌+ℤ◌, Bool, true, false, Option, None, Some, List, length, refl, sym, ap, subst, ◌∙◌, arith, get_or-set_same, get_or-set_other}
-use Rattle.std.specs.Prelude.{slice_index_or, slice_set, All, IfSome, IsSome, IsTrue, is_some, if◌then◌else◌, ◌==◌, ◌&&◌}
+use Rattle.std.specs.Prelude.{slice_index_or, slice_set, All, IfSome, IsSome}
 use Rattle.std.proofs.lemmas.Bool.{cases_eq, cases_lt, false≢true}
 use Rattle.std.proofs.lemmas.Bool.Decides.{nat_tests}
 use Rattle.std.proofs.lemmas.Int.{ints}
@@ -12,14 +12,14 @@ use Rattle.bpf_insn.specs.declared.insn.Insn.{Insn}
 use Rattle.machine.specs.Step.{insn_at}
 use Rattle.absdom.specs.State.{StateValue, IsWhole}
 use Rattle.bver_form.specs.Form.{IsFormed}
-use Rattle.bver_form.specs.Jumps.{IsFirstSlot, IsJump, first_slot, jump_distance, slot_at, target}
+use Rattle.bver_form.specs.Jumps.{IsFirstSlot, IsJump, first_slot, jump_distance, target}
 use Rattle.bver_form.specs.Loops.{IsLoopFormed, back_jump}
 use Rattle.bver.specs.Justified.{IsCoveredIfAny}
 use Rattle.bver.specs.Table.{TableValue, AreEntries, HasEntry, IsNumbered, IsNumbering, entry_of, known_in, nowhere, place_at}
 use Rattle.bver.specs.Visit.{AreWhole}
 use Rattle.absdom.specs.Laws.{BelowIsReflexive}
 use Rattle.bver.proofs.Covering.{covers_itself}
-use Rattle.bver.specs.Targets.{AreKept, IsKept, IsMarked, IsTarget, JumpsTo, landing_by, landing_from}
+use Rattle.bver.specs.Targets.{AreKept, IsKept, IsMarked, JumpsTo, landing_by, landing_from}
 use Rattle.bver.proofs.Counters.{loop_in}
 use Rattle.bver.proofs.Visiting.{begins_first, lands_first}
 

@@ -1,7 +1,7 @@
 -- From one slot of a pass to the next: what is known at the slots that were visited, at those with entries, and where
 -- the running state stands.
-use Rattle.std.proofs.Common.{◌≡◌, ◌≢◌, ℕ, ◌+◌, ◌<◌, ◌≤◌, ◌⊎◌, inl, inr, Bool, true, false, Option, None, Some, List, length, eqb, refl, sym, ap, subst, ◌∙◌, arith}
-use Rattle.std.specs.Prelude.{slice_index_or, slice_set, All, IfSome, IsSome, IsTrue, nat_lt, if◌then◌else◌, ◌==◌, ◌&&◌}
+use Rattle.std.proofs.Common.{◌≡◌, ◌≢◌, ℕ, ◌+◌, ◌<◌, ◌≤◌, inl, inr, Bool, true, false, Option, None, Some, List, length, refl, sym, ap, subst, ◌∙◌, arith}
+use Rattle.std.specs.Prelude.{slice_set, IfSome, IsSome, IsTrue, nat_lt, if◌then◌else◌, ◌==◌}
 use Rattle.std.proofs.lemmas.Bool.{cases_lt, false≢true}
 use Rattle.std.proofs.lemmas.Bool.Decides.{nat_tests}
 use Rattle.bpf.specs.Program.{Program, IsProgram}
@@ -12,12 +12,11 @@ use Rattle.machine.specs.declared.regions.Region.{Region}
 use Rattle.machine.specs.Step.{insn_at}
 use Rattle.absdom.specs.State.{StateValue, IsWhole}
 use Rattle.absdom.specs.Laws.{BelowIsReflexive, BelowIsTransitive}
-use Rattle.bver_form.specs.Form.{IsFormed}
 use Rattle.bver.specs.Heads.{AreHeadsAt}
-use Rattle.bver.specs.Justified.{IsCovered, IsCoveredIfAny, IsPermitted, IsPermittedAt, accessed_at}
+use Rattle.bver.specs.Justified.{IsCoveredIfAny, IsPermitted, IsPermittedAt, accessed_at}
 use Rattle.bver.specs.Table.{TableValue, AreEntries, carried, known_in}
 use Rattle.bver.specs.Targets.{IsKept, IsPlain}
-use Rattle.bver.specs.Visit.{AreWhole, IsGrown, IsPlaced, IsExtended, IsInsnVisit, IsVisit, VisitValue, AreEntered, AreVisited, ArePermitted, visited_with}
+use Rattle.bver.specs.Visit.{AreWhole, IsExtended, IsInsnVisit, IsVisit, VisitValue, AreEntered, AreVisited, ArePermitted, visited_with}
 use Rattle.bver.proofs.Covering.{AreCovered, any_covered_more, covers_itself, permitted_at_more}
 use Rattle.bver.proofs.Keeping.{kept_begins, known_begins, known_plain}
 use Rattle.bver.proofs.Slots.{goes_further, none_between}

@@ -16,8 +16,7 @@ use Rattle.bver_form.specs.Jumps.{first_slot, slot_at}
 use Rattle.bver.specs.Heads.{AreHeadsAt, IsDeclared}
 use Rattle.bver.specs.Justified.{IsCovered, IsCoveredIfAny, IsEntered, IsHead, IsPermittedAt, IsJudged, accessed_at}
 use Rattle.bver.specs.Visit.{AreWhole, IsGrown, IsPlaced, IsExtended, AreEntered, AreHeadsBefore, AreVisited, ArePermitted}
-use Rattle.bver.specs.Table.{TableValue, HasEntry, known_in}
-use Rattle.bver.specs.Targets.{IsKept}
+use Rattle.bver.specs.Table.{TableValue, known_in}
 use Rattle.bver.proofs.Counters.{loop_in, same_place}
 use Rattle.bver.proofs.Covering.{any_covered_more, covered_more, permitted_at_more}
 

@@ -1,5 +1,5 @@
 -- How the verifier's table grows while it passes over the slots.
-use Rattle.std.specs.Prelude.{All, ◌≡◌, ◌<◌, ◌≤◌, ℕ, ◌+◌, ℤ, Bool, if◌then◌else◌, List, length, slice_index_or, Option, Some, None, IsSome, IsTrue, IfSome}
+use Rattle.std.specs.Prelude.{All, ◌≡◌, ◌<◌, ℕ, ◌+◌, ℤ, Bool, if◌then◌else◌, List, length, slice_index_or, Option, Some, None, IsSome, IsTrue, IfSome}
 use Rattle.bpf.specs.Program.{Program}
 use Rattle.bpf_insn.specs.declared.insn.Insn.{Insn}
 use Rattle.bpf_insn.specs.declared.flow.Flow.{Flow}

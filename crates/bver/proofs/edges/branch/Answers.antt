@@ -1,10 +1,9 @@
-use Rattle.std.proofs.Common.{rules, ◌+◌, ◌≡◌, ℕ, Option, arith, IsTrue, sym, subst, ◌∙◌}
+use Rattle.std.proofs.Common.{rules, ◌+◌, ◌≡◌, Option, subst, ◌∙◌}
 use Rattle.bpf.specs.Program.{Program}
 use Rattle.absdom.specs.State.{StateValue}
 use Rattle.absdom.specs.Edges.{on_edge}
 use Rattle.bver_form.specs.Jumps.{target}
 use Rattle.bver.specs.Justified.{IsCoveredIfAny}
-use Rattle.bver.specs.Lowered.{IsSettled}
 use Rattle.bver.specs.Table.{AreEntries, carried, known_in}
 use Rattle.bver.specs.Targets.{IsKept}
 use Rattle.bver.specs.Visit.{taken_in}

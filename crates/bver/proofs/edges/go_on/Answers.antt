@@ -1,4 +1,4 @@
-use Rattle.std.proofs.Common.{rules, ◌≡◌, ◌+◌, ◌≤◌}
+use Rattle.std.proofs.Common.{rules, ◌+◌}
 use Rattle.bver.proofs.Visiting.{changed_at}
 use Rattle.bver.proofs.edges.go_on.Goals as goal
 

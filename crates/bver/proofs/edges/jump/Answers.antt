@@ -1,6 +1,4 @@
-use Rattle.std.proofs.Common.{rules, ◌≡◌, ◌+◌, ◌≤◌, Some, inr, ◌∙◌, sym}
-use Rattle.bver_form.specs.Jumps.{first_slot, target}
-use Rattle.bver.specs.Targets.{IsKept, JumpsTo}
+use Rattle.std.proofs.Common.{rules, ◌+◌, ◌≤◌}
 use Rattle.bver.proofs.Visiting.{changed_at}
 use Rattle.bver.proofs.edges.jump.Goals as goal
 

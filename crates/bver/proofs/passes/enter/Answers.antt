@@ -1,4 +1,4 @@
-use Rattle.std.proofs.Common.{rules, ◌≡◌, ◌≤◌, Some, sym, subst, ℕ}
+use Rattle.std.proofs.Common.{rules, ◌≡◌, Some, subst, ℕ}
 use Rattle.bpf.specs.Program.{Program}
 use Rattle.absdom.specs.State.{IsWhole}
 use Rattle.bver.specs.Heads.{AreHeadsAt, IsDeclared, IsRaised, IsWithinBound}

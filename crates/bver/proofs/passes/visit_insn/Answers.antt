@@ -1,4 +1,4 @@
-use Rattle.std.proofs.Common.{rules, ◌≡◌, ◌+◌, ◌∙◌, true, Some, IsTrue}
+use Rattle.std.proofs.Common.{rules, ◌≡◌, ◌+◌, Some, IsTrue}
 use Rattle.bpf_insn.specs.Spelling.{slots_of}
 use Rattle.bver.specs.Justified.{IsPermitted, accessed}
 use Rattle.bver.specs.Lowered.{IsSettled}

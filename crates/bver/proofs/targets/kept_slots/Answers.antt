@@ -1,7 +1,7 @@
 use Rattle.std.proofs.Common.{rules, ◌≡◌, ◌<◌, ℕ, false, true, length, arith, ◌∙◌}
 use Rattle.std.specs.Prelude.{slice_index_or}
 use Rattle.std.proofs.Math.ListN.{length-set}
-use Rattle.bver.proofs.Keeping.{marked_all, marked_first, marked_next}
+use Rattle.bver.proofs.Keeping.{marked_first, marked_next}
 use Rattle.bver.proofs.targets.kept_slots.Goals as goal
 
 pub loop-slot-preserved : goal.loop-slot-preserved

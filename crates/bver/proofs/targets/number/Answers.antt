@@ -1,4 +1,4 @@
-use Rattle.std.proofs.Common.{rules, arith}
+use Rattle.std.proofs.Common.{arith}
 use Rattle.bver.proofs.Keeping.{numbered, numbering_none}
 use Rattle.bver.proofs.targets.number.Goals as goal
 

@@ -1,4 +1,3 @@
-use Rattle.std.proofs.Common.{rules}
 use Rattle.bver.proofs.Keeping.{marked_at, unmarked_at, numbering_next, numbering_skip}
 use Rattle.bver.proofs.targets.number_slot.Goals as goal
 

@@ -1,8 +1,8 @@
-use Rattle.std.proofs.Common.{rules, ◌≡◌, ◌≢◌, ◌<◌, ℕ, Some, None, length, ap, sym, ◌∙◌, refl}
+use Rattle.std.proofs.Common.{rules, ◌≡◌, Some, None, refl}
 use Rattle.std.specs.Prelude.{slice_index_or}
 use Rattle.std.proofs.Math.ListN.{length-set}
 use Rattle.bver.specs.Justified.{IsCoveredIfAny}
-use Rattle.bver.specs.Table.{TableValue, AreEntries, HasEntry, entry_of, known_in}
+use Rattle.bver.specs.Table.{TableValue, entry_of, known_in}
 use Rattle.bver.proofs.Keeping.{entries_same, found_covers, found_there, set_elsewhere, set_grown}
 use Rattle.bver.proofs.Passing.{carried_here}
 use Rattle.bver.proofs.table.Table.go_on.Goals as goal

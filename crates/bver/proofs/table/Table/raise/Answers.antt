@@ -1,7 +1,7 @@
-use Rattle.std.proofs.Common.{rules, ◌≡◌, ◌≢◌, ◌<◌, ℕ, Some, None, length, ap, sym, ◌∙◌}
+use Rattle.std.proofs.Common.{rules, ◌≡◌, Some}
 use Rattle.std.proofs.Math.ListN.{length-set}
 use Rattle.bver.specs.Justified.{IsCoveredIfAny}
-use Rattle.bver.specs.Table.{TableValue, AreEntries, HasEntry, entry_of, known_in}
+use Rattle.bver.specs.Table.{TableValue, entry_of, known_in}
 use Rattle.bver.proofs.Keeping.{entries_same, set_elsewhere, set_grown}
 use Rattle.bver.proofs.table.Table.raise.Goals as goal
 
