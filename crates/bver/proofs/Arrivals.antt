@@ -1,12 +1,12 @@
 -- Where a step of the machine leads: to a slot where the program lets a run go on.
-use Rattle.std.proofs.Common.{◌≡◌, ℕ, ◌+◌, ◌⊎◌, inl, inr, ℤ, pos, negsuc, ◌+ℤ◌, Bool, true, false, Option, None, Some, refl, subst}
+use Rattle.std.proofs.Common.{◌≡◌, ℕ, ◌+◌, inl, inr, ℤ, pos, negsuc, ◌+ℤ◌, Bool, true, false, Option, None, Some, refl, subst}
 use Rattle.std.specs.Prelude.{◌==◌, if◌then◌else◌}
 use Rattle.bpf.specs.Program.{Program}
 use Rattle.bpf_insn.specs.declared.operation.Width.{Width}
 use Rattle.bpf_insn.specs.declared.operation.Condition.{Condition}
 use Rattle.bpf_insn.specs.declared.memory.Size.{Size}
 use Rattle.bpf_insn.specs.declared.flow.Flow.{Flow}
-use Rattle.bpf_insn.specs.declared.flow.Flow.TheVariants.{GoesOn, Branches, Jumps, Calls, Ends, Unsupported}
+use Rattle.bpf_insn.specs.declared.flow.Flow.TheVariants.{GoesOn, Branches, Jumps, Calls, Ends}
 use Rattle.bpf_insn.specs.declared.insn.Callee.{Callee}
 use Rattle.bpf_insn.specs.declared.insn.Callee.TheVariants.{Helper, Local, ByTypeId}
 use Rattle.bpf_insn.specs.declared.insn.Insn.{Insn}

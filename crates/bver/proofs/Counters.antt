@@ -1,34 +1,21 @@
 -- The counters of the loops that a path stands in: each is 1 to its bound, and is taken down before the back.
-use Rattle.std.proofs.Common.{◌≡◌, ◌≢◌, ℕ, zero, suc, ◌+◌, ◌*◌, ◌-◌, ◌<◌, ◌≤◌, ◌⊎◌, inl, inr, ℤ, pos, negsuc, ◌+ℤ◌, Bool, true, false, List, [], ◌∷◌, length, Option, None, Some, refl, sym, ap, subst, ◌∙◌, arith, eqb}
+use Rattle.std.proofs.Common.{◌≡◌, ◌≢◌, ℕ, zero, suc, ◌+◌, ◌-◌, ◌<◌, ◌≤◌, ◌⊎◌, inl, inr, ℤ, pos, negsuc, Bool, true, false, List, [], ◌∷◌, length, Option, Some, refl, sym, ap, subst, ◌∙◌, arith, eqb}
 use Rattle.std.specs.Prelude.{IsTrue, ◌==◌, if◌then◌else◌, slice_index_or, All, IfSome}
 use Rattle.std.proofs.lemmas.Bool.{false≢true, cases_lt}
 use Rattle.std.proofs.lemmas.Bool.Decides.{nat_tests}
 use Rattle.bpf.specs.declared.loops.Loop.{Loop}
 use Rattle.bpf.specs.Program.{Program, AreLoops, IsLoop}
-use Rattle.bpf_insn.specs.declared.operation.Width.{Width}
 use Rattle.bpf_insn.specs.declared.operation.Width.TheVariants.{Bits64}
-use Rattle.bpf_insn.specs.declared.operation.Condition.{Condition}
-use Rattle.bpf_insn.specs.declared.memory.Size.{Size}
-use Rattle.bpf_insn.specs.declared.flow.Flow.{Flow}
-use Rattle.bpf_insn.specs.declared.flow.Flow.TheVariants.{GoesOn, Branches, Jumps, Calls, Ends, Unsupported}
-use Rattle.bpf_insn.specs.declared.insn.Callee.{Callee}
-use Rattle.bpf_insn.specs.declared.insn.Callee.TheVariants.{Helper, Local, ByTypeId}
 use Rattle.bpf_insn.specs.declared.insn.Insn.{Insn}
-use Rattle.bpf_insn.specs.declared.insn.Insn.TheVariants.{Alu, Negate, MoveSigned, ByteSwap, Load, Store, Jump, Goto, Wide, LoadMap, LoadAddress, Exit}
-use Rattle.bpf_insn.specs.declared.insn.Insn.TheVariants as insns
 use Rattle.bpf_insn.specs.Flow.{is_written}
-use Rattle.bpf_insn.specs.Spelling.{slots_of}
 use Rattle.bpf_insn.specs.declared.operation.AluOp.TheVariants.{Add}
 use Rattle.bpf_insn.specs.declared.operation.Condition.TheVariants.{NotEqual}
 use Rattle.machine.specs.declared.values.Value.{Value}
 use Rattle.machine.specs.declared.values.Value.TheVariants.{Unset, Num, Ptr, Map}
-use Rattle.machine.specs.Words.{alu_words, word, holds_words}
-use Rattle.machine.specs.declared.regions.Region.TheVariants.{Front, Tail, Stack}
-use Rattle.machine.specs.Memory.{Header, place_of}
-use Rattle.bpf_insn.specs.Sizes.{size_bytes}
-use Rattle.machine.specs.State.{State, state, register_after}
-use Rattle.machine.specs.Step.{Question, Outcome, Next, Ask, Verdict, Trap, perform, insn_at, operand, alu, writes, puts, stores, compares, branches, lands, asks, calls, exits, map_at, is_helper}
-use Rattle.bver_form.specs.Jumps.{target}
+use Rattle.machine.specs.Words.{alu_words, word}
+use Rattle.machine.specs.Memory.{Header}
+use Rattle.machine.specs.State.{State}
+use Rattle.machine.specs.Step.{Outcome, Next, Ask, Verdict, Trap, perform, insn_at, alu, writes, compares}
 use Rattle.bver.proofs.Arrivals.{After, LeadsTo, at_once, by_answer, is_after}
 use Rattle.bver_form.specs.Loops.{IsCounted, ComesIn, IsLoopFormed, holds, step_down, back_jump}
 

@@ -2,6 +2,8 @@ pub mod Covering
 pub mod Counts
 pub mod Slots
 pub mod Visiting
+pub mod Keeping
+pub mod Passing
 pub mod Standing
 pub mod Arrivals
 pub mod Counters

@@ -1,7 +1,7 @@
 -- A justified program is safe: each step of a path takes one from what is left of the weight, and where it stands one
 -- is left.
-use Rattle.std.proofs.Common.{◌≡◌, ◌≢◌, ℕ, ◌+◌, ◌<◌, ◌≤◌, Bool, true, false, List, length, Option, None, Some, refl, sym, ap, subst, ◌∙◌, arith, add-one}
-use Rattle.std.specs.Prelude.{slice_index, slice_index_or, All, IfSome, IsSome, IsTrue}
+use Rattle.std.proofs.Common.{◌≡◌, ◌≢◌, ℕ, ◌+◌, ◌<◌, ◌≤◌, true, false, List, length, Option, None, Some, refl, sym, ap, subst, ◌∙◌, arith, add-one}
+use Rattle.std.specs.Prelude.{slice_index, slice_index_or, All, IfSome, IsSome}
 use Rattle.std.proofs.lemmas.Bool.{lt-ltb}
 use Rattle.bpf.specs.declared.loops.Loop.{Loop}
 use Rattle.bpf.specs.Program.{Program}
@@ -16,7 +16,7 @@ use Rattle.machine.specs.declared.values.Value.{Value}
 use Rattle.machine.specs.declared.values.Value.TheVariants.{Unset as Nothing, Num as Number, Ptr as Pointer, Map as MapOf}
 use Rattle.machine.specs.Memory.{Header, IsHeader}
 use Rattle.machine.specs.State.{State, entry_state}
-use Rattle.machine.specs.Step.{Outcome, Next, Trap, step, perform, perform_at, insn_at, finds_maps, is_cell}
+use Rattle.machine.specs.Step.{Outcome, Trap, step, perform, perform_at, insn_at, finds_maps, is_cell}
 use Rattle.machine.specs.Laws.{AreLeftBy}
 use Rattle.machine.specs.Runs.{Path, entry, moves, answered, IsSafe}
 use Rattle.absdom.specs.declared.kinds.AbsKind.{AbsKind}

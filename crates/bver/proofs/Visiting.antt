@@ -15,46 +15,34 @@ use Rattle.bver_form.specs.Form.{IsFormed}
 use Rattle.bver_form.specs.Jumps.{first_slot, slot_at}
 use Rattle.bver.specs.Heads.{AreHeadsAt, IsDeclared}
 use Rattle.bver.specs.Justified.{IsCovered, IsCoveredIfAny, IsEntered, IsHead, IsPermittedAt, IsJudged, accessed_at}
-use Rattle.bver.specs.Visit.{AreWhole, IsGrown, IsPlaced, IsExtended, AreEntered, AreHeadsBefore, AreVisited, ArePermitted, known_in}
+use Rattle.bver.specs.Visit.{AreWhole, IsGrown, IsPlaced, IsExtended, AreEntered, AreHeadsBefore, AreVisited, ArePermitted}
+use Rattle.bver.specs.Table.{TableValue, known_in}
 use Rattle.bver.proofs.Counters.{loop_in, same_place}
 use Rattle.bver.proofs.Covering.{any_covered_more, covered_more, permitted_at_more}
 
+-- ---- the table
+
 -- a table that grew twice
-pub extended_twice : BelowIsTransitive → (p : Program) (from : ℕ) (old mid new : List (Option StateValue)) → IsExtended p from old mid → IsExtended p from mid new → IsExtended p from old new
-extended_twice transitive p from old mid new f g = record {
-  grown = record {
-    size = g.grown.size ∙ f.grown.size;
-    covered = λ k. any_covered_more transitive (known_in old k) (known_in mid k) (known_in new k) (f.grown.covered k) (g.grown.covered k);
-  };
+pub extended_twice : BelowIsTransitive → (from : ℕ) (old mid new : TableValue) → IsExtended from old mid → IsExtended from mid new → IsExtended from old new
+extended_twice transitive from old mid new f g = record {
+  program = g.program ∙ f.program;
+  grown = λ k. any_covered_more transitive (known_in old k) (known_in mid k) (known_in new k) (f.grown k) (g.grown k);
   kept = λ k before. g.kept k before ∙ f.kept k before;
-  placed = λ placed. g.placed (f.placed placed);
   whole = λ whole. g.whole (f.whole whole);
 }
 
 -- a table that grew after a slot grew from it on
-pub extended_before : (p : Program) (slot : ℕ) (old new : List (Option StateValue)) → IsExtended p (slot + 1) old new → IsExtended p slot old new
-extended_before p slot old new f = record { grown = f.grown; kept = λ k below. f.kept k (omega (arith, below)); placed = f.placed; whole = f.whole }
+pub extended_before : (slot : ℕ) (old new : TableValue) → IsExtended (slot + 1) old new → IsExtended slot old new
+extended_before slot old new f = record { program = f.program; grown = f.grown; kept = λ k below. f.kept k (omega (arith, below)); whole = f.whole }
 
--- a table in which a slot from there on, where an instruction begins, is the only one that changed
-pub changed_at : (p : Program) (from slot : ℕ) (old new : List (Option StateValue)) → from ≤ slot → IsSome (insn_at p slot) → IsGrown old new → ((k : ℕ) → k ≢ slot → known_in new k ≡ known_in old k) → (AreWhole old → AreWhole new) → IsExtended p from old new
-changed_at p from slot old new above begins grown others whole = record {
+-- a table in which a slot from there on is the only one that changed
+pub changed_at : (from slot : ℕ) (old new : TableValue) → from ≤ slot → new.program ≡ old.program → IsGrown (known_in old) (known_in new) → ((k : ℕ) → k ≢ slot → known_in new k ≡ known_in old k) → (AreWhole (known_in old) → AreWhole (known_in new)) → IsExtended from old new
+changed_at from slot old new above program grown others whole = record {
+  program = program;
   grown = grown;
   kept = λ k below. others k (λ same. omega (arith, below, same, above));
-  placed = λ placed k some.
-      elim (cases_lt k slot) [
-        | inl below ↦ earlier k placed some (λ same. omega (arith, below, same))
-        | inr past ↦ elim (cases_lt slot k) [
-          | inl beyond ↦ earlier k placed some (λ same. omega (arith, beyond, same))
-          | inr at ↦
-              let here : slot ≡ k = omega (arith, past, at) in
-              subst (λ (i : ℕ). IsSome (insn_at p i)) here begins
-        ]
-      ];
   whole = whole;
 }
-  where
-    earlier : (k : ℕ) → IsPlaced p old → IsSome (known_in new k) → k ≢ slot → IsSome (insn_at p k)
-    earlier k placed some other = placed k (subst (λ (o : Option StateValue). IsSome o) (others k other) some)
 
 -- where a jump lands an instruction begins
 pub lands_first : (p : Program) (z : ℤ) (slot : ℕ) → first_slot p z ≡ Some slot → IsSome (insn_at p slot)
@@ -65,33 +53,40 @@ lands_first p (pos k) slot is = by_begin (is_some (slot_at p k)) refl is
     by_begin false begins same = absurd cc
 lands_first p (negsuc n) slot is = absurd cc
 
--- after the visit of a slot
+-- ---- what is known, slot by slot
+
+-- what is known grew from a slot on, where instructions begin
+pub record Grows (p : Program) (from : ℕ) (old new : ℕ → Option StateValue) : Type 0 where
+  pub grown : IsGrown old new
+  pub kept : (k : ℕ) → k < from → new k ≡ old k
+  pub placed : IsPlaced p new
+  pub whole : AreWhole new
+
 entered_more : BelowIsTransitive → (o n : Option StateValue) → IsCoveredIfAny o n → IsEntered o → IsEntered n
 entered_more transitive o n grown h = record { known = h.known; entry = h.entry; covered = covered_more transitive h.known o n h.covered grown }
 
-pub entry_next : BelowIsTransitive → (p : Program) (from : ℕ) (old new : List (Option StateValue)) → AreEntered p old → IsExtended p from old new → AreEntered p new
+entry_next : BelowIsTransitive → (p : Program) (from : ℕ) (old new : ℕ → Option StateValue) → AreEntered p old → Grows p from old new → AreEntered p new
 entry_next transitive p from old new v f = record {
-  size = f.grown.size ∙ v.size;
-  entered = entered_more transitive (known_in old 0) (known_in new 0) (f.grown.covered 0) v.entered;
-  placed = f.placed v.placed;
-  whole = f.whole v.whole;
+  entered = entered_more transitive (old 0) (new 0) (f.grown 0) v.entered;
+  placed = f.placed;
+  whole = f.whole;
 }
 
-pub heads_next : (p : Program) (old new : List (Option StateValue)) (slot : ℕ) → IsExtended p slot old new → AreHeadsBefore p old slot → AreHeadsAt p slot (known_in new slot) → AreHeadsBefore p new (slot + 1)
+heads_next : (p : Program) (old new : ℕ → Option StateValue) (slot : ℕ) → Grows p slot old new → AreHeadsBefore p old slot → AreHeadsAt p slot (new slot) → AreHeadsBefore p new (slot + 1)
 heads_next p old new slot f before at k d inside below =
     let l = slice_index_or p.loops k d in
     elim (cases_lt l.head slot) [
       | inl earlier ↦ subst (λ (o : Option StateValue). IfSome o (IsHead p l)) (sym (f.kept l.head earlier)) (before k d inside earlier)
       | inr past ↦
           let here : l.head ≡ slot = omega (arith, past, below) in
-          subst (λ (h : ℕ). IfSome (known_in new h) (IsHead p l)) (sym here) (at k d inside here)
+          subst (λ (h : ℕ). IfSome (new h) (IsHead p l)) (sym here) (at k d inside here)
     ]
 
-pub visited_next : BelowIsTransitive → (p : Program) (old new : List (Option StateValue)) (regions : List (Option Region)) (slot : ℕ) (region : Option Region) → AreVisited p old regions slot → IsExtended p slot old new → AreHeadsAt p slot (known_in new slot) → region ≡ accessed_at (known_in new slot) (insn_at p slot) → slot < length regions → AreVisited p new (slice_set regions slot region) (slot + 1)
+pub visited_next : BelowIsTransitive → (p : Program) (old new : ℕ → Option StateValue) (regions : List (Option Region)) (slot : ℕ) (region : Option Region) → AreVisited p old regions slot → Grows p slot old new → AreHeadsAt p slot (new slot) → region ≡ accessed_at (new slot) (insn_at p slot) → slot < length regions → AreVisited p new (slice_set regions slot region) (slot + 1)
 visited_next transitive p old new regions slot region v f heads accessed inside = record {
   entry = entry_next transitive p slot old new v.entry f;
   heads = heads_next p old new slot f v.heads heads;
-  resolved = below_more (λ (k : ℕ). slice_index_or (slice_set regions slot region) k None ≡ accessed_at (known_in new k) (insn_at p k)) slot
+  resolved = below_more (λ (k : ℕ). slice_index_or (slice_set regions slot region) k None ≡ accessed_at (new k) (insn_at p k)) slot
       (λ k below.
       get_or-set_other regions slot k region None (differs k below) ∙ v.resolved k below ∙ ap (λ (o : Option StateValue). accessed_at o (insn_at p k)) (sym (f.kept k below)))
       (get_or-set_same regions slot region None inside ∙ accessed);
@@ -100,37 +95,44 @@ visited_next transitive p old new regions slot region v f heads accessed inside 
     differs : (k : ℕ) → k < slot → k ≢ slot
     differs k below same = omega arith
 
-pub permitted_next : BelowIsTransitive → (p : Program) (sizes : Maps) (old new : List (Option StateValue)) (slot : ℕ) → ArePermitted p sizes old slot → IsExtended p slot old new → IsPermittedAt sizes (known_in new) slot (known_in new slot) (insn_at p slot) → ArePermitted p sizes new (slot + 1)
+pub permitted_next : BelowIsTransitive → (p : Program) (sizes : Maps) (old new : ℕ → Option StateValue) (slot : ℕ) → ArePermitted p sizes old slot → Grows p slot old new → IsPermittedAt sizes new slot (new slot) (insn_at p slot) → ArePermitted p sizes new (slot + 1)
 permitted_next transitive p sizes old new slot v f permitted =
-    below_more (λ (k : ℕ). IsPermittedAt sizes (known_in new) k (known_in new k) (insn_at p k)) slot
+    below_more (λ (k : ℕ). IsPermittedAt sizes new k (new k) (insn_at p k)) slot
     (λ k below.
-    subst (λ (o : Option StateValue). IsPermittedAt sizes (known_in new) k o (insn_at p k)) (sym (f.kept k below))
-    (permitted_at_more transitive sizes (known_in old) (known_in new) k (known_in old k) (insn_at p k) f.grown.covered (v k below)))
+    subst (λ (o : Option StateValue). IsPermittedAt sizes new k o (insn_at p k)) (sym (f.kept k below))
+    (permitted_at_more transitive sizes old new k (old k) (insn_at p k) f.grown (v k below)))
     permitted
 
--- after all visits
-past_none : (table : List (Option StateValue)) (n slot : ℕ) → length table ≡ n → n ≤ slot → known_in table slot ≡ None
-past_none table n slot size past = get_or_past table slot None (omega arith)
+-- ---- after all visits
 
-pub judged : (p : Program) (sizes : Maps) (table : List (Option StateValue)) (regions : List (Option Region)) → IsProgram p → IsFormed p → length regions ≡ length p.slots → AreVisited p table regions (length p.slots) → ArePermitted p sizes table (length p.slots) → IsJudged p sizes regions
-judged p sizes table regions limits form size v permitted = record {
+-- nothing is known past the end
+past_none : (p : Program) (known : ℕ → Option StateValue) (slot : ℕ) → IsPlaced p known → length p.slots ≤ slot → known slot ≡ None
+past_none p known slot placed past = by_known (known slot) (placed slot)
+  where
+    by_known : (o : Option StateValue) → (IsSome o → IsSome (insn_at p slot)) → o ≡ None
+    by_known None begins = refl
+    by_known (Some a) begins =
+        absurd (false≢true (subst (λ (i : Option Insn). IsSome i) (get_or_past p.slots slot None past) (begins refl)))
+
+pub judged : (p : Program) (sizes : Maps) (known : ℕ → Option StateValue) (regions : List (Option Region)) → IsProgram p → IsFormed p → length regions ≡ length p.slots → AreVisited p known regions (length p.slots) → ArePermitted p sizes known (length p.slots) → IsJudged p sizes regions
+judged p sizes known regions limits form size v permitted = record {
   justified = record {
     limits = limits;
     formed = form;
-    table = known_in table;
+    table = known;
     entered = v.entry.entered;
     whole = v.entry.whole;
     permitted = λ slot.
         elim (cases_lt slot (length p.slots)) [
           | inl below ↦ permitted slot below
-          | inr past ↦ subst (λ (o : Option StateValue). IsPermittedAt sizes (known_in table) slot o (insn_at p slot)) (sym (past_none table (length p.slots) slot v.entry.size past)) tt
+          | inr past ↦ subst (λ (o : Option StateValue). IsPermittedAt sizes known slot o (insn_at p slot)) (sym (past_none p known slot v.entry.placed past)) tt
         ];
     heads = λ k d inside. v.heads k d inside (head_below k d inside);
   };
   resolved = λ slot.
       elim (cases_lt slot (length p.slots)) [
         | inl below ↦ v.resolved slot below
-        | inr past ↦ get_or_past regions slot None (omega (arith, size, past)) ∙ ap (λ (o : Option StateValue). accessed_at o (insn_at p slot)) (sym (past_none table (length p.slots) slot v.entry.size past))
+        | inr past ↦ get_or_past regions slot None (omega (arith, size, past)) ∙ ap (λ (o : Option StateValue). accessed_at o (insn_at p slot)) (sym (past_none p known slot v.entry.placed past))
       ];
 }
   where
@@ -156,33 +158,33 @@ heads_of p l place a limits declared head k d inside same =
 pub heads_none : (p : Program) (slot : ℕ) (o : Option StateValue) → All (λ l. l.head ≢ slot) p.loops → AreHeadsAt p slot o
 heads_none p slot o none k d inside same = absurd (none k d inside same)
 
--- before all visits
-pub visited_none : (p : Program) (table : List (Option StateValue)) (regions : List (Option Region)) → AreEntered p table → AreVisited p table regions 0
-visited_none p table regions entry = record {
+-- ---- before all visits
+
+pub visited_none : (p : Program) (known : ℕ → Option StateValue) (regions : List (Option Region)) → AreEntered p known → AreVisited p known regions 0
+visited_none p known regions entry = record {
   entry = entry;
   heads = λ k d inside below. absurd (omega (arith, below));
   resolved = λ k below. absurd (omega (arith, below));
 }
 
 -- at the first slot an instruction begins
-begins_first : (xs : List (Option Insn)) → 1 ≤ length xs → AreSlots false xs → IsSome (slice_index_or xs 0 None)
+pub begins_first : (xs : List (Option Insn)) → 1 ≤ length xs → AreSlots false xs → IsSome (slice_index_or xs 0 None)
 begins_first [] some code = absurd (omega (arith, some))
 begins_first (None ∷ xs) some code = absurd code
 begins_first (Some insn ∷ xs) some code = refl
 
 -- the table in which what is known at entry is known at slot 0, and nothing else
-pub entered_first : (p : Program) (old new : List (Option StateValue)) (a : StateValue) → IsProgram p → length new ≡ length p.slots → ((k : ℕ) → known_in old k ≡ None) → IsEntry a → IsCovered a (known_in new 0) → ((k : ℕ) → k ≢ 0 → known_in new k ≡ known_in old k) → IfSome (known_in new 0) IsWhole → AreEntered p new
-entered_first p old new a limits size nothing entry covered others whole = record {
-  size = size;
+pub entered_first : (p : Program) (old new : ℕ → Option StateValue) (a : StateValue) → IsProgram p → ((k : ℕ) → old k ≡ None) → IsEntry a → IsCovered a (new 0) → ((k : ℕ) → k ≢ 0 → new k ≡ old k) → IfSome (new 0) IsWhole → AreEntered p new
+entered_first p old new a limits nothing entry covered others whole = record {
   entered = record { known = a; entry = entry; covered = covered };
   placed = placed;
   whole = all_whole;
 }
   where
-    placed : (k : ℕ) → IsSome (known_in new k) → IsSome (insn_at p k)
+    placed : (k : ℕ) → IsSome (new k) → IsSome (insn_at p k)
     placed zero some = begins_first p.slots limits.slots.0 limits.code
     placed (suc k) some = absurd (false≢true (subst (λ (o : Option StateValue). IsSome o) (others (suc k) (λ same. omega (arith, same)) ∙ nothing (suc k)) some))
 
-    all_whole : (k : ℕ) → IfSome (known_in new k) IsWhole
+    all_whole : (k : ℕ) → IfSome (new k) IsWhole
     all_whole zero = whole
     all_whole (suc k) = subst (λ (o : Option StateValue). IfSome o IsWhole) (sym (others (suc k) (λ same. omega (arith, same)) ∙ nothing (suc k))) tt

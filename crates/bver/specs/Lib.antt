@@ -3,5 +3,7 @@ pub mod Justified
 pub mod Resolved
 pub mod Lowered
 pub mod Heads
+pub mod Targets
+pub mod Table
 pub mod Visit
 pub mod Laws

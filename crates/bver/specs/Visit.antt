@@ -1,5 +1,5 @@
 -- How the verifier's table grows while it passes over the slots.
-use Rattle.std.specs.Prelude.{All, ◌≡◌, ◌<◌, ◌≤◌, ℕ, ◌+◌, ℤ, List, length, slice_index_or, Option, Some, None, IsSome, IfSome}
+use Rattle.std.specs.Prelude.{All, ◌≡◌, ◌<◌, ℕ, ◌+◌, ℤ, Bool, if◌then◌else◌, List, length, slice_index_or, Option, Some, None, IsSome, IsTrue, IfSome}
 use Rattle.bpf.specs.Program.{Program}
 use Rattle.bpf_insn.specs.declared.insn.Insn.{Insn}
 use Rattle.bpf_insn.specs.declared.flow.Flow.{Flow}
@@ -11,41 +11,41 @@ use Rattle.machine.specs.declared.regions.Region.{Region}
 use Rattle.machine.specs.Step.{insn_at}
 use Rattle.absdom.specs.State.{StateValue, IsBelow}
 use Rattle.absdom.specs.State.{IsWhole}
-use Rattle.bver_form.specs.Jumps.{target}
+use Rattle.bver_form.specs.Jumps.{first_slot, target}
 use Rattle.bver.specs.Justified.{IsHead, IsCoveredIfAny, IsEntered, IsPermittedAt, accessed_at, known_at}
+use Rattle.bver.specs.Heads.{AreHeadsAt}
+use Rattle.bver.specs.Table.{TableValue, carried, known_in}
+use Rattle.bver.specs.Targets.{IsPlain, landing_from}
 
--- what is known at a slot, in a list by slot
-abbrev pub known_in : List (Option StateValue) → ℕ → Option StateValue
-known_in table slot = slice_index_or table slot None
+-- ---- what is known at each slot
 
 -- all that was known is covered by what is known now
-pub record IsGrown (old new : List (Option StateValue)) : Type 0 where
-  pub size : length new ≡ length old
-  pub covered : (slot : ℕ) → IsCoveredIfAny (known_in old slot) (known_in new slot)
+abbrev pub IsGrown : (old new : ℕ → Option StateValue) → Type 0
+IsGrown old new = (slot : ℕ) → IsCoveredIfAny (old slot) (new slot)
 
 -- no more is known at a slot than was, and than is known along an edge to it: what covers both covers it
 abbrev pub IsLeast : (old : Option StateValue) → StateValue → (new : Option StateValue) → Type 0
 IsLeast old edge new = (above : StateValue) → IsCoveredIfAny old (Some above) → IsBelow edge above → IsCoveredIfAny new (Some above)
 
 -- something is known only where an instruction begins
-abbrev pub IsPlaced : Program → List (Option StateValue) → Type 0
-IsPlaced p table = (slot : ℕ) → IsSome (known_in table slot) → IsSome (insn_at p slot)
+abbrev pub IsPlaced : Program → (known : ℕ → Option StateValue) → Type 0
+IsPlaced p known = (slot : ℕ) → IsSome (known slot) → IsSome (insn_at p slot)
 
 -- what is known is whole
-abbrev pub AreWhole : List (Option StateValue) → Type 0
-AreWhole table = (slot : ℕ) → IfSome (known_in table slot) IsWhole
+abbrev pub AreWhole : (known : ℕ → Option StateValue) → Type 0
+AreWhole known = (slot : ℕ) → IfSome (known slot) IsWhole
 
--- the table grew from this slot on alone, where instructions begin
-pub record IsExtended (p : Program) (from : ℕ) (old new : List (Option StateValue)) : Type 0 where
-  pub grown : IsGrown old new
+-- the table grew from this slot on alone
+pub record IsExtended (from : ℕ) (old new : TableValue) : Type 0 where
+  pub program : new.program ≡ old.program
+  pub grown : IsGrown (known_in old) (known_in new)
   pub kept : (k : ℕ) → k < from → known_in new k ≡ known_in old k
-  pub placed : IsPlaced p old → IsPlaced p new
-  pub whole : AreWhole old → AreWhole new
+  pub whole : AreWhole (known_in old) → AreWhole (known_in new)
 
--- a slot of the table, after this one, where an instruction begins. A program has at most 512 slots
-pub record IsLater (p : Program) (slot : ℕ) (table : List (Option StateValue)) (later : ℕ) : Type 0 where
+-- a slot of the program, after this one, where an instruction begins. A program has at most 512 slots
+pub record IsLater (p : Program) (slot later : ℕ) : Type 0 where
   pub after : slot < later
-  pub inside : later < length table
+  pub inside : later < length p.slots
   pub low : later < 512
   pub begins : IsSome (insn_at p later)
 
@@ -57,54 +57,82 @@ pub record VisitValue : Type 0 where
   pub sizes : Maps
   pub slot : ℕ
 
--- the table has a place for each slot of the program
-abbrev pub IsTableOf : VisitValue → List (Option StateValue) → Type 0
-IsTableOf v table = length table ≡ length v.program.slots
+-- the table is the program's
+abbrev pub IsTableOf : VisitValue → TableValue → Type 0
+IsTableOf v table = table.program ≡ v.program
 
 -- what is known where a jump by so many slots leads
-abbrev pub taken_in : VisitValue → (distance : ℤ) → List (Option StateValue) → Option StateValue
-taken_in v distance table = known_at (known_in table) (target v.slot distance)
+abbrev pub taken_in : VisitValue → (distance : ℤ) → (known : ℕ → Option StateValue) → Option StateValue
+taken_in v distance known = known_at known (target v.slot distance)
+
+-- the instruction at the slot leads there by a jump of so many slots
+abbrev pub LeadsBy : VisitValue → (distance : ℤ) → Type 0
+LeadsBy v distance = landing_from v.program v.slot (insn_at v.program v.slot) ≡ first_slot v.program (target v.slot distance)
 
 -- the table grew after the slot alone
-abbrev pub IsExtendedAfter : VisitValue → (old new : List (Option StateValue)) → Type 0
-IsExtendedAfter v old new = IsExtended v.program (v.slot + 1) old new
+abbrev pub IsExtendedAfter : VisitValue → (old new : TableValue) → Type 0
+IsExtendedAfter v old new = IsExtended (v.slot + 1) old new
 
 -- the next instruction begins so many slots further
-abbrev pub IsNext : VisitValue → List (Option StateValue) → (slots : ℕ) → Type 0
-IsNext v table slots = IsLater v.program v.slot table (v.slot + slots)
+abbrev pub IsNext : VisitValue → (slots : ℕ) → Type 0
+IsNext v slots = IsLater v.program v.slot (v.slot + slots)
 
 -- where a run may go on at the next instruction, there is one, so many slots further
-abbrev pub HasNextBy : VisitValue → List (Option StateValue) → (slots : ℕ) → Flow → Type 0
-HasNextBy v table slots GoesOn = IsNext v table slots
-HasNextBy v table slots (Branches distance) = IsNext v table slots
-HasNextBy v table slots (Jumps distance) = Unit {0}
-HasNextBy v table slots (Calls callee number) = IsNext v table slots
-HasNextBy v table slots Ends = Unit {0}
-HasNextBy v table slots Unsupported = Unit {0}
+abbrev pub HasNextBy : VisitValue → (slots : ℕ) → Flow → Type 0
+HasNextBy v slots GoesOn = IsNext v slots
+HasNextBy v slots (Branches distance) = IsNext v slots
+HasNextBy v slots (Jumps distance) = Unit {0}
+HasNextBy v slots (Calls callee number) = IsNext v slots
+HasNextBy v slots Ends = Unit {0}
+HasNextBy v slots Unsupported = Unit {0}
 
 -- an instruction that may go on to the next one has a next one
-abbrev pub HasNext : VisitValue → List (Option StateValue) → Insn → Type 0
-HasNext v table insn = HasNextBy v table (slots_of insn) (flow_of insn)
+abbrev pub HasNext : VisitValue → Insn → Type 0
+HasNext v insn = HasNextBy v (slots_of insn) (flow_of insn)
+
+-- what is known where an instruction is visited: the running state, if one stands there, else what the table knows
+abbrev pub visited_with : (runs : Bool) → StateValue → TableValue → (slot : ℕ) → Option StateValue
+visited_with runs state table slot = if runs then Some state else known_in table slot
+
+-- the visit of an instruction at the slot, from one running state to the next, where one stands: it is permitted where
+-- nothing was lowered, its region is the one that it accesses, and what is known at a head stands for every pass
+pub record IsInsnVisit (v : VisitValue) (old new : TableValue) (was runs : Bool) (before after : StateValue) (settled : Type 0) (region : Option Region) (insn : Insn) : Type 0 where
+  pub permitted : settled → IsPermittedAt v.sizes (carried new runs (v.slot + slots_of insn) after) v.slot (visited_with was before new v.slot) (Some insn)
+  pub accesses : region ≡ accessed_at (visited_with was before new v.slot) (Some insn)
+  pub heads : AreHeadsAt v.program v.slot (visited_with was before new v.slot)
+  pub plain : IsTrue runs → IsPlain v.program (v.slot + slots_of insn)
+  pub extended : IsExtended v.slot old new
+
+-- the same at a second slot, which is left as it is
+pub record IsPassedBy (old new : TableValue) (was runs : Bool) (before after : StateValue) (region : Option Region) : Type 0 where
+  pub same_table : new ≡ old
+  pub same_runs : runs ≡ was
+  pub same_state : after ≡ before
+  pub no_region : region ≡ None
+
+-- the visit of a slot
+abbrev pub IsVisit : VisitValue → (old new : TableValue) → (was runs : Bool) → (before after : StateValue) → (settled : Type 0) → Option Region → Option Insn → Type 0
+IsVisit v old new was runs before after settled region None = IsPassedBy old new was runs before after region
+IsVisit v old new was runs before after settled region (Some insn) = IsInsnVisit v old new was runs before after settled region insn
 
 -- ---- the pass
 
 -- what is known at entry is covered at slot 0, and nothing is known that no instruction begins with
-pub record AreEntered (p : Program) (table : List (Option StateValue)) : Type 0 where
-  pub size : length table ≡ length p.slots
-  pub entered : IsEntered (known_in table 0)
-  pub placed : IsPlaced p table
-  pub whole : AreWhole table
+pub record AreEntered (p : Program) (known : ℕ → Option StateValue) : Type 0 where
+  pub entered : IsEntered (known 0)
+  pub placed : IsPlaced p known
+  pub whole : AreWhole known
 
 -- at each head before the slot, what is known stands for every pass
-abbrev pub AreHeadsBefore : Program → List (Option StateValue) → (slot : ℕ) → Type 0
-AreHeadsBefore p table slot = All (λ l. l.head < slot → IfSome (known_in table l.head) (IsHead p l)) p.loops
+abbrev pub AreHeadsBefore : Program → (known : ℕ → Option StateValue) → (slot : ℕ) → Type 0
+AreHeadsBefore p known slot = All (λ l. l.head < slot → IfSome (known l.head) (IsHead p l)) p.loops
 
 -- the slots before this one were visited: what they access, and what stands at their heads
-pub record AreVisited (p : Program) (table : List (Option StateValue)) (regions : List (Option Region)) (slot : ℕ) : Type 0 where
-  pub entry : AreEntered p table
-  pub heads : AreHeadsBefore p table slot
-  pub resolved : (k : ℕ) → k < slot → slice_index_or regions k None ≡ accessed_at (known_in table k) (insn_at p k)
+pub record AreVisited (p : Program) (known : ℕ → Option StateValue) (regions : List (Option Region)) (slot : ℕ) : Type 0 where
+  pub entry : AreEntered p known
+  pub heads : AreHeadsBefore p known slot
+  pub resolved : (k : ℕ) → k < slot → slice_index_or regions k None ≡ accessed_at (known k) (insn_at p k)
 
 -- what the slots before this one do is permitted
-abbrev pub ArePermitted : Program → (sizes : Maps) → List (Option StateValue) → (slot : ℕ) → Type 0
-ArePermitted p sizes table slot = (k : ℕ) → k < slot → IsPermittedAt sizes (known_in table) k (known_in table k) (insn_at p k)
+abbrev pub ArePermitted : Program → (sizes : Maps) → (known : ℕ → Option StateValue) → (slot : ℕ) → Type 0
+ArePermitted p sizes known slot = (k : ℕ) → k < slot → IsPermittedAt sizes known k (known k) (insn_at p k)

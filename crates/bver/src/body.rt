@@ -4,7 +4,7 @@ ghost use Rattle.std.specs.Prelude.{◌≡◌, ◌≤◌, ◌<◌, ◌↔◌, Is
 ghost use Rattle.bpf.specs.Program.{insn_at};
 ghost use Rattle.bver.specs.Justified.{IsCovered, IsWrittenBy, IsWrittenIn};
 ghost use Rattle.bver.specs.Lowered.{IsMore, IsSettled};
-ghost use Rattle.bver.specs.Visit.{known_in};
+ghost use Rattle.bver.specs.Table.{known_in};
 ghost use Rattle.bver.specs.Heads.{BodyValue, Falls, IsDeclared, IsEntryFault, IsRaised, IsRaisedKind, IsWithinBound, opened_kind};
 
 use crate::lowered::Lowered;
@@ -26,7 +26,7 @@ pub(crate) struct Body<'a> {
 
 impl<'a> Model for Body<'a> {
     ghost use Rattle.bver.specs.Lowered.{IsMore, IsSettled};
-    ghost use Rattle.bver.specs.Visit.{known_in};
+    ghost use Rattle.bver.specs.Table.{known_in};
     ghost use Rattle.bver.specs.Heads.{BodyValue, Falls, IsDeclared};
 
     ghost Value = { BodyValue };
@@ -155,8 +155,8 @@ impl<'a> Body<'a> {
 
     /// Whether the register is lowered by an edge back to the head: the loop writes it, and it is a number at
     /// the head and none on the edge.
-    fn falls(&self, table: &Table, edge: &State, register: Register) -> bool
-        requires { self.now.declared.head < length table.now }
+    fn falls(&self, table: &Table<'_>, edge: &State, register: Register) -> bool
+        requires { self.now.declared.head < length table.now.program.slots }
         ensures { IsTrue result ↔ Falls self.now (known_in table.now self.now.declared.head) edge.now register }
     {
         table.is_number(self.declared.head, register)
@@ -165,8 +165,8 @@ impl<'a> Body<'a> {
     }
 
     /// Lowers each register that an edge back to the head lowers.
-    fn lower(&self, table: &Table, edge: &State, lowered: &mut Lowered)
-        requires { self.now.declared.head < length table.now }
+    fn lower(&self, table: &Table<'_>, edge: &State, lowered: &mut Lowered)
+        requires { self.now.declared.head < length table.now.program.slots }
         ensures { IsMore lowered.old lowered.new }
     {
         for number in 0..10 {
@@ -188,11 +188,11 @@ impl<'a> Body<'a> {
     /// `LoopEntry` at the head where it is neither.
     pub(crate) fn close(
         &self,
-        table: &Table,
+        table: &Table<'_>,
         edge: &State,
         lowered: &mut Lowered,
     ) -> Result<(), Refused>
-        requires { self.now.declared.head < length table.now }
+        requires { self.now.declared.head < length table.now.program.slots }
         ensures more { IsMore lowered.old lowered.new }
         ensures covered { OnOk result (IsSettled lowered.old lowered.new → IsCovered edge.now (known_in table.now self.now.declared.head)) }
     {

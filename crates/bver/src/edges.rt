@@ -1,8 +1,8 @@
 //! What an instruction does to the table: the edges that it follows, and why it is refused.
 
-ghost use Rattle.std.specs.Prelude.{◌≡◌, ◌+◌, IfOk, IsTrue, OnOk, Ok, length};
+ghost use Rattle.std.specs.Prelude.{◌≡◌, ◌+◌, IfOk, IsTrue, OnOk, Ok, Some};
 ghost use Rattle.bpf_insn.specs.Spelling.{slots_of};
-ghost use Rattle.machine.specs.Step.{is_map};
+ghost use Rattle.machine.specs.Step.{insn_at, is_map};
 ghost use Rattle.absdom.specs.Effect.{applied};
 ghost use Rattle.absdom.specs.Edges.{on_edge, on_edges};
 ghost use Rattle.absdom.specs.Kinds.{map_of, number_of};
@@ -12,7 +12,9 @@ ghost use Rattle.bver_form.specs.Jumps.{IsJump};
 ghost use Rattle.bver.specs.Codes.{refusal_of};
 ghost use Rattle.bver.specs.Justified.{AsksCell, IsCovered, IsCoveredIfAny, IsResultCovered, AreEdgesCovered, edges_of_comparison, IsNumber, IsPermitted, known_at, pointed, accessed};
 ghost use Rattle.bver.specs.Lowered.{IsMore, IsSettled};
-ghost use Rattle.bver.specs.Visit.{IsTableOf, IsExtendedAfter, IsNext, HasNext, known_in, taken_in};
+ghost use Rattle.bver.specs.Table.{carried, known_in};
+ghost use Rattle.bver.specs.Targets.{IsPlain};
+ghost use Rattle.bver.specs.Visit.{IsTableOf, IsExtendedAfter, IsNext, HasNext, LeadsBy, taken_in};
 
 use crate::lowered::Lowered;
 use crate::table::Table;
@@ -39,14 +41,15 @@ fn refusal_of(cause: Cause) -> Refusal
 /// Follows a jump by so many slots: forward, or back to the head of a loop.
 fn jump(
     visit: &Visit,
-    table: &mut Table,
+    table: &mut Table<'_>,
     lowered: &mut Lowered,
     distance: i32,
     state: &State,
 ) -> Result<(), Refused>
-    requires size { IsTableOf visit.now table.old }
+    requires table { IsTableOf visit.now table.old }
     requires jump { IsJump visit.now.program visit.now.slot distance }
-    ensures covered { OnOk result (IsSettled lowered.old lowered.new → IsCovered state.now (taken_in visit.now distance table.new)) }
+    requires leads { LeadsBy visit.now distance }
+    ensures covered { OnOk result (IsSettled lowered.old lowered.new → IsCovered state.now (taken_in visit.now distance (known_in table.new))) }
     ensures extended { IsExtendedAfter visit.now table.old table.new }
     ensures more { IsMore lowered.old lowered.new }
 {
@@ -69,16 +72,17 @@ fn jump(
 /// Follows the edge of a comparison on which it holds, if a run may take it.
 fn follow_taken(
     visit: &Visit,
-    table: &mut Table,
+    table: &mut Table<'_>,
     lowered: &mut Lowered,
     state: &State,
     comparison: &Comparison,
     distance: i32,
     edge: &Option<Operands>,
 ) -> Result<(), Refused>
-    requires size { IsTableOf visit.now table.old }
+    requires table { IsTableOf visit.now table.old }
     requires jump { IsJump visit.now.program visit.now.slot distance }
-    ensures covered { OnOk result (IsSettled lowered.old lowered.new → IsCoveredIfAny (on_edge state.now comparison.now.dst comparison.now.src edge.now) (taken_in visit.now distance table.new)) }
+    requires leads { LeadsBy visit.now distance }
+    ensures covered { OnOk result (IsSettled lowered.old lowered.new → IsCoveredIfAny (on_edge state.now comparison.now.dst comparison.now.src edge.now) (taken_in visit.now distance (known_in table.new))) }
     ensures extended { IsExtendedAfter visit.now table.old table.new }
     ensures more { IsMore lowered.old lowered.new }
 {
@@ -93,43 +97,59 @@ fn follow_taken(
     }
 }
 
-/// Follows the other edge of a comparison, if a run may take it.
-fn follow_not_taken(
-    visit: &Visit,
-    table: &mut Table,
-    state: &mut State,
-    comparison: &Comparison,
-    edge: &Option<Operands>,
-)
-    requires { IsNext visit.now table.old 1 }
-    ensures covered { IsCoveredIfAny (on_edge state.old comparison.now.dst comparison.now.src edge.now) (known_in table.new (visit.now.slot + 1)) }
+/// Goes on to the next instruction, so many slots further. Tells whether the state is the running one there.
+fn go_on(visit: &Visit, table: &mut Table<'_>, state: &State, slots: u16) -> bool
+    requires table { IsTableOf visit.now table.old }
+    requires next { IsNext visit.now slots }
+    ensures covered { IsCovered state.now (carried table.new result (visit.now.slot + slots) state.now (visit.now.slot + slots)) }
+    ensures plain { IsTrue result → IsPlain visit.now.program (visit.now.slot + slots) }
     ensures extended { IsExtendedAfter visit.now table.old table.new }
 {
     order_of_states();
-    let next = visit.slot() + 1;
+    table.go_on(visit.slot() + slots, state)
+}
+
+/// Follows the other edge of a comparison, if a run may take it. Tells whether the state is the running one
+/// there.
+fn follow_not_taken(
+    visit: &Visit,
+    table: &mut Table<'_>,
+    state: &mut State,
+    comparison: &Comparison,
+    edge: &Option<Operands>,
+) -> bool
+    requires table { IsTableOf visit.now table.old }
+    requires next { IsNext visit.now 1 }
+    ensures covered { IsCoveredIfAny (on_edge state.old comparison.now.dst comparison.now.src edge.now) (carried table.new result (visit.now.slot + 1) state.new (visit.now.slot + 1)) }
+    ensures plain { IsTrue result → IsPlain visit.now.program (visit.now.slot + 1) }
+    ensures extended { IsExtendedAfter visit.now table.old table.new }
+{
+    order_of_states();
     match edge {
         Some(new) => {
             state.narrow(comparison.dst, &comparison.src, new);
-            table.follow(next, state);
+            go_on(visit, table, state, 1)
         }
-        None => {}
+        None => false,
     }
 }
 
-/// Follows the edges of a comparison.
+/// Follows the edges of a comparison. Tells whether the state is the running one at the next instruction.
 fn branch(
     visit: &Visit,
-    table: &mut Table,
+    table: &mut Table<'_>,
     lowered: &mut Lowered,
     state: &mut State,
     comparison: &Comparison,
     distance: i32,
     edges: &Edges,
-) -> Result<(), Refused>
-    requires size { IsTableOf visit.now table.old }
+) -> Result<bool, Refused>
+    requires table { IsTableOf visit.now table.old }
     requires jump { IsJump visit.now.program visit.now.slot distance }
-    requires next { IsNext visit.now table.old 1 }
-    ensures covered { OnOk result (IsSettled lowered.old lowered.new → AreEdgesCovered (Ok (on_edges state.old comparison.now.dst comparison.now.src edges.now)) (taken_in visit.now distance table.new) (known_in table.new (visit.now.slot + 1))) }
+    requires leads { LeadsBy visit.now distance }
+    requires next { IsNext visit.now 1 }
+    ensures covered { IfOk result (λ runs. IsSettled lowered.old lowered.new → AreEdgesCovered (Ok (on_edges state.old comparison.now.dst comparison.now.src edges.now)) (taken_in visit.now distance (carried table.new runs (visit.now.slot + 1) state.new)) (carried table.new runs (visit.now.slot + 1) state.new (visit.now.slot + 1))) }
+    ensures plain { IfOk result (λ runs. IsTrue runs → IsPlain visit.now.program (visit.now.slot + 1)) }
     ensures extended { IsExtendedAfter visit.now table.old table.new }
     ensures more { IsMore lowered.old lowered.new }
 {
@@ -143,23 +163,26 @@ fn branch(
         distance,
         &edges.taken,
     )?;
-    follow_not_taken(visit, table, state, comparison, &edges.not_taken);
-    Ok(())
+    let runs = follow_not_taken(visit, table, state, comparison, &edges.not_taken);
+    table.stands_at_targets();
+    Ok(runs)
 }
 
-/// A comparison.
+/// A comparison. Tells whether the state is the running one at the next instruction.
 fn compare(
     visit: &Visit,
-    table: &mut Table,
+    table: &mut Table<'_>,
     lowered: &mut Lowered,
     state: &mut State,
     comparison: &Comparison,
     offset: i16,
-) -> Result<(), Refused>
-    requires size { IsTableOf visit.now table.old }
+) -> Result<bool, Refused>
+    requires table { IsTableOf visit.now table.old }
     requires jump { IsJump visit.now.program visit.now.slot offset }
-    requires next { IsNext visit.now table.old 1 }
-    ensures covered { OnOk result (IsSettled lowered.old lowered.new → AreEdgesCovered (edges_of_comparison state.old comparison.now) (taken_in visit.now offset table.new) (known_in table.new (visit.now.slot + 1))) }
+    requires leads { LeadsBy visit.now offset }
+    requires next { IsNext visit.now 1 }
+    ensures covered { IfOk result (λ runs. IsSettled lowered.old lowered.new → AreEdgesCovered (edges_of_comparison state.old comparison.now) (taken_in visit.now offset (carried table.new runs (visit.now.slot + 1) state.new)) (carried table.new runs (visit.now.slot + 1) state.new (visit.now.slot + 1))) }
+    ensures plain { IfOk result (λ runs. IsTrue runs → IsPlain visit.now.program (visit.now.slot + 1)) }
     ensures extended { IsExtendedAfter visit.now table.old table.new }
     ensures more { IsMore lowered.old lowered.new }
 {
@@ -186,19 +209,24 @@ fn compare(
     }
 }
 
-/// An instruction that goes on to the next one.
-fn straight(visit: &Visit, table: &mut Table, state: &mut State, insn: &Insn) -> Result<(), Refused>
-    requires { IsNext visit.now table.old (slots_of insn.now) }
-    ensures covered { OnOk result (IsResultCovered (applied state.old insn.now) (known_in table.new (visit.now.slot + slots_of insn.now))) }
+/// An instruction that goes on to the next one. Tells whether the state is the running one there.
+fn straight(
+    visit: &Visit,
+    table: &mut Table<'_>,
+    state: &mut State,
+    insn: &Insn,
+) -> Result<bool, Refused>
+    requires table { IsTableOf visit.now table.old }
+    requires next { IsNext visit.now (slots_of insn.now) }
+    ensures covered { IfOk result (λ runs. IsResultCovered (applied state.old insn.now) (carried table.new runs (visit.now.slot + slots_of insn.now) state.new (visit.now.slot + slots_of insn.now))) }
+    ensures plain { IfOk result (λ runs. IsTrue runs → IsPlain visit.now.program (visit.now.slot + slots_of insn.now)) }
     ensures extended { IsExtendedAfter visit.now table.old table.new }
 {
     order_of_states();
     state
         .apply(insn)
         .map_err(|cause| visit.refused(refusal_of(cause)))?;
-    let next = visit.slot() + insn.slots();
-    table.follow(next, state);
-    Ok(())
+    Ok(go_on(visit, table, state, insn.slots()))
 }
 
 /// Tests that there is a map of the index.
@@ -263,19 +291,21 @@ fn check_cell(visit: &Visit, state: &State) -> Result<(), Refused>
     Ok(())
 }
 
-/// A helper's call, which goes on with any answer.
-fn ask(visit: &Visit, table: &mut Table, state: &mut State) -> Result<(), Refused>
-    requires { IsNext visit.now table.old 1 }
+/// A helper's call, which goes on with any answer. Tells whether the state is the running one at the next
+/// instruction.
+fn ask(visit: &Visit, table: &mut Table<'_>, state: &mut State) -> Result<bool, Refused>
+    requires table { IsTableOf visit.now table.old }
+    requires next { IsNext visit.now 1 }
     ensures cell { OnOk result (AsksCell visit.now.sizes (kind_at state.old 1) (kind_at state.old 2)) }
     ensures left { OnOk result (state.new ≡ after_call state.old) }
-    ensures covered { OnOk result (IsCovered (after_call state.old) (known_in table.new (visit.now.slot + 1))) }
+    ensures covered { IfOk result (λ runs. IsCovered (after_call state.old) (carried table.new runs (visit.now.slot + 1) state.new (visit.now.slot + 1))) }
+    ensures plain { IfOk result (λ runs. IsTrue runs → IsPlain visit.now.program (visit.now.slot + 1)) }
     ensures extended { IsExtendedAfter visit.now table.old table.new }
 {
     order_of_states();
     check_cell(visit, state)?;
     state.call();
-    table.follow(visit.slot() + 1, state);
-    Ok(())
+    Ok(go_on(visit, table, state, 1))
 }
 
 /// The region of a pointer.
@@ -301,8 +331,9 @@ pub(crate) fn accessed(state: &State, insn: &Insn) -> Option<Region>
 }
 
 /// Tests an instruction with what is known at its slot, and follows the edges that a run may take from
-/// there. The state is changed on the way. An edge back to the head of a loop may lower registers there;
-/// the instruction is permitted where none was lowered.
+/// there. The state is changed to what is known at the next instruction, and stays the running one there
+/// where the result is true. An edge back to the head of a loop may lower registers there; the instruction
+/// is permitted where none was lowered.
 ///
 /// # Errors
 ///
@@ -311,15 +342,17 @@ pub(crate) fn accessed(state: &State, insn: &Insn) -> Option<Region>
 /// to it neither lowers nor finds covered.
 pub(crate) fn flow(
     visit: &Visit,
-    table: &mut Table,
+    table: &mut Table<'_>,
     lowered: &mut Lowered,
     state: &mut State,
     insn: &Insn,
-) -> Result<(), Refused>
-    requires size { IsTableOf visit.now table.old }
+) -> Result<bool, Refused>
+    requires table { IsTableOf visit.now table.old }
+    requires begins { insn_at visit.now.program visit.now.slot ≡ Some insn.now }
     requires allowed { IsAllowed visit.now.program visit.now.slot insn.now }
-    requires next { HasNext visit.now table.old insn.now }
-    ensures permitted { OnOk result (IsSettled lowered.old lowered.new → IsPermitted visit.now.sizes (known_in table.new) visit.now.slot state.old insn.now) }
+    requires next { HasNext visit.now insn.now }
+    ensures permitted { IfOk result (λ runs. IsSettled lowered.old lowered.new → IsPermitted visit.now.sizes (carried table.new runs (visit.now.slot + slots_of insn.now) state.new) visit.now.slot state.old insn.now) }
+    ensures plain { IfOk result (λ runs. IsTrue runs → IsPlain visit.now.program (visit.now.slot + slots_of insn.now)) }
     ensures extended { IsExtendedAfter visit.now table.old table.new }
     ensures more { IsMore lowered.old lowered.new }
 {
@@ -339,8 +372,14 @@ pub(crate) fn flow(
         Insn::Jump { comparison, offset } => {
             compare(visit, table, lowered, state, comparison, *offset)
         }
-        Insn::Goto { distance } => jump(visit, table, lowered, distance.slots(), state),
-        Insn::Exit => check_answer(visit, state),
+        Insn::Goto { distance } => {
+            jump(visit, table, lowered, distance.slots(), state)?;
+            Ok(false)
+        }
+        Insn::Exit => {
+            check_answer(visit, state)?;
+            Ok(false)
+        }
         Insn::Call { .. } => ask(visit, table, state),
         Insn::LoadAddress { .. } => unreachable!(),
     }

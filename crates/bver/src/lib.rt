@@ -13,6 +13,7 @@ mod laws;
 mod lowered;
 mod passes;
 mod table;
+mod targets;
 mod visit;
 
 pub use absdom::Region;

@@ -1,12 +1,14 @@
 //! The pass over a program's slots.
 
-ghost use Rattle.std.specs.Prelude.{◌≡◌, ◌<◌, IfOk, OnOk, None, Some, length};
+ghost use Rattle.std.specs.Prelude.{◌≡◌, ◌<◌, IfOk, IsTrue, OnOk, Some, None, length, if◌then◌else◌};
 ghost use Rattle.machine.specs.Step.{insn_at};
 ghost use Rattle.bver_form.specs.Form.{IsFormed};
 ghost use Rattle.bver.specs.Heads.{AreHeadsAt};
-ghost use Rattle.bver.specs.Justified.{IsJudged, IsPermittedAt, accessed_at};
+ghost use Rattle.bver.specs.Justified.{IsJudged};
 ghost use Rattle.bver.specs.Lowered.{IsMore, IsSettled};
-ghost use Rattle.bver.specs.Visit.{AreEntered, IsExtended, IsExtendedAfter, IsPlaced, IsTableOf, known_in};
+ghost use Rattle.bver.specs.Table.{known_in};
+ghost use Rattle.bver.specs.Targets.{IsKept};
+ghost use Rattle.bver.specs.Visit.{AreEntered, IsExtended, IsInsnVisit, IsTableOf, IsVisit, visited_with};
 
 use crate::edges::{accessed, flow};
 use crate::lowered::Lowered;
@@ -14,49 +16,26 @@ use crate::table::Table;
 use crate::visit::Visit;
 use absdom::{Region, State, order_of_states};
 use bpf::Image;
+use bpf_insn::Insn;
 use bver_form::Refused;
 use machine::MapSizes;
-
-/// Visits a slot with what is known there. It tells the region that the instruction accesses.
-fn visit_with(
-    visit: &Visit,
-    table: &mut Table,
-    lowered: &mut Lowered,
-    state: &mut State,
-) -> Result<Option<Region>, Refused>
-    requires size { IsTableOf visit.now table.old }
-    requires placed { IsPlaced visit.now.program table.old }
-    requires known { known_in table.old visit.now.slot ≡ Some state.old }
-    ensures permitted { OnOk result (IsSettled lowered.old lowered.new → IsPermittedAt visit.now.sizes (known_in table.new) visit.now.slot (Some state.old) (insn_at visit.now.program visit.now.slot)) }
-    ensures region { IfOk result (λ region. region ≡ accessed_at (Some state.old) (insn_at visit.now.program visit.now.slot)) }
-    ensures extended { IsExtendedAfter visit.now table.old table.new }
-    ensures more { IsMore lowered.old lowered.new }
-{
-    match visit.insn() {
-        Some(insn) => {
-            let region = accessed(state, &insn);
-            flow(visit, table, lowered, state, &insn)?;
-            Ok(region)
-        }
-        None => unreachable!(),
-    }
-}
 
 /// At the head of a loop, raises what is known there to what stands for every pass.
 fn enter(
     visit: &Visit,
-    table: &mut Table,
+    table: &mut Table<'_>,
     lowered: &Lowered,
     state: &mut State,
 ) -> Result<(), Refused>
+    requires table { IsTableOf visit.now table.old }
     requires known { known_in table.old visit.now.slot ≡ Some state.old }
-    requires inside { visit.now.slot < length table.old }
-    requires placed { IsPlaced visit.now.program table.old }
+    requires inside { visit.now.slot < length visit.now.program.slots }
     ensures known { OnOk result (known_in table.new visit.now.slot ≡ Some state.new) }
     ensures heads { OnOk result (AreHeadsAt visit.now.program visit.now.slot (Some state.new)) }
-    ensures extended { IsExtended visit.now.program visit.now.slot table.old table.new }
+    ensures extended { IsExtended visit.now.slot table.old table.new }
 {
     order_of_states();
+    table.stands_at_targets();
     match visit.head() {
         Some(body) => {
             state.stands_whole();
@@ -70,29 +49,81 @@ fn enter(
     }
 }
 
-/// Visits a slot. One at which nothing is known is skipped, since no run comes there. The state is room
-/// for what is known there.
-fn visit_slot(
+/// Comes to a slot: with the running state, if one stands there, else with what is known at the slot, which is
+/// written to the state. Tells whether anything is known.
+fn arrive(
     visit: &Visit,
-    table: &mut Table,
+    table: &mut Table<'_>,
+    lowered: &Lowered,
+    state: &mut State,
+    runs: bool,
+) -> Result<bool, Refused>
+    requires table { IsTableOf visit.now table.old }
+    requires inside { visit.now.slot < length visit.now.program.slots }
+    requires plain { IsTrue runs → IsKept visit.now.program visit.now.slot → ⊥ }
+    ensures known { IfOk result (λ known. visited_with runs state.old table.new visit.now.slot ≡ (if known then Some state.new else None)) }
+    ensures heads { OnOk result (AreHeadsAt visit.now.program visit.now.slot (visited_with runs state.old table.new visit.now.slot)) }
+    ensures extended { IsExtended visit.now.slot table.old table.new }
+{
+    order_of_states();
+    visit.stands_formed();
+    if runs {
+        return Ok(true);
+    }
+    if !table.read(visit.slot(), state) {
+        return Ok(false);
+    }
+    enter(visit, table, lowered, state)?;
+    Ok(true)
+}
+
+/// Visits the instruction at a slot. One at which nothing is known is skipped, since no run comes there. The
+/// state is the running one where `runs` says so, before and after. The result is the region that the
+/// instruction accesses.
+fn visit_insn(
+    visit: &Visit,
+    table: &mut Table<'_>,
     lowered: &mut Lowered,
     state: &mut State,
+    runs: &mut bool,
+    insn: &Insn,
 ) -> Result<Option<Region>, Refused>
-    requires size { IsTableOf visit.now table.old }
-    requires placed { IsPlaced visit.now.program table.old }
-    requires inside { visit.now.slot < length table.old }
-    ensures permitted { OnOk result (IsSettled lowered.old lowered.new → IsPermittedAt visit.now.sizes (known_in table.new) visit.now.slot (known_in table.new visit.now.slot) (insn_at visit.now.program visit.now.slot)) }
-    ensures region { IfOk result (λ region. region ≡ accessed_at (known_in table.new visit.now.slot) (insn_at visit.now.program visit.now.slot)) }
-    ensures heads { OnOk result (AreHeadsAt visit.now.program visit.now.slot (known_in table.new visit.now.slot)) }
-    ensures extended { IsExtended visit.now.program visit.now.slot table.old table.new }
+    requires table { IsTableOf visit.now table.old }
+    requires begins { insn_at visit.now.program visit.now.slot ≡ Some insn.now }
+    requires plain { IsTrue runs.old → IsKept visit.now.program visit.now.slot → ⊥ }
+    ensures visit { IfOk result (λ region. IsInsnVisit visit.now table.old table.new runs.old runs.new state.old state.new (IsSettled lowered.old lowered.new) region insn.now) }
+    ensures table { IsTableOf visit.now table.new }
     ensures more { IsMore lowered.old lowered.new }
 {
     order_of_states();
-    if table.read(visit.slot(), state) {
-        enter(visit, table, lowered, state)?;
-        visit_with(visit, table, lowered, state)
-    } else {
-        Ok(None)
+    visit.stands_formed();
+    let known = arrive(visit, table, lowered, state, *runs)?;
+    if !known {
+        return Ok(None);
+    }
+    let region = accessed(state, insn);
+    let goes_on = flow(visit, table, lowered, state, insn)?;
+    *runs = goes_on;
+    Ok(region)
+}
+
+/// Visits a slot. A second slot is passed by.
+fn visit_slot(
+    visit: &Visit,
+    table: &mut Table<'_>,
+    lowered: &mut Lowered,
+    state: &mut State,
+    runs: &mut bool,
+) -> Result<Option<Region>, Refused>
+    requires table { IsTableOf visit.now table.old }
+    requires plain { IsTrue runs.old → IsKept visit.now.program visit.now.slot → ⊥ }
+    ensures visit { IfOk result (λ region. IsVisit visit.now table.old table.new runs.old runs.new state.old state.new (IsSettled lowered.old lowered.new) region (insn_at visit.now.program visit.now.slot)) }
+    ensures table { IsTableOf visit.now table.new }
+    ensures more { IsMore lowered.old lowered.new }
+{
+    match visit.insn() {
+        Some(insn) => visit_insn(visit, table, lowered, state, runs, &insn),
+        None => Ok(None),
     }
 }
 
@@ -103,26 +134,30 @@ fn visit_slot(
 ///
 /// The first refusal that is met, with its slot.
 pub(crate) fn pass(
-    table: &mut Table,
+    table: &mut Table<'_>,
     lowered: &mut Lowered,
     image: &Image,
     sizes: &MapSizes,
     regions: &mut Vec<Option<Region>>,
 ) -> Result<(), Refused>
     requires formed { IsFormed image.now }
-    requires entered { AreEntered image.now table.old }
+    requires table { table.old.program ≡ image.now }
+    requires entered { AreEntered image.now (known_in table.old) }
     requires regions { length regions.old.items ≡ length image.now.slots }
     ensures judged { OnOk result (IsSettled lowered.old lowered.new → IsJudged image.now sizes.now regions.new.items) }
-    ensures size { length table.new ≡ length image.now.slots }
+    ensures table { table.new.program ≡ image.now }
     ensures regions { length regions.new.items ≡ length image.now.slots }
     ensures more { IsMore lowered.old lowered.new }
 {
     order_of_states();
     let mut state = State::entry();
+    let mut runs = false;
     for slot in 0..image.slots() {
         let visit = Visit::new(image, sizes, slot);
-        let region = visit_slot(&visit, table, lowered, &mut state)?;
+        let region = visit_slot(&visit, table, lowered, &mut state, &mut runs)?;
         regions[usize::from(slot)] = region;
+        table.stands_at_targets();
+        state.stands_whole();
     }
     Ok(())
 }

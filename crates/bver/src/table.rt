@@ -1,12 +1,17 @@
-//! What is known at each slot of a program.
+//! What is known at the slots to which a program jumps.
 
-ghost use Rattle.std.specs.Prelude.{◌≡◌, ◌≢◌, ◌<◌, ◌↔◌, ℕ, IsTrue, IfOk, IfSome, Some, None, length, if◌then◌else◌};
+ghost use Rattle.std.specs.Prelude.{◌≡◌, ◌≢◌, ◌<◌, ◌≤◌, ◌↔◌, ℕ, IsTrue, IfOk, IfSome, Some, None, length, if◌then◌else◌};
+ghost use Rattle.bpf.specs.Program.{IsProgram};
 ghost use Rattle.bver.specs.Justified.{IsCovered, IsCoveredIfAny};
 ghost use Rattle.absdom.specs.State.{IsWhole};
 ghost use Rattle.bver.specs.Lowered.{is_number, is_number_at};
-ghost use Rattle.bver.specs.Visit.{AreWhole, IsGrown, IsLeast, known_in};
+ghost use Rattle.bver.specs.Targets.{IsKept};
+ghost use Rattle.bver.specs.Table.{AreEntries, HasEntry, carried, known_in, entry_of};
+ghost use Rattle.bver.specs.Visit.{AreWhole, IsGrown, IsLeast};
 
+use crate::targets::{NOWHERE, kept_slots, number};
 use absdom::{AbsKind, State, join_is_least, order_of_states};
+use bpf::Image;
 use bpf_insn::Register;
 use std::alloc::{AllocError, Global};
 use std::marker::Model;
@@ -106,92 +111,164 @@ impl Known {
     }
 }
 
-/// What is known at each slot. Nothing is known where no edge leads that was followed.
+/// What is known at slot 0 and at each slot to which the program jumps, by rising slot. There is no entry for
+/// any other slot. Nothing is known where no edge leads that was followed.
 #[derive(Drop)]
-pub(crate) struct Table {
-    states: Vec<Known>,
+pub(crate) struct Table<'a> {
+    image: &'a Image,
+    /// The place of each slot's entry, and [`NOWHERE`] for a slot that has none.
+    places: Vec<u16>,
+    entries: Vec<Known>,
 }
 
-impl Model for Table {
-    ghost use Rattle.std.specs.Prelude.{List, Option};
-    ghost use Rattle.absdom.specs.State.{StateValue};
+impl<'a> Model for Table<'a> {
+    ghost use Rattle.bver.specs.Table.{TableValue, AreEntries};
 
-    ghost Value = { List (Option StateValue) };
+    ghost Value = { TableValue };
 
-    ghost view = { λ t. t.states.items };
+    ghost view = { λ t. record { program = t.image.now; places = t.places.items; entries = t.entries.items } };
+
+    ghost invariant = { λ t. AreEntries (record { program = t.image.now; places = t.places.items; entries = t.entries.items }) };
 }
 
-impl Table {
-    /// A table of so many slots at which nothing is known. Memory is asked for once.
-    pub(crate) fn new(alloc: Global, slots: u16) -> Result<Table, AllocError>
-        ensures size { IfOk result (λ table. length table ≡ slots) }
+impl<'a> Table<'a> {
+    /// The table of a program at which nothing is known. Memory is asked for three times.
+    pub(crate) fn new(alloc: Global, image: &'a Image) -> Result<Table<'a>, AllocError>
+        ensures program { IfOk result (λ table. table.program ≡ image.now) }
         ensures nothing { IfOk result (λ table. (slot : ℕ) → known_in table slot ≡ None) }
     {
+        let kept = kept_slots(alloc, image)?;
+        let mut places = vec![in alloc; NOWHERE; kept.len()]?;
+        let count = number(&kept, &mut places);
         Ok(Table {
-            states: vec![in alloc; Known::nothing(); usize::from(slots)]?,
+            image,
+            places,
+            entries: vec![in alloc; Known::nothing(); usize::from(count)]?,
         })
+    }
+
+    /// A law and no work: there is an entry for slot 0 and for each slot to which the program jumps, and for
+    /// no other.
+    pub(crate) fn stands_at_targets(&self)
+        ensures entries { AreEntries self.now }
+        ensures program { IsProgram self.now.program }
+    {
+        let _ = self.image.slots();
+        let _ = &self.entries;
+    }
+
+    /// The place of a slot's entry, if it has one.
+    fn entry(&self, slot: u16) -> Option<usize>
+        requires { slot < length self.now.program.slots }
+        ensures { result ≡ entry_of self.now slot }
+    {
+        let place = usize::from(self.places[usize::from(slot)]);
+        if place < self.entries.len() {
+            Some(place)
+        } else {
+            None
+        }
     }
 
     /// Writes what is known at a slot to the state, and tells whether anything is.
     pub(crate) fn read(&self, slot: u16, state: &mut State) -> bool
-        requires { slot < length self.now }
-        ensures { known_in self.now slot ≡ (if result then Some state.new else None) }
+        requires { slot < length self.now.program.slots }
+        ensures known { known_in self.now slot ≡ (if result then Some state.new else None) }
     {
-        self.states[usize::from(slot)].read(state)
+        match self.entry(slot) {
+            Some(place) => self.entries[place].read(state),
+            None => false,
+        }
     }
 
-    /// Follows an edge to a slot: what is known there is from now on the least that covers the state
-    /// too.
+    /// Follows a jump to a slot: what is known there is from now on the least that covers the state too.
     pub(crate) fn follow(&mut self, slot: u16, state: &State)
-        requires { slot < length self.old }
+        requires inside { slot < length self.old.program.slots }
+        requires kept { IsKept self.old.program slot }
+        ensures program { self.new.program ≡ self.old.program }
         ensures covered { IsCovered state.now (known_in self.new slot) }
         ensures least { IsLeast (known_in self.old slot) state.now (known_in self.new slot) }
-        ensures grown { IsGrown self.old self.new }
+        ensures grown { IsGrown (known_in self.old) (known_in self.new) }
         ensures others { (k : ℕ) → k ≢ slot → known_in self.new k ≡ known_in self.old k }
         ensures whole { IfSome (known_in self.new slot) IsWhole }
-        ensures all_whole { AreWhole self.old → AreWhole self.new }
+        ensures all_whole { AreWhole (known_in self.old) → AreWhole (known_in self.new) }
     {
         order_of_states();
-        self.states[usize::from(slot)].include(state);
+        match self.entry(slot) {
+            Some(place) => self.entries[place].include(state),
+            None => unreachable!(),
+        }
+    }
+
+    /// Goes on to the next slot: the state stays the running one there, and the result is true. Where the
+    /// slot is one to which the program jumps, the state is joined into its entry, and the result is false.
+    pub(crate) fn go_on(&mut self, slot: u16, state: &State) -> bool
+        requires inside { slot < length self.old.program.slots }
+        ensures program { self.new.program ≡ self.old.program }
+        ensures covered { IsCovered state.now (carried self.new result slot state.now slot) }
+        ensures plain { IsTrue result → IsKept self.new.program slot → ⊥ }
+        ensures grown { IsGrown (known_in self.old) (known_in self.new) }
+        ensures others { (k : ℕ) → k ≢ slot → known_in self.new k ≡ known_in self.old k }
+        ensures all_whole { AreWhole (known_in self.old) → AreWhole (known_in self.new) }
+    {
+        order_of_states();
+        match self.entry(slot) {
+            Some(place) => {
+                self.entries[place].include(state);
+                false
+            }
+            None => true,
+        }
     }
 
     /// Forgets what is known at each slot.
     pub(crate) fn forget(&mut self)
-        ensures size { length self.new ≡ length self.old }
+        ensures program { self.new.program ≡ self.old.program }
         ensures nothing { (slot : ℕ) → known_in self.new slot ≡ None }
     {
-        for slot in 0..self.states.len() {
-            self.states[slot].forget();
+        for place in 0..self.entries.len() {
+            self.entries[place].forget();
         }
     }
 
     /// Puts a state that covers what is known at a slot in its place.
     pub(crate) fn raise(&mut self, slot: u16, state: &State)
-        requires inside { slot < length self.old }
+        requires inside { slot < length self.old.program.slots }
+        requires kept { IsKept self.old.program slot }
         requires covers { IsCoveredIfAny (known_in self.old slot) (Some state.now) }
+        ensures program { self.new.program ≡ self.old.program }
         ensures known { known_in self.new slot ≡ Some state.now }
-        ensures grown { IsGrown self.old self.new }
+        ensures grown { IsGrown (known_in self.old) (known_in self.new) }
         ensures others { (k : ℕ) → k ≢ slot → known_in self.new k ≡ known_in self.old k }
-        ensures all_whole { AreWhole self.old → AreWhole self.new }
+        ensures all_whole { AreWhole (known_in self.old) → AreWhole (known_in self.new) }
     {
         order_of_states();
         state.stands_whole();
-        self.states[usize::from(slot)].put(state);
+        match self.entry(slot) {
+            Some(place) => self.entries[place].put(state),
+            None => unreachable!(),
+        }
     }
 
     /// Whether what is known at a slot covers the state.
     pub(crate) fn covers(&self, slot: u16, state: &State) -> bool
-        requires { slot < length self.now }
+        requires { slot < length self.now.program.slots }
         ensures { IsTrue result ↔ IsCovered state.now (known_in self.now slot) }
     {
-        self.states[usize::from(slot)].covers(state)
+        match self.entry(slot) {
+            Some(place) => self.entries[place].covers(state),
+            None => false,
+        }
     }
 
     /// Whether a number is known of the register at a slot.
     pub(crate) fn is_number(&self, slot: u16, register: Register) -> bool
-        requires { slot < length self.now }
+        requires { slot < length self.now.program.slots }
         ensures { result ≡ is_number_at (known_in self.now slot) register }
     {
-        self.states[usize::from(slot)].is_number(register)
+        match self.entry(slot) {
+            Some(place) => self.entries[place].is_number(register),
+            None => false,
+        }
     }
 }

@@ -6,6 +6,7 @@ ghost use Rattle.machine.specs.Step.{insn_at};
 ghost use Rattle.bver_form.specs.Form.{IsFormed};
 ghost use Rattle.bver_form.specs.Jumps.{first_slot, is_loop_back, target};
 ghost use Rattle.bver.specs.Heads.{IsDeclared};
+ghost use Rattle.bver.specs.Targets.{IsKept};
 ghost use Rattle.bver.specs.Visit.{VisitValue};
 
 use crate::body::Body;
@@ -102,6 +103,16 @@ impl<'a> Visit<'a> {
             }
         }
         None
+    }
+
+    /// A law and no work: the program has its form, and a loop that has its head at the slot jumps back to it.
+    pub(crate) fn stands_formed(&self)
+        ensures formed { IsFormed self.now.program }
+        ensures program { IsProgram self.now.program }
+        ensures heads { (IsKept self.now.program self.now.slot → ⊥) → All (λ l. l.head ≢ self.now.slot) self.now.program.loops }
+    {
+        let _ = self.image.slots();
+        let _ = self.slot();
     }
 
     /// The declared loop whose back is the slot, and its head that one.

@@ -1,11 +1,16 @@
-use Rattle.std.proofs.Common.{rules, ◌≡◌, ◌≤◌, Some, sym, subst, ℕ}
+use Rattle.std.proofs.Common.{rules, ◌≡◌, Some, subst, ℕ}
 use Rattle.bpf.specs.Program.{Program}
 use Rattle.absdom.specs.State.{IsWhole}
 use Rattle.bver.specs.Heads.{AreHeadsAt, IsDeclared, IsRaised, IsWithinBound}
 use Rattle.bver.specs.Justified.{IsHead}
+use Rattle.bver.proofs.Keeping.{known_kept}
 use Rattle.bver.proofs.Raising.{raised_above, raised_head}
 use Rattle.bver.proofs.Visiting.{heads_of}
 use Rattle.bver.proofs.passes.enter.Goals as goal
+
+pub raise-requires-in-Some-clause-kept : goal.raise-requires-in-Some-clause-kept
+raise-requires-in-Some-clause-kept c =
+    rw c.slot.ensures.slot (known_kept c.args.table.now c.args.visit.now.slot c.args.state.now c.stands_at_targets.ensures.entries c.requires.known)
 
 pub raise-requires-in-Some-clause-covers : goal.raise-requires-in-Some-clause-covers
 raise-requires-in-Some-clause-covers c =

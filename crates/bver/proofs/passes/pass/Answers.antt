@@ -1,39 +1,55 @@
-use Rattle.std.proofs.Common.{rules, ◌≡◌, ◌<◌, ◌≤◌, ◌+◌, length, ◌∙◌, arith}
+use Rattle.std.proofs.Common.{rules, ◌≡◌, ◌<◌, length, ◌∙◌, arith, refl}
 use Rattle.std.proofs.Math.ListN.{length-set}
 use Rattle.machine.specs.Step.{insn_at}
-use Rattle.bver.specs.Heads.{AreHeadsAt}
-use Rattle.bver.specs.Justified.{IsPermittedAt, accessed_at}
 use Rattle.bver.specs.Lowered.{IsMore, IsSettled}
-use Rattle.bver.specs.Visit.{IsExtended, known_in}
-use Rattle.bver.proofs.Visiting.{permitted_next, visited_next, judged}
+use Rattle.bver.specs.Visit.{IsVisit, VisitValue}
+use Rattle.bver.proofs.Passing.{passing_none, passing_plain, passing_slot, visit_at, visit_of, visited_program}
+use Rattle.bver.proofs.Visiting.{judged}
 use Rattle.bver.proofs.passes.pass.Goals as goal
+
+pub visit_slot-requires-clause-plain : goal.visit_slot-requires-clause-plain
+visit_slot-requires-clause-plain c =
+    rw (c.new-visit.ensures.program, c.new-visit.ensures.slot)
+    (passing_plain c.args.image.now c.args.sizes.now c.loop-slot.table c.loop-slot.runs c.loop-slot.state c.loop-slot.regions.items (IsSettled c.args.lowered.now c.loop-slot.lowered) c.loop-slot.slot c.slots-slot-end.ensures.program c.loop-slot.invariant.0)
+
+pub loop-slot-init : goal.loop-slot-init
+loop-slot-init c =
+    (passing_none c.order_of_states.ensures.reflexive c.args.image.now c.args.sizes.now c.args.table.now c.entry-state.result c.args.regions.now.items (IsSettled c.args.lowered.now c.args.lowered.now) c.requires.entered c.entry-state.ensures.whole, c.requires.table, omega arith, c.requires.regions)
 
 pub loop-slot-preserved : goal.loop-slot-preserved
 loop-slot-preserved c =
     let p = c.args.image.now in
+    let sizes = c.args.sizes.now in
     let slot = c.loop-slot.slot in
     let old = c.loop-slot.table in
     let new = c.visit_slot.new.table in
     let before = c.loop-slot.lowered in
     let after = c.visit_slot.new.lowered in
-    let permitted : IsSettled before after → IsPermittedAt c.args.sizes.now (known_in new) slot (known_in new slot) (insn_at p slot) = search rules in
-    let accessed : c.in_ok-region.region ≡ accessed_at (known_in new slot) (insn_at p slot) = search rules in
-    let extended : IsExtended p slot old new = search rules in
-    let heads : AreHeadsAt p slot (known_in new slot) = search rules in
+    let was = c.loop-slot.runs in
+    let runs = c.visit_slot.new.runs in
+    let state = c.loop-slot.state in
+    let left = c.visit_slot.new.state in
+    let region = c.in_ok-region.region in
+    let v : VisitValue = c.new-visit.result in
+    let visit : IsVisit v old new was runs state left (IsSettled before after) region (insn_at v.program v.slot) = search rules in
     let more : IsMore before after = search rules in
     let earlier : IsMore c.args.lowered.now before = c.loop-slot.invariant.2 in
+    let own : old.program ≡ p = c.loop-slot.invariant.1 in
     let size : length c.loop-slot.regions.items ≡ length p.slots = c.loop-slot.invariant.3 in
     let inside : slot < length c.loop-slot.regions.items = omega arith in
+    let same = visit_of v p sizes slot c.new-visit.ensures.program c.new-visit.ensures.sizes c.new-visit.ensures.slot in
+    let here = visit_at v p sizes slot old new was runs state left (IsSettled before after) region same visit in
     rw c.from.ensures (
-      visited_next c.order_of_states.ensures.transitive p old new c.loop-slot.regions.items slot c.in_ok-region.region c.loop-slot.invariant.0 extended heads accessed inside,
-      λ settled. permitted_next c.order_of_states.ensures.transitive p c.args.sizes.now old new slot (c.loop-slot.invariant.1 (omega (arith, settled, more, earlier))) extended (permitted (omega (arith, settled, more, earlier))),
+      passing_slot c.order_of_states.ensures.reflexive c.order_of_states.ensures.transitive p sizes old new was runs state left c.loop-slot.regions.items region (IsSettled c.args.lowered.now before) (IsSettled before after) (IsSettled c.args.lowered.now after) slot (insn_at p slot) refl c.slots-slot-end.ensures.program own c.stands_at_targets.ensures.entries c.stands_whole.ensures (λ settled. omega (arith, settled, more, earlier)) (λ settled. omega (arith, settled, more, earlier)) inside here c.loop-slot.invariant.0,
+      visited_program v old new was runs state left (IsSettled before after) region (insn_at v.program v.slot) visit ∙ own,
       omega (arith, more, earlier),
-      length-set c.loop-slot.regions.items slot c.in_ok-region.region ∙ size,
+      length-set c.loop-slot.regions.items slot region ∙ size,
     )
 
 pub returns-clause-judged : goal.returns-clause-judged
 returns-clause-judged c =
     let p = c.args.image.now in
     let last : c.loop-slot.slot ≡ length p.slots = omega arith in
+    let h = c.loop-slot.invariant.0 in
     λ settled.
-    judged p c.args.sizes.now c.loop-slot.table c.loop-slot.regions.items c.slots-slot-end.ensures.program c.requires.formed c.loop-slot.invariant.3 (rw last at c.loop-slot.invariant.0) (rw last at (c.loop-slot.invariant.1 settled))
+    judged p c.args.sizes.now h.known c.loop-slot.regions.items c.slots-slot-end.ensures.program c.requires.formed c.loop-slot.invariant.3 (rw last at h.visited) (rw last at (h.permitted settled))

@@ -1,10 +1,10 @@
 use Rattle.std.proofs.Common.{◌≡◌, length}
 use Rattle.bver.specs.Lowered.{IsMore, IsSettled}
-use Rattle.bver.specs.Visit.{AreVisited, ArePermitted}
+use Rattle.bver.proofs.Passing.{IsPassing}
 use Rattle.bver.proofs.passes.pass.Given as goal
 
+-- the slots so far were visited, with what is known in the table and of the running state
 abbrev pub invariant-loop-slot : goal.invariant-loop-slot
 invariant-loop-slot l =
-    AreVisited l.image l.table l.regions.items l.slot
-    × (IsSettled l.fn.lowered l.lowered → ArePermitted l.image l.sizes l.table l.slot)
-    × IsMore l.fn.lowered l.lowered × (length l.regions.items ≡ length l.image.slots)
+    IsPassing l.image l.sizes l.table l.runs l.state l.regions.items (IsSettled l.fn.lowered l.lowered) l.slot
+    × (l.table.program ≡ l.image) × IsMore l.fn.lowered l.lowered × (length l.regions.items ≡ length l.image.slots)

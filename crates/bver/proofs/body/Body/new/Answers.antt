@@ -1,4 +1,4 @@
-use Rattle.std.proofs.Common.{rules, ◌≡◌, ap, sym, ◌∙◌, List}
+use Rattle.std.proofs.Common.{◌≡◌, ap, sym, ◌∙◌, List}
 use Rattle.std.specs.Prelude.{slice_index_or}
 use Rattle.bpf.specs.declared.loops.Loop.{Loop}
 use Rattle.bver.proofs.Raising.{any_default, declared_at}

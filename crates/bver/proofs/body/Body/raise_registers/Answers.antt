@@ -1,7 +1,7 @@
-use Rattle.std.proofs.Common.{rules, ◌≡◌, ◌≤◌, ◌+◌}
+use Rattle.std.proofs.Common.{rules, ◌≡◌, ◌≤◌}
 use Rattle.absdom.specs.State.{kind_at, with_kind}
 use Rattle.bver.specs.Heads.{IsRaisedKind}
-use Rattle.bver.proofs.Raising.{IsRaising, raising_next}
+use Rattle.bver.proofs.Raising.{raising_next}
 use Rattle.bver.proofs.body.Body.raise_registers.Goals as goal
 
 pub loop-number-preserved : goal.loop-number-preserved

@@ -1,7 +1,7 @@
 use Rattle.std.proofs.Common.{◌≡◌, ◌<◌, ℕ, None, length}
-use Rattle.bver.specs.Visit.{known_in}
+use Rattle.std.specs.Prelude.{slice_index_or}
 use Rattle.bver.proofs.table.Table.forget.Given as goal
 
-abbrev pub invariant-loop-slot : goal.invariant-loop-slot
-invariant-loop-slot l =
-    (length l.self-inside.states.items ≡ length l.fn.self) × ((k : ℕ) → k < l.slot → known_in l.self-inside.states.items k ≡ None)
+abbrev pub invariant-loop-place : goal.invariant-loop-place
+invariant-loop-place l =
+    (l.self-inside.image.now ≡ l.fn.self.program) × (l.self-inside.places.items ≡ l.fn.self.places) × (length l.self-inside.entries.items ≡ length l.fn.self.entries) × ((k : ℕ) → k < l.place → slice_index_or l.self-inside.entries.items k None ≡ None)

@@ -1,0 +1,376 @@
+-- Which slots have an entry in the table, and what is known there.
+use Rattle.std.proofs.Common.{◌≡◌, ◌≢◌, ℕ, zero, suc, ◌+◌, ◌-◌, ◌<◌, ◌≤◌, ◌⊎◌, inl, inr, ℤ, pos, negsuc, ◌+ℤ◌, Bool, true, false, Option, None, Some, List, length, refl, sym, ap, subst, ◌∙◌, arith, get_or-set_same, get_or-set_other}
+use Rattle.std.specs.Prelude.{slice_index_or, slice_set, All, IfSome, IsSome}
+use Rattle.std.proofs.lemmas.Bool.{cases_eq, cases_lt, false≢true}
+use Rattle.std.proofs.lemmas.Bool.Decides.{nat_tests}
+use Rattle.std.proofs.lemmas.Int.{ints}
+use Rattle.std.proofs.lemmas.List.{get_or_default, get_or_past}
+use Rattle.std.proofs.Math.ListN.{length-set}
+use Rattle.bpf.specs.declared.loops.Loop.{Loop}
+use Rattle.bpf.specs.Program.{Program, IsProgram}
+use Rattle.bpf_insn.specs.declared.insn.Insn.{Insn}
+use Rattle.machine.specs.Step.{insn_at}
+use Rattle.absdom.specs.State.{StateValue, IsWhole}
+use Rattle.bver_form.specs.Form.{IsFormed}
+use Rattle.bver_form.specs.Jumps.{IsFirstSlot, IsJump, first_slot, jump_distance, target}
+use Rattle.bver_form.specs.Loops.{IsLoopFormed, back_jump}
+use Rattle.bver.specs.Justified.{IsCoveredIfAny}
+use Rattle.bver.specs.Table.{TableValue, AreEntries, HasEntry, IsNumbered, IsNumbering, entry_of, known_in, nowhere, place_at}
+use Rattle.bver.specs.Visit.{AreWhole}
+use Rattle.absdom.specs.Laws.{BelowIsReflexive}
+use Rattle.bver.proofs.Covering.{covers_itself}
+use Rattle.bver.specs.Targets.{AreKept, IsKept, IsMarked, JumpsTo, landing_by, landing_from}
+use Rattle.bver.proofs.Counters.{loop_in}
+use Rattle.bver.proofs.Visiting.{begins_first, lands_first}
+
+-- ---- where jumps lead
+
+-- a jump leads to where an instruction begins
+pub jumps_first : (p : Program) (from slot : ℕ) (o : Option Insn) → landing_from p from o ≡ Some slot → IsSome (insn_at p slot)
+jumps_first p from slot None is = absurd cc
+jumps_first p from slot (Some insn) is = by_distance (jump_distance insn) is
+  where
+    by_distance : (d : Option ℤ) → landing_by p from d ≡ Some slot → IsSome (insn_at p slot)
+    by_distance None is = absurd cc
+    by_distance (Some distance) is = lands_first p (target from distance) slot is
+
+-- where a jump leads is kept
+pub kept_by : (p : Program) (from landing : ℕ) (z : ℤ) → landing_from p from (insn_at p from) ≡ first_slot p z → first_slot p z ≡ Some landing → IsKept p landing
+kept_by p from landing z leads is = inr (record { from = from; jumps = leads ∙ is })
+
+-- an instruction begins inside the code
+pub begins_inside : (p : Program) (slot : ℕ) → IsSome (insn_at p slot) → slot < length p.slots
+begins_inside p slot some =
+    elim (cases_lt slot (length p.slots)) [
+      | inl below ↦ below
+      | inr past ↦ absurd (false≢true (subst (λ (o : Option Insn). IsSome o) (get_or_past p.slots slot None past) some))
+    ]
+
+pub lands_inside : (p : Program) (z : ℤ) (slot : ℕ) → first_slot p z ≡ Some slot → slot < length p.slots
+lands_inside p z slot is = begins_inside p slot (lands_first p z slot is)
+
+-- ---- the marks of the slots that are kept
+
+-- slot 0 and the targets of the slots before one are marked, and no other
+pub record AreMarked (p : Program) (marks : List Bool) (upto : ℕ) : Type 0 where
+  pub first : IsMarked marks 0
+  pub all : (from slot : ℕ) → from < upto → JumpsTo p from slot → IsMarked marks slot
+  pub only : (slot : ℕ) → IsMarked marks slot → IsKept p slot
+
+pub marked_first : (p : Program) (marks : List Bool) → 0 < length marks → ((k : ℕ) → slice_index_or marks k false ≡ false) → AreMarked p (slice_set marks 0 true) 0
+marked_first p marks some none = record {
+  first = get_or-set_same marks 0 true false some;
+  all = λ from slot below jumps. absurd (omega (arith, below));
+  only = λ slot marked. by_slot slot marked;
+}
+  where
+    by_slot : (slot : ℕ) → IsMarked (slice_set marks 0 true) slot → IsKept p slot
+    by_slot zero marked = inl refl
+    by_slot (suc slot) marked =
+        absurd (false≢true (sym (get_or-set_other marks 0 (suc slot) true false (λ same. omega (arith, same)) ∙ none (suc slot)) ∙ marked))
+
+pub marked_next : (p : Program) (old new : List Bool) (upto : ℕ) → AreMarked p old upto → ((k : ℕ) → IsMarked old k → IsMarked new k) → ((k : ℕ) → JumpsTo p upto k → IsMarked new k) → ((k : ℕ) → IsMarked new k → IsMarked old k ⊎ JumpsTo p upto k) → AreMarked p new (upto + 1)
+marked_next p old new upto h stays marks only = record {
+  first = stays 0 h.first;
+  all = λ from slot below jumps.
+      elim (cases_lt from upto) [
+        | inl earlier ↦ stays slot (h.all from slot earlier jumps)
+        | inr past ↦
+            let here : from ≡ upto = omega (arith, past, below) in
+            marks slot (subst (λ (f : ℕ). JumpsTo p f slot) here jumps)
+      ];
+  only = λ slot marked. elim (only slot marked) [ inl was ↦ h.only slot was | inr jumps ↦ inr (record { from = upto; jumps = jumps }) ];
+}
+
+-- an instruction that jumps begins in the code
+jumps_below : (p : Program) (from slot : ℕ) → JumpsTo p from slot → from < length p.slots
+jumps_below p from slot jumps =
+    elim (cases_lt from (length p.slots)) [
+      | inl below ↦ below
+      | inr past ↦
+          let none : insn_at p from ≡ None = get_or_past p.slots from None past in
+          absurd (no_landing (subst (λ (o : Option Insn). landing_from p from o ≡ Some slot) none jumps))
+    ]
+  where
+    no_landing : landing_from p from None ≡ Some slot → ⊥
+    no_landing is = cc
+
+pub marked_all : (p : Program) (marks : List Bool) → AreMarked p marks (length p.slots) → AreKept p marks
+marked_all p marks h = record {
+  all = λ slot kept.
+      elim kept [
+        | inl zero_is ↦ subst (λ (k : ℕ). IsMarked marks k) (sym zero_is) h.first
+        | inr target ↦ h.all target.from slot (jumps_below p target.from slot target.jumps) target.jumps
+      ];
+  only = h.only;
+}
+
+-- ---- the numbers of the slots that are kept
+
+pub numbering_none : (marks : List Bool) (places : List ℕ) → length places ≡ length marks → ((k : ℕ) → place_at places k ≡ nowhere) → IsNumbering marks places 0 0
+numbering_none marks places size nothing = record {
+  size = size;
+  few = omega arith;
+  all = λ slot below marked. absurd (omega (arith, below));
+  only = λ slot below. absurd (omega (arith, below));
+  either = λ slot. inr (nothing slot);
+  rest = λ slot past. nothing slot;
+  rising = λ a b order below under. absurd (omega (arith, below));
+}
+
+pub numbering_skip : (marks : List Bool) (places : List ℕ) (count upto : ℕ) → (IsMarked marks upto → ⊥) → IsNumbering marks places count upto → IsNumbering marks places count (upto + 1)
+numbering_skip marks places count upto unmarked h = record {
+  size = h.size;
+  few = omega (arith, h.few);
+  all = λ slot below marked.
+      elim (cases_lt slot upto) [
+        | inl earlier ↦ h.all slot earlier marked
+        | inr past ↦ absurd (unmarked (subst (λ (k : ℕ). IsMarked marks k) (omega (arith, past, below)) marked))
+      ];
+  only = h.only;
+  either = h.either;
+  rest = λ slot past. h.rest slot (omega (arith, past));
+  rising = h.rising;
+}
+
+pub numbering_next : (marks : List Bool) (places : List ℕ) (count upto : ℕ) → upto < length marks → length marks ≤ 512 → IsMarked marks upto → IsNumbering marks places count upto → IsNumbering marks (slice_set places upto count) (count + 1) (upto + 1)
+numbering_next marks places count upto inside few marked h = record {
+  size = length-set places upto count ∙ h.size;
+  few = omega (arith, h.few);
+  all = λ slot below is.
+      elim (cases_lt slot upto) [
+        | inl earlier ↦ rw (other slot (λ same. omega (arith, same, earlier))) (omega (arith, h.all slot earlier is))
+        | inr past ↦ rw (at slot (omega (arith, past, below))) (omega arith)
+      ];
+  only = λ slot below.
+      elim (cases_lt slot upto) [
+        | inl earlier ↦ earlier_only slot earlier (rw (other slot (λ same. omega (arith, same, earlier))) at below)
+        | inr past ↦ elim (cases_lt upto slot) [
+          | inl beyond ↦ absurd (outside slot beyond (rw (other slot (λ same. omega (arith, same, beyond))) at below))
+          | inr here ↦ subst (λ (k : ℕ). IsMarked marks k) (omega (arith, past, here)) marked
+        ]
+      ];
+  either = λ slot.
+      elim (cases_lt slot upto) [
+        | inl earlier ↦ rw (other slot (λ same. omega (arith, same, earlier))) (elim (h.either slot) [ inl low ↦ inl (omega (arith, low)) | inr none ↦ inr none ])
+        | inr past ↦ elim (cases_lt upto slot) [
+          | inl beyond ↦ inr (other slot (λ same. omega (arith, same, beyond)) ∙ h.rest slot (omega (arith, beyond)))
+          | inr here ↦ inl (rw (at slot (omega (arith, past, here))) (omega arith))
+        ]
+      ];
+  rest = λ slot past. other slot (λ same. omega (arith, same, past)) ∙ h.rest slot (omega (arith, past));
+  rising = λ a b order below under.
+      elim (cases_lt b upto) [
+        | inl earlier ↦
+            rw (other a (λ same. omega (arith, same, earlier, order)), other b (λ same. omega (arith, same, earlier)))
+            (h.rising a b order (lower a (omega (arith, order, earlier)) (rw (other a (λ same. omega (arith, same, earlier, order))) at below)) (lower b earlier (rw (other b (λ same. omega (arith, same, earlier))) at under)))
+        | inr past ↦ elim (cases_lt upto b) [
+          | inl beyond ↦ absurd (outside b beyond (rw (other b (λ same. omega (arith, same, beyond))) at under))
+          | inr here ↦
+              let same : b ≡ upto = omega (arith, past, here) in
+              let before : a < upto = omega (arith, order, same) in
+              rw (other a (λ is. omega (arith, is, before)), at b same)
+              (lower a before (rw (other a (λ is. omega (arith, is, before))) at below))
+        ]
+      ];
+}
+  where
+    other : (k : ℕ) → (k ≡ upto → ⊥) → place_at (slice_set places upto count) k ≡ place_at places k
+    other k apart = get_or-set_other places upto k count nowhere apart
+
+    at : (k : ℕ) → k ≡ upto → place_at (slice_set places upto count) k ≡ count
+    at k same = ap (λ (j : ℕ). place_at (slice_set places upto count) j) same ∙ get_or-set_same places upto count nowhere (omega (arith, inside, h.size))
+
+    -- an earlier slot has a place that is below the count, or none
+    lower : (k : ℕ) → k < upto → place_at places k < count + 1 → place_at places k < count
+    lower k earlier below =
+        elim (h.either k) [ inl low ↦ low | inr none ↦ absurd (omega (arith, none, below, h.few, inside, few)) ]
+
+    earlier_only : (k : ℕ) → k < upto → place_at places k < count + 1 → IsMarked marks k
+    earlier_only k earlier below = h.only k (lower k earlier below)
+
+    outside : (k : ℕ) → upto < k → place_at places k < count + 1 → ⊥
+    outside k beyond below = let none : place_at places k ≡ nowhere = h.rest k (omega (arith, beyond)) in omega (arith, none, below, h.few, inside, few)
+
+pub numbered : (marks : List Bool) (places : List ℕ) (count upto : ℕ) → length marks ≤ upto → IsNumbering marks places count upto → IsNumbered marks places count
+numbered marks places count upto all h = record {
+  size = h.size;
+  all = λ slot marked. h.all slot (omega (arith, all, below slot marked)) marked;
+  only = h.only;
+  rising = h.rising;
+}
+  where
+    below : (slot : ℕ) → IsMarked marks slot → slot < length marks
+    below slot marked =
+        elim (cases_lt slot (length marks)) [
+          | inl inside ↦ inside
+          | inr past ↦ absurd (false≢true (sym (get_or_past marks slot false past) ∙ marked))
+        ]
+
+-- a mark that was read
+pub marked_at : (marks : List Bool) (slot : ℕ) (b : Bool) → slot < length marks → b ≡ slice_index_or marks slot b → b ≡ true → IsMarked marks slot
+marked_at marks slot b inside is set = get_or_default marks slot false b inside ∙ sym is ∙ set
+
+pub unmarked_at : (marks : List Bool) (slot : ℕ) (b : Bool) → slot < length marks → b ≡ slice_index_or marks slot b → b ≡ false → IsMarked marks slot → ⊥
+unmarked_at marks slot b inside is clear marked = false≢true (sym clear ∙ is ∙ get_or_default marks slot b false inside ∙ marked)
+
+-- ---- the entries
+
+-- the table of a program, by its marks and their numbers
+pub entries_of : (t : TableValue) (marks : List Bool) → length marks ≡ length t.program.slots → AreKept t.program marks → IsNumbered marks t.places (length t.entries) → AreEntries t
+entries_of t marks size kept numbers = record {
+  size = numbers.size ∙ size;
+  all = λ slot is. numbers.all slot (kept.all slot is);
+  only = λ slot has. kept.only slot (numbers.only slot has);
+  rising = numbers.rising;
+}
+
+-- a table with other entries, as many
+pub entries_same : (t : TableValue) (entries : List (Option StateValue)) → length entries ≡ length t.entries → AreEntries t → AreEntries (record { program = t.program; places = t.places; entries = entries })
+entries_same t entries size h = record {
+  size = h.size;
+  all = λ slot kept. rw size (h.all slot kept);
+  only = λ slot has. h.only slot (rw size at has);
+  rising = λ a b order below under. h.rising a b order (rw size at below) (rw size at under);
+}
+
+-- two slots with entries have two places
+apart_places : (t : TableValue) (a b : ℕ) → AreEntries t → HasEntry t a → HasEntry t b → a ≢ b → place_at t.places a ≢ place_at t.places b
+apart_places t a b h below under apart same =
+    elim (cases_lt a b) [
+      | inl before ↦ omega (arith, same, h.rising a b before below under)
+      | inr past ↦ elim (cases_lt b a) [
+        | inl after ↦ omega (arith, same, h.rising b a after under below)
+        | inr at ↦ apart (omega (arith, past, at))
+      ]
+    ]
+
+-- what is known where an entry was written, and elsewhere
+pub known_there : (t : TableValue) (slot : ℕ) (new : Option StateValue) → HasEntry t slot → slice_index_or (slice_set t.entries (place_at t.places slot) new) (place_at t.places slot) None ≡ new
+known_there t slot new has = get_or-set_same t.entries (place_at t.places slot) new None has
+
+pub known_elsewhere : (t : TableValue) (slot k : ℕ) (new : Option StateValue) → AreEntries t → HasEntry t slot → k ≢ slot → slice_index_or (slice_set t.entries (place_at t.places slot) new) (place_at t.places k) None ≡ known_in t k
+known_elsewhere t slot k new h has apart =
+    elim (cases_lt (place_at t.places k) (length t.entries)) [
+      | inl inside ↦ get_or-set_other t.entries (place_at t.places slot) (place_at t.places k) new None (λ same. apart_places t slot k h has inside (λ is. apart (sym is)) (sym same))
+      | inr past ↦ get_or_past (slice_set t.entries (place_at t.places slot) new) (place_at t.places k) None (omega (arith, past, length-set t.entries (place_at t.places slot) new)) ∙ sym (get_or_past t.entries (place_at t.places k) None past)
+    ]
+
+-- the place of an entry that was found
+entry_is : (t : TableValue) (slot place : ℕ) → Some place ≡ entry_of t slot → (place ≡ place_at t.places slot) × HasEntry t slot
+entry_is t slot place is =
+    elim (cases_lt (place_at t.places slot) (length t.entries)) [
+      | inl inside ↦ (let there : entry_of t slot ≡ Some (place_at t.places slot) = grind (arith, nat_tests, inside) in cc, inside)
+      | inr past ↦ let none : entry_of t slot ≡ None = grind (arith, nat_tests, past) in absurd cc
+    ]
+
+pub entry_none : (t : TableValue) (slot : ℕ) → None ≡ entry_of t slot → HasEntry t slot → ⊥
+entry_none t slot is inside =
+    let there : entry_of t slot ≡ Some (place_at t.places slot) = grind (arith, nat_tests, inside) in
+    cc
+
+-- an entry that was found is written
+pub set_there : (t : TableValue) (slot place : ℕ) (new : Option StateValue) → Some place ≡ entry_of t slot → slice_index_or (slice_set t.entries place new) (place_at t.places slot) None ≡ new
+set_there t slot place new is =
+    let found = entry_is t slot place is in
+    subst (λ (i : ℕ). slice_index_or (slice_set t.entries i new) (place_at t.places slot) None ≡ new) (sym found.0) (known_there t slot new found.1)
+
+pub set_elsewhere : (t : TableValue) (slot place k : ℕ) (new : Option StateValue) → AreEntries t → Some place ≡ entry_of t slot → k ≢ slot → slice_index_or (slice_set t.entries place new) (place_at t.places k) None ≡ known_in t k
+set_elsewhere t slot place k new h is apart =
+    let found = entry_is t slot place is in
+    subst (λ (i : ℕ). slice_index_or (slice_set t.entries i new) (place_at t.places k) None ≡ known_in t k) (sym found.0) (known_elsewhere t slot k new h found.1 apart)
+
+-- what is known grows where an entry that was found is written with what covers it
+pub set_grown : BelowIsReflexive → (t : TableValue) (slot place : ℕ) (new : Option StateValue) → AreEntries t → Some place ≡ entry_of t slot → IsCoveredIfAny (known_in t slot) new → (k : ℕ) → IsCoveredIfAny (known_in t k) (slice_index_or (slice_set t.entries place new) (place_at t.places k) None)
+set_grown reflexive t slot place new h is covers k =
+    elim (cases_eq k slot) [
+      | inl same ↦
+          subst (λ (i : ℕ). IsCoveredIfAny (known_in t i) (slice_index_or (slice_set t.entries place new) (place_at t.places i) None)) (sym same)
+          (subst (λ (o : Option StateValue). IsCoveredIfAny (known_in t slot) o) (sym (set_there t slot place new is)) covers)
+      | inr apart ↦ subst (λ (o : Option StateValue). IsCoveredIfAny (known_in t k) o) (sym (set_elsewhere t slot place k new h is apart)) (covers_itself reflexive (known_in t k))
+    ]
+
+-- a place that was found is inside, so what stands there needs no default
+pub found_there : (t : TableValue) (slot place : ℕ) (old : Option StateValue) → Some place ≡ entry_of t slot → old ≡ slice_index_or t.entries place old → slice_index_or t.entries place None ≡ old
+found_there t slot place old is there =
+    let found = entry_is t slot place is in
+    let inside : place < length t.entries = subst (λ (i : ℕ). i < length t.entries) (sym found.0) found.1 in
+    get_or_default t.entries place None old inside ∙ sym there
+
+-- what covers the entry that was found covers what was known
+pub found_covers : (t : TableValue) (slot place : ℕ) (old new : Option StateValue) → Some place ≡ entry_of t slot → slice_index_or t.entries place None ≡ old → IsCoveredIfAny old new → IsCoveredIfAny (known_in t slot) new
+found_covers t slot place old new is there covers =
+    let found = entry_is t slot place is in
+    subst (λ (o : Option StateValue). IsCoveredIfAny o new) (sym there ∙ ap (λ (i : ℕ). slice_index_or t.entries i None) found.0) covers
+
+pub set_whole : (t : TableValue) (slot place : ℕ) (new : Option StateValue) → AreEntries t → Some place ≡ entry_of t slot → IfSome new IsWhole → AreWhole (known_in t) → (k : ℕ) → IfSome (slice_index_or (slice_set t.entries place new) (place_at t.places k) None) IsWhole
+set_whole t slot place new h is whole was k =
+    elim (cases_eq k slot) [
+      | inl same ↦
+          subst (λ (i : ℕ). IfSome (slice_index_or (slice_set t.entries place new) (place_at t.places i) None) IsWhole) (sym same)
+          (subst (λ (o : Option StateValue). IfSome o IsWhole) (sym (set_there t slot place new is)) whole)
+      | inr apart ↦ subst (λ (o : Option StateValue). IfSome o IsWhole) (sym (set_elsewhere t slot place k new h is apart)) (was k)
+    ]
+
+-- nothing is known where there is no entry
+pub known_nowhere : (t : TableValue) (slot : ℕ) → (HasEntry t slot → ⊥) → known_in t slot ≡ None
+known_nowhere t slot none =
+    elim (cases_lt (place_at t.places slot) (length t.entries)) [
+      | inl inside ↦ absurd (none inside)
+      | inr past ↦ get_or_past t.entries (place_at t.places slot) None past
+    ]
+
+-- something is known only where there is an entry
+pub known_entry : (t : TableValue) (slot : ℕ) → IsSome (known_in t slot) → HasEntry t slot
+known_entry t slot some =
+    elim (cases_lt (place_at t.places slot) (length t.entries)) [
+      | inl inside ↦ inside
+      | inr past ↦ absurd (false≢true (subst (λ (o : Option StateValue). IsSome o) (get_or_past t.entries (place_at t.places slot) None past) some))
+    ]
+
+-- nothing is known at a slot that is not kept
+pub known_plain : (t : TableValue) (slot : ℕ) → AreEntries t → (IsKept t.program slot → ⊥) → known_in t slot ≡ None
+known_plain t slot h plain = known_nowhere t slot (λ has. plain (h.only slot has))
+
+-- something is known only at a slot that is kept
+pub known_kept : (t : TableValue) (slot : ℕ) (a : StateValue) → AreEntries t → known_in t slot ≡ Some a → IsKept t.program slot
+known_kept t slot a h known = h.only slot (known_entry t slot (subst (λ (o : Option StateValue). IsSome o) (sym known) refl))
+
+begins_zero : (p : Program) → IsProgram p → IsSome (insn_at p 0)
+begins_zero p limits = begins_first p.slots limits.slots.0 limits.code
+
+-- an instruction begins at each slot that is kept
+pub kept_begins : (p : Program) (slot : ℕ) → IsProgram p → IsKept p slot → IsSome (insn_at p slot)
+kept_begins p slot limits kept =
+    elim kept [
+      | inl zero_is ↦ subst (λ (k : ℕ). IsSome (insn_at p k)) (sym zero_is) (begins_zero p limits)
+      | inr target ↦ jumps_first p target.from slot (insn_at p target.from) target.jumps
+    ]
+
+-- where something is known an instruction begins
+pub known_begins : (t : TableValue) (slot : ℕ) → IsProgram t.program → AreEntries t → IsSome (known_in t slot) → IsSome (insn_at t.program slot)
+known_begins t slot limits h some = kept_begins t.program slot limits (h.only slot (known_entry t slot some))
+
+-- ---- heads
+
+-- a back jump leads to the head
+to_head : (head back : ℕ) → head ≤ back → pos (back + 1) +ℤ negsuc (back - head) ≡ pos head
+to_head head back ordered = omega (arith, ints)
+
+head_kept : (p : Program) (l : Loop) → IsFormed p → IsLoopFormed p l → l.head ≤ l.back → IsKept p l.head
+head_kept p l form formed ordered =
+    let jump : IsJump p l.back (negsuc (l.back - l.head)) = (form.allowed l.back (back_jump l) formed.back).jump in
+    let begins : IsSome (insn_at p l.head) = subst (IsFirstSlot p) (to_head l.head l.back ordered) jump.first_slot in
+    let lands : first_slot p (pos l.head) ≡ Some l.head = by_begin (insn_at p l.head) refl begins in
+    let leads : first_slot p (target l.back (negsuc (l.back - l.head))) ≡ Some l.head = subst (λ (z : ℤ). first_slot p z ≡ Some l.head) (sym (to_head l.head l.back ordered)) lands in
+    inr (record { from = l.back; jumps = subst (λ (o : Option Insn). landing_from p l.back o ≡ Some l.head) (sym formed.back) leads })
+  where
+    by_begin : (o : Option Insn) → insn_at p l.head ≡ o → IsSome o → first_slot p (pos l.head) ≡ Some l.head
+    by_begin None is some = absurd cc
+    by_begin (Some insn) is some = rw is refl
+
+pub no_head : (p : Program) (slot : ℕ) → IsProgram p → IsFormed p → (IsKept p slot → ⊥) → All (λ l. l.head ≢ slot) p.loops
+no_head p slot limits form plain k d inside same =
+    let l = slice_index_or p.loops k d in
+    let low = (loop_in (length p.slots) 0 p.loops k d limits.loops inside).1 in
+    plain (subst (λ (h : ℕ). IsKept p h) same (head_kept p l form (form.loops k d inside) (omega (arith, low.ordered))))

@@ -1,0 +1,423 @@
+-- From one slot of a pass to the next: what is known at the slots that were visited, at those with entries, and where
+-- the running state stands.
+use Rattle.std.proofs.Common.{◌≡◌, ◌≢◌, ℕ, ◌+◌, ◌<◌, ◌≤◌, inl, inr, Bool, true, false, Option, None, Some, List, length, refl, sym, ap, subst, ◌∙◌, arith}
+use Rattle.std.specs.Prelude.{slice_set, IfSome, IsSome, IsTrue, nat_lt, if◌then◌else◌, ◌==◌}
+use Rattle.std.proofs.lemmas.Bool.{cases_lt, false≢true}
+use Rattle.std.proofs.lemmas.Bool.Decides.{nat_tests}
+use Rattle.bpf.specs.Program.{Program, IsProgram}
+use Rattle.bpf_insn.specs.declared.insn.Insn.{Insn}
+use Rattle.bpf_insn.specs.Spelling.{slots_of}
+use Rattle.machine.specs.Sizes.{Maps}
+use Rattle.machine.specs.declared.regions.Region.{Region}
+use Rattle.machine.specs.Step.{insn_at}
+use Rattle.absdom.specs.State.{StateValue, IsWhole}
+use Rattle.absdom.specs.Laws.{BelowIsReflexive, BelowIsTransitive}
+use Rattle.bver.specs.Heads.{AreHeadsAt}
+use Rattle.bver.specs.Justified.{IsCoveredIfAny, IsPermitted, IsPermittedAt, accessed_at}
+use Rattle.bver.specs.Table.{TableValue, AreEntries, carried, known_in}
+use Rattle.bver.specs.Targets.{IsKept, IsPlain}
+use Rattle.bver.specs.Visit.{AreWhole, IsExtended, IsInsnVisit, IsVisit, VisitValue, AreEntered, AreVisited, ArePermitted, visited_with}
+use Rattle.bver.proofs.Covering.{AreCovered, any_covered_more, covers_itself, permitted_at_more}
+use Rattle.bver.proofs.Keeping.{kept_begins, known_begins, known_plain}
+use Rattle.bver.proofs.Slots.{goes_further, none_between}
+use Rattle.bver.proofs.Visiting.{Grows, extended_before, extended_twice, permitted_next, visited_next, visited_none}
+
+-- the running state stands at that slot: the next one from here on where an instruction begins, to which no jump leads
+pub record StandsAt (p : Program) (slot next : ℕ) : Type 0 where
+  pub from : slot ≤ next
+  pub begins : IsSome (insn_at p next)
+  pub between : (k : ℕ) → slot ≤ k → k < next → insn_at p k ≡ None
+  pub plain : IsKept p next → ⊥
+
+-- the slots before this one were visited, and the table and the running state say what is known from here on
+pub record IsPassing (p : Program) (sizes : Maps) (table : TableValue) (runs : Bool) (state : StateValue) (regions : List (Option Region)) (settled : Type 0) (slot : ℕ) : Type 0 where
+  pub known : ℕ → Option StateValue
+  pub next : ℕ
+  pub stands : IsTrue runs → StandsAt p slot next
+  pub visited : AreVisited p known regions slot
+  pub permitted : settled → ArePermitted p sizes known slot
+  pub whole : AreWhole (known_in table)
+  pub state_whole : IsWhole state
+  pub ahead : (k : ℕ) → slot ≤ k → known k ≡ carried table runs next state k
+  pub behind : (k : ℕ) → k < slot → IsCoveredIfAny (known_in table k) (known k)
+
+-- ---- by cases
+
+by_order : (P : Type 0) (k slot : ℕ) → (k < slot → P) → (k ≡ slot → P) → (slot < k → P) → P
+by_order P k slot below same beyond =
+    elim (cases_lt k slot) [
+      | inl earlier ↦ below earlier
+      | inr past ↦ elim (cases_lt slot k) [ inl after ↦ beyond after | inr at ↦ same (omega (arith, past, at)) ]
+    ]
+
+-- the running state where it stands
+pub carried_here : (t : TableValue) (next : ℕ) (state : StateValue) (k : ℕ) → k ≡ next → carried t true next state k ≡ Some state
+carried_here t next state k same = grind (arith, nat_tests, same)
+
+-- what holds of the running state where it stands, and else of what the table knows
+carried_any : (P : Option StateValue → Type 0) (t : TableValue) (runs : Bool) (next : ℕ) (state : StateValue) (k : ℕ) → (IsTrue runs → k ≡ next → P (Some state)) → ((IsTrue runs → k ≢ next) → P (known_in t k)) → P (carried t runs next state k)
+carried_any P t false next state k stands known = known (λ on. absurd (false≢true on))
+carried_any P t true next state k stands known =
+    by_order (P (carried t true next state k)) k next
+    (λ below. subst P (sym (other (λ same. omega (arith, same, below)))) (known (λ on same. omega (arith, same, below))))
+    (λ same. subst P (sym (here same)) (stands refl same))
+    (λ beyond. subst P (sym (other (λ same. omega (arith, same, beyond)))) (known (λ on same. omega (arith, same, beyond))))
+  where
+    here : k ≡ next → carried t true next state k ≡ Some state
+    here same = grind (arith, nat_tests, same)
+
+    other : k ≢ next → carried t true next state k ≡ known_in t k
+    other apart = grind (arith, nat_tests, apart)
+
+-- what holds of the running state where a slot is visited with it, and else of what the table knows
+visited_any : (P : Option StateValue → Type 0) (runs : Bool) (state : StateValue) (t : TableValue) (slot : ℕ) → (IsTrue runs → P (Some state)) → (runs ≡ false → P (known_in t slot)) → P (visited_with runs state t slot)
+visited_any P false state t slot stands known = known refl
+visited_any P true state t slot stands known = stands refl
+
+-- ---- what is known after a visit
+
+-- as before below the slot, what was visited there, and what comes after above it
+revised : (before : ℕ → Option StateValue) (slot : ℕ) (here : Option StateValue) (after : ℕ → Option StateValue) → ℕ → Option StateValue
+revised before slot here after k = if nat_lt k slot then before k else (if k == slot then here else after k)
+
+revised_before : (before : ℕ → Option StateValue) (slot : ℕ) (here : Option StateValue) (after : ℕ → Option StateValue) (k : ℕ) → k < slot → revised before slot here after k ≡ before k
+unfolding revised
+revised_before before slot here after k below = grind (arith, nat_tests, below)
+
+revised_here : (before : ℕ → Option StateValue) (slot : ℕ) (here : Option StateValue) (after : ℕ → Option StateValue) (k : ℕ) → k ≡ slot → revised before slot here after k ≡ here
+unfolding revised
+revised_here before slot here after k same = grind (arith, nat_tests, same)
+
+revised_after : (before : ℕ → Option StateValue) (slot : ℕ) (here : Option StateValue) (after : ℕ → Option StateValue) (k : ℕ) → slot < k → revised before slot here after k ≡ after k
+unfolding revised
+revised_after before slot here after k beyond = grind (arith, nat_tests, beyond)
+
+revised_any : (P : Option StateValue → Type 0) (before : ℕ → Option StateValue) (slot : ℕ) (here : Option StateValue) (after : ℕ → Option StateValue) (k : ℕ) → (k < slot → P (before k)) → (k ≡ slot → P here) → (slot < k → P (after k)) → P (revised before slot here after k)
+revised_any P before slot here after k earlier same later =
+    by_order (P (revised before slot here after k)) k slot
+    (λ below. subst P (sym (revised_before before slot here after k below)) (earlier below))
+    (λ at. subst P (sym (revised_here before slot here after k at)) (same at))
+    (λ beyond. subst P (sym (revised_after before slot here after k beyond)) (later beyond))
+
+-- ---- the table beside the running state
+
+-- what the table knows is covered, since it knows nothing where the running state stands
+pub carried_covers : BelowIsReflexive → (t : TableValue) (runs : Bool) (next : ℕ) (state : StateValue) → AreEntries t → (IsTrue runs → IsKept t.program next → ⊥) → AreCovered (known_in t) (carried t runs next state)
+carried_covers reflexive t runs next state entries plain k =
+    carried_any (λ o. IsCoveredIfAny (known_in t k) o) t runs next state k
+    (λ on same.
+    let none : known_in t k ≡ None = ap (known_in t) same ∙ known_plain t next entries (plain on) in
+    subst (λ (o : Option StateValue). IsCoveredIfAny o (Some state)) (sym none) tt)
+    (λ apart. covers_itself reflexive (known_in t k))
+
+-- ---- a visit
+
+-- what the visit of the instruction at a slot tells, and where it stands
+pub record IsVisited (p : Program) (sizes : Maps) (old new : TableValue) (was runs : Bool) (before after : StateValue) (settled : Type 0) (region : Option Region) (slot : ℕ) (insn : Insn) : Type 0 where
+  pub limits : IsProgram p
+  pub own : old.program ≡ p
+  pub entries : AreEntries new
+  pub after_whole : IsWhole after
+  pub begins : insn_at p slot ≡ Some insn
+  pub before_plain : IsTrue was → IsKept p slot → ⊥
+  pub visit : IsInsnVisit (record { program = p; sizes = sizes; slot = slot }) old new was runs before after settled region insn
+
+-- the running state stands at the slot where an instruction begins
+pub stands_here : (p : Program) (slot next : ℕ) (insn : Insn) → insn_at p slot ≡ Some insn → StandsAt p slot next → next ≡ slot
+stands_here p slot next insn begins h =
+    by_order (next ≡ slot) slot next
+    (λ below. absurd (some_none (sym begins ∙ h.between slot (omega arith) below)))
+    (λ same. sym same)
+    (λ beyond. absurd (omega (arith, beyond, h.from)))
+  where
+    some_none : Some insn ≡ None → ⊥
+    some_none is = cc
+
+grows_next : BelowIsReflexive → BelowIsTransitive → (p : Program) (sizes : Maps) (old new : TableValue) (was runs : Bool) (before after : StateValue) (regions : List (Option Region)) (region : Option Region) (settled turn : Type 0) (slot : ℕ) (insn : Insn)
+    → (v : IsVisited p sizes old new was runs before after turn region slot insn)
+    → (h : IsPassing p sizes old was before regions settled slot)
+    → Grows p slot h.known (revised h.known slot (visited_with was before new slot) (carried new runs (slot + slots_of insn) after))
+grows_next reflexive transitive p sizes old new was runs before after regions region settled turn slot insn v h = record {
+  grown = λ k.
+      revised_any (λ o. IsCoveredIfAny (h.known k) o) h.known slot here onward k
+      (λ below. covers_itself reflexive (h.known k))
+      (λ same. subst (λ (o : Option StateValue). IsCoveredIfAny o here) (sym (h.ahead k (omega (arith, same)))) (here_grown k same))
+      (λ beyond.
+      subst (λ (o : Option StateValue). IsCoveredIfAny o (onward k)) (sym (h.ahead k (omega (arith, beyond))))
+      (carried_any (λ o. IsCoveredIfAny o (onward k)) old was h.next before k
+      (λ on same. absurd (omega (arith, same, beyond, stands_here p slot h.next insn v.begins (h.stands on))))
+      (λ apart. any_covered_more transitive (known_in old k) (known_in new k) (onward k) (v.visit.extended.grown k) (covers k))));
+  kept = λ k below. revised_before h.known slot here onward k below;
+  placed = λ k.
+      revised_any (λ o. IsSome o → IsSome (insn_at p k)) h.known slot here onward k
+      (λ below. h.visited.entry.placed k)
+      (λ same some. subst (λ (i : ℕ). IsSome (insn_at p i)) (sym same) (subst (λ (o : Option Insn). IsSome o) (sym v.begins) refl))
+      (λ beyond.
+      carried_any (λ o. IsSome o → IsSome (insn_at p k)) new runs next after k
+      (λ on same some. subst (λ (i : ℕ). IsSome (insn_at p i)) (sym same) ((v.visit.plain on).begins))
+      (λ apart. known_placed k));
+  whole = λ k.
+      revised_any (λ o. IfSome o IsWhole) h.known slot here onward k
+      (λ below. h.visited.entry.whole k)
+      (λ same. visited_any (λ o. IfSome o IsWhole) was before new slot (λ on. h.state_whole) (λ off. new_whole slot))
+      (λ beyond. carried_any (λ o. IfSome o IsWhole) new runs next after k (λ on at. v.after_whole) (λ apart. new_whole k));
+}
+  where
+    next : ℕ
+    next = slot + slots_of insn
+
+    here : Option StateValue
+    here = visited_with was before new slot
+
+    onward : ℕ → Option StateValue
+    onward = carried new runs next after
+
+    program : new.program ≡ p
+    program = v.visit.extended.program ∙ v.own
+
+    covers : AreCovered (known_in new) onward
+    covers = carried_covers reflexive new runs next after v.entries (λ on kept. (v.visit.plain on).unkept (subst (λ (q : Program). IsKept q next) program kept))
+
+    new_whole : AreWhole (known_in new)
+    new_whole = v.visit.extended.whole h.whole
+
+    known_placed : (k : ℕ) → IsSome (known_in new k) → IsSome (insn_at p k)
+    known_placed k some = subst (λ (q : Program). IsSome (insn_at q k)) program (known_begins new k (subst IsProgram (sym program) v.limits) v.entries some)
+
+    here_grown : (k : ℕ) → k ≡ slot → IsCoveredIfAny (carried old was h.next before k) here
+    here_grown k same =
+        visited_any (λ o. IsCoveredIfAny (carried old was h.next before k) o) was before new slot
+        (λ on.
+        carried_any (λ o. IsCoveredIfAny o (Some before)) old was h.next before k
+        (λ is at. covers_itself reflexive (Some before))
+        (λ apart. absurd (apart on (same ∙ sym (stands_here p slot h.next insn v.begins (h.stands on))))))
+        (λ off.
+        carried_any (λ o. IsCoveredIfAny o (known_in new slot)) old was h.next before k
+        (λ on at. absurd (false≢true (sym off ∙ on)))
+        (λ apart. subst (λ (i : ℕ). IsCoveredIfAny (known_in old i) (known_in new slot)) (sym same) (v.visit.extended.grown slot)))
+
+pub passing_next : BelowIsReflexive → BelowIsTransitive → (p : Program) (sizes : Maps) (old new : TableValue) (was runs : Bool) (before after : StateValue) (regions : List (Option Region)) (region : Option Region) (settled turn again : Type 0) (slot : ℕ) (insn : Insn)
+    → IsVisited p sizes old new was runs before after turn region slot insn
+    → (again → settled) → (again → turn) → slot < length regions
+    → IsPassing p sizes old was before regions settled slot → IsPassing p sizes new runs after (slice_set regions slot region) again (slot + 1)
+passing_next reflexive transitive p sizes old new was runs before after regions region settled turn again slot insn v earlier now inside h = record {
+  known = known;
+  next = next;
+  stands = λ on. record {
+    from = omega (arith, further);
+    begins = (v.visit.plain on).begins;
+    between = λ k from below. none_between p slot k insn v.limits v.begins from below;
+    plain = (v.visit.plain on).unkept;
+  };
+  visited = visited_next transitive p h.known known regions slot region h.visited grows
+      (subst (λ (o : Option StateValue). AreHeadsAt p slot o) (sym at) v.visit.heads)
+      (v.visit.accesses ∙ ap (λ (o : Option StateValue). accessed_at o (Some insn)) (sym at) ∙ ap (λ (i : Option Insn). accessed_at (known slot) i) (sym v.begins))
+      inside;
+  permitted = λ settles.
+      permitted_next transitive p sizes h.known known slot (h.permitted (earlier settles)) grows
+      (subst (λ (o : Option StateValue). IsPermittedAt sizes known slot o (insn_at p slot)) (sym at)
+      (subst (λ (i : Option Insn). IsPermittedAt sizes known slot here i) (sym v.begins)
+      (permitted_at_more transitive sizes onward known slot here (Some insn) reaches (v.visit.permitted (now settles)))));
+  whole = v.visit.extended.whole h.whole;
+  state_whole = v.after_whole;
+  ahead = λ k past. revised_after h.known slot here onward k (omega (arith, past));
+  behind = behind;
+}
+  where
+    next : ℕ
+    next = slot + slots_of insn
+
+    further : slot < next
+    further = goes_further slot insn
+
+    here : Option StateValue
+    here = visited_with was before new slot
+
+    onward : ℕ → Option StateValue
+    onward = carried new runs next after
+
+    known : ℕ → Option StateValue
+    known = revised h.known slot here onward
+
+    grows : Grows p slot h.known known
+    grows = grows_next reflexive transitive p sizes old new was runs before after regions region settled turn slot insn v h
+
+    at : known slot ≡ here
+    at = revised_here h.known slot here onward slot refl
+
+    program : new.program ≡ p
+    program = v.visit.extended.program ∙ v.own
+
+    here_covered : IsCoveredIfAny (known_in new slot) here
+    here_covered =
+        visited_any (λ o. IsCoveredIfAny (known_in new slot) o) was before new slot
+        (λ on. subst (λ (o : Option StateValue). IsCoveredIfAny o (Some before)) (sym (known_plain new slot v.entries (λ kept. v.before_plain on (subst (λ (q : Program). IsKept q slot) program kept)))) tt)
+        (λ off. covers_itself reflexive (known_in new slot))
+
+    behind : (k : ℕ) → k < slot + 1 → IsCoveredIfAny (known_in new k) (known k)
+    behind k below =
+        revised_any (λ o. IsCoveredIfAny (known_in new k) o) h.known slot here onward k
+        (λ before. subst (λ (o : Option StateValue). IsCoveredIfAny o (h.known k)) (sym (v.visit.extended.kept k before)) (h.behind k before))
+        (λ same. subst (λ (i : ℕ). IsCoveredIfAny (known_in new i) here) (sym same) here_covered)
+        (λ beyond. absurd (omega (arith, below, beyond)))
+
+    reaches : AreCovered onward known
+    reaches k =
+        by_order (IsCoveredIfAny (onward k) (known k)) k (slot + 1)
+        (λ below.
+        carried_any (λ o. IsCoveredIfAny o (known k)) new runs next after k
+        (λ on same. absurd (omega (arith, same, below, further)))
+        (λ apart. behind k below))
+        (λ same. subst (λ (o : Option StateValue). IsCoveredIfAny (onward k) o) (sym (revised_after h.known slot here onward k (omega (arith, same)))) (covers_itself reflexive (onward k)))
+        (λ beyond. subst (λ (o : Option StateValue). IsCoveredIfAny (onward k) o) (sym (revised_after h.known slot here onward k (omega (arith, beyond)))) (covers_itself reflexive (onward k)))
+
+-- at a second slot
+pub passing_skip : BelowIsReflexive → BelowIsTransitive → (p : Program) (sizes : Maps) (table : TableValue) (runs : Bool) (state : StateValue) (regions : List (Option Region)) (settled : Type 0) (slot : ℕ)
+    → insn_at p slot ≡ None → slot < length regions
+    → IsPassing p sizes table runs state regions settled slot → IsPassing p sizes table runs state (slice_set regions slot None) settled (slot + 1)
+passing_skip reflexive transitive p sizes table runs state regions settled slot none inside h = record {
+  known = h.known;
+  next = h.next;
+  stands = λ on.
+      let was = h.stands on in
+      record {
+        from = later was;
+        begins = was.begins;
+        between = λ k from below. was.between k (omega (arith, from)) below;
+        plain = was.plain;
+      };
+  visited = visited_next transitive p h.known h.known regions slot None h.visited grows
+      (subst (λ (o : Option StateValue). AreHeadsAt p slot o) (sym nothing) (λ k d within same. tt))
+      (sym (ap (λ (o : Option StateValue). accessed_at o (insn_at p slot)) nothing))
+      inside;
+  permitted = λ settles.
+      permitted_next transitive p sizes h.known h.known slot (h.permitted settles) grows
+      (subst (λ (o : Option StateValue). IsPermittedAt sizes h.known slot o (insn_at p slot)) (sym nothing) tt);
+  whole = h.whole;
+  state_whole = h.state_whole;
+  ahead = λ k past. h.ahead k (omega (arith, past));
+  behind = λ k below.
+      by_order (IsCoveredIfAny (known_in table k) (h.known k)) k slot
+      (λ before. h.behind k before)
+      (λ same.
+      subst (λ (o : Option StateValue). IsCoveredIfAny (known_in table k) o) (sym (h.ahead k (omega (arith, same))))
+      (carried_any (λ o. IsCoveredIfAny (known_in table k) o) table runs h.next state k
+      (λ on at. absurd (omega (arith, at, same, later (h.stands on))))
+      (λ apart. covers_itself reflexive (known_in table k))))
+      (λ beyond. absurd (omega (arith, below, beyond)));
+}
+  where
+    begins_apart : (next : ℕ) → IsSome (insn_at p next) → next ≡ slot → ⊥
+    begins_apart next begins same =
+        false≢true (subst (λ (o : Option Insn). IsSome o) none (subst (λ (i : ℕ). IsSome (insn_at p i)) same begins))
+
+    later : StandsAt p slot h.next → slot + 1 ≤ h.next
+    later was =
+        by_order (slot + 1 ≤ h.next) slot h.next
+        (λ below. omega (arith, below))
+        (λ same. absurd (begins_apart h.next was.begins (sym same)))
+        (λ beyond. absurd (omega (arith, beyond, was.from)))
+
+    nothing : h.known slot ≡ None
+    nothing = by_known (h.known slot) (h.visited.entry.placed slot)
+      where
+        by_known : (o : Option StateValue) → (IsSome o → IsSome (insn_at p slot)) → o ≡ None
+        by_known None begins = refl
+        by_known (Some a) begins = absurd (begins_apart slot (begins refl) refl)
+
+    grows : Grows p slot h.known h.known
+    grows = record {
+      grown = λ k. covers_itself reflexive (h.known k);
+      kept = λ k below. refl;
+      placed = h.visited.entry.placed;
+      whole = h.visited.entry.whole;
+    }
+
+-- where a running state stands, no jump leads
+pub passing_plain : (p : Program) (sizes : Maps) (table : TableValue) (runs : Bool) (state : StateValue) (regions : List (Option Region)) (settled : Type 0) (slot : ℕ) → IsProgram p → IsPassing p sizes table runs state regions settled slot → IsTrue runs → IsKept p slot → ⊥
+passing_plain p sizes table runs state regions settled slot limits h on kept =
+    let was = h.stands on in
+    by_order ⊥ slot h.next
+    (λ below. false≢true (subst (λ (o : Option Insn). IsSome o) (was.between slot (omega arith) below) (kept_begins p slot limits kept)))
+    (λ same. was.plain (subst (λ (k : ℕ). IsKept p k) same kept))
+    (λ beyond. omega (arith, beyond, was.from))
+
+-- after the visit of a slot
+pub passing_slot : BelowIsReflexive → BelowIsTransitive → (p : Program) (sizes : Maps) (old new : TableValue) (was runs : Bool) (before after : StateValue) (regions : List (Option Region)) (region : Option Region) (settled turn again : Type 0) (slot : ℕ) (o : Option Insn)
+    → insn_at p slot ≡ o → IsProgram p → old.program ≡ p → AreEntries new → IsWhole after
+    → (again → settled) → (again → turn) → slot < length regions
+    → IsVisit (record { program = p; sizes = sizes; slot = slot }) old new was runs before after turn region o
+    → IsPassing p sizes old was before regions settled slot → IsPassing p sizes new runs after (slice_set regions slot region) again (slot + 1)
+passing_slot reflexive transitive p sizes old new was runs before after regions region settled turn again slot None none limits own entries whole earlier now inside visit h =
+    rw (visit.same_table, visit.same_runs, visit.same_state, visit.no_region)
+    (passing_skip reflexive transitive p sizes old was before regions again slot none inside (eased h))
+  where
+    eased : IsPassing p sizes old was before regions settled slot → IsPassing p sizes old was before regions again slot
+    eased g = record {
+      known = g.known;
+      next = g.next;
+      stands = g.stands;
+      visited = g.visited;
+      permitted = λ settles. g.permitted (earlier settles);
+      whole = g.whole;
+      state_whole = g.state_whole;
+      ahead = g.ahead;
+      behind = g.behind;
+    }
+passing_slot reflexive transitive p sizes old new was runs before after regions region settled turn again slot (Some insn) begins limits own entries whole earlier now inside visit h =
+    passing_next reflexive transitive p sizes old new was runs before after regions region settled turn again slot insn
+    (record { limits = limits; own = own; entries = entries; after_whole = whole; begins = begins; before_plain = passing_plain p sizes old was before regions settled slot limits h; visit = visit })
+    earlier now inside h
+
+-- the visit of an instruction: what comes to it, and what its flow does
+pub insn_visit : BelowIsTransitive → (v : VisitValue) (old mid new : TableValue) (was runs : Bool) (before here left : StateValue) (settled : Type 0) (region : Option Region) (insn : Insn)
+    → visited_with was before mid v.slot ≡ Some here → (settled → IsPermitted v.sizes (carried new runs (v.slot + slots_of insn) left) v.slot here insn) → region ≡ accessed_at (Some here) (Some insn)
+    → AreHeadsAt v.program v.slot (visited_with was before mid v.slot) → (IsTrue runs → IsPlain v.program (v.slot + slots_of insn)) → IsExtended v.slot old mid → IsExtended (v.slot + 1) mid new
+    → IsInsnVisit v old new was runs before left settled region insn
+insn_visit transitive v old mid new was runs before here left settled region insn known permits accesses heads plain first second = record {
+  permitted = λ settles. subst (λ (o : Option StateValue). IsPermittedAt v.sizes (carried new runs (v.slot + slots_of insn) left) v.slot o (Some insn)) (sym there) (permits settles);
+  accesses = subst (λ (o : Option StateValue). region ≡ accessed_at o (Some insn)) (sym there) accesses;
+  heads = subst (λ (o : Option StateValue). AreHeadsAt v.program v.slot o) (sym same) heads;
+  plain = plain;
+  extended = extended_twice transitive v.slot old mid new first (extended_before v.slot mid new second);
+}
+  where
+    by_runs : (b : Bool) → visited_with b before new v.slot ≡ visited_with b before mid v.slot
+    by_runs false = second.kept v.slot (omega arith)
+    by_runs true = refl
+
+    same : visited_with was before new v.slot ≡ visited_with was before mid v.slot
+    same = by_runs was
+
+    there : visited_with was before new v.slot ≡ Some here
+    there = same ∙ known
+
+-- the visit of the slot of a program
+pub visit_of : (v : VisitValue) (p : Program) (sizes : Maps) (slot : ℕ) → v.program ≡ p → v.sizes ≡ sizes → v.slot ≡ slot → v ≡ record { program = p; sizes = sizes; slot = slot }
+visit_of v p sizes slot own for at =
+    ap (λ (q : Program). visit_value q v.sizes v.slot) own ∙ ap (λ (m : Maps). visit_value p m v.slot) for ∙ ap (λ (k : ℕ). visit_value p sizes k) at
+  where
+    visit_value : Program → Maps → ℕ → VisitValue
+    visit_value q m k = record { program = q; sizes = m; slot = k }
+
+pub visited_program : (v : VisitValue) (old new : TableValue) (was runs : Bool) (before after : StateValue) (turn : Type 0) (region : Option Region) (o : Option Insn) → IsVisit v old new was runs before after turn region o → new.program ≡ old.program
+visited_program v old new was runs before after turn region None visit = ap (λ (t : TableValue). t.program) visit.same_table
+visited_program v old new was runs before after turn region (Some insn) visit = visit.extended.program
+
+pub visit_at : (v : VisitValue) (p : Program) (sizes : Maps) (slot : ℕ) (old new : TableValue) (was runs : Bool) (before after : StateValue) (turn : Type 0) (region : Option Region) → v ≡ record { program = p; sizes = sizes; slot = slot } → IsVisit v old new was runs before after turn region (insn_at v.program v.slot) → IsVisit (record { program = p; sizes = sizes; slot = slot }) old new was runs before after turn region (insn_at p slot)
+visit_at v p sizes slot old new was runs before after turn region same visit =
+    subst (λ (w : VisitValue). IsVisit w old new was runs before after turn region (insn_at w.program w.slot)) same visit
+
+-- before the first slot
+pub passing_none : BelowIsReflexive → (p : Program) (sizes : Maps) (table : TableValue) (state : StateValue) (regions : List (Option Region)) (settled : Type 0) → AreEntered p (known_in table) → IsWhole state → IsPassing p sizes table false state regions settled 0
+passing_none reflexive p sizes table state regions settled entry whole = record {
+  known = known_in table;
+  next = 0;
+  stands = λ on. absurd (false≢true on);
+  visited = visited_none p (known_in table) regions entry;
+  permitted = λ settles k below. absurd (omega (arith, below));
+  whole = entry.whole;
+  state_whole = whole;
+  ahead = λ k past. refl;
+  behind = λ k below. absurd (omega (arith, below));
+}

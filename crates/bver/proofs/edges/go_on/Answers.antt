@@ -1,0 +1,8 @@
+use Rattle.std.proofs.Common.{rules, ◌+◌}
+use Rattle.bver.proofs.Visiting.{changed_at}
+use Rattle.bver.proofs.edges.go_on.Goals as goal
+
+pub returns-clause-extended : goal.returns-clause-extended
+returns-clause-extended c =
+    let v = c.args.visit.now in
+    changed_at (v.slot + 1) (c.slot.result + c.args.slots) c.args.table.now c.go_on.new.self (search rules) c.go_on.ensures.program c.go_on.ensures.grown c.go_on.ensures.others c.go_on.ensures.all_whole
