@@ -1,6 +1,6 @@
 //! The jobs of `rmapctl`.
 
-ghost use Rattle.std.specs.Prelude.{IfErr, IfOk, OnOk};
+ghost use Rattle.std.specs.Prelude.{◌≡◌, IfErr, IfOk, OnOk};
 ghost use Rattle.commands.specs.Performed.{IsDone, IsEnded, Performs};
 ghost use Rattle.commands.specs.Stops.{StopsBy};
 
@@ -11,8 +11,10 @@ use crate::stops::{Stop, WriteFault};
 use crate::storage::Files;
 use crate::verify::verify_file;
 use bver::MapSizes;
+use publish::{Opened, Room};
 use std::alloc::Global;
 use std::io::Write;
+use std::marker::Brand;
 use std::sync::Wait;
 
 /// A job, as a command line names it.
@@ -51,13 +53,15 @@ pub enum Job {
 }
 
 /// Does a job, up to its end or the fault that ends it, which is still to be printed.
-fn attempt<'a, R: Wait, F: Files, W: Write>(
+fn attempt<'a, J: Room, R: Wait, F: Files, W: Write>(
     rt: &R,
     alloc: Global,
+    opened: Opened,
     job: &'a Job,
     files: &mut F,
     out: &mut W,
 ) -> Result<(), Stop<'a>>
+    requires { opened ≡ J.book }
     ensures done { OnOk result (IsDone F.reads F.writes job.now files.old files.new
         (W.contents out.old) (W.contents out.new)) }
     ensures stops { IfErr result (StopsBy (IsEnded F.reads F.writes job.now files.old files.new
@@ -71,13 +75,37 @@ fn attempt<'a, R: Wait, F: Files, W: Write>(
             ports,
         } => {
             let image = image.as_deref();
-            judge_file(rt, alloc, lines.as_str(), image, *sizes, *ports, files, out)
+            let lines = lines.as_str();
+            judge_file::<J, _, _, _>(rt, alloc, opened, lines, image, *sizes, *ports, files, out)
         }
         Job::Assemble { text, image } => {
             assemble_file(alloc, text.as_str(), image.as_str(), files, out)
         }
         Job::Disassemble { image } => disassemble_file(alloc, image.as_str(), files, out),
         Job::Verify { image, sizes } => verify_file(alloc, image.as_str(), *sizes, files, out),
+    }
+}
+
+/// Does a job, where a node that it makes has that history of programs.
+fn perform_opened<J: Room, R: Wait, F: Files, W: Write>(
+    rt: &R,
+    alloc: Global,
+    opened: Opened,
+    job: &Job,
+    files: &mut F,
+    out: &mut W,
+) -> Result<u8, WriteFault>
+    requires { opened ≡ J.book }
+    ensures { IfOk result (Performs F.reads F.writes job.now files.old files.new
+        (W.contents out.old) (W.contents out.new)) }
+{
+    match attempt::<J, _, _, _>(rt, alloc, opened, job, files, out) {
+        Ok(()) => Ok(0),
+        Err(Stop::Ended(fault)) => {
+            writeln!(out, "{fault}")?;
+            Ok(1)
+        }
+        Err(Stop::Unwritten(fault)) => Err(fault),
     }
 }
 
@@ -96,12 +124,5 @@ pub fn perform<R: Wait, F: Files, W: Write>(
     ensures { IfOk result (Performs F.reads F.writes job.now files.old files.new
         (W.contents out.old) (W.contents out.new)) }
 {
-    match attempt(rt, alloc, job, files, out) {
-        Ok(()) => Ok(0),
-        Err(Stop::Ended(fault)) => {
-            writeln!(out, "{fault}")?;
-            Ok(1)
-        }
-        Err(Stop::Unwritten(fault)) => Err(fault),
-    }
+    perform_opened::<Brand, _, _, _>(rt, alloc, Opened::new(), job, files, out)
 }

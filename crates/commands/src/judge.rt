@@ -33,7 +33,6 @@ use rmap::Discard;
 use spw::read_line;
 use std::alloc::{AllocError, Global};
 use std::io::{self, Write};
-use std::marker::Brand;
 use std::sync::Wait;
 use target::{Served, Stop as Header};
 
@@ -264,8 +263,12 @@ fn lines_and_node<'a, J: Room, R: Wait + Drop, F: Files>(
     Ok((text, node))
 }
 
-/// Judges the packet lines of a file on a node with that history.
-fn judge_opened<'a, J: Room, R: Wait, F: Files, W: Write>(
+/// Judges the packet lines of a file by the program of an image file, or by the factory program, on a node
+/// with counter maps of these sizes and so many ports. It may wait: the end of the node does.
+///
+/// Faults are found in this order: the file of lines (`CannotRead`, also where it is not UTF-8),
+/// the image file, its image, and then each line.
+pub fn judge_file<'a, J: Room, R: Wait, F: Files, W: Write>(
     rt: &R,
     alloc: Global,
     opened: Opened,
@@ -285,27 +288,4 @@ fn judge_opened<'a, J: Room, R: Wait, F: Files, W: Write>(
     let (text, mut node) =
         lines_and_node::<J, _, _>(alloc, rt, opened, lines, image, sizes, ports, files)?;
     judge_text(alloc, &mut node, text.as_str(), out)
-}
-
-/// Judges the packet lines of a file by the program of an image file, or by the factory program, on a node
-/// with counter maps of these sizes and so many ports. It may wait: the end of the node does.
-///
-/// Faults are found in this order: the file of lines (`CannotRead`, also where it is not UTF-8),
-/// the image file, its image, and then each line.
-pub fn judge_file<'a, R: Wait, F: Files, W: Write>(
-    rt: &R,
-    alloc: Global,
-    lines: &'a str,
-    image: Option<&'a str>,
-    sizes: MapSizes,
-    ports: u8,
-    files: &mut F,
-    out: &mut W,
-) -> Result<(), Stop<'a>>
-    ensures done { OnOk result (JudgesFile F.reads sizes ports files.old lines.now
-        (name_in image.entry) files.new (W.contents out.old) (W.contents out.new)) }
-    ensures stops { IfErr result (StopsBy (IsNotJudged F.reads sizes ports files.old lines.now
-        (name_in image.entry) files.new (W.contents out.old) (W.contents out.new))) }
-{
-    judge_opened::<Brand, _, _, _>(rt, alloc, Opened::new(), lines, image, sizes, ports, files, out)
 }

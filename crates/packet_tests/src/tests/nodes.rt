@@ -7,6 +7,7 @@ use basm::assemble;
 use bver::{Accepted, MapSizes, verify};
 use publish::{Opened, Room};
 use rmap::{Discard, ReplyBuf, Status};
+use spw::Packet;
 use std::alloc::Global;
 use std::marker::Brand;
 use std::process::Abort;
@@ -23,7 +24,7 @@ fn served_afresh(
     line: &str,
     reply: &mut ReplyBuf,
 ) -> Result<Served, Fail> {
-    served_on::<Brand, _>(rt, alloc, Opened::new(), verdict, line, reply)
+    served_on::<Brand, _>(rt, alloc, Opened::new(), verdict, packet(alloc, line)?, reply)
 }
 
 fn served_on<J: Room, R: Wait>(
@@ -31,7 +32,7 @@ fn served_on<J: Room, R: Wait>(
     alloc: Global,
     opened: Opened,
     verdict: u8,
-    line: &str,
+    sent: Packet,
     reply: &mut ReplyBuf,
 ) -> Result<Served, Fail>
     requires { opened ≡ J.book }
@@ -40,7 +41,7 @@ fn served_on<J: Room, R: Wait>(
     let (mut banks, _publisher, mut passes) =
         node::<J, _>(alloc, rt, opened, 2, &[bank(1024)], factory)?;
     let pass = passes.first_mut().ok_or("no pass")?;
-    served(&mut banks, pass, packet(alloc, line)?, reply)
+    served(&mut banks, pass, sent, reply)
 }
 
 /// The first command of a port, with that status.
