@@ -18,7 +18,7 @@ const PROGRAMS: [&str; 4] = [
 ];
 
 /// The node on which a program judges, and the packet lines.
-#[derive(Copy)]
+#[derive(Clone, Copy)]
 struct Node<'a> {
     /// The name of the file of packet lines.
     lines: &'a str,
