@@ -21,8 +21,8 @@ mod writes;
 use crate::{Folder, perform_in};
 use commands::{Cannot, Files, words};
 use std::alloc::Global;
-use std::sync::Wait;
 use std::process::Abort;
+use std::sync::Wait;
 use std::test::Fail;
 use trial::Row;
 pub use trial::{PLAIN_READ, PLAIN_REPLY};
@@ -45,7 +45,12 @@ pub fn folder_of(alloc: Global, files: &[(&str, &[u8])]) -> Result<Folder, Canno
 }
 
 /// What comes of these words over these files.
-pub fn done(rt: &impl Wait, alloc: Global, given: &[&str], files: &[(&str, &[u8])]) -> Result<Outcome, Fail> {
+pub fn done(
+    rt: &impl Wait,
+    alloc: Global,
+    given: &[&str],
+    files: &[(&str, &[u8])],
+) -> Result<Outcome, Fail> {
     let job = words(alloc, given)?;
     let mut folder = folder_of(alloc, files).map_err(|_| "no folder")?;
     let (out, status) = perform_in(rt, alloc, &job, &mut folder)?;
@@ -57,14 +62,24 @@ pub fn done(rt: &impl Wait, alloc: Global, given: &[&str], files: &[(&str, &[u8]
 }
 
 /// What these words print over these files, and the exit status.
-pub fn run(rt: &impl Wait, alloc: Global, given: &[&str], files: &[(&str, &[u8])]) -> Result<(String, u8), Fail> {
+pub fn run(
+    rt: &impl Wait,
+    alloc: Global,
+    given: &[&str],
+    files: &[(&str, &[u8])],
+) -> Result<(String, u8), Fail> {
     let done = done(rt, alloc, given, files)?;
     Ok((done.printed, done.status))
 }
 
 /// What `judge` prints of these lines by the factory program, and the exit status.
 pub fn judged(rt: &impl Wait, alloc: Global, lines: &str) -> Result<(String, u8), Fail> {
-    run(rt, alloc, &["judge", "lines"], &[("lines", lines.as_bytes())])
+    run(
+        rt,
+        alloc,
+        &["judge", "lines"],
+        &[("lines", lines.as_bytes())],
+    )
 }
 
 /// What `judge` prints of these lines by the program of an image, and the exit status.

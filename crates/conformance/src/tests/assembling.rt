@@ -15,7 +15,8 @@ fn image_in(made: &Outcome) -> Result<&[u8], Fail> {
 fn text_to_image_and_back(rt: HostRuntime) -> Result<(), Fail> {
     let alloc = rt.alloc();
     let made = done(
-        &rt, alloc,
+        &rt,
+        alloc,
         &["asm", "text", "image"],
         &[("text", YES.as_bytes())],
     )?;
@@ -37,7 +38,8 @@ fn loops_are_assembled_and_refused(rt: HostRuntime) -> Result<(), Fail> {
         "; counts to four\n.budget 15\nmov r0, 0\nmov r6, 4 ; the counter\nhead:\nadd r0, 1\nadd r6, -1\n\
         back:\njne r6, 0, head\nexit\n.loop head, back, 4, r6\n";
     let made = done(
-        &rt, alloc,
+        &rt,
+        alloc,
         &["asm", "text", "image"],
         &[("text", text.as_bytes())],
     )?;

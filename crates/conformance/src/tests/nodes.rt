@@ -36,8 +36,14 @@ fn one_entry<J: Room, R: Wait + Abort>(rt: &R, alloc: Global, opened: Opened) ->
     requires { opened ≡ J.book }
 {
     let factory = program(alloc, 0)?;
-    let (mut banks, _publisher, mut passes) =
-        node::<J, _>(alloc, rt, opened, 1, &[bank(1)], factory)?;
+    let (mut banks, _publisher, mut passes) = node::<J, _>(
+        alloc,
+        rt,
+        opened,
+        1,
+        &[bank(1)],
+        factory,
+    )?;
     let pass = passes.first_mut().ok_or("no pass")?;
     let mut reply = ReplyBuf::new();
     for (line, status, number, length) in [

@@ -2,8 +2,8 @@
 
 use super::{PLAIN_READ, PLAIN_REPLY, done, judged_by, run};
 use std::alloc::Global;
-use std::sync::Wait;
 use std::process::Abort;
+use std::sync::Wait;
 use std::test::Fail;
 use trial::Row;
 
@@ -49,7 +49,12 @@ fn compare_refusal(rt: &(impl Abort + Wait), alloc: Global, row: &str) -> Result
     let budget = row.part()?;
     let text = row.part()?;
     let image = image_of(rt, alloc, budget, text)?;
-    let (printed, status) = run(rt, alloc, &["verify", "image"], &[("image", image.as_slice())])?;
+    let (printed, status) = run(
+        rt,
+        alloc,
+        &["verify", "image"],
+        &[("image", image.as_slice())],
+    )?;
     let told = printed.as_str().strip_suffix('\n');
     assert_eq!(rt; (told, status), (Some(row.part()?), 1), "at {text}");
     Ok(())

@@ -2,8 +2,8 @@
 
 use super::{compare_answers, judged, judged_by, verdict_image};
 use std::alloc::Global;
-use std::sync::Wait;
 use std::process::Abort;
+use std::sync::Wait;
 use std::test::Fail;
 use trial::Row;
 
