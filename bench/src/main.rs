@@ -14,10 +14,10 @@ const READ: [u8; 16] = [
     0xFE, 0x01, 0x4C, 0x00, 0x67, 0x00, 0x01, 0x00, 0xA0, 0x00, 0x00, 0x00, 0x00, 0x00, 0x10, 0xC9,
 ];
 
-/// The packets of one node: its journal holds no more.
+/// The packets of one bank: its journal holds no more.
 const PACKETS: u32 = 65_536;
 
-/// The packets of one node where they are long.
+/// The packets of one bank where they are long.
 const LONG_PACKETS: u32 = 8_192;
 
 fn main() {
@@ -61,11 +61,11 @@ fn main() {
     }
 }
 
-/// Measures `judge` and `finish` of so many packets of a fresh node, which are made before.
+/// Measures `admit`, `judge_by` and `Bank::apply` of so many packets on a fresh bank, which are made before.
 fn serve(name: &str, image: &[u8], packet: &[u8], count: u32) {
     let whole = rounds(|| timed(|| speed::judge(image, packet, count)));
-    let prepared = rounds(|| timed(|| speed::prepare(image, packet, count)));
-    let name = format!("judge and finish, {name}");
+    let prepared = rounds(|| timed(|| speed::prepare(packet, count)));
+    let name = format!("judge and apply, {name}");
     tell(&name, "packets", f64::from(count), less(whole, prepared));
 }
 

@@ -13,13 +13,7 @@ unsafe extern "C" {
         header_length: usize,
         rounds: u32,
     ) -> u64;
-    fn speed_prepare(
-        image: *const u8,
-        image_length: usize,
-        packet: *const u8,
-        packet_length: usize,
-        count: u32,
-    ) -> u64;
+    fn speed_prepare(packet: *const u8, length: usize, count: u32) -> u64;
     fn speed_judge(
         image: *const u8,
         image_length: usize,
@@ -50,20 +44,12 @@ pub fn run(image: &[u8], header: &[u8; 16], rounds: u32) -> u64 {
     }
 }
 
-/// Makes a fresh node and so many packets.
-pub fn prepare(image: &[u8], packet: &[u8], count: u32) -> u64 {
-    unsafe {
-        speed_prepare(
-            image.as_ptr(),
-            image.len(),
-            packet.as_ptr(),
-            packet.len(),
-            count,
-        )
-    }
+/// Makes a fresh bank and so many packets.
+pub fn prepare(packet: &[u8], count: u32) -> u64 {
+    unsafe { speed_prepare(packet.as_ptr(), packet.len(), count) }
 }
 
-/// Makes a fresh node and so many packets, then judges and finishes each.
+/// Makes a fresh bank and so many packets, then judges and applies each.
 pub fn judge(image: &[u8], packet: &[u8], count: u32) -> u64 {
     unsafe {
         speed_judge(

@@ -1,30 +1,37 @@
-//! Packets through a node.
+//! Packets at a bearing and a bank: no static library can make a node, whose publisher waits.
+
+ghost use Rattle.std.specs.Prelude.{◌≡◌, IfSome};
 
 use crate::{REFUSED, accepted};
-use rmap::ReplyBuf;
+use bank::{Bank, Journal, Share};
+use bver::Accepted;
+use cells::Cells;
+use rmap::{ReplyBuf, Windows};
 use spw::{End, Packet};
 use std::alloc::Global;
-use target::{BankConfig, Banks, NodeConfig, Pass, banks_and_passes, serve_packet};
+use target::{Bearing, admit, judge_by};
 
-/// One bank with the longest journal.
-const BANKS: [BankConfig; 1] = [BankConfig {
-    base: 0xA000_0000,
-    size: 65_536,
-    room: 65_536,
-}];
+/// The address of the bank's first byte, its size, and the entries of the longest journal.
+const BASE: u32 = 0xA000_0000;
 
-/// A fresh node with the pass of its only port, where the image judges.
-fn node(alloc: Global, image: &[u8]) -> Option<(Banks, Pass)> {
-    let factory = accepted(alloc, image)?;
-    let config = NodeConfig {
-        address: 0xFE,
-        ports: 1,
-        banks: &BANKS,
-        sizes: factory.sizes(),
-    };
-    let (banks, _cells, mut passes) = banks_and_passes(alloc, &config, factory).ok()?;
-    let pass = passes.pop()?;
-    Some((banks, pass))
+const SIZE: u32 = 65_536;
+
+const ROOM: u32 = 65_536;
+
+/// A fresh bank with the share of its only port.
+fn bank(alloc: Global) -> Option<(Bank, Share)> {
+    let journal = Journal::new(alloc, ROOM).ok()?;
+    let (bank, mut shares) = Bank::new(alloc, BASE, SIZE, journal, 1).ok()?;
+    Some((bank, shares.pop()?))
+}
+
+/// The bearing of that port, for programs of those maps.
+fn bearing(alloc: Global, program: &Accepted) -> Option<Bearing>
+    ensures { IfSome result (λ bearing. bearing.seat.sizes ≡ program.now.sizes) }
+{
+    let (_cells, mut seats) = Cells::new(alloc, &program.sizes(), 1).ok()?;
+    let windows = Windows::new(0xFE, &[(BASE, SIZE)]);
+    Some(Bearing::new(0, windows, seats.pop()?))
 }
 
 /// So many packets of these bytes.
@@ -37,10 +44,10 @@ fn packets(alloc: Global, bytes: &[u8], count: u32) -> Option<Vec<Packet>> {
     Some(packets)
 }
 
-/// Makes a fresh node and so many packets, and leaves them: what `speed_judge` does before its work.
+/// Makes a fresh bank and so many packets, and leaves them: what `speed_judge` does before its work.
 #[unsafe(no_mangle)]
-pub extern "C" fn speed_prepare(alloc: Global, image: &[u8], bytes: &[u8], count: u32) -> u64 {
-    let Some((_banks, _pass)) = node(alloc, image) else {
+pub extern "C" fn speed_prepare(alloc: Global, bytes: &[u8], count: u32) -> u64 {
+    let Some((_bank, _share)) = bank(alloc) else {
         return REFUSED;
     };
     match packets(alloc, bytes, count) {
@@ -49,23 +56,57 @@ pub extern "C" fn speed_prepare(alloc: Global, image: &[u8], bytes: &[u8], count
     }
 }
 
-/// Makes a fresh node and so many packets, at most 65,536, and then judges and finishes each.
+/// Judges a packet by the program and applies it to the bank: how many bytes its reply has.
+fn serve(
+    bearing: &mut Bearing,
+    program: &Accepted,
+    bank: &mut Bank,
+    share: &mut Share,
+    packet: Packet,
+    reply: &mut ReplyBuf,
+) -> u64
+    requires { bearing.old.seat.sizes ≡ program.now.sizes }
+    ensures { bearing.new.seat.sizes ≡ bearing.old.seat.sizes }
+{
+    if let Ok(admitted) = admit(packet, bearing.windows(), reply) {
+        let judged = judge_by(bearing, program, 0, admitted);
+        if bank.fits(share, &judged) {
+            let _applied = bank.apply(share, judged, reply);
+        } else {
+            let _status = judged.answer_error(reply);
+        }
+    }
+    reply.bytes().len() as u64
+}
+
+/// Makes a fresh bank and so many packets, at most 65,536, and then judges and applies each: `admit`, `judge_by`
+/// and `Bank::apply`.
 #[unsafe(no_mangle)]
 pub extern "C" fn speed_judge(alloc: Global, image: &[u8], bytes: &[u8], count: u32) -> u64 {
-    let Some((mut banks, mut pass)) = node(alloc, image) else {
+    let Some(program) = accepted(alloc, image) else {
+        return REFUSED;
+    };
+    let Some(mut bearing) = bearing(alloc, &program) else {
+        return REFUSED;
+    };
+    let Some((mut bank, mut share)) = bank(alloc) else {
         return REFUSED;
     };
     let Some(packets) = packets(alloc, bytes, count) else {
         return REFUSED;
     };
-    if pass.banks() != banks.len() {
-        return REFUSED;
-    }
     let mut reply = ReplyBuf::new();
     let mut sum: u64 = 0;
     for packet in packets {
-        let _served = serve_packet(&mut banks, &mut pass, packet, &mut reply);
-        sum = sum.wrapping_add(reply.bytes().len() as u64);
+        let bytes = serve(
+            &mut bearing,
+            &program,
+            &mut bank,
+            &mut share,
+            packet,
+            &mut reply,
+        );
+        sum = sum.wrapping_add(bytes);
     }
     sum
 }
