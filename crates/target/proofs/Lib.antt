@@ -4,3 +4,5 @@ pub mod Pairings
 pub mod Services
 pub mod Askings
 pub mod Judgements
+pub mod Refusals
+pub mod Loadings

@@ -5,6 +5,8 @@ pub mod Steps
 pub mod Nodes
 pub mod Applied
 pub mod Stagings
+pub mod Loads
+pub mod Loaded
 pub mod Loans
 pub mod Served
 pub mod Pairs

@@ -1,0 +1,47 @@
+-- How a judged control write ends.
+use Rattle.std.specs.Prelude.{◌≡◌, ◌⊎◌, ℕ, List, [], Option, Some, None}
+use Rattle.rmap.specs.declared.status.Status.{Status}
+use Rattle.rmap.specs.declared.status.Status.TheVariants.{Success, GeneralError}
+use Rattle.rmap.specs.Command.{command_of}
+use Rattle.rmap.specs.Reply.{reply_of}
+use Rattle.bank.specs.Answer.{judged_line}
+use Rattle.bank.specs.Records.{JudgedValue}
+use Rattle.publish.specs.declared.history.Publish.{Publish}
+use Rattle.publish.specs.Staged.{staged}
+use Rattle.target.specs.declared.control.ControlData.{ControlData}
+use Rattle.target.specs.declared.refusal.LoadRefusal.{LoadRefusal}
+use Rattle.target.specs.Passes.{PassValue, with_staging}
+use Rattle.target.specs.Loads.{control_of, IsPublished, IsRefusedLoad, published_result, refused_result}
+
+-- what a control write asks for
+abbrev pub control_in : JudgedValue → ControlData
+control_in j = control_of (command_of j.packet).body
+
+-- a port that has learnt so much, with that load result
+abbrev pub after_load : PassValue → (seen : List Publish) → (load_result : List ℕ) → PassValue
+after_load h seen load_result = record h { programs = seen; staging = staged h.staging.bytes load_result }
+
+-- the staged program was published, and the load result has its generation
+pub record HasLoaded (holder after : PassValue) (old new : List Publish) (j : JudgedValue) (result : Status) : Type 0 where
+  pub generation : ℕ
+  pub published : IsPublished (control_in j) holder.staging.bytes old new holder.programs after.programs generation
+  pub status : result ≡ Success
+  pub holder_after : after ≡ after_load holder after.programs (published_result generation)
+
+-- the load was refused, which the load result tells, and nothing else changed
+pub record HasRefused (holder after : PassValue) (old new : List Publish) (j : JudgedValue) (result : Status) : Type 0 where
+  pub refusal : LoadRefusal
+  pub refused : IsRefusedLoad (control_in j) holder.staging.bytes old refusal
+  pub status : result ≡ GeneralError
+  pub same : new ≡ old
+  pub holder_after : after ≡ after_load holder holder.programs (refused_result refusal)
+
+-- how a judged control write ends, by what stops it: where nothing does, the load decides
+abbrev pub EndsAs : Option Status → (holder after : PassValue) → (old new : List Publish) → JudgedValue → Status → Type 0
+EndsAs (Some status) holder after old new j result = (result ≡ status) × (after ≡ holder) × (new ≡ old)
+EndsAs None holder after old new j result = HasLoaded holder after old new j result ⊎ HasRefused holder after old new j result
+
+-- how a judged control write ends: first the verdict decides, then the body, then the load
+pub record IsLoadEnd (holder after : PassValue) (old new : List Publish) (j : JudgedValue) (result : Status) (bytes : List ℕ) : Type 0 where
+  pub ended : EndsAs (judged_line (command_of j.packet) j.verdict) holder after old new j result
+  pub reply : bytes ≡ reply_of (command_of j.packet) result []
