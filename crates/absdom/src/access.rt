@@ -196,7 +196,8 @@ fn store_to(
     value: &AbsKind,
 ) -> Result<(), Cause>
     requires { bytes ≤ 8 }
-    ensures { Stores result state.old state.new bytes (AbsKind.Ptr region offsets) offset value.now }
+    ensures { Stores result state.old state.new bytes
+        (AbsKind.Ptr region offsets) offset value.now }
 {
     let _ = value.number()?;
     match region {

@@ -92,7 +92,8 @@ impl Bank {
         ports: u8,
     ) -> Result<(Bank, Vec<Share>), BankFault>
         ensures bank { IfOk result (λ made. made.0 ≡ fresh_bank base size journal ports) }
-        ensures shares { IfOk result (λ made. made.1.items ≡ map first_share (range_with_len 0 ports)) }
+        ensures shares { IfOk result
+            (λ made. made.1.items ≡ map first_share (range_with_len 0 ports)) }
         ensures size { IsErrOf result BankFault.Size ↔ (is_bank base size journal ports ≡ false) }
     {
         if !is_range(base, size) || ports == 0 || ports > PORTS || !journal.entries().is_empty() {
@@ -243,7 +244,8 @@ fn answer(
 ) -> Status
     requires { lies_inside first (length bytes.old.items) (command_of judged.now.packet) ≡ true }
     ensures status { result ≡ status_of room (command_of judged.now.packet) judged.now.verdict }
-    ensures memory { memory_at first bytes.new.items ≡ memory_from result first bytes.old.items judged.now }
+    ensures memory { memory_at first bytes.new.items
+        ≡ memory_from result first bytes.old.items judged.now }
     ensures reply { reply.new ≡ reply_from result first bytes.old.items judged.now }
     ensures executed { IsExecutable result judged.now.packet }
 {

@@ -110,7 +110,8 @@ fn modified(memory: &[u8], first: u32, command: &Command, half: usize) -> [u8; M
 pub(crate) fn change(memory: &mut [u8], first: u32, command: &Command)
     requires admitted { IsAdmissible command.now }
     requires body { body_line command.now ≡ None }
-    ensures { memory_at first memory.new ≡ (effect (memory_at first memory.old) command.now).memory }
+    ensures { memory_at first memory.new
+        ≡ (effect (memory_at first memory.old) command.now).memory }
 {
     let length = command.length() as usize;
     match command.kind() {
@@ -128,7 +129,8 @@ pub(crate) fn execute(memory: &mut [u8], first: u32, command: &Command, reply: &
     requires admitted { IsAdmissible command.now }
     requires body { body_line command.now ≡ None }
     requires inside { lies_inside first (length memory.old) command.now ≡ true }
-    ensures memory { memory_at first memory.new ≡ (effect (memory_at first memory.old) command.now).memory }
+    ensures memory { memory_at first memory.new
+        ≡ (effect (memory_at first memory.old) command.now).memory }
     ensures reply { reply.new ≡ executed_reply (memory_at first memory.old) command.now }
 {
     let length = command.length() as usize;

@@ -142,8 +142,10 @@ impl<'a> Body<'a> {
     ///
     /// `LoopEntry` where a run may come there with a counter outside its bound, or with none.
     pub(crate) fn raise(&self, lowered: &Lowered, state: &mut State) -> Result<(), Refusal>
-        ensures raised { OnOk result (IsRaised self.now.program self.now.declared lowered.now self.now.place state.old state.new) }
-        ensures bound { MatchResult result (λ _. IsWithinBound self.now.declared state.old) (IsEntryFault self.now.declared state.old) }
+        ensures raised { OnOk result
+            (IsRaised self.now.program self.now.declared lowered.now self.now.place state.old state.new) }
+        ensures bound { MatchResult result (λ _. IsWithinBound self.now.declared state.old)
+            (IsEntryFault self.now.declared state.old) }
     {
         let counter = AbsKind::Num(Range::new(1, u64::from(self.declared.bound)));
         if !state.kind(self.declared.register).leq(&counter) {
@@ -157,7 +159,8 @@ impl<'a> Body<'a> {
     /// the head and none on the edge.
     fn falls(&self, table: &Table<'_>, edge: &State, register: Register) -> bool
         requires { self.now.declared.head < length table.now.program.slots }
-        ensures { IsTrue result ↔ Falls self.now (known_in table.now self.now.declared.head) edge.now register }
+        ensures { IsTrue result ↔ Falls self.now
+            (known_in table.now self.now.declared.head) edge.now register }
     {
         table.is_number(self.declared.head, register)
             && !is_number(edge.kind(register))
@@ -194,7 +197,9 @@ impl<'a> Body<'a> {
     ) -> Result<(), Refused>
         requires { self.now.declared.head < length table.now.program.slots }
         ensures more { IsMore lowered.old lowered.new }
-        ensures covered { OnOk result (IsSettled lowered.old lowered.new → IsCovered edge.now (known_in table.now self.now.declared.head)) }
+        ensures covered { OnOk result
+            (IsSettled lowered.old lowered.new
+            → IsCovered edge.now (known_in table.now self.now.declared.head)) }
     {
         let head = self.declared.head;
         let before = lowered.count();

@@ -49,7 +49,9 @@ fn jump(
     requires table { IsTableOf visit.now table.old }
     requires jump { IsJump visit.now.program visit.now.slot distance }
     requires leads { LeadsBy visit.now distance }
-    ensures covered { OnOk result (IsSettled lowered.old lowered.new → IsCovered state.now (taken_in visit.now distance (known_in table.new))) }
+    ensures covered { OnOk result
+        (IsSettled lowered.old lowered.new
+        → IsCovered state.now (taken_in visit.now distance (known_in table.new))) }
     ensures extended { IsExtendedAfter visit.now table.old table.new }
     ensures more { IsMore lowered.old lowered.new }
 {
@@ -82,7 +84,10 @@ fn follow_taken(
     requires table { IsTableOf visit.now table.old }
     requires jump { IsJump visit.now.program visit.now.slot distance }
     requires leads { LeadsBy visit.now distance }
-    ensures covered { OnOk result (IsSettled lowered.old lowered.new → IsCoveredIfAny (on_edge state.now comparison.now.dst comparison.now.src edge.now) (taken_in visit.now distance (known_in table.new))) }
+    ensures covered { OnOk result
+        (IsSettled lowered.old lowered.new
+        → IsCoveredIfAny (on_edge state.now comparison.now.dst comparison.now.src edge.now)
+        (taken_in visit.now distance (known_in table.new))) }
     ensures extended { IsExtendedAfter visit.now table.old table.new }
     ensures more { IsMore lowered.old lowered.new }
 {
@@ -101,7 +106,8 @@ fn follow_taken(
 fn go_on(visit: &Visit, table: &mut Table<'_>, state: &State, slots: u16) -> bool
     requires table { IsTableOf visit.now table.old }
     requires next { IsNext visit.now slots }
-    ensures covered { IsCovered state.now (carried table.new result (visit.now.slot + slots) state.now (visit.now.slot + slots)) }
+    ensures covered { IsCovered state.now
+        (carried table.new result (visit.now.slot + slots) state.now (visit.now.slot + slots)) }
     ensures plain { IsTrue result → IsPlain visit.now.program (visit.now.slot + slots) }
     ensures extended { IsExtendedAfter visit.now table.old table.new }
 {
@@ -120,7 +126,9 @@ fn follow_not_taken(
 ) -> bool
     requires table { IsTableOf visit.now table.old }
     requires next { IsNext visit.now 1 }
-    ensures covered { IsCoveredIfAny (on_edge state.old comparison.now.dst comparison.now.src edge.now) (carried table.new result (visit.now.slot + 1) state.new (visit.now.slot + 1)) }
+    ensures covered { IsCoveredIfAny
+        (on_edge state.old comparison.now.dst comparison.now.src edge.now)
+        (carried table.new result (visit.now.slot + 1) state.new (visit.now.slot + 1)) }
     ensures plain { IsTrue result → IsPlain visit.now.program (visit.now.slot + 1) }
     ensures extended { IsExtendedAfter visit.now table.old table.new }
 {
@@ -148,8 +156,13 @@ fn branch(
     requires jump { IsJump visit.now.program visit.now.slot distance }
     requires leads { LeadsBy visit.now distance }
     requires next { IsNext visit.now 1 }
-    ensures covered { IfOk result (λ runs. IsSettled lowered.old lowered.new → AreEdgesCovered (Ok (on_edges state.old comparison.now.dst comparison.now.src edges.now)) (taken_in visit.now distance (carried table.new runs (visit.now.slot + 1) state.new)) (carried table.new runs (visit.now.slot + 1) state.new (visit.now.slot + 1))) }
-    ensures plain { IfOk result (λ runs. IsTrue runs → IsPlain visit.now.program (visit.now.slot + 1)) }
+    ensures covered { IfOk result
+        (λ runs. IsSettled lowered.old lowered.new
+        → AreEdgesCovered (Ok (on_edges state.old comparison.now.dst comparison.now.src edges.now))
+        (taken_in visit.now distance (carried table.new runs (visit.now.slot + 1) state.new))
+        (carried table.new runs (visit.now.slot + 1) state.new (visit.now.slot + 1))) }
+    ensures plain { IfOk result
+        (λ runs. IsTrue runs → IsPlain visit.now.program (visit.now.slot + 1)) }
     ensures extended { IsExtendedAfter visit.now table.old table.new }
     ensures more { IsMore lowered.old lowered.new }
 {
@@ -181,8 +194,13 @@ fn compare(
     requires jump { IsJump visit.now.program visit.now.slot offset }
     requires leads { LeadsBy visit.now offset }
     requires next { IsNext visit.now 1 }
-    ensures covered { IfOk result (λ runs. IsSettled lowered.old lowered.new → AreEdgesCovered (edges_of_comparison state.old comparison.now) (taken_in visit.now offset (carried table.new runs (visit.now.slot + 1) state.new)) (carried table.new runs (visit.now.slot + 1) state.new (visit.now.slot + 1))) }
-    ensures plain { IfOk result (λ runs. IsTrue runs → IsPlain visit.now.program (visit.now.slot + 1)) }
+    ensures covered { IfOk result
+        (λ runs. IsSettled lowered.old lowered.new
+        → AreEdgesCovered (edges_of_comparison state.old comparison.now)
+        (taken_in visit.now offset (carried table.new runs (visit.now.slot + 1) state.new))
+        (carried table.new runs (visit.now.slot + 1) state.new (visit.now.slot + 1))) }
+    ensures plain { IfOk result
+        (λ runs. IsTrue runs → IsPlain visit.now.program (visit.now.slot + 1)) }
     ensures extended { IsExtendedAfter visit.now table.old table.new }
     ensures more { IsMore lowered.old lowered.new }
 {
@@ -218,8 +236,12 @@ fn straight(
 ) -> Result<bool, Refused>
     requires table { IsTableOf visit.now table.old }
     requires next { IsNext visit.now (slots_of insn.now) }
-    ensures covered { IfOk result (λ runs. IsResultCovered (applied state.old insn.now) (carried table.new runs (visit.now.slot + slots_of insn.now) state.new (visit.now.slot + slots_of insn.now))) }
-    ensures plain { IfOk result (λ runs. IsTrue runs → IsPlain visit.now.program (visit.now.slot + slots_of insn.now)) }
+    ensures covered { IfOk result
+        (λ runs. IsResultCovered (applied state.old insn.now)
+        (carried table.new runs (visit.now.slot + slots_of insn.now) state.new
+        (visit.now.slot + slots_of insn.now))) }
+    ensures plain { IfOk result
+        (λ runs. IsTrue runs → IsPlain visit.now.program (visit.now.slot + slots_of insn.now)) }
     ensures extended { IsExtendedAfter visit.now table.old table.new }
 {
     order_of_states();
@@ -296,10 +318,14 @@ fn check_cell(visit: &Visit, state: &State) -> Result<(), Refused>
 fn ask(visit: &Visit, table: &mut Table<'_>, state: &mut State) -> Result<bool, Refused>
     requires table { IsTableOf visit.now table.old }
     requires next { IsNext visit.now 1 }
-    ensures cell { OnOk result (AsksCell visit.now.sizes (kind_at state.old 1) (kind_at state.old 2)) }
+    ensures cell { OnOk result
+        (AsksCell visit.now.sizes (kind_at state.old 1) (kind_at state.old 2)) }
     ensures left { OnOk result (state.new ≡ after_call state.old) }
-    ensures covered { IfOk result (λ runs. IsCovered (after_call state.old) (carried table.new runs (visit.now.slot + 1) state.new (visit.now.slot + 1))) }
-    ensures plain { IfOk result (λ runs. IsTrue runs → IsPlain visit.now.program (visit.now.slot + 1)) }
+    ensures covered { IfOk result
+        (λ runs. IsCovered (after_call state.old)
+        (carried table.new runs (visit.now.slot + 1) state.new (visit.now.slot + 1))) }
+    ensures plain { IfOk result
+        (λ runs. IsTrue runs → IsPlain visit.now.program (visit.now.slot + 1)) }
     ensures extended { IsExtendedAfter visit.now table.old table.new }
 {
     order_of_states();
@@ -351,8 +377,13 @@ pub(crate) fn flow(
     requires begins { insn_at visit.now.program visit.now.slot ≡ Some insn.now }
     requires allowed { IsAllowed visit.now.program visit.now.slot insn.now }
     requires next { HasNext visit.now insn.now }
-    ensures permitted { IfOk result (λ runs. IsSettled lowered.old lowered.new → IsPermitted visit.now.sizes (carried table.new runs (visit.now.slot + slots_of insn.now) state.new) visit.now.slot state.old insn.now) }
-    ensures plain { IfOk result (λ runs. IsTrue runs → IsPlain visit.now.program (visit.now.slot + slots_of insn.now)) }
+    ensures permitted { IfOk result
+        (λ runs. IsSettled lowered.old lowered.new
+        → IsPermitted visit.now.sizes
+        (carried table.new runs
+        (visit.now.slot + slots_of insn.now) state.new) visit.now.slot state.old insn.now) }
+    ensures plain { IfOk result
+        (λ runs. IsTrue runs → IsPlain visit.now.program (visit.now.slot + slots_of insn.now)) }
     ensures extended { IsExtendedAfter visit.now table.old table.new }
     ensures more { IsMore lowered.old lowered.new }
 {

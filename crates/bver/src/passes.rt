@@ -61,8 +61,12 @@ fn arrive(
     requires table { IsTableOf visit.now table.old }
     requires inside { visit.now.slot < length visit.now.program.slots }
     requires plain { IsTrue runs → IsKept visit.now.program visit.now.slot → ⊥ }
-    ensures known { IfOk result (λ known. visited_with runs state.old table.new visit.now.slot ≡ (if known then Some state.new else None)) }
-    ensures heads { OnOk result (AreHeadsAt visit.now.program visit.now.slot (visited_with runs state.old table.new visit.now.slot)) }
+    ensures known { IfOk result
+        (λ known. visited_with runs state.old table.new visit.now.slot
+        ≡ (if known then Some state.new else None)) }
+    ensures heads { OnOk result
+        (AreHeadsAt visit.now.program visit.now.slot
+        (visited_with runs state.old table.new visit.now.slot)) }
     ensures extended { IsExtended visit.now.slot table.old table.new }
 {
     order_of_states();
@@ -91,7 +95,9 @@ fn visit_insn(
     requires table { IsTableOf visit.now table.old }
     requires begins { insn_at visit.now.program visit.now.slot ≡ Some insn.now }
     requires plain { IsTrue runs.old → IsKept visit.now.program visit.now.slot → ⊥ }
-    ensures visit { IfOk result (λ region. IsInsnVisit visit.now table.old table.new runs.old runs.new state.old state.new (IsSettled lowered.old lowered.new) region insn.now) }
+    ensures visit { IfOk result
+        (λ region. IsInsnVisit visit.now table.old table.new runs.old runs.new state.old state.new
+        (IsSettled lowered.old lowered.new) region insn.now) }
     ensures table { IsTableOf visit.now table.new }
     ensures more { IsMore lowered.old lowered.new }
 {
@@ -117,7 +123,9 @@ fn visit_slot(
 ) -> Result<Option<Region>, Refused>
     requires table { IsTableOf visit.now table.old }
     requires plain { IsTrue runs.old → IsKept visit.now.program visit.now.slot → ⊥ }
-    ensures visit { IfOk result (λ region. IsVisit visit.now table.old table.new runs.old runs.new state.old state.new (IsSettled lowered.old lowered.new) region (insn_at visit.now.program visit.now.slot)) }
+    ensures visit { IfOk result
+        (λ region. IsVisit visit.now table.old table.new runs.old runs.new state.old state.new
+        (IsSettled lowered.old lowered.new) region (insn_at visit.now.program visit.now.slot)) }
     ensures table { IsTableOf visit.now table.new }
     ensures more { IsMore lowered.old lowered.new }
 {
@@ -144,7 +152,8 @@ pub(crate) fn pass(
     requires table { table.old.program ≡ image.now }
     requires entered { AreEntered image.now (known_in table.old) }
     requires regions { length regions.old.items ≡ length image.now.slots }
-    ensures judged { OnOk result (IsSettled lowered.old lowered.new → IsJudged image.now sizes.now regions.new.items) }
+    ensures judged { OnOk result
+        (IsSettled lowered.old lowered.new → IsJudged image.now sizes.now regions.new.items) }
     ensures table { table.new.program ≡ image.now }
     ensures regions { length regions.new.items ≡ length image.now.slots }
     ensures more { IsMore lowered.old lowered.new }

@@ -33,7 +33,8 @@ fn mark(kept: &mut Vec<bool>, image: &Image, slot: u16)
     ensures size { length kept.new.items ≡ length image.now.slots }
     ensures stays { (k : ℕ) → IsMarked kept.old.items k → IsMarked kept.new.items k }
     ensures marks { (k : ℕ) → JumpsTo image.now slot k → IsMarked kept.new.items k }
-    ensures only { (k : ℕ) → IsMarked kept.new.items k → IsMarked kept.old.items k ⊎ JumpsTo image.now slot k }
+    ensures only { (k : ℕ) → IsMarked kept.new.items k → IsMarked kept.old.items k
+        ⊎ JumpsTo image.now slot k }
 {
     if let Some(landing) = landing_from(image, slot) {
         kept[usize::from(landing)] = true;

@@ -90,7 +90,8 @@ impl<'a> Visit<'a> {
 
     /// The declared loop that has its head at the slot.
     pub(crate) fn head(&self) -> Option<Body<'a>>
-        ensures some { IfSome result (λ b. (b.program ≡ self.now.program) × (b.declared.head ≡ self.now.slot)) }
+        ensures some { IfSome result
+            (λ b. (b.program ≡ self.now.program) × (b.declared.head ≡ self.now.slot)) }
         ensures declared { IfSome result (λ b. IsDeclared b.program b.declared b.place) }
         ensures none { result ≡ None → All (λ l. l.head ≢ self.now.slot) self.now.program.loops }
         ensures program { IsProgram self.now.program }
@@ -109,7 +110,8 @@ impl<'a> Visit<'a> {
     pub(crate) fn stands_formed(&self)
         ensures formed { IsFormed self.now.program }
         ensures program { IsProgram self.now.program }
-        ensures heads { (IsKept self.now.program self.now.slot → ⊥) → All (λ l. l.head ≢ self.now.slot) self.now.program.loops }
+        ensures heads { (IsKept self.now.program self.now.slot → ⊥)
+            → All (λ l. l.head ≢ self.now.slot) self.now.program.loops }
     {
         let _ = self.image.slots();
         let _ = self.slot();
@@ -117,7 +119,8 @@ impl<'a> Visit<'a> {
 
     /// The declared loop whose back is the slot, and its head that one.
     pub(crate) fn closed(&self, head: u16) -> Option<Body<'a>>
-        ensures some { IfSome result (λ b. (b.program ≡ self.now.program) × (b.declared.head ≡ head)) }
+        ensures some { IfSome result
+            (λ b. (b.program ≡ self.now.program) × (b.declared.head ≡ head)) }
         ensures none { result ≡ None → is_loop_back self.now.program self.now.slot head ≡ false }
     {
         for place in 0..self.image.loops().len() {

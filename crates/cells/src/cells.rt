@@ -70,7 +70,8 @@ fn new_seat(
         (arc_value words.now).shared.table_id rest.old }
     requires fresh { rest.old.me.0.draws ≡ [] }
     requires part { 0 < rest.old.me.0.parts }
-    ensures seat { IfOk result (λ s. s ≡ seat sizes.now (table_id_coded.code rest.old.table_id) []) }
+    ensures seat { IfOk result
+        (λ s. s ≡ seat sizes.now (table_id_coded.code rest.old.table_id) []) }
     ensures home { rest.new.table_id ≡ rest.old.table_id }
     ensures slots { rest.new.me.1 ≡ [] }
     ensures rest { IfOk result (λ s. rest.new.me.0 ≡ hand (rest.old.me.0.parts - 1) []) }
@@ -95,8 +96,10 @@ impl Cells {
         sizes: &MapSizes,
         seats: u8,
     ) -> Result<(Cells, Vec<CellSeat>), AllocError>
-        ensures cells { IfOk result (λ made. made.0 ≡ cells sizes.now made.0.home (256 - seats) []) }
-        ensures seats { IfOk result (λ made. made.1.items ≡ replicate seats (seat sizes.now made.0.home [])) }
+        ensures cells { IfOk result
+            (λ made. made.0 ≡ cells sizes.now made.0.home (256 - seats) []) }
+        ensures seats { IfOk result
+            (λ made. made.1.items ≡ replicate seats (seat sizes.now made.0.home [])) }
     {
         let (words, mut rest) = words(alloc, sizes)?;
         let words = Arc::new(alloc, words)?;
@@ -129,7 +132,8 @@ impl Cells {
         requires { IsInside self.old.sizes map key }
         ensures same { self.new ≡ self.old }
         ensures ahead { IsAhead (word_of self.old.sizes map key) result self.old.draws }
-        ensures counted { IsWhole self.old → IsCounted (word_of self.old.sizes map key) result self.old.draws }
+        ensures counted { IsWhole self.old
+            → IsCounted (word_of self.old.sizes map key) result self.old.draws }
         ensures tickets { IsWhole self.old → AreNumbered self.old map key result }
     {
         let word = word_at(&self.sizes, map, key);

@@ -169,9 +169,7 @@ fn print_served<'a, W: Write>(
         Served::Stopped(Header::Answered(_))
         | Served::Unread
         | Served::Done(_)
-        | Served::Window(_) => {
-            print_reply(alloc, out, port, reply)
-        }
+        | Served::Window(_) => { print_reply(alloc, out, port, reply) }
     }
 }
 
@@ -252,7 +250,8 @@ fn lines_and_node<'a, J: Room, R: Wait + Drop, F: Files>(
     files: &mut F,
 ) -> Result<(String, JobNode<J, R>), Fault<'a>>
     requires { opened ≡ J.book }
-    ensures ready { IfOk result (λ made. IsReady F.reads sizes ports files.old lines.now (name_in image.entry)
+    ensures ready { IfOk result
+        (λ made. IsReady F.reads sizes ports files.old lines.now (name_in image.entry)
         (string_bytes made.0) made.1 files.new) }
     ensures refused { IfErr result
         (IsNotReady F.reads files.old lines.now (name_in image.entry) files.new) }
@@ -285,7 +284,8 @@ pub fn judge_file<'a, J: Room, R: Wait, F: Files, W: Write>(
     ensures stops { IfErr result (StopsBy (IsNotJudged F.reads sizes ports files.old lines.now
         (name_in image.entry) files.new (W.contents out.old) (W.contents out.new))) }
 {
-    let (text, mut node) =
-        lines_and_node::<J, _, _>(alloc, rt, opened, lines, image, sizes, ports, files)?;
+    let (text, mut node) = lines_and_node::<J, _, _>(
+        alloc, rt, opened, lines, image, sizes, ports, files,
+    )?;
     judge_text(alloc, &mut node, text.as_str(), out)
 }

@@ -62,8 +62,9 @@ impl<J: Room, R: Wait + Drop> JobNode<J, R> {
             banks: &[BANK],
             sizes: program.sizes(),
         };
-        let (banks, _cells, publisher, passes) =
-            banks_and_passes(alloc, rt, opened, &config, program)?;
+        let (banks, _cells, publisher, passes) = banks_and_passes(
+            alloc, rt, opened, &config, program,
+        )?;
         Ok(JobNode {
             banks,
             publisher,

@@ -108,7 +108,8 @@ pub fn sizes_of(alloc: Global, found: &ArgMatches) -> Result<MapSizes, UsageFaul
 /// How many ports by `--ports`: a decimal number from 1 to 32, and 1 without the option. `BadOption` where its
 /// value is none such.
 pub fn ports_of(found: &ArgMatches) -> Result<u8, UsageFault>
-    ensures ok { IfOk result (GivesPorts (first_of (codes "ports") (rows_of (found_of found.now)))) }
+    ensures ok { IfOk result
+        (GivesPorts (first_of (codes "ports") (rows_of (found_of found.now)))) }
     ensures err { IfErr result (RefusesCount (rows_of (found_of found.now))) }
 {
     match text_of(found, "ports") {

@@ -47,7 +47,8 @@ impl<'a> Command<'a> {
     ///
     /// Any command that stands to the bytes, with the packet's end, is the one that is given.
     pub fn view(packet: &'a Packet) -> Result<Command<'a>, Discard>
-        ensures command { MatchResult result (IsCommand packet.now.bytes) (IsDiscarded packet.now.bytes) }
+        ensures command { MatchResult result (IsCommand packet.now.bytes)
+            (IsDiscarded packet.now.bytes) }
         ensures end { MatchResult result (λ c. c.end ≡ packet.now.end) (λ _. Unit {0}) }
         ensures crc { IfOk result (λ c. IsRemainder (header_of c) (header_crc_of c)) }
         ensures kept { IfOk result (λ _. discard_of packet.now.bytes ≡ None) }

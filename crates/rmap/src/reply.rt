@@ -105,7 +105,8 @@ impl ReplyBuf {
     fn push_checked_header(&mut self, command: &Command, status: Status, bytes: &[u8])
         requires room { length self.old ≤ 12 }
         requires few { length bytes.now ≤ 4096 }
-        ensures value { self.new ≡ self.old ++ with_crc (reply_header command.now status bytes.now) }
+        ensures value { self.new
+            ≡ self.old ++ with_crc (reply_header command.now status bytes.now) }
         ensures remainder { HasRemainder (reply_header command.now status bytes.now) }
     {
         let start = self.bytes().len();
@@ -159,7 +160,8 @@ pub fn put_reply(reply: &mut ReplyBuf, command: &Command, status: Status, bytes:
     requires few { length bytes.now ≤ 4096 }
     requires none_at_error { status ≢ Success → bytes.now ≡ [] }
     ensures value { reply.new ≡ reply_of command.now status bytes.now }
-    ensures remainders { IsTrue (wants_reply command.now) → HasRemainders command.now bytes.now reply.new }
+    ensures remainders { IsTrue (wants_reply command.now)
+        → HasRemainders command.now bytes.now reply.new }
     ensures short { length reply.new ≤ MAX_REPLY }
 {
     reply.clear();

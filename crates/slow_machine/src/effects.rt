@@ -163,7 +163,8 @@ fn compare(frame: Frame<'_>, comparison: &Comparison, offset: i16) -> Effect
 /// A load through a pointer. `None` is a trap.
 fn load(frame: Frame<'_>, size: LoadSize, base: Value, offset: i16) -> Option<Value>
     requires { IsNear (2 ^ 126) base }
-    ensures { result ≡ loads (header_in frame.entry.memory) (state_in frame.entry) size base offset }
+    ensures { result
+        ≡ loads (header_in frame.entry.memory) (state_in frame.entry) size base offset }
 {
     match base {
         Value::Ptr {
@@ -249,7 +250,8 @@ fn key_in(sizes: &MapSizes, map: u8, key: u64) -> Option<u16>
 
 /// The question of a helper: r1 is a map, r2 a key below its size.
 fn ask(frame: Frame<'_>, sizes: &MapSizes, helper: u8) -> Effect
-    ensures outcome { outcome_in frame.entry result ≡ asks_with sizes.now (state_in frame.entry) helper }
+    ensures outcome { outcome_in frame.entry result
+        ≡ asks_with sizes.now (state_in frame.entry) helper }
     ensures placed { IsPlaced result }
 {
     match value_at(frame, 1) {

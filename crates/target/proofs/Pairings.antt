@@ -213,7 +213,7 @@ pub judged_fits : (banks : List BankValue) (h between : PassValue) (p : Cargo) (
 judged_fits banks h between p j k b run paired place at =
     let asked = pass_after h run.seen run.calls in
     subst (λ (x : PassValue). fits b (share_of x j.place) j ≡ true) (sym run.asked)
-        (paired_commands_fit banks asked run.program j.generation k run.calls p j b (asked_paired banks h run.seen run.calls paired) run.judged_for place at)
+    (paired_commands_fit banks asked run.program j.generation k run.calls p j b (asked_paired banks h run.seen run.calls paired) run.judged_for place at)
 
 -- another staging leaves a port paired
 pub staged_paired : (banks : List BankValue) (h : PassValue) (staging : Staged) → IsPaired banks h → IsPaired banks (with_staging h staging)

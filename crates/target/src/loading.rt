@@ -73,7 +73,8 @@ pub fn prepare(
     control: ControlData,
     sizes: &MapSizes,
 ) -> Result<(u8, Accepted), LoadRefusal>
-    ensures prepared { IfOk result (λ made. IsPrepared control staging.now.bytes sizes.now made.0 made.1) }
+    ensures prepared { IfOk result
+        (λ made. IsPrepared control staging.now.bytes sizes.now made.0 made.1) }
     ensures refused { IfErr result (IsUnprepared control staging.now.bytes) }
 {
     if let Some(code) = control_code(control) {

@@ -67,11 +67,16 @@ impl<J: Room, R: Wait + Drop> Node<J, R> {
         requires room { opened ≡ J.book }
         requires sizes { factory.sizes ≡ config.now.sizes }
         ensures banks { IfOk result (λ made. made.0 ≡ length config.now.banks.now) }
-        ensures passes { IfOk result (λ made. (home : Gv) × (made.1.items ≡ first_passes config.now factory home)) }
-        ensures limits { IfOk result (λ _. limit_fault config.now.ports config.now.banks.now ≡ None) }
-        ensures fault { IfErr result (IsNodeFault (limit_fault config.now.ports config.now.banks.now)) }
+        ensures passes { IfOk result
+            (λ made. (home : Gv) × (made.1.items ≡ first_passes config.now factory home)) }
+        ensures limits { IfOk result
+            (λ _. limit_fault config.now.ports config.now.banks.now ≡ None) }
+        ensures fault { IfErr result
+            (IsNodeFault (limit_fault config.now.ports config.now.banks.now)) }
     {
-        let (banks, _cells, publisher, passes) = banks_and_passes(alloc, rt, opened, config, factory)?;
+        let (banks, _cells, publisher, passes) = banks_and_passes(
+            alloc, rt, opened, config, factory,
+        )?;
         let banks = locks(alloc, banks)?;
         let publisher = Mutex::new(publisher);
         Ok((Node { banks, publisher }, passes))

@@ -97,7 +97,11 @@ fn a_command_of_another_port_sees_the_bank(rt: HostRuntime) -> Result<(), Fail> 
     both_ports_read::<Brand, _>(&rt, rt.alloc(), Opened::new())
 }
 
-fn both_ports_read<J: Room, R: Wait + Abort>(rt: &R, alloc: Global, opened: Opened) -> Result<(), Fail>
+fn both_ports_read<J: Room, R: Wait + Abort>(
+    rt: &R,
+    alloc: Global,
+    opened: Opened,
+) -> Result<(), Fail>
     requires { opened ≡ J.book }
 {
     let (node, mut passes) = shared::<J, _>(rt, alloc, opened)?;
@@ -146,7 +150,11 @@ fn generated_commands_fit(rt: HostRuntime) -> Result<(), Fail> {
     generated_commands::<Brand, _>(&rt, rt.alloc(), Opened::new())
 }
 
-fn generated_commands<J: Room, R: Wait + Abort>(rt: &R, alloc: Global, opened: Opened) -> Result<(), Fail>
+fn generated_commands<J: Room, R: Wait + Abort>(
+    rt: &R,
+    alloc: Global,
+    opened: Opened,
+) -> Result<(), Fail>
     requires { opened ≡ J.book }
 {
     let (node, mut passes) = shared::<J, _>(rt, alloc, opened)?;

@@ -24,7 +24,14 @@ fn served_afresh(
     line: &str,
     reply: &mut ReplyBuf,
 ) -> Result<Served, Fail> {
-    served_on::<Brand, _>(rt, alloc, Opened::new(), verdict, packet(alloc, line)?, reply)
+    served_on::<Brand, _>(
+        rt,
+        alloc,
+        Opened::new(),
+        verdict,
+        packet(alloc, line)?,
+        reply,
+    )
 }
 
 fn served_on<J: Room, R: Wait>(
@@ -38,8 +45,14 @@ fn served_on<J: Room, R: Wait>(
     requires { opened ≡ J.book }
 {
     let factory = program(alloc, verdict)?;
-    let (mut banks, _publisher, mut passes) =
-        node::<J, _>(alloc, rt, opened, 2, &[bank(1024)], factory)?;
+    let (mut banks, _publisher, mut passes) = node::<J, _>(
+        alloc,
+        rt,
+        opened,
+        2,
+        &[bank(1024)],
+        factory,
+    )?;
     let pass = passes.first_mut().ok_or("no pass")?;
     served(&mut banks, pass, sent, reply)
 }
@@ -124,8 +137,7 @@ fn numbers_of_three_ports<J: Room, R: Wait + Abort>(
 {
     let three = [bank(16), bank(16), bank(16)];
     let factory = program(alloc, 0)?;
-    let (mut banks, _publisher, mut passes) =
-        node::<J, _>(alloc, rt, opened, 3, &three, factory)?;
+    let (mut banks, _publisher, mut passes) = node::<J, _>(alloc, rt, opened, 3, &three, factory)?;
     let mut reply = ReplyBuf::new();
     for (port, k, number) in [
         (0, 0, 0),
