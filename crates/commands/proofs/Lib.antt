@@ -2,5 +2,4 @@ mod FactoryImage
 mod LinesInTurn
 mod MapLists
 mod Matching
-mod OwnPort
 mod TextLines

@@ -8,7 +8,7 @@ use Rattle.spw.specs.Cargo.{Cargo}
 use Rattle.publish.specs.declared.history.Publish.{Publish}
 use Rattle.target.specs.declared.config.BankConfig.{BankConfig}
 use Rattle.target.specs.declared.served.Served.{Served}
-use Rattle.target.specs.Served.{IsAnswered}
+use Rattle.target.specs.Served.{IsAnswered, parts}
 use Rattle.target.specs.Nodes.{bank_of, first_pass, first_programs}
 use Rattle.target.specs.Passes.{PassValue}
 use Rattle.target.specs.Pairs.{ArePaired}
@@ -42,12 +42,11 @@ abbrev pub IsFresh : (ports : ℕ) → AcceptedValue → JobNodeValue → Type 0
 IsFresh ports program node =
     (home : Gv) × (node ≡ job_node (bank_of ports own_bank ∷ []) (first_programs program) (first_holders ports program home) [])
 
--- this became of the packet that came in at the port, the node has the reply that is due, no other port
--- changed, and nothing was published
+-- this became of the packet that came in at the port, the node has the reply that is due, and no other port
+-- changed
 pub record Serves (served : Served) (port : ℕ) (packet : Cargo) (before after : JobNodeValue) : Type 0 where
   pub holder : PassValue
   pub left : PassValue
   pub own : slice_get before.holders port ≡ Some holder
   pub others : after.holders ≡ slice_set before.holders port left
-  pub programs : after.programs ≡ before.programs
-  pub answered : IsAnswered served packet before.banks after.banks holder left after.reply
+  pub answered : IsAnswered served packet (parts before.banks before.programs) (parts after.banks after.programs) holder left after.reply

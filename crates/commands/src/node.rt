@@ -73,8 +73,9 @@ impl<J: Room, R: Wait + Drop> JobNode<J, R> {
         })
     }
 
-    /// What becomes of a packet that comes in at a port, or `None` where there is no such port.
-    pub fn serve(&mut self, port: u8, packet: Packet) -> Option<Served>
+    /// What becomes of a packet that comes in at a port, or `None` where there is no such port. It takes memory and
+    /// may wait for readers only where it loads.
+    pub fn serve(&mut self, alloc: Global, port: u8, packet: Packet) -> Option<Served>
         ensures served { IfSome result (λ served. Serves served port packet self.old self.new) }
         ensures no_port { length self.old.holders ≤ port → (result ≡ None) × (self.new ≡ self.old) }
         ensures own_port { port < length self.old.holders → result ≢ None }
@@ -84,8 +85,10 @@ impl<J: Room, R: Wait + Drop> JobNode<J, R> {
             return None;
         }
         let banks = &mut self.banks;
+        let publisher = &mut self.publisher;
         let pass = &mut self.passes[place];
-        Some(serve_packet(banks, pass, packet, &mut self.reply))
+        let reply = &mut self.reply;
+        Some(serve_packet(alloc, banks, publisher, pass, packet, reply))
     }
 
     /// The reply to the last packet that was served; no bytes where none is due.

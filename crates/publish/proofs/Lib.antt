@@ -3,3 +3,4 @@ pub mod Fronts
 pub mod Shelves
 pub mod Rooms
 pub mod Lasts
+pub mod Later

@@ -1,5 +1,6 @@
 -- Laws of published programs.
 use Rattle.std.specs.Prelude.{◌≡◌, ◌≢◌, ◌<◌, ◌⊎◌, ℕ, ◌==◌, List, [], ◌∷◌, ◌++◌, length, Some, cond}
+use mathlib.Core.List.{IsPrefix}
 use Rattle.bver.specs.Justified.{AcceptedValue}
 use Rattle.publish.specs.declared.history.Publish.{Publish}
 use Rattle.publish.specs.Histories.{extended}
@@ -33,3 +34,13 @@ IsLastFor = (history : List Publish) (slot : ℕ) (program : AcceptedValue) (gen
 -- its generation is a place in the history
 abbrev pub IsBelow : Type 0
 IsBelow = (history : List Publish) (slot : ℕ) (program : AcceptedValue) (generation : ℕ) → published history slot ≡ Some (program, generation) → generation < length history
+
+-- the program with its generation is that one with that place, or one of a later place
+abbrev pub IsThatOrLater : AcceptedValue → ℕ → AcceptedValue × ℕ → Type 0
+IsThatOrLater program place shown = ((shown.0 ≡ program) × (shown.1 ≡ place)) ⊎ (place < shown.1)
+
+-- behind a publish for a slot that program is published there, or a later one
+abbrev pub IsKeptOrLater : Type 0
+IsKeptOrLater = (history seen : List Publish) (slot : ℕ) (program judge : AcceptedValue) (generation : ℕ)
+    → IsPrefix (extended history slot program) seen → published seen slot ≡ Some (judge, generation)
+    → IsThatOrLater program (length history) (judge, generation)

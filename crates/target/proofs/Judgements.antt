@@ -3,17 +3,15 @@ use Rattle.std.proofs.Common.{◌≡◌, ℕ, List, Option, None, Some, refl, sy
 use Rattle.std.specs.Option.{option_map}
 use mathlib.Core.List.{IsPrefix}
 use Rattle.spw.specs.Cargo.{Cargo}
-use Rattle.rmap.specs.declared.kind.Kind.{Kind}
 use Rattle.rmap.specs.declared.places.Place.{Place}
-use Rattle.rmap.specs.Command.{CommandValue, command_of, command_kind}
-use Rattle.rmap.specs.Windows.{WindowsValue}
+use Rattle.rmap.specs.Command.{command_of, command_kind}
 use Rattle.bver.specs.Justified.{AcceptedValue}
-use Rattle.bank.specs.Records.{AdmittedValue, JudgedValue, ShareValue, judgement}
+use Rattle.bank.specs.Records.{AdmittedValue, JudgedValue, ShareValue}
 use Rattle.publish.specs.declared.history.Publish.{Publish}
 use Rattle.publish.specs.Published.{published, program_at, generation_at}
 use Rattle.publish.specs.Staged.{Staged}
 use Rattle.target.specs.Slots.{slot_of}
-use Rattle.target.specs.Passes.{BearingValue, PassValue, bearing_after, pass_of, pass_after}
+use Rattle.target.specs.Passes.{BearingValue, pass_of}
 use Rattle.target.specs.Steps.{IsAdmission, IsJudgedByTaken, IsJudgedOnce, IsJudgement, IsTaken, IsVerdict}
 
 some_same : {A : Type 0} (x y : A) → Some x ≡ Some y → x ≡ y

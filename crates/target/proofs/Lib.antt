@@ -6,3 +6,5 @@ pub mod Askings
 pub mod Judgements
 pub mod Refusals
 pub mod Loadings
+pub mod Takings
+pub mod Reasons

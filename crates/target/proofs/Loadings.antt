@@ -1,5 +1,5 @@
 -- How a control write ends that nothing stops.
-use Rattle.std.proofs.Common.{◌≡◌, ℕ, List, [], Option, Some, None, refl, sym, ap, ap₂, subst, ◌∙◌, inl, inr}
+use Rattle.std.proofs.Common.{◌≡◌, ℕ, List, [], length, Option, None, sym, ap, ap₂, subst, ◌∙◌, inl, inr}
 use Rattle.rmap.specs.declared.status.Status.{Status}
 use Rattle.rmap.specs.declared.status.Status.TheVariants.{Success, GeneralError}
 use Rattle.rmap.specs.Command.{command_of}
@@ -7,12 +7,14 @@ use Rattle.rmap.specs.Reply.{reply_of}
 use Rattle.bank.specs.Answer.{judged_line}
 use Rattle.bank.specs.Records.{JudgedValue, ShareValue}
 use Rattle.publish.specs.declared.history.Publish.{Publish}
+use Rattle.publish.specs.Published.{sizes_of}
 use Rattle.publish.specs.Staged.{Staged, staged}
 use Rattle.target.specs.declared.control.ControlData.{ControlData}
 use Rattle.target.specs.declared.refusal.LoadRefusal.{LoadRefusal}
-use Rattle.target.specs.Passes.{BearingValue, PassValue, pass_of}
-use Rattle.target.specs.Loads.{IsPublished, IsRefusedLoad, published_result, refused_result}
-use Rattle.target.specs.Loaded.{control_in, EndsAs, HasLoaded, HasRefused, IsLoadEnd}
+use Rattle.target.specs.Passes.{BearingValue, pass_of}
+use Rattle.target.specs.Loads.{published_result, refused_result}
+use Rattle.target.specs.Outcomes.{IsLoad, Refused}
+use Rattle.target.specs.Loaded.{IsPublished, control_in, EndsAs, HasLoaded, HasRefused, IsLoadEnd}
 
 -- a load that published
 pub ends_loaded : (b : BearingValue) (known seen : List Publish) (shares : List ShareValue) (staging left : Staged) (old new : List Publish) (j : JudgedValue) (result : Status) (bytes loaded : List ℕ) (control : ControlData) (generation : ℕ)
@@ -35,7 +37,7 @@ ends_loaded b known seen shares staging left old new j result bytes loaded contr
 -- a load that was refused
 pub ends_refused : (b : BearingValue) (known seen : List Publish) (shares : List ShareValue) (staging left : Staged) (old new : List Publish) (j : JudgedValue) (result : Status) (bytes loaded : List ℕ) (control : ControlData) (refusal : LoadRefusal)
     → judged_line (command_of j.packet) j.verdict ≡ None → control ≡ control_in j
-    → IsRefusedLoad control staging.bytes old refusal → seen ≡ known → new ≡ old
+    → IsLoad control staging.bytes (sizes_of old) (length old) (Refused refusal) → seen ≡ known → new ≡ old
     → result ≡ GeneralError → left ≡ staged staging.bytes loaded → loaded ≡ refused_result refusal
     → bytes ≡ reply_of (command_of j.packet) result []
     → IsLoadEnd (pass_of b known shares staging) (pass_of b seen shares left) old new j result bytes
@@ -44,7 +46,7 @@ ends_refused b known seen shares staging left old new j result bytes loaded cont
     let after = pass_of b seen shares left in
     let has : HasRefused holder after old new j result = record {
       refusal = refusal;
-      refused = subst (λ (x : ControlData). IsRefusedLoad x staging.bytes old refusal) asks refused;
+      refused = subst (λ (x : ControlData). IsLoad x staging.bytes (sizes_of old) (length old) (Refused refusal)) asks refused;
       status = status;
       same = same;
       holder_after = ap₂ (λ (l : List Publish) (s : Staged). pass_of b l shares s) knows (kept ∙ ap (λ l. staged staging.bytes l) tells);

@@ -24,6 +24,7 @@ use Rattle.spw.specs.Cargo.{Cargo}
 use Rattle.publish.specs.declared.history.Publish.{Publish}
 use Rattle.publish.specs.Staged.{Staged}
 use Rattle.target.specs.Passes.{PassValue, pass_after, with_staging}
+use Rattle.target.specs.Loaded.{after_load}
 use Rattle.target.specs.Nodes.{bank_of, first_pass, range_of}
 use Rattle.target.specs.Steps.{IsBankBelow, IsJudgement}
 use Rattle.target.specs.Applied.{share_of, with_share, IsFinished}
@@ -107,11 +108,11 @@ other_share b share j port other h apart =
     ]
 
 -- what stands at a place of a list of which one element was written
-at_written : {A : Type 0} (xs : List A) (k j : ℕ) (old new x : A) → slice_get xs k ≡ Some old → j ≡ k → slice_get (set xs k new) j ≡ Some x → x ≡ new
+pub at_written : {A : Type 0} (xs : List A) (k j : ℕ) (old new x : A) → slice_get xs k ≡ Some old → j ≡ k → slice_get (set xs k new) j ≡ Some x → x ≡ new
 at_written xs k j old new x at here found =
     sym (get_or_from_slice_get (set xs k new) j x old found) ∙ get_or-set_at xs k j new old here (slice_get_within xs k old at)
 
-at_other : {A : Type 0} (xs : List A) (k j : ℕ) (new x : A) → j ≢ k → slice_get (set xs k new) j ≡ Some x → slice_get xs j ≡ Some x
+pub at_other : {A : Type 0} (xs : List A) (k j : ℕ) (new x : A) → j ≢ k → slice_get (set xs k new) j ≡ Some x → slice_get xs j ≡ Some x
 at_other xs k j new x other found =
     let inside : j < length (set xs k new) = slice_get_within (set xs k new) j x found in
     let below : j < length xs = rw (← length-set xs k new) inside in
@@ -218,6 +219,9 @@ judged_fits banks h between p j k b run paired place at =
 -- another staging leaves a port paired
 pub staged_paired : (banks : List BankValue) (h : PassValue) (staging : Staged) → IsPaired banks h → IsPaired banks (with_staging h staging)
 staged_paired banks h staging paired = record { count = paired.count; windows = paired.windows; shares = paired.shares }
+
+pub loaded_paired : (banks : List BankValue) (h : PassValue) (seen : List Publish) (load_result : List ℕ) → IsPaired banks h → IsPaired banks (after_load h seen load_result)
+loaded_paired banks h seen load_result paired = record { count = paired.count; windows = paired.windows; shares = paired.shares }
 
 -- as banks and ports are made
 windows_made : (ports : ℕ) (banks : List BankConfig) → map range_of banks ≡ map extent_of (map (bank_of ports) banks)

@@ -1,5 +1,5 @@
 -- Numbers of refusals, and bytes that are no image.
-use Rattle.std.proofs.Common.{◌≡◌, ◌≢◌, ◌≤◌, ℕ, List, Ok, Err, refl, arith}
+use Rattle.std.proofs.Common.{◌≡◌, ◌≢◌, ◌≤◌, ℕ, List, Ok, refl, arith}
 use Rattle.bpf.specs.Fault.{image_fault_code}
 use Rattle.bpf.specs.declared.fault.ImageFault.{ImageFault}
 use Rattle.bpf.specs.declared.fault.ImageFault.TheVariants.{Magic, Version, Length, Count, Budget, Loop, Insn, Memory}

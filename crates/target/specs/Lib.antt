@@ -6,7 +6,9 @@ pub mod Nodes
 pub mod Applied
 pub mod Stagings
 pub mod Loads
+pub mod Outcomes
 pub mod Loaded
 pub mod Loans
 pub mod Served
 pub mod Pairs
+pub mod Laws

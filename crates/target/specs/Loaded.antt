@@ -1,21 +1,37 @@
 -- How a judged control write ends.
-use Rattle.std.specs.Prelude.{◌≡◌, ◌⊎◌, ℕ, List, [], Option, Some, None}
+use Rattle.std.specs.Prelude.{◌≡◌, ◌⊎◌, ℕ, List, [], length, Option, Some, None}
+use mathlib.Core.List.{IsPrefix}
 use Rattle.rmap.specs.declared.status.Status.{Status}
 use Rattle.rmap.specs.declared.status.Status.TheVariants.{Success, GeneralError}
 use Rattle.rmap.specs.Command.{command_of}
 use Rattle.rmap.specs.Reply.{reply_of}
 use Rattle.bank.specs.Answer.{judged_line}
 use Rattle.bank.specs.Records.{JudgedValue}
+use Rattle.bver.specs.Justified.{AcceptedValue}
+use Rattle.publish.specs.Histories.{extended}
+use Rattle.publish.specs.Published.{sizes_of}
 use Rattle.publish.specs.declared.history.Publish.{Publish}
 use Rattle.publish.specs.Staged.{staged}
 use Rattle.target.specs.declared.control.ControlData.{ControlData}
 use Rattle.target.specs.declared.refusal.LoadRefusal.{LoadRefusal}
-use Rattle.target.specs.Passes.{PassValue, with_staging}
-use Rattle.target.specs.Loads.{control_of, IsPublished, IsRefusedLoad, published_result, refused_result}
+use Rattle.target.specs.Passes.{PassValue}
+use Rattle.target.specs.Loads.{control_of, published_result, refused_result}
+use Rattle.target.specs.Outcomes.{IsLoad, Published, Refused}
 
 -- what a control write asks for
 abbrev pub control_in : JudgedValue → ControlData
 control_in j = control_of (command_of j.packet).body
+
+-- the staged program was published for the slot that the control data ask, with that generation, and the
+-- reader, which keeps what it knew, has learnt of it
+pub record IsPublished (control : ControlData) (staged : List ℕ) (old new known seen : List Publish) (generation : ℕ) : Type 0 where
+  pub slot : ℕ
+  pub program : AcceptedValue
+  pub load : IsLoad control staged (sizes_of old) (length old) (Published slot program)
+  pub extends : new ≡ extended old slot program
+  pub place : generation ≡ length old
+  pub told : IsPrefix new seen
+  pub keeps : IsPrefix known seen
 
 -- a port that has learnt so much, with that load result
 abbrev pub after_load : PassValue → (seen : List Publish) → (load_result : List ℕ) → PassValue
@@ -31,7 +47,7 @@ pub record HasLoaded (holder after : PassValue) (old new : List Publish) (j : Ju
 -- the load was refused, which the load result tells, and nothing else changed
 pub record HasRefused (holder after : PassValue) (old new : List Publish) (j : JudgedValue) (result : Status) : Type 0 where
   pub refusal : LoadRefusal
-  pub refused : IsRefusedLoad (control_in j) holder.staging.bytes old refusal
+  pub refused : IsLoad (control_in j) holder.staging.bytes (sizes_of old) (length old) (Refused refusal)
   pub status : result ≡ GeneralError
   pub same : new ≡ old
   pub holder_after : after ≡ after_load holder holder.programs (refused_result refusal)

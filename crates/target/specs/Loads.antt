@@ -1,5 +1,5 @@
--- What becomes of a load: a choice of this target.
-use Rattle.std.specs.Prelude.{◌≡◌, ◌≢◌, ◌<◌, ◌≤◌, ◌⊎◌, ◌^◌, ℕ, ◌+◌, ◌*◌, ◌/◌, ◌%◌, ◌==◌, ◌||◌, not, nat_lt, if◌then◌else◌, List, [], ◌∷◌, length, take, slice_index, Option, Some, None}
+-- What a load asks, and why it is refused: a choice of this target.
+use Rattle.std.specs.Prelude.{◌≡◌, ◌≢◌, ◌<◌, ◌≤◌, ◌⊎◌, ◌^◌, ℕ, ◌+◌, ◌*◌, ◌/◌, ◌%◌, ◌==◌, ◌||◌, not, nat_lt, if◌then◌else◌, List, [], ◌∷◌, take, slice_index, Option, Some, None}
 use Rattle.bpf.specs.Fault.{image_fault_code, image_fault_slot}
 use Rattle.bpf.specs.declared.fault.ImageFault.{ImageFault}
 use Rattle.bpf.specs.declared.fault.ImageFault.TheVariants as image_faults
@@ -9,11 +9,7 @@ use Rattle.bver_form.specs.Codes.{refusal_code}
 use Rattle.bver_form.specs.declared.refusal.Refused.{Refused}
 use Rattle.bver.specs.Justified.{AcceptedValue, IsJustified}
 use Rattle.machine.specs.Sizes.{Maps}
-use mathlib.Core.List.{IsPrefix}
 use Rattle.publish.specs.Codes.{code_of}
-use Rattle.publish.specs.Histories.{extended}
-use Rattle.publish.specs.Published.{sizes_of}
-use Rattle.publish.specs.declared.history.Publish.{Publish}
 use Rattle.publish.specs.declared.faults.PublishFault.{PublishFault}
 use Rattle.target.specs.declared.control.ControlData.{ControlData}
 use Rattle.target.specs.declared.refusal.LoadRefusal.{LoadRefusal}
@@ -96,24 +92,8 @@ published_result n = 0 ∷ 0 ∷ 0 ∷ 0 ∷ n / 16777216 % 256 ∷ n / 65536 % 
 abbrev pub publish_refusal : PublishFault → LoadRefusal
 publish_refusal fault = refusal_at (64 + code_of fault) 0
 
--- why a program was not published: after 2^32 - 1 publishes that there are so many, before that want of memory
-pub record IsUnpublished (history : List Publish) (refusal : LoadRefusal) : Type 0 where
-  pub full : 2 ^ 32 ≤ length history → refusal ≡ refusal_at 67 0
-  pub memory : length history < 2 ^ 32 → refusal ≡ refusal_at 65 0
-
--- the staged program was published for the slot that the control data ask, with that generation, and the
--- reader, which keeps what it knew, has learnt of it
-pub record IsPublished (control : ControlData) (staged : List ℕ) (old new known seen : List Publish) (generation : ℕ) : Type 0 where
-  pub slot : ℕ
-  pub program : AcceptedValue
-  pub prepared : IsPrepared control staged (sizes_of old) slot program
-  pub extends : new ≡ extended old slot program
-  pub place : generation ≡ length old
-  pub told : IsPrefix new seen
-  pub keeps : IsPrefix known seen
-
--- nothing was published: nothing could be, or publishing was refused
-abbrev pub IsRefusedLoad : ControlData → (staged : List ℕ) → (history : List Publish) → LoadRefusal → Type 0
-IsRefusedLoad control staged history refusal =
-    IsUnprepared control staged refusal
-    ⊎ ((slot : ℕ) × (program : AcceptedValue) × IsPrepared control staged (sizes_of history) slot program × IsUnpublished history refusal)
+-- why a program was not published, in a history of so many programs: after 2^32 - 1 publishes that there are so
+-- many, before that want of memory
+pub record IsUnpublished (count : ℕ) (refusal : LoadRefusal) : Type 0 where
+  pub full : 2 ^ 32 ≤ count → refusal ≡ refusal_at 67 0
+  pub memory : count < 2 ^ 32 → refusal ≡ refusal_at 65 0

@@ -1,8 +1,10 @@
-//! Laws about banks and ports. Each function does no work: its contract is the law.
+//! Laws about banks and ports, and about loads. Each function does no work: its contract is the law.
 
 ghost use Rattle.target.specs.Pairs.{MadeArePaired, PairedCommandsFit, OwnStaysPaired, OthersStayPaired};
+ghost use Rattle.target.specs.Laws.{LoadsAreTaken, RefusalsTellWhy};
 
 use bank::extents_stay;
+use publish::published_programs;
 
 /// A law and no work: the banks and the passes of all ports are paired as they are made.
 pub fn made_are_paired()
@@ -23,3 +25,16 @@ pub fn pairs_stay()
 {
     extents_stay();
 }
+
+/// A law and no work: behind a port's own load, a command that the loaded slot judges is judged by the loaded
+/// program or a later one.
+pub fn loads_are_taken()
+    ensures { LoadsAreTaken }
+{
+    published_programs();
+}
+
+/// A law and no work: what the code of a load's refusal says.
+pub fn refusals_tell_why()
+    ensures { RefusalsTellWhy }
+{}

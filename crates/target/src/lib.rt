@@ -2,7 +2,7 @@
 //!
 //! [`serve_packet`] is the whole way of one packet: [`judge`] admits it ([`admit`]), takes the program that is
 //! published in the slot of its place ([`slot`]) and runs it ([`judge_by`]); then [`finish`] applies the verdict to
-//! the bank that it names, or [`stage`] to the port's own staging.
+//! the bank that it names, [`stage`] to the port's own staging, or [`load`] publishes the program that is staged.
 //!
 //! [`banks_and_passes`] makes the plain parts of a node, which [`serve_packet`] works on. [`Node`] has locks
 //! round the same banks and the publisher, so that each port may have its thread: the lock of a bank is held round
@@ -35,7 +35,9 @@ pub use bearing::Bearing;
 pub use config::{BankConfig, NodeConfig};
 pub use control::{ControlData, read_control};
 pub use faults::NodeFault;
-pub use laws::{made_are_paired, paired_commands_fit, pairs_stay};
+pub use laws::{
+    loads_are_taken, made_are_paired, paired_commands_fit, pairs_stay, refusals_tell_why,
+};
 pub use loading::{load, prepare};
 pub use lock::BankLock;
 pub use node::Node;

@@ -1,13 +1,14 @@
 //! Loads: a program that was staged is verified, to be published.
 
-ghost use Rattle.std.specs.Prelude.{◌≡◌, ◌≤◌, None, IfErr, IfOk, OnErr, OnOk, length};
+ghost use Rattle.std.specs.Prelude.{◌≡◌, ◌<◌, ◌≤◌, ◌^◌, None, IfErr, IfOk, OnErr, OnOk, length};
 ghost use mathlib.Core.List.{IsPrefix};
 ghost use Rattle.bpf.specs.Program.{IsProgram, image_bytes};
 ghost use Rattle.bver.specs.Justified.{IsJustified};
 ghost use Rattle.publish.specs.Histories.{extended};
 ghost use Rattle.publish.specs.Published.{sizes_of};
-ghost use Rattle.target.specs.Loaded.{IsLoadEnd};
-ghost use Rattle.target.specs.Loads.{IsPrepared, IsPublished, IsRefusedLoad, IsUnprepared, IsUnpreparedBy, IsUnpublished, IsUnspelled, control_code, published_result};
+ghost use Rattle.target.specs.Loaded.{IsLoadEnd, IsPublished};
+ghost use Rattle.target.specs.Loads.{IsPrepared, IsUnprepared, IsUnpreparedBy, IsUnpublished, IsUnspelled, control_code, published_result};
+ghost use Rattle.target.specs.Outcomes.{IsLoad, Refused};
 
 use crate::control::{ControlData, read_control};
 use crate::pass::Pass;
@@ -99,7 +100,8 @@ fn install<J: Room, R: Wait + Drop>(
     ensures told { OnOk result (IsPrefix publisher.new reader.new.programs) }
     ensures keeps { IsPrefix reader.old.programs reader.new.programs }
     ensures same { OnErr result ((publisher.new ≡ publisher.old) × (reader.new ≡ reader.old)) }
-    ensures refused { IfErr result (IsUnpublished publisher.old) }
+    ensures refused { IfErr result (IsUnpublished (length publisher.old)) }
+    ensures fewer { OnOk result (length publisher.old < 2 ^ 32) }
     ensures sizes { sizes_of reader.new.programs ≡ sizes_of reader.old.programs }
 {
     let told = publisher.install(slot, program)?;
@@ -118,7 +120,8 @@ fn publish_staged<J: Room, R: Wait + Drop>(
 ) -> Result<u32, LoadRefusal>
     ensures published { IfOk result (λ n. IsPublished control staging.now.bytes
         publisher.old publisher.new reader.old.programs reader.new.programs n) }
-    ensures refused { IfErr result (IsRefusedLoad control staging.now.bytes publisher.old) }
+    ensures refused { IfErr result (λ refusal. IsLoad control staging.now.bytes
+        (sizes_of publisher.old) (length publisher.old) (Refused refusal)) }
     ensures same { OnErr result ((publisher.new ≡ publisher.old) × (reader.new ≡ reader.old)) }
     ensures sizes { sizes_of reader.new.programs ≡ sizes_of reader.old.programs }
 {

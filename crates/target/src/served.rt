@@ -1,20 +1,23 @@
 //! The whole way of a packet.
 
-ghost use Rattle.std.specs.Prelude.{◌≡◌, ◌≢◌, length};
-ghost use Rattle.target.specs.Served.{IsServed, IsAnswered};
+ghost use Rattle.std.specs.Prelude.{◌≡◌, ◌≢◌, ℕ, List, Some, length, slice_get, slice_set};
+ghost use Rattle.target.specs.Served.{IsServed, IsAnswered, parts};
 ghost use Rattle.target.specs.Passes.{PassValue};
-ghost use Rattle.target.specs.Pairs.{IsPaired};
+ghost use Rattle.target.specs.Pairs.{ArePaired, IsPaired};
 
 use crate::applied::finish;
 use crate::banks::Banks;
+use crate::loading::load;
 use crate::pass::Pass;
 use crate::staged::stage;
 use crate::step::{Step, judge};
 use crate::stop::Stop;
 use bank::{Applied, extents_stay};
-use publish::Room;
+use publish::{Publisher, Room};
 use rmap::{Place, ReplyBuf, Status};
 use spw::Packet;
+use std::alloc::Global;
+use std::sync::Wait;
 
 /// What became of a packet.
 #[derive(Clone, Copy, Debug, PartialEq, Eq)]
@@ -29,15 +32,18 @@ pub enum Served {
     Window(Status),
 }
 
-/// What becomes of a packet, whatever the banks and the port.
-fn serve<J: Room>(
+/// What becomes of a packet, whatever the node and the port.
+fn serve<J: Room, R: Wait + Drop>(
+    alloc: Global,
     banks: &mut Banks,
+    publisher: &mut Publisher<J, R>,
     pass: &mut Pass<J>,
     packet: Packet,
     reply: &mut ReplyBuf,
 ) -> Served
     requires { length pass.old.shares ≡ length banks.old }
-    ensures served { IsServed result packet banks.old banks.new pass.old pass.new reply.new }
+    ensures served { IsServed result packet (parts banks.old publisher.old)
+        (parts banks.new publisher.new) pass.old pass.new reply.new }
     ensures banks { length banks.new ≡ length banks.old }
     ensures pass { length pass.new.shares ≡ length pass.old.shares }
 {
@@ -51,32 +57,38 @@ fn serve<J: Room>(
     match judged.place() {
         Place::Bank(k) => Served::Done(finish(pass, banks.bank_mut(k), judged, reply)),
         Place::Staging | Place::LoadResult => Served::Window(stage(pass, judged, reply)),
-        Place::Control => Served::Window(judged.answer_error(reply)),
+        Place::Control => Served::Window(load(alloc, pass, publisher, judged, reply)),
     }
 }
 
 /// Serves one packet that came in at the pass's port: judges it, and applies the verdict to the bank
-/// that it names, or to the port's staging. `reply` holds the reply that is due then, if any. The condition
-/// is a pass with the number of banks; where banks and pass were made together each command that is judged
-/// is applied.
-pub fn serve_packet<J: Room>(
+/// that it names, or to the port's staging, or loads what is staged there. `reply` holds the reply that is due
+/// then, if any. It takes memory and may wait for readers only where it loads. The condition is a pass with the
+/// number of banks; where banks and pass were made together each command that is judged is applied.
+pub fn serve_packet<J: Room, R: Wait + Drop>(
+    alloc: Global,
     banks: &mut Banks,
+    publisher: &mut Publisher<J, R>,
     pass: &mut Pass<J>,
     packet: Packet,
     reply: &mut ReplyBuf,
 ) -> Served
     requires { length pass.old.shares ≡ length banks.old }
-    ensures served { IsServed result packet banks.old banks.new pass.old pass.new reply.new }
+    ensures served { IsServed result packet (parts banks.old publisher.old)
+        (parts banks.new publisher.new) pass.old pass.new reply.new }
     ensures banks { length banks.new ≡ length banks.old }
     ensures pass { length pass.new.shares ≡ length pass.old.shares }
 
     // Where banks and pass are paired no command is refused, and they stay so; so do all others.
     ensures answered { IsPaired banks.old pass.old
-        → IsAnswered result packet banks.old banks.new pass.old pass.new reply.new }
+        → IsAnswered result packet (parts banks.old publisher.old)
+        (parts banks.new publisher.new) pass.old pass.new reply.new }
     ensures paired { IsPaired banks.old pass.old → IsPaired banks.new pass.new }
     ensures others { (other : PassValue) → other.port ≢ pass.old.port
         → IsPaired banks.old other → IsPaired banks.new other }
+    ensures all { (passes : List PassValue) (k : ℕ) → ArePaired banks.old passes
+        → slice_get passes k ≡ Some pass.old → ArePaired banks.new (slice_set passes k pass.new) }
 {
     extents_stay();
-    serve(banks, pass, packet, reply)
+    serve(alloc, banks, publisher, pass, packet, reply)
 }

@@ -72,8 +72,10 @@ pub fn node<J: Room, R: Wait + Drop>(
 }
 
 /// What becomes of the packet at the pass's port. It fails where the pass is that of another node.
-pub fn served<J: Room>(
+pub fn served<J: Room, R: Wait + Drop>(
+    alloc: Global,
     banks: &mut Banks,
+    publisher: &mut Publisher<J, R>,
     pass: &mut Pass<J>,
     packet: Packet,
     reply: &mut ReplyBuf,
@@ -81,5 +83,5 @@ pub fn served<J: Room>(
     if pass.banks() != banks.len() {
         return Err("another number of banks".into());
     }
-    Ok(serve_packet(banks, pass, packet, reply))
+    Ok(serve_packet(alloc, banks, publisher, pass, packet, reply))
 }

@@ -36,7 +36,7 @@ fn one_entry<J: Room, R: Wait + Abort>(rt: &R, alloc: Global, opened: Opened) ->
     requires { opened ≡ J.book }
 {
     let factory = program(alloc, 0)?;
-    let (mut banks, _publisher, mut passes) = node::<J, _>(
+    let (mut banks, mut publisher, mut passes) = node::<J, _>(
         alloc,
         rt,
         opened,
@@ -56,7 +56,7 @@ fn one_entry<J: Room, R: Wait + Abort>(rt: &R, alloc: Global, opened: Opened) ->
             13,
         ),
     ] {
-        let what = served(&mut banks, pass, packet(alloc, line)?, &mut reply)?;
+        let what = served(alloc, &mut banks, &mut publisher, pass, packet(alloc, line)?, &mut reply)?;
         assert_eq!(rt; what, Served::Done(Applied { status, number }), "at {line}");
         assert_eq!(rt; reply.bytes().len(), length, "at {line}");
         assert_eq!(rt; recorded(&banks)?, (1, 1), "at {line}");

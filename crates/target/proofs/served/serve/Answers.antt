@@ -1,6 +1,8 @@
-use Rattle.std.proofs.Common.{◌≡◌, ◌<◌, length, sym, ◌∙◌, arith}
+use Rattle.std.proofs.Common.{◌≡◌, length, sym, ap, ◌∙◌, arith}
 use Rattle.rmap.specs.Command.{command_of}
+use Rattle.target.specs.Passes.{PassValue}
 use Rattle.target.proofs.Places.{judged_bank}
+use Rattle.target.proofs.Services.{kept_at_load}
 use Rattle.target.proofs.served.serve.Goals as goal
 
 pub bank_mut-requires : goal.bank_mut-requires
@@ -19,3 +21,8 @@ finish-requires g c =
     let below = judged_bank windows (command_of c.args.packet) c.in-Judged.judged.place _ run.judged_for.placed.lies at in
     let same : length windows.banks ≡ length c.args.pass.now.shares = sym c.banks-banks.ensures.holder.shares in
     rw (run.asked, ← same) (_, at, below)
+
+pub returns-in-Control-clause-pass : goal.returns-in-Control-clause-pass
+returns-in-Control-clause-pass g c =
+    let run = c.in-Judged.ensures.step.0 in
+    ap length (kept_at_load _ _ _ _ _ _ _ c.load.ensures.ended).1 ∙ ap (λ (x : PassValue). length x.shares) run.asked

@@ -1,11 +1,9 @@
 use Rattle.std.proofs.Common.{rules, subst, List, ℕ, ◌≡◌, ◌<◌, Some, length, sym, ap, ◌∙◌}
 use Rattle.std.specs.Prelude.{slice_get}
 use Rattle.std.proofs.lemmas.Option.{slice_get-get_or}
-use Rattle.bank.specs.Records.{BankValue}
 use Rattle.target.specs.Pairs.{ArePaired}
-use Rattle.target.specs.Served.{IsAnswered}
+use Rattle.target.specs.Served.{IsAnswered, parts}
 use Rattle.commands.specs.JobNode.{JobNodeValue}
-use Rattle.commands.proofs.OwnPort.{pairs_stay, same_port}
 use Rattle.commands.proofs.node.JobNode.serve.Goals as goal
 
 pub invariant_of-self : goal.invariant_of-self
@@ -15,12 +13,7 @@ invariant_of-self g c =
     let below : c.from-place.result < length holders = search rules in
     let own : slice_get holders c.from-place.result ≡ Some pass = slice_get-get_or holders c.from-place.result pass below ∙ ap Some (sym c.index_mut-pass.ensures.value) in
     let whole : ArePaired c.self.inside.banks holders = c.self.invariant.paired in
-    let paired = whole.each c.from-place.result pass own in
-    let answered = c.serve_packet.ensures.answered paired in
-    record {
-      paired = pairs_stay _ _ holders c.from-place.result pass _ whole own (same_port _ _ _ _ _ _ _ answered)
-          (c.serve_packet.ensures.paired paired) c.serve_packet.ensures.others;
-    }
+    record { paired = c.serve_packet.ensures.all holders c.from-place.result whole own }
 
 pub returns-clause-served : goal.returns-clause-served
 returns-clause-served g c =
@@ -36,7 +29,6 @@ returns-clause-served g c =
       own = ap (λ (s : JobNodeValue). slice_get s.holders c.args.port) (sym c.self.view_is)
           ∙ ap (λ (k : ℕ). slice_get holders k) (sym c.from-place.ensures) ∙ own;
       others = search rules;
-      programs = ap (λ (s : JobNodeValue). s.programs) c.self.view_is;
-      answered = subst (λ (banks : List BankValue). IsAnswered c.serve_packet.result c.args.packet banks c.serve_packet.new.banks pass c.serve_packet.new.pass c.serve_packet.new.reply)
-          (ap (λ (s : JobNodeValue). s.banks) c.self.view_is) (c.serve_packet.ensures.answered paired);
+      answered = subst (λ (s : JobNodeValue). IsAnswered c.serve_packet.result c.args.packet (parts s.banks s.programs) (parts c.serve_packet.new.banks c.serve_packet.new.publisher) pass c.serve_packet.new.pass c.serve_packet.new.reply)
+          c.self.view_is (c.serve_packet.ensures.answered paired);
     }

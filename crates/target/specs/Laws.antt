@@ -1,0 +1,46 @@
+-- Laws of loads.
+use Rattle.std.specs.Prelude.{◌≡◌, ◌≢◌, ◌≤◌, ◌⊎◌, ◌^◌, ◌↔◌, ℕ, List, Some}
+use mathlib.Core.List.{IsPrefix}
+use Rattle.spw.specs.Cargo.{Cargo}
+use Rattle.rmap.specs.declared.status.Status.{Status}
+use Rattle.rmap.specs.Command.{command_of, command_kind}
+use Rattle.bpf.specs.Program.{Program, IsProgram, image_bytes}
+use Rattle.machine.specs.Sizes.{Maps}
+use Rattle.bank.specs.Records.{JudgedValue}
+use Rattle.publish.specs.declared.history.Publish.{Publish}
+use Rattle.publish.specs.Laws.{IsThatOrLater}
+use Rattle.target.specs.declared.control.ControlData.{ControlData}
+use Rattle.target.specs.declared.refusal.LoadRefusal.{LoadRefusal}
+use Rattle.target.specs.Slots.{slot_of}
+use Rattle.target.specs.Passes.{PassValue}
+use Rattle.target.specs.Steps.{IsJudgement}
+use Rattle.target.specs.Loads.{control_code, loaded_bytes}
+use Rattle.target.specs.Outcomes.{IsLoad, Refused}
+use Rattle.target.specs.Loaded.{HasLoaded}
+
+-- the code is one of control data that are not right
+abbrev pub IsControlCode : ℕ → Type 0
+IsControlCode code = (code ≡ 71) ⊎ (code ≡ 66)
+
+-- what a refusal's code says: 71 and 66 come exactly where the control data have them, 33 to 39 only where the bytes
+-- spell no image, 1 to 16 only where they spell one, and 67 only after 2^32 - 1 publishes
+pub record TellsWhy (control : ControlData) (staged : List ℕ) (count : ℕ) (refusal : LoadRefusal) : Type 0 where
+  pub control_is_wrong : (control_code control ≡ Some refusal.code) ↔ IsControlCode refusal.code
+  pub unspelled : 33 ≤ refusal.code → refusal.code ≤ 39 → (p : Program) → IsProgram p → loaded_bytes control staged ≢ image_bytes p
+  pub spelled : refusal.code ≤ 16 → (p : Program) × IsProgram p × (loaded_bytes control staged ≡ image_bytes p)
+  pub full : refusal.code ≡ 67 → 2 ^ 32 ≤ count
+
+-- the code of each refusal of a load tells why; of 40, 17 and 65, want of memory, nothing is said
+abbrev pub RefusalsTellWhy : Type 0
+RefusalsTellWhy =
+    (control : ControlData) (staged : List ℕ) (sizes : Maps) (count : ℕ) (refusal : LoadRefusal)
+    → IsLoad control staged sizes count (Refused refusal) → TellsWhy control staged count refusal
+
+-- behind a port's own load, a command that the loaded slot judges is judged by the loaded program or a later one
+abbrev pub LoadsAreTaken : Type 0
+LoadsAreTaken =
+    (holder left between after : PassValue) (old new : List Publish) (j next : JudgedValue) (result : Status) (p : Cargo)
+    → (loaded : HasLoaded holder left old new j result) → IsPrefix left.programs between.programs
+    → (judgement : IsJudgement between after p next)
+    → slot_of (command_kind (command_of p)) next.place ≡ loaded.published.slot
+    → IsThatOrLater loaded.published.program loaded.generation (judgement.program, next.generation)

@@ -1,0 +1,21 @@
+-- What becomes of a load: a choice of this target.
+use Rattle.std.specs.Prelude.{◌<◌, ◌⊎◌, ◌^◌, ℕ, List}
+use Rattle.bver.specs.Justified.{AcceptedValue}
+use Rattle.machine.specs.Sizes.{Maps}
+use Rattle.target.specs.declared.control.ControlData.{ControlData}
+use Rattle.target.specs.declared.refusal.LoadRefusal.{LoadRefusal}
+use Rattle.target.specs.Loads.{IsPrepared, IsUnprepared, IsUnpublished}
+
+-- what becomes of a load: a program is published for a slot, or the load is refused
+pub data Load : Type 0 where
+  Published : (slot : ℕ) → AcceptedValue → Load
+  Refused : LoadRefusal → Load
+
+-- what becomes of a load with those control data, of those staged bytes, in a node with maps of those sizes, in
+-- whose history there are so many programs, the factory program among them
+abbrev pub IsLoad : ControlData → (staged : List ℕ) → Maps → (count : ℕ) → Load → Type 0
+IsLoad control staged sizes count (Published slot program) =
+    IsPrepared control staged sizes slot program × (count < 2 ^ 32)
+IsLoad control staged sizes count (Refused refusal) =
+    IsUnprepared control staged refusal
+    ⊎ ((slot : ℕ) × (program : AcceptedValue) × IsPrepared control staged sizes slot program × IsUnpublished count refusal)
