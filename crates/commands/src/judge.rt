@@ -187,7 +187,9 @@ fn judge_line<'a, J: Room, R: Wait + Drop, W: Write>(
         (W.contents out.old) (W.contents out.new))) }
 {
     let (port, packet) = read_line(alloc, line).map_err(|fault| Fault::unread(number, fault))?;
-    let served = node.serve(alloc, port, packet).ok_or(Fault::no_port(number))?;
+    let served = node
+        .serve(alloc, port, packet)
+        .ok_or(Fault::no_port(number))?;
     Ok(print_served(alloc, out, port, served, node.reply())?)
 }
 

@@ -6,6 +6,7 @@ mod banks;
 mod crc;
 mod journals;
 mod lines;
+mod loads;
 mod locks;
 mod nodes;
 mod protocol;

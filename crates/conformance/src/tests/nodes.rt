@@ -56,7 +56,14 @@ fn one_entry<J: Room, R: Wait + Abort>(rt: &R, alloc: Global, opened: Opened) ->
             13,
         ),
     ] {
-        let what = served(alloc, &mut banks, &mut publisher, pass, packet(alloc, line)?, &mut reply)?;
+        let what = served(
+            alloc,
+            &mut banks,
+            &mut publisher,
+            pass,
+            packet(alloc, line)?,
+            &mut reply,
+        )?;
         assert_eq!(rt; what, Served::Done(Applied { status, number }), "at {line}");
         assert_eq!(rt; reply.bytes().len(), length, "at {line}");
         assert_eq!(rt; recorded(&banks)?, (1, 1), "at {line}");

@@ -137,7 +137,9 @@ fn numbers_of_three_ports<J: Room, R: Wait + Abort>(
 {
     let three = [bank(16), bank(16), bank(16)];
     let factory = program(alloc, 0)?;
-    let (mut banks, mut publisher, mut passes) = node::<J, _>(alloc, rt, opened, 3, &three, factory)?;
+    let (mut banks, mut publisher, mut passes) = node::<J, _>(
+        alloc, rt, opened, 3, &three, factory,
+    )?;
     let mut reply = ReplyBuf::new();
     for (port, k, number) in [
         (0, 0, 0),
@@ -155,7 +157,14 @@ fn numbers_of_three_ports<J: Room, R: Wait + Abort>(
     ] {
         let pass = passes.get_mut(port).ok_or("no pass")?;
         let line = READS.get(k).copied().ok_or("no line")?;
-        let what = served(alloc, &mut banks, &mut publisher, pass, packet(alloc, line)?, &mut reply)?;
+        let what = served(
+            alloc,
+            &mut banks,
+            &mut publisher,
+            pass,
+            packet(alloc, line)?,
+            &mut reply,
+        )?;
         let counted = Applied {
             status: Status::Success,
             number: Some(number),

@@ -1,4 +1,4 @@
-use Rattle.std.proofs.Common.{rules, subst, List, ℕ, ◌≡◌, ◌<◌, Some, length, sym, ap, ◌∙◌}
+use Rattle.std.proofs.Common.{rules, subst, ℕ, ◌≡◌, ◌<◌, Some, length, sym, ap, ◌∙◌}
 use Rattle.std.specs.Prelude.{slice_get}
 use Rattle.std.proofs.lemmas.Option.{slice_get-get_or}
 use Rattle.target.specs.Pairs.{ArePaired}
