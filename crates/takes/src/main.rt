@@ -1,9 +1,12 @@
-//! `takes`: how often a second programs are taken and published. Without an argument it does few rounds
+//! `takes`: how often a second programs are taken and published, and packets served through a pass. Without an argument it does few rounds
 //! and prints what was done; with a number of rounds it prints the rates too.
 #![tactic(auto)]
 
+mod packets;
+
 ghost use Rattle.std.specs.Prelude.{◌≡◌, IfSome};
 
+use crate::packets::Port;
 use anyhow::{Context, Result};
 use bpf::Image;
 use bver::{Accepted, MapSizes, verify};
@@ -145,6 +148,28 @@ fn measure<J: Room + Send + Sync, R: Threads + Wait + Clock + Print + Sync>(
     print(rt, "publishes", published, &start, is_timed)
 }
 
+/// Serves packets through a pass, one after the other.
+fn measure_packets<J: Room, R: Wait + Clock + Print>(
+    rt: &R,
+    alloc: Global,
+    opened: Opened,
+    rounds: Option<u32>,
+) -> Result<()>
+    requires { opened ≡ J.book }
+{
+    let factory = yes(alloc, &MapSizes::new(&[])?).context("the program")?;
+    let mut port = Port::<J, _>::new(alloc, rt, opened, factory)?;
+    let start = Instant::now(rt)?;
+    let served = port.serve(alloc, rounds.unwrap_or(FEW))?;
+    print(
+        rt,
+        "packets through a pass",
+        served,
+        &start,
+        rounds.is_some(),
+    )
+}
+
 /// The rounds that the command line asks for, if any.
 fn rounds_given<R: Env + AllocGlobal>(rt: &R) -> Result<Option<u32>> {
     match env::args(rt)?.nth(1) {
@@ -155,5 +180,6 @@ fn rounds_given<R: Env + AllocGlobal>(rt: &R) -> Result<Option<u32>> {
 
 fn main(rt: HostRuntime) -> Result<()> {
     let rounds = rounds_given(&rt)?;
-    measure::<Brand, _>(&rt, rt.alloc(), Opened::new(), rounds)
+    measure::<Brand, _>(&rt, rt.alloc(), Opened::new(), rounds)?;
+    measure_packets::<Brand, _>(&rt, rt.alloc(), Opened::new(), rounds)
 }
