@@ -1,5 +1,5 @@
-//! `takes`: how often a second programs are taken and published, and packets served through a pass. Without an argument it does few rounds
-//! and prints what was done; with a number of rounds it prints the rates too.
+//! `takes`: how often a second programs are taken and published, and packets served through a pass. Without an
+//! argument it does few rounds and prints what was done; with a number of rounds it prints the rates too.
 #![tactic(auto)]
 
 mod packets;
