@@ -81,6 +81,9 @@ fn agrees_on_loops(rt: HostRuntime) -> Result<(), Fail> {
         }
     }
     assert!(rt; count >= LOOPED / 2, "{count} are accepted");
-    assert!(rt; nested >= LOOPED / 4, "{nested} with nested loops are accepted");
+    assert!(rt;
+        nested >= LOOPED / 4,
+        "{nested} with nested loops are accepted"
+    );
     Ok(())
 }

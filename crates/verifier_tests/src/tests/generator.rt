@@ -356,7 +356,7 @@ const INNER_COUNTER: u8 = 7;
 
 /// A random program with so many loops one behind the other, about half of them with another one inside, and random
 /// instructions before each. One of these in `wild` takes any registers and any place, so that programs are refused
-/// too. No more than four loops one behind the other fit an image.
+/// too. An image has at most eight loops, so up to four are always few enough.
 pub fn program_with_loops(
     alloc: Global,
     random: &mut Random,
@@ -442,12 +442,9 @@ fn add_nested(
     Ok([end_loop(insns, begun)?, inner])
 }
 
-/// Sets the counter of a loop, within its bound. The loop begins, and ends yet, at the next slot.
-fn begin_loop(
-    insns: &mut Vec<Insn>,
-    random: &mut Random,
-    counter: u8,
-) -> Result<Loop, AllocError>
+/// Sets the counter of a loop, within its bound. The loop begins at the next slot; where it ends is set by
+/// [`end_loop`].
+fn begin_loop(insns: &mut Vec<Insn>, random: &mut Random, counter: u8) -> Result<Loop, AllocError>
     requires { counter < 10 }
 {
     let bound = 1 + random.below(BOUND);
