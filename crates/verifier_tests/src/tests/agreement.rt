@@ -1,6 +1,6 @@
 //! Random programs, on which the interpreter and the slow machine agree.
 
-use super::generator::{instructions, program_with_loops};
+use super::generator::{instructions, is_nested, program_with_loops};
 use super::{FRONT, TAIL, verdict};
 use bpf::Image;
 use bver::{MapSizes, verify};
@@ -25,7 +25,7 @@ fn straight(alloc: Global, random: &mut Random) -> Result<Image, Fail> {
     Ok(Image::new(alloc, &insns, &[], 65_536)?)
 }
 
-/// A random program with up to four loops.
+/// A random program with up to four loops one behind the other, about half of them with another one inside.
 fn round(alloc: Global, random: &mut Random) -> Result<Image, Fail> {
     let loops = 1 + random.below(4);
     let program = program_with_loops(alloc, random, loops, 100)?;
@@ -71,13 +71,19 @@ fn agrees_with_the_slow_machine(rt: HostRuntime) -> Result<(), Fail> {
 #[test]
 fn agrees_on_loops(rt: HostRuntime) -> Result<(), Fail> {
     let mut count: u64 = 0;
+    let mut nested: u64 = 0;
     for seed in 0..LOOPED {
         let mut random = Random::new(seed);
         let image = round(rt.alloc(), &mut random)?;
         if agrees(&rt, rt.alloc(), &image, &mut random, seed)? {
             count = count.saturating_add(1);
+            nested = nested.saturating_add(u64::from(is_nested(image.loops())));
         }
     }
     assert!(rt; count >= LOOPED / 2, "{count} are accepted");
+    assert!(rt;
+        nested >= LOOPED / 4,
+        "{nested} with nested loops are accepted"
+    );
     Ok(())
 }

@@ -1,7 +1,7 @@
 //! Random programs, many of them refused, against the slow machine: what is accepted ends with a verdict
 //! within its budget.
 
-use super::generator::{instructions, program_with_loops};
+use super::generator::{instructions, is_nested, program_with_loops};
 use bpf::Image;
 use bver::{Accepted, MapSizes, verify};
 use slow_machine::{Ending, run};
@@ -67,23 +67,27 @@ fn looped_image(alloc: Global, random: &mut Random) -> Result<Image, Fail> {
     Ok(Image::new(alloc, &program.insns, &program.loops, weight)?)
 }
 
-/// Of 200 programs with loops more than half are accepted, and each that is runs to its verdict.
+/// Of 200 programs with loops more than half are accepted, more than a quarter have nested loops and are accepted,
+/// and each that is accepted runs to its verdict.
 #[test]
 fn accepted_loops_end_with_a_verdict(rt: HostRuntime) -> Result<(), Fail> {
     let alloc = rt.alloc();
     let none = MapSizes::new(&[])?;
     let mut random = Random::new(2);
     let mut accepted_programs = 0u32;
+    let mut nested = 0u32;
     for _turn in 0..200 {
         let image = looped_image(alloc, &mut random)?;
         if let Ok(accepted) = verify(alloc, image, &none) {
             check_runs(&rt, &accepted, &none);
             accepted_programs = accepted_programs.saturating_add(1);
+            nested = nested.saturating_add(u32::from(is_nested(accepted.image().loops())));
         }
     }
     assert!(rt;
         100 < accepted_programs && accepted_programs < 200,
         "{accepted_programs}"
     );
+    assert!(rt; 50 < nested, "{nested}");
     Ok(())
 }

@@ -15,8 +15,9 @@ use trial::{
 /// The places of the stack that each program sets and reads back: eight bytes each.
 const PLACES: [i16; 8] = [-64, -56, -48, -40, -32, -24, -16, -8];
 
-/// How many registers hold numbers: r0 and r4 to r7. Those behind them, r8 and r9, hold pointers.
-const NUMBERS: u64 = 5;
+/// How many registers hold numbers: r0 and r4 to r6. Of those behind them r7 counts loops, and r8 and r9 hold
+/// pointers.
+const NUMBERS: u64 = 4;
 
 /// The instructions of a random program, with so many random ones between the first and the last.
 /// One of these in `wild` takes any registers and any place, so that programs are refused too.
@@ -68,7 +69,7 @@ pub fn register(number: u8) -> Register
 
 /// The register that holds this of the numbers.
 fn number_register(place: u64) -> Register
-    requires { place < 5 }
+    requires { place < 4 }
 {
     if place == 0 {
         register(0)
@@ -254,7 +255,7 @@ pub fn alu(op: AluOp, dst: u8, src: Operand) -> Insn
     }
 }
 
-/// Numbers in r0 and r4 to r7, a place of the tail in r8, and the lowest place that is set in r9.
+/// Numbers in r0 and r4 to r6, a place of the tail in r8, and the lowest place that is set in r9.
 pub fn set_registers(insns: &mut Vec<Insn>, random: &mut Random) -> Result<(), AllocError> {
     for place in 0..NUMBERS {
         add(
@@ -347,12 +348,15 @@ pub struct Looped {
 /// The greatest bound of a loop of a random program.
 const BOUND: u64 = 8;
 
-/// The register that counts the loops of a random program. Nothing else writes it, but where any register is
-/// taken.
+/// The register that counts a loop of a random program, and the one that counts a loop inside it. Nothing else
+/// writes them, but where any register is taken.
 const COUNTER: u8 = 3;
 
-/// A random program with so many loops one behind the other, and random instructions before each. One of these in
-/// `wild` takes any registers and any place, so that programs are refused too.
+const INNER_COUNTER: u8 = 7;
+
+/// A random program with so many loops one behind the other, about half of them with another one inside, and random
+/// instructions before each. One of these in `wild` takes any registers and any place, so that programs are refused
+/// too. An image has at most eight loops, so up to four are always few enough.
 pub fn program_with_loops(
     alloc: Global,
     random: &mut Random,
@@ -367,8 +371,11 @@ pub fn program_with_loops(
     set_stack(&mut insns, random)?;
     for _loop in 0..loops {
         add_some(&mut insns, random, wild)?;
-        let next = add_loop(&mut insns, random, wild)?;
-        declared.extend_from_slice(&[next])?;
+        if random.below(2) == 0 {
+            declared.extend_from_slice(&add_nested(&mut insns, random, wild)?)?;
+        } else {
+            declared.extend_from_slice(&[add_loop(&mut insns, random, COUNTER, wild)?])?;
+        }
     }
     mix_numbers(&mut insns)?;
     mix_stack(&mut insns)?;
@@ -377,6 +384,18 @@ pub fn program_with_loops(
         insns,
         loops: declared,
     })
+}
+
+/// Whether one of the loops, which come by rising head, lies inside another.
+pub fn is_nested(loops: &[Loop]) -> bool {
+    let mut back = 0;
+    for declared in loops {
+        if declared.head < back {
+            return true;
+        }
+        back = declared.back;
+    }
+    false
 }
 
 /// Up to six random instructions, and two that do not jump: no jump of those before leads behind them.
@@ -393,27 +412,67 @@ fn add_some(insns: &mut Vec<Insn>, random: &mut Random, wild: u64) -> Result<(),
     Ok(())
 }
 
-/// A loop that begins with a counter within its bound.
-fn add_loop(insns: &mut Vec<Insn>, random: &mut Random, wild: u64) -> Result<Loop, AllocError>
+/// A loop, which the register counts.
+fn add_loop(
+    insns: &mut Vec<Insn>,
+    random: &mut Random,
+    counter: u8,
+    wild: u64,
+) -> Result<Loop, AllocError>
+    requires wild { 0 < wild }
+    requires register { counter < 10 }
+{
+    let begun = begin_loop(insns, random, counter)?;
+    add_some(insns, random, wild)?;
+    end_loop(insns, begun)
+}
+
+/// A loop with another one inside, and random instructions before and behind that. The outer one is given first.
+fn add_nested(
+    insns: &mut Vec<Insn>,
+    random: &mut Random,
+    wild: u64,
+) -> Result<[Loop; 2], AllocError>
     requires { 0 < wild }
 {
-    let bound = 1 + random.below(BOUND);
-    let count = 1 + random.below(bound);
-    add(
-        insns,
-        alu(AluOp::Mov, COUNTER, Operand::Immediate(count as i32)),
-    )?;
-    let head = slots(insns);
+    let begun = begin_loop(insns, random, COUNTER)?;
     add_some(insns, random, wild)?;
-    add(insns, alu(AluOp::Add, COUNTER, Operand::Immediate(-1)))?;
-    let back = slots(insns);
-    add(insns, go_back(head, back))?;
+    let inner = add_loop(insns, random, INNER_COUNTER, wild)?;
+    add_some(insns, random, wild)?;
+    Ok([end_loop(insns, begun)?, inner])
+}
+
+/// Sets the counter of a loop, within its bound. The loop begins at the next slot; where it ends is set by
+/// [`end_loop`].
+fn begin_loop(insns: &mut Vec<Insn>, random: &mut Random, counter: u8) -> Result<Loop, AllocError>
+    requires { counter < 10 }
+{
+    let bound = 1 + random.below(BOUND);
+    let count = Operand::Immediate(1 + random.below(bound) as i32);
+    add(insns, alu(AluOp::Mov, counter, count))?;
+    let head = slots(insns);
     Ok(Loop {
         head,
-        back,
+        back: head,
         bound: bound as u16,
-        register: register(COUNTER),
+        register: register(counter),
     })
+}
+
+/// Counts a loop down, and jumps back to its head where the counter is not zero.
+fn end_loop(insns: &mut Vec<Insn>, begun: Loop) -> Result<Loop, AllocError> {
+    add(
+        insns,
+        Insn::Alu {
+            op: AluOp::Add,
+            width: Width::Bits64,
+            dst: begun.register,
+            src: Operand::Immediate(-1),
+        },
+    )?;
+    let back = slots(insns);
+    add(insns, go_back(begun.head, back, begun.register))?;
+    Ok(Loop { back, ..begun })
 }
 
 /// How many slots the instructions take.
@@ -425,12 +484,12 @@ fn slots(insns: &[Insn]) -> u16 {
     slots
 }
 
-/// The jump from the back of a loop to its head.
-fn go_back(head: u16, back: u16) -> Insn {
+/// The jump from the back of a loop to its head, where the counter is not zero.
+fn go_back(head: u16, back: u16, counter: Register) -> Insn {
     let comparison = Comparison {
         condition: Condition::NotEqual,
         width: Width::Bits64,
-        dst: register(COUNTER),
+        dst: counter,
         src: Operand::Immediate(0),
     };
     Insn::Jump {
