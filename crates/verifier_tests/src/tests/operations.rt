@@ -68,7 +68,10 @@ fn operations_are_listed(rt: HostRuntime) -> Result<(), Fail> {
         let accepted = verify(alloc, image_of_text(alloc, program, weight)?, &sizes)?;
         let mut count = 0;
         for word in row.part()?.split_whitespace() {
-            let op = accepted.operations().get(count).ok_or("too few operations")?;
+            let op = accepted
+                .operations()
+                .get(count)
+                .ok_or("too few operations")?;
             assert!(rt; is_of(accepted.image(), word, op)?, "{name}: {word}");
             count += 1;
         }
