@@ -66,16 +66,12 @@ fn operations_are_listed(rt: HostRuntime) -> Result<(), Fail> {
         let weight = row.part()?.parse::<u32>()?;
         let sizes = sizes(alloc, row.part()?)?;
         let accepted = verify(alloc, image_of_text(alloc, program, weight)?, &sizes)?;
-        let mut count = 0;
+        let mut operations = accepted.operations().iter();
         for word in row.part()?.split_whitespace() {
-            let op = accepted
-                .operations()
-                .get(count)
-                .ok_or("too few operations")?;
+            let op = operations.next().ok_or("too few operations")?;
             assert!(rt; is_of(accepted.image(), word, op)?, "{name}: {word}");
-            count += 1;
         }
-        assert_eq!(rt; accepted.operations().len(), count);
+        assert!(rt; operations.next().is_none(), "{name}");
     }
     Ok(())
 }
