@@ -1,6 +1,7 @@
 //! The images that are timed, by hand (RFC 9669; docs/BPF.md has the format of an image).
 
 const MOV: u8 = 0xB7;
+const MOV_REGISTER: u8 = 0xBF;
 const MOV32_REGISTER: u8 = 0xBC;
 const ADD: u8 = 0x07;
 const ADD_REGISTER: u8 = 0x0F;
@@ -120,6 +121,28 @@ pub fn counting() -> Vec<u8> {
     slots.extend(again(6, -3));
     slots.push(insn(EXIT, 0, 0, 0, 0));
     image_with(12_291, &[declared(2, 4, 4096, 6)], &slots)
+}
+
+/// A thousand rounds of a loop of ten instructions with loads, a store and a call: 10,005 steps.
+pub fn asking() -> Vec<u8> {
+    let (opcode, subtype) = LOAD_MAP;
+    let mut slots = vec![
+        insn(MOV_REGISTER, 8, 2, 0, 0),
+        insn(MOV, 6, 0, 0, 1000),
+        insn(MOV, 7, 0, 0, 0),
+        insn(LDXB, 5, 8, 0, 0),
+        insn(ADD_REGISTER, 7, 5, 0, 0),
+        insn(STXDW, 10, 7, -8, 0),
+        insn(LDXDW, 9, 10, -8, 0),
+        insn(opcode, 1, subtype, 0, 0),
+        insn(0, 0, 0, 0, 0),
+        insn(MOV, 2, 0, 0, 0),
+        insn(CALL, 0, 0, 0, 2),
+        insn(ADD_REGISTER, 7, 0, 0, 0),
+    ];
+    slots.extend(again(6, -11));
+    slots.extend([insn(MOV, 0, 0, 0, 0), insn(EXIT, 0, 0, 0, 0)]);
+    image_with(10_005, &[declared(3, 13, 1000, 6)], &slots)
 }
 
 /// Eight loops of two rounds in one another.

@@ -35,6 +35,14 @@ fn main() {
     measure("run of a loop of 4096 rounds", "instructions", 12_291.0 * 1_000.0, || {
         timed(|| speed::run(&counting, &READ, 1_000))
     });
+    let fields = images::fields();
+    measure("run of fourteen rules", "instructions", 72.0 * 100_000.0, || {
+        timed(|| speed::run(&fields, &READ, 100_000))
+    });
+    let asking = images::asking();
+    measure("run of a loop with loads, stores and calls", "instructions", 10_005.0 * 1_000.0, || {
+        timed(|| speed::run(&asking, &READ, 1_000))
+    });
     for (name, image) in [
         ("verify of 512 slots", straight),
         ("verify of 512 slots with eight loops", images::looping()),

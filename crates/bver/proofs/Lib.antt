@@ -10,3 +10,4 @@ pub mod Counters
 pub mod Raising
 pub mod Safety
 pub mod Regions
+pub mod Listing

@@ -1,5 +1,6 @@
 pub mod Codes
 pub mod Justified
+pub mod Operations
 pub mod Resolved
 pub mod Lowered
 pub mod Heads

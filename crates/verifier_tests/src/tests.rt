@@ -9,6 +9,7 @@ mod generator;
 mod loop_runs;
 mod loops;
 mod machine_programs;
+mod operations;
 mod ranges;
 mod rules;
 mod running;
