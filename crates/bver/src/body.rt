@@ -106,7 +106,8 @@ impl<'a> Body<'a> {
     /// What is known of a register at the head, from what is known on the way there.
     fn raised(&self, lowered: &Lowered, register: Register, kind: AbsKind) -> AbsKind
         requires { register ≤ 9 }
-        ensures { IsRaisedKind self.now.program self.now.declared lowered.now self.now.place register kind result }
+        ensures { IsRaisedKind self.now.program self.now.declared lowered.now self.now.place
+            register kind result }
     {
         if register.number() == self.declared.register.number() {
             return AbsKind::Num(Range::new(1, u64::from(self.declared.bound)));
@@ -120,7 +121,8 @@ impl<'a> Body<'a> {
 
     /// Raises each register.
     fn raise_registers(&self, lowered: &Lowered, state: &mut State)
-        ensures { IsRaised self.now.program self.now.declared lowered.now self.now.place state.old state.new }
+        ensures { IsRaised self.now.program self.now.declared lowered.now self.now.place
+            state.old state.new }
     {
         for number in 0..10 {
             match Register::new(number) {

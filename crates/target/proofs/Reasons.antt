@@ -93,24 +93,26 @@ by_verifier control staged count refusal none is =
 at_end : (count : ℕ) → (count < 2 ^ 32) ⊎ (2 ^ 32 ≤ count)
 at_end count = search arith
 
+-- a code of publishing, which says 67 only of a history that is full
+of_publishing : (control : ControlData) (staged : List ℕ) (count : ℕ) (refusal : LoadRefusal) → control_code control ≡ None → (refusal.code ≡ 65) ⊎ (refusal.code ≡ 67) → (refusal.code ≡ 67 → 2 ^ 32 ≤ count) → TellsWhy control staged count refusal
+of_publishing control staged count refusal none which full =
+    let apart : (refusal.code ≢ 71) × (refusal.code ≢ 66) × (40 ≤ refusal.code) = elim which [
+      | inl a ↦ (omega (arith, a), omega (arith, a), omega (arith, a))
+      | inr b ↦ (omega (arith, b), omega (arith, b), omega (arith, b))
+    ] in
+    record {
+      control_is_wrong = no_control control refusal.code none apart.0 apart.1;
+      unspelled = λ low high. absurd (omega (arith, apart.2, high));
+      spelled = λ low. absurd (omega (arith, apart.2, low));
+      full = full;
+    }
+
 by_publishing : (control : ControlData) (staged : List ℕ) (count : ℕ) (refusal : LoadRefusal) → control_code control ≡ None → IsUnpublished count refusal → TellsWhy control staged count refusal
 by_publishing control staged count refusal none is = elim (at_end count) [
   | inl fewer ↦
       let code : refusal.code ≡ 65 = ap (λ (r : LoadRefusal). r.code) (is.memory fewer) in
-      record {
-        control_is_wrong = no_control control refusal.code none (omega (arith, code)) (omega (arith, code));
-        unspelled = λ low high. absurd (omega (arith, code, high));
-        spelled = λ low. absurd (omega (arith, code, low));
-        full = λ e. absurd (omega (arith, code, e));
-      }
-  | inr all ↦
-      let code : refusal.code ≡ 67 = ap (λ (r : LoadRefusal). r.code) (is.full all) in
-      record {
-        control_is_wrong = no_control control refusal.code none (omega (arith, code)) (omega (arith, code));
-        unspelled = λ low high. absurd (omega (arith, code, high));
-        spelled = λ low. absurd (omega (arith, code, low));
-        full = λ e. all;
-      }
+      of_publishing control staged count refusal none (inl code) (λ e. absurd (omega (arith, code, e)))
+  | inr all ↦ of_publishing control staged count refusal none (inr (ap (λ (r : LoadRefusal). r.code) (is.full all))) (λ e. all)
 ]
 
 by_code : (control : ControlData) (staged : List ℕ) (count : ℕ) (refusal : LoadRefusal) (o : Option ℕ) → control_code control ≡ o → IsUnpreparedBy o (loaded_bytes control staged) refusal → TellsWhy control staged count refusal
