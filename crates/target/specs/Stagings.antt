@@ -11,7 +11,7 @@ use Rattle.publish.specs.Staged.{Staged, staged}
 abbrev pub IsStagingPlace : Place → Type 0
 IsStagingPlace place = (place ≡ Staging) ⊎ (place ≡ LoadResult)
 
--- the bytes of a staging lie from address 0 on, and its load result from address 10000 on
+-- the bytes of a staging lie from address 0 on, and its load result from address 0x10000 on
 abbrev pub answer_at_place : Place → Staged → JudgedValue → Answer
 answer_at_place (Bank k) s j = answer_on 0 s.bytes j
 answer_at_place Staging s j = answer_on 0 s.bytes j
