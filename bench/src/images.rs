@@ -102,25 +102,35 @@ fn again(register: u8, back: i16) -> [Slot; 2] {
 
 /// 512 slots of work.
 pub fn straight() -> Vec<u8> {
+    straight_of(512)
+}
+
+/// So many slots of work, at least eight.
+pub fn straight_of(count: usize) -> Vec<u8> {
     let mut slots = vec![insn(MOV, 0, 0, 0, 1), insn(STXDW, 10, 0, -8, 0)];
-    for k in 0..63 {
-        slots.extend(work(k % 12));
+    for k in 0..(count - 4) / 8 {
+        slots.extend(work((k % 12) as i16));
     }
-    slots.resize(510, insn(MOV, 8, 0, 0, 0));
+    slots.resize(count - 2, insn(MOV, 8, 0, 0, 0));
     slots.extend([insn(MOV, 0, 0, 0, 0), insn(EXIT, 0, 0, 0, 0)]);
     image(&slots)
 }
 
 /// 4,096 rounds of a loop of three slots: 12,291 steps.
 pub fn counting() -> Vec<u8> {
+    counting_of(4096)
+}
+
+/// So many rounds of a loop of three slots: three steps a round, and three.
+pub fn counting_of(rounds: u16) -> Vec<u8> {
     let mut slots = vec![
         insn(MOV, 0, 0, 0, 0),
-        insn(MOV, 6, 0, 0, 4096),
+        insn(MOV, 6, 0, 0, u32::from(rounds)),
         insn(MOV, 7, 0, 0, 0),
     ];
     slots.extend(again(6, -3));
     slots.push(insn(EXIT, 0, 0, 0, 0));
-    image_with(12_291, &[declared(2, 4, 4096, 6)], &slots)
+    image_with(3 * u32::from(rounds) + 3, &[declared(2, 4, rounds, 6)], &slots)
 }
 
 /// A thousand rounds of a loop of ten instructions with loads, a store and a call: 10,005 steps.

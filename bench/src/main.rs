@@ -21,6 +21,9 @@ const PACKETS: u32 = 65_536;
 const LONG_PACKETS: u32 = 8_192;
 
 fn main() {
+    if std::env::args().nth(1).is_some_and(|word| word == "growth") {
+        return growth();
+    }
     let block: Vec<u8> = (0..4096u32).map(|k| (k * 31 % 251) as u8).collect();
     measure("crc over 4096 bytes", "bytes", 4096.0 * 20_000.0, || {
         timed(|| speed::crc(&block, 20_000))
@@ -67,6 +70,47 @@ fn main() {
     ] {
         serve(name, &images::yes(), &packet, count);
     }
+}
+
+/// How `verify` and `run` grow with slots and with rounds of a loop. A round is of about as many slots or steps at
+/// each size.
+fn growth() {
+    for count in [64, 128, 256, 512] {
+        let image = images::straight_of(count as usize);
+        let times = 200 * 512 / count;
+        let name = format!("verify of {count} slots");
+        each(&name, "slot", f64::from(times), f64::from(count), || timed(|| speed::verify(&image, times)));
+    }
+    let looping = images::looping();
+    each("verify of 512 slots with eight loops", "slot", 200.0, 512.0, || timed(|| speed::verify(&looping, 200)));
+    for count in [64, 128, 256, 512] {
+        let image = images::straight_of(count as usize);
+        let times = 20_000 * 512 / count;
+        let name = format!("run of {count} slots");
+        each(&name, "step", f64::from(times), f64::from(count), || timed(|| speed::run(&image, &READ, times)));
+    }
+    for count in [64u16, 256, 1024, 4096] {
+        let image = images::counting_of(count);
+        let steps = 3 * u32::from(count) + 3;
+        let times = 12_291_000 / steps;
+        let name = format!("run of a loop of {count} rounds");
+        each(&name, "step", f64::from(times), f64::from(steps), || timed(|| speed::run(&image, &READ, times)));
+    }
+}
+
+/// Prints the nanoseconds of one call, and of one of the parts that it has, in the best and the median round.
+fn each(name: &str, part: &str, calls: f64, parts: f64, round: impl FnMut() -> Option<Duration>) {
+    let Some(times) = rounds(round) else {
+        println!("{name}: refused");
+        return;
+    };
+    let call = |time: Duration| time.as_secs_f64() * 1e9 / calls;
+    let (best, median) = (call(times[0]), call(times[ROUNDS / 2]));
+    println!(
+        "{name}: best {best:.1}, median {median:.1} ns a call; best {:.3}, median {:.3} ns a {part}",
+        best / parts,
+        median / parts,
+    );
 }
 
 /// Measures `admit`, `judge_by` and `Bank::apply` of so many packets on a fresh bank, which are made before.

@@ -2,6 +2,7 @@ pub mod Bits
 pub mod Bytes
 pub mod Values
 pub mod Following
+pub mod Effects
 pub mod Running
 pub mod Questions
 pub mod Pausing

@@ -20,6 +20,6 @@ mod visit;
 pub use absdom::Region;
 pub use accepted::{Accepted, verify};
 pub use bver_form::{Refusal, Refused};
+pub use bver_op::{Code, Op};
 pub use laws::justified_programs;
 pub use machine::{MapSizes, TooMany};
-pub use operations::Op;
