@@ -25,6 +25,9 @@ fn main() {
         return growth();
     }
     let block: Vec<u8> = (0..4096u32).map(|k| (k * 31 % 251) as u8).collect();
+    measure("crc over 16 bytes", "bytes", 16.0 * 1_000_000.0, || {
+        timed(|| speed::crc(&block[..16], 1_000_000))
+    });
     measure("crc over 4096 bytes", "bytes", 4096.0 * 20_000.0, || {
         timed(|| speed::crc(&block, 20_000))
     });
