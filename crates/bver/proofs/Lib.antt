@@ -1,5 +1,4 @@
 pub mod Covering
-pub mod Counts
 pub mod Slots
 pub mod Visiting
 pub mod Keeping
@@ -10,4 +9,3 @@ pub mod Counters
 pub mod Raising
 pub mod Safety
 pub mod Regions
-pub mod Listing

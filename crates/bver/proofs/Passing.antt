@@ -15,7 +15,7 @@ use Rattle.absdom.specs.Laws.{BelowIsReflexive, BelowIsTransitive}
 use Rattle.bver.specs.Heads.{AreHeadsAt}
 use Rattle.bver.specs.Justified.{IsCoveredIfAny, IsPermitted, IsPermittedAt, accessed_at}
 use Rattle.bver.specs.Table.{TableValue, AreEntries, carried, known_in}
-use Rattle.bver.specs.Targets.{IsKept, IsPlain}
+use Rattle.bver_form.specs.Targets.{IsKept, IsPlain}
 use Rattle.bver.specs.Visit.{AreWhole, IsExtended, IsInsnVisit, IsVisit, VisitValue, AreEntered, AreVisited, ArePermitted, visited_with}
 use Rattle.bver.proofs.Covering.{AreCovered, any_covered_more, covers_itself, permitted_at_more}
 use Rattle.bver.proofs.Keeping.{kept_begins, known_begins, known_plain}

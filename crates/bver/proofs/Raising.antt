@@ -22,7 +22,7 @@ use Rattle.bver_form.specs.Form.{IsFormed}
 use Rattle.bver_form.specs.Jumps.{is_loop_back}
 use Rattle.bver.specs.Justified.{IsHead, IsOpen, IsWrittenBy, IsWrittenIn}
 use Rattle.bver.specs.Heads.{IsDeclared, IsRaised, IsRaisedKind, IsWithinBound, counts, opens, keeps, opened_kind}
-use Rattle.bver.specs.Lowered.{is_lowered}
+use Rattle.bver_form.specs.Lowered.{is_lowered}
 use Rattle.bver.proofs.Counters.{inside_of, holds_at, loop_in, from_eqb}
 
 -- the registers below one were raised

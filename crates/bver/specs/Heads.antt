@@ -1,5 +1,5 @@
 -- What the verifier makes of what is known at the head of a loop, so that it stands for every pass.
-use Rattle.std.specs.Prelude.{◌≡◌, ◌≢◌, ◌≤◌, ◌<◌, ℕ, Bool, false, if◌then◌else◌, List, length, slice_index_or, All, Option, IsTrue, IfSome}
+use Rattle.std.specs.Prelude.{◌≡◌, ◌≢◌, ◌≤◌, ◌<◌, ℕ, Bool, true, false, if◌then◌else◌, List, length, slice_index_or, All, Option, Some, None, IsTrue, IfSome}
 use Rattle.bpf.specs.declared.loops.Loop.{Loop}
 use Rattle.bpf.specs.Program.{Program, IsLoop}
 use Rattle.bpf_insn.specs.declared.operation.Width.TheVariants.{Bits64}
@@ -10,8 +10,8 @@ use Rattle.absdom.specs.Kinds.{IsKindBelow}
 use Rattle.absdom.specs.State.{StateValue, kind_at}
 use Rattle.bver_form.specs.declared.refusal.Refusal.{Refusal}
 use Rattle.bver_form.specs.declared.refusal.Refusal.TheVariants.{LoopEntry}
+use Rattle.bver_form.specs.Lowered.{is_lowered}
 use Rattle.bver.specs.Justified.{IsHead, IsWrittenIn}
-use Rattle.bver.specs.Lowered.{is_lowered, is_number, is_number_at}
 
 -- a loop that a program declares, and its place among those
 pub record BodyValue : Type 0 where
@@ -54,6 +54,18 @@ IsWithinBound l a = IsKindBelow (kind_at a l.register) (Num (1, l.bound))
 pub record IsEntryFault (l : Loop) (a : StateValue) (refusal : Refusal) : Type 0 where
   pub code : refusal ≡ LoopEntry
   pub outside : IsWithinBound l a → ⊥
+
+-- the kind is that of a number
+abbrev pub is_number : AbsKind → Bool
+is_number Unset = false
+is_number (Num range) = true
+is_number (Ptr region offsets) = false
+is_number (Map index) = false
+
+-- a number is known of the register
+abbrev pub is_number_at : Option StateValue → (register : ℕ) → Bool
+is_number_at None register = false
+is_number_at (Some a) register = is_number (kind_at a register)
 
 -- an edge back to the head lowers the register there: the loop writes it, and it is a number at the head and none
 -- on the edge

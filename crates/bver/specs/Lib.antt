@@ -2,9 +2,7 @@ pub mod Codes
 pub mod Justified
 pub mod Operations
 pub mod Resolved
-pub mod Lowered
 pub mod Heads
-pub mod Targets
 pub mod Table
 pub mod Visit
 pub mod Laws

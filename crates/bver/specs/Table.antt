@@ -1,8 +1,8 @@
 -- The verifier's table: what is known at slot 0 and at the slots to which the program jumps, and nowhere else.
-use Rattle.std.specs.Prelude.{◌≡◌, ◌<◌, ◌≤◌, ◌⊎◌, ℕ, Bool, ◌&&◌, ◌==◌, nat_lt, if◌then◌else◌, List, length, slice_index_or, Option, Some, None}
+use Rattle.std.specs.Prelude.{◌≡◌, ◌<◌, ℕ, Bool, ◌&&◌, ◌==◌, nat_lt, if◌then◌else◌, List, length, slice_index_or, Option, Some, None}
 use Rattle.bpf.specs.Program.{Program}
 use Rattle.absdom.specs.State.{StateValue}
-use Rattle.bver.specs.Targets.{IsKept, IsMarked}
+use Rattle.bver_form.specs.Targets.{IsKept, place_at}
 
 -- a program, the place of each slot's entry, and the entries
 pub record TableValue : Type 0 where
@@ -10,15 +10,7 @@ pub record TableValue : Type 0 where
   pub places : List ℕ
   pub entries : List (Option StateValue)
 
--- the place of no entry
-abbrev pub nowhere : ℕ
-nowhere = 65535
-
--- the place of a slot's entry
-abbrev pub place_at : List ℕ → (slot : ℕ) → ℕ
-place_at places slot = slice_index_or places slot nowhere
-
--- the slot has an entry
+-- the slot has an entry: its place is one of the entries'
 abbrev pub HasEntry : TableValue → (slot : ℕ) → Type 0
 HasEntry t slot = place_at t.places slot < length t.entries
 
@@ -36,23 +28,6 @@ pub record AreEntries (t : TableValue) : Type 0 where
   pub all : (slot : ℕ) → IsKept t.program slot → HasEntry t slot
   pub only : (slot : ℕ) → HasEntry t slot → IsKept t.program slot
   pub rising : (a b : ℕ) → a < b → HasEntry t a → HasEntry t b → place_at t.places a < place_at t.places b
-
--- the marked slots are numbered, by rising slot, below so many, and no other
-pub record IsNumbered (marks : List Bool) (places : List ℕ) (count : ℕ) : Type 0 where
-  pub size : length places ≡ length marks
-  pub all : (slot : ℕ) → IsMarked marks slot → place_at places slot < count
-  pub only : (slot : ℕ) → place_at places slot < count → IsMarked marks slot
-  pub rising : (a b : ℕ) → a < b → place_at places a < count → place_at places b < count → place_at places a < place_at places b
-
--- the marked slots before one are numbered, and no other
-pub record IsNumbering (marks : List Bool) (places : List ℕ) (count upto : ℕ) : Type 0 where
-  pub size : length places ≡ length marks
-  pub few : count ≤ upto
-  pub all : (slot : ℕ) → slot < upto → IsMarked marks slot → place_at places slot < count
-  pub only : (slot : ℕ) → place_at places slot < count → IsMarked marks slot
-  pub either : (slot : ℕ) → (place_at places slot < count) ⊎ (place_at places slot ≡ nowhere)
-  pub rest : (slot : ℕ) → upto ≤ slot → place_at places slot ≡ nowhere
-  pub rising : (a b : ℕ) → a < b → place_at places a < count → place_at places b < count → place_at places a < place_at places b
 
 -- what is known at a slot, where a running state may stand at the next one
 abbrev pub carried : TableValue → (runs : Bool) (next : ℕ) → StateValue → (slot : ℕ) → Option StateValue

@@ -15,7 +15,7 @@ use Rattle.bver_form.specs.Jumps.{first_slot, target}
 use Rattle.bver.specs.Justified.{IsHead, IsCoveredIfAny, IsEntered, IsPermittedAt, accessed_at, known_at}
 use Rattle.bver.specs.Heads.{AreHeadsAt}
 use Rattle.bver.specs.Table.{TableValue, carried, known_in}
-use Rattle.bver.specs.Targets.{IsPlain, landing_from}
+use Rattle.bver_form.specs.Targets.{IsPlain, landing_from}
 
 -- ---- what is known at each slot
 

@@ -3,17 +3,16 @@
 ghost use Rattle.std.specs.Prelude.{◌≡◌, ◌≤◌, ◌<◌, ◌↔◌, IsTrue, OnOk, MatchResult, length};
 ghost use Rattle.bpf.specs.Program.{insn_at};
 ghost use Rattle.bver.specs.Justified.{IsCovered, IsWrittenBy, IsWrittenIn};
-ghost use Rattle.bver.specs.Lowered.{IsMore, IsSettled};
+ghost use Rattle.bver_form.specs.Lowered.{IsMore, IsSettled};
 ghost use Rattle.bver.specs.Table.{known_in};
 ghost use Rattle.bver.specs.Heads.{BodyValue, Falls, IsDeclared, IsEntryFault, IsRaised, IsRaisedKind, IsWithinBound, opened_kind};
 
-use crate::lowered::Lowered;
 use crate::table::{Table, is_number};
 use absdom::{AbsKind, State};
 use absdom_num::Range;
 use bpf::{Image, Loop};
 use bpf_insn::Register;
-use bver_form::{Refusal, Refused};
+use bver_form::{Lowered, Refusal, Refused};
 use std::marker::Model;
 
 /// A loop that a program declares.
@@ -25,7 +24,7 @@ pub(crate) struct Body<'a> {
 }
 
 impl<'a> Model for Body<'a> {
-    ghost use Rattle.bver.specs.Lowered.{IsMore, IsSettled};
+    ghost use Rattle.bver_form.specs.Lowered.{IsMore, IsSettled};
     ghost use Rattle.bver.specs.Table.{known_in};
     ghost use Rattle.bver.specs.Heads.{BodyValue, Falls, IsDeclared};
 

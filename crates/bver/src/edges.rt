@@ -11,18 +11,17 @@ ghost use Rattle.bver_form.specs.Form.{IsAllowed};
 ghost use Rattle.bver_form.specs.Jumps.{IsJump};
 ghost use Rattle.bver.specs.Codes.{refusal_of};
 ghost use Rattle.bver.specs.Justified.{AsksCell, IsCovered, IsCoveredIfAny, IsResultCovered, AreEdgesCovered, edges_of_comparison, IsNumber, IsPermitted, known_at, pointed, accessed};
-ghost use Rattle.bver.specs.Lowered.{IsMore, IsSettled};
+ghost use Rattle.bver_form.specs.Lowered.{IsMore, IsSettled};
 ghost use Rattle.bver.specs.Table.{carried, known_in};
-ghost use Rattle.bver.specs.Targets.{IsPlain};
+ghost use Rattle.bver_form.specs.Targets.{IsPlain};
 ghost use Rattle.bver.specs.Visit.{IsTableOf, IsExtendedAfter, IsNext, HasNext, LeadsBy, taken_in};
 
-use crate::lowered::Lowered;
 use crate::table::Table;
 use crate::visit::Visit;
 use absdom::{AbsKind, Cause, Edges, Operands, Region, State, order_of_states, refine};
 use absdom_num::Range;
 use bpf_insn::{Comparison, Insn, Register};
-use bver_form::{Refusal, Refused};
+use bver_form::{Lowered, Refusal, Refused};
 
 /// The refusal for what an instruction may do wrong.
 fn refusal_of(cause: Cause) -> Refusal

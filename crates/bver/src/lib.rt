@@ -10,11 +10,8 @@ mod accepted;
 mod body;
 mod edges;
 mod laws;
-mod lowered;
-mod operations;
 mod passes;
 mod table;
-mod targets;
 mod visit;
 
 pub use absdom::Region;

@@ -5,19 +5,18 @@ ghost use Rattle.machine.specs.Step.{insn_at};
 ghost use Rattle.bver_form.specs.Form.{IsFormed};
 ghost use Rattle.bver.specs.Heads.{AreHeadsAt};
 ghost use Rattle.bver.specs.Justified.{IsJudged};
-ghost use Rattle.bver.specs.Lowered.{IsMore, IsSettled};
+ghost use Rattle.bver_form.specs.Lowered.{IsMore, IsSettled};
 ghost use Rattle.bver.specs.Table.{known_in};
-ghost use Rattle.bver.specs.Targets.{IsKept};
+ghost use Rattle.bver_form.specs.Targets.{IsKept};
 ghost use Rattle.bver.specs.Visit.{AreEntered, IsExtended, IsInsnVisit, IsTableOf, IsVisit, visited_with};
 
 use crate::edges::{accessed, flow};
-use crate::lowered::Lowered;
 use crate::table::Table;
 use crate::visit::Visit;
 use absdom::{Region, State, order_of_states};
 use bpf::Image;
 use bpf_insn::Insn;
-use bver_form::Refused;
+use bver_form::{Lowered, Refused};
 use machine::MapSizes;
 
 /// At the head of a loop, raises what is known there to what stands for every pass.

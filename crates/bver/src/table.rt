@@ -4,15 +4,15 @@ ghost use Rattle.std.specs.Prelude.{◌≡◌, ◌≢◌, ◌<◌, ◌≤◌, �
 ghost use Rattle.bpf.specs.Program.{IsProgram};
 ghost use Rattle.bver.specs.Justified.{IsCovered, IsCoveredIfAny};
 ghost use Rattle.absdom.specs.State.{IsWhole};
-ghost use Rattle.bver.specs.Lowered.{is_number, is_number_at};
-ghost use Rattle.bver.specs.Targets.{IsKept};
+ghost use Rattle.bver.specs.Heads.{is_number, is_number_at};
+ghost use Rattle.bver_form.specs.Targets.{IsKept};
 ghost use Rattle.bver.specs.Table.{AreEntries, HasEntry, carried, known_in, entry_of};
 ghost use Rattle.bver.specs.Visit.{AreWhole, IsGrown, IsLeast};
 
-use crate::targets::{NOWHERE, kept_slots, number};
 use absdom::{AbsKind, State, join_is_least, order_of_states};
 use bpf::Image;
 use bpf_insn::Register;
+use bver_form::{NOWHERE, kept_slots, number_slots};
 use std::alloc::{AllocError, Global};
 use std::marker::Model;
 
@@ -139,7 +139,7 @@ impl<'a> Table<'a> {
     {
         let kept = kept_slots(alloc, image)?;
         let mut places = vec![in alloc; NOWHERE; kept.len()]?;
-        let count = number(&kept, &mut places);
+        let count = number_slots(&kept, &mut places);
         Ok(Table {
             image,
             places,

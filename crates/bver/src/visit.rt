@@ -6,7 +6,7 @@ ghost use Rattle.machine.specs.Step.{insn_at};
 ghost use Rattle.bver_form.specs.Form.{IsFormed};
 ghost use Rattle.bver_form.specs.Jumps.{first_slot, is_loop_back, target};
 ghost use Rattle.bver.specs.Heads.{IsDeclared};
-ghost use Rattle.bver.specs.Targets.{IsKept};
+ghost use Rattle.bver_form.specs.Targets.{IsKept};
 ghost use Rattle.bver.specs.Visit.{VisitValue};
 
 use crate::body::Body;

@@ -5,3 +5,5 @@ pub mod Sums
 pub mod Entering
 pub mod Counted
 pub mod Faults
+pub mod Kept
+pub mod Counts

@@ -5,7 +5,7 @@ use Rattle.absdom.specs.Edges.{on_edge}
 use Rattle.bver_form.specs.Jumps.{target}
 use Rattle.bver.specs.Justified.{IsCoveredIfAny}
 use Rattle.bver.specs.Table.{AreEntries, carried, known_in}
-use Rattle.bver.specs.Targets.{IsKept}
+use Rattle.bver_form.specs.Targets.{IsKept}
 use Rattle.bver.specs.Visit.{taken_in}
 use Rattle.bver.proofs.Covering.{AreCovered, any_covered_more, known_covered}
 use Rattle.bver.proofs.Passing.{carried_covers}

@@ -1,7 +1,7 @@
 use Rattle.std.proofs.Common.{rules, ◌≡◌, ◌<◌, length, ◌∙◌, arith, refl}
 use Rattle.std.proofs.Math.ListN.{length-set}
 use Rattle.machine.specs.Step.{insn_at}
-use Rattle.bver.specs.Lowered.{IsMore, IsSettled}
+use Rattle.bver_form.specs.Lowered.{IsMore, IsSettled}
 use Rattle.bver.specs.Visit.{IsVisit, VisitValue}
 use Rattle.bver.proofs.Passing.{passing_none, passing_plain, passing_slot, visit_at, visit_of, visited_program}
 use Rattle.bver.proofs.Visiting.{judged}

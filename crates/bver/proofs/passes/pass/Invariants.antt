@@ -1,5 +1,5 @@
 use Rattle.std.proofs.Common.{◌≡◌, length}
-use Rattle.bver.specs.Lowered.{IsMore, IsSettled}
+use Rattle.bver_form.specs.Lowered.{IsMore, IsSettled}
 use Rattle.bver.proofs.Passing.{IsPassing}
 use Rattle.bver.proofs.passes.pass.Given as goal
 

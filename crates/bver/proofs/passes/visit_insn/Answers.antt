@@ -1,9 +1,9 @@
 use Rattle.std.proofs.Common.{rules, ◌≡◌, ◌+◌, Some, IsTrue}
 use Rattle.bpf_insn.specs.Spelling.{slots_of}
 use Rattle.bver.specs.Justified.{IsPermitted, accessed}
-use Rattle.bver.specs.Lowered.{IsSettled}
+use Rattle.bver_form.specs.Lowered.{IsSettled}
 use Rattle.bver.specs.Table.{carried}
-use Rattle.bver.specs.Targets.{IsPlain}
+use Rattle.bver_form.specs.Targets.{IsPlain}
 use Rattle.bver.specs.Visit.{IsExtended, visited_with}
 use Rattle.bver.specs.Heads.{AreHeadsAt}
 use Rattle.bver.proofs.Passing.{insn_visit}

@@ -1,4 +1,4 @@
-use Rattle.bver.specs.Lowered.{IsMore}
+use Rattle.bver_form.specs.Lowered.{IsMore}
 use Rattle.bver.proofs.body.Body.lower.Given as goal
 
 abbrev pub invariant-loop-number : goal.invariant-loop-number

@@ -1,6 +1,0 @@
-use Rattle.std.proofs.Common.{arith}
-use Rattle.bver.proofs.Counts.{count_below}
-use Rattle.bver.proofs.lowered.Lowered.count.Goals as goal
-
-pub returns-clause-limit : goal.returns-clause-limit
-returns-clause-limit c = omega (arith, c.self.invariant.0, c.self.invariant.1, count_below c.self.inside.lowered)
