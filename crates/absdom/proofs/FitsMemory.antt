@@ -5,14 +5,14 @@ use Rattle.std.proofs.Common.{[], ◌∷◌, lit<}
 use Rattle.std.proofs.Math.Nat.{pow-succ'}
 use Rattle.std.proofs.lemmas.Bool.{leb-true, leb-false, cases_lt}
 use Rattle.std.specs.Int.{w8, w16, w32, cast_signed}
-use Rattle.bpf_insn.specs.declared.memory.LoadSize.{LoadSize}
-use Rattle.bpf_insn.specs.declared.memory.LoadSize.TheVariants.{LoadByte, LoadHalf, LoadWord, LoadDouble, SignedByte, SignedHalf, SignedWord}
+use Rattle.bpf_parts.specs.declared.memory.LoadSize.{LoadSize}
+use Rattle.bpf_parts.specs.declared.memory.LoadSize.TheVariants.{LoadByte, LoadHalf, LoadWord, LoadDouble, SignedByte, SignedHalf, SignedWord}
 use Rattle.machine.specs.declared.regions.Region.{Region}
 use Rattle.machine.specs.declared.regions.Region.TheVariants.{Front, Tail, Stack}
 use Rattle.machine.specs.declared.values.Value.{Value}
 use Rattle.machine.specs.declared.values.Value.TheVariants.{Unset as Nothing, Num as Number, Ptr as Pointer, Map as MapOf}
 use Rattle.machine.specs.Words.{word}
-use Rattle.bpf_insn.specs.Sizes.{load_bytes}
+use Rattle.bpf_parts.specs.Sizes.{load_bytes}
 use Rattle.machine.specs.Memory.{Header, IsHeader, region_size, place_within, place_of, byte_of, byte_below, little, loaded}
 use Rattle.machine.specs.State.{State}
 use Rattle.machine.specs.Step.{load_value, bytes_at, loads}

@@ -3,12 +3,12 @@ use Rattle.std.proofs.Common.{◌≡◌, ◌≢◌, ℕ, ◌≤◌, true, false,
 use Rattle.std.specs.Prelude.{◌||◌, IfSome, IfOk}
 use Rattle.std.proofs.lemmas.Bool.Decides.{nat_tests}
 use Rattle.bpf_insn.specs.Flow.{is_written}
-use Rattle.bpf_insn.specs.declared.operation.Width.{Width}
-use Rattle.bpf_insn.specs.declared.operation.Width.TheVariants.{Bits64}
-use Rattle.bpf_insn.specs.declared.operation.Condition.{Condition}
-use Rattle.bpf_insn.specs.declared.operation.Operand.{Operand}
-use Rattle.bpf_insn.specs.declared.operation.Operand.TheVariants.{FromRegister, Immediate}
-use Rattle.bpf_insn.specs.declared.insn.Callee.{Callee}
+use Rattle.bpf_parts.specs.declared.operation.Width.{Width}
+use Rattle.bpf_parts.specs.declared.operation.Width.TheVariants.{Bits64}
+use Rattle.bpf_parts.specs.declared.operation.Condition.{Condition}
+use Rattle.bpf_parts.specs.declared.operation.Operand.{Operand}
+use Rattle.bpf_parts.specs.declared.operation.Operand.TheVariants.{FromRegister, Immediate}
+use Rattle.bpf_parts.specs.declared.callee.Callee.{Callee}
 use Rattle.bpf_insn.specs.declared.insn.Insn.{Insn}
 use Rattle.bpf_insn.specs.declared.insn.Insn.TheVariants as insns
 use Rattle.machine.specs.declared.regions.Region.{Region}

@@ -1,20 +1,20 @@
 -- What an instruction does to what is known, or why it is refused (a choice of this project). Operands are
 -- tested first, the destination before the source, and of each whether it is set and then its kind.
 use Rattle.std.specs.Prelude.{◌≡◌, ℕ, ◌+◌, ◌-◌, ◌^◌, ◌≤◌, Bool, true, ◌||◌, ◌==◌, nat_lt, nat_le, if◌then◌else◌, ℤ, pos, negsuc, ◌+ℤ◌, ◌-ℤ◌, List, Option, Some, None, Result, Ok, Err}
-use Rattle.bpf_insn.specs.declared.operation.Width.{Width}
-use Rattle.bpf_insn.specs.declared.operation.Width.TheVariants.{Bits32, Bits64}
-use Rattle.bpf_insn.specs.declared.operation.AluOp.{AluOp}
-use Rattle.bpf_insn.specs.declared.operation.AluOp.TheVariants.{Add, Sub, Mul, Div, SignedDiv, Or, And, Lsh, Rsh, Mod, SignedMod, Xor, Mov, Arsh}
-use Rattle.bpf_insn.specs.declared.operation.Operand.{Operand}
-use Rattle.bpf_insn.specs.declared.operation.Operand.TheVariants.{FromRegister, Immediate}
-use Rattle.bpf_insn.specs.declared.memory.LoadSize.{LoadSize}
-use Rattle.bpf_insn.specs.declared.memory.LoadSize.TheVariants.{LoadByte, LoadHalf, LoadWord, LoadDouble, SignedByte, SignedHalf, SignedWord}
+use Rattle.bpf_parts.specs.declared.operation.Width.{Width}
+use Rattle.bpf_parts.specs.declared.operation.Width.TheVariants.{Bits32, Bits64}
+use Rattle.bpf_parts.specs.declared.operation.AluOp.{AluOp}
+use Rattle.bpf_parts.specs.declared.operation.AluOp.TheVariants.{Add, Sub, Mul, Div, SignedDiv, Or, And, Lsh, Rsh, Mod, SignedMod, Xor, Mov, Arsh}
+use Rattle.bpf_parts.specs.declared.operation.Operand.{Operand}
+use Rattle.bpf_parts.specs.declared.operation.Operand.TheVariants.{FromRegister, Immediate}
+use Rattle.bpf_parts.specs.declared.memory.LoadSize.{LoadSize}
+use Rattle.bpf_parts.specs.declared.memory.LoadSize.TheVariants.{LoadByte, LoadHalf, LoadWord, LoadDouble, SignedByte, SignedHalf, SignedWord}
 use Rattle.bpf_insn.specs.declared.insn.Insn.{Insn}
 use Rattle.bpf_insn.specs.declared.insn.Insn.TheVariants.{Alu, Negate, MoveSigned, ByteSwap, Load, Store, Jump, Goto, Wide, LoadMap, LoadAddress, Call, Exit}
 use Rattle.machine.specs.declared.regions.Region.{Region}
 use Rattle.machine.specs.declared.regions.Region.TheVariants.{Front, Tail, Stack}
 use Rattle.machine.specs.Words.{word, signed}
-use Rattle.bpf_insn.specs.Sizes.{size_bytes, load_bytes}
+use Rattle.bpf_parts.specs.Sizes.{size_bytes, load_bytes}
 use Rattle.machine.specs.Memory.{place_of}
 use Rattle.absdom_num.specs.declared.ranges.Range.{Range}
 use Rattle.absdom_num.specs.Tables.{only, alu_range, negated_range, extended_range, swapped_range}

@@ -1,10 +1,10 @@
 -- What holds of the states of the verifier.
 use Rattle.std.specs.Prelude.{◌≡◌, ℕ, ◌+◌, ◌<◌, ◌^◌, ℤ, true, false, Option, Some, None, Result, Ok, Err, IfSome, IfOk}
-use Rattle.bpf_insn.specs.declared.operation.Comparison.{Comparison}
-use Rattle.bpf_insn.specs.declared.operation.Width.{Width}
-use Rattle.bpf_insn.specs.declared.operation.Condition.{Condition}
-use Rattle.bpf_insn.specs.declared.operation.Operand.{Operand}
-use Rattle.bpf_insn.specs.declared.insn.Callee.{Callee}
+use Rattle.bpf_parts.specs.declared.operation.Comparison.{Comparison}
+use Rattle.bpf_parts.specs.declared.operation.Width.{Width}
+use Rattle.bpf_parts.specs.declared.operation.Condition.{Condition}
+use Rattle.bpf_parts.specs.declared.operation.Operand.{Operand}
+use Rattle.bpf_parts.specs.declared.callee.Callee.{Callee}
 use Rattle.bpf_insn.specs.declared.insn.Insn.{Insn}
 use Rattle.bpf_insn.specs.declared.insn.Insn.TheVariants.{Jump, Call}
 use Rattle.bpf_insn.specs.Flow.{is_written}

@@ -1,7 +1,7 @@
 //! Loads and stores through a pointer (RFC 9669, section 5).
 
 ghost use Rattle.std.specs.Prelude.{◌≡◌, ◌+◌, ◌-◌, ◌^◌, ◌<◌, ◌≤◌, ◌≤ℤ◌, ◌+ℤ◌, pos, negsuc, IfSome, Some};
-ghost use Rattle.bpf_insn.specs.Sizes.{size_bytes};
+ghost use Rattle.bpf_parts.specs.Sizes.{size_bytes};
 ghost use Rattle.machine.specs.Memory.{place_within, place_of};
 ghost use Rattle.absdom.specs.Offsets.{IsOffset};
 ghost use Rattle.absdom.specs.Effect.{access_places, is_set, loaded_range, load_kind, wrote, wrote_stack, AreInside, Becomes, Stores};

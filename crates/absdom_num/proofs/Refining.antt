@@ -2,10 +2,10 @@
 use Rattle.std.proofs.Common.{ℕ, ◌≡◌, ◌+◌, ◌-◌, ◌<◌, ◌≤◌, pos, Bool, true, false, not, ◌&&◌, min, max, Some, None, sym, ap₂, subst, refl, arith}
 use Rattle.std.specs.Prelude.{◌==◌, nat_lt, nat_le, int_lt, int_le, if◌then◌else◌, bit_and}
 use Rattle.std.proofs.Math.Nat.{mod-eq_of_lt}
-use Rattle.bpf_insn.specs.declared.operation.Width.{Width}
-use Rattle.bpf_insn.specs.declared.operation.Width.TheVariants.{Bits32, Bits64}
-use Rattle.bpf_insn.specs.declared.operation.Condition.{Condition}
-use Rattle.bpf_insn.specs.declared.operation.Condition.TheVariants.{Equal, Greater, GreaterEqual, AnyBits, NotEqual, SignedGreater, SignedGreaterEqual, Less, LessEqual, SignedLess, SignedLessEqual}
+use Rattle.bpf_parts.specs.declared.operation.Width.{Width}
+use Rattle.bpf_parts.specs.declared.operation.Width.TheVariants.{Bits32, Bits64}
+use Rattle.bpf_parts.specs.declared.operation.Condition.{Condition}
+use Rattle.bpf_parts.specs.declared.operation.Condition.TheVariants.{Equal, Greater, GreaterEqual, AnyBits, NotEqual, SignedGreater, SignedGreaterEqual, Less, LessEqual, SignedLess, SignedLessEqual}
 use Rattle.machine.specs.Words.{modulus, low, signed, holds_words}
 use Rattle.absdom_num.specs.declared.ranges.Range.{Range}
 use Rattle.absdom_num.specs.declared.refinement.Edges.{Edges}

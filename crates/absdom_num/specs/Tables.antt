@@ -2,16 +2,16 @@
 -- each row gives a range that has every result of numbers in the operands' ranges.
 use Rattle.std.specs.Prelude.{ℕ, ◌+◌, ◌-◌, ◌*◌, ◌/◌, ◌%◌, ◌^◌, Bool, ◌&&◌, ◌==◌, nat_lt, nat_le, if◌then◌else◌, min, max}
 use Rattle.std.specs.Int.{w64, leading_zeros}
-use Rattle.bpf_insn.specs.declared.operation.Width.{Width}
-use Rattle.bpf_insn.specs.declared.operation.Width.TheVariants.{Bits32, Bits64}
-use Rattle.bpf_insn.specs.declared.operation.AluOp.{AluOp}
-use Rattle.bpf_insn.specs.declared.operation.AluOp.TheVariants.{Add, Sub, Mul, Div, SignedDiv, Or, And, Lsh, Rsh, Mod, SignedMod, Xor, Mov, Arsh}
-use Rattle.bpf_insn.specs.declared.operation.Extension.{Extension}
-use Rattle.bpf_insn.specs.declared.operation.Extension.TheVariants.{ByteTo32, HalfTo32, ByteTo64, HalfTo64, WordTo64}
-use Rattle.bpf_insn.specs.declared.operation.Swap.{Swap}
-use Rattle.bpf_insn.specs.declared.operation.SwapBits.{SwapBits}
-use Rattle.bpf_insn.specs.declared.operation.SwapBits.TheVariants.{Swap16, Swap32, Swap64}
-use Rattle.bpf_insn.specs.Codes.{extension_width}
+use Rattle.bpf_parts.specs.declared.operation.Width.{Width}
+use Rattle.bpf_parts.specs.declared.operation.Width.TheVariants.{Bits32, Bits64}
+use Rattle.bpf_parts.specs.declared.operation.AluOp.{AluOp}
+use Rattle.bpf_parts.specs.declared.operation.AluOp.TheVariants.{Add, Sub, Mul, Div, SignedDiv, Or, And, Lsh, Rsh, Mod, SignedMod, Xor, Mov, Arsh}
+use Rattle.bpf_parts.specs.declared.operation.Extension.{Extension}
+use Rattle.bpf_parts.specs.declared.operation.Extension.TheVariants.{ByteTo32, HalfTo32, ByteTo64, HalfTo64, WordTo64}
+use Rattle.bpf_parts.specs.declared.operation.Swap.{Swap}
+use Rattle.bpf_parts.specs.declared.operation.SwapBits.{SwapBits}
+use Rattle.bpf_parts.specs.declared.operation.SwapBits.TheVariants.{Swap16, Swap32, Swap64}
+use Rattle.bpf_parts.specs.Codes.{extension_width}
 use Rattle.machine.specs.Words.{bits_of, modulus, alu_words, negated, extended, swapped}
 use Rattle.absdom_num.specs.declared.ranges.Range.{Range}
 

@@ -3,15 +3,15 @@ use Rattle.std.proofs.Common.{◌≡◌, ℕ, ℤ, pos, List, Option, Some, None
 use Rattle.std.specs.Prelude.{◌==◌, IfSome, Ok}
 use Rattle.std.specs.declared.result.Result.{Result}
 use Rattle.std.proofs.lemmas.Bool.{cond_both}
-use Rattle.bpf_insn.specs.declared.insn.Address.{Address}
-use Rattle.bpf_insn.specs.declared.insn.Address.TheVariants.{MapByFile, MapValueByFile, Variable, Code, MapValueByIndex}
-use Rattle.bpf_insn.specs.Codes.{address_subtype, address_first, address_second}
+use Rattle.bpf_parts.specs.declared.address.Address.{Address}
+use Rattle.bpf_parts.specs.declared.address.Address.TheVariants.{MapByFile, MapValueByFile, Variable, Code, MapValueByIndex}
+use Rattle.bpf_parts.specs.Codes.{address_subtype, address_first, address_second}
 use Rattle.bpf_insn.specs.declared.insn.Insn.{Insn}
 use Rattle.bpf_insn.specs.declared.insn.Insn.TheVariants.{LoadAddress}
 use Rattle.basm_lex.specs.Numbers.{WritesNumber}
 use Rattle.basm_lex.specs.Places.{WritesRegister}
 use Rattle.basm.specs.Relation.{Four, WritesOperands}
-use Rattle.bpf_insn.specs.Kinds.{address_of}
+use Rattle.bpf_parts.specs.Kinds.{address_of}
 
 abbrev pub IsKind : ℕ → ℤ → Option Address → Type 0
 IsKind subtype first o = IfSome o (λ found. (address_subtype found ≡ subtype) × (address_first found ≡ first))

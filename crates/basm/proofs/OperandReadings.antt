@@ -5,11 +5,11 @@ use Rattle.std.specs.Borrow.{Bor}
 use Rattle.std.specs.Prelude.{IfOk, Ok, Err}
 use Rattle.std.specs.declared.result.Result.{Result}
 use Rattle.std.proofs.lemmas.Result.{IfOk-at_ok}
-use Rattle.bpf_insn.specs.declared.memory.Size.{Size}
-use Rattle.bpf_insn.specs.declared.operation.Operand.TheVariants.{FromRegister, Immediate}
+use Rattle.bpf_parts.specs.declared.memory.Size.{Size}
+use Rattle.bpf_parts.specs.declared.operation.Operand.TheVariants.{FromRegister, Immediate}
 use Rattle.bpf_insn.specs.declared.insn.Insn.{Insn}
 use Rattle.bpf_insn.specs.declared.insn.Insn.TheVariants.{Store}
-use Rattle.bpf_insn.specs.declared.memory.Place.{Place}
+use Rattle.bpf_parts.specs.declared.memory.Place.{Place}
 use Rattle.basm.specs.Relation.{Four, Three, Two, texts}
 
 two_at : {X : Type 0} (text : X → List ℕ) (xs : List X) (d : X) (P Q : List ℕ → Type 0) → Two (map text xs) P Q → P (text (get_or xs 0 d)) × Q (text (get_or xs 1 d))

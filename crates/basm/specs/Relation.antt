@@ -4,12 +4,12 @@ use Rattle.std.specs.Borrow.{Bor}
 use Rattle.std.specs.Int.{w16, w32}
 use Rattle.std.specs.List.{slice_split, flat_map}
 use Rattle.std.specs.List.Sorted.{IsPermutation}
-use Rattle.bpf_insn.specs.declared.operation.Operand.{Operand}
-use Rattle.bpf_insn.specs.declared.operation.Operand.TheVariants.{FromRegister, Immediate}
-use Rattle.bpf_insn.specs.declared.insn.Distance.TheVariants.{Short, Long}
+use Rattle.bpf_parts.specs.declared.operation.Operand.{Operand}
+use Rattle.bpf_parts.specs.declared.operation.Operand.TheVariants.{FromRegister, Immediate}
+use Rattle.bpf_parts.specs.declared.distance.Distance.TheVariants.{Short, Long}
 use Rattle.bpf_insn.specs.declared.insn.Insn.{Insn}
 use Rattle.bpf_insn.specs.declared.insn.Insn.TheVariants.{Alu, Negate, MoveSigned, ByteSwap, Load, Store, Jump, Goto, Wide, LoadMap, LoadAddress, Call, Exit}
-use Rattle.bpf_insn.specs.Codes.{address_subtype, address_first, address_second}
+use Rattle.bpf_parts.specs.Codes.{address_subtype, address_first, address_second}
 use Rattle.bpf_insn.specs.Spelling.{slots_of}
 use Rattle.bpf_insn.specs.Text.{insn_name}
 use Rattle.bpf.specs.declared.loops.Loop.{Loop}

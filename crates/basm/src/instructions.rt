@@ -2,7 +2,7 @@
 
 ghost use Rattle.std.specs.Prelude.{◌≡◌, ◌+◌, ◌≤◌, ◌++◌, ◌∷◌, [], ℕ, ℤ, List, Option, pos, FitsSigned, IfOk, IfSome};
 ghost use Rattle.std.specs.Int.{w16, w32};
-ghost use Rattle.bpf_insn.specs.Codes.{address_first, address_second, address_subtype};
+ghost use Rattle.bpf_parts.specs.Codes.{address_first, address_second, address_subtype};
 ghost use Rattle.bpf_insn.specs.declared.insn.Insn.{Insn as AnInsn};
 ghost use Rattle.bpf_insn.specs.Spelling.{slots_of};
 ghost use Rattle.basm_lex.specs.Numbers.{WritesNumber, WritesWide};

@@ -6,15 +6,15 @@ use Rattle.std.specs.Map.{lookup}
 use Rattle.std.specs.Str.{bytes_eq}
 use Rattle.std.proofs.lemmas.Bool.{and_parts, cond_both}
 use Rattle.std.proofs.lemmas.Slice.Eq.{bytes_eq-Decides}
-use Rattle.bpf_insn.specs.declared.operation.Width.TheVariants.{Bits32, Bits64}
-use Rattle.bpf_insn.specs.declared.operation.AluOp.TheVariants.{Add}
-use Rattle.bpf_insn.specs.declared.operation.Extension.TheVariants.{ByteTo32}
-use Rattle.bpf_insn.specs.declared.operation.Swap.TheVariants.{ToLittle}
-use Rattle.bpf_insn.specs.declared.operation.SwapBits.TheVariants.{Swap16, Swap32, Swap64}
-use Rattle.bpf_insn.specs.declared.operation.Condition.TheVariants.{Equal}
-use Rattle.bpf_insn.specs.declared.memory.Size.TheVariants.{Byte}
-use Rattle.bpf_insn.specs.declared.memory.LoadSize.TheVariants.{LoadByte}
-use Rattle.bpf_insn.specs.declared.insn.Callee.TheVariants.{Helper}
+use Rattle.bpf_parts.specs.declared.operation.Width.TheVariants.{Bits32, Bits64}
+use Rattle.bpf_parts.specs.declared.operation.AluOp.TheVariants.{Add}
+use Rattle.bpf_parts.specs.declared.operation.Extension.TheVariants.{ByteTo32}
+use Rattle.bpf_parts.specs.declared.operation.Swap.TheVariants.{ToLittle}
+use Rattle.bpf_parts.specs.declared.operation.SwapBits.TheVariants.{Swap16, Swap32, Swap64}
+use Rattle.bpf_parts.specs.declared.operation.Condition.TheVariants.{Equal}
+use Rattle.bpf_parts.specs.declared.memory.Size.TheVariants.{Byte}
+use Rattle.bpf_parts.specs.declared.memory.LoadSize.TheVariants.{LoadByte}
+use Rattle.bpf_parts.specs.declared.callee.Callee.TheVariants.{Helper}
 use Rattle.basm_lex.specs.Names.{IsName, is_name}
 use Rattle.basm_lex.specs.declared.mnemonics.Mnemonic.{Mnemonic}
 use Rattle.basm_lex.specs.declared.mnemonics.Mnemonic.TheVariants.{Arithmetic, Negation, SignedMove, Swapping, Loading, Storing, StoringRegister, Jumping, ShortGoto, LongGoto, WideLoad, MapLoad, AddressLoad, Calling, Exiting}

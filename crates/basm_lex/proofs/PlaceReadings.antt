@@ -5,9 +5,9 @@ use Rattle.std.specs.Char.{digit_value}
 use Rattle.std.specs.Str.Parse.{AllDigits}
 use Rattle.std.proofs.lemmas.List.{append_cancel_right}
 use Rattle.std.proofs.lemmas.Str.Pattern.{IsSplitOnceResult, split_after, split_parts}
-use Rattle.bpf_insn.specs.Text.{register_text}
+use Rattle.bpf_parts.specs.Text.{register_text}
 use Rattle.basm_lex.specs.Numbers.{WritesBackward, WritesDistance, WritesMagnitude}
-use Rattle.bpf_insn.specs.declared.memory.Place.{Place}
+use Rattle.bpf_parts.specs.declared.memory.Place.{Place}
 use Rattle.basm_lex.specs.Places.{WritesPlace}
 use Rattle.basm_lex.proofs.RegisterTexts.{text_0, text_1, text_2, text_3, text_4, text_5, text_6, text_7, text_8, text_9, text_10}
 

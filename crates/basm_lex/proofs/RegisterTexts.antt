@@ -2,7 +2,7 @@
 use Rattle.std.proofs.Common.{◌≡◌, ℕ, zero, suc, ◌-◌, ◌≤◌, List, [], ◌∷◌, refl, sym, ap, ◌∙◌, arith}
 use Rattle.std.specs.Prelude.{◌≢◌, codes}
 use Rattle.std.specs.Fmt.{digits}
-use Rattle.bpf_insn.specs.Text.{register_text}
+use Rattle.bpf_parts.specs.Text.{register_text}
 use Rattle.basm_lex.specs.Places.{WritesRegister}
 
 pub text_0 : register_text 0 ≡ codes "r0"

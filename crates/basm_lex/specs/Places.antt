@@ -1,8 +1,8 @@
 -- What words write: places in memory.
 use Rattle.std.specs.Prelude.{◌≡◌, ◌≤◌, ℕ, ℤ, List, [], ◌∷◌, ◌++◌, codes, FitsSigned}
 use Rattle.std.specs.Int.{w16}
-use Rattle.bpf_insn.specs.declared.memory.Place.{Place}
-use Rattle.bpf_insn.specs.Text.{register_text}
+use Rattle.bpf_parts.specs.declared.memory.Place.{Place}
+use Rattle.bpf_parts.specs.Text.{register_text}
 use Rattle.basm_lex.specs.Numbers.{WritesDistance}
 
 -- a register by its name

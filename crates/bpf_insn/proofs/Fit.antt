@@ -2,33 +2,34 @@
 use Rattle.std.proofs.Common.{ℕ, ◌/◌, ◌%◌, ◌^◌, ◌<◌, ◌≤◌, arith, FitsSigned, IfSome, lit<, lit≤}
 use Rattle.std.specs.Int.{w16, w32, cast_signed}
 use Rattle.std.proofs.Math.Facts.{sfits_lit, sfits_to_z, Fits-of_lt}
-use Rattle.bpf_insn.specs.declared.operation.Width.{Width}
-use Rattle.bpf_insn.specs.declared.operation.Width.TheVariants.{Bits32, Bits64}
-use Rattle.bpf_insn.specs.declared.operation.AluOp.{AluOp}
-use Rattle.bpf_insn.specs.declared.operation.AluOp.TheVariants.{Add}
-use Rattle.bpf_insn.specs.declared.operation.Operand.{Operand}
-use Rattle.bpf_insn.specs.declared.operation.Operand.TheVariants.{FromRegister, Immediate}
-use Rattle.bpf_insn.specs.declared.operation.Extension.{Extension}
-use Rattle.bpf_insn.specs.declared.operation.Extension.TheVariants.{ByteTo32}
-use Rattle.bpf_insn.specs.declared.operation.Swap.{Swap}
-use Rattle.bpf_insn.specs.declared.operation.Swap.TheVariants.{ToLittle}
-use Rattle.bpf_insn.specs.declared.operation.SwapBits.{SwapBits}
-use Rattle.bpf_insn.specs.declared.operation.SwapBits.TheVariants.{Swap16}
-use Rattle.bpf_insn.specs.declared.operation.Condition.{Condition}
-use Rattle.bpf_insn.specs.declared.operation.Condition.TheVariants.{Equal}
-use Rattle.bpf_insn.specs.declared.memory.Size.{Size}
-use Rattle.bpf_insn.specs.declared.memory.Size.TheVariants.{Byte}
-use Rattle.bpf_insn.specs.declared.memory.LoadSize.{LoadSize}
-use Rattle.bpf_insn.specs.declared.memory.LoadSize.TheVariants.{LoadByte}
-use Rattle.bpf_insn.specs.declared.insn.Distance.TheVariants.{Short, Long}
-use Rattle.bpf_insn.specs.declared.insn.Address.{Address}
-use Rattle.bpf_insn.specs.declared.insn.Address.TheVariants.{MapByFile}
-use Rattle.bpf_insn.specs.declared.insn.Callee.{Callee}
-use Rattle.bpf_insn.specs.declared.insn.Callee.TheVariants.{Helper}
+use Rattle.bpf_parts.specs.declared.operation.Width.{Width}
+use Rattle.bpf_parts.specs.declared.operation.Width.TheVariants.{Bits32, Bits64}
+use Rattle.bpf_parts.specs.declared.operation.AluOp.{AluOp}
+use Rattle.bpf_parts.specs.declared.operation.AluOp.TheVariants.{Add}
+use Rattle.bpf_parts.specs.declared.operation.Operand.{Operand}
+use Rattle.bpf_parts.specs.declared.operation.Operand.TheVariants.{FromRegister, Immediate}
+use Rattle.bpf_parts.specs.declared.operation.Extension.{Extension}
+use Rattle.bpf_parts.specs.declared.operation.Extension.TheVariants.{ByteTo32}
+use Rattle.bpf_parts.specs.declared.operation.Swap.{Swap}
+use Rattle.bpf_parts.specs.declared.operation.Swap.TheVariants.{ToLittle}
+use Rattle.bpf_parts.specs.declared.operation.SwapBits.{SwapBits}
+use Rattle.bpf_parts.specs.declared.operation.SwapBits.TheVariants.{Swap16}
+use Rattle.bpf_parts.specs.declared.operation.Condition.{Condition}
+use Rattle.bpf_parts.specs.declared.operation.Condition.TheVariants.{Equal}
+use Rattle.bpf_parts.specs.declared.memory.Size.{Size}
+use Rattle.bpf_parts.specs.declared.memory.Size.TheVariants.{Byte}
+use Rattle.bpf_parts.specs.declared.memory.LoadSize.{LoadSize}
+use Rattle.bpf_parts.specs.declared.memory.LoadSize.TheVariants.{LoadByte}
+use Rattle.bpf_parts.specs.declared.distance.Distance.TheVariants.{Short, Long}
+use Rattle.bpf_parts.specs.declared.address.Address.{Address}
+use Rattle.bpf_parts.specs.declared.address.Address.TheVariants.{MapByFile}
+use Rattle.bpf_parts.specs.declared.callee.Callee.{Callee}
+use Rattle.bpf_parts.specs.declared.callee.Callee.TheVariants.{Helper}
 use Rattle.bpf_insn.specs.declared.insn.Insn.{Insn}
 use Rattle.bpf_insn.specs.declared.insn.Insn.TheVariants.{Alu, Negate, MoveSigned, ByteSwap, Load, Store, Jump, Goto, Wide, LoadMap, LoadAddress, Call, Exit}
-use Rattle.bpf_insn.specs.Codes.{arithmetic_class, jump_class, alu_code, alu_offset, source_bit, source_field, immediate_field, extension_bits, extension_width, swap_width, swap_source, swap_bits, condition_code, size_code, load_code, store_class, address_subtype, callee_code}
-use Rattle.bpf_insn.specs.Spelling.{first_fields, second_immediate, IsInsn, IsOperand, FieldsFit}
+use Rattle.bpf_parts.specs.Codes.{arithmetic_class, jump_class, alu_code, alu_offset, source_bit, source_field, immediate_field, extension_bits, extension_width, swap_width, swap_source, swap_bits, condition_code, size_code, load_code, store_class, address_subtype, callee_code}
+use Rattle.bpf_insn.specs.Spelling.{first_fields, second_immediate, IsInsn, FieldsFit}
+use Rattle.bpf_parts.specs.Operands.{IsOperand}
 
 arithmetic_class_small : (w : Width) → arithmetic_class w < 8
 arithmetic_class_small Bits32 = lit< tt

@@ -5,6 +5,5 @@ pub mod Fit
 pub mod Explained
 pub mod Apart
 pub mod Zeros
-pub mod Signs
 pub mod Read
 pub mod Named

@@ -1,5 +1,5 @@
 -- A fault that bytes have is the one that is read.
-use Rattle.std.proofs.Common.{◌≡◌, ◌≢◌, ℕ, ◌/◌, ◌%◌, Bool, true, false, ◌&&◌, ◌||◌, not, List, Option, Some, None, Result, Ok, Err, refl, sym, ap, ◌∙◌, is_some, IfSome, IfErr, if◌then◌else◌, ◌⊎◌, inl, inr, slice_index, subst}
+use Rattle.std.proofs.Common.{◌≡◌, ℕ, ◌/◌, ◌%◌, Bool, true, false, ◌&&◌, not, List, Option, Some, None, Result, Ok, Err, refl, sym, ap, ◌∙◌, is_some, IfSome, IfErr, if◌then◌else◌, ◌⊎◌, inl, inr, slice_index, subst}
 use Rattle.std.specs.Option.{option_map}
 use Rattle.bpf_insn.specs.declared.insn.Insn.{Insn}
 use Rattle.bpf_insn.specs.declared.fields.Fields.{Fields}

@@ -1,28 +1,28 @@
 -- What is read from the bytes of a slot is an instruction that they spell.
-use Rattle.std.proofs.Common.{◌≡◌, ℕ, ◌+◌, ◌*◌, ◌^◌, ◌<◌, ◌≤◌, ℤ, pos, Bool, true, false, ◌&&◌, List, Option, Some, None, Result, Ok, Err, refl, sym, ap, ◌∙◌, arith, FitsSigned, IfSome, IfOk, if◌then◌else◌, nat_eq, nat_le, lit<}
+use Rattle.std.proofs.Common.{◌≡◌, ℕ, ◌^◌, ◌<◌, ◌≤◌, ℤ, pos, Bool, true, false, ◌&&◌, List, Option, Some, None, Result, Ok, Err, refl, sym, ap, ◌∙◌, arith, FitsSigned, IfSome, IfOk, if◌then◌else◌, nat_eq, nat_le}
 use Rattle.std.proofs.lemmas.Bool.Decides.{nat_tests, Decides-int_eq}
 use Rattle.std.proofs.lemmas.Result.{IfOk-at_ok}
 use Rattle.std.proofs.Math.Facts.{Fits-of_lt, Fits-of_z, sfits_lit, sfits_to_z}
 use Rattle.std.specs.Int.{w16, w32, cast_unsigned}
 use Rattle.std.specs.Option.{ok_or, option_map}
-use Rattle.std.specs.Ordering.{int_eq}
-use Rattle.bpf_insn.specs.declared.operation.Width.{Width}
-use Rattle.bpf_insn.specs.declared.operation.Width.TheVariants.{Bits32, Bits64}
-use Rattle.bpf_insn.specs.declared.operation.AluOp.TheVariants.{Mov}
-use Rattle.bpf_insn.specs.declared.operation.Operand.{Operand}
-use Rattle.bpf_insn.specs.declared.operation.Operand.TheVariants.{FromRegister, Immediate}
-use Rattle.bpf_insn.specs.declared.operation.Extension.{Extension}
-use Rattle.bpf_insn.specs.declared.insn.Address.{Address}
-use Rattle.bpf_insn.specs.declared.insn.Address.TheVariants.{MapByFile, MapValueByFile, Variable, Code, MapValueByIndex}
-use Rattle.bpf_insn.specs.declared.insn.Distance.TheVariants.{Short, Long}
+use Rattle.bpf_parts.specs.declared.operation.Width.{Width}
+use Rattle.bpf_parts.specs.declared.operation.Width.TheVariants.{Bits32, Bits64}
+use Rattle.bpf_parts.specs.declared.operation.AluOp.TheVariants.{Mov}
+use Rattle.bpf_parts.specs.declared.operation.Operand.{Operand}
+use Rattle.bpf_parts.specs.declared.operation.Operand.TheVariants.{FromRegister, Immediate}
+use Rattle.bpf_parts.specs.declared.operation.Extension.{Extension}
+use Rattle.bpf_parts.specs.declared.address.Address.{Address}
+use Rattle.bpf_parts.specs.declared.address.Address.TheVariants.{MapByFile, MapValueByFile, Variable, Code, MapValueByIndex}
+use Rattle.bpf_parts.specs.declared.distance.Distance.TheVariants.{Short, Long}
 use Rattle.bpf_insn.specs.declared.insn.Insn.{Insn}
 use Rattle.bpf_insn.specs.declared.insn.Insn.TheVariants.{Alu, Negate, ByteSwap, Load, Store, Jump, Goto, Wide, LoadMap, LoadAddress, Call, Exit}
 use Rattle.bpf_insn.specs.declared.fields.Fields.{Fields}
 use Rattle.bpf_insn.specs.declared.decoding.BadInsn.{BadInsn}
 use Rattle.bpf_insn.specs.declared.decoding.BadInsn.TheVariants as faults
-use Rattle.bpf_insn.specs.Kinds.{address_of, extension_of}
-use Rattle.bpf_insn.specs.Spelling.{fields, first_fields, second_immediate, second_fields, bytes_of, AreSlotBytes, IsInsn, IsOperand, Spells}
-use Rattle.bpf_insn.specs.Reading.{◌>>=◌, register_of, operand_of, names_register, register_move, joined, meant_of, wide_of, pair_of, load_of, store_of, arithmetic_of, negation_of, byte_swap_of, two_operands_of, move_of, jump_of, call_of, branch_of, comparison_of, fields_in, same_fields, same_second, has_fields, reading_of, reading}
+use Rattle.bpf_parts.specs.Kinds.{address_of, extension_of}
+use Rattle.bpf_insn.specs.Spelling.{fields, first_fields, second_immediate, second_fields, bytes_of, AreSlotBytes, IsInsn, Spells}
+use Rattle.bpf_parts.specs.Operands.{IsOperand}
+use Rattle.bpf_insn.specs.Reading.{◌>>=◌, register_of, operand_of, register_move, joined, meant_of, wide_of, pair_of, load_of, store_of, arithmetic_of, negation_of, byte_swap_of, two_operands_of, move_of, jump_of, call_of, branch_of, comparison_of, fields_in, same_fields, same_second, has_fields, reading_of, reading}
 use Rattle.bpf_insn.proofs.SlotBytes.{bytes_of-fields_in}
 
 -- ---- the numbers of fields that were read

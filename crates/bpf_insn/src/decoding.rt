@@ -4,19 +4,21 @@ ghost use Rattle.std.specs.Prelude.{◌≡◌, ◌≤◌, ◌<◌, ◌^◌, Ok, 
 ghost use Rattle.std.specs.Option.{option_copied, option_map};
 ghost use Rattle.bpf_insn.specs.declared.insn.Insn.{Insn};
 ghost use Rattle.bpf_insn.specs.Faults.{bad_insn_code, IsFault};
-ghost use Rattle.bpf_insn.specs.Spelling.{HasSecond, HasSlots, IsInsn, IsOperand, Spells};
+ghost use Rattle.bpf_insn.specs.Spelling.{HasSecond, HasSlots, IsInsn, Spells};
+ghost use Rattle.bpf_parts.specs.Operands.{IsOperand};
 ghost use Rattle.bpf_insn.specs.Reading.{arithmetic_of, branch_of, byte_swap_of, call_of, fields_in, has_fields, joined, jump_of, load_of, meant_of, move_of, names_register, negation_of, operand_of, pair_of, reading_of, register_of, same_second, store_of, two_operands_of, wide_of};
 
 use crate::encoding::{first_fields, second_immediate};
 use crate::fields::Fields;
-use crate::insn::{Address, Callee, Distance, Insn};
-use crate::memory::{LoadSize, Place, Size};
-use crate::opcode::{
+use crate::insn::Insn;
+use bpf_parts::opcode::{
     ALU, CALL, CONSTANT, END, EXIT, GOTO_LONG, GOTO_SHORT, JMP, JMP32, LD, LDX, LOAD_WIDE,
     MAP_BY_INDEX, MOV, NEG, ST, STX,
 };
-use crate::operation::{AluOp, Comparison, Condition, Extension, Operand, Swap, SwapBits, Width};
-use crate::register::Register;
+use bpf_parts::{
+    Address, AluOp, Callee, Comparison, Condition, Distance, Extension, LoadSize, Operand, Place,
+    Register, Size, Swap, SwapBits, Width,
+};
 use thiserror::Error;
 
 /// Why bytes spell no instruction: the first fault in this order, but for `Half`, which comes before

@@ -2,18 +2,19 @@
 
 ghost use Rattle.std.specs.Prelude.{◌≡◌, ◌<◌, ◌*◌, ◌+◌, ◌/◌, ◌%◌, ◌^◌, ℤ, pos};
 ghost use Rattle.std.specs.Int.{w32, cast_signed};
-ghost use Rattle.bpf_insn.specs.Codes.{store_class};
+ghost use Rattle.bpf_parts.specs.Codes.{store_class};
 ghost use Rattle.bpf_insn.specs.Spelling.{RegistersFit, Spells, fields, first_bytes, first_fields, load_wide, second_bytes, second_immediate};
 
 use crate::fields::Fields;
-use crate::insn::{Address, Distance, Insn};
-use crate::memory::{LoadSize, Place, Size};
-use crate::opcode::{
+use crate::insn::Insn;
+use bpf_parts::opcode::{
     CALL, CONSTANT, END, EXIT, GOTO_LONG, GOTO_SHORT, K, LDX, LOAD_WIDE, MAP_BY_INDEX, MOV, NEG,
     ST, STX, X,
 };
-use crate::operation::{AluOp, Comparison, Extension, Operand, Swap, SwapBits, Width};
-use crate::register::Register;
+use bpf_parts::{
+    Address, AluOp, Comparison, Distance, Extension, LoadSize, Operand, Place, Register, Size,
+    Swap, SwapBits, Width,
+};
 
 /// The bytes that spell the instruction: the first slot, and the second of an instruction that has
 /// two (RFC 9669, section 3).

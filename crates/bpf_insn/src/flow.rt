@@ -3,8 +3,8 @@
 ghost use Rattle.std.specs.Prelude.{◌≡◌};
 ghost use Rattle.bpf_insn.specs.Flow.{accessed_base, flow_of, is_clobbered, is_named, is_written, written_register};
 
-use crate::insn::{Callee, Insn};
-use crate::register::Register;
+use crate::insn::Insn;
+use bpf_parts::{Callee, Register};
 
 /// Where a run goes on after an instruction. Distances are in slots from the next instruction.
 #[derive(Clone, Copy, Debug, PartialEq, Eq)]

@@ -5,11 +5,11 @@ use Rattle.std.proofs.lemmas.Bool.{false≢true, cases_lt}
 use Rattle.std.proofs.lemmas.Bool.Decides.{nat_tests}
 use Rattle.bpf.specs.declared.loops.Loop.{Loop}
 use Rattle.bpf.specs.Program.{Program, AreLoops, IsLoop}
-use Rattle.bpf_insn.specs.declared.operation.Width.TheVariants.{Bits64}
+use Rattle.bpf_parts.specs.declared.operation.Width.TheVariants.{Bits64}
 use Rattle.bpf_insn.specs.declared.insn.Insn.{Insn}
 use Rattle.bpf_insn.specs.Flow.{is_written}
-use Rattle.bpf_insn.specs.declared.operation.AluOp.TheVariants.{Add}
-use Rattle.bpf_insn.specs.declared.operation.Condition.TheVariants.{NotEqual}
+use Rattle.bpf_parts.specs.declared.operation.AluOp.TheVariants.{Add}
+use Rattle.bpf_parts.specs.declared.operation.Condition.TheVariants.{NotEqual}
 use Rattle.machine.specs.declared.values.Value.{Value}
 use Rattle.machine.specs.declared.values.Value.TheVariants.{Unset, Num, Ptr, Map}
 use Rattle.machine.specs.Words.{alu_words, word}

@@ -4,7 +4,7 @@ use Rattle.bpf_insn.specs.declared.insn.Insn.{Insn}
 use Rattle.bpf_insn.specs.declared.insn.Insn.TheVariants.{Alu, Negate, MoveSigned, ByteSwap, Load, Store, Jump, Goto, Wide, LoadMap, LoadAddress, Call, Exit}
 use Rattle.bpf_insn.specs.Spelling.{slots_of}
 use Rattle.machine.specs.Sizes.{Maps}
-use Rattle.bpf_insn.specs.Flow.{distance_of}
+use Rattle.bpf_parts.specs.Operands.{distance_of}
 use Rattle.absdom.specs.declared.cause.Cause.{Cause}
 use Rattle.absdom.specs.State.{StateValue, after_call}
 use Rattle.absdom.specs.Effect.{applied}

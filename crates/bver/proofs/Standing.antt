@@ -2,9 +2,9 @@
 use Rattle.std.proofs.Common.{◌≡◌, ℕ, ◌+◌, ◌^◌, ◌<◌, ℤ, pos, negsuc, Bool, true, false, List, Option, None, Some, Result, Ok, Err, refl, sym, subst}
 use Rattle.std.specs.Prelude.{IsTrue, if◌then◌else◌}
 use Rattle.bpf.specs.Program.{Program}
-use Rattle.bpf_insn.specs.declared.insn.Distance.TheVariants.{Short, Long}
-use Rattle.bpf_insn.specs.declared.insn.Callee.{Callee}
-use Rattle.bpf_insn.specs.declared.insn.Callee.TheVariants.{Helper, Local, ByTypeId}
+use Rattle.bpf_parts.specs.declared.distance.Distance.TheVariants.{Short, Long}
+use Rattle.bpf_parts.specs.declared.callee.Callee.{Callee}
+use Rattle.bpf_parts.specs.declared.callee.Callee.TheVariants.{Helper, Local, ByTypeId}
 use Rattle.bpf_insn.specs.declared.insn.Insn.{Insn}
 use Rattle.bpf_insn.specs.declared.insn.Insn.TheVariants.{Alu, Negate, MoveSigned, ByteSwap, Load, Store, Jump, Goto, Wide, LoadMap, LoadAddress, Exit}
 use Rattle.bpf_insn.specs.declared.insn.Insn.TheVariants as insns

@@ -11,10 +11,10 @@ use Rattle.bpf_insn.specs.declared.flow.Flow.{Flow}
 use Rattle.bpf_insn.specs.declared.flow.Flow.TheVariants.{GoesOn, Branches, Jumps, Calls, Ends, Unsupported}
 use Rattle.bpf_insn.specs.declared.insn.Insn.{Insn}
 use Rattle.bpf_insn.specs.declared.insn.Insn.TheVariants.{Alu, Jump}
-use Rattle.bpf_insn.specs.declared.operation.AluOp.TheVariants.{Add}
-use Rattle.bpf_insn.specs.declared.operation.Condition.TheVariants.{NotEqual}
-use Rattle.bpf_insn.specs.declared.operation.Operand.TheVariants.{Immediate}
-use Rattle.bpf_insn.specs.declared.operation.Width.TheVariants.{Bits64}
+use Rattle.bpf_parts.specs.declared.operation.AluOp.TheVariants.{Add}
+use Rattle.bpf_parts.specs.declared.operation.Condition.TheVariants.{NotEqual}
+use Rattle.bpf_parts.specs.declared.operation.Operand.TheVariants.{Immediate}
+use Rattle.bpf_parts.specs.declared.operation.Width.TheVariants.{Bits64}
 use Rattle.bver_form.specs.Jumps.{jump_distance, target}
 
 -- ---- one loop

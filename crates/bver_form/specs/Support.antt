@@ -4,9 +4,9 @@ use Rattle.std.specs.Prelude.{◌≢◌, ℕ, ℤ, ◌==◌, if◌then◌else◌
 use Rattle.bpf_insn.specs.Flow.{flow_of, written_register}
 use Rattle.bpf_insn.specs.declared.flow.Flow.{Flow}
 use Rattle.bpf_insn.specs.declared.flow.Flow.TheVariants.{GoesOn, Branches, Jumps, Calls, Ends, Unsupported}
-use Rattle.bpf_insn.specs.declared.insn.Callee.{Callee}
-use Rattle.bpf_insn.specs.declared.insn.Callee.TheVariants.{Local, ByTypeId}
-use Rattle.bpf_insn.specs.declared.insn.Callee.TheVariants as callees
+use Rattle.bpf_parts.specs.declared.callee.Callee.{Callee}
+use Rattle.bpf_parts.specs.declared.callee.Callee.TheVariants.{Local, ByTypeId}
+use Rattle.bpf_parts.specs.declared.callee.Callee.TheVariants as callees
 use Rattle.bpf_insn.specs.declared.insn.Insn.{Insn}
 use Rattle.machine.specs.Step.{is_helper}
 use Rattle.bver_form.specs.declared.refusal.Refusal.{Refusal}

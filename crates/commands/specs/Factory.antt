@@ -3,9 +3,9 @@ use Rattle.std.specs.Prelude.{◌≡◌, pos, List, [], ◌∷◌}
 use Rattle.std.specs.List.{flat_map}
 use Rattle.bpf_insn.specs.declared.insn.Insn.{Insn}
 use Rattle.bpf_insn.specs.declared.insn.Insn.TheVariants.{Alu, Exit}
-use Rattle.bpf_insn.specs.declared.operation.AluOp.TheVariants.{Mov}
-use Rattle.bpf_insn.specs.declared.operation.Operand.TheVariants.{Immediate}
-use Rattle.bpf_insn.specs.declared.operation.Width.TheVariants.{Bits64}
+use Rattle.bpf_parts.specs.declared.operation.AluOp.TheVariants.{Mov}
+use Rattle.bpf_parts.specs.declared.operation.Operand.TheVariants.{Immediate}
+use Rattle.bpf_parts.specs.declared.operation.Width.TheVariants.{Bits64}
 use Rattle.bpf.specs.Parts.{placed}
 use Rattle.bpf.specs.Program.{Program, program}
 use Rattle.bpf.specs.declared.fault.ImageFault.TheVariants as faults

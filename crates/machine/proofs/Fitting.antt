@@ -3,20 +3,20 @@ use Rattle.std.proofs.Common.{lit<, ◌≡◌, ℕ, zero, suc, ◌+◌, ◌-◌,
 use Rattle.std.proofs.Math.Nat.{pow-succ'}
 use Rattle.std.proofs.lemmas.Nat.{mod_below}
 use Rattle.std.specs.Int.{w8, w16, w32, w64, cast_signed, swap_bytes}
-use Rattle.bpf_insn.specs.declared.operation.Width.{Width}
-use Rattle.bpf_insn.specs.declared.operation.Width.TheVariants.{Bits32, Bits64}
-use Rattle.bpf_insn.specs.declared.operation.AluOp.{AluOp}
-use Rattle.bpf_insn.specs.declared.operation.AluOp.TheVariants.{Add, Sub, Mul, Div, SignedDiv, Or, And, Lsh, Rsh, Mod, SignedMod, Xor, Mov, Arsh}
-use Rattle.bpf_insn.specs.declared.operation.Extension.{Extension}
-use Rattle.bpf_insn.specs.declared.operation.Extension.TheVariants.{ByteTo32, HalfTo32, ByteTo64, HalfTo64, WordTo64}
-use Rattle.bpf_insn.specs.declared.operation.Swap.{Swap}
-use Rattle.bpf_insn.specs.declared.operation.Swap.TheVariants.{ToLittle, ToBig, Reverse}
-use Rattle.bpf_insn.specs.declared.operation.SwapBits.{SwapBits}
-use Rattle.bpf_insn.specs.declared.operation.SwapBits.TheVariants.{Swap16, Swap32, Swap64}
-use Rattle.bpf_insn.specs.declared.operation.Operand.{Operand}
-use Rattle.bpf_insn.specs.declared.operation.Operand.TheVariants.{FromRegister, Immediate}
-use Rattle.bpf_insn.specs.declared.memory.LoadSize.{LoadSize}
-use Rattle.bpf_insn.specs.declared.memory.LoadSize.TheVariants.{LoadByte, LoadHalf, LoadWord, LoadDouble, SignedByte, SignedHalf, SignedWord}
+use Rattle.bpf_parts.specs.declared.operation.Width.{Width}
+use Rattle.bpf_parts.specs.declared.operation.Width.TheVariants.{Bits32, Bits64}
+use Rattle.bpf_parts.specs.declared.operation.AluOp.{AluOp}
+use Rattle.bpf_parts.specs.declared.operation.AluOp.TheVariants.{Add, Sub, Mul, Div, SignedDiv, Or, And, Lsh, Rsh, Mod, SignedMod, Xor, Mov, Arsh}
+use Rattle.bpf_parts.specs.declared.operation.Extension.{Extension}
+use Rattle.bpf_parts.specs.declared.operation.Extension.TheVariants.{ByteTo32, HalfTo32, ByteTo64, HalfTo64, WordTo64}
+use Rattle.bpf_parts.specs.declared.operation.Swap.{Swap}
+use Rattle.bpf_parts.specs.declared.operation.Swap.TheVariants.{ToLittle, ToBig, Reverse}
+use Rattle.bpf_parts.specs.declared.operation.SwapBits.{SwapBits}
+use Rattle.bpf_parts.specs.declared.operation.SwapBits.TheVariants.{Swap16, Swap32, Swap64}
+use Rattle.bpf_parts.specs.declared.operation.Operand.{Operand}
+use Rattle.bpf_parts.specs.declared.operation.Operand.TheVariants.{FromRegister, Immediate}
+use Rattle.bpf_parts.specs.declared.memory.LoadSize.{LoadSize}
+use Rattle.bpf_parts.specs.declared.memory.LoadSize.TheVariants.{LoadByte, LoadHalf, LoadWord, LoadDouble, SignedByte, SignedHalf, SignedWord}
 use Rattle.bpf_insn.specs.declared.insn.Insn.{Insn}
 use Rattle.bpf_insn.specs.declared.insn.Insn.TheVariants as insns
 use Rattle.bpf_insn.specs.Flow.{flow_of}
@@ -28,7 +28,7 @@ use Rattle.machine.specs.declared.regions.Region.TheVariants.{Front, Tail, Stack
 use Rattle.machine.specs.declared.values.Value.{Value}
 use Rattle.machine.specs.declared.values.Value.TheVariants.{Unset, Num, Ptr, Map}
 use Rattle.machine.specs.Words.{modulus, low, word, alu_words, negated, extended, swapped}
-use Rattle.bpf_insn.specs.Sizes.{load_bytes}
+use Rattle.bpf_parts.specs.Sizes.{load_bytes}
 use Rattle.machine.specs.Memory.{Header, IsHeader, place_of, byte_of, byte_after, byte_below, little, loaded}
 use Rattle.machine.specs.State.{State, state, entry_state}
 use Rattle.machine.specs.Step.{Outcome, Next, Ask, Verdict, Trap, operand, on_number, copied, copied_by, moved_by, alu, writes, load_value, bytes_at, loads, map_at, answered, exits, perform, knows_flow, perform_in, insn_at, step}

@@ -1,7 +1,7 @@
 //! What the bytes of a load give (RFC 9669, section 5).
 
 ghost use Rattle.std.specs.Prelude.{◌≡◌, ◌^◌, ◌<◌};
-ghost use Rattle.bpf_insn.specs.Sizes.{load_bytes};
+ghost use Rattle.bpf_parts.specs.Sizes.{load_bytes};
 ghost use Rattle.machine.specs.Memory.{loaded};
 
 use crate::words::word;

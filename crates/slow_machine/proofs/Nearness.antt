@@ -3,23 +3,23 @@ use Rattle.std.proofs.Common.{◌≡◌, ℕ, zero, suc, eqb, ap, get_or, neg_�
 use Rattle.std.specs.Int.{cast_signed, w64}
 use Rattle.std.specs.Prelude.{unsigned_abs}
 use Rattle.std.proofs.lemmas.Int.{ints}
-use Rattle.bpf_insn.specs.declared.operation.Width.{Width}
-use Rattle.bpf_insn.specs.declared.operation.Width.TheVariants.{Bits32, Bits64}
-use Rattle.bpf_insn.specs.declared.operation.AluOp.{AluOp}
-use Rattle.bpf_insn.specs.declared.operation.AluOp.TheVariants.{Add, Sub, Mul, Div, SignedDiv, Or, And, Lsh, Rsh, Mod, SignedMod, Xor, Mov, Arsh}
+use Rattle.bpf_parts.specs.declared.operation.Width.{Width}
+use Rattle.bpf_parts.specs.declared.operation.Width.TheVariants.{Bits32, Bits64}
+use Rattle.bpf_parts.specs.declared.operation.AluOp.{AluOp}
+use Rattle.bpf_parts.specs.declared.operation.AluOp.TheVariants.{Add, Sub, Mul, Div, SignedDiv, Or, And, Lsh, Rsh, Mod, SignedMod, Xor, Mov, Arsh}
 use Rattle.machine.specs.declared.regions.Region.{Region}
 use Rattle.machine.specs.declared.regions.Region.TheVariants.{Front, Tail, Stack}
 use Rattle.machine.specs.declared.values.Value.{Value}
 use Rattle.machine.specs.declared.values.Value.TheVariants.{Unset, Num, Ptr, Map}
 use Rattle.machine.specs.Words.{signed}
 use Rattle.slow_machine.specs.Near.{IsNear, AreNear}
-use Rattle.bpf_insn.specs.declared.operation.Operand.{Operand}
-use Rattle.bpf_insn.specs.declared.operation.Operand.TheVariants.{FromRegister, Immediate}
-use Rattle.bpf_insn.specs.declared.operation.Condition.{Condition}
-use Rattle.bpf_insn.specs.declared.memory.Size.{Size}
-use Rattle.bpf_insn.specs.declared.memory.LoadSize.{LoadSize}
-use Rattle.bpf_insn.specs.declared.insn.Callee.{Callee}
-use Rattle.bpf_insn.specs.declared.insn.Callee.TheVariants.{Helper, Local, ByTypeId}
+use Rattle.bpf_parts.specs.declared.operation.Operand.{Operand}
+use Rattle.bpf_parts.specs.declared.operation.Operand.TheVariants.{FromRegister, Immediate}
+use Rattle.bpf_parts.specs.declared.operation.Condition.{Condition}
+use Rattle.bpf_parts.specs.declared.memory.Size.{Size}
+use Rattle.bpf_parts.specs.declared.memory.LoadSize.{LoadSize}
+use Rattle.bpf_parts.specs.declared.callee.Callee.{Callee}
+use Rattle.bpf_parts.specs.declared.callee.Callee.TheVariants.{Helper, Local, ByTypeId}
 use Rattle.bpf_insn.specs.declared.insn.Insn.{Insn}
 use Rattle.bpf_insn.specs.declared.insn.Insn.TheVariants as insns
 use Rattle.machine.specs.Memory.{Header}

@@ -1,6 +1,6 @@
 -- What the slow program finds for an instruction, as an outcome of the definition.
 use Rattle.std.specs.Prelude.{◌≡◌, ℕ, ℤ, pos, ◌+◌, ◌≤◌, if◌then◌else◌, List, slice_index_or, Option, Some}
-use Rattle.bpf_insn.specs.declared.insn.Callee.{Callee}
+use Rattle.bpf_parts.specs.declared.callee.Callee.{Callee}
 use Rattle.bpf_insn.specs.declared.insn.Insn.{Insn}
 use Rattle.slow_machine.specs.declared.effects.Effect.{Effect}
 use Rattle.slow_machine.specs.declared.effects.Effect.TheVariants as effects

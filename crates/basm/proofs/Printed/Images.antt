@@ -5,7 +5,8 @@ use Rattle.std.specs.List.{flat_map}
 use Rattle.std.proofs.lemmas.List.Sorted.{IsPermutation-refl}
 use Rattle.bpf_insn.specs.declared.insn.Insn.{Insn}
 use Rattle.bpf_insn.specs.Spelling.{second_immediate}
-use Rattle.bpf_insn.specs.Text.{insn_text, register_text}
+use Rattle.bpf_insn.specs.Text.{insn_text}
+use Rattle.bpf_parts.specs.Text.{register_text}
 use Rattle.bpf.specs.declared.loops.Loop.{Loop}
 use Rattle.bpf.specs.Parts.{placed, second_slots}
 use Rattle.bpf.specs.Program.{AreLoops, AreSlots, IsProgram, Program}

@@ -5,17 +5,19 @@ use Rattle.std.specs.Fmt.{signed_decimal}
 use Rattle.std.specs.Int.{w16, w32}
 use Rattle.std.specs.List.{slice_split}
 use Rattle.std.proofs.lemmas.Int.{ints}
-use Rattle.bpf_insn.specs.declared.memory.Place.{Place}
-use Rattle.bpf_insn.specs.declared.operation.Operand.{Operand}
-use Rattle.bpf_insn.specs.declared.operation.Operand.TheVariants.{FromRegister, Immediate}
-use Rattle.bpf_insn.specs.declared.insn.Address.{Address}
-use Rattle.bpf_insn.specs.declared.insn.Address.TheVariants.{MapByFile}
-use Rattle.bpf_insn.specs.declared.insn.Distance.TheVariants.{Short, Long}
+use Rattle.bpf_parts.specs.declared.memory.Place.{Place}
+use Rattle.bpf_parts.specs.declared.operation.Operand.{Operand}
+use Rattle.bpf_parts.specs.declared.operation.Operand.TheVariants.{FromRegister, Immediate}
+use Rattle.bpf_parts.specs.declared.address.Address.{Address}
+use Rattle.bpf_parts.specs.declared.address.Address.TheVariants.{MapByFile}
+use Rattle.bpf_parts.specs.declared.distance.Distance.TheVariants.{Short, Long}
 use Rattle.bpf_insn.specs.declared.insn.Insn.{Insn}
 use Rattle.bpf_insn.specs.declared.insn.Insn.TheVariants.{Alu, Negate, MoveSigned, ByteSwap, Load, Store, Jump, Goto, Wide, LoadMap, LoadAddress, Call, Exit}
-use Rattle.bpf_insn.specs.Codes.{address_first, address_second, address_subtype}
-use Rattle.bpf_insn.specs.Spelling.{IsInsn, IsOperand}
-use Rattle.bpf_insn.specs.Text.{bits_text, insn_name, insn_operands, operand_text, place_text, register_text, signed_text, written}
+use Rattle.bpf_parts.specs.Codes.{address_first, address_second, address_subtype}
+use Rattle.bpf_insn.specs.Spelling.{IsInsn}
+use Rattle.bpf_parts.specs.Operands.{IsOperand}
+use Rattle.bpf_insn.specs.Text.{bits_text, insn_name, insn_operands, written}
+use Rattle.bpf_parts.specs.Text.{operand_text, place_text, register_text, signed_text}
 use Rattle.basm_lex.specs.Lines.{operands_of, word_of}
 use Rattle.basm_lex.specs.Numbers.{WritesDistance, WritesNumber, WritesWide}
 use Rattle.basm_lex.specs.Places.{WritesPlace}

@@ -3,7 +3,8 @@ use Rattle.std.proofs.Common.{◌≡◌, ℕ, ◌+◌, ◌≤◌, List, [], ◌�
 use Rattle.std.specs.Prelude.{◌==◌, codes, decimal}
 use Rattle.std.specs.List.{slice_split}
 use Rattle.bpf_insn.specs.Spelling.{IsInsn}
-use Rattle.bpf_insn.specs.Text.{insn_name, insn_operands, register_text, written}
+use Rattle.bpf_insn.specs.Text.{insn_name, insn_operands, written}
+use Rattle.bpf_parts.specs.Text.{register_text}
 use Rattle.bpf.specs.Program.{IsBudget, IsLoop}
 use Rattle.basm_lex.specs.Lines.{code_of, operands_of, rest_of, word_of}
 use Rattle.basm.specs.Relation.{AreLines, IsLine, Item, slots_in, names_from}

@@ -1,33 +1,35 @@
 -- The printed name and operands of an instruction are words.
 use Rattle.std.proofs.Common.{ℕ, ◌<◌, List, Option, inr, refl, arith, lit<}
-use Rattle.bpf_insn.specs.declared.operation.Width.{Width}
-use Rattle.bpf_insn.specs.declared.operation.Width.TheVariants.{Bits32, Bits64}
-use Rattle.bpf_insn.specs.declared.operation.AluOp.{AluOp}
-use Rattle.bpf_insn.specs.declared.operation.AluOp.TheVariants.{Add}
-use Rattle.bpf_insn.specs.declared.operation.Operand.{Operand}
-use Rattle.bpf_insn.specs.declared.operation.Operand.TheVariants.{FromRegister, Immediate}
-use Rattle.bpf_insn.specs.declared.operation.Extension.{Extension}
-use Rattle.bpf_insn.specs.declared.operation.Extension.TheVariants.{ByteTo32}
-use Rattle.bpf_insn.specs.declared.operation.Swap.{Swap}
-use Rattle.bpf_insn.specs.declared.operation.Swap.TheVariants.{ToLittle}
-use Rattle.bpf_insn.specs.declared.operation.SwapBits.{SwapBits}
-use Rattle.bpf_insn.specs.declared.operation.SwapBits.TheVariants.{Swap16}
-use Rattle.bpf_insn.specs.declared.operation.Condition.{Condition}
-use Rattle.bpf_insn.specs.declared.operation.Condition.TheVariants.{Equal}
-use Rattle.bpf_insn.specs.declared.memory.Size.{Size}
-use Rattle.bpf_insn.specs.declared.memory.Size.TheVariants.{Byte}
-use Rattle.bpf_insn.specs.declared.memory.LoadSize.{LoadSize}
-use Rattle.bpf_insn.specs.declared.memory.LoadSize.TheVariants.{LoadByte}
-use Rattle.bpf_insn.specs.declared.insn.Address.{Address}
-use Rattle.bpf_insn.specs.declared.insn.Address.TheVariants.{MapByFile}
-use Rattle.bpf_insn.specs.declared.insn.Callee.{Callee}
-use Rattle.bpf_insn.specs.declared.insn.Callee.TheVariants.{Helper}
-use Rattle.bpf_insn.specs.declared.insn.Distance.TheVariants.{Short, Long}
+use Rattle.bpf_parts.specs.declared.operation.Width.{Width}
+use Rattle.bpf_parts.specs.declared.operation.Width.TheVariants.{Bits32, Bits64}
+use Rattle.bpf_parts.specs.declared.operation.AluOp.{AluOp}
+use Rattle.bpf_parts.specs.declared.operation.AluOp.TheVariants.{Add}
+use Rattle.bpf_parts.specs.declared.operation.Operand.{Operand}
+use Rattle.bpf_parts.specs.declared.operation.Operand.TheVariants.{FromRegister, Immediate}
+use Rattle.bpf_parts.specs.declared.operation.Extension.{Extension}
+use Rattle.bpf_parts.specs.declared.operation.Extension.TheVariants.{ByteTo32}
+use Rattle.bpf_parts.specs.declared.operation.Swap.{Swap}
+use Rattle.bpf_parts.specs.declared.operation.Swap.TheVariants.{ToLittle}
+use Rattle.bpf_parts.specs.declared.operation.SwapBits.{SwapBits}
+use Rattle.bpf_parts.specs.declared.operation.SwapBits.TheVariants.{Swap16}
+use Rattle.bpf_parts.specs.declared.operation.Condition.{Condition}
+use Rattle.bpf_parts.specs.declared.operation.Condition.TheVariants.{Equal}
+use Rattle.bpf_parts.specs.declared.memory.Size.{Size}
+use Rattle.bpf_parts.specs.declared.memory.Size.TheVariants.{Byte}
+use Rattle.bpf_parts.specs.declared.memory.LoadSize.{LoadSize}
+use Rattle.bpf_parts.specs.declared.memory.LoadSize.TheVariants.{LoadByte}
+use Rattle.bpf_parts.specs.declared.address.Address.{Address}
+use Rattle.bpf_parts.specs.declared.address.Address.TheVariants.{MapByFile}
+use Rattle.bpf_parts.specs.declared.callee.Callee.{Callee}
+use Rattle.bpf_parts.specs.declared.callee.Callee.TheVariants.{Helper}
+use Rattle.bpf_parts.specs.declared.distance.Distance.TheVariants.{Short, Long}
 use Rattle.bpf_insn.specs.declared.insn.Insn.{Insn}
 use Rattle.bpf_insn.specs.declared.insn.Insn.TheVariants.{Alu, Negate, MoveSigned, ByteSwap, Load, Store, Jump, Goto, Wide, LoadMap, LoadAddress, Call, Exit}
-use Rattle.bpf_insn.specs.Codes.{address_first, address_second, address_subtype}
-use Rattle.bpf_insn.specs.Spelling.{IsInsn, IsOperand}
-use Rattle.bpf_insn.specs.Text.{alu_name, callee_name, condition_name, extension_name, insn_name, insn_operands, load_suffix, operand_text, store_prefix, store_suffix, swap_bits_name, swap_name, width_suffix}
+use Rattle.bpf_parts.specs.Codes.{address_first, address_second, address_subtype}
+use Rattle.bpf_insn.specs.Spelling.{IsInsn}
+use Rattle.bpf_parts.specs.Operands.{IsOperand}
+use Rattle.bpf_insn.specs.Text.{insn_name, insn_operands}
+use Rattle.bpf_parts.specs.Text.{alu_name, callee_name, condition_name, extension_name, load_suffix, operand_text, store_prefix, store_suffix, swap_bits_name, swap_name, width_suffix}
 use Rattle.basm_lex.specs.Printed.{AreWords, IsWord}
 use Rattle.basm_lex.proofs.Printed.Plain.{ArePlain, word_append}
 use Rattle.basm_lex.proofs.Printed.Texts.{bits_word, decimal_word, distance_word, operand_word, place_word, register_word, short_distance_word, signed_decimal_word}

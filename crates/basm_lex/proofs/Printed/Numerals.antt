@@ -9,8 +9,9 @@ use Rattle.std.proofs.lemmas.Bool.{cond_both, eqb-false}
 use Rattle.std.proofs.Math.ListN.{length-replicate}
 use Rattle.std.proofs.lemmas.Fmt.{decimal_is_IsNumeral, digits_is_IsNumeral}
 use Rattle.std.proofs.Math.Nat.{pow-suc}
-use Rattle.bpf_insn.specs.declared.memory.Place.{Place}
-use Rattle.bpf_insn.specs.Text.{bits_text, place_text, signed_text}
+use Rattle.bpf_parts.specs.declared.memory.Place.{Place}
+use Rattle.bpf_insn.specs.Text.{bits_text}
+use Rattle.bpf_parts.specs.Text.{place_text, signed_text}
 use Rattle.basm_lex.specs.Numbers.{WritesDecimal, WritesDistance, WritesMagnitude, WritesNumber, WritesWide}
 use Rattle.basm_lex.specs.Places.{WritesPlace}
 

@@ -4,11 +4,12 @@ use Rattle.std.specs.Prelude.{codes, decimal, FitsSigned}
 use Rattle.std.specs.Int.{w16, w32}
 use Rattle.std.specs.Fmt.{signed_decimal}
 use Rattle.std.proofs.lemmas.Fmt.{decimal_is_IsNumeral}
-use Rattle.bpf_insn.specs.declared.operation.Operand.{Operand}
-use Rattle.bpf_insn.specs.declared.operation.Operand.TheVariants.{FromRegister, Immediate}
-use Rattle.bpf_insn.specs.Spelling.{IsOperand}
-use Rattle.bpf_insn.specs.declared.memory.Place.{Place}
-use Rattle.bpf_insn.specs.Text.{bits_text, operand_text, place_text, register_text, signed_text}
+use Rattle.bpf_parts.specs.declared.operation.Operand.{Operand}
+use Rattle.bpf_parts.specs.declared.operation.Operand.TheVariants.{FromRegister, Immediate}
+use Rattle.bpf_parts.specs.Operands.{IsOperand}
+use Rattle.bpf_parts.specs.declared.memory.Place.{Place}
+use Rattle.bpf_insn.specs.Text.{bits_text}
+use Rattle.bpf_parts.specs.Text.{operand_text, place_text, register_text, signed_text}
 use Rattle.basm_lex.proofs.Printed.Numerals.{padded, padded_numeral}
 use Rattle.basm_lex.specs.Printed.{IsWord}
 use Rattle.basm_lex.proofs.Printed.Plain.{plain_before, plain_word, word_append, word_numeral}

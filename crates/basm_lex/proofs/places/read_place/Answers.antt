@@ -1,5 +1,5 @@
 use Rattle.std.proofs.Common.{◌++◌, Some, Ok, lit<}
-use Rattle.bpf_insn.specs.Text.{register_text}
+use Rattle.bpf_parts.specs.Text.{register_text}
 use Rattle.std.proofs.lemmas.Str.Pattern.{split_parts}
 use Rattle.basm_lex.proofs.PlaceTexts.{place_of}
 use Rattle.basm_lex.proofs.PlaceReadings.{at_minus, at_plus, some_sign}

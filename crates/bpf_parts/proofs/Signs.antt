@@ -2,7 +2,7 @@
 use Rattle.std.proofs.Common.{◌≡◌, suc, ◌-◌, ◌^◌, ℤ, pos, negsuc, length, decimal, arith, le-ltb}
 use Rattle.std.proofs.lemmas.List.{append-nil}
 use Rattle.std.specs.Fmt.{char_count, padded_integral, styled_signed_decimal, format_spec}
-use Rattle.bpf_insn.specs.Text.{signed_text}
+use Rattle.bpf_parts.specs.Text.{signed_text}
 
 pub plus_or_minus : (number : ℤ) → styled_signed_decimal (format_spec 32 0 1 0 (2 ^ 64 - 1)) number ≡ signed_text number
 unfolding padded_integral char_count

@@ -2,9 +2,9 @@
 
 ghost use Rattle.std.specs.Prelude.{◌≡◌, ◌+◌, ◌*◌, ◌<◌, ℤ, pos};
 ghost use Rattle.std.specs.Option.{SomeIff};
-ghost use Rattle.bpf_insn.specs.Codes.{arithmetic_class, jump_class, alu_code, alu_offset, condition_code, source_bit, source_field, immediate_field, extension_bits, extension_width, swap_width, swap_source, swap_bits};
-ghost use Rattle.bpf_insn.specs.Spelling.{IsOperand};
-ghost use Rattle.bpf_insn.specs.Kinds.{alu_of, condition_of, extension_of, swap_of, swap_bits_of};
+ghost use Rattle.bpf_parts.specs.Codes.{arithmetic_class, jump_class, alu_code, alu_offset, condition_code, source_bit, source_field, immediate_field, extension_bits, extension_width, swap_width, swap_source, swap_bits};
+ghost use Rattle.bpf_parts.specs.Operands.{IsOperand};
+ghost use Rattle.bpf_parts.specs.Kinds.{alu_of, condition_of, extension_of, swap_of, swap_bits_of};
 
 use crate::opcode;
 use crate::register::Register;
@@ -18,8 +18,8 @@ pub enum Width {
 }
 
 impl Width {
-    /// The class of arithmetic at this width: ALU or ALU64.
-    pub(crate) fn arithmetic_class(self) -> u8
+    /// The class of arithmetic at this width: ALU or ALU64 (RFC 9669, section 3).
+    pub fn arithmetic_class(self) -> u8
         ensures value { result ≡ arithmetic_class self }
         ensures small { result < 8 }
     {
@@ -29,8 +29,8 @@ impl Width {
         }
     }
 
-    /// The class of conditional jumps at this width: JMP32 or JMP.
-    pub(crate) fn jump_class(self) -> u8
+    /// The class of conditional jumps at this width: JMP32 or JMP (RFC 9669, section 3).
+    pub fn jump_class(self) -> u8
         ensures value { result ≡ jump_class self }
         ensures small { result < 8 }
     {
@@ -62,7 +62,7 @@ pub enum AluOp {
 
 impl AluOp {
     /// The code, in the high four bits of the opcode.
-    pub(crate) fn code(self) -> u8
+    pub fn code(self) -> u8
         ensures value { result ≡ alu_code self }
         ensures small { result < 16 }
     {
@@ -82,8 +82,8 @@ impl AluOp {
         }
     }
 
-    /// The offset field: 1 for the signed divisions, else 0.
-    pub(crate) fn offset(self) -> i16
+    /// The offset field: 1 for the signed divisions, else 0 (RFC 9669, section 4.1).
+    pub fn offset(self) -> i16
         ensures { result ≡ alu_offset self }
     {
         match self {
@@ -94,7 +94,7 @@ impl AluOp {
 
     /// The operation of this code, and of the two divisions that have it the signed one where
     /// `signed` says so. `None` where no operation with two operands has the code.
-    pub(crate) fn from_code(code: u8, signed: bool) -> Option<AluOp>
+    pub fn from_code(code: u8, signed: bool) -> Option<AluOp>
         ensures { result ≡ alu_of code signed }
     {
         match code {
@@ -115,7 +115,8 @@ impl AluOp {
     }
 }
 
-/// The second operand: a register, or an immediate, which is sign-extended at 64 bits.
+/// The second operand: a register, or an immediate, which is sign-extended at 64 bits (RFC 9669,
+/// section 4).
 #[derive(Clone, Copy, Debug, PartialEq, Eq)]
 pub enum Operand {
     FromRegister(Register),
@@ -124,7 +125,7 @@ pub enum Operand {
 
 impl Operand {
     /// A law and no work: a register is r0 to r10, and a number fits the immediate field.
-    pub(crate) fn keeps_limits(self)
+    pub fn keeps_limits(self)
         ensures { IsOperand self }
     {
         match self {
@@ -132,8 +133,8 @@ impl Operand {
         }
     }
 
-    /// The source bit of the opcode: 8 for a register, 0 for an immediate.
-    pub(crate) fn source_bit(&self) -> u8
+    /// The source bit of the opcode: 8 for a register, 0 for an immediate (RFC 9669, section 4).
+    pub fn source_bit(&self) -> u8
         ensures value { result ≡ source_bit self.now }
         ensures small { result < 9 }
     {
@@ -144,7 +145,7 @@ impl Operand {
     }
 
     /// The source register field: 0 for an immediate.
-    pub(crate) fn source_field(&self) -> u8
+    pub fn source_field(&self) -> u8
         ensures value { result ≡ source_field self.now }
         ensures small { result < 16 }
     {
@@ -155,7 +156,7 @@ impl Operand {
     }
 
     /// The immediate field: 0 for a register.
-    pub(crate) fn immediate_field(&self) -> i32
+    pub fn immediate_field(&self) -> i32
         ensures { result ≡ immediate_field self.now }
     {
         match self {
@@ -187,7 +188,7 @@ impl Extension {
     }
 
     /// How many low bits of the source are extended: the offset field.
-    pub(crate) fn bits(self) -> i16
+    pub fn bits(self) -> i16
         ensures { result ≡ extension_bits self }
     {
         match self {
@@ -198,7 +199,7 @@ impl Extension {
     }
 
     /// The extension of so many bits to this width. `None` where there is none.
-    pub(crate) fn from_bits(width: Width, bits: i16) -> Option<Extension>
+    pub fn from_bits(width: Width, bits: i16) -> Option<Extension>
         ensures { result ≡ extension_of width bits }
     {
         match width {
@@ -230,7 +231,7 @@ pub enum Swap {
 
 impl Swap {
     /// The width whose class the instruction has: ALU for the first two, ALU64 for the last.
-    pub(crate) fn width(self) -> Width
+    pub fn width(self) -> Width
         ensures { result ≡ swap_width self }
     {
         match self {
@@ -239,8 +240,8 @@ impl Swap {
         }
     }
 
-    /// The source bit of the opcode: 8 for big-endian.
-    pub(crate) fn source_bit(self) -> u8
+    /// The source bit of the opcode: 8 for big-endian, 0 for the others.
+    pub fn source_bit(self) -> u8
         ensures value { result ≡ swap_source self }
         ensures small { result < 9 }
     {
@@ -251,7 +252,7 @@ impl Swap {
     }
 
     /// The order of this class and source bit. `None` where no instruction has them.
-    pub(crate) fn from_parts(width: Width, register: bool) -> Option<Swap>
+    pub fn from_parts(width: Width, register: bool) -> Option<Swap>
         ensures { result ≡ swap_of width register }
     {
         match width {
@@ -275,7 +276,7 @@ pub enum SwapBits {
 
 impl SwapBits {
     /// The number of bits: the immediate field.
-    pub(crate) fn bits(self) -> i32
+    pub fn bits(self) -> i32
         ensures { result ≡ swap_bits self }
     {
         match self {
@@ -286,7 +287,7 @@ impl SwapBits {
     }
 
     /// The width of so many bits. `None` for any number but 16, 32 and 64.
-    pub(crate) fn from_bits(bits: i32) -> Option<SwapBits>
+    pub fn from_bits(bits: i32) -> Option<SwapBits>
         ensures { result ≡ swap_bits_of bits }
     {
         match bits {
@@ -327,7 +328,7 @@ pub enum Condition {
 
 impl Condition {
     /// The code, in the high four bits of the opcode.
-    pub(crate) fn code(self) -> u8
+    pub fn code(self) -> u8
         ensures value { result ≡ condition_code self }
         ensures small { result < 16 }
     {
@@ -347,7 +348,7 @@ impl Condition {
     }
 
     /// The condition of this code. `None` where no conditional jump has it.
-    pub(crate) fn from_code(code: u8) -> Option<Condition>
+    pub fn from_code(code: u8) -> Option<Condition>
         ensures { result ≡ condition_of code }
     {
         match code {

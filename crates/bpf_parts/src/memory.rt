@@ -1,9 +1,9 @@
 //! The places, sizes and codes of loads and stores (RFC 9669, section 5).
 
 ghost use Rattle.std.specs.Prelude.{◌≡◌, ◌<◌, ◌≤◌};
-ghost use Rattle.bpf_insn.specs.Codes.{size_code, load_code};
-ghost use Rattle.bpf_insn.specs.Kinds.{size_of, load_size_of};
-ghost use Rattle.bpf_insn.specs.Sizes.{is_signed, load_bytes, size_bytes};
+ghost use Rattle.bpf_parts.specs.Codes.{size_code, load_code};
+ghost use Rattle.bpf_parts.specs.Kinds.{size_of, load_size_of};
+ghost use Rattle.bpf_parts.specs.Sizes.{is_signed, load_bytes, size_bytes};
 
 use crate::opcode;
 use crate::register::Register;
@@ -39,7 +39,7 @@ impl Size {
     }
 
     /// The mode and size bits of a store's opcode.
-    pub(crate) fn code(self) -> u8
+    pub fn code(self) -> u8
         ensures value { result ≡ size_code self }
         ensures small { result < 0x80 }
     {
@@ -52,7 +52,7 @@ impl Size {
     }
 
     /// The size of these mode and size bits. `None` where no store has them.
-    pub(crate) fn from_code(code: u8) -> Option<Size>
+    pub fn from_code(code: u8) -> Option<Size>
         ensures { result ≡ size_of code }
     {
         match code {
@@ -102,7 +102,7 @@ impl LoadSize {
     }
 
     /// The mode and size bits of a load's opcode.
-    pub(crate) fn code(self) -> u8
+    pub fn code(self) -> u8
         ensures value { result ≡ load_code self }
         ensures small { result < 0xa0 }
     {
@@ -118,7 +118,7 @@ impl LoadSize {
     }
 
     /// The load of these mode and size bits. `None` where there is none.
-    pub(crate) fn from_code(code: u8) -> Option<LoadSize>
+    pub fn from_code(code: u8) -> Option<LoadSize>
         ensures { result ≡ load_size_of code }
     {
         match code {

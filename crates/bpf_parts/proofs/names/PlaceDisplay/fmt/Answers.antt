@@ -1,6 +1,6 @@
 use Rattle.std.proofs.Common.{rules, SFits, w16, to_z-of_z, append_assoc}
-use Rattle.bpf_insn.proofs.Signs.{plus_or_minus}
-use Rattle.bpf_insn.proofs.printing.PlaceDisplay.fmt.Goals as goal
+use Rattle.bpf_parts.proofs.Signs.{plus_or_minus}
+use Rattle.bpf_parts.proofs.names.PlaceDisplay.fmt.Goals as goal
 
 pub returns-clause-writes : goal.returns-clause-writes
 returns-clause-writes g c =

@@ -1,0 +1,22 @@
+//! The parts of an instruction of BPF, with their codes and their names (RFC 9669).
+//!
+//! Each part is a type. It has the number by which it stands in a field of a slot, and the text by which it
+//! stands in a line: `code` and `from_code`, `bits` and `from_bits`, `name` or `suffix`. The parts of an opcode
+//! that are numbers alone are the constants of [`opcode`].
+#![tactic(auto)]
+
+mod address;
+mod callee;
+mod distance;
+mod memory;
+mod names;
+pub mod opcode;
+mod operation;
+mod register;
+
+pub use address::Address;
+pub use callee::Callee;
+pub use distance::Distance;
+pub use memory::{LoadSize, Place, Size};
+pub use operation::{AluOp, Comparison, Condition, Extension, Operand, Swap, SwapBits, Width};
+pub use register::{FRAME_POINTER, REGISTERS, Register};
