@@ -5,4 +5,5 @@ pub mod PlaceTexts
 pub mod PlaceReadings
 pub mod Readings
 pub mod MnemonicWords
+pub mod WordSearch
 pub mod Printed

@@ -1,8 +1,7 @@
--- The words of the table are those of its mnemonics, and apart.
-use Rattle.std.proofs.Common.{◌≡◌, ℕ, Bool, true, List, [], ◌∷◌, map, Option, Some, None, refl, sym, ap, ◌∙◌, subst}
+-- The words of the mnemonics are names, and apart.
+use Rattle.std.proofs.Common.{◌≡◌, ℕ, Bool, true, List, [], ◌∷◌, Option, Some, None, refl, sym, ap, ◌∙◌, subst}
 use Rattle.std.specs.Prelude.{IfSome}
-use Rattle.std.specs.List.{list_all}
-use Rattle.std.specs.Map.{lookup}
+use Rattle.std.specs.List.{find, list_all}
 use Rattle.std.specs.Str.{bytes_eq}
 use Rattle.std.proofs.lemmas.Bool.{and_parts, cond_both}
 use Rattle.std.proofs.lemmas.Slice.Eq.{bytes_eq-Decides}
@@ -21,33 +20,32 @@ use Rattle.basm_lex.specs.declared.mnemonics.Mnemonic.TheVariants.{Arithmetic, N
 use Rattle.basm_lex.specs.declared.mnemonics.TheConstants.{MNEMONICS}
 use Rattle.basm_lex.specs.Mnemonics.{mnemonic_word, named}
 
-abbrev rows : List (List ℕ × Mnemonic)
-rows = map (λ row. (row.0.now, row.1)) MNEMONICS
-
--- what all rows pass, a row that is found passes
-found_passes : (test : List ℕ → Mnemonic → Bool) (rows : List (List ℕ × Mnemonic)) (word : List ℕ) → list_all (λ row. test row.0 row.1) rows ≡ true
-    → IfSome (lookup (bytes_eq word) rows) (λ found. test word found ≡ true)
+-- what is found has the word, and passes what all pass
+found_passes : (test : Mnemonic → Bool) (ms : List Mnemonic) (word : List ℕ) → list_all test ms ≡ true
+    → IfSome (find (λ m. bytes_eq word (mnemonic_word m)) ms) (λ found. (word ≡ mnemonic_word found) × (test found ≡ true))
 found_passes test [] word all = tt
-found_passes test (row ∷ rows) word all =
-    let parts = and_parts (test row.0 row.1) (list_all (λ row. test row.0 row.1) rows) all in
-    let P : Option Mnemonic → Type 0 = λ o. IfSome o (λ found. test word found ≡ true) in
-    cond_both (bytes_eq word row.0) (Some row.1) (lookup (bytes_eq word) rows) P
-    (λ same. ap (λ w. test w row.1) ((bytes_eq-Decides word row.0).0 same) ∙ parts.0) (λ other. found_passes test rows word parts.1)
+found_passes test (m ∷ ms) word all =
+    let parts = and_parts (test m) (list_all test ms) all in
+    let P : Option Mnemonic → Type 0 = λ o. IfSome o (λ found. (word ≡ mnemonic_word found) × (test found ≡ true)) in
+    cond_both (bytes_eq word (mnemonic_word m)) (Some m) (find (λ m. bytes_eq word (mnemonic_word m)) ms) P
+    (λ same. ((bytes_eq-Decides word (mnemonic_word m)).0 same, parts.0)) (λ other. found_passes test ms word parts.1)
+
+-- a word that names a mnemonic is its word, and a name
+found_named : (word : List ℕ) (found : Mnemonic) → Some found ≡ named word → (word ≡ mnemonic_word found) × IsName (mnemonic_word found)
+unfolding named
+found_named word found same =
+    let P : Option Mnemonic → Type 0 = λ o. IfSome o (λ found. (word ≡ mnemonic_word found) × (is_name (mnemonic_word found) ≡ true)) in
+    subst P (sym same) (found_passes (λ m. is_name (mnemonic_word m)) MNEMONICS word refl)
 
 -- each word is its mnemonic's
 pub named_word : (word : List ℕ) (o : Option Mnemonic) → o ≡ named word → IfSome o (λ found. word ≡ mnemonic_word found)
-unfolding named
 named_word word None same = tt
-named_word word (Some found) same =
-    let P : Option Mnemonic → Type 0 = λ o. IfSome o (λ found. bytes_eq word (mnemonic_word found) ≡ true) in
-    (bytes_eq-Decides word (mnemonic_word found)).0 (subst P (sym same) (found_passes (λ word found. bytes_eq word (mnemonic_word found)) rows word refl))
+named_word word (Some found) same = (found_named word found same).0
 
 -- each word is a name
 pub named_plain : (word : List ℕ) (o : Option Mnemonic) → o ≡ named word → IfSome o (λ _. IsName word)
-unfolding named
 named_plain word None same = tt
-named_plain word (Some found) same =
-    let P : Option Mnemonic → Type 0 = λ o. IfSome o (λ _. is_name word ≡ true) in subst P (sym same) (found_passes (λ word found. is_name word) rows word refl)
+named_plain word (Some found) same = let both = found_named word found same in subst IsName (sym both.0) both.1
 
 -- and each mnemonic has its word
 pub word_named : (found : Mnemonic) → named (mnemonic_word found) ≡ Some found

@@ -1,6 +1,6 @@
 -- The words that begin an instruction.
-use Rattle.std.specs.Prelude.{ℕ, List, ◌++◌, Option, codes, map}
-use Rattle.std.specs.Map.{lookup}
+use Rattle.std.specs.Prelude.{ℕ, List, ◌++◌, Option, codes}
+use Rattle.std.specs.List.{find}
 use Rattle.std.specs.Str.{bytes_eq}
 use Rattle.bpf_parts.specs.Text.{alu_name, callee_name, condition_name, extension_name, load_suffix, store_suffix, swap_bits_name, swap_name, width_suffix}
 use Rattle.basm_lex.specs.declared.mnemonics.Mnemonic.{Mnemonic}
@@ -43,6 +43,6 @@ mnemonic_slots AddressLoad = 2
 mnemonic_slots (Calling callee) = 1
 mnemonic_slots Exiting = 1
 
--- the mnemonic of a word, by the table
+-- the mnemonic of a word: the first of all that have it
 unfoldable pub named : List ℕ → Option Mnemonic
-named word = lookup (bytes_eq word) (map (λ row. (row.0.now, row.1)) MNEMONICS)
+named word = find (λ m. bytes_eq word (mnemonic_word m)) MNEMONICS

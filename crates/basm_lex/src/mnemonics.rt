@@ -1,12 +1,15 @@
 //! The words that begin an instruction.
 
-ghost use Rattle.std.specs.Prelude.{◌≡◌, Some, map, IfSome};
-ghost use Rattle.std.specs.Map.{lookup};
+ghost use Rattle.std.specs.Prelude.{◌≡◌, ◌++◌, Some, IfSome};
+ghost use Rattle.std.specs.List.{find};
 ghost use Rattle.std.specs.Str.{bytes_eq};
 ghost use Rattle.basm_lex.specs.Names.{IsName};
 ghost use Rattle.basm_lex.specs.Mnemonics.{mnemonic_slots, mnemonic_word, named};
 
 use bpf_insn::{AluOp, Callee, Condition, Extension, LoadSize, Size, Swap, SwapBits, Width};
+use bpf_parts::words::{
+    ADDRESS_LOAD, EXIT, GOTO, LOAD, LONG_GOTO, MAP_LOAD, NEGATION, REGISTER_STORE, STORE, WIDE_LOAD,
+};
 
 /// What the first word of an instruction says.
 #[derive(Clone, Copy, Debug, PartialEq, Eq)]
@@ -40,166 +43,134 @@ impl Mnemonic {
             _ => 1,
         }
     }
+
+    /// Its word, in two pieces.
+    fn pieces(self) -> (&'static str, &'static str)
+        ensures { result.0.now ++ result.1.now ≡ mnemonic_word self }
+    {
+        match self {
+            Mnemonic::Arithmetic(op, width) => (op.name(), width.suffix()),
+            Mnemonic::Negation(width) => (NEGATION, width.suffix()),
+            Mnemonic::SignedMove(extension) => (extension.name(), ""),
+            Mnemonic::Swapping(swap, bits) => (swap.name(), bits.name()),
+            Mnemonic::Loading(size) => (LOAD, size.suffix()),
+            Mnemonic::Storing(size) => (STORE, size.suffix()),
+            Mnemonic::StoringRegister(size) => (REGISTER_STORE, size.suffix()),
+            Mnemonic::Jumping(condition, width) => (condition.name(), width.suffix()),
+            Mnemonic::ShortGoto => (GOTO, ""),
+            Mnemonic::LongGoto => (LONG_GOTO, ""),
+            Mnemonic::WideLoad => (WIDE_LOAD, ""),
+            Mnemonic::MapLoad => (MAP_LOAD, ""),
+            Mnemonic::AddressLoad => (ADDRESS_LOAD, ""),
+            Mnemonic::Calling(callee) => (callee.name(), ""),
+            Mnemonic::Exiting => (EXIT, ""),
+        }
+    }
+
+    /// Whether this is its word.
+    fn has_word(self, word: &str) -> bool
+        ensures { result ≡ bytes_eq word.now (mnemonic_word self) }
+    {
+        let (first, second) = self.pieces();
+        match word.strip_prefix(first) {
+            Some(rest) => rest == second,
+            None => false,
+        }
+    }
 }
 
-/// Each word with what it says.
-const MNEMONICS: [(&str, Mnemonic); 90] = [
-    ("add", Mnemonic::Arithmetic(AluOp::Add, Width::Bits64)),
-    ("sub", Mnemonic::Arithmetic(AluOp::Sub, Width::Bits64)),
-    ("mul", Mnemonic::Arithmetic(AluOp::Mul, Width::Bits64)),
-    ("div", Mnemonic::Arithmetic(AluOp::Div, Width::Bits64)),
-    (
-        "sdiv",
-        Mnemonic::Arithmetic(AluOp::SignedDiv, Width::Bits64),
-    ),
-    ("or", Mnemonic::Arithmetic(AluOp::Or, Width::Bits64)),
-    ("and", Mnemonic::Arithmetic(AluOp::And, Width::Bits64)),
-    ("lsh", Mnemonic::Arithmetic(AluOp::Lsh, Width::Bits64)),
-    ("rsh", Mnemonic::Arithmetic(AluOp::Rsh, Width::Bits64)),
-    ("mod", Mnemonic::Arithmetic(AluOp::Mod, Width::Bits64)),
-    (
-        "smod",
-        Mnemonic::Arithmetic(AluOp::SignedMod, Width::Bits64),
-    ),
-    ("xor", Mnemonic::Arithmetic(AluOp::Xor, Width::Bits64)),
-    ("mov", Mnemonic::Arithmetic(AluOp::Mov, Width::Bits64)),
-    ("arsh", Mnemonic::Arithmetic(AluOp::Arsh, Width::Bits64)),
-    ("add32", Mnemonic::Arithmetic(AluOp::Add, Width::Bits32)),
-    ("sub32", Mnemonic::Arithmetic(AluOp::Sub, Width::Bits32)),
-    ("mul32", Mnemonic::Arithmetic(AluOp::Mul, Width::Bits32)),
-    ("div32", Mnemonic::Arithmetic(AluOp::Div, Width::Bits32)),
-    (
-        "sdiv32",
-        Mnemonic::Arithmetic(AluOp::SignedDiv, Width::Bits32),
-    ),
-    ("or32", Mnemonic::Arithmetic(AluOp::Or, Width::Bits32)),
-    ("and32", Mnemonic::Arithmetic(AluOp::And, Width::Bits32)),
-    ("lsh32", Mnemonic::Arithmetic(AluOp::Lsh, Width::Bits32)),
-    ("rsh32", Mnemonic::Arithmetic(AluOp::Rsh, Width::Bits32)),
-    ("mod32", Mnemonic::Arithmetic(AluOp::Mod, Width::Bits32)),
-    (
-        "smod32",
-        Mnemonic::Arithmetic(AluOp::SignedMod, Width::Bits32),
-    ),
-    ("xor32", Mnemonic::Arithmetic(AluOp::Xor, Width::Bits32)),
-    ("mov32", Mnemonic::Arithmetic(AluOp::Mov, Width::Bits32)),
-    ("arsh32", Mnemonic::Arithmetic(AluOp::Arsh, Width::Bits32)),
-    ("jeq", Mnemonic::Jumping(Condition::Equal, Width::Bits64)),
-    ("jne", Mnemonic::Jumping(Condition::NotEqual, Width::Bits64)),
-    ("jgt", Mnemonic::Jumping(Condition::Greater, Width::Bits64)),
-    (
-        "jge",
-        Mnemonic::Jumping(Condition::GreaterEqual, Width::Bits64),
-    ),
-    ("jlt", Mnemonic::Jumping(Condition::Less, Width::Bits64)),
-    (
-        "jle",
-        Mnemonic::Jumping(Condition::LessEqual, Width::Bits64),
-    ),
-    ("jset", Mnemonic::Jumping(Condition::AnyBits, Width::Bits64)),
-    (
-        "jsgt",
-        Mnemonic::Jumping(Condition::SignedGreater, Width::Bits64),
-    ),
-    (
-        "jsge",
-        Mnemonic::Jumping(Condition::SignedGreaterEqual, Width::Bits64),
-    ),
-    (
-        "jslt",
-        Mnemonic::Jumping(Condition::SignedLess, Width::Bits64),
-    ),
-    (
-        "jsle",
-        Mnemonic::Jumping(Condition::SignedLessEqual, Width::Bits64),
-    ),
-    ("jeq32", Mnemonic::Jumping(Condition::Equal, Width::Bits32)),
-    (
-        "jne32",
-        Mnemonic::Jumping(Condition::NotEqual, Width::Bits32),
-    ),
-    (
-        "jgt32",
-        Mnemonic::Jumping(Condition::Greater, Width::Bits32),
-    ),
-    (
-        "jge32",
-        Mnemonic::Jumping(Condition::GreaterEqual, Width::Bits32),
-    ),
-    ("jlt32", Mnemonic::Jumping(Condition::Less, Width::Bits32)),
-    (
-        "jle32",
-        Mnemonic::Jumping(Condition::LessEqual, Width::Bits32),
-    ),
-    (
-        "jset32",
-        Mnemonic::Jumping(Condition::AnyBits, Width::Bits32),
-    ),
-    (
-        "jsgt32",
-        Mnemonic::Jumping(Condition::SignedGreater, Width::Bits32),
-    ),
-    (
-        "jsge32",
-        Mnemonic::Jumping(Condition::SignedGreaterEqual, Width::Bits32),
-    ),
-    (
-        "jslt32",
-        Mnemonic::Jumping(Condition::SignedLess, Width::Bits32),
-    ),
-    (
-        "jsle32",
-        Mnemonic::Jumping(Condition::SignedLessEqual, Width::Bits32),
-    ),
-    ("ldxb", Mnemonic::Loading(LoadSize::LoadByte)),
-    ("ldxh", Mnemonic::Loading(LoadSize::LoadHalf)),
-    ("ldxw", Mnemonic::Loading(LoadSize::LoadWord)),
-    ("ldxdw", Mnemonic::Loading(LoadSize::LoadDouble)),
-    ("ldxsb", Mnemonic::Loading(LoadSize::SignedByte)),
-    ("ldxsh", Mnemonic::Loading(LoadSize::SignedHalf)),
-    ("ldxsw", Mnemonic::Loading(LoadSize::SignedWord)),
-    ("stb", Mnemonic::Storing(Size::Byte)),
-    ("sth", Mnemonic::Storing(Size::Half)),
-    ("stw", Mnemonic::Storing(Size::Word)),
-    ("stdw", Mnemonic::Storing(Size::Double)),
-    ("stxb", Mnemonic::StoringRegister(Size::Byte)),
-    ("stxh", Mnemonic::StoringRegister(Size::Half)),
-    ("stxw", Mnemonic::StoringRegister(Size::Word)),
-    ("stxdw", Mnemonic::StoringRegister(Size::Double)),
-    ("neg", Mnemonic::Negation(Width::Bits64)),
-    ("neg32", Mnemonic::Negation(Width::Bits32)),
-    ("movsx8", Mnemonic::SignedMove(Extension::ByteTo64)),
-    ("movsx16", Mnemonic::SignedMove(Extension::HalfTo64)),
-    ("movsx32", Mnemonic::SignedMove(Extension::WordTo64)),
-    ("mov32sx8", Mnemonic::SignedMove(Extension::ByteTo32)),
-    ("mov32sx16", Mnemonic::SignedMove(Extension::HalfTo32)),
-    ("le16", Mnemonic::Swapping(Swap::ToLittle, SwapBits::Swap16)),
-    ("le32", Mnemonic::Swapping(Swap::ToLittle, SwapBits::Swap32)),
-    ("le64", Mnemonic::Swapping(Swap::ToLittle, SwapBits::Swap64)),
-    ("be16", Mnemonic::Swapping(Swap::ToBig, SwapBits::Swap16)),
-    ("be32", Mnemonic::Swapping(Swap::ToBig, SwapBits::Swap32)),
-    ("be64", Mnemonic::Swapping(Swap::ToBig, SwapBits::Swap64)),
-    (
-        "swap16",
-        Mnemonic::Swapping(Swap::Reverse, SwapBits::Swap16),
-    ),
-    (
-        "swap32",
-        Mnemonic::Swapping(Swap::Reverse, SwapBits::Swap32),
-    ),
-    (
-        "swap64",
-        Mnemonic::Swapping(Swap::Reverse, SwapBits::Swap64),
-    ),
-    ("ja", Mnemonic::ShortGoto),
-    ("ja32", Mnemonic::LongGoto),
-    ("lddw", Mnemonic::WideLoad),
-    ("ldmap", Mnemonic::MapLoad),
-    ("ldimm", Mnemonic::AddressLoad),
-    ("call", Mnemonic::Calling(Callee::Helper)),
-    ("calllocal", Mnemonic::Calling(Callee::Local)),
-    ("callbtf", Mnemonic::Calling(Callee::ByTypeId)),
-    ("exit", Mnemonic::Exiting),
+/// All mnemonics, each once.
+const MNEMONICS: [Mnemonic; 90] = [
+    Mnemonic::Arithmetic(AluOp::Add, Width::Bits64),
+    Mnemonic::Arithmetic(AluOp::Sub, Width::Bits64),
+    Mnemonic::Arithmetic(AluOp::Mul, Width::Bits64),
+    Mnemonic::Arithmetic(AluOp::Div, Width::Bits64),
+    Mnemonic::Arithmetic(AluOp::SignedDiv, Width::Bits64),
+    Mnemonic::Arithmetic(AluOp::Or, Width::Bits64),
+    Mnemonic::Arithmetic(AluOp::And, Width::Bits64),
+    Mnemonic::Arithmetic(AluOp::Lsh, Width::Bits64),
+    Mnemonic::Arithmetic(AluOp::Rsh, Width::Bits64),
+    Mnemonic::Arithmetic(AluOp::Mod, Width::Bits64),
+    Mnemonic::Arithmetic(AluOp::SignedMod, Width::Bits64),
+    Mnemonic::Arithmetic(AluOp::Xor, Width::Bits64),
+    Mnemonic::Arithmetic(AluOp::Mov, Width::Bits64),
+    Mnemonic::Arithmetic(AluOp::Arsh, Width::Bits64),
+    Mnemonic::Arithmetic(AluOp::Add, Width::Bits32),
+    Mnemonic::Arithmetic(AluOp::Sub, Width::Bits32),
+    Mnemonic::Arithmetic(AluOp::Mul, Width::Bits32),
+    Mnemonic::Arithmetic(AluOp::Div, Width::Bits32),
+    Mnemonic::Arithmetic(AluOp::SignedDiv, Width::Bits32),
+    Mnemonic::Arithmetic(AluOp::Or, Width::Bits32),
+    Mnemonic::Arithmetic(AluOp::And, Width::Bits32),
+    Mnemonic::Arithmetic(AluOp::Lsh, Width::Bits32),
+    Mnemonic::Arithmetic(AluOp::Rsh, Width::Bits32),
+    Mnemonic::Arithmetic(AluOp::Mod, Width::Bits32),
+    Mnemonic::Arithmetic(AluOp::SignedMod, Width::Bits32),
+    Mnemonic::Arithmetic(AluOp::Xor, Width::Bits32),
+    Mnemonic::Arithmetic(AluOp::Mov, Width::Bits32),
+    Mnemonic::Arithmetic(AluOp::Arsh, Width::Bits32),
+    Mnemonic::Jumping(Condition::Equal, Width::Bits64),
+    Mnemonic::Jumping(Condition::NotEqual, Width::Bits64),
+    Mnemonic::Jumping(Condition::Greater, Width::Bits64),
+    Mnemonic::Jumping(Condition::GreaterEqual, Width::Bits64),
+    Mnemonic::Jumping(Condition::Less, Width::Bits64),
+    Mnemonic::Jumping(Condition::LessEqual, Width::Bits64),
+    Mnemonic::Jumping(Condition::AnyBits, Width::Bits64),
+    Mnemonic::Jumping(Condition::SignedGreater, Width::Bits64),
+    Mnemonic::Jumping(Condition::SignedGreaterEqual, Width::Bits64),
+    Mnemonic::Jumping(Condition::SignedLess, Width::Bits64),
+    Mnemonic::Jumping(Condition::SignedLessEqual, Width::Bits64),
+    Mnemonic::Jumping(Condition::Equal, Width::Bits32),
+    Mnemonic::Jumping(Condition::NotEqual, Width::Bits32),
+    Mnemonic::Jumping(Condition::Greater, Width::Bits32),
+    Mnemonic::Jumping(Condition::GreaterEqual, Width::Bits32),
+    Mnemonic::Jumping(Condition::Less, Width::Bits32),
+    Mnemonic::Jumping(Condition::LessEqual, Width::Bits32),
+    Mnemonic::Jumping(Condition::AnyBits, Width::Bits32),
+    Mnemonic::Jumping(Condition::SignedGreater, Width::Bits32),
+    Mnemonic::Jumping(Condition::SignedGreaterEqual, Width::Bits32),
+    Mnemonic::Jumping(Condition::SignedLess, Width::Bits32),
+    Mnemonic::Jumping(Condition::SignedLessEqual, Width::Bits32),
+    Mnemonic::Loading(LoadSize::LoadByte),
+    Mnemonic::Loading(LoadSize::LoadHalf),
+    Mnemonic::Loading(LoadSize::LoadWord),
+    Mnemonic::Loading(LoadSize::LoadDouble),
+    Mnemonic::Loading(LoadSize::SignedByte),
+    Mnemonic::Loading(LoadSize::SignedHalf),
+    Mnemonic::Loading(LoadSize::SignedWord),
+    Mnemonic::Storing(Size::Byte),
+    Mnemonic::Storing(Size::Half),
+    Mnemonic::Storing(Size::Word),
+    Mnemonic::Storing(Size::Double),
+    Mnemonic::StoringRegister(Size::Byte),
+    Mnemonic::StoringRegister(Size::Half),
+    Mnemonic::StoringRegister(Size::Word),
+    Mnemonic::StoringRegister(Size::Double),
+    Mnemonic::Negation(Width::Bits64),
+    Mnemonic::Negation(Width::Bits32),
+    Mnemonic::SignedMove(Extension::ByteTo64),
+    Mnemonic::SignedMove(Extension::HalfTo64),
+    Mnemonic::SignedMove(Extension::WordTo64),
+    Mnemonic::SignedMove(Extension::ByteTo32),
+    Mnemonic::SignedMove(Extension::HalfTo32),
+    Mnemonic::Swapping(Swap::ToLittle, SwapBits::Swap16),
+    Mnemonic::Swapping(Swap::ToLittle, SwapBits::Swap32),
+    Mnemonic::Swapping(Swap::ToLittle, SwapBits::Swap64),
+    Mnemonic::Swapping(Swap::ToBig, SwapBits::Swap16),
+    Mnemonic::Swapping(Swap::ToBig, SwapBits::Swap32),
+    Mnemonic::Swapping(Swap::ToBig, SwapBits::Swap64),
+    Mnemonic::Swapping(Swap::Reverse, SwapBits::Swap16),
+    Mnemonic::Swapping(Swap::Reverse, SwapBits::Swap32),
+    Mnemonic::Swapping(Swap::Reverse, SwapBits::Swap64),
+    Mnemonic::ShortGoto,
+    Mnemonic::LongGoto,
+    Mnemonic::WideLoad,
+    Mnemonic::MapLoad,
+    Mnemonic::AddressLoad,
+    Mnemonic::Calling(Callee::Helper),
+    Mnemonic::Calling(Callee::Local),
+    Mnemonic::Calling(Callee::ByTypeId),
+    Mnemonic::Exiting,
 ];
 
 /// What the word says, where it begins an instruction.
@@ -209,7 +180,7 @@ pub fn read_mnemonic(word: &str) -> Option<Mnemonic>
     ensures plain { IfSome result (λ _. IsName word.now) }
     ensures exact { (found : Mnemonic) → word.now ≡ mnemonic_word found → result ≡ Some found }
 {
-    find(&MNEMONICS, word)
+    first_with_word(&MNEMONICS, word)
 }
 
 /// What holds of all mnemonics: it does nothing, and its contract is the laws.
@@ -224,14 +195,14 @@ pub fn mnemonic_laws()
     ensures apart { (m n : Mnemonic) → mnemonic_word m ≡ mnemonic_word n → m ≡ n }
 {}
 
-/// What the first row with this word says.
-fn find(table: &[(&str, Mnemonic)], word: &str) -> Option<Mnemonic>
-    ensures { result ≡ lookup (bytes_eq word.now) (map (λ row. (row.0.now, row.1)) table.now) }
+/// The first of them that has this word.
+fn first_with_word(mnemonics: &[Mnemonic], word: &str) -> Option<Mnemonic>
+    ensures { result ≡ find (λ m. bytes_eq word.now (mnemonic_word m)) mnemonics.now }
 {
-    let mut rest = table;
-    while let [row, after @ ..] = rest {
-        if word == row.0 {
-            return Some(row.1);
+    let mut rest = mnemonics;
+    while let [mnemonic, after @ ..] = rest {
+        if mnemonic.has_word(word) {
+            return Some(*mnemonic);
         }
         rest = after;
     }

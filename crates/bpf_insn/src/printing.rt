@@ -5,6 +5,9 @@ ghost use Rattle.std.specs.String.{string_bytes};
 ghost use Rattle.bpf_insn.specs.Text.{bits_text, insn_text};
 
 use crate::insn::Insn;
+use bpf_parts::words::{
+    ADDRESS_LOAD, EXIT, GOTO, LOAD, LONG_GOTO, MAP_LOAD, NEGATION, WIDE_LOAD,
+};
 use bpf_parts::{Address, Comparison, Distance, Register};
 use std::alloc::{AllocError, Global};
 use std::fmt;
@@ -34,8 +37,8 @@ impl fmt::Display for Goto {
     #[tactic(auto, unfolding(crate::specs::Text::insn_text))]
     fn fmt<W: fmt::Write>(&self, f: &mut fmt::Formatter<W>) -> fmt::Result {
         match self.0 {
-            Distance::Short(_) => write!(f, "ja {}", self.0),
-            Distance::Long(_) => write!(f, "ja32 {}", self.0),
+            Distance::Short(_) => write!(f, "{GOTO} {}", self.0),
+            Distance::Long(_) => write!(f, "{LONG_GOTO} {}", self.0),
         }
     }
 }
@@ -58,7 +61,7 @@ impl fmt::Display for AddressLoad {
         let subtype = self.address.subtype();
         let first = self.address.first();
         let second = self.address.second();
-        write!(f, "ldimm {subtype}, {dst}, {first}, {second}")
+        write!(f, "{ADDRESS_LOAD} {subtype}, {dst}, {first}, {second}")
     }
 }
 
@@ -74,14 +77,14 @@ impl fmt::Display for Insn {
                 dst,
                 src,
             } => write!(f, "{op}{} {dst}, {src}", width.suffix()),
-            Insn::Negate { width, dst } => write!(f, "neg{} {dst}", width.suffix()),
+            Insn::Negate { width, dst } => write!(f, "{NEGATION}{} {dst}", width.suffix()),
             Insn::MoveSigned {
                 extension,
                 dst,
                 src,
             } => write!(f, "{extension} {dst}, {src}"),
             Insn::ByteSwap { swap, bits, dst } => write!(f, "{swap}{bits} {dst}"),
-            Insn::Load { size, dst, place } => write!(f, "ldx{size} {dst}, {place}"),
+            Insn::Load { size, dst, place } => write!(f, "{LOAD}{size} {dst}, {place}"),
             Insn::Store { size, place, src } => {
                 write!(f, "{}{size} {place}, {src}", src.store_prefix())
             }
@@ -96,11 +99,11 @@ impl fmt::Display for Insn {
                 write!(f, "{condition}{} {dst}, {src}, {distance}", width.suffix())
             }
             Insn::Goto { distance } => write!(f, "{}", Goto(distance)),
-            Insn::Wide { dst, value } => write!(f, "lddw {dst}, {}", Bits(value)),
-            Insn::LoadMap { dst, index } => write!(f, "ldmap {dst}, {index}"),
+            Insn::Wide { dst, value } => write!(f, "{WIDE_LOAD} {dst}, {}", Bits(value)),
+            Insn::LoadMap { dst, index } => write!(f, "{MAP_LOAD} {dst}, {index}"),
             Insn::LoadAddress { dst, address } => write!(f, "{}", AddressLoad { dst, address }),
             Insn::Call { callee, number } => write!(f, "{callee} {number}"),
-            Insn::Exit => write!(f, "exit"),
+            Insn::Exit => f.write_str(EXIT),
         }
     }
 }

@@ -2,7 +2,8 @@
 //!
 //! Each part is a type. It has the number by which it stands in a field of a slot, and the text by which it
 //! stands in a line: `code` and `from_code`, `bits` and `from_bits`, `name` or `suffix`. The parts of an opcode
-//! that are numbers alone are the constants of [`opcode`].
+//! that are numbers alone are the constants of [`opcode`], and the words of instructions that no part names are those
+//! of [`words`].
 #![tactic(auto)]
 
 mod address;
@@ -13,6 +14,7 @@ mod names;
 pub mod opcode;
 mod operation;
 mod register;
+pub mod words;
 
 pub use address::Address;
 pub use callee::Callee;

@@ -9,6 +9,7 @@ use crate::distance::Distance;
 use crate::memory::{LoadSize, Place, Size};
 use crate::operation::{AluOp, Condition, Extension, Operand, Swap, SwapBits, Width};
 use crate::register::Register;
+use crate::words::{REGISTER_STORE, STORE};
 use std::fmt;
 
 impl fmt::Display for Register {
@@ -37,8 +38,8 @@ impl Operand {
         ensures { result.now ≡ store_prefix self }
     {
         match self {
-            Operand::FromRegister(_) => "stx",
-            Operand::Immediate(_) => "st",
+            Operand::FromRegister(_) => REGISTER_STORE,
+            Operand::Immediate(_) => STORE,
         }
     }
 }

@@ -1,5 +1,5 @@
 -- The printed name and operands of an instruction are words.
-use Rattle.std.proofs.Common.{ℕ, ◌<◌, List, Option, inr, refl, arith, lit<}
+use Rattle.std.proofs.Common.{◌<◌, refl, arith, lit<}
 use Rattle.bpf_parts.specs.declared.operation.Width.{Width}
 use Rattle.bpf_parts.specs.declared.operation.Width.TheVariants.{Bits32, Bits64}
 use Rattle.bpf_parts.specs.declared.operation.AluOp.{AluOp}
@@ -27,9 +27,8 @@ use Rattle.bpf_insn.specs.declared.insn.Insn.{Insn}
 use Rattle.bpf_insn.specs.declared.insn.Insn.TheVariants.{Alu, Negate, MoveSigned, ByteSwap, Load, Store, Jump, Goto, Wide, LoadMap, LoadAddress, Call, Exit}
 use Rattle.bpf_parts.specs.Codes.{address_first, address_second, address_subtype}
 use Rattle.bpf_insn.specs.Spelling.{IsInsn}
-use Rattle.bpf_parts.specs.Operands.{IsOperand}
 use Rattle.bpf_insn.specs.Text.{insn_name, insn_operands}
-use Rattle.bpf_parts.specs.Text.{alu_name, callee_name, condition_name, extension_name, load_suffix, operand_text, store_prefix, store_suffix, swap_bits_name, swap_name, width_suffix}
+use Rattle.bpf_parts.specs.Text.{alu_name, callee_name, condition_name, extension_name, load_suffix, store_prefix, store_suffix, swap_bits_name, swap_name, width_suffix}
 use Rattle.basm_lex.specs.Printed.{AreWords, IsWord}
 use Rattle.basm_lex.proofs.Printed.Plain.{ArePlain, word_append}
 use Rattle.basm_lex.proofs.Printed.Texts.{bits_word, decimal_word, distance_word, operand_word, place_word, register_word, short_distance_word, signed_decimal_word}

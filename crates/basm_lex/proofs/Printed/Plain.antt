@@ -1,12 +1,12 @@
 -- Plain words: what is printed between spaces, commas and line ends.
-use Rattle.std.proofs.Common.{◌≡◌, ℕ, ◌<◌, ◌≤◌, Bool, true, false, List, [], ◌∷◌, ◌++◌, refl, ap, ◌∙◌, arith, ne_eqb}
-use Rattle.std.specs.Prelude.{◌≢◌, ◌==◌, ◌&&◌, not}
+use Rattle.std.proofs.Common.{◌≡◌, ℕ, ◌<◌, ◌≤◌, true, List, [], ◌∷◌, ◌++◌, refl, ap, ◌∙◌, arith, ne_eqb}
+use Rattle.std.specs.Prelude.{◌≢◌, ◌==◌, not}
 use Rattle.std.specs.List.{list_all}
 use Rattle.std.specs.Char.{digit_value}
 use Rattle.std.specs.Str.Parse.{AllDigits, IsNumeral}
 use Rattle.std.proofs.lemmas.Bool.{and_from, and_parts}
 use Rattle.std.proofs.lemmas.List.Folds.{list_all-append}
-use Rattle.basm_lex.specs.Printed.{IsWord, is_plain, is_word}
+use Rattle.basm_lex.specs.Printed.{IsWord, is_plain}
 
 abbrev pub ArePlain : List ℕ → Type 0
 ArePlain word = list_all is_plain word ≡ true

@@ -9,12 +9,12 @@ returns-clause-value c = search rules
 
 pub returns-clause-names : goal.returns-clause-names
 unfolding named
-returns-clause-names c = named_word c.args.word.now c.find.result c.find.ensures
+returns-clause-names c = named_word c.args.word.now c.first_with_word.result c.first_with_word.ensures
 
 pub returns-clause-exact : goal.returns-clause-exact
 unfolding named
-returns-clause-exact c = named_exact c.args.word.now c.find.result c.find.ensures
+returns-clause-exact c = named_exact c.args.word.now c.first_with_word.result c.first_with_word.ensures
 
 pub returns-clause-plain : goal.returns-clause-plain
 unfolding named
-returns-clause-plain c = named_plain c.args.word.now c.find.result c.find.ensures
+returns-clause-plain c = named_plain c.args.word.now c.first_with_word.result c.first_with_word.ensures
