@@ -1,4 +1,4 @@
-//! Tests of the crates that a packet passes: `rcrc`, `spw`, `rmap`, `bank` and `target`.
+//! Tests of what is a packet and a command: `rcrc`, `spw` and `rmap`.
 #![tactic(auto)]
 
 #[cfg(test)]

@@ -1,5 +1,6 @@
-//! What crates of tests share: random numbers, the tables of all operations, rows of a table in text,
-//! images of program text, and a node of one bank. No program stands on it.
+//! What crates of tests share: random numbers, the tables of all operations, rows of a table in text and
+//! what stands in them, images of program text, runs of programs, and a node of one bank. `rmapctl` does not stand
+//! on it.
 #![tactic(auto)]
 
 mod images;
@@ -7,6 +8,7 @@ mod nodes;
 mod operations;
 mod random;
 mod rows;
+mod runs;
 
 pub use images::image_of_text;
 pub use nodes::{BASE, PLAIN_READ, PLAIN_REPLY, PLAIN_WRITE, bank, node, packet, program, served};
@@ -14,4 +16,5 @@ pub use operations::{
     CONDITIONS, EXTENSIONS, LOAD_SIZES, OPERATIONS, SIZES, SWAP_BITS, SWAPS, WIDTHS,
 };
 pub use random::Random;
-pub use rows::{Row, hexadecimals};
+pub use rows::{Row, answer, hexadecimals, sizes, word};
+pub use runs::{FRONT, TAIL, by_turns, verdict};

@@ -1,6 +1,8 @@
 //! Rows of a table in text.
 
+use bver::MapSizes;
 use std::alloc::Global;
+use std::fmt::Debug;
 use std::str::Split;
 use std::test::Fail;
 
@@ -36,4 +38,30 @@ pub fn hexadecimals(alloc: Global, text: &str) -> Result<Vec<u64>, Fail> {
         numbers.push(u64::from_str_radix(word, 16)?)?;
     }
     Ok(numbers)
+}
+
+/// The sizes of maps, with spaces between them.
+pub fn sizes(alloc: Global, text: &str) -> Result<MapSizes, Fail> {
+    let mut numbers = Vec::new(alloc);
+    for word in text.split_whitespace() {
+        numbers.push(word.parse::<u16>()?)?;
+    }
+    Ok(MapSizes::new(&numbers)?)
+}
+
+/// The code and the slot of a refusal, or nothing.
+pub fn answer(text: &str) -> Result<Option<(u8, u16)>, Fail> {
+    if text == "ok" {
+        return Ok(None);
+    }
+    let (code, slot) = text.split_once(' ').ok_or("code and slot")?;
+    Ok(Some((code.parse::<u8>()?, slot.parse::<u16>()?)))
+}
+
+/// The variant as its name, or `-` for none.
+pub fn word<T: Debug + Drop>(alloc: Global, value: Option<T>) -> Result<String, Fail> {
+    Ok(match value {
+        Some(value) => format!(in alloc; "{value:?}")?,
+        None => String::from_str(alloc, "-")?,
+    })
 }

@@ -1,14 +1,11 @@
 //! Programs that ask counters, as a verifier and an interpreter that were written apart answer them.
 
-ghost use Rattle.std.specs.Prelude.{◌<◌};
-
-use crate::{FRONT, TAIL};
 use anyhow::{Context, Result};
 use bpf::Image;
-use brun::{Turn, advance, answer, start};
 use bver::{Accepted, MapSizes, verify};
 use slow_machine::{Ending, run};
-use std::alloc::{AllocError, Global};
+use std::alloc::Global;
+use trial::{FRONT, TAIL, by_turns};
 
 /// The answers to the first questions of a run: these three in turn.
 const ANSWERS: [u64; 12] = [
@@ -35,35 +32,6 @@ fn sizes(alloc: Global, text: &str) -> Result<MapSizes> {
     Ok(MapSizes::new(&numbers)?)
 }
 
-/// Notes a question behind the others: `HELPER,MAP,KEY`, with `;` between two.
-fn note(questions: &mut String, helper: u8, map: u8, key: u16) -> Result<(), AllocError> {
-    if !questions.is_empty() {
-        questions.push(';')?;
-    }
-    write!(questions, "{helper},{map},{key}")
-}
-
-/// The verdict of a run by turns on the plain read at port 0, and the questions before it. There is none where
-/// the answers are too few.
-fn verdict(
-    accepted: &Accepted,
-    stack: &mut [u8; 512],
-    questions: &mut String,
-) -> Result<Option<u64>, AllocError> {
-    let (front, tail) = (&FRONT, &TAIL);
-    let mut paused = start(accepted, 0);
-    for told in &ANSWERS {
-        match advance(accepted, front, tail, stack, &mut paused) {
-            Turn::Verdict(verdict) => return Ok(Some(verdict)),
-            Turn::Ask(helper, map, key) => {
-                note(questions, helper, map, key)?;
-                answer(&mut paused, *told);
-            }
-        }
-    }
-    Ok(None)
-}
-
 /// Whether runs of the program by both machines have that verdict and those steps and questions, which are apart
 /// by spaces.
 fn runs(alloc: Global, accepted: &Accepted, sizes: &MapSizes, wanted: &str) -> Result<bool> {
@@ -73,7 +41,7 @@ fn runs(alloc: Global, accepted: &Accepted, sizes: &MapSizes, wanted: &str) -> R
     let questions_wanted = words.next().unwrap_or("");
     let after = |limit: u32| run(accepted.image(), sizes, &FRONT, &TAIL, 0, &ANSWERS, limit);
     let mut questions = String::new(alloc);
-    let found = verdict(accepted, &mut [0; 512], &mut questions)?;
+    let found = by_turns(accepted, 0, &mut [0; 512], &ANSWERS, &mut questions)?;
     Ok(
         found == Some(verdict_wanted)
             && questions.as_str() == questions_wanted

@@ -1,11 +1,11 @@
 //! Programs with declared loops, as a verifier and an interpreter that were written apart answer them.
 
-use crate::{FRONT, TAIL};
 use anyhow::{Context, Result};
 use bpf::Image;
 use bver::{MapSizes, verify};
 use slow_machine::{Ending, run};
 use std::alloc::Global;
+use trial::{FRONT, TAIL};
 
 /// Whether a run of so many steps on the plain read at port 0, and none of fewer, ends with the verdict.
 fn ends(image: &Image, none: &MapSizes, verdict: u64, steps: u32) -> bool {

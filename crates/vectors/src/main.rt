@@ -34,13 +34,6 @@ const REPLIES: &str = "replies.txt";
 /// The file of programs that ask counters.
 const CALLS: &str = "calls.txt";
 
-/// The front and the tail of the plain read (docs/PROTOCOL.md).
-const FRONT: [u8; 4] = [0xfe, 0x01, 0x4c, 0x00];
-
-const TAIL: [u8; 12] = [
-    0x67, 0x00, 0x01, 0x00, 0xa0, 0x00, 0x00, 0x00, 0x00, 0x00, 0x10, 0xc9,
-];
-
 /// Whether the bytes are the instruction's, all of them.
 fn is_spelling(insn: &Insn, bytes: &[u8]) -> bool {
     let (first, second) = encode(insn);

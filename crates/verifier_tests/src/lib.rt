@@ -1,4 +1,4 @@
-//! Tests of the verifier and of the two machines: what no clause says, and values from outside.
+//! Tests of the verifier and its layers: `absdom_num`, `absdom`, `bver_form` and `bver`.
 #![tactic(auto)]
 
 #[cfg(test)]

@@ -1,9 +1,9 @@
 //! Nodes of several ports, and their counter maps.
 
-use super::{PLAIN_READ, PLAIN_REPLY, run};
+use crate::run;
 use std::alloc::Global;
 use std::test::Fail;
-use trial::PLAIN_WRITE;
+use trial::{PLAIN_READ, PLAIN_REPLY, PLAIN_WRITE};
 
 /// A line of port 0 with that port in its place.
 fn at_port(alloc: Global, port: u8, line: &str) -> Result<String, Fail> {

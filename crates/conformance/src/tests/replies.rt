@@ -1,7 +1,9 @@
 //! Packet lines and what is printed of them.
 
-use super::{PLAIN_READ, PLAIN_REPLY, compare_answers, judged};
+use super::compare_answers;
+use crate::judged;
 use std::test::Fail;
+use trial::{PLAIN_READ, PLAIN_REPLY};
 
 #[test]
 fn plain_read(rt: HostRuntime) -> Result<(), Fail> {

@@ -1,12 +1,12 @@
 //! The room of the journal: what becomes of commands for which it has no entry left.
 
-use super::PLAIN_READ;
 use super::tables::{WRONG_WRITE, printed};
 use rcrc::crc;
 use std::alloc::Global;
 use std::fmt::Write;
 use std::sync::Wait;
 use std::test::Fail;
+use trial::PLAIN_READ;
 
 /// How many writes of one byte come first.
 const WRITES: u16 = 1026;

@@ -6,12 +6,12 @@
 //! their place. Some stand for themselves by a letter: `W`, the plain write; `V`, the same with another data
 //! CRC; `R`, the plain read; and as answers to it `D`, the bytes of the plain write, and `Z`, zeros.
 
-use super::{PLAIN_READ, PLAIN_REPLY, judged, judged_by};
+use crate::{judged, judged_by};
 use std::alloc::{AllocError, Global};
 use std::process::Abort;
 use std::sync::Wait;
 use std::test::Fail;
-use trial::{PLAIN_WRITE, Row, image_of_text};
+use trial::{PLAIN_READ, PLAIN_REPLY, PLAIN_WRITE, Row, image_of_text};
 
 /// The plain write with another data CRC.
 pub const WRONG_WRITE: &str =

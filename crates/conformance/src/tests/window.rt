@@ -4,8 +4,8 @@
 //! tables; at port 1 they begin with `1 `. Three packets stand for themselves by a letter: they stage the
 //! program that says yes (`Y`), the one that denies (`N`), and one that reads a register that is unset (`U`).
 
-use super::run;
 use super::tables::{answer_line, packet_line};
+use crate::run;
 use std::alloc::Global;
 use std::process::Abort;
 use std::sync::Wait;

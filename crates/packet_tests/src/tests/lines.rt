@@ -1,12 +1,11 @@
 //! `spw`: lines as people write them, printed faults, and that reading succeeds.
 
-use super::word;
 use hex::decode;
 use spw::{End, LineFault, MAX_PACKET, Packet, line_is_unambiguous, read_line};
 use std::alloc::{AllocError, Global};
 use std::process::Abort;
 use std::test::Fail;
-use trial::Row;
+use trial::{Row, word};
 
 /// Lines, and the port, bytes and marker that they write.
 const LINES: &str = "\

@@ -6,14 +6,13 @@
 mod exchanges;
 mod headers;
 
-use super::word;
 use rmap::{
     Command, Discard, Instruction, Kind, MAX_REPLY, ReplyBuf, Status, Windows, command_is_unique,
     commands_are_laid_out, discard_is_exact, put_reply, replies_are_short,
 };
 use spw::End;
 use std::test::Fail;
-use trial::{Row, packet};
+use trial::{Row, packet, word};
 
 /// What a packet is, the packet, and why it is discarded.
 const DISCARDS: &str = "\

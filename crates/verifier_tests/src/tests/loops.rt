@@ -1,12 +1,11 @@
 //! Programs with declared loops, with the answer that the rules of their form (docs/BPF.md) give, read off by
 //! hand.
 
-use super::rules::answer;
 use bver_form::check;
 use std::alloc::Global;
 use std::process::Abort;
 use std::test::Fail;
-use trial::{Row, image_of_text};
+use trial::{Row, answer, image_of_text};
 
 /// A row has a name, a program, its budget and the answer.
 fn check_row(rt: &impl Abort, alloc: Global, line: &str) -> Result<(), Fail> {

@@ -1,11 +1,10 @@
 //! The operations of accepted programs: the list of each, by hand.
 
-use super::sizes;
 use bver::{Op, Region, verify};
 use std::alloc::Global;
 use std::fmt::Write;
 use std::test::Fail;
-use trial::{Row, image_of_text};
+use trial::{Row, image_of_text, sizes};
 
 /// A row has a name, a program, its weight, which is its budget too, the sizes of the maps, and the operations: of
 /// each the code, the first and the second operand, the base with its offset, the number, the constant in

@@ -2,21 +2,11 @@
 //! tables were read off the rules by hand; those of the third, and the others once more, are the answers of
 //! a verifier written apart in Python from the rules.
 
-use super::sizes;
 use bver::verify;
 use std::alloc::Global;
 use std::process::Abort;
 use std::test::Fail;
-use trial::{Row, image_of_text};
-
-/// The code and the slot of a refusal, or nothing.
-pub fn answer(text: &str) -> Result<Option<(u8, u16)>, Fail> {
-    if text == "ok" {
-        return Ok(None);
-    }
-    let (code, slot) = text.split_once(' ').ok_or("code and slot")?;
-    Ok(Some((code.parse::<u8>()?, slot.parse::<u16>()?)))
-}
+use trial::{Row, answer, image_of_text, sizes};
 
 /// A row has a name, a program, its budget, map sizes and the answer.
 fn check(rt: &impl Abort, alloc: Global, line: &str) -> Result<(), Fail> {

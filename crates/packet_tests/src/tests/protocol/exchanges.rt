@@ -1,13 +1,12 @@
 //! Whole commands: the faults of header and body, and the reply.
 
 use super::STATUSES;
-use crate::tests::word;
 use hex::decode;
 use rmap::{Command, ReplyBuf, Status, Windows, body_fault, header_fault, put_reply};
 use std::alloc::Global;
 use std::process::Abort;
 use std::test::Fail;
-use trial::{Row, packet};
+use trial::{Row, packet, word};
 
 /// Commands to a node of logical address 0xFE with a bank of 65,536 bytes at 0xA0000000: what the
 /// command is, the fault of its header and that of its body, and the reply to it with that status and

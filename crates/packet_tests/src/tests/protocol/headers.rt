@@ -1,9 +1,8 @@
 //! Headers: their faults, and the places of their bytes.
 
-use crate::tests::word;
 use rmap::{Command, Windows, header_fault, place};
 use std::test::Fail;
-use trial::{Row, packet};
+use trial::{Row, packet, word};
 
 /// Headers to a node of logical address 0xFE with two banks, 65,536 bytes at 0xA0000000 and the last
 /// 256 bytes of 32-bit addresses: what the header is, its fault, and the place of its bytes.

@@ -1,0 +1,124 @@
+//! Writers that fail, and memory that is refused.
+
+use commands::{Job, WriteFault, perform, words};
+use conformance::{Folder, folder_of, judged};
+use std::alloc::Global;
+use std::io::{self, Write};
+use std::sync::Wait;
+use std::test::Fail;
+use trial::{PLAIN_READ, PLAIN_REPLY};
+
+/// A writer that takes some writes, and then fails at each.
+#[derive(Drop)]
+struct Failing {
+    /// How many writes it still takes.
+    left: u32,
+    /// What was written.
+    written: Vec<u8>,
+    /// How many writes came after one that failed.
+    late: u32,
+    /// Whether a write failed.
+    has_failed: bool,
+}
+
+impl Write for Failing {
+    fn write(&mut self, buf: &[u8]) -> io::Result<usize> {
+        if self.has_failed {
+            self.late = self.late.saturating_add(1);
+        }
+        if self.left == 0 {
+            self.has_failed = true;
+            return Err(io::Error::from(io::ErrorKind::StorageFull));
+        }
+        self.left -= 1;
+        self.written.write(buf)
+    }
+
+    fn flush(&mut self) -> io::Result<()> {
+        Ok(())
+    }
+}
+
+/// Does the job over this folder with a writer that takes so many writes.
+fn perform_until(
+    rt: &impl Wait,
+    alloc: Global,
+    job: &Job,
+    folder: &mut Folder,
+    writes: u32,
+) -> (Failing, Result<u8, WriteFault>) {
+    let mut out = Failing {
+        left: writes,
+        written: Vec::new(alloc),
+        late: 0,
+        has_failed: false,
+    };
+    let done = perform(rt, alloc, job, folder, &mut out);
+    (out, done)
+}
+
+#[test]
+fn writers_that_fail_at_each_write(rt: HostRuntime) -> Result<(), Fail> {
+    let lines =
+        "0 EOP\n0 FE014C0067000901A000000000001095 EOP\n0 FE01640067000000A0000000000010610123456789ABCDEF101112131415161756 EOP\nport\n";
+    let (whole, status) = judged(&rt, rt.alloc(), lines)?;
+    assert_eq!(rt; status, 1);
+    let job = words(rt.alloc(), &["judge", "lines"])?;
+    let files = [("lines", lines.as_bytes())];
+    let mut folder = folder_of(rt.alloc(), &files).map_err(|_| "no folder")?;
+    let mut ended = false;
+    for writes in 0..100 {
+        let (out, done) = perform_until(&rt, rt.alloc(), &job, &mut folder, writes);
+        let written = str::from_utf8(out.written.as_slice())?;
+        assert_eq!(rt; out.late, 0, "at {writes}");
+        assert!(rt; whole.as_str().starts_with(written), "at {writes}");
+        if !out.has_failed {
+            assert_eq!(rt; done, Ok(1));
+            assert_eq!(rt; written, whole.as_str());
+            ended = true;
+            break;
+        }
+        assert_eq!(rt; done, Err(WriteFault), "at {writes}");
+    }
+    assert!(rt; ended);
+    Ok(())
+}
+
+/// What `judge` prints of these lines, and the exit status; `None` where memory was refused to the
+/// words, to the folder or to the writer.
+fn tried(rt: &impl Wait, alloc: Global, lines: &str) -> Option<(String, u8)> {
+    let job = words(alloc, &["judge", "lines"]).ok()?;
+    let files = [("lines", lines.as_bytes())];
+    let mut out = Vec::new(alloc);
+    let mut folder = folder_of(alloc, &files).ok()?;
+    let status = perform(rt, alloc, &job, &mut folder, &mut out).ok()?;
+    Some((String::from_utf8(out).ok()?, status))
+}
+
+/// Whether a job that was refused memory may print this: a part of the whole, and then a fault.
+fn is_refused(printed: &str) -> bool {
+    printed.ends_with("no memory\n")
+        || printed.ends_with("line 1 fault 5\n")
+        || printed.ends_with("image fault 8 slot 0\n")
+        || printed.ends_with("refused V17 slot 0\n")
+        || printed.ends_with("cannot read lines\n")
+}
+
+#[test]
+fn refused_memory(rt: HostRuntime) -> Result<(), Fail> {
+    // With memory refused once, the answer is the job's, a fault of memory, or an error.
+    if let Some((printed, status)) = tried(&rt, rt.alloc(), PLAIN_READ) {
+        let (whole, wanted) = judged(&rt, rt.alloc(), PLAIN_READ)?;
+        if status == wanted {
+            assert_eq!(rt; printed, whole);
+        } else {
+            assert_eq!(rt; status, 1);
+            assert!(rt; is_refused(printed.as_str()), "{printed}");
+        }
+    }
+    // With ample memory again the answer is the whole.
+    let (whole, status) = judged(&rt, rt.alloc(), PLAIN_READ)?;
+    assert_eq!(rt; whole.as_str().len(), PLAIN_REPLY.len() + 1);
+    assert_eq!(rt; status, 0);
+    Ok(())
+}

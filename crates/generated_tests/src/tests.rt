@@ -1,0 +1,6 @@
+//! Random programs, with and without loops and questions.
+
+mod agreement;
+mod asking;
+mod generated;
+mod generator;

@@ -1,0 +1,163 @@
+//! Random programs that ask counters, on which the interpreter by turns and the slow machine agree.
+
+ghost use Rattle.std.specs.Prelude.{◌<◌};
+
+use super::generator::{
+    add, alu, arithmetic, extension, immediate, jump, load, mix_numbers, mix_stack, negation,
+    number, operand, register, set_registers, set_stack, store, swap,
+};
+use bpf::Image;
+use bpf_insn::{AluOp, Callee, Insn, Operand};
+use bver::{MapSizes, verify};
+use slow_machine::Ending;
+use std::alloc::{AllocError, Global};
+use std::process::Abort;
+use std::test::Fail;
+use trial::{FRONT, Random, TAIL, by_turns};
+
+/// How many programs are made.
+const PROGRAMS: u64 = 300;
+
+/// How many questions each has at most.
+const QUESTIONS: u64 = 12;
+
+/// How many cells the maps have, as a power of two.
+const CELLS: [i32; 4] = [1, 4, 32, 128];
+
+/// An instruction on what outlives a question: numbers, the tail by r8 and the stack by r9 and r10.
+fn lasting(random: &mut Random) -> Insn {
+    let dst = number(random);
+    let high = random.below(57) as i16 - 64;
+    match random.below(8) {
+        0 => negation(random, dst),
+        1 => {
+            let src = number(random);
+            extension(random, dst, src)
+        }
+        2 => swap(random, dst),
+        3 => load(random, register(8), 0),
+        4 => load(random, register(9), high + 64),
+        5 => store(random, register(10), high),
+        _ => {
+            let src = operand(random);
+            arithmetic(random, dst, src)
+        }
+    }
+}
+
+/// Adds a question of nine slots: a helper, a map, and a number as the key, of which so many low bits are left
+/// that the key is inside. It unsets r4 and r5, which get other numbers.
+fn add_question(insns: &mut Vec<Insn>, random: &mut Random) -> Result<(), AllocError> {
+    let map = random.below(4);
+    let cells = CELLS[map as usize];
+    let key = Operand::FromRegister(number(random));
+    add(
+        insns,
+        Insn::LoadMap {
+            dst: register(1),
+            index: map as i32,
+        },
+    )?;
+    add(insns, alu(AluOp::Mov, 2, key))?;
+    add(insns, alu(AluOp::And, 2, Operand::Immediate(cells - 1)))?;
+    add(
+        insns,
+        Insn::Call {
+            callee: Callee::Helper,
+            number: 1 + random.below(2) as i32,
+        },
+    )?;
+    for unset in [4, 5] {
+        add(
+            insns,
+            Insn::Wide {
+                dst: register(unset),
+                value: random.number(),
+            },
+        )?;
+    }
+    Ok(())
+}
+
+/// A jump over a question.
+fn leap(random: &mut Random) -> Insn {
+    let dst = number(random);
+    let src = Operand::Immediate(immediate(random));
+    match jump(random, dst, src) {
+        Insn::Jump { comparison, .. } => Insn::Jump {
+            comparison,
+            offset: 9,
+        },
+        other => other,
+    }
+}
+
+/// The instructions of a random program with questions, of which runs may pass some by.
+fn instructions(alloc: Global, random: &mut Random) -> Result<Vec<Insn>, AllocError> {
+    let mut insns = Vec::new(alloc);
+    set_registers(&mut insns, random)?;
+    set_stack(&mut insns, random)?;
+    for _question in 0..QUESTIONS {
+        for _insn in 0..4 {
+            add(&mut insns, lasting(random))?;
+        }
+        if random.below(3) == 0 {
+            add(&mut insns, leap(random))?;
+        }
+        add_question(&mut insns, random)?;
+    }
+    mix_numbers(&mut insns)?;
+    mix_stack(&mut insns)?;
+    add(&mut insns, Insn::Exit)?;
+    Ok(insns)
+}
+
+/// Random answers: small ones and any. For one run in four there may be too few.
+fn answers(alloc: Global, random: &mut Random) -> Result<Vec<u64>, AllocError> {
+    let few = random.below(4) == 0;
+    let many = if few {
+        random.below(QUESTIONS)
+    } else {
+        QUESTIONS
+    };
+    let mut answers = Vec::new(alloc);
+    for _answer in 0..many {
+        let answer = random.number();
+        let small = random.below(2) == 0;
+        answers.push(if small { answer % 8 } else { answer })?;
+    }
+    Ok(answers)
+}
+
+/// Whether the run came to its verdict with the answers that there were. Both machines agree on that and on
+/// the verdict.
+fn agrees(rt: &impl Abort, alloc: Global, seed: u64) -> Result<bool, Fail> {
+    let mut random = Random::new(seed);
+    let image = Image::new(alloc, &instructions(alloc, &mut random)?, &[], 65_536)?;
+    let sizes = MapSizes::new(&[1, 4, 32, 128])?;
+    let program = verify(alloc, image.copy()?, &sizes)?;
+    let port = random.below(32) as u8;
+    let answers = answers(alloc, &mut random)?;
+    let slow = slow_machine::run(&image, &sizes, &FRONT, &TAIL, port, &answers, 65_536);
+    let mut questions = String::new(alloc);
+    let fast = by_turns(&program, port, &mut [0xa5; 512], &answers, &mut questions)?;
+    let wanted = fast.map_or(Ending::Unanswered, Ending::Verdict);
+    assert!(rt; slow == wanted, "seed {seed}: {slow:?}, {fast:?}");
+    Ok(fast.is_some())
+}
+
+/// Each program is accepted. Some runs come to their verdict, and some to a question without an answer.
+#[test]
+fn programs_that_ask_agree_with_the_slow_machine(rt: HostRuntime) -> Result<(), Fail> {
+    let mut verdicts: u64 = 0;
+    for seed in 0..PROGRAMS {
+        if agrees(&rt, rt.alloc(), seed)? {
+            verdicts = verdicts.saturating_add(1);
+        }
+    }
+    assert!(rt;
+        PROGRAMS / 2 < verdicts && verdicts < PROGRAMS,
+        "{verdicts} verdicts"
+    );
+    Ok(())
+}

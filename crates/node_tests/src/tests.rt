@@ -1,0 +1,9 @@
+//! What no clause says, of banks, of what is judged, and of nodes whole and behind locks.
+
+mod admissions;
+mod banks;
+mod full_journals;
+mod journals;
+mod loads;
+mod locks;
+mod nodes;
