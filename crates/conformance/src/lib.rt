@@ -1,4 +1,4 @@
-//! Whole jobs of `rmapctl` over files in memory, and tests of its job `judge`, which cross crates.
+//! Whole jobs of `rmapctl` over files in memory, for tests.
 #![tactic(auto)]
 
 mod folder;
@@ -8,6 +8,3 @@ mod outcomes;
 pub use folder::{Folder, LOCKED};
 pub use jobs::perform_in;
 pub use outcomes::{Outcome, done, folder_of, judged, judged_by, run, verdict_image};
-
-#[cfg(test)]
-mod tests;

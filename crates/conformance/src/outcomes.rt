@@ -1,4 +1,4 @@
-//! What comes of jobs over files in memory, for tests.
+//! What comes of the words of a job over files in memory.
 
 use crate::folder::Folder;
 use crate::jobs::perform_in;

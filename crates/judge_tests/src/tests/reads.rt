@@ -1,7 +1,7 @@
 //! Where a read may reach, and each status that a read can get.
 
 use super::compare_answers;
-use crate::{judged, judged_by, verdict_image};
+use conformance::{judged, judged_by, verdict_image};
 use std::alloc::Global;
 use std::process::Abort;
 use std::sync::Wait;

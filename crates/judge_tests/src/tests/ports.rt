@@ -1,6 +1,6 @@
 //! Nodes of several ports, and their counter maps.
 
-use crate::run;
+use conformance::run;
 use std::alloc::Global;
 use std::test::Fail;
 use trial::{PLAIN_READ, PLAIN_REPLY, PLAIN_WRITE};

@@ -10,7 +10,7 @@ mod tables;
 mod window;
 mod writes;
 
-use crate::judged;
+use conformance::judged;
 use std::alloc::Global;
 use std::process::Abort;
 use std::sync::Wait;

@@ -5,7 +5,7 @@
 //! program that says yes (`Y`), the one that denies (`N`), and one that reads a register that is unset (`U`).
 
 use super::tables::{answer_line, packet_line};
-use crate::run;
+use conformance::run;
 use std::alloc::Global;
 use std::process::Abort;
 use std::sync::Wait;

@@ -1,7 +1,7 @@
 //! Packet lines and what is printed of them.
 
 use super::compare_answers;
-use crate::judged;
+use conformance::judged;
 use std::test::Fail;
 use trial::{PLAIN_READ, PLAIN_REPLY};
 

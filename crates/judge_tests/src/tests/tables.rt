@@ -6,7 +6,7 @@
 //! their place. Some stand for themselves by a letter: `W`, the plain write; `V`, the same with another data
 //! CRC; `R`, the plain read; and as answers to it `D`, the bytes of the plain write, and `Z`, zeros.
 
-use crate::{judged, judged_by};
+use conformance::{judged, judged_by};
 use std::alloc::{AllocError, Global};
 use std::process::Abort;
 use std::sync::Wait;

@@ -1,6 +1,6 @@
 //! Programs that draw tickets and count, at one port and at several.
 
-use crate::run;
+use conformance::run;
 use std::alloc::Global;
 use std::sync::Wait;
 use std::test::Fail;
