@@ -1,27 +1,31 @@
 //! The words of instructions that no part of them names, and the beginnings of those words.
 
-/// Before the suffix of the width.
+/// A negation, before the suffix of its width.
 pub const NEGATION: &str = "neg";
 
-/// Before the suffix of the size.
+/// A load, before the suffix of its size.
 pub const LOAD: &str = "ldx";
 
-/// Of an immediate, before the suffix of the size.
+/// A store of an immediate, before the suffix of its size.
 pub const STORE: &str = "st";
 
-/// Of a register, before the suffix of the size.
+/// A store of a register, before the suffix of its size.
 pub const REGISTER_STORE: &str = "stx";
 
+/// A jump that is always taken, by the offset field.
 pub const GOTO: &str = "ja";
 
-/// Of a distance of 32 bits.
+/// A jump that is always taken, by the immediate.
 pub const LONG_GOTO: &str = "ja32";
 
-/// Of a constant of 64 bits.
+/// The load of a 64-bit constant.
 pub const WIDE_LOAD: &str = "lddw";
 
+/// The load of a map by its index.
 pub const MAP_LOAD: &str = "ldmap";
 
+/// The load of another address.
 pub const ADDRESS_LOAD: &str = "ldimm";
 
+/// The end of the program.
 pub const EXIT: &str = "exit";
