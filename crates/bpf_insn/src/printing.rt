@@ -5,9 +5,7 @@ ghost use Rattle.std.specs.String.{string_bytes};
 ghost use Rattle.bpf_insn.specs.Text.{bits_text, insn_text};
 
 use crate::insn::Insn;
-use bpf_parts::words::{
-    ADDRESS_LOAD, EXIT, GOTO, LOAD, LONG_GOTO, MAP_LOAD, NEGATION, WIDE_LOAD,
-};
+use bpf_parts::words::{ADDRESS_LOAD, EXIT, GOTO, LOAD, LONG_GOTO, MAP_LOAD, NEGATION, WIDE_LOAD};
 use bpf_parts::{Address, Comparison, Distance, Register};
 use std::alloc::{AllocError, Global};
 use std::fmt;
