@@ -5,7 +5,7 @@ use mathlib.Core.List.{IsPrefix}
 use Rattle.spw.specs.Cargo.{Cargo}
 use Rattle.rmap.specs.declared.places.Place.{Place}
 use Rattle.rmap.specs.Command.{command_of, command_kind}
-use Rattle.bver.specs.Justified.{AcceptedValue}
+use Rattle.bver.specs.Justified.{AcceptedValue, IsJustified}
 use Rattle.bank.specs.Records.{AdmittedValue, JudgedValue, ShareValue}
 use Rattle.publish.specs.declared.history.Publish.{Publish}
 use Rattle.publish.specs.Published.{published, program_at, generation_at}
@@ -26,8 +26,9 @@ both_shown (Some x) a n first second =
 pub judged_by_taken : (known seen taken : List Publish) (old new : BearingValue) (admitted : AdmittedValue) (j : JudgedValue) (program : AcceptedValue) (generation slot : ℕ)
     → seen ≡ taken → IsPrefix known taken → slot ≡ slot_of (command_kind (command_of admitted.packet)) admitted.place
     → program_at taken slot ≡ Some program → generation_at taken slot ≡ Some generation
+    → IsJustified program.program program.sizes
     → IsJudgedOnce program generation old new admitted j → IsJudgedByTaken known seen old new admitted j
-judged_by_taken known seen taken old new admitted j program generation slot same longer at shows tells once =
+judged_by_taken known seen taken old new admitted j program generation slot same longer at shows tells accepted once =
     let told : j.generation ≡ generation = ap (λ (x : JudgedValue). x.generation) once.judged.judged in
     let shown = subst (λ s. published taken s ≡ Some (program, generation)) at (both_shown (published taken slot) program generation shows tells) in
     record {
@@ -36,6 +37,7 @@ judged_by_taken known seen taken old new admitted j program generation slot same
         longer = subst (λ l. IsPrefix known l) (sym same) longer;
         shown = subst (λ l. published l (slot_of (command_kind (command_of admitted.packet)) admitted.place) ≡ Some (program, j.generation)) (sym same)
             (subst (λ n. published taken (slot_of (command_kind (command_of admitted.packet)) admitted.place) ≡ Some (program, n)) (sym told) shown);
+        accepted = accepted;
       };
       once = subst (λ n. IsJudgedOnce program n old new admitted j) (sym told) once;
     }

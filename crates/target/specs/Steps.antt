@@ -10,7 +10,7 @@ use Rattle.rmap.specs.Command.{CommandValue, command_of, command_kind, discard_o
 use Rattle.rmap.specs.Windows.{WindowsValue}
 use Rattle.rmap.specs.Checks.{header_line}
 use Rattle.rmap.specs.Reply.{reply_of}
-use Rattle.bver.specs.Justified.{AcceptedValue}
+use Rattle.bver.specs.Justified.{AcceptedValue, IsJustified}
 use Rattle.bank.specs.Admission.{IsPlacedBy}
 use Rattle.bank.specs.Records.{AdmittedValue, JudgedValue, judgement}
 use Rattle.brun.specs.Runs.{header, RunsWithin}
@@ -91,10 +91,11 @@ pub record IsJudgedFor (program : AcceptedValue) (generation port : ℕ) (w : Wi
   pub verdict : IsVerdict program port calls p j.verdict
 
 -- in a list of publishes that begins with what was known, the program of that generation is published in the
--- slot of the command's place
+-- slot of the command's place; it is justified, which is what the verifier accepts
 pub record IsTaken (known seen : List Publish) (c : CommandValue) (place : Place) (program : AcceptedValue) (generation : ℕ) : Type 0 where
   pub longer : IsPrefix known seen
   pub shown : published seen (slot_of (command_kind c) place) ≡ Some (program, generation)
+  pub accepted : IsJustified program.program program.sizes
 
 -- the admitted command was judged once, by the program that was taken in the slot of its place
 pub record IsJudgedByTaken (known seen : List Publish) (old new : BearingValue) (admitted : AdmittedValue) (j : JudgedValue) : Type 0 where

@@ -75,7 +75,12 @@ fn judge_taken<J: Room>(
 {
     let slot = slot(admitted.command().kind(), admitted.place());
     match reader.take(slot) {
-        Some(taken) => Ok(judge_by(bearing, taken.accepted(), taken.generation(), admitted)),
+        Some(taken) => {
+            let accepted = taken.accepted();
+            // What is published is justified: its image says so.
+            accepted.image();
+            Ok(judge_by(bearing, accepted, taken.generation(), admitted))
+        }
         None => Err(admitted),
     }
 }
