@@ -8,7 +8,7 @@ use Rattle.clap.specs.Values.{kind_of}
 use Rattle.clap.proofs.OnLiterals.{clap_on_literals}
 use Rattle.clap.specs.declared.error.kind.ErrorKind.TheVariants.{OutOfMemory}
 use Rattle.clap.specs.declared.error.Error.{Error}
-use Rattle.commands.specs.CommandLine.{rmapctl_app, found_in, NamesNone, LacksJob, TellsRefusal}
+use Rattle.commands.specs.CommandLine.{rmapctl_app, found_in, AreTaken, NamesNone, LacksJob, TellsRefusal}
 use Rattle.commands.specs.declared.usage.UsageFault.{UsageFault}
 use Rattle.commands.specs.declared.usage.UsageFault.TheVariants.{Parse, BadOption, Memory}
 
@@ -20,11 +20,11 @@ pub is_free-rmapctl_app : is_simple_and_free rmapctl_app ≡ true
 unfolding clap_on_literals rmapctl_app
 is_free-rmapctl_app = refl
 
--- a fault of the matches is one of the words
-pub lacks_job : (words : List Text) (fault : UsageFault) → LacksJob (found_in words) fault → NamesNone words fault
-lacks_job words (Parse text) h = absurd h
-lacks_job words BadOption h = h
-lacks_job words Memory h = h
+-- a fault of the matches of words that clap takes is one of the words
+pub lacks_job : (words : List Text) (fault : UsageFault) → AreTaken words → LacksJob (found_in words) fault → NamesNone words fault
+lacks_job words (Parse text) taken h = absurd h
+lacks_job words BadOption taken h = (taken, h)
+lacks_job words Memory taken h = h
 
 -- a list of kinds that an error other than want of memory has is not empty
 has_kind : (kinds : Kinds) (e : Error) → (kind_of e ≡ OutOfMemory → ⊥) → HasKind kinds e → kinds ≡ [] → ⊥

@@ -1,6 +1,7 @@
 -- What the job `asm` reads, writes and prints.
 use Rattle.std.specs.Prelude.{◌≡◌, ℕ, List, Option, Some, Bool, true, false}
 use Rattle.std.specs.Io.KnownBytes.{Appends}
+use Rattle.std.specs.Str.{IsUtf8}
 use Rattle.bpf.specs.Program.{Program, image_bytes}
 use Rattle.basm.specs.Outcomes.{out_of_memory}
 use Rattle.basm.specs.Relation.{IsText}
@@ -11,16 +12,18 @@ use Rattle.commands.specs.declared.faults.Fault.{Fault}
 use Rattle.commands.specs.declared.faults.Fault.TheVariants.{CannotRead, CannotWrite, NoMemory, BadText, BadImage, Unfit, BadLine}
 
 module _ {S : Type 0} (reads : Reads S) where
-  -- the file was read, and gave a text of the program
+  -- the file was read, and gave UTF-8 that is a text of the program
   pub record HoldsText (before : S) (name : List ℕ) (p : Program) (after : S) : Type 0 where
     pub bytes : List ℕ
     pub read : reads before name (Some bytes) after
+    pub utf8 : IsUtf8 bytes
     pub text : IsText bytes p
 
-  -- the file was read, and gave a text of no program, unless memory was refused
+  -- the file was read, and gave UTF-8 that is a text of no program, unless memory was refused
   pub record HoldsBadText (before : S) (name : List ℕ) (after : S) (fault : AsmFault) : Type 0 where
     pub bytes : List ℕ
     pub read : reads before name (Some bytes) after
+    pub utf8 : IsUtf8 bytes
     pub bad : (p : Program) → IsText bytes p → fault ≡ out_of_memory
 
   -- the file gives no text of a program

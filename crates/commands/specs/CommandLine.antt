@@ -64,8 +64,16 @@ LacksJob found Memory = Unit {0}
 LacksJob found BadOption = IsIncomplete found
 LacksJob found (Parse text) = ⊥
 
--- the words name no job: clap refuses them, or what it finds is incomplete, or memory was refused
+-- clap takes the words: its definition finds no fault in them
+abbrev pub AreTaken : List Text → Type 0
+AreTaken words = fault_of rmapctl_app words ≡ []
+
+-- the words name the job: clap takes them, and the subcommand that it finds names it
+abbrev pub NamesJob : List Text → Job → Type 0
+NamesJob words job = AreTaken words × Names (found_in words) job
+
+-- the words name no job: clap refuses them, or takes them and what it finds is incomplete, or memory was refused
 abbrev pub NamesNone : List Text → UsageFault → Type 0
 NamesNone words Memory = Unit {0}
-NamesNone words BadOption = IsIncomplete (found_in words)
-NamesNone words (Parse text) = fault_of rmapctl_app words ≢ []
+NamesNone words BadOption = AreTaken words × IsIncomplete (found_in words)
+NamesNone words (Parse text) = ¬ AreTaken words

@@ -1,8 +1,9 @@
 -- What the job `judge` reads and prints.
 use Rattle.std.specs.Prelude.{◌≡◌, ◌⊎◌, ℕ, List, Option, Some, None}
 use Rattle.std.specs.Borrow.{Bor}
+use Rattle.std.specs.Str.{IsUtf8}
 use Rattle.bpf.specs.Program.{Program}
-use Rattle.bver.specs.Justified.{AcceptedValue}
+use Rattle.bver.specs.Justified.{AcceptedValue, IsJustified}
 use Rattle.machine.specs.Runs.{IsSafe}
 use Rattle.machine.specs.Sizes.{Maps}
 use Rattle.commands.specs.Factory.{factory, IsNoFactory}
@@ -31,17 +32,19 @@ module _ {S : Type 0} (reads : Reads S) where
     pub is_fault : fault ≡ CannotRead file
     pub no_text : HoldsNoText reads before lines after
 
-  -- the lines were read, but there is no program
+  -- the lines were read, and are UTF-8, but there is no program
   pub record ProgramUnread (before : S) (lines : List ℕ) (image : Option (List ℕ)) (after : S) (fault : Fault) : Type 0 where
     pub text : List ℕ
     pub between : S
     pub read : reads before lines (Some text) between
+    pub utf8 : IsUtf8 text
     pub no_program : HoldsNoProgram between image after fault
 
-  -- lines and program were read, in this order
+  -- lines, which are UTF-8, and program were read, in this order
   pub record AreRead (before : S) (lines : List ℕ) (image : Option (List ℕ)) (text : List ℕ) (p : Program) (after : S) : Type 0 where
     pub between : S
     pub read : reads before lines (Some text) between
+    pub utf8 : IsUtf8 text
     pub program : HoldsProgram between image p after
 
   -- lines or program cannot be read, or memory was refused for the node
@@ -53,11 +56,12 @@ module _ {S : Type 0} (reads : Reads S) where
 
 module _ {S : Type 0} (reads : Reads S) (sizes : Maps) (ports : ℕ) where
   -- the text is that of the file of lines, and the node is a fresh one with so many ports, whose
-  -- commands the program judges, which is safe on it
+  -- commands the program judges, which is justified on it, and so safe
   pub record IsReady (before : S) (lines : List ℕ) (image : Option (List ℕ)) (text : List ℕ) (node : JobNodeValue) (after : S) : Type 0 where
     pub program : AcceptedValue
     pub read : AreRead reads before lines image text program.program after
     pub sizes_of : program.sizes ≡ sizes
+    pub justified : IsJustified program.program sizes
     pub safe : IsSafe program.program sizes
     pub fresh : IsFresh ports program node
 
@@ -69,7 +73,8 @@ module _ {S : Type 0} (reads : Reads S) (sizes : Maps) (ports : ℕ) where
     pub ready : IsReady before lines image text fresh after
     pub all : JudgesAll (lines_of text) fresh left old new
 
-  -- each line up to a bad one was judged in turn on that node, or memory was refused
+  -- each line up to a bad one, or to one of which memory was refused to what is printed, was judged in turn on
+  -- that node
   pub record StopsAtLine (before : S) (lines : List ℕ) (image : Option (List ℕ)) (after : S) (old new : Option (List ℕ)) (fault : Fault) : Type 0 where
     pub text : List ℕ
     pub fresh : JobNodeValue

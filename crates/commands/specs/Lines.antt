@@ -41,6 +41,14 @@ pub record Judges (line : List ℕ) (before after : JobNodeValue) (old new : Opt
   pub step : Serves served port packet before after
   pub printed : Appends old new (served_line port served after.reply)
 
+-- the line writes a packet of a port of the node, which served it
+pub record ServesLine (line : List ℕ) (before after : JobNodeValue) : Type 0 where
+  pub port : ℕ
+  pub packet : Cargo
+  pub served : Served
+  pub written : IsPacketLine line port packet
+  pub step : Serves served port packet before after
+
 -- the lines were judged in turn, each on the node that the earlier ones left
 abbrev pub JudgesAll : List (List ℕ) → (before after : JobNodeValue) → (old new : Option (List ℕ)) → Type 0
 JudgesAll [] before after old new = (after ≡ before) × (new ≡ old)
@@ -60,11 +68,12 @@ IsBad line node code =
     ((fault : LineFault) × (code ≡ code_of fault) × ((fault ≡ line_faults.Memory) ⊎ HasFault line fault))
     ⊎ ((code ≡ 6) × HasNoPort line node)
 
--- the line of this number is bad, and nothing came of it; or memory was refused
+-- the line of this number is bad, and nothing came of it; or its packet was served, and memory was refused to
+-- what is printed of it, so that nothing was
 abbrev pub IsBadPacket : List ℕ → ℕ → (before after : JobNodeValue) → (old new : Option (List ℕ)) → Fault → Type 0
 IsBadPacket line count before after old new (CannotRead file) = ⊥
 IsBadPacket line count before after old new (CannotWrite file) = ⊥
-IsBadPacket line count before after old new NoMemory = Unit {0}
+IsBadPacket line count before after old new NoMemory = ServesLine line before after × (new ≡ old)
 IsBadPacket line count before after old new (BadText fault) = ⊥
 IsBadPacket line count before after old new (BadImage fault) = ⊥
 IsBadPacket line count before after old new (Unfit refused) = ⊥
@@ -82,11 +91,21 @@ pub record StopsAt (lines : List (List ℕ)) (before after : JobNodeValue) (old 
   pub all : JudgesAll judged before after old new
   pub bad : IsBad line after code
 
--- a line is bad, or memory was refused
+-- the lines up to one were judged in turn, and that one's packet was served, but nothing was printed of it
+pub record StopsUntold (lines : List (List ℕ)) (before after : JobNodeValue) (old new : Option (List ℕ)) : Type 0 where
+  pub judged : List (List ℕ)
+  pub line : List ℕ
+  pub rest : List (List ℕ)
+  pub between : JobNodeValue
+  pub lines_are : lines ≡ judged ++ line ∷ rest
+  pub all : JudgesAll judged before between old new
+  pub serves : ServesLine line between after
+
+-- a line is bad, or memory was refused to what is printed of one
 abbrev pub IsBadLine : List (List ℕ) → (before after : JobNodeValue) → (old new : Option (List ℕ)) → Fault → Type 0
 IsBadLine lines before after old new (CannotRead file) = ⊥
 IsBadLine lines before after old new (CannotWrite file) = ⊥
-IsBadLine lines before after old new NoMemory = Unit {0}
+IsBadLine lines before after old new NoMemory = StopsUntold lines before after old new
 IsBadLine lines before after old new (BadText fault) = ⊥
 IsBadLine lines before after old new (BadImage fault) = ⊥
 IsBadLine lines before after old new (Unfit refused) = ⊥

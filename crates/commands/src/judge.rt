@@ -5,6 +5,7 @@ ghost use Rattle.clap.specs.Simple.{app_of};
 ghost use Rattle.clap.specs.declared.builder.command.Command.TheViews.{out-Command as fields_of};
 ghost use Rattle.clap.specs.Walk.{rows_of};
 ghost use Rattle.clap.specs.Matches.{found_of};
+ghost use Rattle.bver.specs.Justified.{IsJustified};
 ghost use Rattle.machine.specs.Runs.{IsSafe};
 ghost use Rattle.commands.specs.Arguments.{name_in};
 ghost use Rattle.commands.specs.Factory.{IsNoFactory, factory, factory_insns};
@@ -20,13 +21,13 @@ use crate::faults::Fault;
 use crate::jobs::Job;
 use crate::node::JobNode;
 use crate::options::{ports_of, sizes_of};
-use crate::programs::{program_in, text_in};
+use crate::programs::{accepted, program_in, text_in};
 use crate::stops::Stop;
 use crate::storage::Files;
 use crate::usage::UsageFault;
 use bpf::Image;
 use bpf_insn::{AluOp, Insn, Operand, Register, Width};
-use bver::{Accepted, MapSizes, verify};
+use bver::{Accepted, MapSizes};
 use clap::{ArgMatches, Command};
 use publish::{Opened, Room};
 use rmap::Discard;
@@ -98,11 +99,12 @@ fn factory_insns() -> [Insn; 2]
 fn factory_program<'a>(alloc: Global, sizes: MapSizes) -> Result<Accepted, Fault<'a>>
     ensures program { IfOk result (λ program. program.program ≡ factory) }
     ensures sizes { IfOk result (λ program. program.sizes ≡ sizes) }
+    ensures justified { IfOk result (λ program. IsJustified program.program sizes) }
     ensures safe { IfOk result (λ program. IsSafe program.program sizes) }
     ensures refused { IfErr result IsNoFactory }
 {
     let image = Image::new(alloc, &factory_insns(), &[], FACTORY_BUDGET)?;
-    Ok(verify(alloc, image, &sizes)?)
+    Ok(accepted(alloc, image, sizes)?)
 }
 
 /// The program of the image file of this name, or the factory program where there is no name.
@@ -115,6 +117,7 @@ fn judging_program<'a, F: Files>(
     ensures program { IfOk result (λ program.
         HoldsProgram F.reads files.old (name_in image.entry) program.program files.new) }
     ensures sizes { IfOk result (λ program. program.sizes ≡ sizes) }
+    ensures justified { IfOk result (λ program. IsJustified program.program sizes) }
     ensures safe { IfOk result (λ program. IsSafe program.program sizes) }
     ensures refused { IfErr result
         (HoldsNoProgram F.reads files.old (name_in image.entry) files.new) }
@@ -142,6 +145,7 @@ fn print_reply<'a, W: Write>(
 ) -> Result<(), Stop<'a>>
     ensures printed { OnOk result (Prints W.contents out.old out.new (reply_line port reply.now)) }
     ensures stops { IfErr result (StopsBy (λ fault. fault ≡ NoMemory)) }
+    ensures quiet { IfErr result (StopsBy (λ _. W.contents out.new ≡ W.contents out.old)) }
 {
     if reply.is_empty() {
         writeln!(out, "{port} -")?;
@@ -163,6 +167,7 @@ fn print_served<'a, W: Write>(
     ensures printed { OnOk result
         (Prints W.contents out.old out.new (served_line port served reply.now)) }
     ensures stops { IfErr result (StopsBy (λ fault. fault ≡ NoMemory)) }
+    ensures quiet { IfErr result (StopsBy (λ _. W.contents out.new ≡ W.contents out.old)) }
 {
     match served {
         Served::Stopped(Header::Discarded(discard)) => Ok(print_discard(out, port, discard)?),

@@ -1,6 +1,8 @@
 //! The texts, images and programs of files.
 
 ghost use Rattle.std.specs.Prelude.{◌≡◌, IfErr, IfOk, MatchResult, None, Some, string_bytes};
+ghost use Rattle.std.specs.Str.{IsUtf8};
+ghost use Rattle.bver.specs.Justified.{IsJustified};
 ghost use Rattle.machine.specs.Runs.{IsSafe};
 ghost use Rattle.commands.specs.Files.{HoldsImage, HoldsNoText};
 ghost use Rattle.commands.specs.Reading.{IsNoImage, IsNoProgram};
@@ -9,7 +11,7 @@ ghost use Rattle.commands.specs.declared.faults.Fault.TheVariants.{CannotRead};
 use crate::faults::Fault;
 use crate::storage::Files;
 use bpf::Image;
-use bver::{Accepted, MapSizes, verify};
+use bver::{Accepted, MapSizes, Refused, verify};
 use std::alloc::Global;
 
 /// The bytes of the file of this name.
@@ -31,6 +33,7 @@ pub fn text_in<'a, F: Files>(
     ensures gave { MatchResult result
         (λ text. F.reads files.old name.now (Some (string_bytes text)) files.new)
         (λ _. HoldsNoText F.reads files.old name.now files.new) }
+    ensures utf8 { IfOk result (λ text. IsUtf8 (string_bytes text)) }
     ensures refused { IfErr result (λ fault. fault ≡ CannotRead name.entry) }
 {
     let bytes = bytes_in(alloc, files, name)?;
@@ -53,6 +56,18 @@ pub fn image_in<'a, F: Files>(
     Ok(Image::read(alloc, bytes.as_slice())?)
 }
 
+/// The program of an image, for a node with counter maps of these sizes.
+pub fn accepted(alloc: Global, image: Image, sizes: MapSizes) -> Result<Accepted, Refused>
+    ensures program { IfOk result (λ program. program.program ≡ image) }
+    ensures sizes { IfOk result (λ program. program.sizes ≡ sizes) }
+    ensures justified { IfOk result (λ program. IsJustified program.program sizes) }
+    ensures safe { IfOk result (λ program. IsSafe program.program sizes) }
+{
+    let program = verify(alloc, image, &sizes)?;
+    let _image = program.image();
+    Ok(program)
+}
+
 /// The program of the image file of this name, for a node with counter maps of these sizes.
 pub fn program_in<'a, F: Files>(
     alloc: Global,
@@ -63,9 +78,10 @@ pub fn program_in<'a, F: Files>(
     ensures program { IfOk result (λ program.
         HoldsImage F.reads files.old name.now program.program files.new) }
     ensures sizes { IfOk result (λ program. program.sizes ≡ sizes) }
+    ensures justified { IfOk result (λ program. IsJustified program.program sizes) }
     ensures safe { IfOk result (λ program. IsSafe program.program sizes) }
     ensures refused { IfErr result (IsNoProgram F.reads files.old name.now files.new) }
 {
     let image = image_in(alloc, files, name)?;
-    Ok(verify(alloc, image, &sizes)?)
+    Ok(accepted(alloc, image, sizes)?)
 }

@@ -4,7 +4,7 @@ ghost use Rattle.std.specs.Prelude.{◌≡◌, IfOk, IfErr};
 ghost use Rattle.clap.specs.Simple.{app_of, subcommand_rows_of};
 ghost use Rattle.clap.specs.Values.{kind_of};
 ghost use Rattle.clap.specs.Walk.{texts};
-ghost use Rattle.commands.specs.CommandLine.{rmapctl_app, found_in, Names, NamesNone, LacksJob, TellsRefusal};
+ghost use Rattle.commands.specs.CommandLine.{rmapctl_app, Names, NamesJob, NamesNone, LacksJob, TellsRefusal};
 ghost use Rattle.commands.specs.Statuses.{usage_status};
 ghost use Rattle.commands.specs.declared.usage.UsageFault.TheVariants.{Memory};
 
@@ -118,7 +118,7 @@ fn job_of(alloc: Global, found: &ArgMatches) -> Result<Job, UsageFault>
 /// Words that name none are `Parse` with the text of `clap` for the user (so are `--help` and
 /// `-h`), `Memory` where memory was refused.
 pub fn words(alloc: Global, words: &[&str]) -> Result<Job, UsageFault>
-    ensures ok { IfOk result (Names (found_in (texts words.now))) }
+    ensures ok { IfOk result (NamesJob (texts words.now)) }
     ensures err { IfErr result (NamesNone (texts words.now)) }
 {
     let command = command_line(alloc)?;

@@ -11,6 +11,7 @@ returns-in_err-assemble-clause-refused g c =
     record {
       bytes = _;
       read = c.in_ok-text.ensures.gave;
+      utf8 = c.in_ok-text.ensures.utf8;
       bad = λ p text. c.in_err-assemble.ensures.exact p (subst (λ (bytes : List ℕ). IsText bytes p) (sym c.as_str.ensures.value) text);
     } in
     rw (gone.1, gone.2) bad

@@ -1,10 +1,10 @@
-use Rattle.std.proofs.Common.{◌≡◌, ◌∙◌, ap, subst, IfOk, IfErr}
-use Rattle.std.proofs.lemmas.Result.{IfErr-weaker}
+use Rattle.std.proofs.Common.{◌≡◌, ◌∙◌, [], ap, subst, IfOk, IfErr}
+use Rattle.std.proofs.lemmas.Result.{IfErr-weaker, IfOk-weaker}
 use Rattle.clap.specs.Walk.{texts}
 use Rattle.clap.specs.Simple.{is_simple, subcommand_of, subcommand_rows_of}
 use Rattle.clap.specs.Faults.{fault_of, is_simple_and_free}
 use Rattle.clap.specs.Kinds.{HasKind}
-use Rattle.commands.specs.CommandLine.{found_in, Names, LacksJob}
+use Rattle.commands.specs.CommandLine.{found_in, AreTaken, Names, LacksJob}
 use Rattle.commands.proofs.Matching.{is_simple-rmapctl_app, is_free-rmapctl_app, lacks_job, refused_words}
 use Rattle.commands.proofs.usage.words.Goals as goal
 
@@ -14,7 +14,9 @@ returns-in-Ok-clause-ok c =
     let app = c.in_ok-command.ensures in
     let found : subcommand_rows_of c.in-Ok.found ≡ found_in words =
     (c.in-Ok.ensures.matches (ap is_simple app ∙ is_simple-rmapctl_app)).1 ∙ ap (λ a. subcommand_of a words) app in
-    subst (λ f. IfOk c.job_of.result (Names f)) found c.job_of.ensures.ok
+    let kinds = c.in-Ok.ensures.kinds (ap is_simple_and_free app ∙ is_free-rmapctl_app) in
+    let taken : AreTaken words = subst (λ a. fault_of a words ≡ []) app kinds in
+    IfOk-weaker c.job_of.result _ _ (λ job h. (taken, h)) (subst (λ f. IfOk c.job_of.result (Names f)) found c.job_of.ensures.ok)
 
 pub returns-in-Ok-clause-err : goal.returns-in-Ok-clause-err
 returns-in-Ok-clause-err c =
@@ -22,7 +24,9 @@ returns-in-Ok-clause-err c =
     let app = c.in_ok-command.ensures in
     let found : subcommand_rows_of c.in-Ok.found ≡ found_in words =
     (c.in-Ok.ensures.matches (ap is_simple app ∙ is_simple-rmapctl_app)).1 ∙ ap (λ a. subcommand_of a words) app in
-    IfErr-weaker c.job_of.result _ _ (λ fault h. lacks_job words fault h)
+    let kinds = c.in-Ok.ensures.kinds (ap is_simple_and_free app ∙ is_free-rmapctl_app) in
+    let taken : AreTaken words = subst (λ a. fault_of a words ≡ []) app kinds in
+    IfErr-weaker c.job_of.result _ _ (λ fault h. lacks_job words fault taken h)
     (subst (λ f. IfErr c.job_of.result (LacksJob f)) found c.job_of.ensures.err)
 
 pub returns-in-Err-clause-err : goal.returns-in-Err-clause-err

@@ -15,6 +15,7 @@ returns-clause-done g c =
     record {
       program = program;
       image = search rules;
+      justified = search rules;
       safe = search rules;
       line = subst (λ (w : ℕ). Appends old new (accepted_line w program.budget)) weight (subst (λ (b : ℕ). Appends old new (accepted_line c.weight.result b)) budget printed);
     }
