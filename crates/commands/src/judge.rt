@@ -21,13 +21,13 @@ use crate::faults::Fault;
 use crate::jobs::Job;
 use crate::node::JobNode;
 use crate::options::{ports_of, sizes_of};
-use crate::programs::{accepted, program_in, text_in};
+use crate::programs::{program_in, text_in};
 use crate::stops::Stop;
 use crate::storage::Files;
 use crate::usage::UsageFault;
 use bpf::Image;
 use bpf_insn::{AluOp, Insn, Operand, Register, Width};
-use bver::{Accepted, MapSizes};
+use bver::{Accepted, MapSizes, verify};
 use clap::{ArgMatches, Command};
 use publish::{Opened, Room};
 use rmap::Discard;
@@ -104,7 +104,7 @@ fn factory_program<'a>(alloc: Global, sizes: MapSizes) -> Result<Accepted, Fault
     ensures refused { IfErr result IsNoFactory }
 {
     let image = Image::new(alloc, &factory_insns(), &[], FACTORY_BUDGET)?;
-    Ok(accepted(alloc, image, sizes)?)
+    Ok(verify(alloc, image, &sizes)?)
 }
 
 /// The program of the image file of this name, or the factory program where there is no name.

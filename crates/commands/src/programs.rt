@@ -11,7 +11,7 @@ ghost use Rattle.commands.specs.declared.faults.Fault.TheVariants.{CannotRead};
 use crate::faults::Fault;
 use crate::storage::Files;
 use bpf::Image;
-use bver::{Accepted, MapSizes, Refused, verify};
+use bver::{Accepted, MapSizes, verify};
 use std::alloc::Global;
 
 /// The bytes of the file of this name.
@@ -56,18 +56,6 @@ pub fn image_in<'a, F: Files>(
     Ok(Image::read(alloc, bytes.as_slice())?)
 }
 
-/// The program of an image, for a node with counter maps of these sizes.
-pub fn accepted(alloc: Global, image: Image, sizes: MapSizes) -> Result<Accepted, Refused>
-    ensures program { IfOk result (λ program. program.program ≡ image) }
-    ensures sizes { IfOk result (λ program. program.sizes ≡ sizes) }
-    ensures justified { IfOk result (λ program. IsJustified program.program sizes) }
-    ensures safe { IfOk result (λ program. IsSafe program.program sizes) }
-{
-    let program = verify(alloc, image, &sizes)?;
-    let _image = program.image();
-    Ok(program)
-}
-
 /// The program of the image file of this name, for a node with counter maps of these sizes.
 pub fn program_in<'a, F: Files>(
     alloc: Global,
@@ -83,5 +71,5 @@ pub fn program_in<'a, F: Files>(
     ensures refused { IfErr result (IsNoProgram F.reads files.old name.now files.new) }
 {
     let image = image_in(alloc, files, name)?;
-    Ok(accepted(alloc, image, sizes)?)
+    Ok(verify(alloc, image, &sizes)?)
 }

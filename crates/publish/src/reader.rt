@@ -5,6 +5,7 @@ ghost use Rattle.std.specs.Arc.{arc_value};
 ghost use Rattle.std.specs.Borrow.{sem, RestsIfNone};
 ghost use mathlib.Core.List.{IsPrefix};
 ghost use Rattle.left_right.specs.Sides.{view};
+ghost use Rattle.bver.specs.Justified.{IsJustified};
 ghost use Rattle.publish.specs.Published.{published, program_at, generation_at, sizes_of};
 ghost use Rattle.publish.specs.Reached.{IsInside, known, reached};
 ghost use Rattle.publish.specs.Tables.{shown};
@@ -190,8 +191,11 @@ impl<J: Room> Taken<'_, J> {
         requires { IsInside self.now.reader.now }
         ensures program { program_at self.now.reader.now.programs self.now.slot ≡ Some result.now }
         ensures sizes { result.now.sizes ≡ sizes_of self.now.reader.now.programs }
+        ensures justified { IsJustified result.now.program result.now.sizes }
     {
-        &self.reader.shown(self.slot).program
+        let accepted: &Accepted = &self.reader.shown(self.slot).program;
+        let _image = accepted.image();
+        accepted
     }
 
     /// The generation of the program.

@@ -91,7 +91,7 @@ pub record IsJudgedFor (program : AcceptedValue) (generation port : ℕ) (w : Wi
   pub verdict : IsVerdict program port calls p j.verdict
 
 -- in a list of publishes that begins with what was known, the program of that generation is published in the
--- slot of the command's place; it is justified, which is what the verifier accepts
+-- slot of the command's place, and it is justified
 pub record IsTaken (known seen : List Publish) (c : CommandValue) (place : Place) (program : AcceptedValue) (generation : ℕ) : Type 0 where
   pub longer : IsPrefix known seen
   pub shown : published seen (slot_of (command_kind c) place) ≡ Some (program, generation)

@@ -56,9 +56,7 @@ fn program_of(alloc: Global, bytes: &[u8], sizes: &MapSizes) -> Result<Accepted,
     ensures refused { IfErr result (λ refusal. IsUnpreparedBy None bytes.now refusal) }
 {
     let image = image_of(alloc, bytes)?;
-    let accepted = verify(alloc, image, sizes)?;
-    let _image = accepted.image();
-    Ok(accepted)
+    Ok(verify(alloc, image, sizes)?)
 }
 
 /// Reads and verifies the program that control data ask to publish: everything of a load that comes before

@@ -77,8 +77,6 @@ fn judge_taken<J: Room>(
     match reader.take(slot) {
         Some(taken) => {
             let accepted = taken.accepted();
-            // What is published is justified: its image says so.
-            accepted.image();
             Ok(judge_by(bearing, accepted, taken.generation(), admitted))
         }
         None => Err(admitted),
