@@ -128,7 +128,7 @@ fn add(width: Width, a: &AbsKind, b: &AbsKind) -> Result<AbsKind, Cause>
     }
 }
 
-/// SUB: likewise.
+/// SUB: the difference of two numbers, or in 64 bits a pointer less a number.
 fn subtract(width: Width, a: &AbsKind, b: &AbsKind) -> Result<AbsKind, Cause>
     ensures { result ≡ difference_kind width a.now b.now }
 {
@@ -153,21 +153,21 @@ pub(crate) fn alu(op: AluOp, width: Width, a: &AbsKind, b: &AbsKind) -> Result<A
     }
 }
 
-/// NEG.
+/// NEG: a number with the other sign.
 pub(crate) fn negate(width: Width, a: &AbsKind) -> Result<AbsKind, Cause>
     ensures { result ≡ computed_alone (negated_range width) (number_of a.now) }
 {
     Ok(AbsKind::Num(absdom_num::negate(width, a.number()?)))
 }
 
-/// MOVSX.
+/// MOVSX: the low bits of a number, sign-extended.
 pub(crate) fn move_signed(extension: Extension, source: &AbsKind) -> Result<AbsKind, Cause>
     ensures { result ≡ computed_alone (extended_range extension) (number_of source.now) }
 {
     Ok(AbsKind::Num(absdom_num::move_signed(extension, source.number()?)))
 }
 
-/// END.
+/// END: the low bits of a number, with their bytes in that order.
 pub(crate) fn byte_swap(swap: Swap, bits: SwapBits, a: &AbsKind) -> Result<AbsKind, Cause>
     ensures { result ≡ computed_alone (swapped_range swap bits) (number_of a.now) }
 {

@@ -48,8 +48,8 @@ impl State {
         }
     }
 
-    /// A law and no work: each state is of eleven registers, whose ranges and offsets stand in order, and of 512
-    /// bytes. So the laws by which larger states give more hold of every two states.
+    /// A law and no work: each state has eleven registers, whose ranges and offsets have their ends in order, and
+    /// 512 marks. Any two states can be compared, so the laws on larger states hold of them.
     pub fn stands_whole(&self)
         ensures { IsWhole self.now }
     {

@@ -9,7 +9,7 @@ ghost use Rattle.bank.specs.Effect.{memory_at};
 ghost use Rattle.bank.specs.Limits.{is_bank_size, is_range, is_bank};
 ghost use Rattle.bank.specs.Records.{first_share, fresh_bank, byte_in, fits, is_next, has_room, IsBank, IsExecutable, memory_of, memory_from, reply_from, base_of, replay, answer_of, after_command, after_rotation, number_left, next_share};
 
-use crate::answering::carry_out;
+use crate::answer::carry_out;
 use crate::entry::Entry;
 use crate::faults::BankFault;
 use crate::journal::{Journal, is_room};
@@ -152,7 +152,8 @@ impl Bank {
         self.counts.len() as u8
     }
 
-    /// How many commands of the port were recorded: the number of its next one.
+    /// How many commands of the port were recorded: the number of its next one. The condition is a port of the
+    /// bank ([`Bank::ports`]).
     pub fn count(&self, port: u8) -> u64
         requires { port < length self.now.counts }
         ensures { result ≡ slice_index self.now.counts port }
@@ -188,7 +189,8 @@ impl Bank {
     }
 
     /// Executes a judged command, if its verdict is yes, its body is right and there is room, and
-    /// leaves the reply. While there is room each command leaves an entry, whatever its status.
+    /// leaves the reply. While there is room each command leaves an entry, whatever its status. The condition is
+    /// [`Bank::fits`].
     pub fn apply(&mut self, share: &mut Share, judged: Judged, reply: &mut ReplyBuf) -> Applied
         requires { fits self.old share.old judged ≡ true }
 

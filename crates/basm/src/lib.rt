@@ -6,16 +6,16 @@
 
 mod assembly;
 mod directives;
+mod disassembly;
 mod draft;
 mod faults;
 mod instructions;
 mod laws;
 mod names;
-mod printing;
 mod survey;
 mod targets;
 
 pub use assembly::assemble;
+pub use disassembly::disassemble;
 pub use faults::{AsmCode, AsmFault};
 pub use laws::printed_again;
-pub use printing::disassemble;

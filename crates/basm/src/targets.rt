@@ -29,7 +29,7 @@ pub fn read_target(word: &str, names: &Names, slot: u32) -> Result<i64, AsmCode>
     }
 }
 
-/// The same in a field of 16 bits.
+/// The target of a jump, as a distance that a field of 16 bits holds.
 pub fn read_short_target(word: &str, names: &Names, slot: u32) -> Result<i16, AsmCode>
     ensures writes { IfOk result
         (λ slots. WritesTarget (slot_named names.now) slot word.now slots × FitsSigned w16 slots) }

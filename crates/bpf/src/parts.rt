@@ -21,7 +21,7 @@ use std::alloc::{AllocError, Global};
 pub fn header_of(insns: &[Insn], loops: &[Loop], budget: u32) -> Result<Header, ImageFault>
     ensures { result ≡ header_of insns.now loops.now budget }
 {
-    // More instructions have more slots.
+    // Each instruction takes a slot at least, so that the sum of so many fits.
     if insns.len() > usize::from(MAX_SLOTS) {
         return Err(ImageFault::Count);
     }

@@ -21,7 +21,7 @@ pub fn weight(loops: &[Loop], slots: &[Option<Insn>]) -> u64
     weight
 }
 
-/// That product for an instruction at the slot, and nothing for a second slot.
+/// How often an instruction at the slot is run at most, by the loops round it; nothing for a second slot.
 fn part(loops: &[Loop], slot: u16, insn: &Option<Insn>) -> u64
     ensures { result ≡ saturated (part_of loops.now slot insn.now) }
 {

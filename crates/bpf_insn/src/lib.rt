@@ -5,21 +5,21 @@
 //! `bpf_parts`.
 #![tactic(auto)]
 
-mod decoding;
-mod encoding;
+mod decode;
+mod encode;
 mod fields;
 mod flow;
 mod insn;
 mod laws;
-mod printing;
+mod text;
 
 pub use bpf_parts::{
     Address, AluOp, Callee, Comparison, Condition, Distance, Extension, FRAME_POINTER, LoadSize,
     Operand, Place, REGISTERS, Register, Size, Swap, SwapBits, Width,
 };
-pub use decoding::{BadInsn, decode};
-pub use encoding::encode;
+pub use decode::{BadInsn, decode};
+pub use encode::encode;
 pub use flow::Flow;
 pub use insn::Insn;
 pub use laws::spelling_laws;
-pub use printing::text;
+pub use text::text;

@@ -12,7 +12,7 @@ use Rattle.machine.specs.Step.{insn_at}
 use Rattle.absdom.specs.State.{StateValue, IsEntry, IsWhole}
 use Rattle.absdom.specs.Laws.{BelowIsTransitive}
 use Rattle.bver_form.specs.Form.{IsFormed}
-use Rattle.bver_form.specs.Jumps.{first_slot, slot_at}
+use Rattle.bver_form.specs.Jumps.{first_slot}
 use Rattle.bver.specs.Heads.{AreHeadsAt, IsDeclared}
 use Rattle.bver.specs.Justified.{IsCovered, IsCoveredIfAny, IsEntered, IsHead, IsPermittedAt, IsJudged, accessed_at}
 use Rattle.bver.specs.Visit.{AreWhole, IsGrown, IsPlaced, IsExtended, AreEntered, AreHeadsBefore, AreVisited, ArePermitted}
@@ -46,9 +46,9 @@ changed_at from slot old new above program grown others whole = record {
 
 -- where a jump lands an instruction begins
 pub lands_first : (p : Program) (z : ℤ) (slot : ℕ) → first_slot p z ≡ Some slot → IsSome (insn_at p slot)
-lands_first p (pos k) slot is = by_begin (is_some (slot_at p k)) refl is
+lands_first p (pos k) slot is = by_begin (is_some (insn_at p k)) refl is
   where
-    by_begin : (b : Bool) → is_some (slot_at p k) ≡ b → (if b then Some k else None) ≡ Some slot → IsSome (insn_at p slot)
+    by_begin : (b : Bool) → is_some (insn_at p k) ≡ b → (if b then Some k else None) ≡ Some slot → IsSome (insn_at p slot)
     by_begin true begins same = let here : k ≡ slot = cc in subst (λ (i : ℕ). IsSome (insn_at p i)) here begins
     by_begin false begins same = absurd cc
 lands_first p (negsuc n) slot is = absurd cc

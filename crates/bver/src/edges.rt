@@ -180,7 +180,7 @@ fn branch(
     Ok(runs)
 }
 
-/// A comparison. Tells whether the state is the running one at the next instruction.
+/// Follows both edges of a comparison. Tells whether the state is the running one at the next instruction.
 fn compare(
     visit: &Visit,
     table: &mut Table<'_>,

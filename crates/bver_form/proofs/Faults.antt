@@ -15,7 +15,7 @@ use Rattle.bver_form.specs.declared.refusal.Refusal.{Refusal}
 use Rattle.bver_form.specs.declared.refusal.Refusal.TheVariants.{FrameWrite}
 use Rattle.bver_form.specs.declared.refusal.Refused.{Refused}
 use Rattle.bver_form.specs.Support.{IsSupportedCall, IsSupportedFlow, call_fault, support_fault, frame_fault}
-use Rattle.bver_form.specs.Jumps.{IsAfter, IsBackToHead, IsFirstSlot, IsJump, first_slot, is_loop_back, jump_distance, slot_at, target}
+use Rattle.bver_form.specs.Jumps.{IsAfter, IsBackToHead, IsFirstSlot, IsJump, first_slot, is_loop_back, jump_distance, insn_at, target}
 use Rattle.bver_form.specs.Loops.{IsLoopFormed}
 use Rattle.bver_form.specs.Form.{AreAllowed, IsAllowed, IsAllowedAt, IsFaultAt, of_insn, of_end, of_loop, of_weight, IsInsnFault, IsLoopFault, first_of, insn_fault, jump_fault, landing_fault}
 use Rattle.bver_form.specs.Laws.{FaultRefutesForm, FirstFaultIsOne}
@@ -66,12 +66,12 @@ allowed_or_fault : (p : Program) (slot : ℕ) (o : Option Insn) (code : Refusal)
 allowed_or_fault p slot None code allowed fault = fault
 allowed_or_fault p slot (Some insn) code allowed fault = let none = no_fault p slot insn allowed in absurd cc
 
-allowed_at : (p : Program) (slot : ℕ) (o : Option Insn) → slot_at p slot ≡ o → AreAllowed p → IsAllowedAt p slot o
+allowed_at : (p : Program) (slot : ℕ) (o : Option Insn) → insn_at p slot ≡ o → AreAllowed p → IsAllowedAt p slot o
 allowed_at p slot None is allowed = tt
 allowed_at p slot (Some insn) is allowed = allowed slot insn is
 
 all_or_fault : (p : Program) (refused : Refused) → AreAllowed p → IsInsnFault p refused → ⊥
-all_or_fault p refused allowed fault = allowed_or_fault p refused.slot (slot_at p refused.slot) refused.code (allowed_at p refused.slot (slot_at p refused.slot) refl allowed) fault.fault
+all_or_fault p refused allowed fault = allowed_or_fault p refused.slot (insn_at p refused.slot) refused.code (allowed_at p refused.slot (insn_at p refused.slot) refl allowed) fault.fault
 
 unformed_or_all : (p : Program) (refused : Refused) → All (IsLoopFormed p) p.loops → IsLoopFault p refused → ⊥
 unformed_or_all p refused all fault = fault.unformed (any_loop p) (all fault.place (any_loop p) fault.inside)
@@ -96,7 +96,7 @@ same_refused one other code slot =
     ap (λ c. refused c one.slot) code ∙ ap (λ s. refused other.code s) slot
 
 later_insn : (p : Program) (one other : Refused) → IsInsnFault p one → IsInsnFault p other → one.slot < other.slot → ⊥
-later_insn p one other f g before = allowed_or_fault p one.slot (slot_at p one.slot) one.code (g.earlier one.slot before) f.fault
+later_insn p one other f g before = allowed_or_fault p one.slot (insn_at p one.slot) one.code (g.earlier one.slot before) f.fault
 
 same_code : (p : Program) (slot : ℕ) (o : Option Insn) (a b : Refusal) → IsFaultAt p slot o a → IsFaultAt p slot o b → a ≡ b
 same_code p slot None a b f g = absurd f
@@ -111,7 +111,7 @@ one_insn p one other f g =
             | inl after ↦ absurd (later_insn p other one g f after)
             | inr not_after ↦
                 let same : other.slot ≡ one.slot = omega arith in
-                same_refused one other (same_code p one.slot (slot_at p one.slot) one.code other.code f.fault (subst (λ s. IsFaultAt p s (slot_at p s) other.code) same g.fault)) (sym same)
+                same_refused one other (same_code p one.slot (insn_at p one.slot) one.code other.code f.fault (subst (λ s. IsFaultAt p s (insn_at p s) other.code) same g.fault)) (sym same)
           ]
     ]
 

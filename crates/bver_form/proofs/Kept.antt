@@ -6,16 +6,16 @@ use Rattle.std.proofs.lemmas.List.{get_or_default, get_or_past}
 use Rattle.std.proofs.Math.ListN.{length-set}
 use Rattle.bpf.specs.Program.{Program, insn_at}
 use Rattle.bpf_insn.specs.declared.insn.Insn.{Insn}
-use Rattle.bver_form.specs.Jumps.{first_slot, jump_distance, slot_at, target}
+use Rattle.bver_form.specs.Jumps.{first_slot, jump_distance, target}
 use Rattle.bver_form.specs.Targets.{AreKept, IsKept, IsMarked, IsNumbered, IsNumbering, JumpsTo, landing_by, landing_from, nowhere, place_at}
 
 -- ---- where jumps lead
 
 -- where a jump lands an instruction begins
 lands_first : (p : Program) (z : ℤ) (slot : ℕ) → first_slot p z ≡ Some slot → IsSome (insn_at p slot)
-lands_first p (pos k) slot is = by_begin (is_some (slot_at p k)) refl is
+lands_first p (pos k) slot is = by_begin (is_some (insn_at p k)) refl is
   where
-    by_begin : (b : Bool) → is_some (slot_at p k) ≡ b → (if b then Some k else None) ≡ Some slot → IsSome (insn_at p slot)
+    by_begin : (b : Bool) → is_some (insn_at p k) ≡ b → (if b then Some k else None) ≡ Some slot → IsSome (insn_at p slot)
     by_begin true begins same = let here : k ≡ slot = cc in subst (λ (i : ℕ). IsSome (insn_at p i)) here begins
     by_begin false begins same = absurd cc
 lands_first p (negsuc n) slot is = absurd cc

@@ -1,7 +1,7 @@
 //! The tests of a program's form, in the order in which they refuse.
 
 ghost use Rattle.std.specs.Prelude.{◌≡◌, IfErr, MatchResult, OnOk};
-ghost use Rattle.bver_form.specs.Form.{AreAllowed, IsAllowed, IsAllowedAt, IsFaultAt, IsFormed, IsFormFault, IsInsnFault, Tells, insn_fault, slot_at};
+ghost use Rattle.bver_form.specs.Form.{AreAllowed, IsAllowed, IsAllowedAt, IsFaultAt, IsFormed, IsFormFault, IsInsnFault, Tells, insn_fault, insn_at};
 
 use crate::ending::{check_budget, check_end};
 use crate::jumps::check_jump;
@@ -23,8 +23,8 @@ fn check_insn(image: &Image, slot: u16, insn: &Insn) -> Result<(), Refusal>
 
 /// Tests that the instruction that begins at the slot, if one does, may stand there.
 fn check_slot(image: &Image, slot: u16) -> Result<(), Refusal>
-    ensures { MatchResult result (λ _. IsAllowedAt image.now slot (slot_at image.now slot))
-        (IsFaultAt image.now slot (slot_at image.now slot)) }
+    ensures { MatchResult result (λ _. IsAllowedAt image.now slot (insn_at image.now slot))
+        (IsFaultAt image.now slot (insn_at image.now slot)) }
 {
     match image.insn(slot) {
         Some(insn) => check_insn(image, slot, &insn),

@@ -11,11 +11,11 @@ pub enum Refusal {
     /// A jump leads outside the code, or to the second slot of an instruction.
     #[error("a jump leads outside the code or into an instruction")]
     Target,
-    /// A jump leads backward and is no loop's back jump.
-    #[error("a backward jump is no loop's")]
+    /// A jump leads backward and is not the back jump of a declared loop.
+    #[error("a backward jump is not that of a declared loop")]
     BackJump,
-    /// A declared loop has not the shape of one.
-    #[error("a declared loop has not the shape of one")]
+    /// The slots of a declared loop do not count its register down and jump back.
+    #[error("a declared loop does not have the shape of a loop")]
     LoopShape,
     /// A loop may begin with a counter outside its bound.
     #[error("a loop may begin with a counter outside its bound")]
@@ -57,7 +57,7 @@ pub enum Refusal {
     #[error("an instruction is not supported")]
     Unsupported,
     /// Memory was refused.
-    #[error("out of memory")]
+    #[error("no memory")]
     Memory,
 }
 

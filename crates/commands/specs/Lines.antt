@@ -3,7 +3,7 @@ use Rattle.std.specs.Prelude.{◌≡◌, ◌≤◌, ◌⊎◌, ◌==◌, ℕ, su
 use Rattle.std.specs.Io.KnownBytes.{Appends}
 use Rattle.std.specs.List.{onto_first, slice_split}
 use Rattle.spw.specs.Cargo.{Cargo}
-use Rattle.spw.specs.Fault.{code_of}
+use Rattle.spw.specs.Fault.{line_fault_code}
 use Rattle.spw.specs.Line.{HasFault, IsPacketLine}
 use Rattle.spw.specs.declared.faults.LineFault.{LineFault}
 use Rattle.spw.specs.declared.faults.LineFault.TheVariants as line_faults
@@ -65,7 +65,7 @@ pub record HasNoPort (line : List ℕ) (node : JobNodeValue) : Type 0 where
 -- the number of the fault of a line: it is no packet line, or it has no port of the node
 abbrev pub IsBad : List ℕ → JobNodeValue → ℕ → Type 0
 IsBad line node code =
-    ((fault : LineFault) × (code ≡ code_of fault) × ((fault ≡ line_faults.Memory) ⊎ HasFault line fault))
+    ((fault : LineFault) × (code ≡ line_fault_code fault) × ((fault ≡ line_faults.Memory) ⊎ HasFault line fault))
     ⊎ ((code ≡ 6) × HasNoPort line node)
 
 -- the line of this number is bad, and nothing came of it; or its packet was served, and memory was refused to

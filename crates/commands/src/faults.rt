@@ -3,7 +3,7 @@
 ghost use Rattle.std.specs.Prelude.{◌≡◌, Some};
 ghost use Rattle.commands.specs.Printed.{fault_text};
 ghost use Rattle.commands.specs.declared.faults.Fault.TheVariants.{BadImage, BadLine, BadText, Unfit, NoMemory};
-ghost use Rattle.spw.specs.Fault.{code_of};
+ghost use Rattle.spw.specs.Fault.{line_fault_code};
 
 use basm::AsmFault;
 use bpf::ImageFault;
@@ -24,7 +24,7 @@ pub enum Fault<'a> {
     NoMemory,
     /// A text is no image.
     BadText(AsmFault),
-    /// The bytes of an image are none.
+    /// The bytes of a file are no image.
     BadImage(ImageFault),
     /// The verifier refuses an image.
     Unfit(Refused),
@@ -41,9 +41,9 @@ pub enum Fault<'a> {
 const NO_SUCH_PORT: u8 = 6;
 
 impl Fault<'_> {
-    /// The packet line of this number does not read, by this fault.
-    pub fn unread(number: usize, fault: LineFault) -> Self
-        ensures { result ≡ BadLine number (code_of fault) }
+    /// The fault of the packet line of this number, by what is wrong with it.
+    pub fn bad_line(number: usize, fault: LineFault) -> Self
+        ensures { result ≡ BadLine number (line_fault_code fault) }
     {
         Fault::BadLine {
             number,

@@ -191,7 +191,7 @@ fn judge_line<'a, J: Room, R: Wait + Drop, W: Write>(
     ensures stops { IfErr result (StopsBy (IsBadPacket line.now number node.old node.new
         (W.contents out.old) (W.contents out.new))) }
 {
-    let (port, packet) = read_line(alloc, line).map_err(|fault| Fault::unread(number, fault))?;
+    let (port, packet) = read_line(alloc, line).map_err(|fault| Fault::bad_line(number, fault))?;
     let served = node
         .serve(alloc, port, packet)
         .ok_or(Fault::no_port(number))?;

@@ -7,7 +7,7 @@ ghost use Rattle.machine.specs.Memory.{loaded};
 use crate::words::word;
 use bpf_insn::LoadSize;
 
-/// The word that the bytes of a load give.
+/// The word that the bytes of a load give, read as a number. The condition is a number of so many bytes.
 pub fn loaded(size: LoadSize, n: u64) -> u64
     requires { n < 256 ^ load_bytes size }
     ensures { result ≡ loaded size n }

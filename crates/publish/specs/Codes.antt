@@ -4,7 +4,7 @@ use Rattle.publish.specs.declared.faults.PublishFault.{PublishFault}
 use Rattle.publish.specs.declared.faults.PublishFault.TheVariants.{Memory, Slot, GenerationsFull}
 
 -- the number of a fault
-abbrev pub code_of : PublishFault → ℕ
-code_of Memory = 1
-code_of Slot = 2
-code_of GenerationsFull = 3
+abbrev pub publish_fault_code : PublishFault → ℕ
+publish_fault_code Memory = 1
+publish_fault_code Slot = 2
+publish_fault_code GenerationsFull = 3

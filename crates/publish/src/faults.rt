@@ -1,7 +1,7 @@
 //! Why a program was not published.
 
 ghost use Rattle.std.specs.Prelude.{◌≡◌};
-ghost use Rattle.publish.specs.Codes.{code_of};
+ghost use Rattle.publish.specs.Codes.{publish_fault_code};
 ghost use Rattle.publish.specs.declared.faults.PublishFault.TheVariants.{Memory as NoMemory};
 
 use std::alloc::{AllocError, AllocFailed};
@@ -24,7 +24,7 @@ pub enum PublishFault {
 impl PublishFault {
     /// The number of the fault, 1 to 3.
     pub fn code(self) -> u8
-        ensures { result ≡ code_of self }
+        ensures { result ≡ publish_fault_code self }
     {
         match self {
             PublishFault::Memory => 1,

@@ -61,7 +61,8 @@ impl<J: Room, R: Wait + Drop> Publisher<J, R> {
         self.writer.published().shown(0).program.sizes()
     }
 
-    /// Publishes a program for a slot, and tells it. It may wait for readers.
+    /// Publishes a program for a slot, and tells it. It may wait for readers. The condition is a program that was
+    /// accepted for the maps of the node ([`Reader::sizes`](crate::Reader::sizes)).
     ///
     /// # Errors
     ///

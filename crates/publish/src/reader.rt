@@ -110,7 +110,7 @@ impl<J: Room> Reader<J> {
         self.known.advance(told.front());
     }
 
-    /// Takes the program of a slot. `None` where a program that was taken was never let go of.
+    /// Takes the program of a slot, which is below 4. `None` where a program that was taken was never let go of.
     pub fn take(&mut self, slot: u8) -> Option<Taken<'_, J>>
         requires slot { slot < 4 }
         ensures* unchanged { sem 𝓛
@@ -186,7 +186,7 @@ impl<J: Room> Reader<J> {
 }
 
 impl<J: Room> Taken<'_, J> {
-    /// The program.
+    /// The program. The condition is one that [`Reader::take`] ensures of what it gives.
     pub fn accepted(&self) -> &Accepted
         requires { IsInside self.now.reader.now }
         ensures program { program_at self.now.reader.now.programs self.now.slot ≡ Some result.now }
@@ -198,7 +198,7 @@ impl<J: Room> Taken<'_, J> {
         accepted
     }
 
-    /// The generation of the program.
+    /// The generation of the program. The condition is one that [`Reader::take`] ensures of what it gives.
     pub fn generation(&self) -> u32
         requires { IsInside self.now.reader.now }
         ensures { generation_at self.now.reader.now.programs self.now.slot ≡ Some result }

@@ -55,7 +55,7 @@ impl Staging {
         self.bytes.get(address as usize).copied()
     }
 
-    /// Writes a byte.
+    /// Writes a byte. The condition is an address below 16,384.
     pub fn write(&mut self, address: u32, byte: u8)
         requires { address < 16384 }
         ensures { self.new ≡ staged (slice_set self.old.bytes address byte) self.old.load_result }

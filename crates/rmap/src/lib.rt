@@ -1,7 +1,7 @@
 //! RMAP commands, the checks that need no program, and replies (ECSS-E-ST-50-52C).
 //!
 //! A [`Command`] is a view of a packet's bytes, [`header_fault`] and [`body_fault`] are the checks
-//! round the application's verdict, and [`put_reply`] writes the reply.
+//! before and after the application's verdict, and [`put_reply`] writes the reply.
 #![tactic(auto)]
 
 mod boot;

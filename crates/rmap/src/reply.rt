@@ -126,7 +126,7 @@ impl ReplyBuf {
     }
 }
 
-/// What stands behind the leading zeros.
+/// What comes after the leading zeros.
 fn without_leading_zeros(address: &[u8]) -> &[u8]
     ensures value { result.now ≡ without_leading_zeros address.now }
     ensures bound { length result.now ≤ length address.now }

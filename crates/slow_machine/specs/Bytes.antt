@@ -2,12 +2,8 @@
 use Rattle.std.specs.Prelude.{ℕ, ℤ, List, slice_index_or, Option, None}
 use Rattle.slow_machine.specs.declared.memory.Memory.{Memory}
 use Rattle.machine.specs.declared.regions.Region.{Region}
-use Rattle.machine.specs.Memory.{Header, byte_of, place_of}
+use Rattle.machine.specs.Memory.{Header, byte_of, header as header_of, place_of}
 use Rattle.machine.specs.Step.{bytes_at}
-
--- the header of these parts
-abbrev pub header_of : (front tail : List ℕ) → Header
-header_of front tail = record { front = front; tail = tail }
 
 -- the header of some lent memory
 abbrev pub header_in : Memory → Header

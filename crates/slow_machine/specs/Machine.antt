@@ -5,8 +5,8 @@ use Rattle.machine.specs.declared.values.Value.{Value}
 use Rattle.slow_machine.specs.declared.effects.Effect.{Effect}
 use Rattle.slow_machine.specs.declared.turns.Turn.{Turn}
 use Rattle.slow_machine.specs.declared.turns.Turn.TheVariants as turns
-use Rattle.machine.specs.Memory.{Header}
-use Rattle.slow_machine.specs.Bytes.{bytes_in, header_of}
+use Rattle.machine.specs.Memory.{Header, header as header_of}
+use Rattle.slow_machine.specs.Bytes.{bytes_in}
 use Rattle.slow_machine.specs.Effects.{outcome_of, registers_in}
 use Rattle.machine.specs.Sizes.{Maps}
 use Rattle.machine.specs.State.{State, state}

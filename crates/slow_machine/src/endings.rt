@@ -1,7 +1,7 @@
 //! Whole runs of the slow machine.
 
 ghost use Rattle.std.specs.Prelude.{◌≡◌};
-ghost use Rattle.slow_machine.specs.Bytes.{header_of};
+ghost use Rattle.machine.specs.Memory.{header as header_of};
 ghost use Rattle.slow_machine.specs.Endings.{EndsFrom, IsEnding};
 
 use crate::machines::Machine;

@@ -6,12 +6,12 @@ use Rattle.spw.specs.declared.faults.LineFault.{LineFault}
 use Rattle.spw.specs.declared.faults.LineFault.TheVariants.{NoPort, BadHex, BadMarker, TooLong, Memory}
 
 -- the number of a fault
-abbrev pub code_of : LineFault → ℕ
-code_of NoPort = 1
-code_of BadHex = 2
-code_of BadMarker = 3
-code_of TooLong = 4
-code_of Memory = 5
+abbrev pub line_fault_code : LineFault → ℕ
+line_fault_code NoPort = 1
+line_fault_code BadHex = 2
+line_fault_code BadMarker = 3
+line_fault_code TooLong = 4
+line_fault_code Memory = 5
 
 -- a word that cannot be decoded is bad, unless memory was refused
 abbrev pub fault_of_hex : FromHexError → LineFault

@@ -1,7 +1,7 @@
 //! Why a packet line was refused.
 
 ghost use Rattle.std.specs.Prelude.{◌≡◌};
-ghost use Rattle.spw.specs.Fault.{code_of, fault_of_hex};
+ghost use Rattle.spw.specs.Fault.{line_fault_code, fault_of_hex};
 ghost use Rattle.spw.specs.declared.faults.LineFault.TheVariants.{Memory};
 
 use hex::FromHexError;
@@ -32,7 +32,7 @@ pub enum LineFault {
 impl LineFault {
     /// The number of the fault, 1 to 5, as programs print it.
     pub fn code(self) -> u8
-        ensures { result ≡ code_of self }
+        ensures { result ≡ line_fault_code self }
     {
         match self {
             LineFault::NoPort => 1,

@@ -5,7 +5,7 @@ use Rattle.bpf.specs.declared.fault.ImageFault.{ImageFault}
 use Rattle.bpf.specs.declared.fault.ImageFault.TheVariants.{Magic, Version, Length, Count, Budget, Loop, Insn, Memory}
 use Rattle.bpf.specs.Program.{Program, IsProgram, image_bytes}
 use Rattle.bpf.specs.Reading.{Fails, image_reading}
-use Rattle.publish.specs.Codes.{code_of}
+use Rattle.publish.specs.Codes.{publish_fault_code}
 use Rattle.publish.specs.declared.faults.PublishFault.{PublishFault}
 use Rattle.publish.specs.declared.faults.PublishFault.TheVariants as publish_faults
 use Rattle.target.specs.Loads.{IsUnspelled, image_refusal}
@@ -21,7 +21,7 @@ image_codes_few Loop = omega arith
 image_codes_few (Insn slot fault) = omega arith
 image_codes_few Memory = omega arith
 
-pub publish_codes_few : (f : PublishFault) → code_of f ≤ 3
+pub publish_codes_few : (f : PublishFault) → publish_fault_code f ≤ 3
 publish_codes_few publish_faults.Memory = omega arith
 publish_codes_few publish_faults.Slot = omega arith
 publish_codes_few publish_faults.GenerationsFull = omega arith

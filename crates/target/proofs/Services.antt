@@ -13,9 +13,9 @@ use Rattle.publish.specs.declared.history.Publish.{Publish}
 use Rattle.target.specs.declared.served.Served.{Served}
 use Rattle.target.specs.declared.served.Served.TheVariants.{Stopped, Unread, Done, Window}
 use Rattle.target.specs.Passes.{PassValue}
-use Rattle.target.specs.Applied.{share_of, with_share, IsApplied}
+use Rattle.target.specs.Applied.{share_of, with_share, IsApplied, IsEnded}
 use Rattle.target.specs.Loaded.{EndsAs}
-use Rattle.target.specs.Served.{PartsValue, IsServed, IsAnswered, IsDone, IsEnded, IsUntouched, IsStagedAt, EndsAtWindow}
+use Rattle.target.specs.Served.{PartsValue, IsServed, IsAnswered, IsDone, IsUntouched, IsStagedAt, EndsAtWindow}
 use Rattle.target.specs.Steps.{IsJudgement}
 use Rattle.target.specs.Pairs.{ArePaired, IsPaired}
 use Rattle.target.proofs.Pairings.{own_stays_paired, others_stay_paired, pair_set, at_written, at_other, judged_paired, judged_fits, staged_paired, loaded_paired}

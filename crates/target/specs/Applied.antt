@@ -41,7 +41,12 @@ pub record IsRefused (old new : BankValue) (holder after : PassValue) (judged : 
   pub bank : new ≡ old
   pub shares : after ≡ holder
 
--- how a judged command ends at a bank: it is applied where the port's share fits, else refused
-pub record IsFinished (old new : BankValue) (holder after : PassValue) (judged : JudgedValue) (result : Applied) (bytes : List ℕ) : Type 0 where
-  pub applied : fits old (share_of holder judged.place) judged ≡ true → IsApplied old new (share_of holder judged.place) holder after judged result bytes
-  pub refused : fits old (share_of holder judged.place) judged ≡ false → IsRefused old new holder after judged result bytes
+-- how a judged command ends at a bank: it is applied where that share fits, else refused
+pub record IsEnded (old new : BankValue) (share : ShareValue) (holder after : PassValue) (judged : JudgedValue) (result : Applied) (bytes : List ℕ) : Type 0 where
+  pub applied : fits old share judged ≡ true → IsApplied old new share holder after judged result bytes
+  pub refused : fits old share judged ≡ false → IsRefused old new holder after judged result bytes
+
+-- the same with the port's own share of the bank
+abbrev pub IsFinished : (old new : BankValue) → (holder after : PassValue) → JudgedValue → Applied → List ℕ → Type 0
+IsFinished old new holder after judged result bytes =
+    IsEnded old new (share_of holder judged.place) holder after judged result bytes

@@ -6,10 +6,10 @@ use Rattle.target.specs.declared.faults.NodeFault.{NodeFault}
 use Rattle.target.specs.declared.faults.NodeFault.TheVariants.{Memory, Ports, Banks}
 
 -- the number of a fault
-abbrev pub code_of : NodeFault → ℕ
-code_of Memory = 1
-code_of Ports = 2
-code_of Banks = 3
+abbrev pub node_fault_code : NodeFault → ℕ
+node_fault_code Memory = 1
+node_fault_code Ports = 2
+node_fault_code Banks = 3
 
 -- what a bank's fault is to its node
 abbrev pub fault_of_bank : BankFault → NodeFault

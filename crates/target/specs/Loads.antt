@@ -9,7 +9,7 @@ use Rattle.bver_form.specs.Codes.{refusal_code}
 use Rattle.bver_form.specs.declared.refusal.Refused.{Refused}
 use Rattle.bver.specs.Justified.{AcceptedValue, IsJustified}
 use Rattle.machine.specs.Sizes.{Maps}
-use Rattle.publish.specs.Codes.{code_of}
+use Rattle.publish.specs.Codes.{publish_fault_code}
 use Rattle.publish.specs.declared.faults.PublishFault.{PublishFault}
 use Rattle.target.specs.declared.control.ControlData.{ControlData}
 use Rattle.target.specs.declared.refusal.LoadRefusal.{LoadRefusal}
@@ -90,7 +90,7 @@ published_result n = 0 ∷ 0 ∷ 0 ∷ 0 ∷ n / 16777216 % 256 ∷ n / 65536 % 
 
 -- the refusal in publishing: 64 more than its fault
 abbrev pub publish_refusal : PublishFault → LoadRefusal
-publish_refusal fault = refusal_at (64 + code_of fault) 0
+publish_refusal fault = refusal_at (64 + publish_fault_code fault) 0
 
 -- why a program was not published, in a history of so many programs: after 2^32 - 1 publishes that there are so
 -- many, before that want of memory

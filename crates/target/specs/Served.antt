@@ -1,17 +1,17 @@
 -- The whole way of a packet, from its bytes to its reply.
-use Rattle.std.specs.Prelude.{◌≡◌, ℕ, true, false, List, slice_get, slice_set, Some}
+use Rattle.std.specs.Prelude.{◌≡◌, ℕ, List, slice_get, slice_set, Some}
 use Rattle.spw.specs.Cargo.{Cargo}
 use Rattle.rmap.specs.declared.places.Place.{Place}
 use Rattle.rmap.specs.declared.places.Place.TheVariants.{Bank, Staging, LoadResult, Control}
 use Rattle.rmap.specs.declared.status.Status.{Status}
 use Rattle.bank.specs.declared.bank.Applied.{Applied}
-use Rattle.bank.specs.Records.{BankValue, ShareValue, JudgedValue, fits}
+use Rattle.bank.specs.Records.{BankValue, ShareValue, JudgedValue}
 use Rattle.publish.specs.declared.history.Publish.{Publish}
 use Rattle.target.specs.declared.served.Served.{Served}
 use Rattle.target.specs.declared.served.Served.TheVariants.{Stopped, Unread, Done, Window}
 use Rattle.target.specs.Passes.{PassValue, with_staging}
 use Rattle.target.specs.Steps.{IsStopped, IsUnread, IsJudgement}
-use Rattle.target.specs.Applied.{share_of, IsApplied, IsRefused}
+use Rattle.target.specs.Applied.{share_of, IsApplied, IsEnded}
 use Rattle.target.specs.Stagings.{IsStaged}
 use Rattle.target.specs.Loaded.{IsLoadEnd}
 
@@ -32,11 +32,6 @@ pub record IsUntouched (old new : PartsValue) (holder after : PassValue) : Type 
 -- a way in which a command can end at its bank
 abbrev pub Ending : Type 1
 Ending = BankValue → BankValue → ShareValue → PassValue → PassValue → JudgedValue → Applied → List ℕ → Type 0
-
--- the command is applied where it fits, else refused
-pub record IsEnded (before behind : BankValue) (share : ShareValue) (holder after : PassValue) (judged : JudgedValue) (result : Applied) (bytes : List ℕ) : Type 0 where
-  pub applied : fits before share judged ≡ true → IsApplied before behind share holder after judged result bytes
-  pub refused : fits before share judged ≡ false → IsRefused before behind holder after judged result bytes
 
 -- the command was judged in one run, which left the port so, and ended at the bank of its place alone
 pub record IsDone (Ends : Ending) (old new : PartsValue) (holder after : PassValue) (p : Cargo) (result : Applied) (bytes : List ℕ) : Type 0 where

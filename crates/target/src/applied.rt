@@ -36,7 +36,8 @@ fn end<J: Room>(
 
 /// Applies a judged command to the bank of its place, with the port's share of it, and leaves the
 /// reply. Where [`Bank::fits`] says no, it is a general error, and nothing changes: that does not
-/// happen where bank and pass were made together ([`paired_commands_fit`](crate::paired_commands_fit)).
+/// happen where bank and pass were made together ([`paired_commands_fit`](crate::paired_commands_fit)). The condition
+/// is the place of a bank of which the port has a share ([`Pass::banks`]).
 pub fn finish<J: Room>(
     pass: &mut Pass<J>,
     bank: &mut Bank,

@@ -157,7 +157,7 @@ impl Banks {
         self.banks.len()
     }
 
-    /// The bank of that number.
+    /// The bank of that number. The condition is a number below [`Banks::len`].
     pub fn bank(&self, k: u8) -> &Bank
         requires { k < length self.now }
         ensures { slice_get self.now k ≡ Some result.now }
@@ -165,7 +165,7 @@ impl Banks {
         &self.banks[usize::from(k)]
     }
 
-    /// The bank of that number, to apply commands to.
+    /// The bank of that number, to apply commands to. The condition is a number below [`Banks::len`].
     pub fn bank_mut(&mut self, k: u8) -> &mut Bank
         requires { k < length self.old }
         ensures* writes_back { sem 𝓛 (LendsBank self.entry k result) }

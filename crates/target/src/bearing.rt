@@ -4,12 +4,10 @@ ghost use Rattle.std.specs.Prelude.{◌≡◌, ◌<◌};
 ghost use Rattle.target.specs.Passes.{seat_of};
 
 use cells::CellSeat;
+use machine::STACK_SIZE;
 use rmap::Windows;
 use spw::PORTS;
 use std::marker::Model;
-
-/// The bytes of a program's stack.
-pub(crate) const STACK: usize = 512;
 
 /// What a run needs of a port: its number, the windows of its node, its seat at the node's counters, and
 /// the stack of the programs that run for it.
@@ -18,7 +16,7 @@ pub struct Bearing {
     pub(crate) port: u8,
     pub(crate) windows: Windows,
     pub(crate) seat: CellSeat,
-    pub(crate) stack: [u8; STACK],
+    pub(crate) stack: [u8; STACK_SIZE],
 }
 
 impl Model for Bearing {
@@ -43,7 +41,7 @@ impl Bearing {
             port,
             windows,
             seat,
-            stack: [0; STACK],
+            stack: [0; STACK_SIZE],
         }
     }
 

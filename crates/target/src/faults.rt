@@ -1,7 +1,7 @@
 //! Why a node could not be made.
 
 ghost use Rattle.std.specs.Prelude.{◌≡◌};
-ghost use Rattle.target.specs.Codes.{code_of, fault_of_bank};
+ghost use Rattle.target.specs.Codes.{node_fault_code, fault_of_bank};
 ghost use Rattle.target.specs.declared.faults.NodeFault.TheVariants.{Memory};
 
 use bank::BankFault;
@@ -26,7 +26,7 @@ pub enum NodeFault {
 impl NodeFault {
     /// The number of the fault, 1 to 3.
     pub fn code(self) -> u8
-        ensures { result ≡ code_of self }
+        ensures { result ≡ node_fault_code self }
     {
         match self {
             NodeFault::Memory => 1,

@@ -16,7 +16,7 @@ mod config;
 mod control;
 mod faults;
 mod laws;
-mod loading;
+mod loads;
 mod lock;
 mod node;
 mod parts;
@@ -38,7 +38,7 @@ pub use faults::NodeFault;
 pub use laws::{
     loads_are_taken, made_are_paired, paired_commands_fit, pairs_stay, refusals_tell_why,
 };
-pub use loading::{load, prepare};
+pub use loads::{load, prepare};
 pub use lock::BankLock;
 pub use node::Node;
 pub use parts::banks_and_passes;

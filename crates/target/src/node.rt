@@ -89,7 +89,7 @@ impl<J: Room, R: Wait + Drop> Node<J, R> {
         self.banks.len()
     }
 
-    /// The bank of that number, behind its lock.
+    /// The bank of that number, behind its lock. The condition is a number below [`Node::banks`].
     pub fn bank(&self, k: u8) -> &BankLock
         requires { k < self.now }
         ensures { result.now ≡ k }

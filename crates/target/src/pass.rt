@@ -46,7 +46,7 @@ impl<J: Room> Pass<J> {
         self.shares.len()
     }
 
-    /// The port's share of the bank of that number.
+    /// The port's share of the bank of that number. The condition is a number below [`Pass::banks`].
     pub fn share(&self, k: u8) -> &Share
         requires { k < length self.now.shares }
         ensures { slice_get self.now.shares k ≡ Some result.now }

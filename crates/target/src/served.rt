@@ -7,7 +7,7 @@ ghost use Rattle.target.specs.Pairs.{ArePaired, IsPaired};
 
 use crate::applied::finish;
 use crate::banks::Banks;
-use crate::loading::load;
+use crate::loads::load;
 use crate::pass::Pass;
 use crate::staged::stage;
 use crate::step::{Step, judge};

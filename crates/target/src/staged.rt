@@ -6,13 +6,10 @@ ghost use Rattle.target.specs.Served.{IsStagedAt};
 use crate::pass::Pass;
 use bank::{Judged, answer};
 use publish::{Room, Staging};
-use rmap::{Place, ReplyBuf, Status};
-
-/// The address of the load result in the boot window.
-const LOAD_RESULT: u32 = 0x1_0000;
+use rmap::{LOAD_REGISTER, Place, ReplyBuf, Status};
 
 /// Answers a judged command to the staging or to the load result, and leaves the reply: as a bank with room
-/// does it, without a journal. The status is that of the reply.
+/// does it, without a journal. The status is that of the reply. The condition is one of these two places.
 pub fn answer_staged(staging: &mut Staging, judged: Judged, reply: &mut ReplyBuf) -> Status
     requires { IsStagingPlace judged.place }
     ensures { IsStaged staging.old staging.new judged result reply.new }
@@ -21,14 +18,15 @@ pub fn answer_staged(staging: &mut Staging, judged: Judged, reply: &mut ReplyBuf
         Place::Staging => answer(staging.bytes_mut(), 0, judged, reply),
         Place::LoadResult => {
             let mut loaded = staging.load_result();
-            answer(&mut loaded, LOAD_RESULT, judged, reply)
+            answer(&mut loaded, LOAD_REGISTER, judged, reply)
         }
         Place::Bank(_) | Place::Control => unreachable!(),
     }
 }
 
 /// Answers a judged command to the port's own staging, or to the result of its last load, and leaves the
-/// reply. There is no entry in a journal. The status is that of the reply.
+/// reply. There is no entry in a journal. The status is that of the reply. The condition is one of these two
+/// places.
 pub fn stage<J: Room>(pass: &mut Pass<J>, judged: Judged, reply: &mut ReplyBuf) -> Status
     requires { IsStagingPlace judged.place }
     ensures { IsStagedAt pass.old pass.new judged result reply.new }

@@ -17,12 +17,9 @@ use bank::{Judged, judged_fault};
 use bpf::Image;
 use bver::{Accepted, MapSizes, verify};
 use publish::{Publisher, Reader, Room, Staging};
-use rmap::{Place, ReplyBuf, Status};
+use rmap::{Place, ReplyBuf, STAGING_SIZE, Status};
 use std::alloc::Global;
 use std::sync::Wait;
-
-/// The most bytes of an image that is loaded.
-const MAX_IMAGE: u16 = 16_384;
 
 /// The greatest slot.
 const LAST_SLOT: u8 = 3;
@@ -31,7 +28,7 @@ const LAST_SLOT: u8 = 3;
 fn control_code(control: ControlData) -> Option<u8>
     ensures { result ≡ control_code control }
 {
-    if control.zero != 0 || control.length > MAX_IMAGE {
+    if control.zero != 0 || u32::from(control.length) > STAGING_SIZE {
         return Some(71);
     }
     if control.slot > LAST_SLOT {

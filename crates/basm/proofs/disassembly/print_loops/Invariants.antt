@@ -2,7 +2,7 @@ use Rattle.std.proofs.Common.{◌≡◌, ◌++◌, drop}
 use Rattle.std.specs.List.{flat_map}
 use Rattle.std.specs.String.{string_bytes}
 use Rattle.basm.specs.Printed.{loop_line}
-use Rattle.basm.proofs.printing.print_loops.Given as goal
+use Rattle.basm.proofs.disassembly.print_loops.Given as goal
 
 abbrev pub invariant-loop-found : goal.invariant-loop-found
 invariant-loop-found l =

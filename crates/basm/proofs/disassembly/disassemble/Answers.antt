@@ -2,7 +2,7 @@ use Rattle.std.proofs.lemmas.Result.{IfOk-weaker}
 use Rattle.std.specs.String.{string_bytes}
 use Rattle.basm.proofs.Printed.Images.{printed_is_text}
 use Rattle.basm.proofs.Printed.Insns.{PrintedWords}
-use Rattle.basm.proofs.printing.disassemble.Goals as goal
+use Rattle.basm.proofs.disassembly.disassemble.Goals as goal
 
 pub returns-clause-text : goal.returns-clause-text
 returns-clause-text c =

@@ -5,8 +5,8 @@ use Rattle.bank.specs.Answer.{judged_line}
 use Rattle.target.specs.Passes.{PassValue, pass_of}
 use Rattle.target.specs.Loaded.{IsLoadEnd, control_in}
 use Rattle.target.proofs.Loadings.{ends_loaded, ends_refused}
-use Rattle.target.proofs.loading.load.Goals as goal
-use Rattle.target.proofs.loading.load.Goals.{in-Ok, in-Err}
+use Rattle.target.proofs.loads.load.Goals as goal
+use Rattle.target.proofs.loads.load.Goals.{in-Ok, in-Err}
 
 pub returns : goal.returns
 returns g c =
