@@ -9,7 +9,7 @@ ghost use Rattle.bank.specs.Effect.{memory_at};
 ghost use Rattle.bank.specs.Limits.{is_bank_size, is_range, is_bank};
 ghost use Rattle.bank.specs.Records.{first_share, fresh_bank, byte_in, fits, is_next, has_room, IsBank, IsExecutable, memory_of, memory_from, reply_from, base_of, replay, answer_of, after_command, after_rotation, number_left, next_share};
 
-use crate::answer::carry_out;
+use crate::answers::carry_out;
 use crate::entry::Entry;
 use crate::faults::BankFault;
 use crate::journal::{Journal, is_room};

@@ -7,7 +7,7 @@
 #![tactic(auto)]
 
 mod admitted;
-mod answer;
+mod answers;
 mod bank;
 mod effect;
 mod entry;
@@ -18,7 +18,7 @@ mod laws;
 mod share;
 
 pub use admitted::Admitted;
-pub use answer::{answer, judged_fault};
+pub use answers::{answer, judged_fault};
 pub use bank::{Applied, Bank, MAX_SIZE, is_bank_size};
 pub use entry::Entry;
 pub use faults::BankFault;

@@ -3,7 +3,7 @@ use Rattle.std.proofs.Common.{◌≡◌, ℕ, zero, suc, ◌+◌, ◌*◌, ◌<�
 use Rattle.std.specs.List.{starts_with}
 use Rattle.std.proofs.lemmas.List.{drop-drop}
 use Rattle.bpf_insn.specs.declared.insn.Insn.{Insn}
-use Rattle.bpf_insn.specs.declared.decode.BadInsn.{BadInsn}
+use Rattle.bpf_insn.specs.declared.decoder.BadInsn.{BadInsn}
 use Rattle.bpf_insn.specs.Faults.{IsFault}
 use Rattle.bpf_insn.specs.Reading.{reading}
 use Rattle.bpf.specs.declared.header.Header.{Header}

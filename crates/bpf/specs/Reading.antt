@@ -2,7 +2,7 @@
 use Rattle.std.specs.Prelude.{◌≡◌, ℕ, zero, suc, ◌+◌, ◌*◌, Bool, true, false, ◌&&◌, ◌==◌, nat_eq, nat_lt, nat_le, if◌then◌else◌, List, [], ◌∷◌, ◌++◌, length, take, drop, slice_index, Option, Some, None, is_some, Result, Ok, Err}
 use Rattle.std.specs.List.{starts_with}
 use Rattle.bpf_insn.specs.declared.insn.Insn.{Insn}
-use Rattle.bpf_insn.specs.declared.decode.BadInsn.{BadInsn}
+use Rattle.bpf_insn.specs.declared.decoder.BadInsn.{BadInsn}
 use Rattle.bpf_insn.specs.Faults.{IsFault}
 use Rattle.bpf_insn.specs.Spelling.{second_immediate, Spells}
 use Rattle.bpf_insn.specs.Reading.{reading}

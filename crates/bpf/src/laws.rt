@@ -1,7 +1,7 @@
 //! Laws of the spelling of images.
 
 ghost use Rattle.std.specs.Prelude.{◌≡◌, ◌<◌, ℕ, List, ◌++◌, Ok, Err, slice_index};
-ghost use Rattle.bpf_insn.specs.declared.decode.BadInsn.{BadInsn};
+ghost use Rattle.bpf_insn.specs.declared.decoder.BadInsn.{BadInsn};
 ghost use Rattle.bpf.specs.declared.fault.ImageFault.TheVariants.{Insn};
 ghost use Rattle.bpf.specs.Program.{IsProgram, Program, image_bytes};
 ghost use Rattle.bpf.specs.Reading.{IsFaultAt, image_reading};

@@ -24,8 +24,8 @@ use Rattle.bpf_parts.specs.declared.distance.Distance.TheVariants.{Short, Long}
 use Rattle.bpf_insn.specs.declared.insn.Insn.{Insn}
 use Rattle.bpf_insn.specs.declared.insn.Insn.TheVariants.{Alu, Negate, MoveSigned, ByteSwap, Load, Store, Jump, Goto, Wide, LoadMap, LoadAddress, Call, Exit}
 use Rattle.bpf_insn.specs.declared.fields.Fields.{Fields}
-use Rattle.bpf_insn.specs.declared.decode.BadInsn.{BadInsn}
-use Rattle.bpf_insn.specs.declared.decode.BadInsn.TheVariants as faults
+use Rattle.bpf_insn.specs.declared.decoder.BadInsn.{BadInsn}
+use Rattle.bpf_insn.specs.declared.decoder.BadInsn.TheVariants as faults
 use Rattle.bpf_insn.specs.Spelling.{fields, second_immediate, Spells}
 use Rattle.bpf_insn.specs.Faults.{opcode_of, uses_dst, uses_src, over, IsFault}
 use Rattle.bpf_parts.specs.Kinds.{swap_bits_of, address_of, callee_of}

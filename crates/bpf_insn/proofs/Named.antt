@@ -3,8 +3,8 @@ use Rattle.std.proofs.Common.{◌≡◌, ℕ, ◌/◌, ◌%◌, Bool, true, fals
 use Rattle.std.specs.Option.{option_map}
 use Rattle.bpf_insn.specs.declared.insn.Insn.{Insn}
 use Rattle.bpf_insn.specs.declared.fields.Fields.{Fields}
-use Rattle.bpf_insn.specs.declared.decode.BadInsn.{BadInsn}
-use Rattle.bpf_insn.specs.declared.decode.BadInsn.TheVariants as faults
+use Rattle.bpf_insn.specs.declared.decoder.BadInsn.{BadInsn}
+use Rattle.bpf_insn.specs.declared.decoder.BadInsn.TheVariants as faults
 use Rattle.bpf_insn.specs.Spelling.{first_bytes, second_immediate, bytes_of, AreSlotBytes, Spells}
 use Rattle.bpf_insn.specs.Faults.{opcode_of, over, IsFault}
 use Rattle.bpf_insn.specs.Reading.{◌>>=◌, meant_of, fields_in, has_fields, reading_of, reading}

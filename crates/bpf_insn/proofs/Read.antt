@@ -17,8 +17,8 @@ use Rattle.bpf_parts.specs.declared.distance.Distance.TheVariants.{Short, Long}
 use Rattle.bpf_insn.specs.declared.insn.Insn.{Insn}
 use Rattle.bpf_insn.specs.declared.insn.Insn.TheVariants.{Alu, Negate, ByteSwap, Load, Store, Jump, Goto, Wide, LoadMap, LoadAddress, Call, Exit}
 use Rattle.bpf_insn.specs.declared.fields.Fields.{Fields}
-use Rattle.bpf_insn.specs.declared.decode.BadInsn.{BadInsn}
-use Rattle.bpf_insn.specs.declared.decode.BadInsn.TheVariants as faults
+use Rattle.bpf_insn.specs.declared.decoder.BadInsn.{BadInsn}
+use Rattle.bpf_insn.specs.declared.decoder.BadInsn.TheVariants as faults
 use Rattle.bpf_parts.specs.Kinds.{address_of, extension_of}
 use Rattle.bpf_insn.specs.Spelling.{fields, first_fields, second_immediate, second_fields, bytes_of, AreSlotBytes, IsInsn, Spells}
 use Rattle.bpf_parts.specs.Operands.{IsOperand}

@@ -4,8 +4,8 @@ use Rattle.bpf_parts.specs.declared.operation.Operand.{Operand}
 use Rattle.bpf_parts.specs.declared.operation.Operand.TheVariants.{FromRegister, Immediate}
 use Rattle.bpf_insn.specs.declared.insn.Insn.{Insn}
 use Rattle.bpf_insn.specs.declared.insn.Insn.TheVariants.{Alu, Negate, MoveSigned, ByteSwap, Load, Store, Jump, Goto, Wide, LoadMap, LoadAddress, Call, Exit}
-use Rattle.bpf_insn.specs.declared.decode.BadInsn.{BadInsn}
-use Rattle.bpf_insn.specs.declared.decode.BadInsn.TheVariants as faults
+use Rattle.bpf_insn.specs.declared.decoder.BadInsn.{BadInsn}
+use Rattle.bpf_insn.specs.declared.decoder.BadInsn.TheVariants as faults
 use Rattle.bpf_insn.specs.Spelling.{first_fields, second_immediate, Spells}
 
 -- the number of a fault

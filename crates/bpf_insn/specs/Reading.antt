@@ -15,8 +15,8 @@ use Rattle.bpf_parts.specs.declared.distance.Distance.TheVariants.{Short, Long}
 use Rattle.bpf_insn.specs.declared.insn.Insn.{Insn}
 use Rattle.bpf_insn.specs.declared.insn.Insn.TheVariants.{Alu, Negate, MoveSigned, ByteSwap, Load, Store, Jump, Goto, Wide, LoadMap, LoadAddress, Call, Exit}
 use Rattle.bpf_insn.specs.declared.fields.Fields.{Fields}
-use Rattle.bpf_insn.specs.declared.decode.BadInsn.{BadInsn}
-use Rattle.bpf_insn.specs.declared.decode.BadInsn.TheVariants as faults
+use Rattle.bpf_insn.specs.declared.decoder.BadInsn.{BadInsn}
+use Rattle.bpf_insn.specs.declared.decoder.BadInsn.TheVariants as faults
 use Rattle.bpf_parts.specs.Kinds.{alu_of, extension_of, swap_of, swap_bits_of, condition_of, size_of, load_size_of, address_of, callee_of}
 use Rattle.bpf_insn.specs.Spelling.{fields, first_fields, second_immediate}
 

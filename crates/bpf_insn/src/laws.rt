@@ -2,7 +2,7 @@
 
 ghost use Rattle.std.specs.Prelude.{◌≡◌, ◌<◌, ℕ, List, ◌++◌, Option, Ok, Err, IfSome, slice_index};
 ghost use Rattle.bpf_insn.specs.declared.insn.Insn.{Insn};
-ghost use Rattle.bpf_insn.specs.declared.decode.BadInsn.{BadInsn};
+ghost use Rattle.bpf_insn.specs.declared.decoder.BadInsn.{BadInsn};
 ghost use Rattle.bpf_insn.specs.Faults.{IsFault};
 ghost use Rattle.bpf_insn.specs.Spelling.{AreSlotBytes, IsInsn, Spells, spelling};
 ghost use Rattle.bpf_insn.specs.Reading.{reading};

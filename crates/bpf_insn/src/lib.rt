@@ -5,21 +5,21 @@
 //! `bpf_parts`.
 #![tactic(auto)]
 
-mod decode;
-mod encode;
+mod decoder;
+mod display;
+mod encoder;
 mod fields;
 mod flow;
 mod insn;
 mod laws;
-mod text;
 
 pub use bpf_parts::{
     Address, AluOp, Callee, Comparison, Condition, Distance, Extension, FRAME_POINTER, LoadSize,
     Operand, Place, REGISTERS, Register, Size, Swap, SwapBits, Width,
 };
-pub use decode::{BadInsn, decode};
-pub use encode::encode;
+pub use decoder::{BadInsn, decode};
+pub use display::text;
+pub use encoder::encode;
 pub use flow::Flow;
 pub use insn::Insn;
 pub use laws::spelling_laws;
-pub use text::text;

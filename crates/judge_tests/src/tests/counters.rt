@@ -176,6 +176,19 @@ fn no_run_draws_no_ticket(rt: HostRuntime) -> Result<(), Fail> {
     Ok(())
 }
 
+/// Packets of an unused code without a reply: each draws no ticket.
+#[test]
+fn unused_codes_draw_no_tickets(rt: HostRuntime) -> Result<(), Fail> {
+    let alloc = rt.alloc();
+    let mut lines = at_ports(alloc, &[(0, "FE01440067000100A00000000000 1037 EOP"); 5])?;
+    lines.push_str(in_turn(alloc, READ)?.as_str())?;
+    let mut wanted = at_ports(alloc, &[(0, "-"); 5])?;
+    wanted.push_str(first_five(alloc, ZEROS, DENIED)?.as_str())?;
+    let printed = counted(&rt, alloc, QUOTA, "1", lines.as_str())?;
+    assert_eq!(rt; printed.as_str(), wanted.as_str());
+    Ok(())
+}
+
 /// The program is asked before the body is looked at, so a packet with an error end draws a ticket.
 #[test]
 fn error_ends_draw_tickets(rt: HostRuntime) -> Result<(), Fail> {

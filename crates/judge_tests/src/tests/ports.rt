@@ -52,6 +52,24 @@ fn ports_that_do_not_exist(rt: HostRuntime) -> Result<(), Fail> {
     Ok(())
 }
 
+/// Of lines at the ports 0, 1 and 2 a node of two ports answers two, and stops at the third.
+#[test]
+fn a_node_stops_at_a_port_that_does_not_exist(rt: HostRuntime) -> Result<(), Fail> {
+    let alloc = rt.alloc();
+    let (second, third) = (
+        at_port(alloc, 1, PLAIN_READ)?,
+        at_port(alloc, 2, PLAIN_READ)?,
+    );
+    let lines = format!(in alloc; "{PLAIN_READ}\n{second}\n{third}\n{PLAIN_READ}\n")?;
+    let files = [("lines", lines.as_bytes())];
+    let (printed, status) = run(&rt, alloc, &["judge", "lines", "--ports", "2"], &files)?;
+    let reply = at_port(alloc, 1, PLAIN_REPLY)?;
+    let wanted = format!(in alloc; "{PLAIN_REPLY}\n{reply}\nline 3 fault 6\n")?;
+    assert_eq!(rt; printed.as_str(), wanted.as_str());
+    assert_eq!(rt; status, 1);
+    Ok(())
+}
+
 /// The last of 32 ports answers like the first.
 #[test]
 fn port_31(rt: HostRuntime) -> Result<(), Fail> {

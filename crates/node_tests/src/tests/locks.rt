@@ -2,7 +2,9 @@
 
 ghost use Rattle.std.specs.Prelude.{◌≡◌};
 
-use bank::Applied;
+use super::loads::{LOAD, STAGE};
+use bank::{Applied, Judged};
+use bver::Accepted;
 use publish::{Opened, Room};
 use rcrc::crc;
 use rmap::{Place, ReplyBuf, Status};
@@ -12,18 +14,19 @@ use std::marker::Brand;
 use std::process::Abort;
 use std::sync::Wait;
 use std::test::Fail;
-use target::{BankConfig, Node, NodeConfig, Pass, Step, finish, judge};
-use trial::{BASE, PLAIN_READ, Random, bank, packet, program};
+use target::{BankConfig, Node, NodeConfig, NodeFault, Pass, Step, finish, judge, load, stage};
+use trial::{BASE, PLAIN_READ, PLAIN_WRITE, Random, bank, packet, program};
 
-/// A node of two ports and two banks, the second of 300 bytes from the address 0x1000 on, and its passes.
-fn shared<J: Room, R: Wait + Drop>(
+/// A node of two ports and two banks, the second of 300 bytes from the address 0x1000 on, and its passes. That
+/// program judges at first.
+fn made<J: Room, R: Wait + Drop>(
     rt: R,
     alloc: Global,
     opened: Opened,
-) -> Result<(Node<J, R>, Vec<Pass<J>>), Fail>
+    factory: Accepted,
+) -> Result<(Node<J, R>, Vec<Pass<J>>), NodeFault>
     requires { opened ≡ J.book }
 {
-    let factory = program(alloc, 0)?;
     let small = BankConfig {
         base: 0x1000,
         size: 300,
@@ -35,7 +38,45 @@ fn shared<J: Room, R: Wait + Drop>(
         banks: &[bank(1024), small],
         sizes: factory.sizes(),
     };
-    Ok(Node::new(alloc, rt, opened, &config, factory)?)
+    Node::new(alloc, rt, opened, &config, factory)
+}
+
+/// The same with the program that says yes.
+fn shared<J: Room, R: Wait + Drop>(
+    rt: R,
+    alloc: Global,
+    opened: Opened,
+) -> Result<(Node<J, R>, Vec<Pass<J>>), Fail>
+    requires { opened ≡ J.book }
+{
+    let factory = program(alloc, 0)?;
+    Ok(made(rt, alloc, opened, factory)?)
+}
+
+/// How many banks and passes such a node has; `None` where the program takes no memory.
+fn made_shared(rt: &impl Wait, alloc: Global) -> Option<Result<(usize, usize), NodeFault>> {
+    let factory = program(alloc, 0).ok()?;
+    Some(counts::<Brand, _>(rt, alloc, Opened::new(), factory))
+}
+
+fn counts<J: Room, R: Wait>(
+    rt: &R,
+    alloc: Global,
+    opened: Opened,
+    factory: Accepted,
+) -> Result<(usize, usize), NodeFault>
+    requires { opened ≡ J.book }
+{
+    let (node, passes) = made::<J, _>(rt, alloc, opened, factory)?;
+    Ok((node.banks(), passes.len()))
+}
+
+#[test]
+fn memory_refused_while_locks_are_made(rt: HostRuntime) {
+    let first = made_shared(&rt, rt.alloc());
+    let full = Some(Ok((2, 2)));
+    assert!(rt; first == full || first == Some(Err(NodeFault::Memory)) || first.is_none());
+    assert!(rt; first == full || made_shared(&rt, rt.alloc()) == full);
 }
 
 #[test]
@@ -63,6 +104,20 @@ fn fresh_banks<J: Room, R: Wait + Abort>(rt: &R, alloc: Global, opened: Opened) 
     Ok(())
 }
 
+/// The command of a packet, judged at the pass's port.
+fn judged_at<J: Room>(
+    pass: &mut Pass<J>,
+    packet: Packet,
+    reply: &mut ReplyBuf,
+) -> Result<Judged, Fail> {
+    match judge(pass, packet, reply) {
+        Step::Judged(judged) => Ok(judged),
+        Step::Discarded(_, _packet) | Step::Answered(_, _packet) | Step::Unread(_packet) => {
+            Err("the packet stops".into())
+        }
+    }
+}
+
 /// Judges a packet at the pass's port and finishes it at its bank, under the lock: whether it fits the
 /// bank, and how it ended.
 fn finished<J: Room, R: Wait + Drop>(
@@ -72,12 +127,7 @@ fn finished<J: Room, R: Wait + Drop>(
     packet: Packet,
     reply: &mut ReplyBuf,
 ) -> Result<(bool, Applied), Fail> {
-    let judged = match judge(pass, packet, reply) {
-        Step::Judged(judged) => judged,
-        Step::Discarded(_, _packet) | Step::Answered(_, _packet) | Step::Unread(_packet) => {
-            return Err("the packet stops".into());
-        }
-    };
+    let judged = judged_at(pass, packet, reply)?;
     match judged.place() {
         Place::Bank(k) if usize::from(k) < node.banks() && usize::from(k) < pass.banks() => {
             let mut guard = node.bank(k).lock(rt);
@@ -119,6 +169,61 @@ fn both_ports_read<J: Room, R: Wait + Abort>(
             return Err("no bank".into());
         }
         assert_eq!(rt; node.bank(0).lock(rt).entries().len(), port + 1);
+    }
+    Ok(())
+}
+
+/// Carries out a command to the boot window at the pass's port, a load under the lock of the node's publisher.
+fn windowed<J: Room, R: Wait + Drop>(
+    rt: &impl Wait,
+    alloc: Global,
+    node: &Node<J, R>,
+    pass: &mut Pass<J>,
+    line: &str,
+) -> Result<Status, Fail> {
+    let mut reply = ReplyBuf::new();
+    let judged = judged_at(pass, packet(alloc, line)?, &mut reply)?;
+    match judged.place() {
+        Place::Staging | Place::LoadResult => Ok(stage(pass, judged, &mut reply)),
+        Place::Control => {
+            let mut guard = node.publisher().lock(rt);
+            let publisher = &mut *guard;
+            Ok(load(alloc, pass, publisher, judged, &mut reply))
+        }
+        Place::Bank(_) => {
+            judged.answer_error(&mut reply);
+            Err("a bank".into())
+        }
+    }
+}
+
+/// A load by one port, under the publisher's lock, is what both ports are judged by.
+#[test]
+fn a_load_under_the_lock_judges_at_every_port(rt: HostRuntime) -> Result<(), Fail> {
+    load_under_the_lock::<Brand, _>(&rt, rt.alloc(), Opened::new())
+}
+
+fn load_under_the_lock<J: Room, R: Wait + Abort>(
+    rt: &R,
+    alloc: Global,
+    opened: Opened,
+) -> Result<(), Fail>
+    requires { opened ≡ J.book }
+{
+    let (node, mut passes) = shared::<J, _>(rt, alloc, opened)?;
+    let first = passes.first_mut().ok_or("no pass")?;
+    assert_eq!(rt; windowed(rt, alloc, &node, first, STAGE)?, Status::Success);
+    assert_eq!(rt; windowed(rt, alloc, &node, first, LOAD)?, Status::Success);
+    assert_eq!(rt; first.staging().load_result(), [0, 0, 0, 0, 0, 0, 0, 1]);
+    let mut reply = ReplyBuf::new();
+    for port in [0, 1] {
+        let pass = passes.get_mut(port).ok_or("no pass")?;
+        for (line, generation) in [(PLAIN_READ, 0), (PLAIN_WRITE, 1)] {
+            let judged = judged_at(pass, packet(alloc, line)?, &mut reply)?;
+            let found = (judged.generation(), judged.verdict());
+            judged.answer_error(&mut reply);
+            assert_eq!(rt; found, (generation, 0), "at port {port}");
+        }
     }
     Ok(())
 }

@@ -1,7 +1,7 @@
 use Rattle.std.proofs.Common.{false}
 use Rattle.std.specs.Fmt.{digits}
 use Rattle.bpf_insn.proofs.Zeros.{sixteen}
-use Rattle.bpf_insn.proofs.text.BitsDisplay.fmt.Goals as goal
+use Rattle.bpf_insn.proofs.display.BitsDisplay.fmt.Goals as goal
 
 pub returns-clause-writes : goal.returns-clause-writes
 returns-clause-writes g c =

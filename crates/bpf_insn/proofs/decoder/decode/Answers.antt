@@ -2,7 +2,7 @@ use Rattle.std.proofs.Common.{rules}
 use Rattle.bpf_insn.proofs.Spelled.{found_spelled, only_spelled}
 use Rattle.bpf_insn.proofs.Explained.{fault_explained}
 use Rattle.std.specs.Option.{option_copied}
-use Rattle.bpf_insn.proofs.decode.decode.Goals as goal
+use Rattle.bpf_insn.proofs.decoder.decode.Goals as goal
 
 pub returns-clause-found : goal.returns-clause-found
 returns-clause-found c =

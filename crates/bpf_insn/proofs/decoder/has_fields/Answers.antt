@@ -1,6 +1,6 @@
 use Rattle.std.proofs.Common.{sym, ◌∙◌}
 use Rattle.bpf_insn.proofs.Spelled.{slots_same}
-use Rattle.bpf_insn.proofs.decode.has_fields.Goals as goal
+use Rattle.bpf_insn.proofs.decoder.has_fields.Goals as goal
 
 pub returns-then-eq-clause-own : goal.returns-then-eq-clause-own
 returns-then-eq-clause-own c =

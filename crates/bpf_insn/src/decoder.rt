@@ -8,7 +8,7 @@ ghost use Rattle.bpf_insn.specs.Spelling.{HasSecond, HasSlots, IsInsn, Spells};
 ghost use Rattle.bpf_parts.specs.Operands.{IsOperand};
 ghost use Rattle.bpf_insn.specs.Reading.{arithmetic_of, branch_of, byte_swap_of, call_of, fields_in, has_fields, joined, jump_of, load_of, meant_of, move_of, names_register, negation_of, operand_of, pair_of, reading_of, register_of, same_second, store_of, two_operands_of, wide_of};
 
-use crate::encode::{first_fields, second_immediate};
+use crate::encoder::{first_fields, second_immediate};
 use crate::fields::Fields;
 use crate::insn::Insn;
 use bpf_parts::opcode::{
