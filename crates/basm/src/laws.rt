@@ -4,7 +4,7 @@ ghost use Rattle.basm.specs.Outcomes.{Makes};
 
 use crate::assembly::assemble;
 use crate::faults::AsmFault;
-use crate::text::disassemble;
+use crate::disassembly::disassemble;
 use bpf::Image;
 use std::alloc::Global;
 

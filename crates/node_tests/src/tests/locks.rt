@@ -3,6 +3,7 @@
 ghost use Rattle.std.specs.Prelude.{◌≡◌};
 
 use super::loads::{LOAD, STAGE};
+use super::nodes::yes;
 use bank::{Applied, Judged};
 use bver::Accepted;
 use publish::{Opened, Room};
@@ -55,7 +56,7 @@ fn shared<J: Room, R: Wait + Drop>(
 
 /// How many banks and passes such a node has; `None` where the program takes no memory.
 fn made_shared(rt: &impl Wait, alloc: Global) -> Option<Result<(usize, usize), NodeFault>> {
-    let factory = program(alloc, 0).ok()?;
+    let factory = yes(alloc)?;
     Some(counts::<Brand, _>(rt, alloc, Opened::new(), factory))
 }
 

@@ -219,11 +219,16 @@ fn made<J: Room, R: Wait>(
     Ok((banks.len(), passes.len()))
 }
 
-/// The same of a node of one bank and two ports; `None` where the program takes no memory.
-fn made_small(rt: &impl Wait, alloc: Global) -> Option<Result<(usize, usize), NodeFault>> {
+/// The program that says yes; `None` where it takes no memory.
+pub fn yes(alloc: Global) -> Option<Accepted> {
     let image = assemble(alloc, ".budget 2\nmov r0, 0\nexit").ok()?;
     let sizes = MapSizes::new(&[]).ok()?;
-    let factory = verify(alloc, image, &sizes).ok()?;
+    verify(alloc, image, &sizes).ok()
+}
+
+/// The same of a node of one bank and two ports; `None` where the program takes no memory.
+fn made_small(rt: &impl Wait, alloc: Global) -> Option<Result<(usize, usize), NodeFault>> {
+    let factory = yes(alloc)?;
     Some(made::<Brand, _>(rt, alloc, Opened::new(), 2, &[bank(1024)], factory))
 }
 
