@@ -1,5 +1,5 @@
 -- What is known at a slot: of each register and of each byte of the stack (a choice of this project).
-use Rattle.std.specs.Prelude.{◌≡◌, ℕ, Bool, true, false, ◌&&◌, List, [], ◌∷◌, length, pos, slice_index_or, slice_set, ◌≤ℤ◌}
+use Rattle.std.specs.Prelude.{◌≡◌, ℕ, Bool, false, List, [], ◌∷◌, length, pos, slice_index_or, slice_set, ◌≤ℤ◌}
 use Rattle.machine.specs.declared.regions.Region.TheVariants.{Front, Tail, Stack}
 use Rattle.bpf_parts.specs.declared.operation.Width.TheVariants.{Bits64}
 use Rattle.absdom_num.specs.Ranges.{IsRange}

@@ -1,13 +1,9 @@
 -- The fields of loops.
-use Rattle.std.proofs.Common.{◌≡◌, ℕ, ◌<◌, ◌≤◌, min, ℤ, pos, List, [], ◌∷◌, map, length, get_or, Bool, true, false, ◌&&◌, inl, inr, refl, sym, ap, ◌∙◌, subst, true≢false, ne_eqb, arith}
-use Rattle.std.specs.Prelude.{Option, Some, FitsSigned, IfOk, Ok}
+use Rattle.std.proofs.Common.{◌≡◌, ℕ, ◌<◌, ◌≤◌, ℤ, pos, List, [], ◌∷◌, map, length, get_or, Bool, true, false, ◌&&◌, inl, inr, refl, sym, ap, ◌∙◌, subst, true≢false, ne_eqb, arith}
+use Rattle.std.specs.Prelude.{Option, Some, IfOk, Ok}
 use Rattle.std.specs.Char.{digit_value, is_ascii_alphabetic}
-use Rattle.std.specs.Int.{w32, w64}
 use Rattle.std.specs.List.{list_all}
-use Rattle.std.specs.Int.Signed.{le_z, lt_z}
 use Rattle.std.specs.declared.result.Result.{Result}
-use Rattle.std.proofs.Math.IntN.{nat_abs}
-use Rattle.std.proofs.lemmas.Int.{ints, to_z-of_z}
 use Rattle.bpf.specs.declared.loops.Loop.{Loop}
 use Rattle.bpf.specs.Program.{IsLoop}
 use Rattle.basm_lex.specs.Names.{is_name, is_name_byte}

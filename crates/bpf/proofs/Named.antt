@@ -1,5 +1,5 @@
 -- The fault of an instruction that is named stands in the bytes.
-use Rattle.std.proofs.Common.{◌≡◌, ℕ, zero, suc, ◌+◌, ◌*◌, ◌<◌, Bool, true, false, List, [], ◌∷◌, Option, Some, None, Result, Ok, Err, ◌⊎◌, inl, inr, refl, sym, ap, ◌∙◌, subst, arith, take, drop, slice_index, nat_eq, nat_lt, length, ◌&&◌, ◌==◌, IfErr, if◌then◌else◌, lit<}
+use Rattle.std.proofs.Common.{◌≡◌, ℕ, zero, suc, ◌+◌, ◌*◌, ◌<◌, Bool, true, false, List, [], ◌∷◌, Option, Result, Ok, Err, ◌⊎◌, inl, inr, refl, sym, ap, ◌∙◌, subst, arith, take, drop, slice_index, nat_eq, nat_lt, length, ◌&&◌, ◌==◌, IfErr, if◌then◌else◌, lit<}
 use Rattle.std.specs.List.{starts_with}
 use Rattle.std.proofs.lemmas.List.{drop-drop}
 use Rattle.bpf_insn.specs.declared.insn.Insn.{Insn}
@@ -11,7 +11,7 @@ use Rattle.bpf.specs.declared.loops.Loop.{Loop}
 use Rattle.bpf.specs.declared.fault.ImageFault.{ImageFault}
 use Rattle.bpf.specs.declared.fault.ImageFault.TheVariants as faults
 use Rattle.bpf.specs.Program.{Program, program}
-use Rattle.bpf.specs.Reading.{◌>>=◌, Gives, Fails, IsFaultAt, begins_two, bytes_at, counts_reading, found_at, half_at, is_budget, is_count, magic, word_at, header_reading, image_reading, are_loops, loop_in, loops_in, loops_reading, slot_in, slot_reading, slots_reading}
+use Rattle.bpf.specs.Reading.{◌>>=◌, Gives, IsFaultAt, begins_two, bytes_at, counts_reading, found_at, half_at, is_budget, is_count, magic, word_at, header_reading, image_reading, are_loops, loop_in, loops_in, loops_reading, slot_in, slot_reading, slots_reading}
 
 -- the law of `bpf_insn` that is used: a fault that is read stands in the bytes
 abbrev pub IsExplained : Type 0

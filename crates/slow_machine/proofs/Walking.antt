@@ -9,7 +9,7 @@ use Rattle.machine.specs.Sizes.{Maps}
 use Rattle.machine.specs.Laws.{QuestionsGoOn}
 use Rattle.machine.specs.State.{State, entry_state}
 use Rattle.machine.specs.Step.{Question, question, Outcome, Next, Ask, Verdict, Trap, answered, insn_at, step, finds_maps, step_with}
-use Rattle.machine.specs.Runs.{Path, moves, Runs, call}
+use Rattle.machine.specs.Runs.{Path, moves, call}
 use Rattle.machine.specs.Runs as runs
 use Rattle.slow_machine.specs.Machine.{MachineValue, state_of, step_of, IsTurn, IsAsk, IsSameRun}
 use Rattle.slow_machine.specs.Endings.{answers_of, IsClear, Walk, WalkEnds, WalkTraps, WalkAsks}

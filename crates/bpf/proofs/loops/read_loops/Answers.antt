@@ -1,6 +1,6 @@
 use Rattle.std.proofs.Common.{sym, ◌∙◌}
 use Rattle.std.proofs.lemmas.Result.{err_from_is_err_and}
-use Rattle.bpf.proofs.Front.{loops_tested, loops_tested_fail}
+use Rattle.bpf.proofs.Front.{loops_tested_fail}
 use Rattle.bpf.proofs.Parted.{loops_kept}
 use Rattle.bpf.proofs.loops.read_loops.Goals as goal
 

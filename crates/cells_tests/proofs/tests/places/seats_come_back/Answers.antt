@@ -1,6 +1,6 @@
 use Rattle.std.proofs.Common.{[], All, refl, sym, ap, subst}
 use Rattle.std.proofs.lemmas.List.Elements.{All-replicate}
-use Rattle.cells.specs.Seats.{CellSeatValue, IsSeatOf, seat}
+use Rattle.cells.specs.Seats.{IsSeatOf, seat}
 use Rattle.cells_tests.proofs.tests.places.seats_come_back.Goals as goal
 
 pub give_back-requires : goal.give_back-requires

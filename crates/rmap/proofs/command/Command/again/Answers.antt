@@ -1,5 +1,5 @@
-use Rattle.std.proofs.Common.{rules, ◌≡◌, refl, sym, subst}
-use Rattle.rmap.specs.Command.{CommandValue, IsHeader, command_of}
+use Rattle.std.proofs.Common.{rules, sym, subst}
+use Rattle.rmap.specs.Command.{CommandValue, IsHeader}
 use Rattle.rmap.proofs.Cuts.{IsCut}
 use Rattle.rmap.proofs.Readings.{cut_is, header_in}
 use Rattle.rmap.proofs.command.Command.again.Goals as goal

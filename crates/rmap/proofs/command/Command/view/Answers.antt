@@ -1,4 +1,4 @@
-use Rattle.std.proofs.Common.{rules, ◌*◌, ap, Result, Ok}
+use Rattle.std.proofs.Common.{rules, ap, Result, Ok}
 use Rattle.rmap.specs.Command.{CommandValue}
 use Rattle.rmap.specs.declared.discard.Discard.{Discard}
 use Rattle.rmap.specs.declared.discard.Discard.TheVariants.{HeaderCrc}
