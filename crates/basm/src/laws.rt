@@ -3,8 +3,8 @@
 ghost use Rattle.basm.specs.Outcomes.{Makes};
 
 use crate::assembly::assemble;
-use crate::faults::AsmFault;
 use crate::disassembly::disassemble;
+use crate::faults::AsmFault;
 use bpf::Image;
 use std::alloc::Global;
 
