@@ -9,8 +9,8 @@ use Rattle.bpf_parts.specs.declared.operation.AluOp.TheVariants.{Add, Sub, Mul, 
 use Rattle.machine.specs.declared.regions.Region.{Region}
 use Rattle.machine.specs.declared.values.Value.{Value}
 use Rattle.machine.specs.declared.values.Value.TheVariants.{Unset as Nothing, Num as Number, Ptr as Pointer, Map as MapOf}
-use Rattle.machine.specs.Words.{signed, low}
-use Rattle.machine.specs.Step.{alu, copied, on_number}
+use Rattle.machine.specs.Words.{signed_value, low_part}
+use Rattle.machine.specs.Step.{alu, copied_value, number_result}
 use Rattle.absdom_num.specs.declared.ranges.Range.{Range}
 use Rattle.absdom_num.specs.Ranges.{IsIn}
 use Rattle.absdom_num.specs.Laws.{AluFits}
@@ -19,7 +19,7 @@ use Rattle.absdom.specs.declared.kinds.AbsKind.{AbsKind}
 use Rattle.absdom.specs.declared.kinds.AbsKind.TheVariants.{Unset, Num, Ptr, Map}
 use Rattle.absdom.specs.Offsets.{offsets_within, is_offset}
 use Rattle.absdom.specs.Kinds.{number_of}
-use Rattle.absdom.specs.Effect.{computed, computed_alone, copied_kind, signed_ends, moved_to, offsets_up, offsets_down, sum_kind, difference_kind, alu_kind}
+use Rattle.absdom.specs.Effect.{kind_of_two, kind_of_one, copied_kind, signed_ends, pointer_kind, offsets_up, offsets_down, sum_kind, difference_kind, alu_kind}
 use Rattle.absdom.specs.Fits.{IsAmong, FitsKind}
 
 -- where an operation is not refused, the machine gives a value that fits
@@ -28,7 +28,7 @@ FitsResult value (Err cause) = Unit {0}
 FitsResult None (Ok kind) = ⊥
 FitsResult (Some value) (Ok kind) = FitsKind value kind
 
-pub computed_fits : AluFits → (op : AluOp) (width : Width) (u v : Value) (p q : AbsKind) → FitsKind u p → FitsKind v q → FitsResult (alu op width u v) (computed op width (number_of p) (number_of q))
+pub computed_fits : AluFits → (op : AluOp) (width : Width) (u v : Value) (p q : AbsKind) → FitsKind u p → FitsKind v q → FitsResult (alu op width u v) (kind_of_two op width (number_of p) (number_of q))
 computed_fits fits op width u v Unset q g h = tt
 computed_fits fits op width u v (Ptr r o) q g h = tt
 computed_fits fits op width u v (Map i) q g h = tt
@@ -44,7 +44,7 @@ computed_fits fits op width (Number n) (MapOf i) (Num a) (Num b) g h = absurd h
 computed_fits fits op width (Number n) (Number m) (Num a) (Num b) g h = fits op width a b n m g h
 
 -- MOV does not read its destination
-pub alu-Mov : (width : Width) (u v : Value) → alu Mov width u v ≡ copied width v
+pub alu-Mov : (width : Width) (u v : Value) → alu Mov width u v ≡ copied_value width v
 alu-Mov width Nothing v = refl
 alu-Mov width (MapOf i) v = refl
 alu-Mov width (Number n) Nothing = refl
@@ -60,7 +60,7 @@ alu-Mov Bits64 (Pointer s x) (Number m) = refl
 alu-Mov Bits64 (Pointer s x) (Pointer r z) = refl
 alu-Mov Bits64 (Pointer s x) (MapOf i) = refl
 
-pub copied_fits : AluFits → (width : Width) (v : Value) (q : AbsKind) → FitsKind v q → FitsResult (copied width v) (copied_kind width q)
+pub copied_fits : AluFits → (width : Width) (v : Value) (q : AbsKind) → FitsKind v q → FitsResult (copied_value width v) (copied_kind width q)
 copied_fits fits width v Unset h = tt
 copied_fits fits width Nothing (Num a) h = absurd h
 copied_fits fits width (Number n) (Num a) h = fits Mov width a a n n h h
@@ -85,26 +85,26 @@ pub sign_known : (b : Range) → (nat_lt b.1 (2 ^ 63) || nat_le (2 ^ 63) b.0) �
 sign_known b e = grind (arith, nat_tests)
 
 -- a word with its highest bit set, read as signed
-pub negative_is : (n : ℕ) → 2 ^ 63 ≤ n → signed Bits64 n ≡ negsuc (2 ^ 64 - suc n)
+pub negative_is : (n : ℕ) → 2 ^ 63 ≤ n → signed_value Bits64 n ≡ negsuc (2 ^ 64 - suc n)
 negative_is n h = let e : nat_lt n (2 ^ 63) ≡ false = grind (arith, nat_tests) in rw e refl
 
-pub negatives_rise : (a b : ℕ) → a ≤ b → 2 ^ 63 ≤ a → signed Bits64 a ≤ℤ signed Bits64 b
+pub negatives_rise : (a b : ℕ) → a ≤ b → 2 ^ 63 ≤ a → signed_value Bits64 a ≤ℤ signed_value Bits64 b
 negatives_rise a b h k =
     let m : 2 ^ 63 ≤ b = omega arith in
     rw (negative_is a k, negative_is b m) (omega (arith, ints))
 
-pub signed_above : (b : Range) (m : ℕ) → HasSign b → IsIn m b → signed Bits64 b.0 ≤ℤ signed Bits64 m
+pub signed_above : (b : Range) (m : ℕ) → HasSign b → IsIn m b → signed_value Bits64 b.0 ≤ℤ signed_value Bits64 m
 signed_above b m (inl s) h = omega (arith, ints)
 signed_above b m (inr s) h = negatives_rise b.0 m h.above s
 
-pub signed_below : (b : Range) (m : ℕ) → HasSign b → IsIn m b → signed Bits64 m ≤ℤ signed Bits64 b.1
+pub signed_below : (b : Range) (m : ℕ) → HasSign b → IsIn m b → signed_value Bits64 m ≤ℤ signed_value Bits64 b.1
 signed_below b m (inl s) h = omega (arith, ints)
 signed_below b m (inr s) h = negatives_rise m b.1 h.below (omega (arith, h.above))
 
 -- within the limits or not, the offset is among the new ones
-pub moved_fits : (r s : Region) (z low high : ℤ) → r ≡ s → low ≤ℤ z → z ≤ℤ high → FitsResult (Some (Pointer r z)) (moved_to s (offsets_within low high))
+pub moved_fits : (r s : Region) (z low high : ℤ) → r ≡ s → low ≤ℤ z → z ≤ℤ high → FitsResult (Some (Pointer r z)) (pointer_kind s (offsets_within low high))
 moved_fits r s z low high e above below =
-    elim (is_offset low && is_offset high) as (λ b. FitsResult (Some (Pointer r z)) (moved_to s (if b then Some (low, high) else None))) [
+    elim (is_offset low && is_offset high) as (λ b. FitsResult (Some (Pointer r z)) (pointer_kind s (if b then Some (low, high) else None))) [
       | true ↦ (e, record { above = above; below = below })
       | false ↦ tt
     ]
@@ -116,27 +116,27 @@ pub difference_order : (a b c d : ℤ) → a ≤ℤ b → c ≤ℤ d → (a -ℤ
 difference_order a b c d g h = omega (arith, ints)
 
 -- a pointer that was moved up by a number of known sign; where the sign is unknown, it is refused
-up_by_test : (r s : Region) (z : ℤ) (o : ℤ × ℤ) (m : ℕ) (b : Range) → r ≡ s → IsAmong z o → IsIn m b → (t : Bool) → (nat_lt b.1 (2 ^ 63) || nat_le (2 ^ 63) b.0) ≡ t → FitsResult (Some (Pointer r (z +ℤ signed Bits64 m))) (moved_to s (offsets_up o (if t then Some (signed Bits64 b.0, signed Bits64 b.1) else None)))
+up_by_test : (r s : Region) (z : ℤ) (o : ℤ × ℤ) (m : ℕ) (b : Range) → r ≡ s → IsAmong z o → IsIn m b → (t : Bool) → (nat_lt b.1 (2 ^ 63) || nat_le (2 ^ 63) b.0) ≡ t → FitsResult (Some (Pointer r (z +ℤ signed_value Bits64 m))) (pointer_kind s (offsets_up o (if t then Some (signed_value Bits64 b.0, signed_value Bits64 b.1) else None)))
 up_by_test r s z o m b e h i false t = tt
 up_by_test r s z o m b e h i true t =
     let k : HasSign b = sign_known b t in
-    let above : signed Bits64 b.0 ≤ℤ signed Bits64 m = signed_above b m k i in
-    let below : signed Bits64 m ≤ℤ signed Bits64 b.1 = signed_below b m k i in
-    moved_fits r s (z +ℤ signed Bits64 m) (o.0 +ℤ signed Bits64 b.0) (o.1 +ℤ signed Bits64 b.1) e (sum_order o.0 z _ _ h.above above) (sum_order z o.1 _ _ h.below below)
+    let above : signed_value Bits64 b.0 ≤ℤ signed_value Bits64 m = signed_above b m k i in
+    let below : signed_value Bits64 m ≤ℤ signed_value Bits64 b.1 = signed_below b m k i in
+    moved_fits r s (z +ℤ signed_value Bits64 m) (o.0 +ℤ signed_value Bits64 b.0) (o.1 +ℤ signed_value Bits64 b.1) e (sum_order o.0 z _ _ h.above above) (sum_order z o.1 _ _ h.below below)
 
-pub up_fits : (r s : Region) (z : ℤ) (o : ℤ × ℤ) (m : ℕ) (b : Range) → r ≡ s → IsAmong z o → IsIn m b → FitsResult (Some (Pointer r (z +ℤ signed Bits64 m))) (moved_to s (offsets_up o (signed_ends b)))
+pub up_fits : (r s : Region) (z : ℤ) (o : ℤ × ℤ) (m : ℕ) (b : Range) → r ≡ s → IsAmong z o → IsIn m b → FitsResult (Some (Pointer r (z +ℤ signed_value Bits64 m))) (pointer_kind s (offsets_up o (signed_ends b)))
 up_fits r s z o m b e h i = up_by_test r s z o m b e h i (nat_lt b.1 (2 ^ 63) || nat_le (2 ^ 63) b.0) refl
 
 -- and down
-down_by_test : (r s : Region) (z : ℤ) (o : ℤ × ℤ) (m : ℕ) (b : Range) → r ≡ s → IsAmong z o → IsIn m b → (t : Bool) → (nat_lt b.1 (2 ^ 63) || nat_le (2 ^ 63) b.0) ≡ t → FitsResult (Some (Pointer r (z -ℤ signed Bits64 m))) (moved_to s (offsets_down o (if t then Some (signed Bits64 b.0, signed Bits64 b.1) else None)))
+down_by_test : (r s : Region) (z : ℤ) (o : ℤ × ℤ) (m : ℕ) (b : Range) → r ≡ s → IsAmong z o → IsIn m b → (t : Bool) → (nat_lt b.1 (2 ^ 63) || nat_le (2 ^ 63) b.0) ≡ t → FitsResult (Some (Pointer r (z -ℤ signed_value Bits64 m))) (pointer_kind s (offsets_down o (if t then Some (signed_value Bits64 b.0, signed_value Bits64 b.1) else None)))
 down_by_test r s z o m b e h i false t = tt
 down_by_test r s z o m b e h i true t =
     let k : HasSign b = sign_known b t in
-    let above : signed Bits64 b.0 ≤ℤ signed Bits64 m = signed_above b m k i in
-    let below : signed Bits64 m ≤ℤ signed Bits64 b.1 = signed_below b m k i in
-    moved_fits r s (z -ℤ signed Bits64 m) (o.0 -ℤ signed Bits64 b.1) (o.1 -ℤ signed Bits64 b.0) e (difference_order o.0 z _ _ h.above below) (difference_order z o.1 _ _ h.below above)
+    let above : signed_value Bits64 b.0 ≤ℤ signed_value Bits64 m = signed_above b m k i in
+    let below : signed_value Bits64 m ≤ℤ signed_value Bits64 b.1 = signed_below b m k i in
+    moved_fits r s (z -ℤ signed_value Bits64 m) (o.0 -ℤ signed_value Bits64 b.1) (o.1 -ℤ signed_value Bits64 b.0) e (difference_order o.0 z _ _ h.above below) (difference_order z o.1 _ _ h.below above)
 
-pub down_fits : (r s : Region) (z : ℤ) (o : ℤ × ℤ) (m : ℕ) (b : Range) → r ≡ s → IsAmong z o → IsIn m b → FitsResult (Some (Pointer r (z -ℤ signed Bits64 m))) (moved_to s (offsets_down o (signed_ends b)))
+pub down_fits : (r s : Region) (z : ℤ) (o : ℤ × ℤ) (m : ℕ) (b : Range) → r ≡ s → IsAmong z o → IsIn m b → FitsResult (Some (Pointer r (z -ℤ signed_value Bits64 m))) (pointer_kind s (offsets_down o (signed_ends b)))
 down_fits r s z o m b e h i = down_by_test r s z o m b e h i (nat_lt b.1 (2 ^ 63) || nat_le (2 ^ 63) b.0) refl
 
 pub sum_fits : AluFits → (width : Width) (u v : Value) (p q : AbsKind) → FitsKind u p → FitsKind v q → FitsResult (alu Add width u v) (sum_kind width p q)
@@ -190,7 +190,7 @@ alu_fits fits Mov width u v p q g h =
     subst P (sym (alu-Mov width u v)) (copied_fits fits width v q h)
 
 -- an operation on one number
-pub computed_alone_fits : (f : ℕ → ℕ) (F : Range → Range) → ((a : Range) (n : ℕ) → IsIn n a → IsIn (f n) (F a)) → (u : Value) (p : AbsKind) → FitsKind u p → FitsResult (on_number f u) (computed_alone F (number_of p))
+pub computed_alone_fits : (f : ℕ → ℕ) (F : Range → Range) → ((a : Range) (n : ℕ) → IsIn n a → IsIn (f n) (F a)) → (u : Value) (p : AbsKind) → FitsKind u p → FitsResult (number_result f u) (kind_of_one F (number_of p))
 computed_alone_fits f F fits u Unset g = tt
 computed_alone_fits f F fits u (Ptr r o) g = tt
 computed_alone_fits f F fits u (Map i) g = tt

@@ -8,21 +8,21 @@ use Rattle.bpf_parts.specs.declared.operation.Operand.{Operand}
 use Rattle.bpf_parts.specs.declared.operation.Operand.TheVariants.{FromRegister, Immediate}
 use Rattle.machine.specs.declared.values.Value.{Value}
 use Rattle.machine.specs.declared.values.Value.TheVariants.{Unset as Nothing, Num as Number, Ptr as Pointer, Map as MapOf}
-use Rattle.machine.specs.Words.{word, low, holds_low, holds_words}
+use Rattle.machine.specs.Words.{word, low_part, holds_low, holds_words}
 use Rattle.machine.specs.State.{State}
 use Rattle.machine.specs.Step.{operand, compares, branches}
 use Rattle.absdom_num.specs.declared.ranges.Range.{Range}
 use Rattle.absdom_num.specs.declared.refinement.Operands.{Operands}
 use Rattle.absdom_num.specs.declared.refinement.Edges.{Edges as RangeEdges}
 use Rattle.absdom_num.specs.Ranges.{IsIn}
-use Rattle.absdom_num.specs.Refinement.{refined}
-use Rattle.absdom_num.specs.Laws.{AreIn, followed, RefineFits as RangesFit}
+use Rattle.absdom_num.specs.Refinement.{refined_ranges}
+use Rattle.absdom_num.specs.Laws.{AreIn, followed_edge, RefineFits as RangesFit}
 use Rattle.absdom.specs.declared.cause.Cause.{Cause}
 use Rattle.absdom.specs.declared.kinds.AbsKind.{AbsKind}
 use Rattle.absdom.specs.declared.kinds.AbsKind.TheVariants.{Unset, Num, Ptr, Map}
 use Rattle.absdom.specs.Kinds.{number_of}
 use Rattle.absdom.specs.State.{StateValue, kind_in, kind_at, with_kind}
-use Rattle.absdom.specs.Edges.{compared, with_source, on_edge, on_edges, unrefined, is_itself, edges_of, compared_edges}
+use Rattle.absdom.specs.Edges.{compared_range, with_source, edge_state, edge_states, unrefined_edges, is_itself, edges_of, compared_edges}
 use Rattle.absdom.specs.Fits.{FitsKind, Fits, FitsEdge, edge_where, TakesEdge}
 use Rattle.absdom.specs.Laws.{RefineFits}
 use Rattle.absdom.proofs.FitsMemory.{word_below}
@@ -45,17 +45,17 @@ has_number (MapOf i) (Num a) f = absurd f
 -- what a comparison compares with: the number of a register, or the bits that it reads of an immediate
 abbrev pub SourceIs : State → Width → Operand → ℕ → Type 0
 SourceIs s width (FromRegister r) m = s.registers r ≡ Number m
-SourceIs s width (Immediate z) m = m ≡ low width (word z)
+SourceIs s width (Immediate z) m = m ≡ low_part width (word z)
 
 abbrev pub HasSource : State → Width → Operand → Result Range Cause → Type 0
 HasSource s width src (Err cause) = Unit {0}
 HasSource s width src (Ok range) = (m : ℕ) × SourceIs s width src m × IsIn m range
 
-low_below : (width : Width) (n : ℕ) → n < 2 ^ 64 → low width n < 2 ^ 64
+low_below : (width : Width) (n : ℕ) → n < 2 ^ 64 → low_part width n < 2 ^ 64
 low_below Bits32 n h = omega arith
 low_below Bits64 n h = h
 
-low-low : (width : Width) (n : ℕ) → low width (low width n) ≡ low width n
+low-low : (width : Width) (n : ℕ) → low_part width (low_part width n) ≡ low_part width n
 low-low Bits32 n = omega arith
 low-low Bits64 n = refl
 
@@ -63,18 +63,18 @@ source_of_number : (s : State) (width : Width) (r : ℕ) (result : Result Range 
 source_of_number s width r (Err cause) h = tt
 source_of_number s width r (Ok range) h = h
 
-has_source : (s : State) (a : StateValue) (width : Width) (src : Operand) → Fits s a → HasSource s width src (compared width a src)
+has_source : (s : State) (a : StateValue) (width : Width) (src : Operand) → Fits s a → HasSource s width src (compared_range width a src)
 has_source s a width (FromRegister r) fits =
     source_of_number s width r (number_of (kind_at a r)) (has_number (s.registers r) (kind_at a r) (fits.registers r))
 has_source s a width (Immediate z) fits =
-    let below : low width (word z) < 2 ^ 64 = low_below width (word z) (word_below z) in
-    (low width (word z), refl, record { above = omega arith; below = omega arith; word = below })
+    let below : low_part width (word z) < 2 ^ 64 = low_below width (word z) (word_below z) in
+    (low_part width (word z), refl, record { above = omega arith; below = omega arith; word = below })
 
 -- the machine compares these numbers
 compares_is : (s : State) (condition : Condition) (width : Width) (offset : ℤ) (src : Operand) (n m : ℕ) → SourceIs s width src m → compares condition width s offset (Number n) (operand s src) ≡ branches s offset (holds_words condition width n m)
 compares_is s condition width offset (FromRegister r) n m e = ap (λ v. compares condition width s offset (Number n) v) e
 compares_is s condition width offset (Immediate z) n m e =
-    ap (λ x. branches s offset (holds_low condition width (low width n) x)) (sym (low-low width (word z)) ∙ ap (low width) (sym e))
+    ap (λ x. branches s offset (holds_low condition width (low_part width n) x)) (sym (low-low width (word z)) ∙ ap (low_part width) (sym e))
 
 -- a register's kind may be any that its value fits
 kind_refined : (regs : ℕ → Value) (kinds : List AbsKind) (r : ℕ) (k : AbsKind) → FitsKind (regs r) k → ((q : ℕ) → FitsKind (regs q) (kind_in kinds q)) → (q : ℕ) (t : Bool) → (q == r) ≡ t → FitsKind (regs q) (kind_in (set kinds r k) q)
@@ -100,26 +100,26 @@ with_source_fits s a width (FromRegister r) m range e h fits =
     fits_refined s a r (Num range) (number_fits (s.registers r) m range e h) fits
 with_source_fits s a width (Immediate z) m range e h fits = fits
 
-on_edge_fits : (s : State) (a : StateValue) (width : Width) (dst : ℕ) (src : Operand) (n m : ℕ) (new : Option Operands) → s.registers dst ≡ Number n → SourceIs s width src m → AreIn n m new → Fits s a → FitsEdge s (on_edge a dst src new)
+on_edge_fits : (s : State) (a : StateValue) (width : Width) (dst : ℕ) (src : Operand) (n m : ℕ) (new : Option Operands) → s.registers dst ≡ Number n → SourceIs s width src m → AreIn n m new → Fits s a → FitsEdge s (edge_state a dst src new)
 on_edge_fits s a width dst src n m None e d h fits = absurd h
 on_edge_fits s a width dst src n m (Some new) e d h fits =
     with_source_fits s (with_kind a dst (Num new.dst)) width src m new.src d h.1
     (fits_refined s a dst (Num new.dst) (number_fits (s.registers dst) n new.dst e h.0) fits)
 
-edge_fits : (s : State) (a : StateValue) (width : Width) (dst : ℕ) (src : Operand) (n m : ℕ) (new : RangeEdges) (holds : Bool) → s.registers dst ≡ Number n → SourceIs s width src m → AreIn n m (followed holds new) → Fits s a → FitsEdge s (edge_where holds (on_edges a dst src new))
+edge_fits : (s : State) (a : StateValue) (width : Width) (dst : ℕ) (src : Operand) (n m : ℕ) (new : RangeEdges) (holds : Bool) → s.registers dst ≡ Number n → SourceIs s width src m → AreIn n m (followed_edge holds new) → Fits s a → FitsEdge s (edge_where holds (edge_states a dst src new))
 edge_fits s a width dst src n m new true e d h fits = on_edge_fits s a width dst src n m new.taken e d h fits
 edge_fits s a width dst src n m new false e d h fits = on_edge_fits s a width dst src n m new.not_taken e d h fits
 
-unrefined_fits : (s : State) (a : StateValue) (holds : Bool) → Fits s a → FitsEdge s (edge_where holds (unrefined a))
+unrefined_fits : (s : State) (a : StateValue) (holds : Bool) → Fits s a → FitsEdge s (edge_where holds (unrefined_edges a))
 unrefined_fits s a true fits = fits
 unrefined_fits s a false fits = fits
 
 edges_fit : RangesFit → (s : State) (a : StateValue) (condition : Condition) (width : Width) (dst : ℕ) (src : Operand) (left right : Range) (n m : ℕ) → s.registers dst ≡ Number n → SourceIs s width src m → IsIn n left → IsIn m right → Fits s a → FitsEdge s (edge_where (holds_words condition width n m) (edges_of condition width a dst src left right))
 edges_fit ranges s a condition width dst src left right n m e d g h fits =
-    elim (is_itself dst src) as (λ t. FitsEdge s (edge_where (holds_words condition width n m) (if t then unrefined a else on_edges a dst src (refined condition width left right)))) [
+    elim (is_itself dst src) as (λ t. FitsEdge s (edge_where (holds_words condition width n m) (if t then unrefined_edges a else edge_states a dst src (refined_ranges condition width left right)))) [
       | true ↦ unrefined_fits s a (holds_words condition width n m) fits
       | false ↦
-          edge_fits s a width dst src n m (refined condition width left right) (holds_words condition width n m) e d
+          edge_fits s a width dst src n m (refined_ranges condition width left right) (holds_words condition width n m) e d
           (ranges condition width left right n m g h) fits
     ]
 
@@ -136,5 +136,5 @@ pub refine_fits : RangesFit → RefineFits
 refine_fits ranges header s a comparison offset fits =
     let dst = comparison.dst in
     let src = comparison.src in
-    compared_fit ranges s a comparison.condition comparison.width dst src offset (number_of (kind_at a dst)) (compared comparison.width a src)
+    compared_fit ranges s a comparison.condition comparison.width dst src offset (number_of (kind_at a dst)) (compared_range comparison.width a src)
     (has_number (s.registers dst) (kind_at a dst) (fits.registers dst)) (has_source s a comparison.width src fits) fits

@@ -6,7 +6,7 @@ use Rattle.bpf_parts.specs.declared.operation.Width.TheVariants.{Bits64}
 use Rattle.machine.specs.declared.values.Value.{Value}
 use Rattle.machine.specs.declared.values.Value.TheVariants.{Unset as Nothing, Num as Number}
 use Rattle.machine.specs.State.{State, state, entry_register, register_after, register_after_call}
-use Rattle.absdom_num.specs.Tables.{whole}
+use Rattle.absdom_num.specs.Tables.{whole_range}
 use Rattle.absdom.specs.declared.kinds.AbsKind.{AbsKind}
 use Rattle.absdom.specs.declared.kinds.AbsKind.TheVariants.{Unset, Num}
 use Rattle.absdom.specs.State.{StateValue, entry_kinds, kind_in, kind_at, after_call}
@@ -67,12 +67,12 @@ same_after_call r answer (suc (suc (suc (suc (suc (suc k)))))) = same_above r an
 called_fits : (s : State) (a : StateValue) (answer : ℕ) → answer < 2 ^ 64 → Fits s a → Fits (state (s.slot + 1) (one_by_one s.registers answer) s.stack) (after_call a)
 unfolding one_by_one
 called_fits s a answer h fits =
-    let w : FitsKind (Number answer) (Num (whole Bits64)) = record { above = omega arith; below = omega arith; word = h } in
+    let w : FitsKind (Number answer) (Num (whole_range Bits64)) = record { above = omega arith; below = omega arith; word = h } in
     fits_after _ _ (s.slot + 1) 5 Nothing Unset tt
     (fits_after _ _ (s.slot + 1) 4 Nothing Unset tt
     (fits_after _ _ (s.slot + 1) 3 Nothing Unset tt
     (fits_after _ _ (s.slot + 1) 2 Nothing Unset tt
-    (fits_after _ _ (s.slot + 1) 1 Nothing Unset tt (fits_after s a (s.slot + 1) 0 (Number answer) (Num (whole Bits64)) w fits)))))
+    (fits_after _ _ (s.slot + 1) 1 Nothing Unset tt (fits_after s a (s.slot + 1) 0 (Number answer) (Num (whole_range Bits64)) w fits)))))
 
 pub after_call_fits : CallFits
 after_call_fits s a answer h fits =

@@ -13,7 +13,7 @@ use Rattle.machine.specs.declared.values.Value.{Value}
 use Rattle.machine.specs.declared.values.Value.TheVariants.{Unset as Nothing, Num as Number, Ptr as Pointer, Map as MapOf}
 use Rattle.machine.specs.Words.{word}
 use Rattle.bpf_parts.specs.Sizes.{load_bytes}
-use Rattle.machine.specs.Memory.{Header, IsHeader, region_size, place_within, place_of, byte_of, byte_below, little, loaded}
+use Rattle.machine.specs.Memory.{Header, IsHeader, region_size, place_within, place_of, byte_of, byte_below, little_endian, loaded_value}
 use Rattle.machine.specs.State.{State}
 use Rattle.machine.specs.Step.{load_value, bytes_at, loads}
 use Rattle.absdom_num.specs.Ranges.{IsIn}
@@ -76,11 +76,11 @@ below_fits n None rest g h = absurd g
 below_fits n (Some b) None g h = absurd h
 below_fits n (Some b) (Some r) g h = let e : 256 ^ (suc n) ≡ 256 * 256 ^ n = pow-succ' 256 n in rw e (omega arith)
 
-pub little_fits : (byte : ℕ → Option ℕ) (n place : ℕ) → ((k : ℕ) → k < n → IsByte (byte (place + k))) → IsNumber (256 ^ n) (little byte n place)
-unfolding little
+pub little_fits : (byte : ℕ → Option ℕ) (n place : ℕ) → ((k : ℕ) → k < n → IsByte (byte (place + k))) → IsNumber (256 ^ n) (little_endian byte n place)
+unfolding little_endian
 little_fits byte zero place h = lit< tt
 little_fits byte (suc n) place h =
-    below_fits n (byte place) (little byte n (suc place))
+    below_fits n (byte place) (little_endian byte n (suc place))
     (let P : ℕ → Type 0 = λ p. IsByte (byte p) in subst P (omega arith) (h 0 (omega arith)))
     (little_fits byte n (suc place) (λ k l. let P : ℕ → Type 0 = λ p. IsByte (byte p) in let e : place + suc k ≡ suc place + k = omega arith in subst P e (h (suc k) (omega arith))))
 
@@ -119,7 +119,7 @@ word_below (pos n) = omega arith
 word_below (negsuc n) = omega arith
 
 -- what the bytes of a load give is in its range
-pub loaded_fits : (size : LoadSize) (n : ℕ) → n < 256 ^ (load_bytes size) → IsIn (loaded size n) (loaded_range size)
+pub loaded_fits : (size : LoadSize) (n : ℕ) → n < 256 ^ (load_bytes size) → IsIn (loaded_value size n) (loaded_range size)
 loaded_fits LoadByte n h = record { above = omega arith; below = omega arith; word = omega arith }
 loaded_fits LoadHalf n h = record { above = omega arith; below = omega arith; word = omega arith }
 loaded_fits LoadWord n h = record { above = omega arith; below = omega arith; word = omega arith }
@@ -152,10 +152,10 @@ bytes_set header s a Stack bytes first last place known fits e between k h =
     subst P d (fits.bytes (first + (place + k - first)) m)
 
 -- by whether all of them are set
-read_by_test : (header : Header) (s : State) (a : StateValue) (size : LoadSize) (region : Region) (first last place : ℕ) → IsHeader header → Fits s a → IsBetween (region_size region) (load_bytes size) first last place → (t : Bool) → is_set region a.marks (load_bytes size) (first, last) ≡ t → FitsResult (load_value size (little (byte_of header s.stack region) (load_bytes size) place)) (if t then Ok (Num (loaded_range size)) else Err UnsetStack)
+read_by_test : (header : Header) (s : State) (a : StateValue) (size : LoadSize) (region : Region) (first last place : ℕ) → IsHeader header → Fits s a → IsBetween (region_size region) (load_bytes size) first last place → (t : Bool) → is_set region a.marks (load_bytes size) (first, last) ≡ t → FitsResult (load_value size (little_endian (byte_of header s.stack region) (load_bytes size) place)) (if t then Ok (Num (loaded_range size)) else Err UnsetStack)
 read_by_test header s a size region first last place known fits between false e = tt
 read_by_test header s a size region first last place known fits between true e =
-    value_fits size (little (byte_of header s.stack region) (load_bytes size) place)
+    value_fits size (little_endian (byte_of header s.stack region) (load_bytes size) place)
     (little_fits (byte_of header s.stack region) (load_bytes size) place (bytes_set header s a region (load_bytes size) first last place known fits e between))
 
 read_fits : (header : Header) (s : State) (a : StateValue) (size : LoadSize) (region : Region) (places : Option (ℕ × ℕ)) (place : Option ℕ) → IsHeader header → Fits s a → HasPlace (region_size region) (load_bytes size) places place → FitsResult (load_value size (bytes_at header s.stack region (load_bytes size) place)) (read_kind a size region places)

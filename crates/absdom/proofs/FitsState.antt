@@ -10,20 +10,20 @@ use Rattle.machine.specs.declared.regions.Region.{Region}
 use Rattle.machine.specs.declared.regions.Region.TheVariants.{Front, Tail, Stack}
 use Rattle.machine.specs.declared.values.Value.{Value}
 use Rattle.machine.specs.declared.values.Value.TheVariants.{Unset as Nothing, Num as Number, Ptr as Pointer, Map as MapOf}
-use Rattle.machine.specs.Words.{negated, extended, swapped}
+use Rattle.machine.specs.Words.{negation, sign_extension, swapped_bytes}
 use Rattle.bpf_parts.specs.Sizes.{size_bytes}
 use Rattle.machine.specs.Memory.{place_of, byte_after}
 use Rattle.machine.specs.State.{State, state, register_after}
-use Rattle.machine.specs.Step.{Next, Trap, operand, alu, on_number, loads, writes, puts, stores, map_at}
-use Rattle.absdom_num.specs.Tables.{only, negated_range, extended_range, swapped_range}
+use Rattle.machine.specs.Step.{Next, Trap, operand, alu, number_result, loads, writes, puts, stores, map_at}
+use Rattle.absdom_num.specs.Tables.{single_range, negated_range, extended_range, swapped_range}
 use Rattle.absdom_num.specs.Laws.{AluFits, NegateFits, MoveSignedFits, ByteSwapFits}
 use Rattle.absdom.specs.declared.cause.Cause.{Cause}
 use Rattle.absdom.specs.declared.kinds.AbsKind.{AbsKind}
 use Rattle.absdom.specs.declared.kinds.AbsKind.TheVariants.{Unset, Num, Ptr, Map}
 use Rattle.absdom.specs.Kinds.{number_of}
 use Rattle.absdom.specs.State.{StateValue, kind_in, kind_at, with_kind, with_marks}
-use Rattle.absdom.specs.Marks.{mark_at, marked}
-use Rattle.absdom.specs.Effect.{operand_kind, alu_kind, computed_alone, load_kind, access_places, wrote_at, stored, written, map_kind}
+use Rattle.absdom.specs.Marks.{mark_at, marks_after}
+use Rattle.absdom.specs.Effect.{operand_kind, alu_kind, kind_of_one, load_kind, access_places, after_write_at, after_store, with_result, map_kind}
 use Rattle.absdom.specs.Fits.{FitsKind, IsByte, Fits, GoesOn, IsSound, IsIndex}
 use Rattle.absdom.specs.Laws.{ApplyFits}
 use Rattle.absdom.proofs.FitsAlu.{FitsResult, alu_fits, computed_alone_fits}
@@ -58,7 +58,7 @@ written_by_test : (s : State) (a : StateValue) (next r : ℕ) (v : Value) (k : A
 written_by_test s a next r v k ne f fits true e = let eq : r ≡ 10 = grind (arith, nat_tests) in absurd (ne eq)
 written_by_test s a next r v k ne f fits false e = (refl, fits_after s a next r v k f fits)
 
-pub writes_sound : (s : State) (a : StateValue) (next r : ℕ) (value : Option Value) (result : Result AbsKind Cause) → r ≢ 10 → Fits s a → FitsResult value result → IsSound (writes s next r value) next (written a r result)
+pub writes_sound : (s : State) (a : StateValue) (next r : ℕ) (value : Option Value) (result : Result AbsKind Cause) → r ≢ 10 → Fits s a → FitsResult value result → IsSound (writes s next r value) next (with_result a r result)
 writes_sound s a next r value (Err cause) ne fits f = tt
 writes_sound s a next r None (Ok k) ne fits f = absurd f
 writes_sound s a next r (Some v) (Ok k) ne fits f = written_by_test s a next r v k ne f fits (r == 10) refl
@@ -81,14 +81,14 @@ byte_written stack bytes start n place g h =
     rw (e, f) (omega arith)
 
 -- a new mark is one of the bytes that were written
-pub mark_is_new : (marks : List Bool) (first bytes place : ℕ) → mark_at (marked marks first bytes) place ≡ true → (mark_at marks place ≡ true) ⊎ ((first ≤ place) × (place < first + bytes))
-unfolding marked
+pub mark_is_new : (marks : List Bool) (first bytes place : ℕ) → mark_at (marks_after marks first bytes) place ≡ true → (mark_at marks place ≡ true) ⊎ ((first ≤ place) × (place < first + bytes))
+unfolding marks_after
 mark_is_new marks first zero place e = inl e
 mark_is_new marks first (suc bytes) place e =
     elim (equal_or_not place (first + bytes)) [
       | inl d ↦ inr (omega arith, omega arith)
       | inr ne ↦
-          elim (mark_is_new marks first bytes place (sym (get_or-set_other (marked marks first bytes) (first + bytes) place true false ne) ∙ e)) [
+          elim (mark_is_new marks first bytes place (sym (get_or-set_other (marks_after marks first bytes) (first + bytes) place true false ne) ∙ e)) [
             | inl m ↦ inl m
             | inr k ↦ inr (k.0, omega (arith, k.1))
           ]
@@ -98,7 +98,7 @@ mark_is_new marks first (suc bytes) place e =
     equal_or_not m n = grind (arith, nat_tests)
 
 -- after a store at a place between the two that are known
-wrote_by_test : (s : State) (a : StateValue) (bytes first last place n : ℕ) → IsBetween 512 bytes first last place → Fits s a → (t : Bool) → (first == last) ≡ t → Fits (state (s.slot + 1) s.registers (byte_after s.stack bytes place n)) (if t then with_marks a (marked a.marks first bytes) else a)
+wrote_by_test : (s : State) (a : StateValue) (bytes first last place n : ℕ) → IsBetween 512 bytes first last place → Fits s a → (t : Bool) → (first == last) ≡ t → Fits (state (s.slot + 1) s.registers (byte_after s.stack bytes place n)) (if t then with_marks a (marks_after a.marks first bytes) else a)
 wrote_by_test s a bytes first last place n between fits false e =
     record { registers = fits.registers; bytes = λ p m. byte_stays s.stack bytes place n p (fits.bytes p m) }
 wrote_by_test s a bytes first last place n between fits true e =
@@ -113,14 +113,14 @@ wrote_by_test s a bytes first last place n between fits true e =
           ];
     }
 
-puts_sound : (s : State) (a : StateValue) (bytes : ℕ) (places : Option (ℕ × ℕ)) (place : Option ℕ) (n : ℕ) → HasPlace 512 bytes places place → Fits s a → IsSound (puts s bytes place (Number n)) (s.slot + 1) (wrote_at a bytes places)
+puts_sound : (s : State) (a : StateValue) (bytes : ℕ) (places : Option (ℕ × ℕ)) (place : Option ℕ) (n : ℕ) → HasPlace 512 bytes places place → Fits s a → IsSound (puts s bytes place (Number n)) (s.slot + 1) (after_write_at a bytes places)
 puts_sound s a bytes None place n h fits = tt
 puts_sound s a bytes (Some places) None n h fits = absurd h
 puts_sound s a bytes (Some places) (Some place) n h fits =
     (refl, wrote_by_test s a bytes places.0 places.1 place n h fits (places.0 == places.1) refl)
 
 -- a store of a number through a pointer
-pub store_fits : (s : State) (a : StateValue) (size : Size) (u v : Value) (p q : AbsKind) (offset : ℤ) → FitsKind u p → FitsKind v q → Fits s a → IsSound (stores s size u offset v) (s.slot + 1) (stored a (size_bytes size) p offset (number_of q))
+pub store_fits : (s : State) (a : StateValue) (size : Size) (u v : Value) (p q : AbsKind) (offset : ℤ) → FitsKind u p → FitsKind v q → Fits s a → IsSound (stores s size u offset v) (s.slot + 1) (after_store a (size_bytes size) p offset (number_of q))
 store_fits s a size u v Unset q offset g h fits = tt
 store_fits s a size u v (Num b) q offset g h fits = tt
 store_fits s a size u v (Map i) q offset g h fits = tt
@@ -136,7 +136,7 @@ store_fits s a size (Pointer r z) Nothing (Ptr Stack o) (Num b) offset g h fits 
 store_fits s a size (Pointer r z) (Pointer r' z') (Ptr Stack o) (Num b) offset g h fits = absurd h
 store_fits s a size (Pointer r z) (MapOf i) (Ptr Stack o) (Num b) offset g h fits = absurd h
 store_fits s a size (Pointer r z) (Number n) (Ptr Stack o) (Num b) offset g h fits =
-    let P : Region → Type 0 = λ x. IsSound (stores s size (Pointer x z) offset (Number n)) (s.slot + 1) (wrote_at a (size_bytes size) (access_places Stack (size_bytes size) o offset)) in
+    let P : Region → Type 0 = λ x. IsSound (stores s size (Pointer x z) offset (Number n)) (s.slot + 1) (after_write_at a (size_bytes size) (access_places Stack (size_bytes size) o offset)) in
     subst P (sym g.0)
     (puts_sound s a (size_bytes size) (access_places Stack (size_bytes size) o offset) (place_of Stack (size_bytes size) (z +ℤ offset)) n (place_between Stack (size_bytes size) o offset z g.1) fits)
 
@@ -157,14 +157,14 @@ apply_fits af nf mf bf header s a (Alu op width dst src) known straight fits =
     writes_sound s a (s.slot + 1) dst (alu op width (s.registers dst) (operand s src)) (alu_kind op width (kind_at a dst) (operand_kind a src)) straight fits
     (alu_fits af op width (s.registers dst) (operand s src) (kind_at a dst) (operand_kind a src) (fits.registers dst) (operand_fits s a src fits))
 apply_fits af nf mf bf header s a (Negate width dst) known straight fits =
-    writes_sound s a (s.slot + 1) dst (on_number (negated width) (s.registers dst)) (computed_alone (negated_range width) (number_of (kind_at a dst))) straight fits
-    (computed_alone_fits (negated width) (negated_range width) (nf width) (s.registers dst) (kind_at a dst) (fits.registers dst))
+    writes_sound s a (s.slot + 1) dst (number_result (negation width) (s.registers dst)) (kind_of_one (negated_range width) (number_of (kind_at a dst))) straight fits
+    (computed_alone_fits (negation width) (negated_range width) (nf width) (s.registers dst) (kind_at a dst) (fits.registers dst))
 apply_fits af nf mf bf header s a (MoveSigned extension dst src) known straight fits =
-    writes_sound s a (s.slot + 1) dst (on_number (extended extension) (s.registers src)) (computed_alone (extended_range extension) (number_of (kind_at a src))) straight fits
-    (computed_alone_fits (extended extension) (extended_range extension) (mf extension) (s.registers src) (kind_at a src) (fits.registers src))
+    writes_sound s a (s.slot + 1) dst (number_result (sign_extension extension) (s.registers src)) (kind_of_one (extended_range extension) (number_of (kind_at a src))) straight fits
+    (computed_alone_fits (sign_extension extension) (extended_range extension) (mf extension) (s.registers src) (kind_at a src) (fits.registers src))
 apply_fits af nf mf bf header s a (ByteSwap swap bits dst) known straight fits =
-    writes_sound s a (s.slot + 1) dst (on_number (swapped swap bits) (s.registers dst)) (computed_alone (swapped_range swap bits) (number_of (kind_at a dst))) straight fits
-    (computed_alone_fits (swapped swap bits) (swapped_range swap bits) (bf swap bits) (s.registers dst) (kind_at a dst) (fits.registers dst))
+    writes_sound s a (s.slot + 1) dst (number_result (swapped_bytes swap bits) (s.registers dst)) (kind_of_one (swapped_range swap bits) (number_of (kind_at a dst))) straight fits
+    (computed_alone_fits (swapped_bytes swap bits) (swapped_range swap bits) (bf swap bits) (s.registers dst) (kind_at a dst) (fits.registers dst))
 apply_fits af nf mf bf header s a (Load size dst place) known straight fits =
     writes_sound s a (s.slot + 1) dst (loads header s size (s.registers place.base) place.offset) (load_kind a size (kind_at a place.base) place.offset) straight fits
     (load_fits header s a size (s.registers place.base) (kind_at a place.base) place.offset known fits (fits.registers place.base))
@@ -173,7 +173,7 @@ apply_fits af nf mf bf header s a (Store size place src) known straight fits =
 apply_fits af nf mf bf header s a (Jump comparison offset) known straight fits = absurd straight
 apply_fits af nf mf bf header s a (Goto distance) known straight fits = absurd straight
 apply_fits af nf mf bf header s a (Wide dst value) known straight fits =
-    writes_sound s a (s.slot + 2) dst (Some (Number value)) (Ok (Num (only value))) straight.0 fits
+    writes_sound s a (s.slot + 2) dst (Some (Number value)) (Ok (Num (single_range value))) straight.0 fits
     (record { above = omega arith; below = omega arith; word = straight.1 })
 apply_fits af nf mf bf header s a (LoadMap dst index) known straight fits =
     writes_sound s a (s.slot + 2) dst (map_at index) (Ok (map_kind index)) straight.0 fits (map_fits index straight.1)

@@ -5,18 +5,18 @@ use Rattle.bpf_parts.specs.declared.operation.Width.TheVariants.{Bits32, Bits64}
 use Rattle.bpf_parts.specs.declared.operation.Condition.{Condition}
 use Rattle.bpf_parts.specs.declared.operation.Operand.{Operand}
 use Rattle.bpf_parts.specs.declared.operation.Operand.TheVariants.{FromRegister, Immediate}
-use Rattle.machine.specs.Words.{word, low}
+use Rattle.machine.specs.Words.{word, low_part}
 use Rattle.absdom_num.specs.declared.ranges.Range.{Range}
 use Rattle.absdom_num.specs.declared.refinement.Operands.{Operands}
 use Rattle.absdom_num.specs.Ranges.{IsRange, IsWithin}
-use Rattle.absdom_num.specs.Refinement.{refined}
+use Rattle.absdom_num.specs.Refinement.{refined_ranges}
 use Rattle.absdom_num.specs.Laws.{IsBelow as AreRangesBelow, RefineGrows as RangesGrow}
 use Rattle.absdom.specs.declared.cause.Cause.{Cause}
 use Rattle.absdom.specs.declared.kinds.AbsKind.{AbsKind}
 use Rattle.absdom.specs.declared.kinds.AbsKind.TheVariants.{Unset, Num, Ptr, Map}
 use Rattle.absdom.specs.Kinds.{number_of, IsKindBelow}
 use Rattle.absdom.specs.State.{StateValue, IsBelow, kind_at, with_kind, IsProper, IsWhole}
-use Rattle.absdom.specs.Edges.{compared, with_source, on_edge, on_edges, unrefined, is_itself, edges_of, compared_edges}
+use Rattle.absdom.specs.Edges.{compared_range, with_source, edge_state, edge_states, unrefined_edges, is_itself, edges_of, compared_edges}
 use Rattle.absdom.specs.Laws.{RefineGrows, IsEdgeBelow, AreEdgesGrown}
 use Rattle.absdom.proofs.FitsMemory.{word_below}
 use Rattle.absdom.proofs.GrowState.{with_kind_grows}
@@ -36,11 +36,11 @@ number_grows (Num b) (Num c) a h = (a, h)
 number_grows (Ptr r o) (Num c) a h = absurd h
 number_grows (Map i) (Num c) a h = absurd h
 
-low_below : (width : Width) (n : ℕ) → n < 2 ^ 64 → low width n < 2 ^ 64
+low_below : (width : Width) (n : ℕ) → n < 2 ^ 64 → low_part width n < 2 ^ 64
 low_below Bits32 n h = omega arith
 low_below Bits64 n h = h
 
-source_grows : (width : Width) (a b : StateValue) (src : Operand) → IsWhole a → IsBelow a b → IsRangeGrown (compared width a src) (compared width b src)
+source_grows : (width : Width) (a b : StateValue) (src : Operand) → IsWhole a → IsBelow a b → IsRangeGrown (compared_range width a src) (compared_range width b src)
 source_grows width a b (FromRegister r) p below = number_grows (kind_at a r) (kind_at b r) (p.kinds r) (below.kinds r)
 source_grows width a b (Immediate z) p below =
     (record { in_order = omega arith; words = low_below width (word z) (word_below z) }, record { above = omega arith; below = omega arith })
@@ -49,7 +49,7 @@ with_source_grows : (a b : StateValue) (src : Operand) (x y : Range) → length 
 with_source_grows a b (FromRegister r) x y e h below = with_kind_grows a b r (Num x) (Num y) e h below
 with_source_grows a b (Immediate z) x y e h below = below
 
-on_edge_grows : (a b : StateValue) (dst : ℕ) (src : Operand) (new old : Option Operands) → length a.kinds ≡ length b.kinds → AreRangesBelow new old → IsBelow a b → IsEdgeBelow (on_edge a dst src new) (on_edge b dst src old)
+on_edge_grows : (a b : StateValue) (dst : ℕ) (src : Operand) (new old : Option Operands) → length a.kinds ≡ length b.kinds → AreRangesBelow new old → IsBelow a b → IsEdgeBelow (edge_state a dst src new) (edge_state b dst src old)
 on_edge_grows a b dst src None old e h below = tt
 on_edge_grows a b dst src (Some new) None e h below = absurd h
 on_edge_grows a b dst src (Some new) (Some old) e h below =
@@ -59,12 +59,12 @@ on_edge_grows a b dst src (Some new) (Some old) e h below =
 
 edges_grow : RangesGrow → (a b : StateValue) (condition : Condition) (width : Width) (dst : ℕ) (src : Operand) (l r l' r' : Range) → length a.kinds ≡ length b.kinds → IsBelow a b → IsRange l × IsWithin l l' → IsRange r × IsWithin r r' → AreEdgesGrown (Ok (edges_of condition width a dst src l r)) (Ok (edges_of condition width b dst src l' r'))
 edges_grow ranges a b condition width dst src l r l' r' e below g h =
-    elim (is_itself dst src) as (λ t. AreEdgesGrown (Ok (if t then unrefined a else on_edges a dst src (refined condition width l r))) (Ok (if t then unrefined b else on_edges b dst src (refined condition width l' r')))) [
+    elim (is_itself dst src) as (λ t. AreEdgesGrown (Ok (if t then unrefined_edges a else edge_states a dst src (refined_ranges condition width l r))) (Ok (if t then unrefined_edges b else edge_states b dst src (refined_ranges condition width l' r')))) [
       | true ↦ (below, below)
       | false ↦
           let grown = ranges condition width l r l' r' g.0 h.0 g.1 h.1 in (
-            on_edge_grows a b dst src (refined condition width l r).taken (refined condition width l' r').taken e grown.taken below,
-            on_edge_grows a b dst src (refined condition width l r).not_taken (refined condition width l' r').not_taken e grown.not_taken below,
+            on_edge_grows a b dst src (refined_ranges condition width l r).taken (refined_ranges condition width l' r').taken e grown.taken below,
+            on_edge_grows a b dst src (refined_ranges condition width l r).not_taken (refined_ranges condition width l' r').not_taken e grown.not_taken below,
           )
     ]
 
@@ -78,5 +78,5 @@ compared_grow ranges a b condition width dst src (Ok l) (Ok r) (Ok l') (Ok r') e
 
 pub refine_grows : RangesGrow → RefineGrows
 refine_grows ranges a b condition width dst src p q below =
-    compared_grow ranges a b condition width dst src (number_of (kind_at a dst)) (compared width a src) (number_of (kind_at b dst)) (compared width b src)
+    compared_grow ranges a b condition width dst src (number_of (kind_at a dst)) (compared_range width a src) (number_of (kind_at b dst)) (compared_range width b src)
     (p.sizes.registers ∙ sym q.sizes.registers) below (number_grows (kind_at a dst) (kind_at b dst) (p.kinds dst) (below.kinds dst)) (source_grows width a b src p below)

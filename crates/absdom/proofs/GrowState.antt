@@ -13,7 +13,7 @@ use Rattle.machine.specs.declared.regions.Region.{Region}
 use Rattle.machine.specs.declared.regions.Region.TheVariants.{Front, Tail, Stack}
 use Rattle.bpf_parts.specs.Sizes.{size_bytes, load_bytes}
 use Rattle.machine.specs.Memory.{region_size, place_of}
-use Rattle.absdom_num.specs.Tables.{whole, only, negated_range, extended_range, swapped_range}
+use Rattle.absdom_num.specs.Tables.{whole_range, single_range, negated_range, extended_range, swapped_range}
 use Rattle.absdom_num.specs.Laws.{AluGrows, NegateGrows, MoveSignedGrows, ByteSwapGrows}
 use Rattle.absdom.specs.declared.cause.Cause.{Cause}
 use Rattle.absdom.specs.declared.cause.Cause.TheVariants.{UnsetStack}
@@ -22,8 +22,8 @@ use Rattle.absdom.specs.declared.kinds.AbsKind.TheVariants.{Unset, Num, Ptr, Map
 use Rattle.absdom.specs.Offsets.{AreAmong}
 use Rattle.absdom.specs.Kinds.{number_of, IsKindBelow}
 use Rattle.absdom.specs.State.{StateValue, IsBelow, kind_in, kind_at, with_kind, with_marks, IsProper, IsWhole}
-use Rattle.absdom.specs.Marks.{mark_at, all_marked, marked}
-use Rattle.absdom.specs.Effect.{operand_kind, alu_kind, computed_alone, both_places, access_places, is_set, loaded_range, read_kind, load_kind, wrote_at, wrote_to, stored, written, map_kind}
+use Rattle.absdom.specs.Marks.{mark_at, all_marked, marks_after}
+use Rattle.absdom.specs.Effect.{operand_kind, alu_kind, kind_of_one, both_places, access_places, is_set, loaded_range, read_kind, load_kind, after_write_at, after_write_to, after_store, with_result, map_kind}
 use Rattle.absdom.specs.Laws.{ApplyGrows as StatesGrow, IsGrown, CallGrows}
 use Rattle.absdom.proofs.Order.{region_from_test, kind_below-refl}
 use Rattle.absdom.proofs.FitsMemory.{IsBetween, HasPlace, place_between, marked_bytes, word_below}
@@ -57,7 +57,7 @@ with_kind_grows a b r k l e h below =
 same_size : (a b : StateValue) → IsWhole a → IsWhole b → length a.kinds ≡ length b.kinds
 same_size a b p q = p.sizes.registers ∙ sym q.sizes.registers
 
-written_grows : (a b : StateValue) (r : ℕ) (small large : Result AbsKind Cause) → IsWhole a → IsWhole b → IsBelow a b → IsKindGrown small large → IsGrown (written a r small) (written b r large)
+written_grows : (a b : StateValue) (r : ℕ) (small large : Result AbsKind Cause) → IsWhole a → IsWhole b → IsBelow a b → IsKindGrown small large → IsGrown (with_result a r small) (with_result b r large)
 written_grows a b r small (Err cause) p q below h = tt
 written_grows a b r (Err cause) (Ok l) p q below h = absurd h
 written_grows a b r (Ok k) (Ok l) p q below h = with_kind_grows a b r k l (same_size a b p q) h below
@@ -138,35 +138,35 @@ equal_or_not : (m n : ℕ) → (m ≡ n) ⊎ (m ≢ n)
 equal_or_not m n = grind (arith, nat_tests)
 
 -- a mark stays where others are made
-pub mark_stays : (marks : List Bool) (first bytes p : ℕ) → mark_at marks p ≡ true → mark_at (marked marks first bytes) p ≡ true
-unfolding marked
+pub mark_stays : (marks : List Bool) (first bytes p : ℕ) → mark_at marks p ≡ true → mark_at (marks_after marks first bytes) p ≡ true
+unfolding marks_after
 mark_stays marks first zero p e = e
 mark_stays marks first (suc bytes) p e =
     elim (equal_or_not p (first + bytes)) [
       | inl d ↦
-          elim (cases_lt (first + bytes) (length (marked marks first bytes))) [
-            | inl l ↦ rw (d, get_or-set_same (marked marks first bytes) (first + bytes) true false l) refl
-            | inr l ↦ rw (set_past (marked marks first bytes) (first + bytes) true l) (mark_stays marks first bytes p e)
+          elim (cases_lt (first + bytes) (length (marks_after marks first bytes))) [
+            | inl l ↦ rw (d, get_or-set_same (marks_after marks first bytes) (first + bytes) true false l) refl
+            | inr l ↦ rw (set_past (marks_after marks first bytes) (first + bytes) true l) (mark_stays marks first bytes p e)
           ]
-      | inr ne ↦ rw (get_or-set_other (marked marks first bytes) (first + bytes) p true false ne) (mark_stays marks first bytes p e)
+      | inr ne ↦ rw (get_or-set_other (marks_after marks first bytes) (first + bytes) p true false ne) (mark_stays marks first bytes p e)
     ]
 
 -- a byte that was written is marked
-mark_made : (marks : List Bool) (first bytes p : ℕ) → first + bytes ≤ length marks → first ≤ p → p < first + bytes → mark_at (marked marks first bytes) p ≡ true
-unfolding marked
+mark_made : (marks : List Bool) (first bytes p : ℕ) → first + bytes ≤ length marks → first ≤ p → p < first + bytes → mark_at (marks_after marks first bytes) p ≡ true
+unfolding marks_after
 mark_made marks first zero p room g h = absurd (omega arith)
 mark_made marks first (suc bytes) p room g h =
     elim (equal_or_not p (first + bytes)) [
       | inl d ↦
-          let l : first + bytes < length (marked marks first bytes) = omega (arith, length-marked marks first bytes) in
-          rw (d, get_or-set_same (marked marks first bytes) (first + bytes) true false l) refl
+          let l : first + bytes < length (marks_after marks first bytes) = omega (arith, length-marked marks first bytes) in
+          rw (d, get_or-set_same (marks_after marks first bytes) (first + bytes) true false l) refl
       | inr ne ↦
-          rw (get_or-set_other (marked marks first bytes) (first + bytes) p true false ne)
+          rw (get_or-set_other (marks_after marks first bytes) (first + bytes) p true false ne)
           (mark_made marks first bytes p (omega arith) g (omega arith))
     ]
 
 -- by whether the accesses have one place
-wrote_by_tests : (a b : StateValue) (bytes : ℕ) (large small : ℕ × ℕ) → length a.marks ≡ 512 → IsBelow a b → AreWithin 512 bytes large small → (t u : Bool) → (large.0 == large.1) ≡ t → (small.0 == small.1) ≡ u → IsBelow (if u then with_marks a (marked a.marks small.0 bytes) else a) (if t then with_marks b (marked b.marks large.0 bytes) else b)
+wrote_by_tests : (a b : StateValue) (bytes : ℕ) (large small : ℕ × ℕ) → length a.marks ≡ 512 → IsBelow a b → AreWithin 512 bytes large small → (t u : Bool) → (large.0 == large.1) ≡ t → (small.0 == small.1) ≡ u → IsBelow (if u then with_marks a (marks_after a.marks small.0 bytes) else a) (if t then with_marks b (marks_after b.marks large.0 bytes) else b)
 wrote_by_tests a b bytes large small size below w false false e f = below
 wrote_by_tests a b bytes large small size below w false true e f =
     record { kinds = below.kinds; marks = λ p m. mark_stays a.marks small.0 bytes p (below.marks p m) }
@@ -187,13 +187,13 @@ wrote_by_tests a b bytes large small size below w true true e f =
           ];
     }
 
-wrote_at_grows : (a b : StateValue) (bytes : ℕ) (large small : Option (ℕ × ℕ)) → length a.marks ≡ 512 → IsBelow a b → HasPlaces 512 bytes large small → IsGrown (wrote_at a bytes small) (wrote_at b bytes large)
+wrote_at_grows : (a b : StateValue) (bytes : ℕ) (large small : Option (ℕ × ℕ)) → length a.marks ≡ 512 → IsBelow a b → HasPlaces 512 bytes large small → IsGrown (after_write_at a bytes small) (after_write_at b bytes large)
 wrote_at_grows a b bytes None small size below h = tt
 wrote_at_grows a b bytes (Some large) None size below h = absurd h
 wrote_at_grows a b bytes (Some large) (Some small) size below h =
     wrote_by_tests a b bytes large small size below h (large.0 == large.1) (small.0 == small.1) refl refl
 
-store_grows : (a b : StateValue) (bytes : ℕ) (p q p' q' : AbsKind) (offset : ℤ) → length a.marks ≡ 512 → IsBelow a b → IsProper p → IsKindBelow p p' → IsKindBelow q q' → IsGrown (stored a bytes p offset (number_of q)) (stored b bytes p' offset (number_of q'))
+store_grows : (a b : StateValue) (bytes : ℕ) (p q p' q' : AbsKind) (offset : ℤ) → length a.marks ≡ 512 → IsBelow a b → IsProper p → IsKindBelow p p' → IsKindBelow q q' → IsGrown (after_store a bytes p offset (number_of q)) (after_store b bytes p' offset (number_of q'))
 store_grows a b bytes p q Unset q' offset size below k g h = tt
 store_grows a b bytes p q (Num n) q' offset size below k g h = tt
 store_grows a b bytes p q (Map i) q' offset size below k g h = tt
@@ -210,7 +210,7 @@ store_grows a b bytes (Ptr r o) (Ptr t y) (Ptr Stack x) (Num n) offset size belo
 store_grows a b bytes (Ptr r o) (Map i) (Ptr Stack x) (Num n) offset size below k g h = absurd h
 store_grows a b bytes (Ptr r o) (Num m) (Ptr Stack x) (Num n) offset size below k g h =
     let same : Stack ≡ r = sym (region_from_test r Stack g.0) in
-    let P : Region → Type 0 = λ t. IsGrown (wrote_to a bytes t o offset) (wrote_at b bytes (access_places Stack bytes x offset)) in
+    let P : Region → Type 0 = λ t. IsGrown (after_write_to a bytes t o offset) (after_write_at b bytes (access_places Stack bytes x offset)) in
     subst P same
     (wrote_at_grows a b bytes (access_places Stack bytes x offset) (access_places Stack bytes o offset) size below (places_between Stack bytes o x offset k g.1))
 
@@ -229,13 +229,13 @@ apply_grows af nf mf bf a b (Alu op width dst src) p q below =
     written_grows a b dst (alu_kind op width (kind_at a dst) (operand_kind a src)) (alu_kind op width (kind_at b dst) (operand_kind b src)) p q below
     (alu_grows af op width (kind_at a dst) (operand_kind a src) (kind_at b dst) (operand_kind b src) (p.kinds dst) (operand_proper a src p) (below.kinds dst) (operand_below a b src below))
 apply_grows af nf mf bf a b (Negate width dst) p q below =
-    written_grows a b dst (computed_alone (negated_range width) (number_of (kind_at a dst))) (computed_alone (negated_range width) (number_of (kind_at b dst))) p q below
+    written_grows a b dst (kind_of_one (negated_range width) (number_of (kind_at a dst))) (kind_of_one (negated_range width) (number_of (kind_at b dst))) p q below
     (computed_alone_grows (negated_range width) (nf width) (kind_at a dst) (kind_at b dst) (p.kinds dst) (below.kinds dst))
 apply_grows af nf mf bf a b (MoveSigned extension dst src) p q below =
-    written_grows a b dst (computed_alone (extended_range extension) (number_of (kind_at a src))) (computed_alone (extended_range extension) (number_of (kind_at b src))) p q below
+    written_grows a b dst (kind_of_one (extended_range extension) (number_of (kind_at a src))) (kind_of_one (extended_range extension) (number_of (kind_at b src))) p q below
     (computed_alone_grows (extended_range extension) (mf extension) (kind_at a src) (kind_at b src) (p.kinds src) (below.kinds src))
 apply_grows af nf mf bf a b (ByteSwap swap bits dst) p q below =
-    written_grows a b dst (computed_alone (swapped_range swap bits) (number_of (kind_at a dst))) (computed_alone (swapped_range swap bits) (number_of (kind_at b dst))) p q below
+    written_grows a b dst (kind_of_one (swapped_range swap bits) (number_of (kind_at a dst))) (kind_of_one (swapped_range swap bits) (number_of (kind_at b dst))) p q below
     (computed_alone_grows (swapped_range swap bits) (bf swap bits) (kind_at a dst) (kind_at b dst) (p.kinds dst) (below.kinds dst))
 apply_grows af nf mf bf a b (Load size dst place) p q below =
     written_grows a b dst (load_kind a size (kind_at a place.base) place.offset) (load_kind b size (kind_at b place.base) place.offset) p q below
@@ -245,7 +245,7 @@ apply_grows af nf mf bf a b (Store size place src) p q below =
 apply_grows af nf mf bf a b (Jump comparison offset) p q below = below
 apply_grows af nf mf bf a b (Goto distance) p q below = below
 apply_grows af nf mf bf a b (Wide dst value) p q below =
-    with_kind_grows a b dst (Num (only value)) (Num (only value)) (same_size a b p q) (kind_below-refl (Num (only value))) below
+    with_kind_grows a b dst (Num (single_range value)) (Num (single_range value)) (same_size a b p q) (kind_below-refl (Num (single_range value))) below
 apply_grows af nf mf bf a b (LoadMap dst index) p q below =
     with_kind_grows a b dst (map_kind index) (map_kind index) (same_size a b p q) (kind_below-refl (map_kind index)) below
 apply_grows af nf mf bf a b (LoadAddress dst address) p q below = below
@@ -260,7 +260,7 @@ call_grows a b p q below =
     let lengths : (f g : List AbsKind) (r : ℕ) (k : AbsKind) → length f ≡ length g → length (set f r k) ≡ length (set g r k)
     = λ f g r k same. length-set f r k ∙ same ∙ sym (length-set g r k)
     in
-    let whole_kind = Num (whole Bits64) in
+    let whole_kind = Num (whole_range Bits64) in
     let a0 = with_kind a 0 whole_kind in
     let b0 = with_kind b 0 whole_kind in
     let e0 = lengths a.kinds b.kinds 0 whole_kind e in

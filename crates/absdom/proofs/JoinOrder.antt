@@ -3,11 +3,11 @@ use Rattle.std.proofs.Common.{◌≡◌, ℕ, ℤ, Bool, true, false, ◌&&◌, 
 use Rattle.std.proofs.lemmas.Int.{ints, clamps}
 use Rattle.std.proofs.lemmas.Bool.Decides.{nat_tests}
 use Rattle.machine.specs.declared.regions.Region.{Region}
-use Rattle.absdom_num.specs.Ranges.{IsWithin, joined as joined_ranges}
+use Rattle.absdom_num.specs.Ranges.{IsWithin, joined_ranges}
 use Rattle.absdom.specs.declared.kinds.AbsKind.{AbsKind}
 use Rattle.absdom.specs.declared.kinds.AbsKind.TheVariants.{Unset, Num, Ptr, Map}
 use Rattle.absdom.specs.Offsets.{joined_offsets, AreAmong}
-use Rattle.absdom.specs.Kinds.{same_region, joined, IsKindBelow}
+use Rattle.absdom.specs.Kinds.{same_region, joined_kinds, IsKindBelow}
 use Rattle.absdom.specs.State.{IsBelow, kind_at}
 use Rattle.absdom.specs.Marks.{mark_at}
 use Rattle.absdom.specs.Laws.{JoinIsAbove, JoinIsLeast, JoinGrows}
@@ -65,7 +65,7 @@ map_least : (i j l : ℕ) → i ≡ l → j ≡ l → (t : Bool) → (i == j) �
 map_least i j l g h true e = g
 map_least i j l g h false e = let ne : i ≡ j → ⊥ = grind (arith, nat_tests) in absurd (ne (g ∙ sym h))
 
-pub kind_left : (p q : AbsKind) → IsKindBelow p (joined p q)
+pub kind_left : (p q : AbsKind) → IsKindBelow p (joined_kinds p q)
 kind_left Unset q = tt
 kind_left (Num a) Unset = tt
 kind_left (Num a) (Num b) = range_left a b
@@ -86,7 +86,7 @@ above_unset (Num b) = tt
 above_unset (Ptr s b) = tt
 above_unset (Map j) = tt
 
-pub kind_right : (p q : AbsKind) → IsKindBelow q (joined p q)
+pub kind_right : (p q : AbsKind) → IsKindBelow q (joined_kinds p q)
 kind_right Unset q = above_unset q
 kind_right (Num a) Unset = tt
 kind_right (Num a) (Num b) = range_right a b
@@ -101,8 +101,8 @@ kind_right (Map i) (Num b) = tt
 kind_right (Map i) (Ptr s b) = tt
 kind_right (Map i) (Map j) = map_right i j (i == j) refl
 
-pub kind_least : (p q k : AbsKind) → IsKindBelow p k → IsKindBelow q k → IsKindBelow (joined p q) k
-kind_least p q Unset g h = above_unset (joined p q)
+pub kind_least : (p q k : AbsKind) → IsKindBelow p k → IsKindBelow q k → IsKindBelow (joined_kinds p q) k
+kind_least p q Unset g h = above_unset (joined_kinds p q)
 kind_least Unset q (Num c) g h = absurd g
 kind_least (Num a) Unset (Num c) g h = absurd h
 kind_least (Num a) (Num b) (Num c) g h = range_least a b c g h

@@ -17,17 +17,17 @@ use Rattle.machine.specs.Laws.{is_store}
 use Rattle.absdom_num.specs.declared.ranges.Range.{Range}
 use Rattle.absdom_num.specs.declared.refinement.Operands.{Operands}
 use Rattle.absdom_num.specs.Ranges.{IsWithin}
-use Rattle.absdom_num.specs.Tables.{whole}
-use Rattle.absdom_num.specs.Refinement.{refined}
+use Rattle.absdom_num.specs.Tables.{whole_range}
+use Rattle.absdom_num.specs.Refinement.{refined_ranges}
 use Rattle.absdom_num.specs.Laws.{IsBelow as AreRangesBelow, RefineShrinks as RangesShrink}
 use Rattle.absdom.specs.declared.cause.Cause.{Cause}
 use Rattle.absdom.specs.declared.kinds.AbsKind.{AbsKind}
 use Rattle.absdom.specs.declared.kinds.AbsKind.TheVariants.{Unset, Num, Ptr, Map}
 use Rattle.absdom.specs.Kinds.{number_of, IsKindBelow}
 use Rattle.absdom.specs.State.{StateValue, IsBelow, kind_at, with_kind, after_call}
-use Rattle.absdom.specs.Marks.{marked}
-use Rattle.absdom.specs.Effect.{wrote, wrote_at, wrote_to, stored, written}
-use Rattle.absdom.specs.Edges.{compared, with_source, on_edge, on_edges, unrefined, is_itself, edges_of, compared_edges}
+use Rattle.absdom.specs.Marks.{marks_after}
+use Rattle.absdom.specs.Effect.{after_bytes, after_write_at, after_write_to, after_store, with_result}
+use Rattle.absdom.specs.Edges.{compared_range, with_source, edge_state, edge_states, unrefined_edges, is_itself, edges_of, compared_edges}
 use Rattle.absdom.specs.Laws.{IsLeftBy, ApplyLeaves, CallLeaves, AreEdgesBelow, RefineShrinks}
 use Rattle.absdom.proofs.Order.{below_is_reflexive}
 use Rattle.absdom.proofs.Narrowing.{write_same}
@@ -57,15 +57,15 @@ leaves_others : (insn : Insn) (a : StateValue) (register : ℕ) (kind : AbsKind)
 leaves_others insn a register kind names =
     record { kinds = λ k h. other_kind a register k kind (names k h); marks = λ place m. m; unstored = λ h. refl }
 
-leaves_written : (insn : Insn) (a : StateValue) (register : ℕ) (r : Result AbsKind Cause) → Names insn register → Leaves insn a (written a register r)
+leaves_written : (insn : Insn) (a : StateValue) (register : ℕ) (r : Result AbsKind Cause) → Names insn register → Leaves insn a (with_result a register r)
 leaves_written insn a register (Err cause) names = tt
 leaves_written insn a register (Ok kind) names = leaves_others insn a register kind names
 
 -- a store
 
-leaves_wrote : (insn : Insn) (a : StateValue) (bytes : ℕ) (places : ℕ × ℕ) → is_store insn ≡ true → IsLeftBy insn a (wrote a bytes places)
+leaves_wrote : (insn : Insn) (a : StateValue) (bytes : ℕ) (places : ℕ × ℕ) → is_store insn ≡ true → IsLeftBy insn a (after_bytes a bytes places)
 leaves_wrote insn a bytes places is =
-    elim (places.0 == places.1) as (λ t. IsLeftBy insn a (if t then record { kinds = a.kinds; marks = marked a.marks places.0 bytes } else a)) [
+    elim (places.0 == places.1) as (λ t. IsLeftBy insn a (if t then record { kinds = a.kinds; marks = marks_after a.marks places.0 bytes } else a)) [
       | true ↦
           record {
             kinds = λ k h. refl;
@@ -78,16 +78,16 @@ leaves_wrote insn a bytes places is =
     no : is_store insn ≡ true → is_store insn ≡ false → ⊥
     no e f = cc
 
-leaves_wrote_at : (insn : Insn) (a : StateValue) (bytes : ℕ) (places : Option (ℕ × ℕ)) → is_store insn ≡ true → Leaves insn a (wrote_at a bytes places)
+leaves_wrote_at : (insn : Insn) (a : StateValue) (bytes : ℕ) (places : Option (ℕ × ℕ)) → is_store insn ≡ true → Leaves insn a (after_write_at a bytes places)
 leaves_wrote_at insn a bytes None is = tt
 leaves_wrote_at insn a bytes (Some places) is = leaves_wrote insn a bytes places is
 
-leaves_wrote_to : (insn : Insn) (a : StateValue) (bytes : ℕ) (region : Region) (offsets : ℤ × ℤ) (offset : ℤ) → is_store insn ≡ true → Leaves insn a (wrote_to a bytes region offsets offset)
+leaves_wrote_to : (insn : Insn) (a : StateValue) (bytes : ℕ) (region : Region) (offsets : ℤ × ℤ) (offset : ℤ) → is_store insn ≡ true → Leaves insn a (after_write_to a bytes region offsets offset)
 leaves_wrote_to insn a bytes Front offsets offset is = tt
 leaves_wrote_to insn a bytes Tail offsets offset is = tt
 leaves_wrote_to insn a bytes Stack offsets offset is = leaves_wrote_at insn a bytes _ is
 
-leaves_stored : (insn : Insn) (a : StateValue) (bytes : ℕ) (base : AbsKind) (offset : ℤ) (value : Result Range Cause) → is_store insn ≡ true → Leaves insn a (stored a bytes base offset value)
+leaves_stored : (insn : Insn) (a : StateValue) (bytes : ℕ) (base : AbsKind) (offset : ℤ) (value : Result Range Cause) → is_store insn ≡ true → Leaves insn a (after_store a bytes base offset value)
 leaves_stored insn a bytes Unset offset value is = tt
 leaves_stored insn a bytes (Num n) offset value is = tt
 leaves_stored insn a bytes (Ptr region offsets) offset (Err cause) is = tt
@@ -119,7 +119,7 @@ written_first b callee number register k kind h low =
 
 after_kind : (a : StateValue) (callee : Callee) (number : ℤ) (k : ℕ) → is_written (insns.Call callee number) k ≡ false → kind_at (after_call a) k ≡ kind_at a k
 after_kind a callee number k h =
-    let a0 = with_kind a 0 (Num (whole Bits64)) in
+    let a0 = with_kind a 0 (Num (whole_range Bits64)) in
     let a1 = with_kind a0 1 Unset in
     let a2 = with_kind a1 2 Unset in
     let a3 = with_kind a2 3 Unset in
@@ -129,7 +129,7 @@ after_kind a callee number k h =
     ∙ written_first a2 callee number 3 k Unset h (omega arith)
     ∙ written_first a1 callee number 2 k Unset h (omega arith)
     ∙ written_first a0 callee number 1 k Unset h (omega arith)
-    ∙ written_first a callee number 0 k (Num (whole Bits64)) h (omega arith)
+    ∙ written_first a callee number 0 k (Num (whole_range Bits64)) h (omega arith)
 
 pub call_leaves : CallLeaves
 call_leaves a callee number =
@@ -156,30 +156,30 @@ number_is a register (Num own) range new is e h =
 number_is a register (Ptr region offsets) range new is e h = absurd cc
 number_is a register (Map index) range new is e h = absurd cc
 
-source_below : (b a : StateValue) (width : Width) (src : Operand) (range new : Range) → compared width a src ≡ Ok range → IsWithin new range → length b.kinds ≡ length a.kinds → IsBelow b a → IsBelow (with_source b src new) a
+source_below : (b a : StateValue) (width : Width) (src : Operand) (range new : Range) → compared_range width a src ≡ Ok range → IsWithin new range → length b.kinds ≡ length a.kinds → IsBelow b a → IsBelow (with_source b src new) a
 source_below b a width (FromRegister register) range new e h sizes below =
     with_kind_below b a register (Num new) sizes (number_is a register (kind_at a register) range new refl e h) below
 source_below b a width (Immediate value) range new e h sizes below = below
 
-edge_below : (a : StateValue) (width : Width) (dst : ℕ) (src : Operand) (left right : Range) (new : Option Operands) → number_of (kind_at a dst) ≡ Ok left → compared width a src ≡ Ok right → AreRangesBelow new (Some (record { dst = left; src = right })) → IfSome (on_edge a dst src new) (λ edge. IsBelow edge a)
+edge_below : (a : StateValue) (width : Width) (dst : ℕ) (src : Operand) (left right : Range) (new : Option Operands) → number_of (kind_at a dst) ≡ Ok left → compared_range width a src ≡ Ok right → AreRangesBelow new (Some (record { dst = left; src = right })) → IfSome (edge_state a dst src new) (λ edge. IsBelow edge a)
 edge_below a width dst src left right None e f h = tt
 edge_below a width dst src left right (Some new) e f h =
     source_below (with_kind a dst (Num new.dst)) a width src right new.src f h.1 (length-set a.kinds dst (Num new.dst))
     (with_kind_below a a dst (Num new.dst) refl (number_is a dst (kind_at a dst) left new.dst refl e h.0) (below_is_reflexive a))
 
-edges_below : RangesShrink → (a : StateValue) (condition : Condition) (width : Width) (dst : ℕ) (src : Operand) (left right : Range) → number_of (kind_at a dst) ≡ Ok left → compared width a src ≡ Ok right → AreEdgesBelow (edges_of condition width a dst src left right) a
+edges_below : RangesShrink → (a : StateValue) (condition : Condition) (width : Width) (dst : ℕ) (src : Operand) (left right : Range) → number_of (kind_at a dst) ≡ Ok left → compared_range width a src ≡ Ok right → AreEdgesBelow (edges_of condition width a dst src left right) a
 edges_below shrink a condition width dst src left right e f =
-    elim (is_itself dst src) as (λ t. AreEdgesBelow (if t then unrefined a else on_edges a dst src (refined condition width left right)) a) [
+    elim (is_itself dst src) as (λ t. AreEdgesBelow (if t then unrefined_edges a else edge_states a dst src (refined_ranges condition width left right)) a) [
       | true ↦ record { taken = below_is_reflexive a; not_taken = below_is_reflexive a }
       | false ↦
           let inside = shrink condition width left right in
           record {
-            taken = edge_below a width dst src left right (refined condition width left right).taken e f inside.taken;
-            not_taken = edge_below a width dst src left right (refined condition width left right).not_taken e f inside.not_taken;
+            taken = edge_below a width dst src left right (refined_ranges condition width left right).taken e f inside.taken;
+            not_taken = edge_below a width dst src left right (refined_ranges condition width left right).not_taken e f inside.not_taken;
           }
     ]
 
-compared_below : RangesShrink → (a : StateValue) (condition : Condition) (width : Width) (dst : ℕ) (src : Operand) (left right : Result Range Cause) → number_of (kind_at a dst) ≡ left → compared width a src ≡ right → IfOk (compared_edges condition width a dst src left right) (λ edges. AreEdgesBelow edges a)
+compared_below : RangesShrink → (a : StateValue) (condition : Condition) (width : Width) (dst : ℕ) (src : Operand) (left right : Result Range Cause) → number_of (kind_at a dst) ≡ left → compared_range width a src ≡ right → IfOk (compared_edges condition width a dst src left right) (λ edges. AreEdgesBelow edges a)
 compared_below shrink a condition width dst src (Err cause) right e f = tt
 compared_below shrink a condition width dst src (Ok left) (Err cause) e f = tt
 compared_below shrink a condition width dst src (Ok left) (Ok right) e f = edges_below shrink a condition width dst src left right e f

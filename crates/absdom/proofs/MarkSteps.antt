@@ -3,7 +3,7 @@ use Rattle.std.proofs.Common.{◌≡◌, ℕ, zero, suc, ◌+◌, ◌-◌, ◌�
 use Rattle.std.proofs.Common.{replicate, inl, inr}
 use Rattle.std.proofs.lemmas.Bool.{cases_lt}
 use Rattle.std.proofs.lemmas.List.{get_or_past, get_or-replicate, length-replicate}
-use Rattle.absdom.specs.Marks.{mark_at, all_marked, marked}
+use Rattle.absdom.specs.Marks.{mark_at, all_marked, marks_after}
 
 pub all_marked-more : (marks : List Bool) (first place : ℕ) → first ≤ place → all_marked marks first (place + 1 - first) ≡ (all_marked marks first (place - first) && mark_at marks place)
 unfolding all_marked
@@ -12,25 +12,25 @@ all_marked-more marks first place h =
     let f : first + (place - first) ≡ place = omega arith in
     ap (all_marked marks first) e ∙ ap (λ p. all_marked marks first (place - first) && mark_at marks p) f
 
-pub marked-more : (marks : List Bool) (first place : ℕ) → first ≤ place → marked marks first (place + 1 - first) ≡ set (marked marks first (place - first)) place true
-unfolding marked
+pub marked-more : (marks : List Bool) (first place : ℕ) → first ≤ place → marks_after marks first (place + 1 - first) ≡ set (marks_after marks first (place - first)) place true
+unfolding marks_after
 marked-more marks first place h =
     let e : place + 1 - first ≡ suc (place - first) = omega arith in
     let f : first + (place - first) ≡ place = omega arith in
-    ap (marked marks first) e ∙ ap (λ p. set (marked marks first (place - first)) p true) f
+    ap (marks_after marks first) e ∙ ap (λ p. set (marks_after marks first (place - first)) p true) f
 
 pub all_marked-none : (marks : List Bool) (first n : ℕ) → n ≡ 0 → all_marked marks first n ≡ true
 unfolding all_marked
 all_marked-none marks first n e = ap (all_marked marks first) e
 
-pub marked-none : (marks : List Bool) (first n : ℕ) → n ≡ 0 → marked marks first n ≡ marks
-unfolding marked
-marked-none marks first n e = ap (marked marks first) e
+pub marked-none : (marks : List Bool) (first n : ℕ) → n ≡ 0 → marks_after marks first n ≡ marks
+unfolding marks_after
+marked-none marks first n e = ap (marks_after marks first) e
 
-pub length-marked : (marks : List Bool) (first n : ℕ) → length (marked marks first n) ≡ length marks
-unfolding marked
+pub length-marked : (marks : List Bool) (first n : ℕ) → length (marks_after marks first n) ≡ length marks
+unfolding marks_after
 length-marked marks first zero = refl
-length-marked marks first (suc n) = length-set (marked marks first n) (first + n) true ∙ length-marked marks first n
+length-marked marks first (suc n) = length-set (marks_after marks first n) (first + n) true ∙ length-marked marks first n
 
 pub get_or-unmarked : (n place : ℕ) → get_or (replicate n false) place false ≡ false
 get_or-unmarked n place =

@@ -6,12 +6,12 @@ use Rattle.bpf_parts.specs.declared.operation.Operand.{Operand}
 use Rattle.bpf_parts.specs.declared.operation.Operand.TheVariants.{FromRegister, Immediate}
 use Rattle.absdom_num.specs.declared.ranges.Range.{Range}
 use Rattle.absdom_num.specs.declared.refinement.Edges.{Edges as RangeEdges}
-use Rattle.absdom_num.specs.Refinement.{refined}
+use Rattle.absdom_num.specs.Refinement.{refined_ranges}
 use Rattle.absdom.specs.declared.kinds.AbsKind.{AbsKind}
 use Rattle.absdom.specs.declared.kinds.AbsKind.TheVariants.{Unset, Num, Ptr, Map}
 use Rattle.absdom.specs.Kinds.{number_of}
 use Rattle.absdom.specs.State.{StateValue, kind_in, kind_at, with_kind}
-use Rattle.absdom.specs.Edges.{Edges, compared, with_source, on_edges, unrefined, is_itself, ranges_of, compared_edges, refined_edges}
+use Rattle.absdom.specs.Edges.{Edges, compared_range, with_source, edge_states, unrefined_edges, is_itself, ranges_of, compared_edges, refined_edges}
 
 is_number : (p : AbsKind) (range : Range) → number_of p ≡ Ok range → p ≡ Num range
 is_number (Num own) range e = cc
@@ -30,20 +30,20 @@ with_same a register range e =
     ap (λ (kinds : List AbsKind). let b : StateValue = record { kinds = kinds; marks = a.marks } in b)
     (write_same a.kinds register (Num range) (is_number (kind_at a register) range e))
 
-itself_same : (width : Width) (a : StateValue) (dst : ℕ) (src : Operand) (left right : Range) → is_itself dst src ≡ true → number_of (kind_at a dst) ≡ Ok left → compared width a src ≡ Ok right → with_source (with_kind a dst (Num left)) src right ≡ a
+itself_same : (width : Width) (a : StateValue) (dst : ℕ) (src : Operand) (left right : Range) → is_itself dst src ≡ true → number_of (kind_at a dst) ≡ Ok left → compared_range width a src ≡ Ok right → with_source (with_kind a dst (Num left)) src right ≡ a
 itself_same width a dst (FromRegister register) left right t e d =
     ap (λ (b : StateValue). with_kind b register (Num right)) (with_same a dst left e) ∙ with_same a register right d
 itself_same width a dst (Immediate value) left right t e d = absurd cc
 
-edges_same : (condition : Condition) (width : Width) (a : StateValue) (dst : ℕ) (src : Operand) (left right : Range) (t : Bool) → is_itself dst src ≡ t → number_of (kind_at a dst) ≡ Ok left → compared width a src ≡ Ok right
-    → (if t then unrefined a else on_edges a dst src (refined condition width left right)) ≡ on_edges a dst src (let ranges : RangeEdges = if t then record { taken = Some (record { dst = left; src = right }); not_taken = Some (record { dst = left; src = right }) } else refined condition width left right in ranges)
+edges_same : (condition : Condition) (width : Width) (a : StateValue) (dst : ℕ) (src : Operand) (left right : Range) (t : Bool) → is_itself dst src ≡ t → number_of (kind_at a dst) ≡ Ok left → compared_range width a src ≡ Ok right
+    → (if t then unrefined_edges a else edge_states a dst src (refined_ranges condition width left right)) ≡ edge_states a dst src (let ranges : RangeEdges = if t then record { taken = Some (record { dst = left; src = right }); not_taken = Some (record { dst = left; src = right }) } else refined_ranges condition width left right in ranges)
 edges_same condition width a dst src left right true t e d =
     ap (λ (b : StateValue). let edges : Edges = record { taken = Some b; not_taken = Some b } in edges) (sym (itself_same width a dst src left right t e d))
 edges_same condition width a dst src left right false t e d = refl
 
 -- where the operands are numbers
-pub edges_by_ranges : (condition : Condition) (width : Width) (a : StateValue) (dst : ℕ) (src : Operand) (left right : Range) → number_of (kind_at a dst) ≡ Ok left → compared width a src ≡ Ok right → refined_edges a condition width dst src ≡ Ok (on_edges a dst src (ranges_of condition width dst src left right))
+pub edges_by_ranges : (condition : Condition) (width : Width) (a : StateValue) (dst : ℕ) (src : Operand) (left right : Range) → number_of (kind_at a dst) ≡ Ok left → compared_range width a src ≡ Ok right → refined_edges a condition width dst src ≡ Ok (edge_states a dst src (ranges_of condition width dst src left right))
 edges_by_ranges condition width a dst src left right e d =
-    ap (λ x. compared_edges condition width a dst src x (compared width a src)) e
+    ap (λ x. compared_edges condition width a dst src x (compared_range width a src)) e
     ∙ ap (λ x. compared_edges condition width a dst src (Ok left) x) d
     ∙ ap (λ (edges : Edges). Ok edges) (edges_same condition width a dst src left right (is_itself dst src) refl e d)

@@ -13,11 +13,11 @@ use Rattle.bpf_insn.specs.declared.insn.Insn.{Insn}
 use Rattle.bpf_insn.specs.declared.insn.Insn.TheVariants.{Alu, Negate, MoveSigned, ByteSwap, Load, Store, Jump, Goto, Wide, LoadMap, LoadAddress, Call, Exit}
 use Rattle.machine.specs.declared.regions.Region.{Region}
 use Rattle.machine.specs.declared.regions.Region.TheVariants.{Front, Tail, Stack}
-use Rattle.machine.specs.Words.{word, signed}
+use Rattle.machine.specs.Words.{word, signed_value}
 use Rattle.bpf_parts.specs.Sizes.{size_bytes, load_bytes}
 use Rattle.machine.specs.Memory.{place_of}
 use Rattle.absdom_num.specs.declared.ranges.Range.{Range}
-use Rattle.absdom_num.specs.Tables.{only, alu_range, negated_range, extended_range, swapped_range}
+use Rattle.absdom_num.specs.Tables.{single_range, alu_range, negated_range, extended_range, swapped_range}
 use Rattle.absdom.specs.declared.cause.Cause.{Cause}
 use Rattle.absdom.specs.declared.cause.Cause.TheVariants.{UnsetOperand, KindMismatch, OutOfRegion, UnsetStack, HeaderWrite, PointerRange}
 use Rattle.absdom.specs.declared.kinds.AbsKind.{AbsKind}
@@ -25,25 +25,25 @@ use Rattle.absdom.specs.declared.kinds.AbsKind.TheVariants.{Unset, Num, Ptr, Map
 use Rattle.absdom.specs.Offsets.{offsets_within}
 use Rattle.absdom.specs.Kinds.{number_of}
 use Rattle.absdom.specs.State.{StateValue, kind_at, with_kind, with_marks}
-use Rattle.absdom.specs.Marks.{all_marked, marked}
+use Rattle.absdom.specs.Marks.{all_marked, marks_after}
 
 -- a register's kind, or the number of an immediate
 abbrev pub operand_kind : StateValue → Operand → AbsKind
 operand_kind a (FromRegister register) = kind_at a register
-operand_kind a (Immediate value) = Num (only (word value))
+operand_kind a (Immediate value) = Num (single_range (word value))
 
 -- ---- arithmetic (RFC 9669, section 4.1)
 
 -- an operation on two numbers
-abbrev pub computed : AluOp → Width → Result Range Cause → Result Range Cause → Result AbsKind Cause
-computed op width (Err cause) b = Err cause
-computed op width (Ok a) (Err cause) = Err cause
-computed op width (Ok a) (Ok b) = Ok (Num (alu_range op width a b))
+abbrev pub kind_of_two : AluOp → Width → Result Range Cause → Result Range Cause → Result AbsKind Cause
+kind_of_two op width (Err cause) b = Err cause
+kind_of_two op width (Ok a) (Err cause) = Err cause
+kind_of_two op width (Ok a) (Ok b) = Ok (Num (alu_range op width a b))
 
 -- an operation on one number
-abbrev pub computed_alone : (Range → Range) → Result Range Cause → Result AbsKind Cause
-computed_alone f (Err cause) = Err cause
-computed_alone f (Ok a) = Ok (Num (f a))
+abbrev pub kind_of_one : (Range → Range) → Result Range Cause → Result AbsKind Cause
+kind_of_one f (Err cause) = Err cause
+kind_of_one f (Ok a) = Ok (Num (f a))
 
 -- MOV: in ALU64 it copies pointers and maps too
 abbrev pub copied_kind : Width → AbsKind → Result AbsKind Cause
@@ -57,12 +57,12 @@ copied_kind Bits64 (Map index) = Ok (Map index)
 -- the ends of a range whose numbers have one sign where they are read as signed
 abbrev pub signed_ends : Range → Option (ℤ × ℤ)
 signed_ends a =
-    if nat_lt a.1 (2 ^ 63) || nat_le (2 ^ 63) a.0 then Some (signed Bits64 a.0, signed Bits64 a.1) else None
+    if nat_lt a.1 (2 ^ 63) || nat_le (2 ^ 63) a.0 then Some (signed_value Bits64 a.0, signed_value Bits64 a.1) else None
 
 -- a pointer that was moved, within the limits of its offsets
-abbrev pub moved_to : Region → Option (ℤ × ℤ) → Result AbsKind Cause
-moved_to region None = Err PointerRange
-moved_to region (Some offsets) = Ok (Ptr region offsets)
+abbrev pub pointer_kind : Region → Option (ℤ × ℤ) → Result AbsKind Cause
+pointer_kind region None = Err PointerRange
+pointer_kind region (Some offsets) = Ok (Ptr region offsets)
 
 -- the offsets after so much was added
 abbrev pub offsets_up : ℤ × ℤ → Option (ℤ × ℤ) → Option (ℤ × ℤ)
@@ -77,26 +77,26 @@ offsets_down offsets (Some n) = offsets_within (offsets.0 -ℤ n.1) (offsets.1 -
 -- a pointer plus a number
 abbrev pub pointer_up : Region → ℤ × ℤ → Result Range Cause → Result AbsKind Cause
 pointer_up region offsets (Err cause) = Err cause
-pointer_up region offsets (Ok n) = moved_to region (offsets_up offsets (signed_ends n))
+pointer_up region offsets (Ok n) = pointer_kind region (offsets_up offsets (signed_ends n))
 
 -- a pointer minus a number
 abbrev pub pointer_down : Region → ℤ × ℤ → Result Range Cause → Result AbsKind Cause
 pointer_down region offsets (Err cause) = Err cause
-pointer_down region offsets (Ok n) = moved_to region (offsets_down offsets (signed_ends n))
+pointer_down region offsets (Ok n) = pointer_kind region (offsets_down offsets (signed_ends n))
 
 -- ADD: in ALU64 it moves a pointer
 abbrev pub sum_kind : Width → AbsKind → AbsKind → Result AbsKind Cause
-sum_kind Bits32 a b = computed Add Bits32 (number_of a) (number_of b)
+sum_kind Bits32 a b = kind_of_two Add Bits32 (number_of a) (number_of b)
 sum_kind Bits64 Unset b = Err UnsetOperand
-sum_kind Bits64 (Num a) b = computed Add Bits64 (Ok a) (number_of b)
+sum_kind Bits64 (Num a) b = kind_of_two Add Bits64 (Ok a) (number_of b)
 sum_kind Bits64 (Ptr region offsets) b = pointer_up region offsets (number_of b)
 sum_kind Bits64 (Map index) b = Err KindMismatch
 
 -- SUB: likewise
 abbrev pub difference_kind : Width → AbsKind → AbsKind → Result AbsKind Cause
-difference_kind Bits32 a b = computed Sub Bits32 (number_of a) (number_of b)
+difference_kind Bits32 a b = kind_of_two Sub Bits32 (number_of a) (number_of b)
 difference_kind Bits64 Unset b = Err UnsetOperand
-difference_kind Bits64 (Num a) b = computed Sub Bits64 (Ok a) (number_of b)
+difference_kind Bits64 (Num a) b = kind_of_two Sub Bits64 (Ok a) (number_of b)
 difference_kind Bits64 (Ptr region offsets) b = pointer_down region offsets (number_of b)
 difference_kind Bits64 (Map index) b = Err KindMismatch
 
@@ -104,18 +104,18 @@ difference_kind Bits64 (Map index) b = Err KindMismatch
 abbrev pub alu_kind : AluOp → Width → AbsKind → AbsKind → Result AbsKind Cause
 alu_kind Add width a b = sum_kind width a b
 alu_kind Sub width a b = difference_kind width a b
-alu_kind Mul width a b = computed Mul width (number_of a) (number_of b)
-alu_kind Div width a b = computed Div width (number_of a) (number_of b)
-alu_kind SignedDiv width a b = computed SignedDiv width (number_of a) (number_of b)
-alu_kind Or width a b = computed Or width (number_of a) (number_of b)
-alu_kind And width a b = computed And width (number_of a) (number_of b)
-alu_kind Lsh width a b = computed Lsh width (number_of a) (number_of b)
-alu_kind Rsh width a b = computed Rsh width (number_of a) (number_of b)
-alu_kind Mod width a b = computed Mod width (number_of a) (number_of b)
-alu_kind SignedMod width a b = computed SignedMod width (number_of a) (number_of b)
-alu_kind Xor width a b = computed Xor width (number_of a) (number_of b)
+alu_kind Mul width a b = kind_of_two Mul width (number_of a) (number_of b)
+alu_kind Div width a b = kind_of_two Div width (number_of a) (number_of b)
+alu_kind SignedDiv width a b = kind_of_two SignedDiv width (number_of a) (number_of b)
+alu_kind Or width a b = kind_of_two Or width (number_of a) (number_of b)
+alu_kind And width a b = kind_of_two And width (number_of a) (number_of b)
+alu_kind Lsh width a b = kind_of_two Lsh width (number_of a) (number_of b)
+alu_kind Rsh width a b = kind_of_two Rsh width (number_of a) (number_of b)
+alu_kind Mod width a b = kind_of_two Mod width (number_of a) (number_of b)
+alu_kind SignedMod width a b = kind_of_two SignedMod width (number_of a) (number_of b)
+alu_kind Xor width a b = kind_of_two Xor width (number_of a) (number_of b)
 alu_kind Mov width a b = copied_kind width b
-alu_kind Arsh width a b = computed Arsh width (number_of a) (number_of b)
+alu_kind Arsh width a b = kind_of_two Arsh width (number_of a) (number_of b)
 
 -- ---- loads and stores (RFC 9669, section 5)
 
@@ -167,38 +167,38 @@ load_kind a size (Ptr region offsets) offset =
 load_kind a size (Map index) offset = Err KindMismatch
 
 -- a store of so many bytes sets them where it has one place, and no byte else
-abbrev pub wrote : StateValue → (bytes : ℕ) → ℕ × ℕ → StateValue
-wrote a bytes places = if places.0 == places.1 then with_marks a (marked a.marks places.0 bytes) else a
+abbrev pub after_bytes : StateValue → (bytes : ℕ) → ℕ × ℕ → StateValue
+after_bytes a bytes places = if places.0 == places.1 then with_marks a (marks_after a.marks places.0 bytes) else a
 
 -- a store at these places
-abbrev pub wrote_at : StateValue → (bytes : ℕ) → Option (ℕ × ℕ) → Result StateValue Cause
-wrote_at a bytes None = Err OutOfRegion
-wrote_at a bytes (Some places) = Ok (wrote a bytes places)
+abbrev pub after_write_at : StateValue → (bytes : ℕ) → Option (ℕ × ℕ) → Result StateValue Cause
+after_write_at a bytes None = Err OutOfRegion
+after_write_at a bytes (Some places) = Ok (after_bytes a bytes places)
 
 -- a store to the stack at one of these offsets
-abbrev pub wrote_stack : StateValue → (bytes : ℕ) → ℤ × ℤ → (offset : ℤ) → Result StateValue Cause
-wrote_stack a bytes offsets offset = wrote_at a bytes (access_places Stack bytes offsets offset)
+abbrev pub after_stack_write : StateValue → (bytes : ℕ) → ℤ × ℤ → (offset : ℤ) → Result StateValue Cause
+after_stack_write a bytes offsets offset = after_write_at a bytes (access_places Stack bytes offsets offset)
 
 -- a store to a region: the header is read-only
-abbrev pub wrote_to : StateValue → (bytes : ℕ) → Region → ℤ × ℤ → (offset : ℤ) → Result StateValue Cause
-wrote_to a bytes Front offsets offset = Err HeaderWrite
-wrote_to a bytes Tail offsets offset = Err HeaderWrite
-wrote_to a bytes Stack offsets offset = wrote_stack a bytes offsets offset
+abbrev pub after_write_to : StateValue → (bytes : ℕ) → Region → ℤ × ℤ → (offset : ℤ) → Result StateValue Cause
+after_write_to a bytes Front offsets offset = Err HeaderWrite
+after_write_to a bytes Tail offsets offset = Err HeaderWrite
+after_write_to a bytes Stack offsets offset = after_stack_write a bytes offsets offset
 
 -- a store of a number through a pointer
-abbrev pub stored : StateValue → (bytes : ℕ) → (base : AbsKind) → (offset : ℤ) → Result Range Cause → Result StateValue Cause
-stored a bytes Unset offset value = Err UnsetOperand
-stored a bytes (Num n) offset value = Err KindMismatch
-stored a bytes (Ptr region offsets) offset (Err cause) = Err cause
-stored a bytes (Ptr region offsets) offset (Ok value) = wrote_to a bytes region offsets offset
-stored a bytes (Map index) offset value = Err KindMismatch
+abbrev pub after_store : StateValue → (bytes : ℕ) → (base : AbsKind) → (offset : ℤ) → Result Range Cause → Result StateValue Cause
+after_store a bytes Unset offset value = Err UnsetOperand
+after_store a bytes (Num n) offset value = Err KindMismatch
+after_store a bytes (Ptr region offsets) offset (Err cause) = Err cause
+after_store a bytes (Ptr region offsets) offset (Ok value) = after_write_to a bytes region offsets offset
+after_store a bytes (Map index) offset value = Err KindMismatch
 
 -- ---- instructions
 
 -- the register is written
-abbrev pub written : StateValue → (register : ℕ) → Result AbsKind Cause → Result StateValue Cause
-written a register (Err cause) = Err cause
-written a register (Ok kind) = Ok (with_kind a register kind)
+abbrev pub with_result : StateValue → (register : ℕ) → Result AbsKind Cause → Result StateValue Cause
+with_result a register (Err cause) = Err cause
+with_result a register (Ok kind) = Ok (with_kind a register kind)
 
 -- a map by its index; of an index that no map has nothing is known
 abbrev pub map_kind : ℤ → AbsKind
@@ -206,21 +206,21 @@ map_kind (pos index) = if nat_lt index 256 then Map index else Unset
 map_kind (negsuc n) = Unset
 
 -- what an instruction does that goes on to the next one. All others leave what is known as it is.
-abbrev pub applied : StateValue → Insn → Result StateValue Cause
-applied a (Alu op width dst src) = written a dst (alu_kind op width (kind_at a dst) (operand_kind a src))
-applied a (Negate width dst) = written a dst (computed_alone (negated_range width) (number_of (kind_at a dst)))
-applied a (MoveSigned extension dst src) = written a dst (computed_alone (extended_range extension) (number_of (kind_at a src)))
-applied a (ByteSwap swap bits dst) = written a dst (computed_alone (swapped_range swap bits) (number_of (kind_at a dst)))
-applied a (Load size dst place) = written a dst (load_kind a size (kind_at a place.base) place.offset)
-applied a (Store size place src) =
-    stored a (size_bytes size) (kind_at a place.base) place.offset (number_of (operand_kind a src))
-applied a (Jump comparison offset) = Ok a
-applied a (Goto distance) = Ok a
-applied a (Wide dst value) = Ok (with_kind a dst (Num (only value)))
-applied a (LoadMap dst index) = Ok (with_kind a dst (map_kind index))
-applied a (LoadAddress dst address) = Ok a
-applied a (Call callee number) = Ok a
-applied a Exit = Ok a
+abbrev pub after_insn : StateValue → Insn → Result StateValue Cause
+after_insn a (Alu op width dst src) = with_result a dst (alu_kind op width (kind_at a dst) (operand_kind a src))
+after_insn a (Negate width dst) = with_result a dst (kind_of_one (negated_range width) (number_of (kind_at a dst)))
+after_insn a (MoveSigned extension dst src) = with_result a dst (kind_of_one (extended_range extension) (number_of (kind_at a src)))
+after_insn a (ByteSwap swap bits dst) = with_result a dst (kind_of_one (swapped_range swap bits) (number_of (kind_at a dst)))
+after_insn a (Load size dst place) = with_result a dst (load_kind a size (kind_at a place.base) place.offset)
+after_insn a (Store size place src) =
+    after_store a (size_bytes size) (kind_at a place.base) place.offset (number_of (operand_kind a src))
+after_insn a (Jump comparison offset) = Ok a
+after_insn a (Goto distance) = Ok a
+after_insn a (Wide dst value) = Ok (with_kind a dst (Num (single_range value)))
+after_insn a (LoadMap dst index) = Ok (with_kind a dst (map_kind index))
+after_insn a (LoadAddress dst address) = Ok a
+after_insn a (Call callee number) = Ok a
+after_insn a Exit = Ok a
 
 -- a change in place: the state becomes what is given, or stays what it was where it is refused
 abbrev pub Becomes : Result (Unit {0}) Cause → (old new : StateValue) → (given : Result StateValue Cause) → Type 0
@@ -229,8 +229,8 @@ Becomes (Err cause) old new given = (given ≡ Err cause) × (new ≡ old)
 
 -- a store of so many bytes of a value through a pointer, in place
 abbrev pub Stores : Result (Unit {0}) Cause → (old new : StateValue) → (bytes : ℕ) → (base : AbsKind) → (offset : ℤ) → (value : AbsKind) → Type 0
-Stores done old new bytes base offset value = Becomes done old new (stored old bytes base offset (number_of value))
+Stores done old new bytes base offset value = Becomes done old new (after_store old bytes base offset (number_of value))
 
 -- an instruction in place
 abbrev pub Applies : Result (Unit {0}) Cause → (old new : StateValue) → Insn → Type 0
-Applies done old new insn = Becomes done old new (applied old insn)
+Applies done old new insn = Becomes done old new (after_insn old insn)

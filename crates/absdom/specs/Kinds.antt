@@ -3,7 +3,7 @@
 use Rattle.std.specs.Prelude.{◌≡◌, ℕ, Bool, true, false, ◌==◌, if◌then◌else◌, Result, Ok, Err}
 use Rattle.machine.specs.declared.regions.Region.{Region}
 use Rattle.machine.specs.declared.regions.Region.TheVariants.{Front, Tail, Stack}
-use Rattle.absdom_num.specs.Ranges.{IsWithin, joined as joined_ranges}
+use Rattle.absdom_num.specs.Ranges.{IsWithin, joined_ranges}
 use Rattle.absdom.specs.declared.cause.Cause.{Cause}
 use Rattle.absdom.specs.declared.cause.Cause.TheVariants.{UnsetOperand, KindMismatch}
 use Rattle.absdom.specs.declared.kinds.AbsKind.{AbsKind}
@@ -24,20 +24,20 @@ same_region Stack Stack = true
 
 -- the least kind above both: of two numbers the least range that holds both, of two pointers into one
 -- region the least offsets, the same map; of any other two different kinds Unset
-abbrev pub joined : AbsKind → AbsKind → AbsKind
-joined Unset b = Unset
-joined (Num a) Unset = Unset
-joined (Num a) (Num b) = Num (joined_ranges a b)
-joined (Num a) (Ptr s b) = Unset
-joined (Num a) (Map j) = Unset
-joined (Ptr r a) Unset = Unset
-joined (Ptr r a) (Num b) = Unset
-joined (Ptr r a) (Ptr s b) = if same_region r s then Ptr r (joined_offsets a b) else Unset
-joined (Ptr r a) (Map j) = Unset
-joined (Map i) Unset = Unset
-joined (Map i) (Num b) = Unset
-joined (Map i) (Ptr s b) = Unset
-joined (Map i) (Map j) = if i == j then Map i else Unset
+abbrev pub joined_kinds : AbsKind → AbsKind → AbsKind
+joined_kinds Unset b = Unset
+joined_kinds (Num a) Unset = Unset
+joined_kinds (Num a) (Num b) = Num (joined_ranges a b)
+joined_kinds (Num a) (Ptr s b) = Unset
+joined_kinds (Num a) (Map j) = Unset
+joined_kinds (Ptr r a) Unset = Unset
+joined_kinds (Ptr r a) (Num b) = Unset
+joined_kinds (Ptr r a) (Ptr s b) = if same_region r s then Ptr r (joined_offsets a b) else Unset
+joined_kinds (Ptr r a) (Map j) = Unset
+joined_kinds (Map i) Unset = Unset
+joined_kinds (Map i) (Num b) = Unset
+joined_kinds (Map i) (Ptr s b) = Unset
+joined_kinds (Map i) (Map j) = if i == j then Map i else Unset
 
 -- the first kind is contained in the second: every kind is below Unset
 abbrev pub IsKindBelow : AbsKind → AbsKind → Type 0

@@ -11,12 +11,12 @@ use Rattle.bpf_insn.specs.Flow.{is_written}
 use Rattle.bpf_insn.specs.Spelling.{slots_of}
 use Rattle.machine.specs.Memory.{Header, IsHeader}
 use Rattle.machine.specs.State.{State, entry_state}
-use Rattle.machine.specs.Step.{perform, answered}
+use Rattle.machine.specs.Step.{perform, after_answer}
 use Rattle.machine.specs.Laws.{is_store}
 use Rattle.absdom.specs.declared.cause.Cause.{Cause}
 use Rattle.absdom.specs.Marks.{mark_at}
 use Rattle.absdom.specs.State.{StateValue, IsWhole, IsBelow, IsJoin, IsEntry, AreAlike, kind_at, after_call}
-use Rattle.absdom.specs.Effect.{applied}
+use Rattle.absdom.specs.Effect.{after_insn}
 use Rattle.absdom.specs.Edges.{Edges, refined_edges}
 use Rattle.absdom.specs.Fits.{Fits, IsSound, GoesStraight, TakesEdge}
 
@@ -50,14 +50,14 @@ EntryFits = (a : StateValue) (port : ℕ) → IsEntry a → port < 32 → Fits (
 
 -- whatever a helper answers, the state after its call fits
 abbrev pub CallFits : Type 0
-CallFits = (s : State) (a : StateValue) (answer : ℕ) → answer < 2 ^ 64 → Fits s a → Fits (answered s answer) (after_call a)
+CallFits = (s : State) (a : StateValue) (answer : ℕ) → answer < 2 ^ 64 → Fits s a → Fits (after_answer s answer) (after_call a)
 
 -- where an instruction is not refused, the machine goes on to the next one in a state that fits the result,
 -- from every state that fits
 abbrev pub ApplyFits : Type 0
 ApplyFits =
     (header : Header) (s : State) (a : StateValue) (insn : Insn) → IsHeader header → GoesStraight insn → Fits s a
-    → IsSound (perform header s insn) (s.slot + slots_of insn) (applied a insn)
+    → IsSound (perform header s insn) (s.slot + slots_of insn) (after_insn a insn)
 
 -- where a comparison is not refused, every state that fits fits the edge that it takes
 abbrev pub RefineFits : Type 0
@@ -89,7 +89,7 @@ AreEdgesGrown (Ok small) (Ok large) = IsEdgeBelow small.taken large.taken × IsE
 -- of a smaller state an instruction gives a smaller one, and it is not refused where that of the larger is not
 abbrev pub ApplyGrows : Type 0
 ApplyGrows =
-    (a b : StateValue) (insn : Insn) → IsWhole a → IsWhole b → IsBelow a b → IsGrown (applied a insn) (applied b insn)
+    (a b : StateValue) (insn : Insn) → IsWhole a → IsWhole b → IsBelow a b → IsGrown (after_insn a insn) (after_insn b insn)
 
 -- and a comparison: an edge that is followed from the smaller is followed from the larger
 abbrev pub RefineGrows : Type 0
@@ -118,7 +118,7 @@ pub record IsLeftBy (insn : Insn) (before after : StateValue) : Type 0 where
 
 -- an instruction that is not refused leaves what it does not write
 abbrev pub ApplyLeaves : Type 0
-ApplyLeaves = (a : StateValue) (insn : Insn) → IfOk (applied a insn) (IsLeftBy insn a)
+ApplyLeaves = (a : StateValue) (insn : Insn) → IfOk (after_insn a insn) (IsLeftBy insn a)
 
 -- and so does a helper's call
 abbrev pub CallLeaves : Type 0

@@ -11,9 +11,9 @@ all_marked marks first zero = true
 all_marked marks first (suc count) = all_marked marks first count && mark_at marks (first + count)
 
 -- the marks after so many bytes were written from a place on
-unfoldable pub marked : List Bool → (first bytes : ℕ) → List Bool
-marked marks first zero = marks
-marked marks first (suc bytes) = slice_set (marked marks first bytes) (first + bytes) true
+unfoldable pub marks_after : List Bool → (first bytes : ℕ) → List Bool
+marks_after marks first zero = marks
+marks_after marks first (suc bytes) = slice_set (marks_after marks first bytes) (first + bytes) true
 
 -- each mark of the first list stands in the second too
 abbrev pub AreMarkedIn : (first second : List Bool) → Type 0

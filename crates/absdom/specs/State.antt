@@ -3,10 +3,10 @@ use Rattle.std.specs.Prelude.{◌≡◌, ℕ, Bool, false, List, [], ◌∷◌, 
 use Rattle.machine.specs.declared.regions.Region.TheVariants.{Front, Tail, Stack}
 use Rattle.bpf_parts.specs.declared.operation.Width.TheVariants.{Bits64}
 use Rattle.absdom_num.specs.Ranges.{IsRange}
-use Rattle.absdom_num.specs.Tables.{whole}
+use Rattle.absdom_num.specs.Tables.{whole_range}
 use Rattle.absdom.specs.declared.kinds.AbsKind.{AbsKind}
 use Rattle.absdom.specs.declared.kinds.AbsKind.TheVariants.{Unset, Num, Ptr, Map}
-use Rattle.absdom.specs.Kinds.{joined, IsKindBelow}
+use Rattle.absdom.specs.Kinds.{joined_kinds, IsKindBelow}
 use Rattle.absdom.specs.Marks.{mark_at, AreInBoth, AreMarkedIn}
 
 -- a kind for each register, and a mark for each byte of the stack that is known to be set
@@ -50,7 +50,7 @@ with_marks a marks = record { kinds = a.kinds; marks = marks }
 -- after a helper's call: r0 is any number, r1 to r5 are unset (RFC 9669, section 2)
 abbrev pub after_call : StateValue → StateValue
 after_call a =
-    with_kind (with_kind (with_kind (with_kind (with_kind (with_kind a 0 (Num (whole Bits64))) 1 Unset) 2 Unset) 3 Unset) 4 Unset) 5 Unset
+    with_kind (with_kind (with_kind (with_kind (with_kind (with_kind a 0 (Num (whole_range Bits64))) 1 Unset) 2 Unset) 3 Unset) 4 Unset) 5 Unset
 
 -- the kinds of r0 to r10 at entry, by the calling rules (a choice of this project)
 abbrev pub entry_kinds : List AbsKind
@@ -69,7 +69,7 @@ AreBelow first second = (register : ℕ) → IsKindBelow (kind_in first register
 
 -- register by register the least kind above both
 abbrev pub AreJoined : List AbsKind → List AbsKind → List AbsKind → Type 0
-AreJoined first second joint = (register : ℕ) → kind_in joint register ≡ joined (kind_in first register) (kind_in second register)
+AreJoined first second joint = (register : ℕ) → kind_in joint register ≡ joined_kinds (kind_in first register) (kind_in second register)
 
 -- the first says all that the second says
 pub record IsBelow (a b : StateValue) : Type 0 where

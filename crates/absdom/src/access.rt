@@ -4,7 +4,7 @@ ghost use Rattle.std.specs.Prelude.{◌≡◌, ◌+◌, ◌-◌, ◌^◌, ◌<�
 ghost use Rattle.bpf_parts.specs.Sizes.{size_bytes};
 ghost use Rattle.machine.specs.Memory.{place_within, place_of};
 ghost use Rattle.absdom.specs.Offsets.{IsOffset};
-ghost use Rattle.absdom.specs.Effect.{access_places, is_set, loaded_range, load_kind, wrote, wrote_stack, AreInside, Becomes, Stores};
+ghost use Rattle.absdom.specs.Effect.{access_places, is_set, loaded_range, load_kind, after_bytes, after_stack_write, AreInside, Becomes, Stores};
 
 use crate::cause::Cause;
 use crate::kinds::AbsKind;
@@ -148,7 +148,7 @@ pub(crate) fn load(
 /// A store to the stack at one of these offsets: it sets its bytes where there is one offset alone.
 fn write(state: &mut State, bytes: usize, offsets: Offsets, offset: i16) -> Result<(), Cause>
     requires { bytes ≤ 8 }
-    ensures { Becomes result state.old state.new (wrote_stack state.old bytes offsets offset) }
+    ensures { Becomes result state.old state.new (after_stack_write state.old bytes offsets offset) }
 {
     match access(Region::Stack, bytes, offsets, offset) {
         Some((lowest, highest)) => {

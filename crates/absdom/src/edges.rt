@@ -1,8 +1,8 @@
 //! What is known on the two edges of a comparison.
 
 ghost use Rattle.std.specs.Prelude.{◌≡◌, Ok, Err, MatchResult};
-ghost use Rattle.machine.specs.Words.{word, low};
-ghost use Rattle.absdom.specs.Edges.{compared, with_operands, on_edges, is_itself, ranges_of, refined_edges};
+ghost use Rattle.machine.specs.Words.{word, low_part};
+ghost use Rattle.absdom.specs.Edges.{compared_range, with_operands, edge_states, is_itself, ranges_of, refined_edges};
 
 use crate::cause::Cause;
 use crate::kinds::AbsKind;
@@ -12,14 +12,14 @@ use bpf_insn::{Condition, Operand, Register, Width};
 
 /// The part of an immediate that a comparison of that width reads.
 fn immediate(width: Width, value: i32) -> u64
-    ensures { result ≡ low width (word value) }
+    ensures { result ≡ low_part width (word value) }
 {
-    machine::low(width, machine::word(i64::from(value)))
+    machine::low_part(width, machine::word(i64::from(value)))
 }
 
 /// The range of a comparison's second operand: an immediate counts by the bits that the comparison reads.
 fn source(state: &State, width: Width, src: &Operand) -> Result<Range, Cause>
-    ensures { result ≡ compared width state.now src.now }
+    ensures { result ≡ compared_range width state.now src.now }
 {
     match src {
         Operand::FromRegister(register) => state.kind(*register).number(),
@@ -78,7 +78,7 @@ pub fn refine(
     src: &Operand,
 ) -> Result<Edges, Cause>
     ensures { MatchResult result
-        (λ new. refined_edges state.now condition width dst src.now ≡ Ok (on_edges state.now dst src.now new))
+        (λ new. refined_edges state.now condition width dst src.now ≡ Ok (edge_states state.now dst src.now new))
         (λ cause. refined_edges state.now condition width dst src.now ≡ Err cause) }
 {
     let left = state.kind(dst).number()?;

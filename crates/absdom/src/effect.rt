@@ -1,7 +1,7 @@
 //! What an instruction does to what is known.
 
 ghost use Rattle.std.specs.Prelude.{◌≡◌};
-ghost use Rattle.absdom.specs.Effect.{operand_kind, map_kind, written, applied, Applies, Becomes};
+ghost use Rattle.absdom.specs.Effect.{operand_kind, map_kind, with_result, after_insn, Applies, Becomes};
 
 use crate::access::{load, store};
 use crate::arithmetic::{alu, byte_swap, move_signed, negate};
@@ -33,7 +33,7 @@ fn map_kind(index: i32) -> AbsKind
 
 /// Writes a register, or says why not.
 fn write(state: &mut State, register: Register, kind: Result<AbsKind, Cause>) -> Result<(), Cause>
-    ensures { Becomes result state.old state.new (written state.old register kind) }
+    ensures { Becomes result state.old state.new (with_result state.old register kind) }
 {
     state.write(register, kind?);
     Ok(())
@@ -82,7 +82,7 @@ impl State {
     ///
     /// [`refine`]: crate::refine
     pub fn apply(&mut self, insn: &Insn) -> Result<(), Cause>
-        ensures { Becomes result self.old self.new (applied self.old insn.now) }
+        ensures { Becomes result self.old self.new (after_insn self.old insn.now) }
     {
         match insn {
             Insn::Alu {

@@ -1,7 +1,7 @@
 //! What is known of a register.
 
 ghost use Rattle.std.specs.Prelude.{◌≡◌, ◌↔◌, IsTrue};
-ghost use Rattle.absdom.specs.Kinds.{joined, IsKindBelow, number_of, map_of, same_region};
+ghost use Rattle.absdom.specs.Kinds.{joined_kinds, IsKindBelow, number_of, map_of, same_region};
 
 use crate::cause::Cause;
 use crate::offsets::Offsets;
@@ -24,7 +24,7 @@ pub enum AbsKind {
 impl AbsKind {
     /// The least kind above both.
     pub fn join(&self, other: &AbsKind) -> AbsKind
-        ensures { result ≡ joined self.now other.now }
+        ensures { result ≡ joined_kinds self.now other.now }
     {
         match self {
             AbsKind::Unset => AbsKind::Unset,
@@ -73,7 +73,7 @@ impl AbsKind {
 
 /// The least kind above a number of this range and the other kind.
 fn join_number(range: Range, other: &AbsKind) -> AbsKind
-    ensures { result ≡ joined (AbsKind.Num range) other.now }
+    ensures { result ≡ joined_kinds (AbsKind.Num range) other.now }
 {
     match other {
         AbsKind::Num(other) => AbsKind::Num(range.join(*other)),
@@ -85,7 +85,7 @@ fn join_number(range: Range, other: &AbsKind) -> AbsKind
 
 /// The least kind above such a pointer and the other kind.
 fn join_pointer(region: Region, offsets: Offsets, other: &AbsKind) -> AbsKind
-    ensures { result ≡ joined (AbsKind.Ptr region offsets) other.now }
+    ensures { result ≡ joined_kinds (AbsKind.Ptr region offsets) other.now }
 {
     match other {
         AbsKind::Ptr(other_region, other) => {
@@ -103,7 +103,7 @@ fn join_pointer(region: Region, offsets: Offsets, other: &AbsKind) -> AbsKind
 
 /// The least kind above this map and the other kind.
 fn join_map(index: u8, other: &AbsKind) -> AbsKind
-    ensures { result ≡ joined (AbsKind.Map index) other.now }
+    ensures { result ≡ joined_kinds (AbsKind.Map index) other.now }
 {
     match other {
         AbsKind::Map(other) => {

@@ -1,7 +1,7 @@
 //! Which bytes of the stack are set.
 
 ghost use Rattle.std.specs.Prelude.{◌≡◌, ℕ, ◌+◌, ◌-◌, ◌<◌, ◌≤◌, ◌↔◌, IsTrue, true, false, length, slice_set};
-ghost use Rattle.absdom.specs.Marks.{mark_at, all_marked, marked, AreInBoth, AreMarkedIn};
+ghost use Rattle.absdom.specs.Marks.{mark_at, all_marked, marks_after, AreInBoth, AreMarkedIn};
 
 use machine::STACK_SIZE;
 use std::marker::Model;
@@ -73,7 +73,7 @@ impl Marks {
     pub(crate) fn mark(&mut self, first: usize, end: usize)
         requires order { first ≤ end }
         requires inside { end ≤ 512 }
-        ensures { self.new ≡ marked self.old first (end - first) }
+        ensures { self.new ≡ marks_after self.old first (end - first) }
     {
         for place in first..end {
             self.set(place);

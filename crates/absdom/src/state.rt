@@ -1,9 +1,9 @@
 //! What is known at a slot.
 
 ghost use Rattle.std.specs.Prelude.{◌≡◌, ◌<◌, ◌≤◌, ◌-◌, ℕ, ◌↔◌, IsTrue, false, length};
-ghost use Rattle.absdom.specs.Kinds.{joined, IsKindBelow};
+ghost use Rattle.absdom.specs.Kinds.{joined_kinds, IsKindBelow};
 ghost use Rattle.absdom.specs.State.{IsState, IsWhole, IsBelow, IsJoin, IsEntry, kind_at, kind_in, with_kind, with_marks, after_call, entry_kinds, AreJoined, AreBelow};
-ghost use Rattle.absdom.specs.Marks.{mark_at, all_marked, marked};
+ghost use Rattle.absdom.specs.Marks.{mark_at, all_marked, marks_after};
 
 use crate::kinds::AbsKind;
 use crate::marks::Marks;
@@ -111,7 +111,7 @@ impl State {
     pub(crate) fn write_bytes(&mut self, first: usize, end: usize)
         requires order { first ≤ end }
         requires inside { end ≤ 512 }
-        ensures { self.new ≡ with_marks self.old (marked self.old.marks first (end - first)) }
+        ensures { self.new ≡ with_marks self.old (marks_after self.old.marks first (end - first)) }
     {
         self.marks.mark(first, end);
     }

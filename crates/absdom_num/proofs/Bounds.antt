@@ -8,7 +8,7 @@ use Rattle.bpf_parts.specs.declared.operation.Width.{Width}
 use Rattle.bpf_parts.specs.declared.operation.Width.TheVariants.{Bits32, Bits64}
 use Rattle.bpf_parts.specs.declared.operation.AluOp.{AluOp}
 use Rattle.bpf_parts.specs.declared.operation.AluOp.TheVariants.{Add, Sub, Mul, Div, SignedDiv, Or, And, Lsh, Rsh, Mod, SignedMod, Xor, Mov, Arsh}
-use Rattle.machine.specs.Words.{bits_of, modulus, low, signed, residue, wrapped, quotient, remainder, signed_quotient, signed_remainder, alu_low}
+use Rattle.machine.specs.Words.{bits_of, modulus, low_part, signed_value, residue, wrapped_number, quotient, remainder, signed_quotient, signed_remainder, alu_low}
 use Rattle.absdom_num.proofs.Cases.{by_eq}
 
 pub modulus_pos : (width : Width) → 0 < modulus width
@@ -51,15 +51,15 @@ remainder_small m a b p =
 
 signed_quotient_small : (width : Width) (a b : ℕ) → signed_quotient width a b < modulus width
 signed_quotient_small width a b =
-    by_eq (λ t. (if t then 0 else wrapped width (int_div (signed width a) (signed width b))) < modulus width) b 0
+    by_eq (λ t. (if t then 0 else wrapped_number width (int_div (signed_value width a) (signed_value width b))) < modulus width) b 0
     (λ _. modulus_pos width)
-    (λ _. residue_small width (int_div (signed width a) (signed width b)))
+    (λ _. residue_small width (int_div (signed_value width a) (signed_value width b)))
 
 signed_remainder_small : (width : Width) (a b : ℕ) → a < modulus width → signed_remainder width a b < modulus width
 signed_remainder_small width a b p =
-    by_eq (λ t. (if t then a else wrapped width (int_rem (signed width a) (signed width b))) < modulus width) b 0
+    by_eq (λ t. (if t then a else wrapped_number width (int_rem (signed_value width a) (signed_value width b))) < modulus width) b 0
     (λ _. p)
-    (λ _. residue_small width (int_rem (signed width a) (signed width b)))
+    (λ _. residue_small width (int_rem (signed_value width a) (signed_value width b)))
 
 pub alu_low_small : (op : AluOp) (width : Width) (a b : ℕ) → a < modulus width → b < modulus width → alu_low op width a b < modulus width
 alu_low_small Add width a b p q = mod_small width (a + b)
@@ -75,8 +75,8 @@ alu_low_small Mod width a b p q = remainder_small (modulus width) a b p
 alu_low_small SignedMod width a b p q = signed_remainder_small width a b p
 alu_low_small Xor width a b p q = xor_small width a b p q
 alu_low_small Mov width a b p q = q
-alu_low_small Arsh width a b p q = residue_small width (int_shr (signed width a) (b % bits_of width))
+alu_low_small Arsh width a b p q = residue_small width (int_shr (signed_value width a) (b % bits_of width))
 
-pub low_small : (width : Width) (n : ℕ) → n < 2 ^ 64 → low width n < modulus width
+pub low_small : (width : Width) (n : ℕ) → n < 2 ^ 64 → low_part width n < modulus width
 low_small Bits32 n p = omega arith
 low_small Bits64 n p = p

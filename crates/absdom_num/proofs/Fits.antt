@@ -10,10 +10,10 @@ use Rattle.bpf_parts.specs.declared.operation.Width.{Width}
 use Rattle.bpf_parts.specs.declared.operation.Width.TheVariants.{Bits32, Bits64}
 use Rattle.bpf_parts.specs.declared.operation.AluOp.{AluOp}
 use Rattle.bpf_parts.specs.declared.operation.AluOp.TheVariants.{Add, Sub, Mul, Div, SignedDiv, Or, And, Lsh, Rsh, Mod, SignedMod, Xor, Mov, Arsh}
-use Rattle.machine.specs.Words.{modulus, low, signed, wrapped, quotient, remainder, alu_low, alu_words}
+use Rattle.machine.specs.Words.{modulus, low_part, signed_value, wrapped_number, quotient, remainder, alu_low, alu_words}
 use Rattle.absdom_num.specs.declared.ranges.Range.{Range}
 use Rattle.absdom_num.specs.Ranges.{IsIn}
-use Rattle.absdom_num.specs.Tables.{only, is_single, whole, half, cut, sum_range, difference_range, product_range, quotient_range, remainder_range, and_range, or_range, xor_range, distance, left_range, right_range, signed_right_range, row, alu_range}
+use Rattle.absdom_num.specs.Tables.{single_range, is_single, whole_range, sign_weight, low_range, sum_range, difference_range, product_range, quotient_range, remainder_range, and_range, or_range, xor_range, distance, left_range, right_range, signed_right_range, row, alu_range}
 use Rattle.absdom_num.proofs.Cases.{by_lt, by_le, by_eq}
 use Rattle.absdom_num.proofs.Quotients.{quotient_grows, shift_grows}
 use Rattle.absdom_num.proofs.Bounds.{modulus_most, mod_once, mod_small, residue_small, alu_low_small, low_small}
@@ -30,7 +30,7 @@ pub record Holds (width : Width) (n : ℕ) (r : Range) : Type 0 where
   pub below : n ≤ r.1
   pub small : n < modulus width
 
-whole_fits : (width : Width) (k : ℕ) → k < modulus width → Between k (whole width)
+whole_fits : (width : Width) (k : ℕ) → k < modulus width → Between k (whole_range width)
 whole_fits Bits32 k p = record { above = omega arith; below = omega arith }
 whole_fits Bits64 k p = record { above = omega arith; below = omega arith }
 
@@ -40,7 +40,7 @@ sum_fits width a b n m p q =
     (λ t. Between ((n + m) % modulus width)
     (if t then (a.0 + b.0, a.1 + b.1)
     else if nat_le (modulus width) (a.0 + b.0) then (a.0 + b.0 - modulus width, a.1 + b.1 - modulus width)
-    else whole width))
+    else whole_range width))
     (a.1 + b.1) (modulus width)
     (λ h.
     let e : (n + m) % modulus width ≡ n + m = mod-eq_of_lt (omega arith) in
@@ -48,7 +48,7 @@ sum_fits width a b n m p q =
     (λ h.
     by_le
     (λ t. Between ((n + m) % modulus width)
-    (if t then (a.0 + b.0 - modulus width, a.1 + b.1 - modulus width) else whole width))
+    (if t then (a.0 + b.0 - modulus width, a.1 + b.1 - modulus width) else whole_range width))
     (modulus width) (a.0 + b.0)
     (λ g.
     let e : (n + m) % modulus width ≡ n + m - modulus width = mod_once width (n + m) (omega arith) (omega arith) in
@@ -61,7 +61,7 @@ difference_fits width a b n m p q =
     (λ t. Between ((n + (modulus width - m)) % modulus width)
     (if t then (a.0 - b.1, a.1 - b.0)
     else if nat_lt a.1 b.0 then (a.0 + modulus width - b.1, a.1 + modulus width - b.0)
-    else whole width))
+    else whole_range width))
     b.1 a.0
     (λ h.
     let e : (n + (modulus width - m)) % modulus width ≡ n + (modulus width - m) - modulus width =
@@ -70,7 +70,7 @@ difference_fits width a b n m p q =
     (λ h.
     by_lt
     (λ t. Between ((n + (modulus width - m)) % modulus width)
-    (if t then (a.0 + modulus width - b.1, a.1 + modulus width - b.0) else whole width))
+    (if t then (a.0 + modulus width - b.1, a.1 + modulus width - b.0) else whole_range width))
     a.1 b.0
     (λ g.
     let e : (n + (modulus width - m)) % modulus width ≡ n + (modulus width - m) = mod-eq_of_lt (omega arith) in
@@ -80,7 +80,7 @@ difference_fits width a b n m p q =
 product_fits : (width : Width) (a b : Range) (n m : ℕ) → Holds width n a → Holds width m b → Between ((n * m) % modulus width) (product_range width a b)
 product_fits width a b n m p q =
     by_lt
-    (λ t. Between ((n * m) % modulus width) (if t then (a.0 * b.0, a.1 * b.1) else whole width))
+    (λ t. Between ((n * m) % modulus width) (if t then (a.0 * b.0, a.1 * b.1) else whole_range width))
     (a.1 * b.1) (modulus width)
     (λ h.
     let u : n * m ≤ a.1 * b.1 = mul-le n m a.1 b.1 p.below q.below in
@@ -150,12 +150,12 @@ left_at width a b n p s =
     (λ t. Between ((n * 2 ^ distance width b.0) % modulus width)
     (if t && nat_lt (a.1 * 2 ^ distance width b.0) (modulus width)
     then (a.0 * 2 ^ distance width b.0, a.1 * 2 ^ distance width b.0)
-    else whole width))
+    else whole_range width))
     b.0 b.1
     (λ _.
     by_lt
     (λ t. Between ((n * 2 ^ distance width b.0) % modulus width)
-    (if t then (a.0 * 2 ^ distance width b.0, a.1 * 2 ^ distance width b.0) else whole width))
+    (if t then (a.0 * 2 ^ distance width b.0, a.1 * 2 ^ distance width b.0) else whole_range width))
     (a.1 * 2 ^ distance width b.0) (modulus width)
     (λ h.
     let u : n * 2 ^ distance width b.0 ≤ a.1 * 2 ^ distance width b.0 = mul-le-mul_right (2 ^ distance width b.0) p.below in
@@ -176,7 +176,7 @@ left_fits width a b n m p q =
     (λ t. Between ((n * 2 ^ distance width m) % modulus width)
     (if t && nat_lt (a.1 * 2 ^ distance width b.0) (modulus width)
     then (a.0 * 2 ^ distance width b.0, a.1 * 2 ^ distance width b.0)
-    else whole width))
+    else whole_range width))
     b.0 b.1
     (λ e. absurd (s e))
     (λ _. whole_fits width _ (mod_small width (n * 2 ^ distance width m))))
@@ -197,25 +197,25 @@ right_fits width a b n m p q =
     }))
     (λ s. record { above = omega arith; below = omega (arith, div-le_self n (2 ^ distance width m)) })
 
-pub signed_small : (width : Width) (n : ℕ) → n < half width → signed width n ≡ pos n
+pub signed_small : (width : Width) (n : ℕ) → n < sign_weight width → signed_value width n ≡ pos n
 signed_small Bits32 n h = to_z_pos w32 n h
 signed_small Bits64 n h = to_z_pos w64 n h
 
-pub half_less : (width : Width) → half width < modulus width
+pub half_less : (width : Width) → sign_weight width < modulus width
 half_less Bits32 = omega arith
 half_less Bits64 = omega arith
 
 -- a number that is not negative is shifted as it is
-shifted_small : (width : Width) (n d : ℕ) → n < half width → wrapped width (int_shr (signed width n) d) ≡ n / 2 ^ d
+shifted_small : (width : Width) (n d : ℕ) → n < sign_weight width → wrapped_number width (int_shr (signed_value width n) d) ≡ n / 2 ^ d
 shifted_small width n d h =
     rw (signed_small width n h) (mod-eq_of_lt (omega (arith, half_less width, div-le_self n (2 ^ d))))
 
-signed_right_fits : (width : Width) (a b : Range) (n m : ℕ) → Between n a → Between m b → Between (wrapped width (int_shr (signed width n) (distance width m))) (signed_right_range width a b)
+signed_right_fits : (width : Width) (a b : Range) (n m : ℕ) → Between n a → Between m b → Between (wrapped_number width (int_shr (signed_value width n) (distance width m))) (signed_right_range width a b)
 signed_right_fits width a b n m p q =
     by_le
-    (λ t. Between (wrapped width (int_shr (signed width n) (distance width m))) (if t then whole width else right_range width a b))
-    (half width) a.1
-    (λ h. whole_fits width _ (residue_small width (int_shr (signed width n) (distance width m))))
+    (λ t. Between (wrapped_number width (int_shr (signed_value width n) (distance width m))) (if t then whole_range width else right_range width a b))
+    (sign_weight width) a.1
+    (λ h. whole_fits width _ (residue_small width (int_shr (signed_value width n) (distance width m))))
     (λ h. rw (shifted_small width n (distance width m) (omega arith)) (right_fits width a b n m p q))
 
 between : (width : Width) (n : ℕ) (a : Range) → Holds width n a → Between n a
@@ -240,32 +240,32 @@ row_fits Xor width a b n m p q = xor_fits a b n m (is_in width n a p) (is_in wid
 row_fits Mov width a b n m p q = between width m b q
 row_fits Arsh width a b n m p q = signed_right_fits width a b n m (between width n a p) (between width m b q)
 
-pub cut_fits : (width : Width) (a : Range) (n : ℕ) → IsIn n a → Holds width (low width n) (cut width a)
+pub cut_fits : (width : Width) (a : Range) (n : ℕ) → IsIn n a → Holds width (low_part width n) (low_range width a)
 cut_fits Bits64 a n p = record { above = p.above; below = p.below; small = p.word }
 cut_fits Bits32 a n p =
     by_lt
-    (λ t. Holds Bits32 (n % 2 ^ 32) (if t then a else if is_single a then only (a.0 % 2 ^ 32) else whole Bits32))
+    (λ t. Holds Bits32 (n % 2 ^ 32) (if t then a else if is_single a then single_range (a.0 % 2 ^ 32) else whole_range Bits32))
     a.1 (2 ^ 32)
     (λ h. record { above = omega arith; below = omega arith; small = omega arith })
     (λ h.
-    by_eq (λ t. Holds Bits32 (n % 2 ^ 32) (if t then only (a.0 % 2 ^ 32) else whole Bits32)) a.0 a.1
+    by_eq (λ t. Holds Bits32 (n % 2 ^ 32) (if t then single_range (a.0 % 2 ^ 32) else whole_range Bits32)) a.0 a.1
     (λ e. record { above = omega arith; below = omega arith; small = omega arith })
     (λ e. record { above = omega arith; below = omega arith; small = omega arith }))
 
 pub alu_words_small : (op : AluOp) (width : Width) (n m : ℕ) → n < 2 ^ 64 → m < 2 ^ 64 → alu_words op width n m < 2 ^ 64
 alu_words_small op width n m p q =
-    omega (arith, modulus_most width, alu_low_small op width (low width n) (low width m) (low_small width n p) (low_small width m q))
+    omega (arith, modulus_most width, alu_low_small op width (low_part width n) (low_part width m) (low_small width n p) (low_small width m q))
 
-rest_fits : (op : AluOp) (width : Width) (a b : Range) (n m : ℕ) → IsIn n a → IsIn m b → IsIn (alu_words op width n m) (row op width (cut width a) (cut width b))
+rest_fits : (op : AluOp) (width : Width) (a b : Range) (n m : ℕ) → IsIn n a → IsIn m b → IsIn (alu_words op width n m) (row op width (low_range width a) (low_range width b))
 rest_fits op width a b n m p q =
-    let f : Between (alu_words op width n m) (row op width (cut width a) (cut width b)) =
-    row_fits op width (cut width a) (cut width b) (low width n) (low width m) (cut_fits width a n p) (cut_fits width b m q) in
+    let f : Between (alu_words op width n m) (row op width (low_range width a) (low_range width b)) =
+    row_fits op width (low_range width a) (low_range width b) (low_part width n) (low_part width m) (cut_fits width a n p) (cut_fits width b m q) in
     record { above = f.above; below = f.below; word = alu_words_small op width n m p.word q.word }
 
-only_fits : (k j : ℕ) → k ≡ j → k < 2 ^ 64 → IsIn k (only j)
+only_fits : (k j : ℕ) → k ≡ j → k < 2 ^ 64 → IsIn k (single_range j)
 only_fits k j e h = record { above = omega arith; below = omega arith; word = h }
 
-exact_fits : (op : AluOp) (width : Width) (a b : Range) (n m : ℕ) → IsIn n a → IsIn m b → a.0 ≡ a.1 → b.0 ≡ b.1 → IsIn (alu_words op width n m) (only (alu_words op width a.0 b.0))
+exact_fits : (op : AluOp) (width : Width) (a b : Range) (n m : ℕ) → IsIn n a → IsIn m b → a.0 ≡ a.1 → b.0 ≡ b.1 → IsIn (alu_words op width n m) (single_range (alu_words op width a.0 b.0))
 exact_fits op width a b n m p q s t =
     let e : n ≡ a.0 = omega arith in
     let f : m ≡ b.0 = omega arith in
@@ -275,12 +275,12 @@ pub alu_fits : (op : AluOp) (width : Width) (a b : Range) (n m : ℕ) → IsIn n
 alu_fits op width a b n m p q =
     by_eq
     (λ t. IsIn (alu_words op width n m)
-    (if t && is_single b then only (alu_words op width a.0 b.0) else row op width (cut width a) (cut width b)))
+    (if t && is_single b then single_range (alu_words op width a.0 b.0) else row op width (low_range width a) (low_range width b)))
     a.0 a.1
     (λ e.
     by_eq
     (λ t. IsIn (alu_words op width n m)
-    (if t then only (alu_words op width a.0 b.0) else row op width (cut width a) (cut width b)))
+    (if t then single_range (alu_words op width a.0 b.0) else row op width (low_range width a) (low_range width b)))
     b.0 b.1
     (λ f. exact_fits op width a b n m p q e f)
     (λ f. rest_fits op width a b n m p q))

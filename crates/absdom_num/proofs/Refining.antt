@@ -6,13 +6,13 @@ use Rattle.bpf_parts.specs.declared.operation.Width.{Width}
 use Rattle.bpf_parts.specs.declared.operation.Width.TheVariants.{Bits32, Bits64}
 use Rattle.bpf_parts.specs.declared.operation.Condition.{Condition}
 use Rattle.bpf_parts.specs.declared.operation.Condition.TheVariants.{Equal, Greater, GreaterEqual, AnyBits, NotEqual, SignedGreater, SignedGreaterEqual, Less, LessEqual, SignedLess, SignedLessEqual}
-use Rattle.machine.specs.Words.{modulus, low, signed, holds_words}
+use Rattle.machine.specs.Words.{modulus, low_part, signed_value, holds_words}
 use Rattle.absdom_num.specs.declared.ranges.Range.{Range}
 use Rattle.absdom_num.specs.declared.refinement.Edges.{Edges}
 use Rattle.absdom_num.specs.Ranges.{IsIn}
-use Rattle.absdom_num.specs.Tables.{half}
-use Rattle.absdom_num.specs.Refinement.{edge, without, apart, when_equal, when_not_equal, when_less, when_at_most, when_greater, when_at_least, when_taken, when_not_taken, reach, refined}
-use Rattle.absdom_num.specs.Laws.{followed, AreIn}
+use Rattle.absdom_num.specs.Tables.{sign_weight}
+use Rattle.absdom_num.specs.Refinement.{edge, range_without, range_apart, when_equal, when_not_equal, when_less, when_at_most, when_greater, when_at_least, when_taken, when_not_taken, reach, refined_ranges}
+use Rattle.absdom_num.specs.Laws.{followed_edge, AreIn}
 use Rattle.absdom_num.proofs.Cases.{by_test, by_lt, by_le, by_eq}
 use Rattle.absdom_num.proofs.Fits.{signed_small, half_less}
 
@@ -31,7 +31,7 @@ equal_fits a b n m p q e =
     (record { above = omega arith; below = omega arith; word = p.word })
     (record { above = omega arith; below = omega arith; word = q.word })
 
-without_fits : (a : Range) (n m : ℕ) → IsIn n a → (n ≡ m → ⊥) → IsIn n (without a m)
+without_fits : (a : Range) (n m : ℕ) → IsIn n a → (n ≡ m → ⊥) → IsIn n (range_without a m)
 without_fits a n m p d =
     by_eq (λ t. IsIn n (if t then (a.0 + 1, a.1) else if a.1 == m then (a.0, a.1 - 1) else a)) a.0 m
     (λ e. record { above = omega arith; below = p.below; word = p.word })
@@ -40,15 +40,15 @@ without_fits a n m p d =
     (λ f. record { above = p.above; below = omega arith; word = p.word })
     (λ f. p))
 
-apart_fits : (a b : Range) (n m : ℕ) → IsIn n a → IsIn m b → (n ≡ m → ⊥) → IsIn n (apart a b)
+apart_fits : (a b : Range) (n m : ℕ) → IsIn n a → IsIn m b → (n ≡ m → ⊥) → IsIn n (range_apart a b)
 apart_fits a b n m p q d =
-    by_eq (λ t. IsIn n (if t then without a b.0 else a)) b.0 b.1
+    by_eq (λ t. IsIn n (if t then range_without a b.0 else a)) b.0 b.1
     (λ e. without_fits a n b.0 p (λ f. d (omega arith)))
     (λ e. p)
 
 not_equal_fits : (a b : Range) (n m : ℕ) → IsIn n a → IsIn m b → (n ≡ m → ⊥) → AreIn n m (when_not_equal a b)
 not_equal_fits a b n m p q d =
-    edge_fits (apart a b) (apart b a) n m (apart_fits a b n m p q d) (apart_fits b a m n q p (λ e. d (sym e)))
+    edge_fits (range_apart a b) (range_apart b a) n m (apart_fits a b n m p q d) (apart_fits b a m n q p (λ e. d (sym e)))
 
 less_fits : (a b : Range) (n m : ℕ) → IsIn n a → IsIn m b → n < m → AreIn n m (when_less a b)
 less_fits a b n m p q h =
@@ -88,14 +88,14 @@ compares LessEqual n m = nat_le n m
 compares SignedLess n m = nat_lt n m
 compares SignedLessEqual n m = nat_le n m
 
-low_same : (width : Width) (n : ℕ) → n < modulus width → low width n ≡ n
+low_same : (width : Width) (n : ℕ) → n < modulus width → low_part width n ≡ n
 low_same Bits32 n h = mod-eq_of_lt h
 low_same Bits64 n h = refl
 
-below_half : (width : Width) (n : ℕ) → n < half width → low width n ≡ n
+below_half : (width : Width) (n : ℕ) → n < sign_weight width → low_part width n ≡ n
 below_half width n h = low_same width n (omega (arith, half_less width))
 
-signed_low : (width : Width) (n : ℕ) → n < half width → signed width (low width n) ≡ pos n
+signed_low : (width : Width) (n : ℕ) → n < sign_weight width → signed_value width (low_part width n) ≡ pos n
 signed_low width n h = rw (below_half width n h) (signed_small width n h)
 
 -- within reach a comparison compares the operands whole and unsigned
@@ -116,51 +116,51 @@ plain SignedLessEqual width n m p q = ap₂ (λ x y. int_le x y) (signed_low wid
 abbrev pub both : Condition → Range → Range → Edges
 both condition a b = record { taken = when_taken condition a b; not_taken = when_not_taken condition a b }
 
-both_fit : (condition : Condition) (a b : Range) (n m : ℕ) → IsIn n a → IsIn m b → AreIn n m (followed (compares condition n m) (both condition a b))
+both_fit : (condition : Condition) (a b : Range) (n m : ℕ) → IsIn n a → IsIn m b → AreIn n m (followed_edge (compares condition n m) (both condition a b))
 both_fit Equal a b n m p q =
-    by_eq (λ t. AreIn n m (followed t (both Equal a b))) n m (λ h. equal_fits a b n m p q h) (λ h. not_equal_fits a b n m p q h)
+    by_eq (λ t. AreIn n m (followed_edge t (both Equal a b))) n m (λ h. equal_fits a b n m p q h) (λ h. not_equal_fits a b n m p q h)
 both_fit Greater a b n m p q =
-    by_lt (λ t. AreIn n m (followed t (both Greater a b))) m n (λ h. greater_fits a b n m p q h) (λ h. at_most_fits a b n m p q h)
+    by_lt (λ t. AreIn n m (followed_edge t (both Greater a b))) m n (λ h. greater_fits a b n m p q h) (λ h. at_most_fits a b n m p q h)
 both_fit GreaterEqual a b n m p q =
-    by_le (λ t. AreIn n m (followed t (both GreaterEqual a b))) m n (λ h. at_least_fits a b n m p q h) (λ h. less_fits a b n m p q h)
+    by_le (λ t. AreIn n m (followed_edge t (both GreaterEqual a b))) m n (λ h. at_least_fits a b n m p q h) (λ h. less_fits a b n m p q h)
 both_fit AnyBits a b n m p q =
-    by_test (λ t. AreIn n m (followed t (both AnyBits a b))) (not (bit_and n m == 0)) (λ h. (p, q)) (λ h. (p, q))
+    by_test (λ t. AreIn n m (followed_edge t (both AnyBits a b))) (not (bit_and n m == 0)) (λ h. (p, q)) (λ h. (p, q))
 both_fit NotEqual a b n m p q =
-    by_eq (λ t. AreIn n m (followed (not t) (both NotEqual a b))) n m (λ h. equal_fits a b n m p q h) (λ h. not_equal_fits a b n m p q h)
+    by_eq (λ t. AreIn n m (followed_edge (not t) (both NotEqual a b))) n m (λ h. equal_fits a b n m p q h) (λ h. not_equal_fits a b n m p q h)
 both_fit SignedGreater a b n m p q =
-    by_lt (λ t. AreIn n m (followed t (both SignedGreater a b))) m n (λ h. greater_fits a b n m p q h) (λ h. at_most_fits a b n m p q h)
+    by_lt (λ t. AreIn n m (followed_edge t (both SignedGreater a b))) m n (λ h. greater_fits a b n m p q h) (λ h. at_most_fits a b n m p q h)
 both_fit SignedGreaterEqual a b n m p q =
-    by_le (λ t. AreIn n m (followed t (both SignedGreaterEqual a b))) m n (λ h. at_least_fits a b n m p q h) (λ h. less_fits a b n m p q h)
+    by_le (λ t. AreIn n m (followed_edge t (both SignedGreaterEqual a b))) m n (λ h. at_least_fits a b n m p q h) (λ h. less_fits a b n m p q h)
 both_fit Less a b n m p q =
-    by_lt (λ t. AreIn n m (followed t (both Less a b))) n m (λ h. less_fits a b n m p q h) (λ h. at_least_fits a b n m p q h)
+    by_lt (λ t. AreIn n m (followed_edge t (both Less a b))) n m (λ h. less_fits a b n m p q h) (λ h. at_least_fits a b n m p q h)
 both_fit LessEqual a b n m p q =
-    by_le (λ t. AreIn n m (followed t (both LessEqual a b))) n m (λ h. at_most_fits a b n m p q h) (λ h. greater_fits a b n m p q h)
+    by_le (λ t. AreIn n m (followed_edge t (both LessEqual a b))) n m (λ h. at_most_fits a b n m p q h) (λ h. greater_fits a b n m p q h)
 both_fit SignedLess a b n m p q =
-    by_lt (λ t. AreIn n m (followed t (both SignedLess a b))) n m (λ h. less_fits a b n m p q h) (λ h. at_least_fits a b n m p q h)
+    by_lt (λ t. AreIn n m (followed_edge t (both SignedLess a b))) n m (λ h. less_fits a b n m p q h) (λ h. at_least_fits a b n m p q h)
 both_fit SignedLessEqual a b n m p q =
-    by_le (λ t. AreIn n m (followed t (both SignedLessEqual a b))) n m (λ h. at_most_fits a b n m p q h) (λ h. greater_fits a b n m p q h)
+    by_le (λ t. AreIn n m (followed_edge t (both SignedLessEqual a b))) n m (λ h. at_most_fits a b n m p q h) (λ h. greater_fits a b n m p q h)
 
 -- where nothing is refined
 abbrev pub same : Range → Range → Edges
 same a b = record { taken = Some (record { dst = a; src = b }); not_taken = Some (record { dst = a; src = b }) }
 
-same_fit : (t : Bool) (a b : Range) (n m : ℕ) → IsIn n a → IsIn m b → AreIn n m (followed t (same a b))
+same_fit : (t : Bool) (a b : Range) (n m : ℕ) → IsIn n a → IsIn m b → AreIn n m (followed_edge t (same a b))
 same_fit true a b n m p q = (p, q)
 same_fit false a b n m p q = (p, q)
 
-pub refine_fits : (condition : Condition) (width : Width) (a b : Range) (n m : ℕ) → IsIn n a → IsIn m b → AreIn n m (followed (holds_words condition width n m) (refined condition width a b))
+pub refine_fits : (condition : Condition) (width : Width) (a b : Range) (n m : ℕ) → IsIn n a → IsIn m b → AreIn n m (followed_edge (holds_words condition width n m) (refined_ranges condition width a b))
 refine_fits condition width a b n m p q =
     by_lt
-    (λ t. AreIn n m (followed (holds_words condition width n m)
+    (λ t. AreIn n m (followed_edge (holds_words condition width n m)
     (if t && nat_lt b.1 (reach condition width) then both condition a b else same a b)))
     a.1 (reach condition width)
     (λ h.
     by_lt
-    (λ t. AreIn n m (followed (holds_words condition width n m) (if t then both condition a b else same a b)))
+    (λ t. AreIn n m (followed_edge (holds_words condition width n m) (if t then both condition a b else same a b)))
     b.1 (reach condition width)
     (λ g.
     let e : holds_words condition width n m ≡ compares condition n m =
     plain condition width n m (omega arith) (omega arith) in
-    subst (λ t. AreIn n m (followed t (both condition a b))) (sym e) (both_fit condition a b n m p q))
+    subst (λ t. AreIn n m (followed_edge t (both condition a b))) (sym e) (both_fit condition a b n m p q))
     (λ g. same_fit (holds_words condition width n m) a b n m p q))
     (λ h. same_fit (holds_words condition width n m) a b n m p q)

@@ -8,7 +8,7 @@ use Rattle.bpf_parts.specs.declared.operation.Condition.TheVariants.{Equal, Grea
 use Rattle.absdom_num.specs.declared.ranges.Range.{Range}
 use Rattle.absdom_num.specs.declared.refinement.Operands.{Operands}
 use Rattle.absdom_num.specs.Ranges.{IsWithin}
-use Rattle.absdom_num.specs.Refinement.{edge, without, apart, when_equal, when_not_equal, when_less, when_at_most, when_greater, when_at_least, when_taken, when_not_taken, reach, refined}
+use Rattle.absdom_num.specs.Refinement.{edge, range_without, range_apart, when_equal, when_not_equal, when_less, when_at_most, when_greater, when_at_least, when_taken, when_not_taken, reach, refined_ranges}
 use Rattle.absdom_num.specs.Laws.{IsBelow, AreBelow, RefineGrows, RefineShrinks}
 use Rattle.absdom_num.proofs.Cases.{by_lt, by_le, by_eq}
 use Rattle.absdom_num.proofs.Order.{within_same, only_within}
@@ -49,7 +49,7 @@ equal_grows a b c d p =
     (λ h g. record { above = omega arith; below = omega arith })
     (λ h g. record { above = omega arith; below = omega arith })
 
-without_in : (a c : Range) (n : ℕ) → IsWithin a c → IsWithin (without a n) c
+without_in : (a c : Range) (n : ℕ) → IsWithin a c → IsWithin (range_without a n) c
 without_in a c n r =
     by_eq (λ t. IsWithin (if t then (a.0 + 1, a.1) else if a.1 == n then (a.0, a.1 - 1) else a) c) a.0 n
     (λ e. record { above = omega arith; below = r.below })
@@ -58,10 +58,10 @@ without_in a c n r =
     (λ f. record { above = r.above; below = omega arith })
     (λ f. r))
 
-without_grows : (a c : Range) (n : ℕ) → a.0 ≤ a.1 → IsWithin a c → (without a n).0 ≤ (without a n).1 → IsWithin (without a n) (without c n)
+without_grows : (a c : Range) (n : ℕ) → a.0 ≤ a.1 → IsWithin a c → (range_without a n).0 ≤ (range_without a n).1 → IsWithin (range_without a n) (range_without c n)
 without_grows a c n o r =
     by_eq
-    (λ t. (without a n).0 ≤ (without a n).1 → IsWithin (without a n) (if t then (c.0 + 1, c.1) else if c.1 == n then (c.0, c.1 - 1) else c))
+    (λ t. (range_without a n).0 ≤ (range_without a n).1 → IsWithin (range_without a n) (if t then (c.0 + 1, c.1) else if c.1 == n then (c.0, c.1 - 1) else c))
     c.0 n
     (λ e.
     by_eq
@@ -79,7 +79,7 @@ without_grows a c n o r =
     (λ g h. record { above = omega arith; below = r.below })))
     (λ e.
     by_eq
-    (λ t. (without a n).0 ≤ (without a n).1 → IsWithin (without a n) (if t then (c.0, c.1 - 1) else c))
+    (λ t. (range_without a n).0 ≤ (range_without a n).1 → IsWithin (range_without a n) (if t then (c.0, c.1 - 1) else c))
     c.1 n
     (λ f.
     by_eq
@@ -97,37 +97,37 @@ without_grows a c n o r =
     (λ i h. record { above = r.above; below = omega arith })))
     (λ f h. without_in a c n r))
 
-apart_in : (a b c : Range) → IsWithin a c → IsWithin (apart a b) c
+apart_in : (a b c : Range) → IsWithin a c → IsWithin (range_apart a b) c
 apart_in a b c r =
-    by_eq (λ t. IsWithin (if t then without a b.0 else a) c) b.0 b.1
+    by_eq (λ t. IsWithin (if t then range_without a b.0 else a) c) b.0 b.1
     (λ e. without_in a c b.0 r)
     (λ e. r)
 
 -- from the one number that both have
-apart_grows_at : (a c d : Range) → a.0 ≤ a.1 → IsWithin a c → d.0 ≡ d.1 → (apart a d).0 ≤ (apart a d).1 → IsWithin (apart a d) (apart c d)
+apart_grows_at : (a c d : Range) → a.0 ≤ a.1 → IsWithin a c → d.0 ≡ d.1 → (range_apart a d).0 ≤ (range_apart a d).1 → IsWithin (range_apart a d) (range_apart c d)
 apart_grows_at a c d o r s =
     by_eq
-    (λ t. (if t then without a d.0 else a).0 ≤ (if t then without a d.0 else a).1
-    → IsWithin (if t then without a d.0 else a) (if t then without c d.0 else c))
+    (λ t. (if t then range_without a d.0 else a).0 ≤ (if t then range_without a d.0 else a).1
+    → IsWithin (if t then range_without a d.0 else a) (if t then range_without c d.0 else c))
     d.0 d.1
     (λ e. without_grows a c d.0 o r)
     (λ e. absurd (e s))
 
-apart_grows : (a b c d : Range) → a.0 ≤ a.1 → b.0 ≤ b.1 → IsWithin a c → IsWithin b d → (apart a b).0 ≤ (apart a b).1 → IsWithin (apart a b) (apart c d)
+apart_grows : (a b c d : Range) → a.0 ≤ a.1 → b.0 ≤ b.1 → IsWithin a c → IsWithin b d → (range_apart a b).0 ≤ (range_apart a b).1 → IsWithin (range_apart a b) (range_apart c d)
 apart_grows a b c d o u r s =
     ⊎_elim
     (λ e.
-    subst (λ x. (apart a x).0 ≤ (apart a x).1 → IsWithin (apart a x) (apart c d)) (sym (only_within b d u e s))
+    subst (λ x. (range_apart a x).0 ≤ (range_apart a x).1 → IsWithin (range_apart a x) (range_apart c d)) (sym (only_within b d u e s))
     (apart_grows_at a c d o r e))
     (λ e h.
-    by_eq (λ t. IsWithin (apart a b) (if t then without c d.0 else c)) d.0 d.1
+    by_eq (λ t. IsWithin (range_apart a b) (if t then range_without c d.0 else c)) d.0 d.1
     (λ f. absurd (e f))
     (λ f. apart_in a b c r))
     (cases_eq d.0 d.1)
 
 not_equal_grows : (a b c d : Range) → Pair a b c d → IsBelow (when_not_equal a b) (when_not_equal c d)
 not_equal_grows a b c d p =
-    edge_grows (apart a b) (apart b a) (apart c d) (apart d c)
+    edge_grows (range_apart a b) (range_apart b a) (range_apart c d) (range_apart d c)
     (λ h g. apart_grows a b c d p.a_order p.b_order p.a_in p.b_in h)
     (λ h g. apart_grows b a d c p.b_order p.a_order p.b_in p.a_in g)
 
@@ -209,7 +209,7 @@ equal_in a b c d p =
     (record { above = omega arith; below = omega arith }) (record { above = omega arith; below = omega arith })
 
 not_equal_in : (a b c d : Range) → Inside a b c d → InSame (when_not_equal a b) c d
-not_equal_in a b c d p = edge_in (apart a b) (apart b a) c d (apart_in a b c p.a_in) (apart_in b a d p.b_in)
+not_equal_in a b c d p = edge_in (range_apart a b) (range_apart b a) c d (apart_in a b c p.a_in) (apart_in b a d p.b_in)
 
 less_in : (a b c d : Range) → Inside a b c d → InSame (when_less a b) c d
 less_in a b c d p =
@@ -258,7 +258,7 @@ not_taken_in SignedLess a b c d p = at_least_in a b c d p
 not_taken_in SignedLessEqual a b c d p = greater_in a b c d p
 
 -- where the larger operands are not refined
-refined_in : (condition : Condition) (width : Width) (a b c d : Range) → Inside a b c d → AreBelow (refined condition width a b) (same c d)
+refined_in : (condition : Condition) (width : Width) (a b c d : Range) → Inside a b c d → AreBelow (refined_ranges condition width a b) (same c d)
 refined_in condition width a b c d p =
     by_lt
     (λ t. AreBelow (if t && nat_lt b.1 (reach condition width) then both condition a b else same a b) (same c d))
@@ -270,7 +270,7 @@ refined_in condition width a b c d p =
     (λ h. record { taken = (p.a_in, p.b_in); not_taken = (p.a_in, p.b_in) })
 
 -- where they are
-refined_both : (condition : Condition) (width : Width) (a b c d : Range) → Pair a b c d → c.1 < reach condition width → d.1 < reach condition width → AreBelow (refined condition width a b) (both condition c d)
+refined_both : (condition : Condition) (width : Width) (a b c d : Range) → Pair a b c d → c.1 < reach condition width → d.1 < reach condition width → AreBelow (refined_ranges condition width a b) (both condition c d)
 refined_both condition width a b c d p u v =
     by_lt
     (λ t. AreBelow (if t && nat_lt b.1 (reach condition width) then both condition a b else same a b) (both condition c d))
@@ -290,11 +290,11 @@ refine_grows condition width a b c d o u r s =
     let p : Pair a b c d = record { a_order = o.in_order; b_order = u.in_order; a_in = r; b_in = s } in
     let q : Inside a b c d = record { a_in = r; b_in = s } in
     by_lt
-    (λ t. AreBelow (refined condition width a b) (if t && nat_lt d.1 (reach condition width) then both condition c d else same c d))
+    (λ t. AreBelow (refined_ranges condition width a b) (if t && nat_lt d.1 (reach condition width) then both condition c d else same c d))
     c.1 (reach condition width)
     (λ h.
     by_lt
-    (λ t. AreBelow (refined condition width a b) (if t then both condition c d else same c d))
+    (λ t. AreBelow (refined_ranges condition width a b) (if t then both condition c d else same c d))
     d.1 (reach condition width)
     (λ g. refined_both condition width a b c d p h g)
     (λ g. refined_in condition width a b c d q))

@@ -6,13 +6,13 @@ use Rattle.bpf_parts.specs.declared.operation.Condition.{Condition}
 use Rattle.bpf_parts.specs.declared.operation.Extension.{Extension}
 use Rattle.bpf_parts.specs.declared.operation.Swap.{Swap}
 use Rattle.bpf_parts.specs.declared.operation.SwapBits.{SwapBits}
-use Rattle.machine.specs.Words.{alu_words, negated, extended, swapped, holds_words}
+use Rattle.machine.specs.Words.{alu_words, negation, sign_extension, swapped_bytes, holds_words}
 use Rattle.absdom_num.specs.declared.ranges.Range.{Range}
 use Rattle.absdom_num.specs.declared.refinement.Operands.{Operands}
 use Rattle.absdom_num.specs.declared.refinement.Edges.{Edges}
-use Rattle.absdom_num.specs.Ranges.{IsRange, IsIn, IsWithin, joined}
+use Rattle.absdom_num.specs.Ranges.{IsRange, IsIn, IsWithin, joined_ranges}
 use Rattle.absdom_num.specs.Tables.{ones_over, alu_range, negated_range, extended_range, swapped_range}
-use Rattle.absdom_num.specs.Refinement.{refined, unrefined}
+use Rattle.absdom_num.specs.Refinement.{refined_ranges, unrefined_ranges}
 
 -- every result of numbers in the operands' ranges lies in the result's range
 abbrev pub AluFits : Type 0
@@ -23,24 +23,24 @@ AluFits =
 -- NEG: every result of a number in the range lies in the result's range
 abbrev pub NegateFits : Type 0
 NegateFits =
-    (width : Width) (a : Range) (n : ℕ) → IsIn n a → IsIn (negated width n) (negated_range width a)
+    (width : Width) (a : Range) (n : ℕ) → IsIn n a → IsIn (negation width n) (negated_range width a)
 
 -- MOVSX: every result of a number in the range lies in the result's range
 abbrev pub MoveSignedFits : Type 0
 MoveSignedFits =
     (extension : Extension) (a : Range) (n : ℕ) → IsIn n a
-    → IsIn (extended extension n) (extended_range extension a)
+    → IsIn (sign_extension extension n) (extended_range extension a)
 
 -- END: every result of a number in the range lies in the result's range
 abbrev pub ByteSwapFits : Type 0
 ByteSwapFits =
     (swap : Swap) (bits : SwapBits) (a : Range) (n : ℕ) → IsIn n a
-    → IsIn (swapped swap bits n) (swapped_range swap bits a)
+    → IsIn (swapped_bytes swap bits n) (swapped_range swap bits a)
 
 -- the edge that is followed where a comparison is true or false
-abbrev pub followed : Bool → Edges → Option Operands
-followed true edges = edges.taken
-followed false edges = edges.not_taken
+abbrev pub followed_edge : Bool → Edges → Option Operands
+followed_edge true edges = edges.taken
+followed_edge false edges = edges.not_taken
 
 -- the numbers lie in an edge's ranges. None do where the edge is not followed
 abbrev pub AreIn : ℕ → ℕ → Option Operands → Type 0
@@ -51,7 +51,7 @@ AreIn n m (Some operands) = IsIn n operands.dst × IsIn m operands.src
 abbrev pub RefineFits : Type 0
 RefineFits =
     (condition : Condition) (width : Width) (a b : Range) (n m : ℕ) → IsIn n a → IsIn m b
-    → AreIn n m (followed (holds_words condition width n m) (refined condition width a b))
+    → AreIn n m (followed_edge (holds_words condition width n m) (refined_ranges condition width a b))
 
 -- larger operands give results that are at least as large
 abbrev pub AluGrows : Type 0
@@ -92,13 +92,13 @@ pub record AreBelow (edges others : Edges) : Type 0 where
 abbrev pub RefineGrows : Type 0
 RefineGrows =
     (condition : Condition) (width : Width) (a b c d : Range) → IsRange a → IsRange b → IsWithin a c → IsWithin b d
-    → AreBelow (refined condition width a b) (refined condition width c d)
+    → AreBelow (refined_ranges condition width a b) (refined_ranges condition width c d)
 
 -- refinement only shrinks: no edge leads to ranges but those inside the operands'
 abbrev pub RefineShrinks : Type 0
 RefineShrinks =
     (condition : Condition) (width : Width) (a b : Range)
-    → AreBelow (refined condition width a b) (unrefined a b)
+    → AreBelow (refined_ranges condition width a b) (unrefined_ranges a b)
 
 -- containment is an order
 abbrev pub IsOrder : Type 0
@@ -114,8 +114,8 @@ IsSound = (a b : Range) (n : ℕ) → IsWithin a b → IsIn n a → IsIn n b
 -- the join is the least range above both
 abbrev pub IsJoin : Type 0
 IsJoin =
-    (a b c : Range) → IsWithin a (joined a b) × IsWithin b (joined a b)
-    × (IsWithin a c → IsWithin b c → IsWithin (joined a b) c)
+    (a b c : Range) → IsWithin a (joined_ranges a b) × IsWithin b (joined_ranges a b)
+    × (IsWithin a c → IsWithin b c → IsWithin (joined_ranges a b) c)
 
 -- the bound of OR and XOR is of the form 2^k - 1, at least the number, and no such number is less
 abbrev pub IsLeastOnes : Type 0

@@ -23,5 +23,5 @@ abbrev pub single_value : Range → Option ℕ
 single_value r = if r.0 == r.1 then Some r.0 else None
 
 -- the least range that holds both
-abbrev pub joined : Range → Range → Range
-joined a b = (min a.0 b.0, max a.1 b.1)
+abbrev pub joined_ranges : Range → Range → Range
+joined_ranges a b = (min a.0 b.0, max a.1 b.1)

@@ -7,11 +7,11 @@ use Rattle.machine.specs.Words.{modulus}
 use Rattle.absdom_num.specs.declared.ranges.Range.{Range}
 use Rattle.absdom_num.specs.declared.refinement.Operands.{Operands}
 use Rattle.absdom_num.specs.declared.refinement.Edges.{Edges}
-use Rattle.absdom_num.specs.Tables.{is_single, half}
+use Rattle.absdom_num.specs.Tables.{is_single, sign_weight}
 
 -- a range that is not empty
-abbrev pub non_empty : Range → Option Range
-non_empty a = if nat_le a.0 a.1 then Some a else None
+abbrev pub nonempty_range : Range → Option Range
+nonempty_range a = if nat_le a.0 a.1 then Some a else None
 
 -- the new ranges. An edge with an empty range is not followed
 abbrev pub edge : Range → Range → Option Operands
@@ -19,15 +19,15 @@ edge a b =
     if nat_le a.0 a.1 && nat_le b.0 b.1 then Some (record { dst = a; src = b }) else None
 
 -- a range without the number n, where n is one of its ends
-abbrev pub without : Range → ℕ → Range
-without a n =
+abbrev pub range_without : Range → ℕ → Range
+range_without a n =
     if a.0 == n then (a.0 + 1, a.1)
     else if a.1 == n then (a.0, a.1 - 1)
     else a
 
 -- where the other range is one number, it moves an end
-abbrev pub apart : Range → Range → Range
-apart a b = if is_single b then without a b.0 else a
+abbrev pub range_apart : Range → Range → Range
+range_apart a b = if is_single b then range_without a b.0 else a
 
 -- a = b: the common part
 abbrev pub when_equal : Range → Range → Option Operands
@@ -35,7 +35,7 @@ when_equal a b = edge (max a.0 b.0, min a.1 b.1) (max a.0 b.0, min a.1 b.1)
 
 -- a not equal b
 abbrev pub when_not_equal : Range → Range → Option Operands
-when_not_equal a b = edge (apart a b) (apart b a)
+when_not_equal a b = edge (range_apart a b) (range_apart b a)
 
 -- a < b
 abbrev pub when_less : Range → Range → Option Operands
@@ -84,10 +84,10 @@ when_not_taken SignedLessEqual a b = when_greater a b
 -- below this number both operands must lie: there a comparison of that width compares them whole, and
 -- a signed one as an unsigned one
 abbrev pub reach : Condition → Width → ℕ
-reach SignedGreater width = half width
-reach SignedGreaterEqual width = half width
-reach SignedLess width = half width
-reach SignedLessEqual width = half width
+reach SignedGreater width = sign_weight width
+reach SignedGreaterEqual width = sign_weight width
+reach SignedLess width = sign_weight width
+reach SignedLessEqual width = sign_weight width
 reach Equal width = modulus width
 reach Greater width = modulus width
 reach GreaterEqual width = modulus width
@@ -97,13 +97,13 @@ reach Less width = modulus width
 reach LessEqual width = modulus width
 
 -- both edges with the ranges as they were
-abbrev pub unrefined : Range → Range → Edges
-unrefined a b =
+abbrev pub unrefined_ranges : Range → Range → Edges
+unrefined_ranges a b =
     record { taken = Some (record { dst = a; src = b }); not_taken = Some (record { dst = a; src = b }) }
 
 -- the ranges on the two edges. Where nothing is refined, both edges keep them
-abbrev pub refined : Condition → Width → Range → Range → Edges
-refined condition width a b =
+abbrev pub refined_ranges : Condition → Width → Range → Range → Edges
+refined_ranges condition width a b =
     if nat_lt a.1 (reach condition width) && nat_lt b.1 (reach condition width)
     then record { taken = when_taken condition a b; not_taken = when_not_taken condition a b }
-    else unrefined a b
+    else unrefined_ranges a b

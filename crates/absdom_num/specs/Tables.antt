@@ -12,52 +12,52 @@ use Rattle.bpf_parts.specs.declared.operation.Swap.{Swap}
 use Rattle.bpf_parts.specs.declared.operation.SwapBits.{SwapBits}
 use Rattle.bpf_parts.specs.declared.operation.SwapBits.TheVariants.{Swap16, Swap32, Swap64}
 use Rattle.bpf_parts.specs.Codes.{extension_width}
-use Rattle.machine.specs.Words.{bits_of, modulus, alu_words, negated, extended, swapped}
+use Rattle.machine.specs.Words.{bits_of, modulus, alu_words, negation, sign_extension, swapped_bytes}
 use Rattle.absdom_num.specs.declared.ranges.Range.{Range}
 
 -- one number
-abbrev pub only : ℕ → Range
-only n = (n, n)
+abbrev pub single_range : ℕ → Range
+single_range n = (n, n)
 
 -- whether the range has one number
 abbrev pub is_single : Range → Bool
 is_single a = a.0 == a.1
 
 -- every number of that width
-abbrev pub whole : Width → Range
-whole width = (0, modulus width - 1)
+abbrev pub whole_range : Width → Range
+whole_range width = (0, modulus width - 1)
 
 -- the first number of that width that is negative where it is read as signed
-abbrev pub half : Width → ℕ
-half Bits32 = 2 ^ 31
-half Bits64 = 2 ^ 63
+abbrev pub sign_weight : Width → ℕ
+sign_weight Bits32 = 2 ^ 31
+sign_weight Bits64 = 2 ^ 63
 
 -- the part of an operand that an operation of that width reads (section 4.1)
-abbrev pub cut : Width → Range → Range
-cut Bits64 a = a
-cut Bits32 a =
+abbrev pub low_range : Width → Range → Range
+low_range Bits64 a = a
+low_range Bits32 a =
     if nat_lt a.1 (2 ^ 32) then a
-    else if is_single a then only (a.0 % 2 ^ 32)
-    else whole Bits32
+    else if is_single a then single_range (a.0 % 2 ^ 32)
+    else whole_range Bits32
 
 -- ADD: the sums of the ends, where both wrap or none does
 abbrev pub sum_range : Width → Range → Range → Range
 sum_range width a b =
     if nat_lt (a.1 + b.1) (modulus width) then (a.0 + b.0, a.1 + b.1)
     else if nat_le (modulus width) (a.0 + b.0) then (a.0 + b.0 - modulus width, a.1 + b.1 - modulus width)
-    else whole width
+    else whole_range width
 
 -- SUB: likewise
 abbrev pub difference_range : Width → Range → Range → Range
 difference_range width a b =
     if nat_le b.1 a.0 then (a.0 - b.1, a.1 - b.0)
     else if nat_lt a.1 b.0 then (a.0 + modulus width - b.1, a.1 + modulus width - b.0)
-    else whole width
+    else whole_range width
 
 -- MUL: the products of the ends, where the greatest does not wrap
 abbrev pub product_range : Width → Range → Range → Range
 product_range width a b =
-    if nat_lt (a.1 * b.1) (modulus width) then (a.0 * b.0, a.1 * b.1) else whole width
+    if nat_lt (a.1 * b.1) (modulus width) then (a.0 * b.0, a.1 * b.1) else whole_range width
 
 -- DIV: division by zero gives zero
 abbrev pub quotient_range : Range → Range → Range
@@ -95,7 +95,7 @@ abbrev pub left_range : Width → Range → Range → Range
 left_range width a b =
     if is_single b && nat_lt (a.1 * 2 ^ distance width b.0) (modulus width)
     then (a.0 * 2 ^ distance width b.0, a.1 * 2 ^ distance width b.0)
-    else whole width
+    else whole_range width
 
 -- RSH: by one count, or by any
 abbrev pub right_range : Width → Range → Range → Range
@@ -104,7 +104,7 @@ right_range width a b =
 
 -- ARSH: as RSH where no number is negative
 abbrev pub signed_right_range : Width → Range → Range → Range
-signed_right_range width a b = if nat_le (half width) a.1 then whole width else right_range width a b
+signed_right_range width a b = if nat_le (sign_weight width) a.1 then whole_range width else right_range width a b
 
 -- the table of an operation, for operands of that width of which one is not a single number
 abbrev pub row : AluOp → Width → Range → Range → Range
@@ -112,13 +112,13 @@ row Add width a b = sum_range width a b
 row Sub width a b = difference_range width a b
 row Mul width a b = product_range width a b
 row Div width a b = quotient_range a b
-row SignedDiv width a b = whole width
+row SignedDiv width a b = whole_range width
 row Or width a b = or_range a b
 row And width a b = and_range a b
 row Lsh width a b = left_range width a b
 row Rsh width a b = right_range width a b
 row Mod width a b = remainder_range a b
-row SignedMod width a b = whole width
+row SignedMod width a b = whole_range width
 row Xor width a b = xor_range a b
 row Mov width a b = b
 row Arsh width a b = signed_right_range width a b
@@ -126,12 +126,12 @@ row Arsh width a b = signed_right_range width a b
 -- the result of an operation: exact where both operands are single numbers
 abbrev pub alu_range : AluOp → Width → Range → Range → Range
 alu_range op width a b =
-    if is_single a && is_single b then only (alu_words op width a.0 b.0)
-    else row op width (cut width a) (cut width b)
+    if is_single a && is_single b then single_range (alu_words op width a.0 b.0)
+    else row op width (low_range width a) (low_range width b)
 
 -- NEG
 abbrev pub negated_range : Width → Range → Range
-negated_range width a = if is_single a then only (negated width a.0) else whole width
+negated_range width a = if is_single a then single_range (negation width a.0) else whole_range width
 
 -- the first number that an extension from these bits reads as negative
 abbrev pub sign_bit : Extension → ℕ
@@ -145,17 +145,17 @@ sign_bit WordTo64 = 2 ^ 31
 -- below 2^32.
 abbrev pub extended_range : Extension → Range → Range
 extended_range extension a =
-    if is_single a then only (extended extension a.0)
+    if is_single a then single_range (sign_extension extension a.0)
     else if nat_lt a.1 (sign_bit extension) then a
-    else whole (extension_width extension)
+    else whole_range (extension_width extension)
 
 -- the greatest number of that many bits
-abbrev pub greatest : SwapBits → ℕ
-greatest Swap16 = 2 ^ 16 - 1
-greatest Swap32 = 2 ^ 32 - 1
-greatest Swap64 = 2 ^ 64 - 1
+abbrev pub greatest_number : SwapBits → ℕ
+greatest_number Swap16 = 2 ^ 16 - 1
+greatest_number Swap32 = 2 ^ 32 - 1
+greatest_number Swap64 = 2 ^ 64 - 1
 
 -- END: reads its whole operand in both classes
 abbrev pub swapped_range : Swap → SwapBits → Range → Range
 swapped_range swap bits a =
-    if is_single a then only (swapped swap bits a.0) else (0, greatest bits)
+    if is_single a then single_range (swapped_bytes swap bits a.0) else (0, greatest_number bits)

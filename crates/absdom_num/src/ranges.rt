@@ -1,7 +1,7 @@
 //! A range of words.
 
 ghost use Rattle.std.specs.Prelude.{◌≡◌, ◌≤◌, ◌↔◌, IsTrue};
-ghost use Rattle.absdom_num.specs.Ranges.{IsRange, IsIn, IsWithin, single_value, joined};
+ghost use Rattle.absdom_num.specs.Ranges.{IsRange, IsIn, IsWithin, single_value, joined_ranges};
 
 use std::marker::Model;
 
@@ -88,7 +88,7 @@ impl Range {
 
     /// The least range that has the words of both.
     pub fn join(self, other: Range) -> Range
-        ensures { result ≡ joined self other }
+        ensures { result ≡ joined_ranges self other }
     {
         Range {
             low: self.low.min(other.low),

@@ -1,7 +1,7 @@
 //! What a comparison tells of its operands, on each of its edges.
 
 ghost use Rattle.std.specs.Prelude.{◌≡◌, ◌+◌};
-ghost use Rattle.absdom_num.specs.Refinement.{non_empty, apart, when_equal, when_not_equal, when_less, when_at_most, when_greater, when_at_least, when_taken, when_not_taken, reach, refined};
+ghost use Rattle.absdom_num.specs.Refinement.{nonempty_range, range_apart, when_equal, when_not_equal, when_less, when_at_most, when_greater, when_at_least, when_taken, when_not_taken, reach, refined_ranges};
 
 use crate::ranges::Range;
 use bpf_insn::{Condition, Width};
@@ -43,8 +43,8 @@ fn when_equal(a: Range, b: Range) -> Option<Operands>
 
 /// A range that moves an end in where the other range is that one number. `None` where nothing is
 /// left.
-fn apart(a: Range, b: Range) -> Option<Range>
-    ensures { result ≡ non_empty (apart a b) }
+fn range_apart(a: Range, b: Range) -> Option<Range>
+    ensures { result ≡ nonempty_range (range_apart a b) }
 {
     let low = a.low();
     let high = a.high();
@@ -66,8 +66,8 @@ fn apart(a: Range, b: Range) -> Option<Range>
 fn when_not_equal(a: Range, b: Range) -> Option<Operands>
     ensures { result ≡ when_not_equal a b }
 {
-    let dst = apart(a, b)?;
-    let src = apart(b, a)?;
+    let dst = range_apart(a, b)?;
+    let src = range_apart(b, a)?;
     Some(Operands { dst, src })
 }
 
@@ -167,7 +167,7 @@ fn greatest_refined(condition: Condition, width: Width) -> u64
 /// section 4.3). Where it tells nothing both edges keep the ranges, as where the bits of operands
 /// are compared.
 pub fn refine(condition: Condition, width: Width, a: Range, b: Range) -> Edges
-    ensures { result ≡ refined condition width a b }
+    ensures { result ≡ refined_ranges condition width a b }
 {
     let greatest = greatest_refined(condition, width);
     if a.high() <= greatest && b.high() <= greatest {

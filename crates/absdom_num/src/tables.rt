@@ -2,15 +2,15 @@
 
 ghost use Rattle.std.specs.Prelude.{◌≡◌, ◌+◌, ◌*◌, ◌^◌, ◌<◌, ◌≤◌};
 ghost use Rattle.machine.specs.Words.{bits_of, modulus};
-ghost use Rattle.absdom_num.specs.Tables.{whole, half, cut, sum_range, difference_range, product_range, quotient_range, remainder_range, ones_over, and_range, or_range, xor_range, distance, left_range, right_range, signed_right_range, row, alu_range, negated_range, sign_bit, extended_range, greatest, swapped_range};
+ghost use Rattle.absdom_num.specs.Tables.{whole_range, sign_weight, low_range, sum_range, difference_range, product_range, quotient_range, remainder_range, ones_over, and_range, or_range, xor_range, distance, left_range, right_range, signed_right_range, row, alu_range, negated_range, sign_bit, extended_range, greatest_number, swapped_range};
 
 use crate::ranges::Range;
 use bpf_insn::{AluOp, Extension, Swap, SwapBits, Width};
-use machine::{alu_words, extended, modulus, negated, swapped};
+use machine::{alu_words, modulus, negation, sign_extension, swapped_bytes};
 
 /// Every number of this width.
-fn whole(width: Width) -> Range
-    ensures { result ≡ whole width }
+fn whole_range(width: Width) -> Range
+    ensures { result ≡ whole_range width }
 {
     match width {
         Width::Bits32 => Range::new(0, u64::from(u32::MAX)),
@@ -19,8 +19,8 @@ fn whole(width: Width) -> Range
 }
 
 /// The part of an operand that an operation of this width reads.
-fn cut(width: Width, a: Range) -> Range
-    ensures value { result ≡ cut width a }
+fn low_range(width: Width, a: Range) -> Range
+    ensures value { result ≡ low_range width a }
     ensures bound { result.1 < modulus width }
 {
     match width {
@@ -31,14 +31,14 @@ fn cut(width: Width, a: Range) -> Range
 
 /// The low 32 bits of an operand.
 fn cut_to_32(a: Range) -> Range
-    ensures { result ≡ cut Width.Bits32 a }
+    ensures { result ≡ low_range Width.Bits32 a }
 {
     if a.high() < 1 << 32 {
         a
     } else if let Some(n) = a.single_value() {
         Range::single(n % (1 << 32))
     } else {
-        whole(Width::Bits32)
+        whole_range(Width::Bits32)
     }
 }
 
@@ -56,7 +56,7 @@ fn sum(width: Width, a: Range, b: Range) -> Range
     } else if modulus <= low {
         Range::new((low - modulus) as u64, (high - modulus) as u64)
     } else {
-        whole(width)
+        whole_range(width)
     }
 }
 
@@ -74,7 +74,7 @@ fn difference(width: Width, a: Range, b: Range) -> Range
         let high = u128::from(a.high()) + modulus - u128::from(b.low());
         Range::new(low as u64, high as u64)
     } else {
-        whole(width)
+        whole_range(width)
     }
 }
 
@@ -86,7 +86,7 @@ fn product(width: Width, a: Range, b: Range) -> Range
     if high < modulus(width) {
         Range::new(a.low() * b.low(), high as u64)
     } else {
-        whole(width)
+        whole_range(width)
     }
 }
 
@@ -157,7 +157,7 @@ fn left(width: Width, a: Range, b: Range) -> Range
     ensures { result ≡ left_range width a b }
 {
     let Some(count) = b.single_value() else {
-        return whole(width);
+        return whole_range(width);
     };
     let distance = distance(width, count);
     let low = u128::from(a.low()) << distance;
@@ -165,7 +165,7 @@ fn left(width: Width, a: Range, b: Range) -> Range
     if high < modulus(width) {
         Range::new(low as u64, high as u64)
     } else {
-        whole(width)
+        whole_range(width)
     }
 }
 
@@ -183,8 +183,8 @@ fn right(width: Width, a: Range, b: Range) -> Range
 }
 
 /// The first number of this width that is negative where it is read as signed.
-fn half(width: Width) -> u64
-    ensures { result ≡ half width }
+fn sign_weight(width: Width) -> u64
+    ensures { result ≡ sign_weight width }
 {
     match width {
         Width::Bits32 => 1 << 31,
@@ -196,8 +196,8 @@ fn half(width: Width) -> u64
 fn signed_right(width: Width, a: Range, b: Range) -> Range
     ensures { result ≡ signed_right_range width a b }
 {
-    if half(width) <= a.high() {
-        whole(width)
+    if sign_weight(width) <= a.high() {
+        whole_range(width)
     } else {
         right(width, a, b)
     }
@@ -214,7 +214,7 @@ fn row(op: AluOp, width: Width, a: Range, b: Range) -> Range
         AluOp::Sub => difference(width, a, b),
         AluOp::Mul => product(width, a, b),
         AluOp::Div => quotient(a, b),
-        AluOp::SignedDiv | AluOp::SignedMod => whole(width),
+        AluOp::SignedDiv | AluOp::SignedMod => whole_range(width),
         AluOp::Or => or(a, b),
         AluOp::And => and(a, b),
         AluOp::Lsh => left(width, a, b),
@@ -236,7 +236,7 @@ pub fn alu(op: AluOp, width: Width, a: Range, b: Range) -> Range
             return Range::single(alu_words(op, width, n, m));
         }
     }
-    row(op, width, cut(width, a), cut(width, b))
+    row(op, width, low_range(width, a), low_range(width, b))
 }
 
 /// The numbers that NEG can give (RFC 9669, section 4.1).
@@ -244,8 +244,8 @@ pub fn negate(width: Width, a: Range) -> Range
     ensures { result ≡ negated_range width a }
 {
     match a.single_value() {
-        Some(n) => Range::single(negated(width, n)),
-        None => whole(width),
+        Some(n) => Range::single(negation(width, n)),
+        None => whole_range(width),
     }
 }
 
@@ -266,17 +266,17 @@ pub fn move_signed(extension: Extension, a: Range) -> Range
     ensures { result ≡ extended_range extension a }
 {
     if let Some(n) = a.single_value() {
-        Range::single(extended(extension, n))
+        Range::single(sign_extension(extension, n))
     } else if a.high() < sign_bit(extension) {
         a
     } else {
-        whole(extension.width())
+        whole_range(extension.width())
     }
 }
 
 /// The greatest number of that many bits.
-fn greatest(bits: SwapBits) -> u64
-    ensures { result ≡ greatest bits }
+fn greatest_number(bits: SwapBits) -> u64
+    ensures { result ≡ greatest_number bits }
 {
     match bits {
         SwapBits::Swap16 => u64::from(u16::MAX),
@@ -291,7 +291,7 @@ pub fn byte_swap(swap: Swap, bits: SwapBits, a: Range) -> Range
     ensures { result ≡ swapped_range swap bits a }
 {
     match a.single_value() {
-        Some(n) => Range::single(swapped(swap, bits, n)),
-        None => Range::new(0, greatest(bits)),
+        Some(n) => Range::single(swapped_bytes(swap, bits, n)),
+        None => Range::new(0, greatest_number(bits)),
     }
 }

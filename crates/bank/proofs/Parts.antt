@@ -7,7 +7,7 @@ use Rattle.rmap.specs.declared.kind.Kind.{Kind}
 use Rattle.rmap.specs.declared.kind.Kind.TheVariants.{Read, Write, Rmw, Unused}
 use Rattle.rmap.specs.Command.{CommandValue, address_of, command_kind, command_of, increments, length_of}
 use Rattle.rmap.specs.Checks.{data_of}
-use Rattle.bank.specs.Effect.{Memory, byte_at, byte_after, after_write, address_of_byte, modified_byte, modified_bytes, masked, effect_of, effect}
+use Rattle.bank.specs.Effect.{Memory, byte_at, byte_after, after_write, address_of_byte, modified_byte, modified_bytes, masked_byte, effect_of, effect}
 use Rattle.bank.specs.Answer.{is_success}
 use Rattle.bank.specs.Records.{EntryValue, after_entry, replay}
 use Rattle.bank.specs.Laws.{IsPartOf}
@@ -70,7 +70,7 @@ same_modified : (m part : Memory) (c : CommandValue) (n x : ℕ) → byte_at par
 same_modified m part c n x old i below place =
     let inside : i < n = omega (arith, length-map-range_with_len (modified_byte m c n) 0 n) in
     get_or-map-range_with_len (modified_byte part c n) 0 n i i 0 inside (omega arith)
-    ∙ ap (masked (get_or c.body i 0) (get_or c.body (n + i) 0)) (rw place old)
+    ∙ ap (masked_byte (get_or c.body i 0) (get_or c.body (n + i) 0)) (rw place old)
     ∙ sym (get_or-map-range_with_len (modified_byte m c n) 0 n i i 0 inside (omega arith))
 
 part_changed : (kind : Kind) (m part : Memory) (c : CommandValue) → IsPartOf m part → IsPartOf (effect_of kind m c).memory (effect_of kind part c).memory

@@ -46,13 +46,13 @@ after_write m c bytes = record {
 }
 
 -- the data's bits where the mask has ones, the old bits elsewhere
-abbrev pub masked : (byte mask old : ℕ) → ℕ
-masked byte mask old = bit_or (bit_and byte mask) (bit_and old (bit_not w8 mask))
+abbrev pub masked_byte : (byte mask old : ℕ) → ℕ
+masked_byte byte mask old = bit_or (bit_and byte mask) (bit_and old (bit_not w8 mask))
 
 -- byte i of what a read-modify-write of n bytes writes: its first n bytes are data, the next n the mask
 abbrev pub modified_byte : Memory → CommandValue → ℕ → ℕ → ℕ
 modified_byte m c n i =
-    masked (slice_index c.body i) (slice_index c.body (n + i)) (byte_at m (address_of_byte c i))
+    masked_byte (slice_index c.body i) (slice_index c.body (n + i)) (byte_at m (address_of_byte c i))
 
 -- what a read-modify-write of n bytes writes
 abbrev pub modified_bytes : Memory → CommandValue → ℕ → List ℕ

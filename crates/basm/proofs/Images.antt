@@ -10,7 +10,7 @@ use Rattle.bpf_insn.specs.declared.insn.Insn.{Insn}
 use Rattle.bpf.specs.declared.fault.ImageFault.{ImageFault}
 use Rattle.bpf.specs.declared.fault.ImageFault.TheVariants as faults
 use Rattle.bpf.specs.declared.loops.Loop.{Loop}
-use Rattle.bpf.specs.Parts.{parts_fault, parts_reading, placed, unless}
+use Rattle.bpf.specs.Parts.{parts_fault, parts_reading, placed_slots, unless}
 use Rattle.bpf.specs.Program.{AreLoops, IsBudget, IsLoop, IsProgram, IsSlotCount, Program, program}
 use Rattle.bpf.specs.Reading.{Fails, are_loops, is_budget, is_count, is_loop}
 use Rattle.basm.specs.declared.faults.AsmFault.{AsmFault}
@@ -64,9 +64,9 @@ is_made p slots version same =
     one ∙ two
 
 -- a program is made of its parts
-pub program_made : (p : Program) (insns : List Insn) → IsProgram p → p.slots ≡ flat_map placed insns → parts_reading insns p.loops p.budget ≡ Ok p
+pub program_made : (p : Program) (insns : List Insn) → IsProgram p → p.slots ≡ flat_map placed_slots insns → parts_reading insns p.loops p.budget ≡ Ok p
 program_made p insns is code =
-    let slots = flat_map placed insns in
+    let slots = flat_map placed_slots insns in
     let fault : parts_fault (length slots) p.loops p.budget ≡ None =
     ap (λ (s : List (Option Insn)). parts_fault (length s) p.loops p.budget) (sym code) ∙ no_fault (length p.slots) p.budget p.loops is.slots is.few_loops is.budget is.loops in
     ap (λ (f : Option ImageFault). unless f (program p.budget p.loops slots)) fault ∙ ap (λ (q : Program). Ok q) (is_made p slots is.version code)

@@ -7,9 +7,9 @@ use Rattle.std.specs.List.{before_first, flat_map, prefix_len}
 use Rattle.std.proofs.lemmas.Bool.{cond_both}
 use Rattle.bpf_insn.specs.declared.insn.Insn.{Insn}
 use Rattle.bpf.specs.declared.loops.Loop.{Loop}
-use Rattle.bpf.specs.Parts.{placed, second_slots}
+use Rattle.bpf.specs.Parts.{placed_slots, second_slots}
 use Rattle.bpf_insn.specs.Spelling.{second_immediate, slots_in as immediate_slots, slots_of}
-use Rattle.basm_lex.specs.Lines.{IsLabel, code_of, drop_spaces, is_semicolon, is_space, operands_of, rest_of, skip_spaces, trimmed, unless_space, word_of}
+use Rattle.basm_lex.specs.Lines.{IsLabel, code_of, without_trailing_spaces, is_semicolon, is_space, operands_of, rest_of, without_leading_spaces, trimmed_text, trailing_part, word_of}
 use Rattle.basm.specs.declared.draft.Draft.{Draft}
 use Rattle.basm.specs.Draft.{AddsItem, AddsLine, ArePartsOf, SayParts, WritesLoop, slots_of_items}
 use Rattle.basm.specs.Relation.{Item, Nothing, Label, Budget, OneLoop, Code, AreLines, Four, IsLine, WritesInsn, budget_in, insn_in, loop_in, slots_in}
@@ -36,20 +36,20 @@ word_begins c cs other = rw other (more (prefix_len (λ x. not (is_space x)) cs)
     more : (n m : ℕ) → m ≡ suc n → take m (c ∷ cs) ≡ c ∷ take n cs
     more n m same = rw same refl
 
-unless_begins : (c : ℕ) (cs : List ℕ) → is_space c ≡ false → (ds : List ℕ) × (unless_space c cs ≡ c ∷ ds)
+unless_begins : (c : ℕ) (cs : List ℕ) → is_space c ≡ false → (ds : List ℕ) × (trailing_part c cs ≡ c ∷ ds)
 unless_begins c [] other = ([], rw other refl)
 unless_begins c (d ∷ ds) other = (d ∷ ds, refl)
 
-kept : (c : ℕ) (cs : List ℕ) → is_space c ≡ false → before_first is_space (unless_space c cs) ≡ [] → ⊥
+kept : (c : ℕ) (cs : List ℕ) → is_space c ≡ false → before_first is_space (trailing_part c cs) ≡ [] → ⊥
 kept c cs other none =
     let text = unless_begins c cs other in
     not_nil c (before_first is_space text.0) (sym (word_begins c text.0 other) ∙ ap (before_first is_space) (sym text.1) ∙ none)
 
-no_word : (text : List ℕ) → before_first is_space (trimmed text) ≡ [] → trimmed text ≡ []
+no_word : (text : List ℕ) → before_first is_space (trimmed_text text) ≡ [] → trimmed_text text ≡ []
 no_word [] none = refl
 no_word (c ∷ cs) none =
-    let P : List ℕ → Type 0 = λ s. before_first is_space (drop_spaces s) ≡ [] → drop_spaces s ≡ [] in
-    cond_both (is_space c) (skip_spaces cs) (c ∷ cs) P (λ yes. no_word cs) (λ other none. absurd (kept c (drop_spaces cs) other none)) none
+    let P : List ℕ → Type 0 = λ s. before_first is_space (without_trailing_spaces s) ≡ [] → without_trailing_spaces s ≡ [] in
+    cond_both (is_space c) (without_leading_spaces cs) (c ∷ cs) P (λ yes. no_word cs) (λ other none. absurd (kept c (without_trailing_spaces cs) other none)) none
 
 -- a line without a word has no operands
 no_operands : (line : List ℕ) → word_of line ≡ [] → operands_of line ≡ []
@@ -145,17 +145,17 @@ say_push names lines line old new say adds =
 
 -- ---- how many slots there are
 
-slots_placed : (insn : Insn) → length (placed insn) ≡ slots_of insn
+slots_placed : (insn : Insn) → length (placed_slots insn) ≡ slots_of insn
 slots_placed insn = at (second_immediate insn)
   where
     at : (o : Option ℤ) → length (Some insn ∷ second_slots (is_some o)) ≡ immediate_slots o
     at None = refl
     at (Some immediate) = refl
 
-pub slots_are : (items : List Item) → length (flat_map placed (flat_map insn_in items)) ≡ slots_of_items items
+pub slots_are : (items : List Item) → length (flat_map placed_slots (flat_map insn_in items)) ≡ slots_of_items items
 slots_are [] = refl
 slots_are (Nothing ∷ items) = slots_are items ∙ omega arith
 slots_are (Label name ∷ items) = slots_are items ∙ omega arith
 slots_are (Budget n ∷ items) = slots_are items ∙ omega arith
 slots_are (OneLoop l ∷ items) = slots_are items ∙ omega arith
-slots_are (Code insn ∷ items) = omega (arith, length-append (placed insn) (flat_map placed (flat_map insn_in items)), slots_placed insn, slots_are items)
+slots_are (Code insn ∷ items) = omega (arith, length-append (placed_slots insn) (flat_map placed_slots (flat_map insn_in items)), slots_placed insn, slots_are items)

@@ -11,7 +11,7 @@ use Rattle.std.proofs.lemmas.List.Elements.{All-cons, All-contains, All-nil, Con
 use Rattle.std.proofs.lemmas.List.Sorted.{All-permutation, IsPermutation-sym, length_permutation, sum_by-IsPermutation}
 use Rattle.std.proofs.lemmas.List.Sums.{sum_by-append, sum_by-cons}
 use Rattle.bpf.specs.declared.loops.Loop.{Loop}
-use Rattle.bpf.specs.Parts.{placed}
+use Rattle.bpf.specs.Parts.{placed_slots}
 use Rattle.bpf.specs.Program.{AreLoops, IsLoop, IsProgram, Program}
 use Rattle.basm.specs.declared.draft.Draft.{Draft}
 use Rattle.basm.specs.declared.survey.Survey.{Survey}
@@ -184,5 +184,5 @@ image_of {p} t parts are =
       program = t.program;
       budget = some_from_list parts.budget p.budget (are.budget ∙ t.budget);
       loops = subst P (sym are.loops) t.loops;
-      code = t.code ∙ ap (flat_map placed) (sym are.insns);
+      code = t.code ∙ ap (flat_map placed_slots) (sym are.insns);
     }

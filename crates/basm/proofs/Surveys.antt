@@ -10,7 +10,7 @@ use Rattle.std.proofs.lemmas.Slice.Eq.{bytes_eq-Decides}
 use Rattle.basm_lex.specs.Lines.{IsLabel, operands_of, word_of}
 use Rattle.basm_lex.specs.Names.{IsName, is_name}
 use Rattle.basm.specs.declared.survey.Survey.{Survey}
-use Rattle.basm.specs.Labels.{AddsName, IsSurvey, counted, alone, declares_budget, label_in, label_of, labelled, labels_from, slot_after, slots_from, word_slots}
+use Rattle.basm.specs.Labels.{AddsName, IsSurvey, slot_count, lone_label, declares_budget, label_in, label_of, named_slot, labels_from, slot_after, slots_from, word_slots}
 use Rattle.basm.specs.Names.{slot_named}
 use Rattle.basm.proofs.Lookups.{apart_more, same_bytes, slot_named-push}
 
@@ -41,7 +41,7 @@ line_named line name says = rw says.2 (label_named (word_of line) name says.0 sa
 pub line_unnamed : (line : List ℕ) → ((name : List ℕ) → ¬ IsLabel line name) → label_in line ≡ None
 line_unnamed line none = at (operands_of line) (λ name is_name word operands. none name (is_name, word, operands))
   where
-    at : (operands : List (List ℕ)) → ((name : List ℕ) → IsName name → word_of line ≡ name ++ 58 ∷ [] → operands ≡ [] → ⊥) → alone operands (label_of (word_of line)) ≡ None
+    at : (operands : List (List ℕ)) → ((name : List ℕ) → IsName name → word_of line ≡ name ++ 58 ∷ [] → operands ≡ [] → ⊥) → lone_label operands (label_of (word_of line)) ≡ None
     at [] h = no_label (word_of line) (λ name is_name word. h name is_name word refl)
     at (operand ∷ operands) h = refl
 
@@ -63,12 +63,12 @@ slots_push slot [] line = refl
 slots_push slot (x ∷ lines) line = slots_push (slot_after slot x) lines line
 
 labels_push : (slot : ℕ) (lines : List (List ℕ)) (line : List ℕ)
-    → labels_from slot (lines ++ line ∷ []) ≡ labels_from slot lines ++ labelled (label_in line) (slots_from slot lines)
-labels_push slot [] line = append-nil (labelled (label_in line) slot)
+    → labels_from slot (lines ++ line ∷ []) ≡ labels_from slot lines ++ named_slot (label_in line) (slots_from slot lines)
+labels_push slot [] line = append-nil (named_slot (label_in line) slot)
 labels_push slot (x ∷ lines) line =
-    let front = labelled (label_in x) slot in
+    let front = named_slot (label_in x) slot in
     ap (λ (rest : List (List ℕ × ℕ)). front ++ rest) (labels_push (slot_after slot x) lines line)
-    ∙ sym (append_assoc front (labels_from (slot_after slot x) lines) (labelled (label_in line) (slots_from (slot_after slot x) lines)))
+    ∙ sym (append_assoc front (labels_from (slot_after slot x) lines) (named_slot (label_in line) (slots_from (slot_after slot x) lines)))
 
 any_push : {X : Type 0} (test : X → Bool) (xs : List X) (x : X) → list_any test (xs ++ x ∷ []) ≡ (list_any test xs || test x)
 any_push test [] x = search rules
@@ -90,7 +90,7 @@ survey_label lines line name old new says adds is =
     let label = line_named line name says in
     let pairs = labels_from 0 lines in
     let more : labels_from 0 (lines ++ line ∷ []) ≡ pairs ++ (name, slots_from 0 lines) ∷ [] =
-    labels_push 0 lines line ∙ ap (λ (l : Option (List ℕ)). pairs ++ labelled l (slots_from 0 lines)) label in
+    labels_push 0 lines line ∙ ap (λ (l : Option (List ℕ)). pairs ++ named_slot l (slots_from 0 lines)) label in
     let same_slot : old.names ++ (name, old.slots) ∷ [] ≡ old.names ++ (name, slots_from 0 lines) ∷ [] = ap (λ (s : ℕ). old.names ++ (name, s) ∷ []) is.slots in
     record {
       names = λ other.
@@ -106,13 +106,13 @@ survey_label lines line name old new says adds is =
 
 -- a line that is none
 pub survey_word : (lines : List (List ℕ)) (line : List ℕ) (old new : Survey) → ((name : List ℕ) → ¬ IsLabel line name)
-    → new.names ≡ old.names → new.repeated ≡ old.repeated → new.slots ≡ counted (old.slots + word_slots (word_of line))
+    → new.names ≡ old.names → new.repeated ≡ old.repeated → new.slots ≡ slot_count (old.slots + word_slots (word_of line))
     → new.has_budget ≡ (old.has_budget || declares_budget line) → IsSurvey lines old → IsSurvey (lines ++ line ∷ []) new
 survey_word lines line old new none names repeated slots budget is =
     let label = line_unnamed line none in
     let pairs = labels_from 0 lines in
     let same : labels_from 0 (lines ++ line ∷ []) ≡ pairs =
-    labels_push 0 lines line ∙ ap (λ (l : Option (List ℕ)). pairs ++ labelled l (slots_from 0 lines)) label ∙ append-nil pairs in
+    labels_push 0 lines line ∙ ap (λ (l : Option (List ℕ)). pairs ++ named_slot l (slots_from 0 lines)) label ∙ append-nil pairs in
     record {
       names = λ other. rw (names, same) (is.names other);
       apart = rw (repeated, same) is.apart;

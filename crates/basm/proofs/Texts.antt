@@ -7,13 +7,13 @@ use Rattle.std.proofs.lemmas.Slice.Eq.{bytes_eq-Decides}
 use Rattle.std.specs.List.Sorted.{IsPermutation}
 use Rattle.std.specs.Option.{option_to_list}
 use Rattle.bpf.specs.declared.loops.Loop.{Loop}
-use Rattle.bpf.specs.Parts.{placed}
+use Rattle.bpf.specs.Parts.{placed_slots}
 use Rattle.bpf.specs.Program.{Program}
 use Rattle.basm_lex.specs.Lines.{word_of}
 use Rattle.basm.specs.declared.draft.Draft.{Draft}
 use Rattle.basm.specs.declared.survey.Survey.{Survey}
 use Rattle.basm.specs.Draft.{IsImageOf, SayParts, SurveysText, slots_of_items}
-use Rattle.basm.specs.Labels.{IsSurvey, alone, declares_budget, label_in, label_of, labelled, labels_from, slot_after, slots_from, slots_unless, word_slots}
+use Rattle.basm.specs.Labels.{IsSurvey, lone_label, declares_budget, label_in, label_of, named_slot, labels_from, slot_after, slots_from, slots_beside, word_slots}
 use Rattle.basm.specs.Names.{slot_named}
 use Rattle.basm.specs.Relation.{budget_in, AreApart, Defines, AreLines, Budget, Code, IsLine, IsText, Item, Label, Nothing, OneLoop, name_of, names_from, slots_in}
 use Rattle.basm.proofs.Items.{not_nil, slots_are}
@@ -23,7 +23,7 @@ use Rattle.basm.proofs.Words.{AreNamed, Takes, insn_takes}
 
 -- the labels and the slots of a first word
 abbrev pub SaysWord : ℕ → List (List ℕ × ℕ) → ℕ → List ℕ → Type 0
-SaysWord slot pairs slots word = (labelled (label_of word) slot ≡ pairs) × (slots_unless (label_of word) word ≡ slots)
+SaysWord slot pairs slots word = (named_slot (label_of word) slot ≡ pairs) × (slots_beside (label_of word) word ≡ slots)
 
 no_word : (slot : ℕ) → SaysWord slot [] 0 []
 unfolding label_of word_slots
@@ -53,14 +53,14 @@ line_says named names slot line (Code insn) says =
     let P : List ℕ → Type 0 = SaysWord slot [] (slots_in (Code insn)) in subst P (sym says.name) (other_word slot (slots_in (Code insn)) _ (insn_takes named insn))
 
 -- whether something stands behind the word counts for a label alone
-unless_none : (operands : List (List ℕ)) (o : Option (List ℕ)) → o ≡ None → alone operands o ≡ o
+unless_none : (operands : List (List ℕ)) (o : Option (List ℕ)) → o ≡ None → lone_label operands o ≡ o
 unless_none [] o none = refl
 unless_none (operand ∷ operands) o none = sym none
 
 unlabelled : (slot : ℕ) (word : List ℕ) (pairs : List (List ℕ × ℕ)) (slots : ℕ) → SaysWord slot pairs slots word → pairs ≡ [] → label_of word ≡ None
 unlabelled slot word pairs slots says none = at (label_of word) (says.0 ∙ none)
   where
-    at : (o : Option (List ℕ)) → labelled o slot ≡ [] → o ≡ None
+    at : (o : Option (List ℕ)) → named_slot o slot ≡ [] → o ≡ None
     at None h = refl
     at (Some name) h = absurd (not_nil _ _ h)
 
@@ -79,7 +79,7 @@ labels_are named names slot [] (item ∷ items) says few = absurd says
 labels_are named names slot (line ∷ lines) [] says few = absurd says
 labels_are named names slot (line ∷ lines) (item ∷ items) says few =
     let same = label_same named names slot line item says.0 in
-    let P : Option (List ℕ) → Type 0 = λ o. (labelled o slot ≡ name_of slot item) × (slots_unless o (word_of line) ≡ slots_in item) in
+    let P : Option (List ℕ) → Type 0 = λ o. (named_slot o slot ≡ name_of slot item) × (slots_beside o (word_of line) ≡ slots_in item) in
     let one = subst P (sym same) (line_says named names slot line item says.0) in
     let slots = one.1 in
     let next : slot_after slot line ≡ slot + slots_in item = omega arith in
@@ -106,7 +106,7 @@ text_is named text survey parts p is unrepeated say image =
       apart = apart;
       budget = sym say.parts_of.budget ∙ ap option_to_list image.budget;
       loops = subst Q say.parts_of.loops image.loops;
-      code = image.code ∙ ap (flat_map placed) say.parts_of.insns;
+      code = image.code ∙ ap (flat_map placed_slots) say.parts_of.insns;
       program = image.program;
     }
 

@@ -13,14 +13,14 @@ use Rattle.bpf_insn.specs.Spelling.{slots_of}
 use Rattle.bpf_insn.specs.Text.{insn_name}
 use Rattle.basm_lex.specs.Names.{IsName, is_name, is_name_byte}
 use Rattle.basm_lex.specs.declared.mnemonics.Mnemonic.{Mnemonic}
-use Rattle.basm_lex.specs.Mnemonics.{mnemonic_slots, mnemonic_word, named}
+use Rattle.basm_lex.specs.Mnemonics.{mnemonic_slots, mnemonic_word, mnemonic_named}
 use Rattle.basm.specs.Labels.{label_of, slots_named, word_slots}
 use Rattle.basm.proofs.InsnReadings.{insn_named, mnemonic_of}
 use Rattle.basm.proofs.Surveys.{no_label}
 
 -- each mnemonic is found by its word, which is a name
 abbrev pub AreNamed : Type 0
-AreNamed = (found : Mnemonic) → (named (mnemonic_word found) ≡ Some found) × IsName (mnemonic_word found)
+AreNamed = (found : Mnemonic) → (mnemonic_named (mnemonic_word found) ≡ Some found) × IsName (mnemonic_word found)
 
 -- the word is no label, and stands for so many slots
 pub record Takes (slots : ℕ) (word : List ℕ) : Type 0 where
@@ -35,7 +35,7 @@ colon_ends (c ∷ cs) plain =
     let both = and_parts (list_all is_name_byte (c ∷ cs)) _ (sym (list_all-append is_name_byte (c ∷ cs) (58 ∷ [])) ∙ all) in
     true≢false (sym both.1)
 
-name_takes : (word : List ℕ) (found : Mnemonic) → IsName word → named word ≡ Some found → Takes (mnemonic_slots found) word
+name_takes : (word : List ℕ) (found : Mnemonic) → IsName word → mnemonic_named word ≡ Some found → Takes (mnemonic_slots found) word
 unfolding word_slots
 name_takes [] found plain same = absurd (true≢false (sym plain))
 name_takes (c ∷ cs) found plain same = record {
@@ -43,7 +43,7 @@ name_takes (c ∷ cs) found plain same = record {
   slots_are =
       let P : ℕ → Type 0 = λ slots. slots ≡ mnemonic_slots found in
       let Q : ℕ → Type 0 = λ d. is_ascii_alphabetic d ≡ true in
-      cond_both (c == 46) 0 (slots_named (named (c ∷ cs))) P
+      cond_both (c == 46) 0 (slots_named (mnemonic_named (c ∷ cs))) P
       (λ dot. absurd (true≢false (sym (subst Q (eqb-true c 46 dot) (and_parts (is_ascii_alphabetic c) (list_all is_name_byte (c ∷ cs)) plain).0))))
       (λ other. ap slots_named same);
 }
@@ -58,8 +58,8 @@ insn_slots _ = refl
 
 -- an instruction's name is no label, and stands for the slots that the instruction takes
 pub insn_takes : AreNamed → (insn : Insn) → Takes (slots_of insn) (insn_name insn)
-insn_takes named insn =
+insn_takes mnemonic_named insn =
     let found = mnemonic_of insn in
     let P : List ℕ → Type 0 = Takes (slots_of insn) in
     let Q : ℕ → Type 0 = λ slots. Takes slots (mnemonic_word found) in
-    subst P (sym (insn_named insn)) (subst Q (insn_slots insn) (name_takes (mnemonic_word found) found (named found).1 (named found).0))
+    subst P (sym (insn_named insn)) (subst Q (insn_slots insn) (name_takes (mnemonic_word found) found (mnemonic_named found).1 (mnemonic_named found).0))

@@ -3,7 +3,7 @@ use Rattle.std.specs.Prelude.{◌≡◌, ℕ, ◌+◌, ◌≤◌, ◌<◌, ◌==
 use Rattle.std.specs.Option.{option_to_list}
 use Rattle.std.specs.List.{flat_map, list_any}
 use Rattle.std.specs.List.Sorted.{IsPermutation}
-use Rattle.bpf.specs.Parts.{placed}
+use Rattle.bpf.specs.Parts.{placed_slots}
 use Rattle.bpf.specs.declared.loops.Loop.{Loop}
 use Rattle.bpf.specs.Program.{Program, IsBudget, IsLoop, IsProgram}
 use Rattle.bpf_insn.specs.declared.insn.Insn.{Insn}
@@ -83,7 +83,7 @@ pub record IsImageOf (parts : Draft) (p : Program) : Type 0 where
   pub program : IsProgram p
   pub budget : parts.budget ≡ Some p.budget
   pub loops : IsPermutation parts.loops.items p.loops
-  pub code : p.slots ≡ flat_map placed parts.insns.items
+  pub code : p.slots ≡ flat_map placed_slots parts.insns.items
 
 -- the survey of a right text
 pub record SurveysText {text : List ℕ} {p : Program} (t : IsText text p) (survey : Survey) : Type 0 where

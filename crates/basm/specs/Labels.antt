@@ -5,7 +5,7 @@ use Rattle.std.specs.Str.{bytes_eq}
 use Rattle.basm_lex.specs.Lines.{operands_of, word_of}
 use Rattle.basm_lex.specs.Names.{is_name}
 use Rattle.basm_lex.specs.declared.mnemonics.Mnemonic.{Mnemonic}
-use Rattle.basm_lex.specs.Mnemonics.{mnemonic_slots, named}
+use Rattle.basm_lex.specs.Mnemonics.{mnemonic_slots, mnemonic_named}
 use Rattle.basm.specs.declared.survey.Survey.{Survey}
 use Rattle.basm.specs.Names.{slot_named}
 use Rattle.basm.specs.Relation.{AreApart}
@@ -17,13 +17,13 @@ label_of word =
     if is_name name && bytes_eq word (name ++ codes ":") then Some name else None
 
 -- the name, where no operands follow it
-abbrev pub alone : List (List ℕ) → Option (List ℕ) → Option (List ℕ)
-alone [] name = name
-alone (operand ∷ operands) name = None
+abbrev pub lone_label : List (List ℕ) → Option (List ℕ) → Option (List ℕ)
+lone_label [] name = name
+lone_label (operand ∷ operands) name = None
 
 -- the name that a line defines: a label with something behind it defines none
 abbrev pub label_in : List ℕ → Option (List ℕ)
-label_in line = alone (operands_of line) (label_of (word_of line))
+label_in line = lone_label (operands_of line) (label_of (word_of line))
 
 -- how many slots a mnemonic stands for; an unknown word for one
 abbrev pub slots_named : Option Mnemonic → ℕ
@@ -33,20 +33,20 @@ slots_named (Some found) = mnemonic_slots found
 -- how many slots a word that is no label stands for: a directive and no word for none
 unfoldable pub word_slots : List ℕ → ℕ
 word_slots [] = 0
-word_slots (c ∷ cs) = if c == 46 then 0 else slots_named (named (c ∷ cs))
+word_slots (c ∷ cs) = if c == 46 then 0 else slots_named (mnemonic_named (c ∷ cs))
 
 -- the same of a word that may be a label
-abbrev pub slots_unless : Option (List ℕ) → List ℕ → ℕ
-slots_unless None word = word_slots word
-slots_unless (Some name) word = 0
+abbrev pub slots_beside : Option (List ℕ) → List ℕ → ℕ
+slots_beside None word = word_slots word
+slots_beside (Some name) word = 0
 
 -- so many slots, as far as 32 bits count them
-abbrev pub counted : ℕ → ℕ
-counted slots = min slots 4294967295
+abbrev pub slot_count : ℕ → ℕ
+slot_count slots = min slots 4294967295
 
 -- the slot of the next instruction, behind a line
 abbrev pub slot_after : ℕ → List ℕ → ℕ
-slot_after slot line = counted (slot + slots_unless (label_in line) (word_of line))
+slot_after slot line = slot_count (slot + slots_beside (label_in line) (word_of line))
 
 -- the same, behind lines
 abbrev pub slots_from : ℕ → List (List ℕ) → ℕ
@@ -54,14 +54,14 @@ slots_from slot [] = slot
 slots_from slot (line ∷ lines) = slots_from (slot_after slot line) lines
 
 -- the name of a label, with its slot
-abbrev pub labelled : Option (List ℕ) → ℕ → List (List ℕ × ℕ)
-labelled None slot = []
-labelled (Some name) slot = (name, slot) ∷ []
+abbrev pub named_slot : Option (List ℕ) → ℕ → List (List ℕ × ℕ)
+named_slot None slot = []
+named_slot (Some name) slot = (name, slot) ∷ []
 
 -- the names of the labels among the lines, with the slot of the next instruction
 abbrev pub labels_from : ℕ → List (List ℕ) → List (List ℕ × ℕ)
 labels_from slot [] = []
-labels_from slot (line ∷ lines) = labelled (label_in line) slot ++ labels_from (slot_after slot line) lines
+labels_from slot (line ∷ lines) = named_slot (label_in line) slot ++ labels_from (slot_after slot line) lines
 
 -- whether the line begins with `.budget`
 abbrev pub declares_budget : List ℕ → Bool

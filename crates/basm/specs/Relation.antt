@@ -13,7 +13,7 @@ use Rattle.bpf_parts.specs.Codes.{address_subtype, address_first, address_second
 use Rattle.bpf_insn.specs.Spelling.{slots_of}
 use Rattle.bpf_insn.specs.Text.{insn_name}
 use Rattle.bpf.specs.declared.loops.Loop.{Loop}
-use Rattle.bpf.specs.Parts.{placed}
+use Rattle.bpf.specs.Parts.{placed_slots}
 use Rattle.bpf.specs.Program.{Program, IsProgram}
 use Rattle.basm_lex.specs.Lines.{IsLabel, operands_of, word_of}
 use Rattle.basm_lex.specs.Names.{IsName}
@@ -191,5 +191,5 @@ pub record IsText (text : List ℕ) (p : Program) : Type 0 where
   pub apart : AreApart (names_from 0 items)
   pub budget : flat_map budget_in items ≡ p.budget ∷ []
   pub loops : IsPermutation (flat_map loop_in items) p.loops
-  pub code : p.slots ≡ flat_map placed (flat_map insn_in items)
+  pub code : p.slots ≡ flat_map placed_slots (flat_map insn_in items)
   pub program : IsProgram p

@@ -16,36 +16,36 @@ abbrev pub is_semicolon : ℕ → Bool
 is_semicolon c = c == 59
 
 -- a text without the spaces before it
-abbrev pub skip_spaces : List ℕ → List ℕ
-skip_spaces [] = []
-skip_spaces (c ∷ cs) = if is_space c then skip_spaces cs else c ∷ cs
+abbrev pub without_leading_spaces : List ℕ → List ℕ
+without_leading_spaces [] = []
+without_leading_spaces (c ∷ cs) = if is_space c then without_leading_spaces cs else c ∷ cs
 
 -- a character and what follows it, nothing where both are nothing but a space
-abbrev pub unless_space : ℕ → List ℕ → List ℕ
-unless_space c [] = if is_space c then [] else c ∷ []
-unless_space c (d ∷ ds) = c ∷ d ∷ ds
+abbrev pub trailing_part : ℕ → List ℕ → List ℕ
+trailing_part c [] = if is_space c then [] else c ∷ []
+trailing_part c (d ∷ ds) = c ∷ d ∷ ds
 
 -- a text without the spaces after it
-abbrev pub drop_spaces : List ℕ → List ℕ
-drop_spaces [] = []
-drop_spaces (c ∷ cs) = unless_space c (drop_spaces cs)
+abbrev pub without_trailing_spaces : List ℕ → List ℕ
+without_trailing_spaces [] = []
+without_trailing_spaces (c ∷ cs) = trailing_part c (without_trailing_spaces cs)
 
 -- a text without the spaces around it
-abbrev pub trimmed : List ℕ → List ℕ
-trimmed text = drop_spaces (skip_spaces text)
+abbrev pub trimmed_text : List ℕ → List ℕ
+trimmed_text text = without_trailing_spaces (without_leading_spaces text)
 
 -- a line without its comment and the spaces around it
 unfoldable pub code_of : List ℕ → List ℕ
-code_of line = trimmed (before_first is_semicolon line)
+code_of line = trimmed_text (before_first is_semicolon line)
 
 -- its first word
 unfoldable pub word_of : List ℕ → List ℕ
 word_of line = before_first is_space (code_of line)
 
 -- what stands between commas, without the spaces around it
-abbrev pub separated : List ℕ → List (List ℕ)
-separated [] = []
-separated (c ∷ cs) = map trimmed (slice_split is_comma (c ∷ cs))
+abbrev pub parts_between_commas : List ℕ → List (List ℕ)
+parts_between_commas [] = []
+parts_between_commas (c ∷ cs) = map trimmed_text (slice_split is_comma (c ∷ cs))
 
 -- what follows the first word
 unfoldable pub rest_of : List ℕ → List ℕ
@@ -53,7 +53,7 @@ rest_of line = after_first is_space (code_of line)
 
 -- the operands
 abbrev pub operands_of : List ℕ → List (List ℕ)
-operands_of line = separated (rest_of line)
+operands_of line = parts_between_commas (rest_of line)
 
 -- the line is the label of the name, with nothing behind it
 abbrev pub IsLabel : List ℕ → List ℕ → Type 0

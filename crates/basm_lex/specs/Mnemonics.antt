@@ -44,5 +44,5 @@ mnemonic_slots (Calling callee) = 1
 mnemonic_slots Exiting = 1
 
 -- the mnemonic of a word: the first of all that have it
-unfoldable pub named : List ℕ → Option Mnemonic
-named word = find (λ m. bytes_eq word (mnemonic_word m)) MNEMONICS
+unfoldable pub mnemonic_named : List ℕ → Option Mnemonic
+mnemonic_named word = find (λ m. bytes_eq word (mnemonic_word m)) MNEMONICS

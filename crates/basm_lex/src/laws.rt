@@ -7,7 +7,7 @@ ghost use Rattle.std.specs.List.{slice_split};
 ghost use Rattle.bpf_insn.specs.declared.insn.Insn.{Insn};
 ghost use Rattle.bpf_parts.specs.declared.memory.Place.{Place};
 ghost use Rattle.bpf_insn.specs.Spelling.{IsInsn};
-ghost use Rattle.bpf_insn.specs.Text.{bits_text, insn_name, insn_operands, written};
+ghost use Rattle.bpf_insn.specs.Text.{bits_text, insn_name, insn_operands, name_with_operands};
 ghost use Rattle.bpf_parts.specs.Text.{place_text, register_text, signed_text};
 ghost use Rattle.basm_lex.specs.Lines.{operands_of, word_of};
 ghost use Rattle.basm_lex.specs.Numbers.{WritesDistance, WritesNumber, WritesWide};
@@ -32,12 +32,12 @@ pub fn printed_words()
 
     // A line of a name and operands has them as its words.
     ensures first { (name : List ℕ) (xs : List (List ℕ)) → IsWord name → AreWords xs
-        → word_of (written name xs) ≡ name }
+        → word_of (name_with_operands name xs) ≡ name }
     ensures rest { (name : List ℕ) (xs : List (List ℕ)) → IsWord name → AreWords xs
-        → operands_of (written name xs) ≡ xs }
+        → operands_of (name_with_operands name xs) ≡ xs }
 
     // And it is one line.
     ensures line { (name : List ℕ) (xs : List (List ℕ)) (rest : List ℕ) → IsWord name → AreWords xs
-        → slice_split (λ c. c == 10) (written name xs ++ 10 ∷ rest)
-        ≡ written name xs ∷ slice_split (λ c. c == 10) rest }
+        → slice_split (λ c. c == 10) (name_with_operands name xs ++ 10 ∷ rest)
+        ≡ name_with_operands name xs ∷ slice_split (λ c. c == 10) rest }
 {}

@@ -4,7 +4,7 @@ ghost use Rattle.std.specs.Prelude.{◌≡◌, ◌++◌, Some, IfSome};
 ghost use Rattle.std.specs.List.{find};
 ghost use Rattle.std.specs.Str.{bytes_eq};
 ghost use Rattle.basm_lex.specs.Names.{IsName};
-ghost use Rattle.basm_lex.specs.Mnemonics.{mnemonic_slots, mnemonic_word, named};
+ghost use Rattle.basm_lex.specs.Mnemonics.{mnemonic_slots, mnemonic_word, mnemonic_named};
 
 use bpf_insn::{AluOp, Callee, Condition, Extension, LoadSize, Size, Swap, SwapBits, Width};
 use bpf_parts::words::{
@@ -175,7 +175,7 @@ const MNEMONICS: [Mnemonic; 90] = [
 
 /// What the word says, where it begins an instruction.
 pub fn read_mnemonic(word: &str) -> Option<Mnemonic>
-    ensures value { result ≡ named word.now }
+    ensures value { result ≡ mnemonic_named word.now }
     ensures names { IfSome result (λ found. word.now ≡ mnemonic_word found) }
     ensures plain { IfSome result (λ _. IsName word.now) }
     ensures exact { (found : Mnemonic) → word.now ≡ mnemonic_word found → result ≡ Some found }
@@ -186,7 +186,7 @@ pub fn read_mnemonic(word: &str) -> Option<Mnemonic>
 /// What holds of all mnemonics: it does nothing, and its contract is the laws.
 pub fn mnemonic_laws()
     // Each is found by its word.
-    ensures named { (found : Mnemonic) → named (mnemonic_word found) ≡ Some found }
+    ensures named { (found : Mnemonic) → mnemonic_named (mnemonic_word found) ≡ Some found }
 
     // Its word is a name, and so no directive, and no label.
     ensures plain { (found : Mnemonic) → IsName (mnemonic_word found) }

@@ -2,7 +2,7 @@
 
 ghost use Rattle.std.specs.Prelude.{◌≡◌, map, IfOk, MatchOption};
 ghost use Rattle.std.specs.List.{before_first};
-ghost use Rattle.basm_lex.specs.Lines.{IsLabel, IsNoLabel, code_of, drop_spaces, is_semicolon, operands_of, rest_of, separated, skip_spaces, trimmed, word_of};
+ghost use Rattle.basm_lex.specs.Lines.{IsLabel, IsNoLabel, code_of, without_trailing_spaces, is_semicolon, operands_of, rest_of, parts_between_commas, without_leading_spaces, trimmed_text, word_of};
 
 use crate::names::label_name;
 use std::alloc::{AllocError, Global};
@@ -85,7 +85,7 @@ pub fn read_statement<'a>(alloc: Global, line: &'a str) -> Result<Statement<'a>,
 /// What stands between commas, without the spaces around it.
 fn read_operands(alloc: Global, rest: &str) -> Result<Vec<&str>, AllocError>
     ensures { IfOk result
-        (λ operands. map (λ operand. operand.now) operands.items ≡ separated rest.now) }
+        (λ operands. map (λ operand. operand.now) operands.items ≡ parts_between_commas rest.now) }
 {
     if rest.is_empty() {
         Ok(Vec::new(alloc))
@@ -96,13 +96,13 @@ fn read_operands(alloc: Global, rest: &str) -> Result<Vec<&str>, AllocError>
 
 /// The text without the spaces before and after it.
 fn trim(text: &str) -> &str
-    ensures { result.now ≡ trimmed text.now }
+    ensures { result.now ≡ trimmed_text text.now }
 {
     trim_end(trim_start(text))
 }
 
 fn trim_start(text: &str) -> &str
-    ensures { result.now ≡ skip_spaces text.now }
+    ensures { result.now ≡ without_leading_spaces text.now }
 {
     let mut rest = text;
     while let Some(after) = rest.strip_prefix(' ') {
@@ -112,7 +112,7 @@ fn trim_start(text: &str) -> &str
 }
 
 fn trim_end(text: &str) -> &str
-    ensures { result.now ≡ drop_spaces text.now }
+    ensures { result.now ≡ without_trailing_spaces text.now }
 {
     let mut rest = text;
     while let Some(before) = rest.strip_suffix(' ') {

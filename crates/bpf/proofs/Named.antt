@@ -11,7 +11,7 @@ use Rattle.bpf.specs.declared.loops.Loop.{Loop}
 use Rattle.bpf.specs.declared.fault.ImageFault.{ImageFault}
 use Rattle.bpf.specs.declared.fault.ImageFault.TheVariants as faults
 use Rattle.bpf.specs.Program.{Program, program}
-use Rattle.bpf.specs.Reading.{◌>>=◌, Gives, IsFaultAt, begins_two, bytes_at, counts_reading, found_at, half_at, is_budget, is_count, magic, word_at, header_reading, image_reading, are_loops, loop_in, loops_in, loops_reading, slot_in, slot_reading, slots_reading}
+use Rattle.bpf.specs.Reading.{◌>>=◌, Gives, IsFaultAt, begins_two, bytes_at, counts_reading, slot_result, half_at, is_budget, is_count, magic, word_at, header_reading, image_reading, are_loops, loop_in, loops_in, loops_reading, slot_in, slot_reading, slots_reading}
 
 -- the law of `bpf_insn` that is used: a fault that is read stands in the bytes
 abbrev pub IsExplained : Type 0
@@ -121,7 +121,7 @@ read_later slot bytes named fault p =
     let at : drop (8 * p.0) (drop 8 bytes) ≡ drop (8 * suc p.0) bytes = drop-drop (8 * p.0) 8 bytes ∙ ap (λ (n : ℕ). drop n bytes) further in
     (suc p.0, omega (arith, p.1), subst (λ (b : List ℕ). reading (take 8 b) (slot_in (drop 8 b)) ≡ Err fault) at p.2)
 
-found_fault : (slot : ℕ) (r : Result Insn BadInsn) (named : ℕ) (fault : BadInsn) → found_at slot r ≡ Err (faults.Insn named fault) → (named ≡ slot) × (r ≡ Err fault)
+found_fault : (slot : ℕ) (r : Result Insn BadInsn) (named : ℕ) (fault : BadInsn) → slot_result slot r ≡ Err (faults.Insn named fault) → (named ≡ slot) × (r ≡ Err fault)
 found_fault slot (Ok insn) named fault e = cc
 found_fault slot (Err f) named fault e =
     let same : faults.Insn slot f ≡ faults.Insn named fault = cc in

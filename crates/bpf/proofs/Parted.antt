@@ -12,16 +12,16 @@ use Rattle.bpf.specs.declared.fault.ImageFault.TheVariants as faults
 use Rattle.bpf.specs.Program.{program, AreLoops, AreSlots, IsBudget, IsLoop, IsProgram, IsSlotCount}
 use Rattle.bpf.specs.Reading.{are_loops, is_budget, is_count, is_loop}
 use Rattle.bpf.proofs.Again.{test_again}
-use Rattle.bpf.specs.Parts.{header_of, parts_fault, placed, second_slots, unless}
+use Rattle.bpf.specs.Parts.{header_of, parts_fault, placed_slots, second_slots, unless}
 
 -- ---- the slots
 
-pub placed_more : (insns : List Insn) (i : ℕ) (x : Insn) (so_far total : List (Option Insn)) → i < length insns → get_or insns i x ≡ x → so_far ++ flat_map placed (drop i insns) ≡ total → (so_far ++ placed x) ++ flat_map placed (drop (i + 1) insns) ≡ total
+pub placed_more : (insns : List Insn) (i : ℕ) (x : Insn) (so_far total : List (Option Insn)) → i < length insns → get_or insns i x ≡ x → so_far ++ flat_map placed_slots (drop i insns) ≡ total → (so_far ++ placed_slots x) ++ flat_map placed_slots (drop (i + 1) insns) ≡ total
 placed_more insns i x so_far total lt item before =
     let cut : drop i insns ≡ x ∷ drop (suc i) insns = drop-cons insns i x lt ∙ ap (λ (y : Insn). y ∷ drop (suc i) insns) item in
-    let one : so_far ++ flat_map placed (drop i insns) ≡ so_far ++ (placed x ++ flat_map placed (drop (suc i) insns)) = ap (λ (ys : List Insn). so_far ++ flat_map placed ys) cut in
+    let one : so_far ++ flat_map placed_slots (drop i insns) ≡ so_far ++ (placed_slots x ++ flat_map placed_slots (drop (suc i) insns)) = ap (λ (ys : List Insn). so_far ++ flat_map placed_slots ys) cut in
     let next : drop (i + 1) insns ≡ drop (suc i) insns = ap (λ (k : ℕ). drop k insns) (add-one i) in
-    ap (λ (ys : List Insn). (so_far ++ placed x) ++ flat_map placed ys) next ∙ append_assoc so_far (placed x) (flat_map placed (drop (suc i) insns)) ∙ sym one ∙ before
+    ap (λ (ys : List Insn). (so_far ++ placed_slots x) ++ flat_map placed_slots ys) next ∙ append_assoc so_far (placed_slots x) (flat_map placed_slots (drop (suc i) insns)) ∙ sym one ∙ before
 
 are_append : (xs ys : List (Option Insn)) (second : Bool) → AreSlots second xs → AreSlots false ys → AreSlots second (xs ++ ys)
 are_append [] ys second are more = subst (λ (b : Bool). AreSlots b ys) (sym are) more
@@ -34,21 +34,21 @@ seconds_are : (b : Bool) → AreSlots b (second_slots b)
 seconds_are true = refl
 seconds_are false = refl
 
-pub are_more : (xs : List (Option Insn)) (i : Insn) → AreSlots false xs → IsInsn i → AreSlots false (xs ++ placed i)
-are_more xs i are is = are_append xs (placed i) false are (is, seconds_are (is_some (second_immediate i)))
+pub are_more : (xs : List (Option Insn)) (i : Insn) → AreSlots false xs → IsInsn i → AreSlots false (xs ++ placed_slots i)
+are_more xs i are is = are_append xs (placed_slots i) false are (is, seconds_are (is_some (second_immediate i)))
 
 -- each instruction has a slot
-long : (insns : List Insn) → length insns ≤ length (flat_map placed insns)
+long : (insns : List Insn) → length insns ≤ length (flat_map placed_slots insns)
 long [] = omega arith
 long (i ∷ is) =
-    omega (arith, long is, length-append (second_slots (is_some (second_immediate i))) (flat_map placed is))
+    omega (arith, long is, length-append (second_slots (is_some (second_immediate i))) (flat_map placed_slots is))
 
 -- ---- the tests
 
 -- the header of these parts
 abbrev made : List Insn → List Loop → ℕ → Header
 made insns loops budget =
-    record { loops = length loops; slots = length (flat_map placed insns); budget = budget }
+    record { loops = length loops; slots = length (flat_map placed_slots insns); budget = budget }
 
 if_false : (b : Bool) (x y : Option ImageFault) → b ≡ false → (if b then x else y) ≡ y
 if_false true x y h = cc
@@ -61,18 +61,18 @@ count_over false b c h = refl
 pub too_many : (insns : List Insn) (loops : List Loop) (budget : ℕ) → 512 < length insns → header_of insns loops budget ≡ Err faults.Count
 unfolding parts_fault
 too_many insns loops budget h =
-    let more : 512 < length (flat_map placed insns) = omega (arith, h, long insns) in
-    let over : nat_le (length (flat_map placed insns)) 512 ≡ false = grind (arith, nat_tests) in
-    ap (λ (f : Option ImageFault). unless f (made insns loops budget)) (if_false (is_count (length loops) (length (flat_map placed insns)) 0) _ _ (count_over _ _ _ over))
+    let more : 512 < length (flat_map placed_slots insns) = omega (arith, h, long insns) in
+    let over : nat_le (length (flat_map placed_slots insns)) 512 ≡ false = grind (arith, nat_tests) in
+    ap (λ (f : Option ImageFault). unless f (made insns loops budget)) (if_false (is_count (length loops) (length (flat_map placed_slots insns)) 0) _ _ (count_over _ _ _ over))
 
 -- the parts of a header have no fault
 no_fault : {X : Type 0} (f : Option ImageFault) (x y : X) → Ok x ≡ unless f y → f ≡ None
 no_fault None x y h = refl
 no_fault (Some e) x y h = cc
 
-header_made : (insns : List Insn) (loops : List Loop) (budget : ℕ) (h : Header) → Ok h ≡ header_of insns loops budget → parts_fault (length (flat_map placed insns)) loops budget ≡ None
+header_made : (insns : List Insn) (loops : List Loop) (budget : ℕ) (h : Header) → Ok h ≡ header_of insns loops budget → parts_fault (length (flat_map placed_slots insns)) loops budget ≡ None
 header_made insns loops budget h e =
-    no_fault (parts_fault (length (flat_map placed insns)) loops budget) h (made insns loops budget) e
+    no_fault (parts_fault (length (flat_map placed_slots insns)) loops budget) h (made insns loops budget) e
 
 and_true : (a b : Bool) → (a && b) ≡ true → (a ≡ true) × (b ≡ true)
 and_true true b h = (refl, h)
@@ -124,9 +124,9 @@ kept budget loops slots h are =
     let counts = count_kept (length loops) (length slots) p.0 in
     record { version = refl; budget = budget_kept budget q.0; slots = counts.1; few_loops = counts.0; loops = loops_kept (length slots) 0 loops r.0; code = are }
 
-pub parts_kept : (insns : List Insn) (given loops : List Loop) (budget : ℕ) (h : Header) (slots : List (Option Insn)) → Ok h ≡ header_of insns given budget → loops ≡ given → slots ≡ flat_map placed insns → AreSlots false slots → IsProgram (program budget loops slots)
+pub parts_kept : (insns : List Insn) (given loops : List Loop) (budget : ℕ) (h : Header) (slots : List (Option Insn)) → Ok h ≡ header_of insns given budget → loops ≡ given → slots ≡ flat_map placed_slots insns → AreSlots false slots → IsProgram (program budget loops slots)
 parts_kept insns given loops budget h slots made same is are =
-    kept budget loops slots (ap (λ (s : List (Option Insn)). parts_fault (length s) loops budget) is ∙ ap (λ (ls : List Loop). parts_fault (length (flat_map placed insns)) ls budget) same ∙ header_made insns given budget h made) are
+    kept budget loops slots (ap (λ (s : List (Option Insn)). parts_fault (length s) loops budget) is ∙ ap (λ (ls : List Loop). parts_fault (length (flat_map placed_slots insns)) ls budget) same ∙ header_made insns given budget h made) are
 
 -- ---- a loop that fits
 

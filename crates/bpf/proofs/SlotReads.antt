@@ -8,7 +8,7 @@ use Rattle.bpf_insn.specs.Faults.{IsFault}
 use Rattle.bpf_insn.specs.Reading.{reading}
 use Rattle.bpf_insn.specs.Spelling.{AreSlotBytes, Spells}
 use Rattle.bpf.specs.declared.fault.ImageFault.TheVariants as faults
-use Rattle.bpf.specs.Reading.{found_at, slot_in, slot_reading}
+use Rattle.bpf.specs.Reading.{slot_result, slot_in, slot_reading}
 use Rattle.bpf.proofs.Again.{IsRead}
 
 -- the law of `bpf_insn` that is used: a fault that stands in slots is the one that is read
@@ -39,9 +39,9 @@ are_next bytes below = by_test (nat_lt (length bytes) 8) refl
 
 pub insn_read : IsRead → (slot : ℕ) (bytes : List ℕ) (insn : Insn) → Spells (take 8 bytes) (slot_in (drop 8 bytes)) insn → slot_reading slot false bytes ≡ Ok (Some insn)
 unfolding slot_reading
-insn_read law slot bytes insn spells = ap (found_at slot) (law _ _ insn spells)
+insn_read law slot bytes insn spells = ap (slot_result slot) (law _ _ insn spells)
 
 pub fault_read : IsNamed → (slot : ℕ) (bytes : List ℕ) (fault : BadInsn) → 8 ≤ length bytes → ((i : ℕ) → slice_index bytes i < 256) → IsFault (take 8 bytes) (slot_in (drop 8 bytes)) fault → slot_reading slot false bytes ≡ Err (faults.Insn slot fault)
 unfolding slot_reading
 fault_read law slot bytes fault long below stands =
-    ap (found_at slot) (law _ _ fault (are_first bytes long below) (are_next (drop 8 bytes) (below_drop 8 bytes below)) stands)
+    ap (slot_result slot) (law _ _ fault (are_first bytes long below) (are_next (drop 8 bytes) (below_drop 8 bytes below)) stands)

@@ -16,8 +16,8 @@ second_slots true = None ∷ []
 second_slots false = []
 
 -- the one or two slots of an instruction
-abbrev pub placed : Insn → List (Option Insn)
-placed insn = Some insn ∷ second_slots (is_some (second_immediate insn))
+abbrev pub placed_slots : Insn → List (Option Insn)
+placed_slots insn = Some insn ∷ second_slots (is_some (second_immediate insn))
 
 -- what is wrong with the parts of an image of so many slots
 unfoldable pub parts_fault : (slots : ℕ) → List Loop → (budget : ℕ) → Option ImageFault
@@ -36,10 +36,10 @@ unless (Some fault) x = Err fault
 -- the header of these instructions, loops and budget, or the first fault
 abbrev pub header_of : List Insn → List Loop → ℕ → Result Header ImageFault
 header_of insns loops budget =
-    unless (parts_fault (length (flat_map placed insns)) loops budget)
-    (record { loops = length loops; slots = length (flat_map placed insns); budget = budget })
+    unless (parts_fault (length (flat_map placed_slots insns)) loops budget)
+    (record { loops = length loops; slots = length (flat_map placed_slots insns); budget = budget })
 
 -- the program of these instructions, loops and budget, or the first fault
 abbrev pub parts_reading : List Insn → List Loop → ℕ → Result Program ImageFault
 parts_reading insns loops budget =
-    unless (parts_fault (length (flat_map placed insns)) loops budget) (program budget loops (flat_map placed insns))
+    unless (parts_fault (length (flat_map placed_slots insns)) loops budget) (program budget loops (flat_map placed_slots insns))

@@ -56,8 +56,8 @@ abbrev pub is_budget : ℕ → Bool
 is_budget budget = nat_le 1 budget && nat_le budget 65536
 
 -- the header of these counts, this reserved word and this budget
-abbrev pub declared : (loops slots reserved budget : ℕ) → Result Header ImageFault
-declared loops slots reserved budget =
+abbrev pub declared_header : (loops slots reserved budget : ℕ) → Result Header ImageFault
+declared_header loops slots reserved budget =
     if is_count loops slots reserved
     then (if is_budget budget
     then Ok (record { loops = loops; slots = slots; budget = budget })
@@ -66,7 +66,7 @@ declared loops slots reserved budget =
 
 -- the counts and the budget
 unfoldable pub counts_reading : List ℕ → Result Header ImageFault
-counts_reading bytes = declared (slice_index bytes 5) (half_at 6 bytes) (word_at 12 bytes) (word_at 8 bytes)
+counts_reading bytes = declared_header (slice_index bytes 5) (half_at 6 bytes) (word_at 12 bytes) (word_at 8 bytes)
 
 -- the counts and the budget of an image, or the first fault of its header
 unfoldable pub header_reading : List ℕ → Result Header ImageFault
@@ -109,14 +109,14 @@ abbrev pub slot_in : List ℕ → Option (List ℕ)
 slot_in bytes = if nat_lt (length bytes) 8 then None else Some (take 8 bytes)
 
 -- an instruction at the slot, or the fault with its slot
-abbrev pub found_at : ℕ → Result Insn BadInsn → Result (Option Insn) ImageFault
-found_at slot (Ok insn) = Ok (Some insn)
-found_at slot (Err fault) = Err (faults.Insn slot fault)
+abbrev pub slot_result : ℕ → Result Insn BadInsn → Result (Option Insn) ImageFault
+slot_result slot (Ok insn) = Ok (Some insn)
+slot_result slot (Err fault) = Err (faults.Insn slot fault)
 
 -- a slot, where it is known whether it is the second of an instruction
 unfoldable pub slot_reading : (slot : ℕ) (second : Bool) → List ℕ → Result (Option Insn) ImageFault
 slot_reading slot true bytes = Ok None
-slot_reading slot false bytes = found_at slot (reading (take 8 bytes) (slot_in (drop 8 bytes)))
+slot_reading slot false bytes = slot_result slot (reading (take 8 bytes) (slot_in (drop 8 bytes)))
 
 -- whether an instruction of two slots begins there
 abbrev pub begins_two : Option Insn → Bool

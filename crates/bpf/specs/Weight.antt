@@ -29,5 +29,5 @@ abbrev pub weight_of : Program → ℕ
 weight_of p = weight_from p.loops 0 p.slots
 
 -- a number, or 2^64 - 1 where it is above
-abbrev pub saturated : ℕ → ℕ
-saturated n = min n (2 ^ 64 - 1)
+abbrev pub saturated_weight : ℕ → ℕ
+saturated_weight n = min n (2 ^ 64 - 1)

@@ -2,7 +2,7 @@
 
 ghost use Rattle.std.specs.Prelude.{◌≡◌, ◌≤◌, ◌==◌, ◌&&◌, ◌↔◌, IsTrue, nat_lt, slice_index, length, take, drop, IfOk};
 ghost use Rattle.bpf.specs.Program.{IsBudget, IsSlotCount, header_bytes};
-ghost use Rattle.bpf.specs.Reading.{counts_reading, declared, header_reading, is_budget, is_count};
+ghost use Rattle.bpf.specs.Reading.{counts_reading, declared_header, header_reading, is_budget, is_count};
 
 use crate::fault::ImageFault;
 
@@ -28,7 +28,7 @@ impl Header {
     /// The header of these counts and this budget: a fault of the counts and the reserved word is told
     /// before one of the budget.
     pub fn new(loops: usize, slots: usize, reserved: u32, budget: u32) -> Result<Header, ImageFault>
-        ensures value { result ≡ declared loops slots reserved budget }
+        ensures value { result ≡ declared_header loops slots reserved budget }
         ensures limits { IfOk result
             (λ h. (h.loops ≤ 8) × IsSlotCount h.slots × IsBudget h.budget) }
     {

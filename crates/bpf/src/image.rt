@@ -3,7 +3,7 @@
 ghost use Rattle.std.specs.Prelude.{◌≡◌, ◌≤◌, length, IfErr, IfOk, Ok};
 ghost use Rattle.bpf.specs.Parts.{parts_reading};
 ghost use Rattle.bpf.specs.Program.{IsProgram, Program, image_bytes, insn_at, program};
-ghost use Rattle.bpf.specs.Weight.{saturated, weight_of};
+ghost use Rattle.bpf.specs.Weight.{saturated_weight, weight_of};
 ghost use Rattle.bpf.specs.Reading.{Gives, IsFaultAt, image_reading};
 
 use crate::fault::ImageFault;
@@ -188,7 +188,7 @@ impl Image {
     /// of the loops that hold it. A sum above 2^64 - 1 gives that number. No run of an accepted image
     /// takes more instructions.
     pub fn weight(&self) -> u64
-        ensures { result ≡ saturated (weight_of self.now) }
+        ensures { result ≡ saturated_weight (weight_of self.now) }
     {
         weight(&self.loops, &self.slots)
     }

@@ -4,7 +4,7 @@ ghost use Rattle.std.specs.Prelude.{◌≡◌, ◌≤◌, ◌++◌, false, lengt
 ghost use Rattle.std.specs.List.{flat_map};
 ghost use Rattle.bpf_insn.specs.Spelling.{IsInsn};
 ghost use Rattle.bpf.specs.Program.{AreSlots};
-ghost use Rattle.bpf.specs.Parts.{header_of, placed};
+ghost use Rattle.bpf.specs.Parts.{header_of, placed_slots};
 
 use crate::fault::ImageFault;
 use crate::header::{Header, MAX_SLOTS};
@@ -36,7 +36,7 @@ pub fn header_of(insns: &[Insn], loops: &[Loop], budget: u32) -> Result<Header, 
 /// How many slots the instructions take.
 fn count_slots(insns: &[Insn]) -> usize
     requires { length insns.now ≤ 512 }
-    ensures { result ≡ length (flat_map placed insns.now) }
+    ensures { result ≡ length (flat_map placed_slots insns.now) }
 {
     let mut count = 0;
     for insn in insns {
@@ -52,7 +52,7 @@ pub fn place_insns(
     insns: &[Insn],
     count: u16,
 ) -> Result<Vec<Option<Insn>>, AllocError>
-    ensures placed { IfOk result (λ slots. slots.items ≡ flat_map placed insns.now) }
+    ensures placed { IfOk result (λ slots. slots.items ≡ flat_map placed_slots insns.now) }
     ensures code { IfOk result (λ slots. AreSlots false slots.items) }
 {
     let mut slots = Vec::with_capacity(alloc, usize::from(count))?;
@@ -63,7 +63,7 @@ pub fn place_insns(
 }
 
 fn place_insn(slots: &mut Vec<Option<Insn>>, insn: &Insn) -> Result<(), AllocError>
-    ensures placed { OnOk result (slots.new.items ≡ slots.old.items ++ placed insn.now) }
+    ensures placed { OnOk result (slots.new.items ≡ slots.old.items ++ placed_slots insn.now) }
     ensures limits { IsInsn insn.now }
 {
     insn.slots();

@@ -1,7 +1,7 @@
 //! How many instructions a run of an image may take.
 
 ghost use Rattle.std.specs.Prelude.{◌≡◌, ◌≤◌, length};
-ghost use Rattle.bpf.specs.Weight.{part_of, passes_of, saturated, times_at, weight_from};
+ghost use Rattle.bpf.specs.Weight.{part_of, passes_of, saturated_weight, times_at, weight_from};
 
 use crate::loops::Loop;
 use bpf_insn::Insn;
@@ -10,7 +10,7 @@ use bpf_insn::Insn;
 /// 2^64 - 1 where that is above.
 pub fn weight(loops: &[Loop], slots: &[Option<Insn>]) -> u64
     requires { length slots.now ≤ 512 }
-    ensures { result ≡ saturated (weight_from loops.now 0 slots.now) }
+    ensures { result ≡ saturated_weight (weight_from loops.now 0 slots.now) }
 {
     let mut weight = 0u64;
     let mut slot = 0u16;
@@ -23,7 +23,7 @@ pub fn weight(loops: &[Loop], slots: &[Option<Insn>]) -> u64
 
 /// How often an instruction at the slot is run at most, by the loops round it; nothing for a second slot.
 fn part(loops: &[Loop], slot: u16, insn: &Option<Insn>) -> u64
-    ensures { result ≡ saturated (part_of loops.now slot insn.now) }
+    ensures { result ≡ saturated_weight (part_of loops.now slot insn.now) }
 {
     match insn {
         Some(_) => times(loops, slot),
@@ -33,7 +33,7 @@ fn part(loops: &[Loop], slot: u16, insn: &Option<Insn>) -> u64
 
 /// The product of the bounds of the loops that hold the slot, or 2^64 - 1 where it is above.
 fn times(loops: &[Loop], slot: u16) -> u64
-    ensures { result ≡ saturated (times_at loops.now slot) }
+    ensures { result ≡ saturated_weight (times_at loops.now slot) }
 {
     let mut times = 1u64;
     for found in loops {

@@ -27,21 +27,21 @@ use Rattle.bpf_insn.specs.declared.fields.Fields.{Fields}
 use Rattle.bpf_insn.specs.declared.decoder.BadInsn.{BadInsn}
 use Rattle.bpf_insn.specs.declared.decoder.BadInsn.TheVariants as faults
 use Rattle.bpf_insn.specs.Spelling.{fields, second_immediate, Spells}
-use Rattle.bpf_insn.specs.Faults.{opcode_of, uses_dst, uses_src, over, IsFault}
+use Rattle.bpf_insn.specs.Faults.{opcode_of, uses_dst, uses_src, has_register_over, IsFault}
 use Rattle.bpf_parts.specs.Kinds.{swap_bits_of, address_of, callee_of}
 use Rattle.bpf_insn.specs.Reading.{◌>>=◌, register_of, meant_of, wide_of, pair_of, load_of, store_of, arithmetic_of, negation_of, byte_swap_of, two_operands_of, move_of, jump_of, call_of, branch_of, comparison_of, has_fields, fields_in, reading_of, reading}
 use Rattle.bpf_insn.proofs.Spelled.{reading-spelled}
 
 -- no register is over 10, and a second slot is there where the instruction wants one
 abbrev pub is_fine : Insn → ℕ → ℕ → Option Fields → Bool
-is_fine i d s next = not (over i d s) && (not (is_some (second_immediate i)) || is_some next)
+is_fine i d s next = not (has_register_over i d s) && (not (is_some (second_immediate i)) || is_some next)
 
 -- whether an answer fits an instruction with the same opcode
 abbrev pub explains : Insn → ℕ → ℕ → Option Fields → Result Insn BadInsn → Bool
 explains i d s next (Ok insn) = is_fine i d s next
 explains i d s next (Err faults.Opcode) = false
-explains i d s next (Err faults.Register) = over i d s
-explains i d s next (Err faults.Half) = not (over i d s) && is_some (second_immediate i) && not (is_some next)
+explains i d s next (Err faults.Register) = has_register_over i d s
+explains i d s next (Err faults.Half) = not (has_register_over i d s) && is_some (second_immediate i) && not (is_some next)
 explains i d s next (Err faults.Unused) = is_fine i d s next
 
 -- a destination is read

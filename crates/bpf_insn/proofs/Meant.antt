@@ -32,7 +32,7 @@ use Rattle.bpf_insn.specs.declared.insn.Insn.TheVariants.{Alu, Negate, MoveSigne
 use Rattle.bpf_insn.specs.declared.fields.Fields.{Fields}
 use Rattle.bpf_insn.specs.Spelling.{first_fields, second_immediate, second_fields, IsInsn}
 use Rattle.bpf_parts.specs.Operands.{IsOperand}
-use Rattle.bpf_insn.specs.Reading.{meant_of, wide_of, pair_of, load_of, store_of, arithmetic_of, negation_of, byte_swap_of, two_operands_of, move_of, jump_of, call_of, branch_of, comparison_of, joined}
+use Rattle.bpf_insn.specs.Reading.{meant_of, wide_of, pair_of, load_of, store_of, arithmetic_of, negation_of, byte_swap_of, two_operands_of, move_of, jump_of, call_of, branch_of, comparison_of, constant_of}
 
 -- a register's number passes the test
 number_passes : (n : ℕ) → n ≤ 10 → nat_le n 10 ≡ true
@@ -107,7 +107,7 @@ jumped : (condition : Condition) (width : Width) (dst : ℕ) (src : Operand) (of
 jumped condition width dst (Immediate value) offset next p q = jumped_k condition width dst value offset next p
 jumped condition width dst (FromRegister src) offset next p q = jumped_x condition width dst src offset next p (number_passes src q)
 
-halves : (value : ℕ) → value < 2 ^ 64 → joined (cast_signed w32 (value % 2 ^ 32)) (cast_signed w32 (value / 2 ^ 32)) ≡ value
+halves : (value : ℕ) → value < 2 ^ 64 → constant_of (cast_signed w32 (value % 2 ^ 32)) (cast_signed w32 (value / 2 ^ 32)) ≡ value
 halves value h =
     rw (of_z-to_z w32 (value % 2 ^ 32) (omega arith), of_z-to_z w32 (value / 2 ^ 32) (omega arith)) (omega arith)
 

@@ -6,7 +6,7 @@ use Rattle.bpf_insn.specs.declared.fields.Fields.{Fields}
 use Rattle.bpf_insn.specs.declared.decoder.BadInsn.{BadInsn}
 use Rattle.bpf_insn.specs.declared.decoder.BadInsn.TheVariants as faults
 use Rattle.bpf_insn.specs.Spelling.{first_bytes, second_immediate, bytes_of, AreSlotBytes, Spells}
-use Rattle.bpf_insn.specs.Faults.{opcode_of, over, IsFault}
+use Rattle.bpf_insn.specs.Faults.{opcode_of, has_register_over, IsFault}
 use Rattle.bpf_insn.specs.Reading.{◌>>=◌, meant_of, fields_in, has_fields, reading_of, reading}
 use Rattle.bpf_insn.proofs.Explained.{explained, explains, fault_read, is_some-fields}
 use Rattle.bpf_insn.proofs.Read.{is_spelled}
@@ -21,14 +21,14 @@ explains_meant bytes next i same =
     let g = option_map fields_in next in
     subst (λ (k : ℕ). explains i d s g (meant_of (record { opcode = k; dst = d; src = s; offset = f.offset; immediate = f.immediate }) g) ≡ true) same (explained i d s f.offset f.immediate g)
 
-register_only : (i : Insn) (d s : ℕ) (g : Option Fields) (r : Result Insn BadInsn) → over i d s ≡ true → explains i d s g r ≡ true → r ≡ Err faults.Register
-register_only i d s g (Ok x) over fits = let never : false ≡ true = rw over at fits in cc
-register_only i d s g (Err faults.Opcode) over fits = cc
-register_only i d s g (Err faults.Register) over fits = refl
-register_only i d s g (Err faults.Half) over fits = let never : false ≡ true = rw over at fits in cc
-register_only i d s g (Err faults.Unused) over fits = let never : false ≡ true = rw over at fits in cc
+register_only : (i : Insn) (d s : ℕ) (g : Option Fields) (r : Result Insn BadInsn) → has_register_over i d s ≡ true → explains i d s g r ≡ true → r ≡ Err faults.Register
+register_only i d s g (Ok x) has_register_over fits = let never : false ≡ true = rw has_register_over at fits in cc
+register_only i d s g (Err faults.Opcode) has_register_over fits = cc
+register_only i d s g (Err faults.Register) has_register_over fits = refl
+register_only i d s g (Err faults.Half) has_register_over fits = let never : false ≡ true = rw has_register_over at fits in cc
+register_only i d s g (Err faults.Unused) has_register_over fits = let never : false ≡ true = rw has_register_over at fits in cc
 
-half_only : (i : Insn) (d s : ℕ) (g : Option Fields) (r : Result Insn BadInsn) → over i d s ≡ false → is_some (second_immediate i) ≡ true → is_some g ≡ false → explains i d s g r ≡ true → r ≡ Err faults.Half
+half_only : (i : Insn) (d s : ℕ) (g : Option Fields) (r : Result Insn BadInsn) → has_register_over i d s ≡ false → is_some (second_immediate i) ≡ true → is_some g ≡ false → explains i d s g r ≡ true → r ≡ Err faults.Half
 half_only i d s g (Ok x) low two none fits = let never : false ≡ true = rw (low, two, none) at fits in cc
 half_only i d s g (Err faults.Opcode) low two none fits = cc
 half_only i d s g (Err faults.Register) low two none fits = cc
@@ -44,7 +44,7 @@ half_left false some h fits = cc
 half_left true true h fits = cc
 half_left true false h fits = let never : false ≡ true = h refl in cc
 
-unused_only : (i : Insn) (d s : ℕ) (g : Option Fields) (r : Result Insn BadInsn) → over i d s ≡ false → (is_some (second_immediate i) ≡ true → is_some g ≡ true) → explains i d s g r ≡ true → IsLeft r
+unused_only : (i : Insn) (d s : ℕ) (g : Option Fields) (r : Result Insn BadInsn) → has_register_over i d s ≡ false → (is_some (second_immediate i) ≡ true → is_some g ≡ true) → explains i d s g r ≡ true → IsLeft r
 unused_only i d s g (Ok x) low some fits = inr (x, refl)
 unused_only i d s g (Err faults.Opcode) low some fits = cc
 unused_only i d s g (Err faults.Register) low some fits = cc

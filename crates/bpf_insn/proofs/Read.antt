@@ -22,7 +22,7 @@ use Rattle.bpf_insn.specs.declared.decoder.BadInsn.TheVariants as faults
 use Rattle.bpf_parts.specs.Kinds.{address_of, extension_of}
 use Rattle.bpf_insn.specs.Spelling.{fields, first_fields, second_immediate, second_fields, bytes_of, AreSlotBytes, IsInsn, Spells}
 use Rattle.bpf_parts.specs.Operands.{IsOperand}
-use Rattle.bpf_insn.specs.Reading.{◌>>=◌, register_of, operand_of, register_move, joined, meant_of, wide_of, pair_of, load_of, store_of, arithmetic_of, negation_of, byte_swap_of, two_operands_of, move_of, jump_of, call_of, branch_of, comparison_of, fields_in, same_fields, same_second, has_fields, reading_of, reading}
+use Rattle.bpf_insn.specs.Reading.{◌>>=◌, register_of, operand_of, register_move, constant_of, meant_of, wide_of, pair_of, load_of, store_of, arithmetic_of, negation_of, byte_swap_of, two_operands_of, move_of, jump_of, call_of, branch_of, comparison_of, fields_in, same_fields, same_second, has_fields, reading_of, reading}
 use Rattle.bpf_insn.proofs.SlotBytes.{bytes_of-fields_in}
 
 -- ---- the numbers of fields that were read
@@ -133,7 +133,7 @@ store_is f from_register fits =
     selected_is _ _ _ (λ size. register_is f.dst _ (λ p. operand_is f _ _ fits.1 (λ src is.
     found (Store size (record { base = f.dst; offset = f.offset }) src) (p, fits.0, is))))
 
-joined_small : (low high : ℤ) → FitsSigned w32 low → FitsSigned w32 high → joined low high < 2 ^ 64
+joined_small : (low high : ℤ) → FitsSigned w32 low → FitsSigned w32 high → constant_of low high < 2 ^ 64
 joined_small low high p q =
     let a : cast_unsigned w32 low < 4294967296 = (Fits-of_z p).fits in
     let b : cast_unsigned w32 high < 4294967296 = (Fits-of_z q).fits in
@@ -161,7 +161,7 @@ address_is dst subtype first second p q r =
 pair_is : (f : Fields) (dst : ℕ) (second : Fields) → dst ≤ 10 → NumbersFit f → NumbersFit second → Is (pair_of f dst second)
 unfolding pair_of
 pair_is f dst second p fits more =
-    either_is _ _ _ (found (Wide dst (joined f.immediate second.immediate)) (p, joined_small f.immediate second.immediate fits.1 more.1))
+    either_is _ _ _ (found (Wide dst (constant_of f.immediate second.immediate)) (p, joined_small f.immediate second.immediate fits.1 more.1))
     (either_is _ _ _ (found (LoadMap dst f.immediate) (p, fits.1))
     (address_is dst f.src f.immediate second.immediate p fits.1 more.1).is)
 

@@ -57,22 +57,22 @@ uses_src (Call callee number) = false
 uses_src Exit = false
 
 -- whether a register field that the instruction uses is over 10
-abbrev pub over : Insn → (dst src : ℕ) → Bool
-over insn dst src = (uses_dst insn && not (nat_le dst 10)) || (uses_src insn && not (nat_le src 10))
+abbrev pub has_register_over : Insn → (dst src : ℕ) → Bool
+has_register_over insn dst src = (uses_dst insn && not (nat_le dst 10)) || (uses_src insn && not (nat_le src 10))
 
 -- whether a register that the instruction uses is over 10 in the bytes of its slot
-abbrev pub register_over : Insn → List ℕ → Bool
-register_over insn bytes = over insn (slice_index bytes 1 % 16) (slice_index bytes 1 / 16)
+abbrev pub spells_register_over : Insn → List ℕ → Bool
+spells_register_over insn bytes = has_register_over insn (slice_index bytes 1 % 16) (slice_index bytes 1 / 16)
 
 -- what the first fault of bytes says of them: no instruction has the opcode; else one has, and a register that
 -- it uses is over 10; else it has a second slot, which is missing; else no instruction has these bytes
 abbrev pub IsFault : List ℕ → Option (List ℕ) → BadInsn → Type 0
 IsFault bytes next faults.Opcode = (insn : Insn) → opcode_of insn ≢ slice_index bytes 0
 IsFault bytes next faults.Register =
-    (insn : Insn) × (opcode_of insn ≡ slice_index bytes 0) × IsTrue (register_over insn bytes)
+    (insn : Insn) × (opcode_of insn ≡ slice_index bytes 0) × IsTrue (spells_register_over insn bytes)
 IsFault bytes next faults.Half =
-    (insn : Insn) × (opcode_of insn ≡ slice_index bytes 0) × IsFalse (register_over insn bytes)
+    (insn : Insn) × (opcode_of insn ≡ slice_index bytes 0) × IsFalse (spells_register_over insn bytes)
     × IsSome (second_immediate insn) × (next ≡ None)
 IsFault bytes next faults.Unused =
-    (insn : Insn) × (opcode_of insn ≡ slice_index bytes 0) × IsFalse (register_over insn bytes)
+    (insn : Insn) × (opcode_of insn ≡ slice_index bytes 0) × IsFalse (spells_register_over insn bytes)
     × (IsSome (second_immediate insn) → IsSome next) × ((spelled : Insn) → Spells bytes next spelled → ⊥)

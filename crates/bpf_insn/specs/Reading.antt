@@ -130,13 +130,13 @@ store_of f from_register =
     Ok (Store size (record { base = base; offset = f.offset }) src))))
 
 -- the constant of two halves
-abbrev pub joined : ℤ → ℤ → ℕ
-joined low high = cast_unsigned w32 low + cast_unsigned w32 high * 4294967296
+abbrev pub constant_of : ℤ → ℤ → ℕ
+constant_of low high = cast_unsigned w32 low + cast_unsigned w32 high * 4294967296
 
 -- the 64-bit immediate instruction of two slots, by its subtype (section 5.4)
 unfoldable pub pair_of : Fields → ℕ → Fields → Result Insn BadInsn
 pair_of f dst second =
-    if f.src == 0 then Ok (Wide dst (joined f.immediate second.immediate))
+    if f.src == 0 then Ok (Wide dst (constant_of f.immediate second.immediate))
     else (if f.src == 5 then Ok (LoadMap dst f.immediate)
     else (ok_or (address_of f.src f.immediate second.immediate) faults.Unused >>= (λ address. Ok (LoadAddress dst address))))
 

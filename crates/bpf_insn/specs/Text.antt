@@ -52,10 +52,10 @@ more_operands [] = []
 more_operands (x ∷ xs) = codes ", " ++ x ++ more_operands xs
 
 -- a name and its operands
-abbrev pub written : List ℕ → List (List ℕ) → List ℕ
-written name [] = name
-written name (x ∷ xs) = name ++ codes " " ++ x ++ more_operands xs
+abbrev pub name_with_operands : List ℕ → List (List ℕ) → List ℕ
+name_with_operands name [] = name
+name_with_operands name (x ∷ xs) = name ++ codes " " ++ x ++ more_operands xs
 
 -- the text of an instruction
 unfoldable pub insn_text : Insn → List ℕ
-insn_text insn = written (insn_name insn) (insn_operands insn)
+insn_text insn = name_with_operands (insn_name insn) (insn_operands insn)

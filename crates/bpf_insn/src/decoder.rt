@@ -6,7 +6,7 @@ ghost use Rattle.bpf_insn.specs.declared.insn.Insn.{Insn};
 ghost use Rattle.bpf_insn.specs.Faults.{bad_insn_code, IsFault};
 ghost use Rattle.bpf_insn.specs.Spelling.{HasSecond, HasSlots, IsInsn, Spells};
 ghost use Rattle.bpf_parts.specs.Operands.{IsOperand};
-ghost use Rattle.bpf_insn.specs.Reading.{arithmetic_of, branch_of, byte_swap_of, call_of, fields_in, has_fields, joined, jump_of, load_of, meant_of, move_of, names_register, negation_of, operand_of, pair_of, reading_of, register_of, same_second, store_of, two_operands_of, wide_of};
+ghost use Rattle.bpf_insn.specs.Reading.{arithmetic_of, branch_of, byte_swap_of, call_of, fields_in, has_fields, constant_of, jump_of, load_of, meant_of, move_of, names_register, negation_of, operand_of, pair_of, reading_of, register_of, same_second, store_of, two_operands_of, wide_of};
 
 use crate::encoder::{first_fields, second_immediate};
 use crate::fields::Fields;
@@ -347,7 +347,7 @@ fn pair(fields: &Fields, dst: Register, second: &Fields) -> Result<Insn, BadInsn
     match fields.src {
         CONSTANT => Ok(Insn::Wide {
             dst,
-            value: joined(fields.immediate, second.immediate),
+            value: constant_of(fields.immediate, second.immediate),
         }),
         MAP_BY_INDEX => Ok(Insn::LoadMap {
             dst,
@@ -363,8 +363,8 @@ fn pair(fields: &Fields, dst: Register, second: &Fields) -> Result<Insn, BadInsn
 }
 
 /// The constant of two halves.
-fn joined(low: i32, high: i32) -> u64
-    ensures value { result ≡ joined low high }
+fn constant_of(low: i32, high: i32) -> u64
+    ensures value { result ≡ constant_of low high }
     ensures bound { result < 2 ^ 64 }
 {
     u64::from(low.cast_unsigned()) + u64::from(high.cast_unsigned()) * 0x1_0000_0000

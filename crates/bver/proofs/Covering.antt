@@ -7,11 +7,11 @@ use Rattle.machine.specs.Sizes.{Maps}
 use Rattle.bpf_parts.specs.Operands.{distance_of}
 use Rattle.absdom.specs.declared.cause.Cause.{Cause}
 use Rattle.absdom.specs.State.{StateValue, after_call}
-use Rattle.absdom.specs.Effect.{applied}
+use Rattle.absdom.specs.Effect.{after_insn}
 use Rattle.absdom.specs.Edges.{Edges, refined_edges}
 use Rattle.absdom.specs.Laws.{BelowIsReflexive, BelowIsTransitive}
 use Rattle.bver_form.specs.Form.{target}
-use Rattle.bver.specs.Justified.{IsCovered, IsCoveredIfAny, IsResultCovered, AreEdgesCovered, Proceeds, IsPermitted, IsPermittedAt, known_at}
+use Rattle.bver.specs.Justified.{IsCovered, IsCoveredIfAny, IsResultCovered, AreEdgesCovered, Proceeds, IsPermitted, IsPermittedAt, knowledge_at}
 
 -- all that one table knows is covered by the other
 abbrev pub AreCovered : (old new : ℕ → Option StateValue) → Type 0
@@ -39,13 +39,13 @@ edges_covered_more transitive (Err cause) x y z w h g f = absurd h
 edges_covered_more transitive (Ok edges) x y z w h g f =
     (any_covered_more transitive edges.taken x y h.0 g, any_covered_more transitive edges.not_taken z w h.1 f)
 
-pub known_covered : (old new : ℕ → Option StateValue) → AreCovered old new → (z : ℤ) → IsCoveredIfAny (known_at old z) (known_at new z)
+pub known_covered : (old new : ℕ → Option StateValue) → AreCovered old new → (z : ℤ) → IsCoveredIfAny (knowledge_at old z) (knowledge_at new z)
 known_covered old new grown (pos slot) = grown slot
 known_covered old new grown (negsuc n) = tt
 
 proceeds_more : BelowIsTransitive → (old new : ℕ → Option StateValue) (slot : ℕ) (a : StateValue) (insn : Insn) → AreCovered old new → Proceeds old slot a insn → Proceeds new slot a insn
 proceeds_more transitive old new slot a insn grown h =
-    result_covered_more transitive (applied a insn) (old (slot + slots_of insn)) (new (slot + slots_of insn)) h (grown (slot + slots_of insn))
+    result_covered_more transitive (after_insn a insn) (old (slot + slots_of insn)) (new (slot + slots_of insn)) h (grown (slot + slots_of insn))
 
 -- what is permitted stays so where the table knows more
 permitted_more : BelowIsTransitive → (sizes : Maps) (old new : ℕ → Option StateValue) (slot : ℕ) (a : StateValue) (insn : Insn) → AreCovered old new → IsPermitted sizes old slot a insn → IsPermitted sizes new slot a insn
@@ -56,9 +56,9 @@ permitted_more transitive sizes old new slot a (ByteSwap swap bits dst) grown h 
 permitted_more transitive sizes old new slot a (Load size dst place) grown h = proceeds_more transitive old new slot a (Load size dst place) grown h
 permitted_more transitive sizes old new slot a (Store size place src) grown h = proceeds_more transitive old new slot a (Store size place src) grown h
 permitted_more transitive sizes old new slot a (Jump comparison offset) grown h =
-    edges_covered_more transitive (refined_edges a comparison.condition comparison.width comparison.dst comparison.src) (known_at old (target slot offset)) (known_at new (target slot offset)) (old (slot + 1)) (new (slot + 1)) h (known_covered old new grown (target slot offset)) (grown (slot + 1))
+    edges_covered_more transitive (refined_edges a comparison.condition comparison.width comparison.dst comparison.src) (knowledge_at old (target slot offset)) (knowledge_at new (target slot offset)) (old (slot + 1)) (new (slot + 1)) h (known_covered old new grown (target slot offset)) (grown (slot + 1))
 permitted_more transitive sizes old new slot a (Goto distance) grown h =
-    covered_more transitive a (known_at old (target slot (distance_of distance))) (known_at new (target slot (distance_of distance))) h (known_covered old new grown (target slot (distance_of distance)))
+    covered_more transitive a (knowledge_at old (target slot (distance_of distance))) (knowledge_at new (target slot (distance_of distance))) h (known_covered old new grown (target slot (distance_of distance)))
 permitted_more transitive sizes old new slot a (Wide dst value) grown h = proceeds_more transitive old new slot a (Wide dst value) grown h
 permitted_more transitive sizes old new slot a (LoadMap dst index) grown h = (h.0, proceeds_more transitive old new slot a (LoadMap dst index) grown h.1)
 permitted_more transitive sizes old new slot a (LoadAddress dst address) grown h = absurd h

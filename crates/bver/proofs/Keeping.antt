@@ -16,7 +16,7 @@ use Rattle.bver_form.specs.Jumps.{IsFirstSlot, IsJump, first_slot, jump_distance
 use Rattle.bver_form.specs.Loops.{IsLoopFormed, back_jump}
 use Rattle.bver_form.specs.Targets.{AreKept, IsKept, IsNumbered, landing_by, landing_from, place_at}
 use Rattle.bver.specs.Justified.{IsCoveredIfAny}
-use Rattle.bver.specs.Table.{TableValue, AreEntries, HasEntry, entry_of, known_in}
+use Rattle.bver.specs.Table.{TableValue, AreEntries, HasEntry, entry_of, knowledge_in}
 use Rattle.bver.specs.Visit.{AreWhole}
 use Rattle.absdom.specs.Laws.{BelowIsReflexive}
 use Rattle.bver.proofs.Covering.{covers_itself}
@@ -84,7 +84,7 @@ apart_places t a b h below under apart same =
 pub known_there : (t : TableValue) (slot : ℕ) (new : Option StateValue) → HasEntry t slot → slice_index_or (slice_set t.entries (place_at t.places slot) new) (place_at t.places slot) None ≡ new
 known_there t slot new has = get_or-set_same t.entries (place_at t.places slot) new None has
 
-pub known_elsewhere : (t : TableValue) (slot k : ℕ) (new : Option StateValue) → AreEntries t → HasEntry t slot → k ≢ slot → slice_index_or (slice_set t.entries (place_at t.places slot) new) (place_at t.places k) None ≡ known_in t k
+pub known_elsewhere : (t : TableValue) (slot k : ℕ) (new : Option StateValue) → AreEntries t → HasEntry t slot → k ≢ slot → slice_index_or (slice_set t.entries (place_at t.places slot) new) (place_at t.places k) None ≡ knowledge_in t k
 known_elsewhere t slot k new h has apart =
     elim (cases_lt (place_at t.places k) (length t.entries)) [
       | inl inside ↦ get_or-set_other t.entries (place_at t.places slot) (place_at t.places k) new None (λ same. apart_places t slot k h has inside (λ is. apart (sym is)) (sym same))
@@ -110,19 +110,19 @@ set_there t slot place new is =
     let found = entry_is t slot place is in
     subst (λ (i : ℕ). slice_index_or (slice_set t.entries i new) (place_at t.places slot) None ≡ new) (sym found.0) (known_there t slot new found.1)
 
-pub set_elsewhere : (t : TableValue) (slot place k : ℕ) (new : Option StateValue) → AreEntries t → Some place ≡ entry_of t slot → k ≢ slot → slice_index_or (slice_set t.entries place new) (place_at t.places k) None ≡ known_in t k
+pub set_elsewhere : (t : TableValue) (slot place k : ℕ) (new : Option StateValue) → AreEntries t → Some place ≡ entry_of t slot → k ≢ slot → slice_index_or (slice_set t.entries place new) (place_at t.places k) None ≡ knowledge_in t k
 set_elsewhere t slot place k new h is apart =
     let found = entry_is t slot place is in
-    subst (λ (i : ℕ). slice_index_or (slice_set t.entries i new) (place_at t.places k) None ≡ known_in t k) (sym found.0) (known_elsewhere t slot k new h found.1 apart)
+    subst (λ (i : ℕ). slice_index_or (slice_set t.entries i new) (place_at t.places k) None ≡ knowledge_in t k) (sym found.0) (known_elsewhere t slot k new h found.1 apart)
 
 -- what is known grows where an entry that was found is written with what covers it
-pub set_grown : BelowIsReflexive → (t : TableValue) (slot place : ℕ) (new : Option StateValue) → AreEntries t → Some place ≡ entry_of t slot → IsCoveredIfAny (known_in t slot) new → (k : ℕ) → IsCoveredIfAny (known_in t k) (slice_index_or (slice_set t.entries place new) (place_at t.places k) None)
+pub set_grown : BelowIsReflexive → (t : TableValue) (slot place : ℕ) (new : Option StateValue) → AreEntries t → Some place ≡ entry_of t slot → IsCoveredIfAny (knowledge_in t slot) new → (k : ℕ) → IsCoveredIfAny (knowledge_in t k) (slice_index_or (slice_set t.entries place new) (place_at t.places k) None)
 set_grown reflexive t slot place new h is covers k =
     elim (cases_eq k slot) [
       | inl same ↦
-          subst (λ (i : ℕ). IsCoveredIfAny (known_in t i) (slice_index_or (slice_set t.entries place new) (place_at t.places i) None)) (sym same)
-          (subst (λ (o : Option StateValue). IsCoveredIfAny (known_in t slot) o) (sym (set_there t slot place new is)) covers)
-      | inr apart ↦ subst (λ (o : Option StateValue). IsCoveredIfAny (known_in t k) o) (sym (set_elsewhere t slot place k new h is apart)) (covers_itself reflexive (known_in t k))
+          subst (λ (i : ℕ). IsCoveredIfAny (knowledge_in t i) (slice_index_or (slice_set t.entries place new) (place_at t.places i) None)) (sym same)
+          (subst (λ (o : Option StateValue). IsCoveredIfAny (knowledge_in t slot) o) (sym (set_there t slot place new is)) covers)
+      | inr apart ↦ subst (λ (o : Option StateValue). IsCoveredIfAny (knowledge_in t k) o) (sym (set_elsewhere t slot place k new h is apart)) (covers_itself reflexive (knowledge_in t k))
     ]
 
 -- a place that was found is inside, so what stands there needs no default
@@ -133,12 +133,12 @@ found_there t slot place old is there =
     get_or_default t.entries place None old inside ∙ sym there
 
 -- what covers the entry that was found covers what was known
-pub found_covers : (t : TableValue) (slot place : ℕ) (old new : Option StateValue) → Some place ≡ entry_of t slot → slice_index_or t.entries place None ≡ old → IsCoveredIfAny old new → IsCoveredIfAny (known_in t slot) new
+pub found_covers : (t : TableValue) (slot place : ℕ) (old new : Option StateValue) → Some place ≡ entry_of t slot → slice_index_or t.entries place None ≡ old → IsCoveredIfAny old new → IsCoveredIfAny (knowledge_in t slot) new
 found_covers t slot place old new is there covers =
     let found = entry_is t slot place is in
     subst (λ (o : Option StateValue). IsCoveredIfAny o new) (sym there ∙ ap (λ (i : ℕ). slice_index_or t.entries i None) found.0) covers
 
-pub set_whole : (t : TableValue) (slot place : ℕ) (new : Option StateValue) → AreEntries t → Some place ≡ entry_of t slot → IfSome new IsWhole → AreWhole (known_in t) → (k : ℕ) → IfSome (slice_index_or (slice_set t.entries place new) (place_at t.places k) None) IsWhole
+pub set_whole : (t : TableValue) (slot place : ℕ) (new : Option StateValue) → AreEntries t → Some place ≡ entry_of t slot → IfSome new IsWhole → AreWhole (knowledge_in t) → (k : ℕ) → IfSome (slice_index_or (slice_set t.entries place new) (place_at t.places k) None) IsWhole
 set_whole t slot place new h is whole was k =
     elim (cases_eq k slot) [
       | inl same ↦
@@ -148,7 +148,7 @@ set_whole t slot place new h is whole was k =
     ]
 
 -- nothing is known where there is no entry
-pub known_nowhere : (t : TableValue) (slot : ℕ) → (HasEntry t slot → ⊥) → known_in t slot ≡ None
+pub known_nowhere : (t : TableValue) (slot : ℕ) → (HasEntry t slot → ⊥) → knowledge_in t slot ≡ None
 known_nowhere t slot none =
     elim (cases_lt (place_at t.places slot) (length t.entries)) [
       | inl inside ↦ absurd (none inside)
@@ -156,7 +156,7 @@ known_nowhere t slot none =
     ]
 
 -- something is known only where there is an entry
-pub known_entry : (t : TableValue) (slot : ℕ) → IsSome (known_in t slot) → HasEntry t slot
+pub known_entry : (t : TableValue) (slot : ℕ) → IsSome (knowledge_in t slot) → HasEntry t slot
 known_entry t slot some =
     elim (cases_lt (place_at t.places slot) (length t.entries)) [
       | inl inside ↦ inside
@@ -164,11 +164,11 @@ known_entry t slot some =
     ]
 
 -- nothing is known at a slot that is not kept
-pub known_plain : (t : TableValue) (slot : ℕ) → AreEntries t → (IsKept t.program slot → ⊥) → known_in t slot ≡ None
+pub known_plain : (t : TableValue) (slot : ℕ) → AreEntries t → (IsKept t.program slot → ⊥) → knowledge_in t slot ≡ None
 known_plain t slot h plain = known_nowhere t slot (λ has. plain (h.only slot has))
 
 -- something is known only at a slot that is kept
-pub known_kept : (t : TableValue) (slot : ℕ) (a : StateValue) → AreEntries t → known_in t slot ≡ Some a → IsKept t.program slot
+pub known_kept : (t : TableValue) (slot : ℕ) (a : StateValue) → AreEntries t → knowledge_in t slot ≡ Some a → IsKept t.program slot
 known_kept t slot a h known = h.only slot (known_entry t slot (subst (λ (o : Option StateValue). IsSome o) (sym known) refl))
 
 begins_zero : (p : Program) → IsProgram p → IsSome (insn_at p 0)
@@ -183,7 +183,7 @@ kept_begins p slot limits kept =
     ]
 
 -- where something is known an instruction begins
-pub known_begins : (t : TableValue) (slot : ℕ) → IsProgram t.program → AreEntries t → IsSome (known_in t slot) → IsSome (insn_at t.program slot)
+pub known_begins : (t : TableValue) (slot : ℕ) → IsProgram t.program → AreEntries t → IsSome (knowledge_in t slot) → IsSome (insn_at t.program slot)
 known_begins t slot limits h some = kept_begins t.program slot limits (h.only slot (known_entry t slot some))
 
 -- ---- heads

@@ -13,10 +13,10 @@ use Rattle.machine.specs.Step.{insn_at}
 use Rattle.absdom.specs.State.{StateValue, IsWhole}
 use Rattle.absdom.specs.Laws.{BelowIsReflexive, BelowIsTransitive}
 use Rattle.bver.specs.Heads.{AreHeadsAt}
-use Rattle.bver.specs.Justified.{IsCoveredIfAny, IsPermitted, IsPermittedAt, accessed_at}
-use Rattle.bver.specs.Table.{TableValue, AreEntries, carried, known_in}
+use Rattle.bver.specs.Justified.{IsCoveredIfAny, IsPermitted, IsPermittedAt, region_at}
+use Rattle.bver.specs.Table.{TableValue, AreEntries, knowledge_beside, knowledge_in}
 use Rattle.bver_form.specs.Targets.{IsKept, IsPlain}
-use Rattle.bver.specs.Visit.{AreWhole, IsExtended, IsInsnVisit, IsVisit, VisitValue, AreEntered, AreVisited, ArePermitted, visited_with}
+use Rattle.bver.specs.Visit.{AreWhole, IsExtended, IsInsnVisit, IsVisit, VisitValue, AreEntered, AreVisited, ArePermitted, visited_state}
 use Rattle.bver.proofs.Covering.{AreCovered, any_covered_more, covers_itself, permitted_at_more}
 use Rattle.bver.proofs.Keeping.{kept_begins, known_begins, known_plain}
 use Rattle.bver.proofs.Slots.{goes_further, none_between}
@@ -36,10 +36,10 @@ pub record IsPassing (p : Program) (sizes : Maps) (table : TableValue) (runs : B
   pub stands : IsTrue runs → StandsAt p slot next
   pub visited : AreVisited p known regions slot
   pub permitted : settled → ArePermitted p sizes known slot
-  pub whole : AreWhole (known_in table)
+  pub whole : AreWhole (knowledge_in table)
   pub state_whole : IsWhole state
-  pub ahead : (k : ℕ) → slot ≤ k → known k ≡ carried table runs next state k
-  pub behind : (k : ℕ) → k < slot → IsCoveredIfAny (known_in table k) (known k)
+  pub ahead : (k : ℕ) → slot ≤ k → known k ≡ knowledge_beside table runs next state k
+  pub behind : (k : ℕ) → k < slot → IsCoveredIfAny (knowledge_in table k) (known k)
 
 -- ---- by cases
 
@@ -51,26 +51,26 @@ by_order P k slot below same beyond =
     ]
 
 -- the running state where it stands
-pub carried_here : (t : TableValue) (next : ℕ) (state : StateValue) (k : ℕ) → k ≡ next → carried t true next state k ≡ Some state
+pub carried_here : (t : TableValue) (next : ℕ) (state : StateValue) (k : ℕ) → k ≡ next → knowledge_beside t true next state k ≡ Some state
 carried_here t next state k same = grind (arith, nat_tests, same)
 
 -- what holds of the running state where it stands, and else of what the table knows
-carried_any : (P : Option StateValue → Type 0) (t : TableValue) (runs : Bool) (next : ℕ) (state : StateValue) (k : ℕ) → (IsTrue runs → k ≡ next → P (Some state)) → ((IsTrue runs → k ≢ next) → P (known_in t k)) → P (carried t runs next state k)
+carried_any : (P : Option StateValue → Type 0) (t : TableValue) (runs : Bool) (next : ℕ) (state : StateValue) (k : ℕ) → (IsTrue runs → k ≡ next → P (Some state)) → ((IsTrue runs → k ≢ next) → P (knowledge_in t k)) → P (knowledge_beside t runs next state k)
 carried_any P t false next state k stands known = known (λ on. absurd (false≢true on))
 carried_any P t true next state k stands known =
-    by_order (P (carried t true next state k)) k next
+    by_order (P (knowledge_beside t true next state k)) k next
     (λ below. subst P (sym (other (λ same. omega (arith, same, below)))) (known (λ on same. omega (arith, same, below))))
     (λ same. subst P (sym (here same)) (stands refl same))
     (λ beyond. subst P (sym (other (λ same. omega (arith, same, beyond)))) (known (λ on same. omega (arith, same, beyond))))
   where
-    here : k ≡ next → carried t true next state k ≡ Some state
+    here : k ≡ next → knowledge_beside t true next state k ≡ Some state
     here same = grind (arith, nat_tests, same)
 
-    other : k ≢ next → carried t true next state k ≡ known_in t k
+    other : k ≢ next → knowledge_beside t true next state k ≡ knowledge_in t k
     other apart = grind (arith, nat_tests, apart)
 
 -- what holds of the running state where a slot is visited with it, and else of what the table knows
-visited_any : (P : Option StateValue → Type 0) (runs : Bool) (state : StateValue) (t : TableValue) (slot : ℕ) → (IsTrue runs → P (Some state)) → (runs ≡ false → P (known_in t slot)) → P (visited_with runs state t slot)
+visited_any : (P : Option StateValue → Type 0) (runs : Bool) (state : StateValue) (t : TableValue) (slot : ℕ) → (IsTrue runs → P (Some state)) → (runs ≡ false → P (knowledge_in t slot)) → P (visited_state runs state t slot)
 visited_any P false state t slot stands known = known refl
 visited_any P true state t slot stands known = stands refl
 
@@ -102,13 +102,13 @@ revised_any P before slot here after k earlier same later =
 -- ---- the table beside the running state
 
 -- what the table knows is covered, since it knows nothing where the running state stands
-pub carried_covers : BelowIsReflexive → (t : TableValue) (runs : Bool) (next : ℕ) (state : StateValue) → AreEntries t → (IsTrue runs → IsKept t.program next → ⊥) → AreCovered (known_in t) (carried t runs next state)
+pub carried_covers : BelowIsReflexive → (t : TableValue) (runs : Bool) (next : ℕ) (state : StateValue) → AreEntries t → (IsTrue runs → IsKept t.program next → ⊥) → AreCovered (knowledge_in t) (knowledge_beside t runs next state)
 carried_covers reflexive t runs next state entries plain k =
-    carried_any (λ o. IsCoveredIfAny (known_in t k) o) t runs next state k
+    carried_any (λ o. IsCoveredIfAny (knowledge_in t k) o) t runs next state k
     (λ on same.
-    let none : known_in t k ≡ None = ap (known_in t) same ∙ known_plain t next entries (plain on) in
+    let none : knowledge_in t k ≡ None = ap (knowledge_in t) same ∙ known_plain t next entries (plain on) in
     subst (λ (o : Option StateValue). IsCoveredIfAny o (Some state)) (sym none) tt)
-    (λ apart. covers_itself reflexive (known_in t k))
+    (λ apart. covers_itself reflexive (knowledge_in t k))
 
 -- ---- a visit
 
@@ -136,7 +136,7 @@ stands_here p slot next insn begins h =
 grows_next : BelowIsReflexive → BelowIsTransitive → (p : Program) (sizes : Maps) (old new : TableValue) (was runs : Bool) (before after : StateValue) (regions : List (Option Region)) (region : Option Region) (settled turn : Type 0) (slot : ℕ) (insn : Insn)
     → (v : IsVisited p sizes old new was runs before after turn region slot insn)
     → (h : IsPassing p sizes old was before regions settled slot)
-    → Grows p slot h.known (revised h.known slot (visited_with was before new slot) (carried new runs (slot + slots_of insn) after))
+    → Grows p slot h.known (revised h.known slot (visited_state was before new slot) (knowledge_beside new runs (slot + slots_of insn) after))
 grows_next reflexive transitive p sizes old new was runs before after regions region settled turn slot insn v h = record {
   grown = λ k.
       revised_any (λ o. IsCoveredIfAny (h.known k) o) h.known slot here onward k
@@ -146,7 +146,7 @@ grows_next reflexive transitive p sizes old new was runs before after regions re
       subst (λ (o : Option StateValue). IsCoveredIfAny o (onward k)) (sym (h.ahead k (omega (arith, beyond))))
       (carried_any (λ o. IsCoveredIfAny o (onward k)) old was h.next before k
       (λ on same. absurd (omega (arith, same, beyond, stands_here p slot h.next insn v.begins (h.stands on))))
-      (λ apart. any_covered_more transitive (known_in old k) (known_in new k) (onward k) (v.visit.extended.grown k) (covers k))));
+      (λ apart. any_covered_more transitive (knowledge_in old k) (knowledge_in new k) (onward k) (v.visit.extended.grown k) (covers k))));
   kept = λ k below. revised_before h.known slot here onward k below;
   placed = λ k.
       revised_any (λ o. IsSome o → IsSome (insn_at p k)) h.known slot here onward k
@@ -167,34 +167,34 @@ grows_next reflexive transitive p sizes old new was runs before after regions re
     next = slot + slots_of insn
 
     here : Option StateValue
-    here = visited_with was before new slot
+    here = visited_state was before new slot
 
     onward : ℕ → Option StateValue
-    onward = carried new runs next after
+    onward = knowledge_beside new runs next after
 
     program : new.program ≡ p
     program = v.visit.extended.program ∙ v.own
 
-    covers : AreCovered (known_in new) onward
+    covers : AreCovered (knowledge_in new) onward
     covers = carried_covers reflexive new runs next after v.entries (λ on kept. (v.visit.plain on).unkept (subst (λ (q : Program). IsKept q next) program kept))
 
-    new_whole : AreWhole (known_in new)
+    new_whole : AreWhole (knowledge_in new)
     new_whole = v.visit.extended.whole h.whole
 
-    known_placed : (k : ℕ) → IsSome (known_in new k) → IsSome (insn_at p k)
+    known_placed : (k : ℕ) → IsSome (knowledge_in new k) → IsSome (insn_at p k)
     known_placed k some = subst (λ (q : Program). IsSome (insn_at q k)) program (known_begins new k (subst IsProgram (sym program) v.limits) v.entries some)
 
-    here_grown : (k : ℕ) → k ≡ slot → IsCoveredIfAny (carried old was h.next before k) here
+    here_grown : (k : ℕ) → k ≡ slot → IsCoveredIfAny (knowledge_beside old was h.next before k) here
     here_grown k same =
-        visited_any (λ o. IsCoveredIfAny (carried old was h.next before k) o) was before new slot
+        visited_any (λ o. IsCoveredIfAny (knowledge_beside old was h.next before k) o) was before new slot
         (λ on.
         carried_any (λ o. IsCoveredIfAny o (Some before)) old was h.next before k
         (λ is at. covers_itself reflexive (Some before))
         (λ apart. absurd (apart on (same ∙ sym (stands_here p slot h.next insn v.begins (h.stands on))))))
         (λ off.
-        carried_any (λ o. IsCoveredIfAny o (known_in new slot)) old was h.next before k
+        carried_any (λ o. IsCoveredIfAny o (knowledge_in new slot)) old was h.next before k
         (λ on at. absurd (false≢true (sym off ∙ on)))
-        (λ apart. subst (λ (i : ℕ). IsCoveredIfAny (known_in old i) (known_in new slot)) (sym same) (v.visit.extended.grown slot)))
+        (λ apart. subst (λ (i : ℕ). IsCoveredIfAny (knowledge_in old i) (knowledge_in new slot)) (sym same) (v.visit.extended.grown slot)))
 
 pub passing_next : BelowIsReflexive → BelowIsTransitive → (p : Program) (sizes : Maps) (old new : TableValue) (was runs : Bool) (before after : StateValue) (regions : List (Option Region)) (region : Option Region) (settled turn again : Type 0) (slot : ℕ) (insn : Insn)
     → IsVisited p sizes old new was runs before after turn region slot insn
@@ -211,7 +211,7 @@ passing_next reflexive transitive p sizes old new was runs before after regions 
   };
   visited = visited_next transitive p h.known known regions slot region h.visited grows
       (subst (λ (o : Option StateValue). AreHeadsAt p slot o) (sym at) v.visit.heads)
-      (v.visit.accesses ∙ ap (λ (o : Option StateValue). accessed_at o (Some insn)) (sym at) ∙ ap (λ (i : Option Insn). accessed_at (known slot) i) (sym v.begins))
+      (v.visit.accesses ∙ ap (λ (o : Option StateValue). region_at o (Some insn)) (sym at) ∙ ap (λ (i : Option Insn). region_at (known slot) i) (sym v.begins))
       inside;
   permitted = λ settles.
       permitted_next transitive p sizes h.known known slot (h.permitted (earlier settles)) grows
@@ -231,10 +231,10 @@ passing_next reflexive transitive p sizes old new was runs before after regions 
     further = goes_further slot insn
 
     here : Option StateValue
-    here = visited_with was before new slot
+    here = visited_state was before new slot
 
     onward : ℕ → Option StateValue
-    onward = carried new runs next after
+    onward = knowledge_beside new runs next after
 
     known : ℕ → Option StateValue
     known = revised h.known slot here onward
@@ -248,17 +248,17 @@ passing_next reflexive transitive p sizes old new was runs before after regions 
     program : new.program ≡ p
     program = v.visit.extended.program ∙ v.own
 
-    here_covered : IsCoveredIfAny (known_in new slot) here
+    here_covered : IsCoveredIfAny (knowledge_in new slot) here
     here_covered =
-        visited_any (λ o. IsCoveredIfAny (known_in new slot) o) was before new slot
+        visited_any (λ o. IsCoveredIfAny (knowledge_in new slot) o) was before new slot
         (λ on. subst (λ (o : Option StateValue). IsCoveredIfAny o (Some before)) (sym (known_plain new slot v.entries (λ kept. v.before_plain on (subst (λ (q : Program). IsKept q slot) program kept)))) tt)
-        (λ off. covers_itself reflexive (known_in new slot))
+        (λ off. covers_itself reflexive (knowledge_in new slot))
 
-    behind : (k : ℕ) → k < slot + 1 → IsCoveredIfAny (known_in new k) (known k)
+    behind : (k : ℕ) → k < slot + 1 → IsCoveredIfAny (knowledge_in new k) (known k)
     behind k below =
-        revised_any (λ o. IsCoveredIfAny (known_in new k) o) h.known slot here onward k
+        revised_any (λ o. IsCoveredIfAny (knowledge_in new k) o) h.known slot here onward k
         (λ before. subst (λ (o : Option StateValue). IsCoveredIfAny o (h.known k)) (sym (v.visit.extended.kept k before)) (h.behind k before))
-        (λ same. subst (λ (i : ℕ). IsCoveredIfAny (known_in new i) here) (sym same) here_covered)
+        (λ same. subst (λ (i : ℕ). IsCoveredIfAny (knowledge_in new i) here) (sym same) here_covered)
         (λ beyond. absurd (omega (arith, below, beyond)))
 
     reaches : AreCovered onward known
@@ -288,7 +288,7 @@ passing_skip reflexive transitive p sizes table runs state regions settled slot 
       };
   visited = visited_next transitive p h.known h.known regions slot None h.visited grows
       (subst (λ (o : Option StateValue). AreHeadsAt p slot o) (sym nothing) (λ k d within same. tt))
-      (sym (ap (λ (o : Option StateValue). accessed_at o (insn_at p slot)) nothing))
+      (sym (ap (λ (o : Option StateValue). region_at o (insn_at p slot)) nothing))
       inside;
   permitted = λ settles.
       permitted_next transitive p sizes h.known h.known slot (h.permitted settles) grows
@@ -297,13 +297,13 @@ passing_skip reflexive transitive p sizes table runs state regions settled slot 
   state_whole = h.state_whole;
   ahead = λ k past. h.ahead k (omega (arith, past));
   behind = λ k below.
-      by_order (IsCoveredIfAny (known_in table k) (h.known k)) k slot
+      by_order (IsCoveredIfAny (knowledge_in table k) (h.known k)) k slot
       (λ before. h.behind k before)
       (λ same.
-      subst (λ (o : Option StateValue). IsCoveredIfAny (known_in table k) o) (sym (h.ahead k (omega (arith, same))))
-      (carried_any (λ o. IsCoveredIfAny (known_in table k) o) table runs h.next state k
+      subst (λ (o : Option StateValue). IsCoveredIfAny (knowledge_in table k) o) (sym (h.ahead k (omega (arith, same))))
+      (carried_any (λ o. IsCoveredIfAny (knowledge_in table k) o) table runs h.next state k
       (λ on at. absurd (omega (arith, at, same, later (h.stands on))))
-      (λ apart. covers_itself reflexive (known_in table k))))
+      (λ apart. covers_itself reflexive (knowledge_in table k))))
       (λ beyond. absurd (omega (arith, below, beyond)));
 }
   where
@@ -371,25 +371,25 @@ passing_slot reflexive transitive p sizes old new was runs before after regions 
 
 -- the visit of an instruction: what comes to it, and what its flow does
 pub insn_visit : BelowIsTransitive → (v : VisitValue) (old mid new : TableValue) (was runs : Bool) (before here left : StateValue) (settled : Type 0) (region : Option Region) (insn : Insn)
-    → visited_with was before mid v.slot ≡ Some here → (settled → IsPermitted v.sizes (carried new runs (v.slot + slots_of insn) left) v.slot here insn) → region ≡ accessed_at (Some here) (Some insn)
-    → AreHeadsAt v.program v.slot (visited_with was before mid v.slot) → (IsTrue runs → IsPlain v.program (v.slot + slots_of insn)) → IsExtended v.slot old mid → IsExtended (v.slot + 1) mid new
+    → visited_state was before mid v.slot ≡ Some here → (settled → IsPermitted v.sizes (knowledge_beside new runs (v.slot + slots_of insn) left) v.slot here insn) → region ≡ region_at (Some here) (Some insn)
+    → AreHeadsAt v.program v.slot (visited_state was before mid v.slot) → (IsTrue runs → IsPlain v.program (v.slot + slots_of insn)) → IsExtended v.slot old mid → IsExtended (v.slot + 1) mid new
     → IsInsnVisit v old new was runs before left settled region insn
 insn_visit transitive v old mid new was runs before here left settled region insn known permits accesses heads plain first second = record {
-  permitted = λ settles. subst (λ (o : Option StateValue). IsPermittedAt v.sizes (carried new runs (v.slot + slots_of insn) left) v.slot o (Some insn)) (sym there) (permits settles);
-  accesses = subst (λ (o : Option StateValue). region ≡ accessed_at o (Some insn)) (sym there) accesses;
+  permitted = λ settles. subst (λ (o : Option StateValue). IsPermittedAt v.sizes (knowledge_beside new runs (v.slot + slots_of insn) left) v.slot o (Some insn)) (sym there) (permits settles);
+  accesses = subst (λ (o : Option StateValue). region ≡ region_at o (Some insn)) (sym there) accesses;
   heads = subst (λ (o : Option StateValue). AreHeadsAt v.program v.slot o) (sym same) heads;
   plain = plain;
   extended = extended_twice transitive v.slot old mid new first (extended_before v.slot mid new second);
 }
   where
-    by_runs : (b : Bool) → visited_with b before new v.slot ≡ visited_with b before mid v.slot
+    by_runs : (b : Bool) → visited_state b before new v.slot ≡ visited_state b before mid v.slot
     by_runs false = second.kept v.slot (omega arith)
     by_runs true = refl
 
-    same : visited_with was before new v.slot ≡ visited_with was before mid v.slot
+    same : visited_state was before new v.slot ≡ visited_state was before mid v.slot
     same = by_runs was
 
-    there : visited_with was before new v.slot ≡ Some here
+    there : visited_state was before new v.slot ≡ Some here
     there = same ∙ known
 
 -- the visit of the slot of a program
@@ -409,12 +409,12 @@ visit_at v p sizes slot old new was runs before after turn region same visit =
     subst (λ (w : VisitValue). IsVisit w old new was runs before after turn region (insn_at w.program w.slot)) same visit
 
 -- before the first slot
-pub passing_none : BelowIsReflexive → (p : Program) (sizes : Maps) (table : TableValue) (state : StateValue) (regions : List (Option Region)) (settled : Type 0) → AreEntered p (known_in table) → IsWhole state → IsPassing p sizes table false state regions settled 0
+pub passing_none : BelowIsReflexive → (p : Program) (sizes : Maps) (table : TableValue) (state : StateValue) (regions : List (Option Region)) (settled : Type 0) → AreEntered p (knowledge_in table) → IsWhole state → IsPassing p sizes table false state regions settled 0
 passing_none reflexive p sizes table state regions settled entry whole = record {
-  known = known_in table;
+  known = knowledge_in table;
   next = 0;
   stands = λ on. absurd (false≢true on);
-  visited = visited_none p (known_in table) regions entry;
+  visited = visited_none p (knowledge_in table) regions entry;
   permitted = λ settles k below. absurd (omega (arith, below));
   whole = entry.whole;
   state_whole = whole;

@@ -11,7 +11,7 @@ use Rattle.bpf_insn.specs.declared.flow.Flow.{Flow}
 use Rattle.bpf_insn.specs.declared.flow.Flow.TheVariants.{GoesOn, Branches, Jumps, Calls, Ends, Unsupported}
 use Rattle.bpf_insn.specs.declared.insn.Insn.{Insn}
 use Rattle.bpf_insn.specs.Flow.{flow_of, written_register, is_named, is_clobbered}
-use Rattle.absdom_num.specs.Tables.{whole}
+use Rattle.absdom_num.specs.Tables.{whole_range}
 use Rattle.absdom.specs.declared.kinds.AbsKind.{AbsKind}
 use Rattle.absdom.specs.declared.kinds.AbsKind.TheVariants.{Unset, Num, Ptr, Map}
 use Rattle.absdom.specs.Kinds.{IsKindBelow}
@@ -39,7 +39,7 @@ raising_none p l lowered place before = record {
 }
 
 pub raising_next : (p : Program) (l : Loop) (lowered : List Bool) (place : ℕ) (before now : StateValue) (from : ℕ) (kind : AbsKind) → IsWhole now → from ≤ 9 → IsRaising p l lowered place before now from → IsRaisedKind p l lowered place from (kind_at now from) kind → IsRaising p l lowered place before (with_kind now from kind) (from + 1)
-raising_next p l lowered place before now from kind whole low raising raised = record {
+raising_next p l lowered place before now from kind whole_range low raising raised = record {
   done = λ register below.
       elim (cases_lt register from) [
         | inl earlier ↦ rw (get_or-set_other now.kinds from register kind Unset (apart register earlier)) (raising.done register earlier)
@@ -56,7 +56,7 @@ raising_next p l lowered place before now from kind whole low raising raised = r
     beyond register above same = omega (arith, above, same)
 
     here : kind_at (with_kind now from kind) from ≡ kind
-    here = get_or-set_same now.kinds from kind Unset (omega (arith, whole.sizes.registers, low))
+    here = get_or-set_same now.kinds from kind Unset (omega (arith, whole_range.sizes.registers, low))
 
     same : (register : ℕ) → register ≡ from → IsRaisedKind p l lowered place register (kind_at before register) (kind_at (with_kind now from kind) register)
     same register is =
@@ -181,13 +181,13 @@ frame_kept p slot (Some insn) is form writes =
     false≢true (sym (rw (named, clobbered) refl) ∙ writes)
 
 pub raised_head : (p : Program) (l : Loop) (lowered : List Bool) (place : ℕ) (before after : StateValue) → IsFormed p → l.register ≤ 9 → IsWhole after → IsRaised p l lowered place before after → IsHead p l after
-raised_head p l lowered place before after form low whole raised = record {
+raised_head p l lowered place before after form low whole_range raised = record {
   counter = counter_is p l lowered place l.register (kind_at before l.register) (kind_at after l.register) refl (raised.registers l.register low);
   others = λ register other written.
       elim (cases_lt register 10) [
         | inl below ↦ other_is p l lowered place register (kind_at before register) (kind_at after register) other written (raised.registers register (omega (arith, below)))
         | inr past ↦ elim (cases_lt 10 register) [
-          | inl beyond ↦ rw (get_or_past after.kinds register Unset (omega (arith, beyond, whole.sizes.registers))) tt
+          | inl beyond ↦ rw (get_or_past after.kinds register Unset (omega (arith, beyond, whole_range.sizes.registers))) tt
           | inr at ↦ absurd (frame_kept p written.slot (insn_at p written.slot) refl form (subst (λ (r : ℕ). IsWrittenBy (insn_at p written.slot) r) (omega (arith, past, at)) written.writes))
         ]
       ];

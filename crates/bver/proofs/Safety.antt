@@ -23,7 +23,7 @@ use Rattle.absdom.specs.declared.kinds.AbsKind.{AbsKind}
 use Rattle.absdom.specs.declared.kinds.AbsKind.TheVariants.{Unset, Num, Ptr, Map}
 use Rattle.absdom.specs.State.{StateValue, kind_at}
 use Rattle.absdom.specs.Fits.{Fits, FitsKind}
-use Rattle.bver_form.specs.Loops.{IsEdge, left_at}
+use Rattle.bver_form.specs.Loops.{IsEdge, weight_left}
 use Rattle.bver.specs.Justified.{AsksCell, IsHead, IsPermittedAt, IsJustified}
 use Rattle.bver.proofs.Standing.{Laws, Stands, Continues, continues, permitted_here, stands}
 use Rattle.bver.proofs.Arrivals.{LeadsTo, at_once, by_answer, edge_of}
@@ -51,7 +51,7 @@ begun_at p sizes h t at k d below same =
 -- after n steps, what is left is within the weight
 record Counted (p : Program) (n : ℕ) (s : State) : Type 0 where
   pub counting : AreCounting p s
-  pub within : n + left_at p (values_of p.loops s) s.slot ≤ weight_of p
+  pub within : n + weight_left p (values_of p.loops s) s.slot ≤ weight_of p
 
 -- an instruction begins where a path stands
 begins_here : (sizes : Maps) (table : ℕ → Option StateValue) (slot : ℕ) (a : StateValue) (o : Option Insn) → IsPermittedAt sizes table slot (Some a) o → IsSome o

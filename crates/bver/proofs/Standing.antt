@@ -16,21 +16,21 @@ use Rattle.machine.specs.declared.values.Value.TheVariants.{Unset as Nothing, Nu
 use Rattle.machine.specs.Memory.{Header, IsHeader}
 use Rattle.machine.specs.Laws.{InstructionsLeave, StepPerforms}
 use Rattle.machine.specs.State.{State, state, entry_state}
-use Rattle.machine.specs.Step.{Outcome, Next, Ask, Verdict, Trap, step, perform, perform_at, insn_at, is_map, answered as answer_to, asks, calls, exits, lands, branches}
+use Rattle.machine.specs.Step.{Outcome, Next, Ask, Verdict, Trap, step, perform, perform_at, insn_at, is_map, after_answer as answer_to, asks, calls, exits, lands, branches}
 use Rattle.machine.specs.Runs.{Path, entry, moves, answered}
 use Rattle.absdom.specs.declared.cause.Cause.{Cause}
 use Rattle.absdom.specs.declared.kinds.AbsKind.{AbsKind}
 use Rattle.absdom.specs.declared.kinds.AbsKind.TheVariants.{Unset, Num, Ptr, Map}
 use Rattle.absdom.specs.Edges.{Edges}
 use Rattle.absdom.specs.State.{StateValue, after_call, kind_at}
-use Rattle.absdom.specs.Effect.{applied}
+use Rattle.absdom.specs.Effect.{after_insn}
 use Rattle.absdom.specs.Fits.{Fits, FitsKind, FitsEdge, IsSound, IsIndex, GoesStraight, TakesEdge, edge_where}
 use Rattle.absdom.specs.Laws.{BelowFits, CallFits, EntryFits, ApplyFits, RefineFits}
 use Rattle.bver_form.specs.Form.{IsAllowed}
 use Rattle.bver_form.specs.Support.{IsSupportedCall}
 use Rattle.bver_form.specs.Jumps.{target}
 use Rattle.bver_form.specs.Laws.{BeginsWithinWeight, EachStepTakesOne, OneIsLeft, LoopsAreEntered}
-use Rattle.bver.specs.Justified.{AsksCell, IsCovered, IsCoveredIfAny, IsResultCovered, AreEdgesCovered, IsNumber, Proceeds, IsPermitted, IsPermittedAt, IsJustified, known_at}
+use Rattle.bver.specs.Justified.{AsksCell, IsCovered, IsCoveredIfAny, IsResultCovered, AreEdgesCovered, IsNumber, Proceeds, IsPermitted, IsPermittedAt, IsJustified, knowledge_at}
 use Rattle.bver.proofs.Slots.{insn_in}
 
 -- the laws of what is known, of steps, and of loops
@@ -86,12 +86,12 @@ steps_to below table s next a fits covered =
     arrives below table (state next s.registers s.stack) a (fits_at s a next fits) covered
 
 -- a jump
-lands_on : BelowFits → (table : ℕ → Option StateValue) (s : State) (z : ℤ) (a : StateValue) → Fits s a → IsCovered a (known_at table z) → Continues table (lands s z)
+lands_on : BelowFits → (table : ℕ → Option StateValue) (s : State) (z : ℤ) (a : StateValue) → Fits s a → IsCovered a (knowledge_at table z) → Continues table (lands s z)
 lands_on below table s (pos next) a fits covered = steps_to below table s next a fits covered
 lands_on below table s (negsuc m) a fits covered = absurd covered
 
 -- a comparison
-takes_edge : BelowFits → (table : ℕ → Option StateValue) (s : State) (offset : ℤ) (taken not_taken : Option StateValue) (holds : Bool) → FitsEdge s (if holds then taken else not_taken) → IsCoveredIfAny taken (known_at table (target s.slot offset)) → IsCoveredIfAny not_taken (table (s.slot + 1)) → Continues table (branches s offset holds)
+takes_edge : BelowFits → (table : ℕ → Option StateValue) (s : State) (offset : ℤ) (taken not_taken : Option StateValue) (holds : Bool) → FitsEdge s (if holds then taken else not_taken) → IsCoveredIfAny taken (knowledge_at table (target s.slot offset)) → IsCoveredIfAny not_taken (table (s.slot + 1)) → Continues table (branches s offset holds)
 takes_edge below table s offset None not_taken true fits h g = absurd fits
 takes_edge below table s offset (Some a) not_taken true fits h g = lands_on below table s (target s.slot offset) a fits h
 takes_edge below table s offset taken None false fits h g = absurd fits
@@ -101,7 +101,7 @@ edge_is : (holds : Bool) (edges : Edges) (s : State) → FitsEdge s (edge_where 
 edge_is true edges s fits = fits
 edge_is false edges s fits = fits
 
-compares_on : BelowFits → (table : ℕ → Option StateValue) (s : State) (offset : ℤ) (o : Outcome) (r : Result Edges Cause) → TakesEdge s offset o r → AreEdgesCovered r (known_at table (target s.slot offset)) (table (s.slot + 1)) → Continues table o
+compares_on : BelowFits → (table : ℕ → Option StateValue) (s : State) (offset : ℤ) (o : Outcome) (r : Result Edges Cause) → TakesEdge s offset o r → AreEdgesCovered r (knowledge_at table (target s.slot offset)) (table (s.slot + 1)) → Continues table o
 compares_on below table s offset o (Err cause) edge covered = absurd covered
 compares_on below table s offset o (Ok edges) edge covered =
     subst (λ (w : Outcome). Continues table w) (sym edge.1)
@@ -149,7 +149,7 @@ index_of sizes (negsuc n) h = absurd cc
 -- one that goes on to the next
 proceeds : Laws → (table : ℕ → Option StateValue) (header : Header) (s : State) (a : StateValue) (insn : Insn) → IsHeader header → Fits s a → GoesStraight insn → Proceeds table s.slot a insn → Continues table (perform header s insn)
 proceeds laws table header s a insn good fits straight h =
-    goes_on laws.below table (s.slot + slots_of insn) (perform header s insn) (applied a insn) (laws.apply header s a insn good straight fits) h
+    goes_on laws.below table (s.slot + slots_of insn) (perform header s insn) (after_insn a insn) (laws.apply header s a insn good straight fits) h
 
 continues_at : Laws → (p : Program) (sizes : Maps) (table : ℕ → Option StateValue) (header : Header) (s : State) (a : StateValue) (insn : Insn) → IsHeader header → Fits s a → IsAllowed p s.slot insn → IsInsn insn → IsPermitted sizes table s.slot a insn → Continues table (perform header s insn)
 continues_at laws p sizes table header s a (Alu op width dst src) good fits allowed is_insn h = proceeds laws table header s a (Alu op width dst src) good fits allowed.leaves_frame h

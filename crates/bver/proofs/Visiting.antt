@@ -14,9 +14,9 @@ use Rattle.absdom.specs.Laws.{BelowIsTransitive}
 use Rattle.bver_form.specs.Form.{IsFormed}
 use Rattle.bver_form.specs.Jumps.{first_slot}
 use Rattle.bver.specs.Heads.{AreHeadsAt, IsDeclared}
-use Rattle.bver.specs.Justified.{IsCovered, IsCoveredIfAny, IsEntered, IsHead, IsPermittedAt, IsJudged, accessed_at}
+use Rattle.bver.specs.Justified.{IsCovered, IsCoveredIfAny, IsEntered, IsHead, IsPermittedAt, IsJudged, region_at}
 use Rattle.bver.specs.Visit.{AreWhole, IsGrown, IsPlaced, IsExtended, AreEntered, AreHeadsBefore, AreVisited, ArePermitted}
-use Rattle.bver.specs.Table.{TableValue, known_in}
+use Rattle.bver.specs.Table.{TableValue, knowledge_in}
 use Rattle.bver.proofs.Counters.{loop_in, same_place}
 use Rattle.bver.proofs.Covering.{any_covered_more, covered_more, permitted_at_more}
 
@@ -26,7 +26,7 @@ use Rattle.bver.proofs.Covering.{any_covered_more, covered_more, permitted_at_mo
 pub extended_twice : BelowIsTransitive → (from : ℕ) (old mid new : TableValue) → IsExtended from old mid → IsExtended from mid new → IsExtended from old new
 extended_twice transitive from old mid new f g = record {
   program = g.program ∙ f.program;
-  grown = λ k. any_covered_more transitive (known_in old k) (known_in mid k) (known_in new k) (f.grown k) (g.grown k);
+  grown = λ k. any_covered_more transitive (knowledge_in old k) (knowledge_in mid k) (knowledge_in new k) (f.grown k) (g.grown k);
   kept = λ k before. g.kept k before ∙ f.kept k before;
   whole = λ whole. g.whole (f.whole whole);
 }
@@ -36,7 +36,7 @@ pub extended_before : (slot : ℕ) (old new : TableValue) → IsExtended (slot +
 extended_before slot old new f = record { program = f.program; grown = f.grown; kept = λ k below. f.kept k (omega (arith, below)); whole = f.whole }
 
 -- a table in which a slot from there on is the only one that changed
-pub changed_at : (from slot : ℕ) (old new : TableValue) → from ≤ slot → new.program ≡ old.program → IsGrown (known_in old) (known_in new) → ((k : ℕ) → k ≢ slot → known_in new k ≡ known_in old k) → (AreWhole (known_in old) → AreWhole (known_in new)) → IsExtended from old new
+pub changed_at : (from slot : ℕ) (old new : TableValue) → from ≤ slot → new.program ≡ old.program → IsGrown (knowledge_in old) (knowledge_in new) → ((k : ℕ) → k ≢ slot → knowledge_in new k ≡ knowledge_in old k) → (AreWhole (knowledge_in old) → AreWhole (knowledge_in new)) → IsExtended from old new
 changed_at from slot old new above program grown others whole = record {
   program = program;
   grown = grown;
@@ -82,13 +82,13 @@ heads_next p old new slot f before at k d inside below =
           subst (λ (h : ℕ). IfSome (new h) (IsHead p l)) (sym here) (at k d inside here)
     ]
 
-pub visited_next : BelowIsTransitive → (p : Program) (old new : ℕ → Option StateValue) (regions : List (Option Region)) (slot : ℕ) (region : Option Region) → AreVisited p old regions slot → Grows p slot old new → AreHeadsAt p slot (new slot) → region ≡ accessed_at (new slot) (insn_at p slot) → slot < length regions → AreVisited p new (slice_set regions slot region) (slot + 1)
+pub visited_next : BelowIsTransitive → (p : Program) (old new : ℕ → Option StateValue) (regions : List (Option Region)) (slot : ℕ) (region : Option Region) → AreVisited p old regions slot → Grows p slot old new → AreHeadsAt p slot (new slot) → region ≡ region_at (new slot) (insn_at p slot) → slot < length regions → AreVisited p new (slice_set regions slot region) (slot + 1)
 visited_next transitive p old new regions slot region v f heads accessed inside = record {
   entry = entry_next transitive p slot old new v.entry f;
   heads = heads_next p old new slot f v.heads heads;
-  resolved = below_more (λ (k : ℕ). slice_index_or (slice_set regions slot region) k None ≡ accessed_at (new k) (insn_at p k)) slot
+  resolved = below_more (λ (k : ℕ). slice_index_or (slice_set regions slot region) k None ≡ region_at (new k) (insn_at p k)) slot
       (λ k below.
-      get_or-set_other regions slot k region None (differs k below) ∙ v.resolved k below ∙ ap (λ (o : Option StateValue). accessed_at o (insn_at p k)) (sym (f.kept k below)))
+      get_or-set_other regions slot k region None (differs k below) ∙ v.resolved k below ∙ ap (λ (o : Option StateValue). region_at o (insn_at p k)) (sym (f.kept k below)))
       (get_or-set_same regions slot region None inside ∙ accessed);
 }
   where
@@ -132,7 +132,7 @@ judged p sizes known regions limits form size v permitted = record {
   resolved = λ slot.
       elim (cases_lt slot (length p.slots)) [
         | inl below ↦ v.resolved slot below
-        | inr past ↦ get_or_past regions slot None (omega (arith, size, past)) ∙ ap (λ (o : Option StateValue). accessed_at o (insn_at p slot)) (sym (past_none p known slot v.entry.placed past))
+        | inr past ↦ get_or_past regions slot None (omega (arith, size, past)) ∙ ap (λ (o : Option StateValue). region_at o (insn_at p slot)) (sym (past_none p known slot v.entry.placed past))
       ];
 }
   where

@@ -3,7 +3,7 @@ use Rattle.std.specs.Prelude.{◌≡◌, ◌≢◌, ◌≤◌, ◌<◌, ℕ, Boo
 use Rattle.bpf.specs.declared.loops.Loop.{Loop}
 use Rattle.bpf.specs.Program.{Program, IsLoop}
 use Rattle.bpf_parts.specs.declared.operation.Width.TheVariants.{Bits64}
-use Rattle.absdom_num.specs.Tables.{whole}
+use Rattle.absdom_num.specs.Tables.{whole_range}
 use Rattle.absdom.specs.declared.kinds.AbsKind.{AbsKind}
 use Rattle.absdom.specs.declared.kinds.AbsKind.TheVariants.{Unset, Num, Ptr, Map}
 use Rattle.absdom.specs.Kinds.{IsKindBelow}
@@ -29,7 +29,7 @@ pub record IsDeclared (p : Program) (l : Loop) (place : ℕ) : Type 0 where
 -- of a number that the loop writes any number is kept, and nothing where it was lowered; nothing of any other kind
 abbrev pub opened_kind : (lowered : Bool) → AbsKind → AbsKind
 opened_kind lowered Unset = Unset
-opened_kind lowered (Num range) = if lowered then Unset else Num (whole Bits64)
+opened_kind lowered (Num range) = if lowered then Unset else Num (whole_range Bits64)
 opened_kind lowered (Ptr region offsets) = Unset
 opened_kind lowered (Map index) = Unset
 

@@ -14,12 +14,12 @@ use Rattle.bpf_parts.specs.declared.operation.Comparison.{Comparison}
 use Rattle.machine.specs.Sizes.{Maps}
 use Rattle.machine.specs.declared.regions.Region.{Region}
 use Rattle.machine.specs.Step.{insn_at, is_map}
-use Rattle.absdom_num.specs.Tables.{whole}
+use Rattle.absdom_num.specs.Tables.{whole_range}
 use Rattle.absdom.specs.declared.cause.Cause.{Cause}
 use Rattle.absdom.specs.declared.kinds.AbsKind.{AbsKind}
 use Rattle.absdom.specs.declared.kinds.AbsKind.TheVariants.{Unset, Num, Ptr, Map}
 use Rattle.absdom.specs.State.{StateValue, IsEntry, IsBelow, after_call, kind_at}
-use Rattle.absdom.specs.Effect.{applied}
+use Rattle.absdom.specs.Effect.{after_insn}
 use Rattle.absdom.specs.Edges.{Edges, refined_edges}
 use Rattle.absdom.specs.State.{IsWhole}
 use Rattle.bver_form.specs.Form.{IsFormed}
@@ -54,15 +54,15 @@ edges_of_comparison a comparison =
     refined_edges a comparison.condition comparison.width comparison.dst comparison.src
 
 -- what is known at a place of the code; nothing is before it
-abbrev pub known_at : (table : ℕ → Option StateValue) → ℤ → Option StateValue
-known_at table (pos slot) = table slot
-known_at table (negsuc n) = None
+abbrev pub knowledge_at : (table : ℕ → Option StateValue) → ℤ → Option StateValue
+knowledge_at table (pos slot) = table slot
+knowledge_at table (negsuc n) = None
 
 -- ---- what is permitted
 
 -- an instruction that goes on to the next one: it is not refused, and what it leaves is covered there
 abbrev pub Proceeds : (table : ℕ → Option StateValue) (slot : ℕ) → StateValue → Insn → Type 0
-Proceeds table slot a insn = IsResultCovered (applied a insn) (table (slot + slots_of insn))
+Proceeds table slot a insn = IsResultCovered (after_insn a insn) (table (slot + slots_of insn))
 
 -- a register holds a number
 abbrev pub IsNumber : AbsKind → Type 0
@@ -92,8 +92,8 @@ IsPermitted sizes table slot a (ByteSwap swap bits dst) = Proceeds table slot a 
 IsPermitted sizes table slot a (Load size dst place) = Proceeds table slot a (Load size dst place)
 IsPermitted sizes table slot a (Store size place src) = Proceeds table slot a (Store size place src)
 IsPermitted sizes table slot a (Jump comparison offset) =
-    AreEdgesCovered (edges_of_comparison a comparison) (known_at table (target slot offset)) (table (slot + 1))
-IsPermitted sizes table slot a (Goto distance) = IsCovered a (known_at table (target slot (distance_of distance)))
+    AreEdgesCovered (edges_of_comparison a comparison) (knowledge_at table (target slot offset)) (table (slot + 1))
+IsPermitted sizes table slot a (Goto distance) = IsCovered a (knowledge_at table (target slot (distance_of distance)))
 IsPermitted sizes table slot a (Wide dst value) = Proceeds table slot a (Wide dst value)
 IsPermitted sizes table slot a (LoadMap dst index) =
     IsTrue (is_map sizes index) × Proceeds table slot a (LoadMap dst index)
@@ -130,7 +130,7 @@ pub record IsWrittenIn (p : Program) (l : Loop) (register : ℕ) : Type 0 where
 -- nothing is known of a register but, at most, that it holds a number
 abbrev pub IsOpen : AbsKind → Type 0
 IsOpen Unset = Unit {0}
-IsOpen (Num range) = range ≡ whole Bits64
+IsOpen (Num range) = range ≡ whole_range Bits64
 IsOpen (Ptr region offsets) = ⊥
 IsOpen (Map index) = ⊥
 
@@ -156,26 +156,26 @@ pub record IsJustified (program : Program) (sizes : Maps) : Type 0 where
 -- ---- the region of an access
 
 -- the region of a pointer
-abbrev pub pointed : AbsKind → Option Region
-pointed Unset = None
-pointed (Num range) = None
-pointed (Ptr region offsets) = Some region
-pointed (Map index) = None
+abbrev pub pointed_region : AbsKind → Option Region
+pointed_region Unset = None
+pointed_region (Num range) = None
+pointed_region (Ptr region offsets) = Some region
+pointed_region (Map index) = None
 
 -- the region into which a base register points, if there is one
 abbrev pub region_of : StateValue → Option ℕ → Option Region
 region_of a None = None
-region_of a (Some base) = pointed (kind_at a base)
+region_of a (Some base) = pointed_region (kind_at a base)
 
 -- the region that an instruction accesses
-abbrev pub accessed : StateValue → Insn → Option Region
-accessed a insn = region_of a (accessed_base insn)
+abbrev pub accessed_region : StateValue → Insn → Option Region
+accessed_region a insn = region_of a (accessed_base insn)
 
 -- the region that is accessed at a slot; none where no run comes
-abbrev pub accessed_at : Option StateValue → Option Insn → Option Region
-accessed_at None insn = None
-accessed_at (Some a) None = None
-accessed_at (Some a) (Some insn) = accessed a insn
+abbrev pub region_at : Option StateValue → Option Insn → Option Region
+region_at None insn = None
+region_at (Some a) None = None
+region_at (Some a) (Some insn) = accessed_region a insn
 
 -- ---- an accepted program
 
@@ -188,4 +188,4 @@ pub record AcceptedValue : Type 0 where
 -- the program is justified for the sizes, and the regions are those of the table
 pub record IsJudged (program : Program) (sizes : Maps) (regions : List (Option Region)) : Type 0 where
   pub justified : IsJustified program sizes
-  pub resolved : (slot : ℕ) → slice_index_or regions slot None ≡ accessed_at (justified.table slot) (insn_at program slot)
+  pub resolved : (slot : ℕ) → slice_index_or regions slot None ≡ region_at (justified.table slot) (insn_at program slot)

@@ -19,8 +19,8 @@ abbrev pub entry_of : TableValue → (slot : ℕ) → Option ℕ
 entry_of t slot = if nat_lt (place_at t.places slot) (length t.entries) then Some (place_at t.places slot) else None
 
 -- what is known at a slot
-abbrev pub known_in : TableValue → (slot : ℕ) → Option StateValue
-known_in t slot = slice_index_or t.entries (place_at t.places slot) None
+abbrev pub knowledge_in : TableValue → (slot : ℕ) → Option StateValue
+knowledge_in t slot = slice_index_or t.entries (place_at t.places slot) None
 
 -- there is an entry for slot 0 and each slot to which the program jumps, by rising slot, and for no other
 pub record AreEntries (t : TableValue) : Type 0 where
@@ -30,5 +30,5 @@ pub record AreEntries (t : TableValue) : Type 0 where
   pub rising : (a b : ℕ) → a < b → HasEntry t a → HasEntry t b → place_at t.places a < place_at t.places b
 
 -- what is known at a slot, where a running state may stand at the next one
-abbrev pub carried : TableValue → (runs : Bool) (next : ℕ) → StateValue → (slot : ℕ) → Option StateValue
-carried t runs next state slot = if runs && slot == next then Some state else known_in t slot
+abbrev pub knowledge_beside : TableValue → (runs : Bool) (next : ℕ) → StateValue → (slot : ℕ) → Option StateValue
+knowledge_beside t runs next state slot = if runs && slot == next then Some state else knowledge_in t slot

@@ -12,9 +12,9 @@ use Rattle.machine.specs.Step.{insn_at}
 use Rattle.absdom.specs.State.{StateValue, IsBelow}
 use Rattle.absdom.specs.State.{IsWhole}
 use Rattle.bver_form.specs.Jumps.{first_slot, target}
-use Rattle.bver.specs.Justified.{IsHead, IsCoveredIfAny, IsEntered, IsPermittedAt, accessed_at, known_at}
+use Rattle.bver.specs.Justified.{IsHead, IsCoveredIfAny, IsEntered, IsPermittedAt, region_at, knowledge_at}
 use Rattle.bver.specs.Heads.{AreHeadsAt}
-use Rattle.bver.specs.Table.{TableValue, carried, known_in}
+use Rattle.bver.specs.Table.{TableValue, knowledge_beside, knowledge_in}
 use Rattle.bver_form.specs.Targets.{IsPlain, landing_from}
 
 -- ---- what is known at each slot
@@ -38,9 +38,9 @@ AreWhole known = (slot : ℕ) → IfSome (known slot) IsWhole
 -- the table grew from this slot on alone
 pub record IsExtended (from : ℕ) (old new : TableValue) : Type 0 where
   pub program : new.program ≡ old.program
-  pub grown : IsGrown (known_in old) (known_in new)
-  pub kept : (k : ℕ) → k < from → known_in new k ≡ known_in old k
-  pub whole : AreWhole (known_in old) → AreWhole (known_in new)
+  pub grown : IsGrown (knowledge_in old) (knowledge_in new)
+  pub kept : (k : ℕ) → k < from → knowledge_in new k ≡ knowledge_in old k
+  pub whole : AreWhole (knowledge_in old) → AreWhole (knowledge_in new)
 
 -- a slot of the program, after this one, where an instruction begins. A program has at most 512 slots
 pub record IsLater (p : Program) (slot later : ℕ) : Type 0 where
@@ -62,8 +62,8 @@ abbrev pub IsTableOf : VisitValue → TableValue → Type 0
 IsTableOf v table = table.program ≡ v.program
 
 -- what is known where a jump by so many slots leads
-abbrev pub taken_in : VisitValue → (distance : ℤ) → (known : ℕ → Option StateValue) → Option StateValue
-taken_in v distance known = known_at known (target v.slot distance)
+abbrev pub knowledge_there : VisitValue → (distance : ℤ) → (known : ℕ → Option StateValue) → Option StateValue
+knowledge_there v distance known = knowledge_at known (target v.slot distance)
 
 -- the instruction at the slot leads there by a jump of so many slots
 abbrev pub LeadsBy : VisitValue → (distance : ℤ) → Type 0
@@ -91,15 +91,15 @@ abbrev pub HasNext : VisitValue → Insn → Type 0
 HasNext v insn = HasNextBy v (slots_of insn) (flow_of insn)
 
 -- what is known where an instruction is visited: the running state, if one stands there, else what the table knows
-abbrev pub visited_with : (runs : Bool) → StateValue → TableValue → (slot : ℕ) → Option StateValue
-visited_with runs state table slot = if runs then Some state else known_in table slot
+abbrev pub visited_state : (runs : Bool) → StateValue → TableValue → (slot : ℕ) → Option StateValue
+visited_state runs state table slot = if runs then Some state else knowledge_in table slot
 
 -- the visit of an instruction at the slot, from one running state to the next, where one stands: it is permitted where
 -- nothing was lowered, its region is the one that it accesses, and what is known at a head stands for every pass
 pub record IsInsnVisit (v : VisitValue) (old new : TableValue) (was runs : Bool) (before after : StateValue) (settled : Type 0) (region : Option Region) (insn : Insn) : Type 0 where
-  pub permitted : settled → IsPermittedAt v.sizes (carried new runs (v.slot + slots_of insn) after) v.slot (visited_with was before new v.slot) (Some insn)
-  pub accesses : region ≡ accessed_at (visited_with was before new v.slot) (Some insn)
-  pub heads : AreHeadsAt v.program v.slot (visited_with was before new v.slot)
+  pub permitted : settled → IsPermittedAt v.sizes (knowledge_beside new runs (v.slot + slots_of insn) after) v.slot (visited_state was before new v.slot) (Some insn)
+  pub accesses : region ≡ region_at (visited_state was before new v.slot) (Some insn)
+  pub heads : AreHeadsAt v.program v.slot (visited_state was before new v.slot)
   pub plain : IsTrue runs → IsPlain v.program (v.slot + slots_of insn)
   pub extended : IsExtended v.slot old new
 
@@ -131,7 +131,7 @@ AreHeadsBefore p known slot = All (λ l. l.head < slot → IfSome (known l.head)
 pub record AreVisited (p : Program) (known : ℕ → Option StateValue) (regions : List (Option Region)) (slot : ℕ) : Type 0 where
   pub entry : AreEntered p known
   pub heads : AreHeadsBefore p known slot
-  pub resolved : (k : ℕ) → k < slot → slice_index_or regions k None ≡ accessed_at (known k) (insn_at p k)
+  pub resolved : (k : ℕ) → k < slot → slice_index_or regions k None ≡ region_at (known k) (insn_at p k)
 
 -- what the slots before this one do is permitted
 abbrev pub ArePermitted : Program → (sizes : Maps) → (known : ℕ → Option StateValue) → (slot : ℕ) → Type 0

@@ -4,7 +4,7 @@ ghost use Rattle.std.specs.Prelude.{◌≡◌, ◌≤◌, ◌<◌, ◌↔◌, Is
 ghost use Rattle.bpf.specs.Program.{insn_at};
 ghost use Rattle.bver.specs.Justified.{IsCovered, IsWrittenBy, IsWrittenIn};
 ghost use Rattle.bver_form.specs.Lowered.{IsMore, IsSettled};
-ghost use Rattle.bver.specs.Table.{known_in};
+ghost use Rattle.bver.specs.Table.{knowledge_in};
 ghost use Rattle.bver.specs.Heads.{BodyValue, Falls, IsDeclared, IsEntryFault, IsRaised, IsRaisedKind, IsWithinBound, opened_kind};
 
 use crate::table::{Table, is_number};
@@ -25,7 +25,7 @@ pub(crate) struct Body<'a> {
 
 impl<'a> Model for Body<'a> {
     ghost use Rattle.bver_form.specs.Lowered.{IsMore, IsSettled};
-    ghost use Rattle.bver.specs.Table.{known_in};
+    ghost use Rattle.bver.specs.Table.{knowledge_in};
     ghost use Rattle.bver.specs.Heads.{BodyValue, Falls, IsDeclared};
 
     ghost Value = { BodyValue };
@@ -161,7 +161,7 @@ impl<'a> Body<'a> {
     fn falls(&self, table: &Table<'_>, edge: &State, register: Register) -> bool
         requires { self.now.declared.head < length table.now.program.slots }
         ensures { IsTrue result ↔ Falls self.now
-            (known_in table.now self.now.declared.head) edge.now register }
+            (knowledge_in table.now self.now.declared.head) edge.now register }
     {
         table.is_number(self.declared.head, register)
             && !is_number(edge.kind(register))
@@ -200,7 +200,7 @@ impl<'a> Body<'a> {
         ensures more { IsMore lowered.old lowered.new }
         ensures covered { OnOk result
             (IsSettled lowered.old lowered.new
-            → IsCovered edge.now (known_in table.now self.now.declared.head)) }
+            → IsCovered edge.now (knowledge_in table.now self.now.declared.head)) }
     {
         let head = self.declared.head;
         let before = lowered.count();

@@ -3,18 +3,18 @@
 ghost use Rattle.std.specs.Prelude.{◌≡◌, ◌+◌, IfOk, IsTrue, OnOk, Ok, Some};
 ghost use Rattle.bpf_insn.specs.Spelling.{slots_of};
 ghost use Rattle.machine.specs.Step.{insn_at, is_map};
-ghost use Rattle.absdom.specs.Effect.{applied};
-ghost use Rattle.absdom.specs.Edges.{on_edge, on_edges};
+ghost use Rattle.absdom.specs.Effect.{after_insn};
+ghost use Rattle.absdom.specs.Edges.{edge_state, edge_states};
 ghost use Rattle.absdom.specs.Kinds.{map_of, number_of};
 ghost use Rattle.absdom.specs.State.{after_call, kind_at};
 ghost use Rattle.bver_form.specs.Form.{IsAllowed};
 ghost use Rattle.bver_form.specs.Jumps.{IsJump};
 ghost use Rattle.bver.specs.Codes.{refusal_of};
-ghost use Rattle.bver.specs.Justified.{AsksCell, IsCovered, IsCoveredIfAny, IsResultCovered, AreEdgesCovered, edges_of_comparison, IsNumber, IsPermitted, known_at, pointed, accessed};
+ghost use Rattle.bver.specs.Justified.{AsksCell, IsCovered, IsCoveredIfAny, IsResultCovered, AreEdgesCovered, edges_of_comparison, IsNumber, IsPermitted, knowledge_at, pointed_region, accessed_region};
 ghost use Rattle.bver_form.specs.Lowered.{IsMore, IsSettled};
-ghost use Rattle.bver.specs.Table.{carried, known_in};
+ghost use Rattle.bver.specs.Table.{knowledge_beside, knowledge_in};
 ghost use Rattle.bver_form.specs.Targets.{IsPlain};
-ghost use Rattle.bver.specs.Visit.{IsTableOf, IsExtendedAfter, IsNext, HasNext, LeadsBy, taken_in};
+ghost use Rattle.bver.specs.Visit.{IsTableOf, IsExtendedAfter, IsNext, HasNext, LeadsBy, knowledge_there};
 
 use crate::table::Table;
 use crate::visit::Visit;
@@ -50,7 +50,7 @@ fn jump(
     requires leads { LeadsBy visit.now distance }
     ensures covered { OnOk result
         (IsSettled lowered.old lowered.new
-        → IsCovered state.now (taken_in visit.now distance (known_in table.new))) }
+        → IsCovered state.now (knowledge_there visit.now distance (knowledge_in table.new))) }
     ensures extended { IsExtendedAfter visit.now table.old table.new }
     ensures more { IsMore lowered.old lowered.new }
 {
@@ -85,8 +85,8 @@ fn follow_taken(
     requires leads { LeadsBy visit.now distance }
     ensures covered { OnOk result
         (IsSettled lowered.old lowered.new
-        → IsCoveredIfAny (on_edge state.now comparison.now.dst comparison.now.src edge.now)
-        (taken_in visit.now distance (known_in table.new))) }
+        → IsCoveredIfAny (edge_state state.now comparison.now.dst comparison.now.src edge.now)
+        (knowledge_there visit.now distance (knowledge_in table.new))) }
     ensures extended { IsExtendedAfter visit.now table.old table.new }
     ensures more { IsMore lowered.old lowered.new }
 {
@@ -106,7 +106,7 @@ fn go_on(visit: &Visit, table: &mut Table<'_>, state: &State, slots: u16) -> boo
     requires table { IsTableOf visit.now table.old }
     requires next { IsNext visit.now slots }
     ensures covered { IsCovered state.now
-        (carried table.new result (visit.now.slot + slots) state.now (visit.now.slot + slots)) }
+        (knowledge_beside table.new result (visit.now.slot + slots) state.now (visit.now.slot + slots)) }
     ensures plain { IsTrue result → IsPlain visit.now.program (visit.now.slot + slots) }
     ensures extended { IsExtendedAfter visit.now table.old table.new }
 {
@@ -126,8 +126,8 @@ fn follow_not_taken(
     requires table { IsTableOf visit.now table.old }
     requires next { IsNext visit.now 1 }
     ensures covered { IsCoveredIfAny
-        (on_edge state.old comparison.now.dst comparison.now.src edge.now)
-        (carried table.new result (visit.now.slot + 1) state.new (visit.now.slot + 1)) }
+        (edge_state state.old comparison.now.dst comparison.now.src edge.now)
+        (knowledge_beside table.new result (visit.now.slot + 1) state.new (visit.now.slot + 1)) }
     ensures plain { IsTrue result → IsPlain visit.now.program (visit.now.slot + 1) }
     ensures extended { IsExtendedAfter visit.now table.old table.new }
 {
@@ -157,9 +157,9 @@ fn branch(
     requires next { IsNext visit.now 1 }
     ensures covered { IfOk result
         (λ runs. IsSettled lowered.old lowered.new
-        → AreEdgesCovered (Ok (on_edges state.old comparison.now.dst comparison.now.src edges.now))
-        (taken_in visit.now distance (carried table.new runs (visit.now.slot + 1) state.new))
-        (carried table.new runs (visit.now.slot + 1) state.new (visit.now.slot + 1))) }
+        → AreEdgesCovered (Ok (edge_states state.old comparison.now.dst comparison.now.src edges.now))
+        (knowledge_there visit.now distance (knowledge_beside table.new runs (visit.now.slot + 1) state.new))
+        (knowledge_beside table.new runs (visit.now.slot + 1) state.new (visit.now.slot + 1))) }
     ensures plain { IfOk result
         (λ runs. IsTrue runs → IsPlain visit.now.program (visit.now.slot + 1)) }
     ensures extended { IsExtendedAfter visit.now table.old table.new }
@@ -196,8 +196,8 @@ fn compare(
     ensures covered { IfOk result
         (λ runs. IsSettled lowered.old lowered.new
         → AreEdgesCovered (edges_of_comparison state.old comparison.now)
-        (taken_in visit.now offset (carried table.new runs (visit.now.slot + 1) state.new))
-        (carried table.new runs (visit.now.slot + 1) state.new (visit.now.slot + 1))) }
+        (knowledge_there visit.now offset (knowledge_beside table.new runs (visit.now.slot + 1) state.new))
+        (knowledge_beside table.new runs (visit.now.slot + 1) state.new (visit.now.slot + 1))) }
     ensures plain { IfOk result
         (λ runs. IsTrue runs → IsPlain visit.now.program (visit.now.slot + 1)) }
     ensures extended { IsExtendedAfter visit.now table.old table.new }
@@ -236,8 +236,8 @@ fn straight(
     requires table { IsTableOf visit.now table.old }
     requires next { IsNext visit.now (slots_of insn.now) }
     ensures covered { IfOk result
-        (λ runs. IsResultCovered (applied state.old insn.now)
-        (carried table.new runs (visit.now.slot + slots_of insn.now) state.new
+        (λ runs. IsResultCovered (after_insn state.old insn.now)
+        (knowledge_beside table.new runs (visit.now.slot + slots_of insn.now) state.new
         (visit.now.slot + slots_of insn.now))) }
     ensures plain { IfOk result
         (λ runs. IsTrue runs → IsPlain visit.now.program (visit.now.slot + slots_of insn.now)) }
@@ -322,7 +322,7 @@ fn ask(visit: &Visit, table: &mut Table<'_>, state: &mut State) -> Result<bool, 
     ensures left { OnOk result (state.new ≡ after_call state.old) }
     ensures covered { IfOk result
         (λ runs. IsCovered (after_call state.old)
-        (carried table.new runs (visit.now.slot + 1) state.new (visit.now.slot + 1))) }
+        (knowledge_beside table.new runs (visit.now.slot + 1) state.new (visit.now.slot + 1))) }
     ensures plain { IfOk result
         (λ runs. IsTrue runs → IsPlain visit.now.program (visit.now.slot + 1)) }
     ensures extended { IsExtendedAfter visit.now table.old table.new }
@@ -334,8 +334,8 @@ fn ask(visit: &Visit, table: &mut Table<'_>, state: &mut State) -> Result<bool, 
 }
 
 /// The region of a pointer.
-fn pointed(kind: &AbsKind) -> Option<Region>
-    ensures { result ≡ pointed kind.now }
+fn pointed_region(kind: &AbsKind) -> Option<Region>
+    ensures { result ≡ pointed_region kind.now }
 {
     match kind {
         AbsKind::Ptr(region, _) => Some(*region),
@@ -346,11 +346,11 @@ fn pointed(kind: &AbsKind) -> Option<Region>
 }
 
 /// The region that an instruction accesses.
-pub(crate) fn accessed(state: &State, insn: &Insn) -> Option<Region>
-    ensures { result ≡ accessed state.now insn.now }
+pub(crate) fn accessed_region(state: &State, insn: &Insn) -> Option<Region>
+    ensures { result ≡ accessed_region state.now insn.now }
 {
     match insn.accessed() {
-        Some(base) => pointed(&state.kind(base)),
+        Some(base) => pointed_region(&state.kind(base)),
         None => None,
     }
 }
@@ -379,7 +379,7 @@ pub(crate) fn flow(
     ensures permitted { IfOk result
         (λ runs. IsSettled lowered.old lowered.new
         → IsPermitted visit.now.sizes
-        (carried table.new runs
+        (knowledge_beside table.new runs
         (visit.now.slot + slots_of insn.now) state.new) visit.now.slot state.old insn.now) }
     ensures plain { IfOk result
         (λ runs. IsTrue runs → IsPlain visit.now.program (visit.now.slot + slots_of insn.now)) }

@@ -6,9 +6,9 @@ ghost use Rattle.bver_form.specs.Form.{IsFormed};
 ghost use Rattle.bver.specs.Heads.{AreHeadsAt};
 ghost use Rattle.bver.specs.Justified.{IsJudged};
 ghost use Rattle.bver_form.specs.Lowered.{IsMore, IsSettled};
-ghost use Rattle.bver.specs.Table.{known_in};
+ghost use Rattle.bver.specs.Table.{knowledge_in};
 ghost use Rattle.bver_form.specs.Targets.{IsKept};
-ghost use Rattle.bver.specs.Visit.{AreEntered, IsExtended, IsInsnVisit, IsTableOf, IsVisit, visited_with};
+ghost use Rattle.bver.specs.Visit.{AreEntered, IsExtended, IsInsnVisit, IsTableOf, IsVisit, visited_state};
 
 use crate::edges::{accessed, flow};
 use crate::table::Table;
@@ -27,9 +27,9 @@ fn enter(
     state: &mut State,
 ) -> Result<(), Refused>
     requires table { IsTableOf visit.now table.old }
-    requires known { known_in table.old visit.now.slot ≡ Some state.old }
+    requires known { knowledge_in table.old visit.now.slot ≡ Some state.old }
     requires inside { visit.now.slot < length visit.now.program.slots }
-    ensures known { OnOk result (known_in table.new visit.now.slot ≡ Some state.new) }
+    ensures known { OnOk result (knowledge_in table.new visit.now.slot ≡ Some state.new) }
     ensures heads { OnOk result (AreHeadsAt visit.now.program visit.now.slot (Some state.new)) }
     ensures extended { IsExtended visit.now.slot table.old table.new }
 {
@@ -61,11 +61,11 @@ fn arrive(
     requires inside { visit.now.slot < length visit.now.program.slots }
     requires plain { IsTrue runs → IsKept visit.now.program visit.now.slot → ⊥ }
     ensures known { IfOk result
-        (λ known. visited_with runs state.old table.new visit.now.slot
+        (λ known. visited_state runs state.old table.new visit.now.slot
         ≡ (if known then Some state.new else None)) }
     ensures heads { OnOk result
         (AreHeadsAt visit.now.program visit.now.slot
-        (visited_with runs state.old table.new visit.now.slot)) }
+        (visited_state runs state.old table.new visit.now.slot)) }
     ensures extended { IsExtended visit.now.slot table.old table.new }
 {
     order_of_states();
@@ -106,7 +106,7 @@ fn visit_insn(
     if !known {
         return Ok(None);
     }
-    let region = accessed(state, insn);
+    let region = accessed_region(state, insn);
     let goes_on = flow(visit, table, lowered, state, insn)?;
     *runs = goes_on;
     Ok(region)
@@ -149,7 +149,7 @@ pub(crate) fn pass(
 ) -> Result<(), Refused>
     requires formed { IsFormed image.now }
     requires table { table.old.program ≡ image.now }
-    requires entered { AreEntered image.now (known_in table.old) }
+    requires entered { AreEntered image.now (knowledge_in table.old) }
     requires regions { length regions.old.items ≡ length image.now.slots }
     ensures judged { OnOk result
         (IsSettled lowered.old lowered.new → IsJudged image.now sizes.now regions.new.items) }

@@ -6,7 +6,7 @@ ghost use Rattle.bver.specs.Justified.{IsCovered, IsCoveredIfAny};
 ghost use Rattle.absdom.specs.State.{IsWhole};
 ghost use Rattle.bver.specs.Heads.{is_number, is_number_at};
 ghost use Rattle.bver_form.specs.Targets.{IsKept};
-ghost use Rattle.bver.specs.Table.{AreEntries, HasEntry, carried, known_in, entry_of};
+ghost use Rattle.bver.specs.Table.{AreEntries, HasEntry, knowledge_beside, knowledge_in, entry_of};
 ghost use Rattle.bver.specs.Visit.{AreWhole, IsGrown, IsLeast};
 
 use absdom::{AbsKind, State, join_is_least, order_of_states};
@@ -135,7 +135,7 @@ impl<'a> Table<'a> {
     /// The table of a program at which nothing is known. Memory is asked for three times.
     pub(crate) fn new(alloc: Global, image: &'a Image) -> Result<Table<'a>, AllocError>
         ensures program { IfOk result (λ table. table.program ≡ image.now) }
-        ensures nothing { IfOk result (λ table. (slot : ℕ) → known_in table slot ≡ None) }
+        ensures nothing { IfOk result (λ table. (slot : ℕ) → knowledge_in table slot ≡ None) }
     {
         let kept = kept_slots(alloc, image)?;
         let mut places = vec![in alloc; NOWHERE; kept.len()]?;
@@ -173,7 +173,7 @@ impl<'a> Table<'a> {
     /// Writes what is known at a slot to the state, and tells whether anything is.
     pub(crate) fn read(&self, slot: u16, state: &mut State) -> bool
         requires { slot < length self.now.program.slots }
-        ensures known { known_in self.now slot ≡ (if result then Some state.new else None) }
+        ensures known { knowledge_in self.now slot ≡ (if result then Some state.new else None) }
     {
         match self.entry(slot) {
             Some(place) => self.entries[place].read(state),
@@ -186,12 +186,12 @@ impl<'a> Table<'a> {
         requires inside { slot < length self.old.program.slots }
         requires kept { IsKept self.old.program slot }
         ensures program { self.new.program ≡ self.old.program }
-        ensures covered { IsCovered state.now (known_in self.new slot) }
-        ensures least { IsLeast (known_in self.old slot) state.now (known_in self.new slot) }
-        ensures grown { IsGrown (known_in self.old) (known_in self.new) }
-        ensures others { (k : ℕ) → k ≢ slot → known_in self.new k ≡ known_in self.old k }
-        ensures whole { IfSome (known_in self.new slot) IsWhole }
-        ensures all_whole { AreWhole (known_in self.old) → AreWhole (known_in self.new) }
+        ensures covered { IsCovered state.now (knowledge_in self.new slot) }
+        ensures least { IsLeast (knowledge_in self.old slot) state.now (knowledge_in self.new slot) }
+        ensures grown { IsGrown (knowledge_in self.old) (knowledge_in self.new) }
+        ensures others { (k : ℕ) → k ≢ slot → knowledge_in self.new k ≡ knowledge_in self.old k }
+        ensures whole { IfSome (knowledge_in self.new slot) IsWhole }
+        ensures all_whole { AreWhole (knowledge_in self.old) → AreWhole (knowledge_in self.new) }
     {
         order_of_states();
         match self.entry(slot) {
@@ -205,11 +205,11 @@ impl<'a> Table<'a> {
     pub(crate) fn go_on(&mut self, slot: u16, state: &State) -> bool
         requires inside { slot < length self.old.program.slots }
         ensures program { self.new.program ≡ self.old.program }
-        ensures covered { IsCovered state.now (carried self.new result slot state.now slot) }
+        ensures covered { IsCovered state.now (knowledge_beside self.new result slot state.now slot) }
         ensures plain { IsTrue result → IsKept self.new.program slot → ⊥ }
-        ensures grown { IsGrown (known_in self.old) (known_in self.new) }
-        ensures others { (k : ℕ) → k ≢ slot → known_in self.new k ≡ known_in self.old k }
-        ensures all_whole { AreWhole (known_in self.old) → AreWhole (known_in self.new) }
+        ensures grown { IsGrown (knowledge_in self.old) (knowledge_in self.new) }
+        ensures others { (k : ℕ) → k ≢ slot → knowledge_in self.new k ≡ knowledge_in self.old k }
+        ensures all_whole { AreWhole (knowledge_in self.old) → AreWhole (knowledge_in self.new) }
     {
         order_of_states();
         match self.entry(slot) {
@@ -224,7 +224,7 @@ impl<'a> Table<'a> {
     /// Forgets what is known at each slot.
     pub(crate) fn forget(&mut self)
         ensures program { self.new.program ≡ self.old.program }
-        ensures nothing { (slot : ℕ) → known_in self.new slot ≡ None }
+        ensures nothing { (slot : ℕ) → knowledge_in self.new slot ≡ None }
     {
         for place in 0..self.entries.len() {
             self.entries[place].forget();
@@ -235,12 +235,12 @@ impl<'a> Table<'a> {
     pub(crate) fn raise(&mut self, slot: u16, state: &State)
         requires inside { slot < length self.old.program.slots }
         requires kept { IsKept self.old.program slot }
-        requires covers { IsCoveredIfAny (known_in self.old slot) (Some state.now) }
+        requires covers { IsCoveredIfAny (knowledge_in self.old slot) (Some state.now) }
         ensures program { self.new.program ≡ self.old.program }
-        ensures known { known_in self.new slot ≡ Some state.now }
-        ensures grown { IsGrown (known_in self.old) (known_in self.new) }
-        ensures others { (k : ℕ) → k ≢ slot → known_in self.new k ≡ known_in self.old k }
-        ensures all_whole { AreWhole (known_in self.old) → AreWhole (known_in self.new) }
+        ensures known { knowledge_in self.new slot ≡ Some state.now }
+        ensures grown { IsGrown (knowledge_in self.old) (knowledge_in self.new) }
+        ensures others { (k : ℕ) → k ≢ slot → knowledge_in self.new k ≡ knowledge_in self.old k }
+        ensures all_whole { AreWhole (knowledge_in self.old) → AreWhole (knowledge_in self.new) }
     {
         order_of_states();
         state.stands_whole();
@@ -253,7 +253,7 @@ impl<'a> Table<'a> {
     /// Whether what is known at a slot covers the state.
     pub(crate) fn covers(&self, slot: u16, state: &State) -> bool
         requires { slot < length self.now.program.slots }
-        ensures { IsTrue result ↔ IsCovered state.now (known_in self.now slot) }
+        ensures { IsTrue result ↔ IsCovered state.now (knowledge_in self.now slot) }
     {
         match self.entry(slot) {
             Some(place) => self.entries[place].covers(state),
@@ -264,7 +264,7 @@ impl<'a> Table<'a> {
     /// Whether a number is known of the register at a slot.
     pub(crate) fn is_number(&self, slot: u16, register: Register) -> bool
         requires { slot < length self.now.program.slots }
-        ensures { result ≡ is_number_at (known_in self.now slot) register }
+        ensures { result ≡ is_number_at (knowledge_in self.now slot) register }
     {
         match self.entry(slot) {
             Some(place) => self.entries[place].is_number(register),

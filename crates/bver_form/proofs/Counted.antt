@@ -7,7 +7,7 @@ use Rattle.bpf.specs.Program.{Program, AreLoops, IsProgram, insn_at}
 use Rattle.bpf.specs.Weight.{times_at}
 use Rattle.bpf_insn.specs.declared.insn.Insn.{Insn}
 use Rattle.bver_form.specs.Form.{IsFormed}
-use Rattle.bver_form.specs.Loops.{IsCounted, IsEdge, IsNestedOrApart, left, left_at, holds}
+use Rattle.bver_form.specs.Loops.{IsCounted, IsEdge, IsNestedOrApart, executions_left, weight_left, holds}
 use Rattle.bver_form.specs.Laws.{BeginsWithinWeight, EachStepTakesOne, LoopsAreEntered, OneIsLeft}
 use Rattle.bver_form.proofs.Fitting.{each_loop, loop_at}
 use Rattle.bver_form.proofs.Left.{AreLaid, by_test, head_all, left_ahead, left_before, left_out, left_within, further_else, rounds, tail_all, times_in, times_out}
@@ -46,10 +46,10 @@ lies p limits form = laid (length p.slots) 0 p.loops limits.loops (λ k d below.
 
 -- ---- the parts
 
-starts : (ls : List Loop) (least : ℕ) → AreLaid least ls → (v : ℕ → ℕ) (i : ℕ) → All (λ l. l.head ≡ 0 → v 0 ≤ l.bound) ls → left ls v i 0 ≤ times_at ls i
+starts : (ls : List Loop) (least : ℕ) → AreLaid least ls → (v : ℕ → ℕ) (i : ℕ) → All (λ l. l.head ≡ 0 → v 0 ≤ l.bound) ls → executions_left ls v i 0 ≤ times_at ls i
 starts [] least h v i bounds = left_ahead [] 1 tt v i 0 (omega arith)
 starts (l ∷ ls) least h v i bounds =
-    by_test (λ t. holds l i ≡ t → left (l ∷ ls) v i 0 ≤ times_at (l ∷ ls) i) (holds l i)
+    by_test (λ t. holds l i ≡ t → executions_left (l ∷ ls) v i 0 ≤ times_at (l ∷ ls) i) (holds l i)
     (λ _ e.
     let ordered = h.1 in
     let some = h.2 in
@@ -59,7 +59,7 @@ starts (l ∷ ls) least h v i bounds =
           let at : l.head ≡ 0 = omega arith in
           let bound : v l.head ≤ l.bound = subst (λ k. v k ≤ l.bound) (sym at) (head_all (λ l. l.head ≡ 0 → v 0 ≤ l.bound) l ls bounds at) in
           rw (left_within l ls v i 0 e (omega arith) (omega arith), further_else l (v l.head) 0 (λ s. omega arith), times_in l ls i e)
-          (rounds (v l.head - 1) l.bound (times_at ls i) (left ls v i 0) (omega arith) (left_ahead ls (l.head + 1) h.4 v i 0 (omega arith)))
+          (rounds (v l.head - 1) l.bound (times_at ls i) (executions_left ls v i 0) (omega arith) (left_ahead ls (l.head + 1) h.4 v i 0 (omega arith)))
     ])
     (λ _ e. rw (left_out l ls v i 0 e, times_out l ls i e) (starts ls (l.head + 1) h.4 v i (tail_all (λ l. l.head ≡ 0 → v 0 ≤ l.bound) l ls bounds)))
     refl
@@ -68,7 +68,7 @@ pub begins_within : BeginsWithinWeight
 begins_within p values limits form bounds =
     sum_weighs p.loops values 0 0 p.slots (λ j. starts p.loops 0 (lies p limits form) values j bounds)
 
-one_left : (p : Program) (slot : ℕ) (values : ℕ → ℕ) (o : Option Insn) → insn_at p slot ≡ o → IsSome o → 1 ≤ left_at p values slot
+one_left : (p : Program) (slot : ℕ) (values : ℕ → ℕ) (o : Option Insn) → insn_at p slot ≡ o → IsSome o → 1 ≤ weight_left p values slot
 one_left p slot values None is some = absurd cc
 one_left p slot values (Some insn) is some = sum_here p.loops values slot 0 slot p.slots insn is (omega arith)
 
@@ -80,7 +80,7 @@ are_entered p slot next limits form edge begins k d below =
     comes_in p (slice_index_or p.loops k d) slot next limits form (form.loops k d below) (loop_at p k d limits below).ordered edge
 
 -- what is left of one instruction along an edge
-falls : (p : Program) (slot next i e : ℕ) (values after : ℕ → ℕ) → IsProgram p → IsFormed p → IsEdge p slot next → All (λ l. IsCounted l slot next (values l.head) (after l.head)) p.loops → (e ≡ 0) ⊎ ((e ≡ 1) × (i ≡ slot)) → left p.loops after i next + e ≤ left p.loops values i slot
+falls : (p : Program) (slot next i e : ℕ) (values after : ℕ → ℕ) → IsProgram p → IsFormed p → IsEdge p slot next → All (λ l. IsCounted l slot next (values l.head) (after l.head)) p.loops → (e ≡ 0) ⊎ ((e ≡ 1) × (i ≡ slot)) → executions_left p.loops after i next + e ≤ executions_left p.loops values i slot
 falls p slot next i e values after limits form edge counted taken =
     elim (cases_lt slot next) [
       | inl onward ↦

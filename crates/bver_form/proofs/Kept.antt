@@ -7,7 +7,7 @@ use Rattle.std.proofs.Math.ListN.{length-set}
 use Rattle.bpf.specs.Program.{Program, insn_at}
 use Rattle.bpf_insn.specs.declared.insn.Insn.{Insn}
 use Rattle.bver_form.specs.Jumps.{first_slot, jump_distance, target}
-use Rattle.bver_form.specs.Targets.{AreKept, IsKept, IsMarked, IsNumbered, IsNumbering, JumpsTo, landing_by, landing_from, nowhere, place_at}
+use Rattle.bver_form.specs.Targets.{AreKept, IsKept, IsMarked, IsNumbered, IsNumbering, JumpsTo, landing_by, landing_from, no_place, place_at}
 
 -- ---- where jumps lead
 
@@ -95,7 +95,7 @@ marked_all p marks h = record {
 
 -- ---- the numbers of the slots that are kept
 
-pub numbering_none : (marks : List Bool) (places : List ℕ) → length places ≡ length marks → ((k : ℕ) → place_at places k ≡ nowhere) → IsNumbering marks places 0 0
+pub numbering_none : (marks : List Bool) (places : List ℕ) → length places ≡ length marks → ((k : ℕ) → place_at places k ≡ no_place) → IsNumbering marks places 0 0
 numbering_none marks places size nothing = record {
   size = size;
   few = omega arith;
@@ -164,10 +164,10 @@ numbering_next marks places count upto inside few marked h = record {
 }
   where
     other : (k : ℕ) → (k ≡ upto → ⊥) → place_at (slice_set places upto count) k ≡ place_at places k
-    other k apart = get_or-set_other places upto k count nowhere apart
+    other k apart = get_or-set_other places upto k count no_place apart
 
     at : (k : ℕ) → k ≡ upto → place_at (slice_set places upto count) k ≡ count
-    at k same = ap (λ (j : ℕ). place_at (slice_set places upto count) j) same ∙ get_or-set_same places upto count nowhere (omega (arith, inside, h.size))
+    at k same = ap (λ (j : ℕ). place_at (slice_set places upto count) j) same ∙ get_or-set_same places upto count no_place (omega (arith, inside, h.size))
 
     -- an earlier slot has a place that is below the count, or none
     lower : (k : ℕ) → k < upto → place_at places k < count + 1 → place_at places k < count
@@ -178,7 +178,7 @@ numbering_next marks places count upto inside few marked h = record {
     earlier_only k earlier below = h.only k (lower k earlier below)
 
     outside : (k : ℕ) → upto < k → place_at places k < count + 1 → ⊥
-    outside k beyond below = let none : place_at places k ≡ nowhere = h.rest k (omega (arith, beyond)) in omega (arith, none, below, h.few, inside, few)
+    outside k beyond below = let none : place_at places k ≡ no_place = h.rest k (omega (arith, beyond)) in omega (arith, none, below, h.few, inside, few)
 
 pub numbered : (marks : List Bool) (places : List ℕ) (count upto : ℕ) → length marks ≤ upto → IsNumbering marks places count upto → IsNumbered marks places count
 numbered marks places count upto all h = record {

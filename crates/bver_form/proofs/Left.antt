@@ -4,7 +4,7 @@ use Rattle.std.specs.Prelude.{All, nat_le, nat_lt, ◌==◌, if◌then◌else◌
 use Rattle.std.proofs.lemmas.Bool.{cases_lt, and_parts, and_from, leb-true, leb-false, ltb-true, ltb-false, eqb-true, eqb-false, true≢false}
 use Rattle.bpf.specs.declared.loops.Loop.{Loop}
 use Rattle.bpf.specs.Weight.{times_at}
-use Rattle.bver_form.specs.Loops.{further, holds, left}
+use Rattle.bver_form.specs.Loops.{further_passes, holds, executions_left}
 
 -- ---- tests with what they tell
 
@@ -71,31 +71,31 @@ times_in l ls i e = subst (λ t. (if t then l.bound else 1) * times_at ls i ≡ 
 
 module _ (l : Loop) (ls : List Loop) (v : ℕ → ℕ) (i k : ℕ) where
   abbrev pub inner : ℕ
-  inner = if nat_lt k l.head then times_at (l ∷ ls) i else (if nat_lt l.back k then 0 else further l (v l.head) k * times_at ls i + left ls v i k)
+  inner = if nat_lt k l.head then times_at (l ∷ ls) i else (if nat_lt l.back k then 0 else further_passes l (v l.head) k * times_at ls i + executions_left ls v i k)
 
-  pub left_out : holds l i ≡ false → left (l ∷ ls) v i k ≡ left ls v i k
-  unfolding left
-  left_out e = subst (λ t. (if t then inner else left ls v i k) ≡ left ls v i k) (sym e) refl
+  pub left_out : holds l i ≡ false → executions_left (l ∷ ls) v i k ≡ executions_left ls v i k
+  unfolding executions_left
+  left_out e = subst (λ t. (if t then inner else executions_left ls v i k) ≡ executions_left ls v i k) (sym e) refl
 
-  pub left_held : holds l i ≡ true → left (l ∷ ls) v i k ≡ inner
-  unfolding left
-  left_held e = subst (λ t. (if t then inner else left ls v i k) ≡ inner) (sym e) refl
+  pub left_held : holds l i ≡ true → executions_left (l ∷ ls) v i k ≡ inner
+  unfolding executions_left
+  left_held e = subst (λ t. (if t then inner else executions_left ls v i k) ≡ inner) (sym e) refl
 
-  pub left_before : holds l i ≡ true → k < l.head → left (l ∷ ls) v i k ≡ l.bound * times_at ls i
-  left_before e a = left_held e ∙ by_lt (λ t. (if t then times_at (l ∷ ls) i else (if nat_lt l.back k then 0 else further l (v l.head) k * times_at ls i + left ls v i k)) ≡ l.bound * times_at ls i) k l.head (λ _. times_in l ls i e) (λ b. absurd (omega arith))
+  pub left_before : holds l i ≡ true → k < l.head → executions_left (l ∷ ls) v i k ≡ l.bound * times_at ls i
+  left_before e a = left_held e ∙ by_lt (λ t. (if t then times_at (l ∷ ls) i else (if nat_lt l.back k then 0 else further_passes l (v l.head) k * times_at ls i + executions_left ls v i k)) ≡ l.bound * times_at ls i) k l.head (λ _. times_in l ls i e) (λ b. absurd (omega arith))
 
-  pub left_behind : holds l i ≡ true → l.head < l.back → l.back < k → left (l ∷ ls) v i k ≡ 0
-  left_behind e o a = left_held e ∙ by_lt (λ t. (if t then times_at (l ∷ ls) i else (if nat_lt l.back k then 0 else further l (v l.head) k * times_at ls i + left ls v i k)) ≡ 0) k l.head (λ b. absurd (omega arith)) (λ _.
-      by_lt (λ t. (if t then 0 else further l (v l.head) k * times_at ls i + left ls v i k) ≡ 0) l.back k (λ _. refl) (λ b. absurd (omega arith)))
+  pub left_behind : holds l i ≡ true → l.head < l.back → l.back < k → executions_left (l ∷ ls) v i k ≡ 0
+  left_behind e o a = left_held e ∙ by_lt (λ t. (if t then times_at (l ∷ ls) i else (if nat_lt l.back k then 0 else further_passes l (v l.head) k * times_at ls i + executions_left ls v i k)) ≡ 0) k l.head (λ b. absurd (omega arith)) (λ _.
+      by_lt (λ t. (if t then 0 else further_passes l (v l.head) k * times_at ls i + executions_left ls v i k) ≡ 0) l.back k (λ _. refl) (λ b. absurd (omega arith)))
 
-  pub left_within : holds l i ≡ true → l.head ≤ k → k ≤ l.back → left (l ∷ ls) v i k ≡ further l (v l.head) k * times_at ls i + left ls v i k
-  left_within e a b = left_held e ∙ by_lt (λ t. (if t then times_at (l ∷ ls) i else (if nat_lt l.back k then 0 else further l (v l.head) k * times_at ls i + left ls v i k)) ≡ further l (v l.head) k * times_at ls i + left ls v i k) k l.head (λ c. absurd (omega arith)) (λ _.
-      by_lt (λ t. (if t then 0 else further l (v l.head) k * times_at ls i + left ls v i k) ≡ further l (v l.head) k * times_at ls i + left ls v i k) l.back k (λ c. absurd (omega arith)) (λ _. refl))
+  pub left_within : holds l i ≡ true → l.head ≤ k → k ≤ l.back → executions_left (l ∷ ls) v i k ≡ further_passes l (v l.head) k * times_at ls i + executions_left ls v i k
+  left_within e a b = left_held e ∙ by_lt (λ t. (if t then times_at (l ∷ ls) i else (if nat_lt l.back k then 0 else further_passes l (v l.head) k * times_at ls i + executions_left ls v i k)) ≡ further_passes l (v l.head) k * times_at ls i + executions_left ls v i k) k l.head (λ c. absurd (omega arith)) (λ _.
+      by_lt (λ t. (if t then 0 else further_passes l (v l.head) k * times_at ls i + executions_left ls v i k) ≡ further_passes l (v l.head) k * times_at ls i + executions_left ls v i k) l.back k (λ c. absurd (omega arith)) (λ _. refl))
 
-pub further_back : (l : Loop) (n k : ℕ) → k ≡ l.back → further l n k ≡ n
+pub further_back : (l : Loop) (n k : ℕ) → k ≡ l.back → further_passes l n k ≡ n
 further_back l n k e = by_eq (λ t. (if t then n else n - 1) ≡ n) k l.back (λ _. refl) (λ d. absurd (d e))
 
-pub further_else : (l : Loop) (n k : ℕ) → k ≢ l.back → further l n k ≡ n - 1
+pub further_else : (l : Loop) (n k : ℕ) → k ≢ l.back → further_passes l n k ≡ n - 1
 further_else l n k d = by_eq (λ t. (if t then n else n - 1) ≡ n - 1) k l.back (λ e. absurd (d e)) (λ _. refl)
 
 -- ---- products
@@ -126,20 +126,20 @@ AreLaid least [] = Unit {0}
 AreLaid least (l ∷ ls) = (least ≤ l.head) × (l.head < l.back) × (1 ≤ l.bound) × All (λ m. (l.back < m.head) ⊎ (m.back < l.back)) ls × AreLaid (l.head + 1) ls
 
 -- before all heads no more is left than all rounds
-pub left_ahead : (ls : List Loop) (least : ℕ) → AreLaid least ls → (v : ℕ → ℕ) (i k : ℕ) → k < least → left ls v i k ≤ times_at ls i
-unfolding left times_at
+pub left_ahead : (ls : List Loop) (least : ℕ) → AreLaid least ls → (v : ℕ → ℕ) (i k : ℕ) → k < least → executions_left ls v i k ≤ times_at ls i
+unfolding executions_left times_at
 left_ahead [] least h v i k a = by_le (λ t. (if t then 1 else 0) ≤ 1) k i (λ _. omega arith) (λ _. omega arith)
-left_ahead (l ∷ ls) least h v i k a = by_test (λ t. holds l i ≡ t → left (l ∷ ls) v i k ≤ times_at (l ∷ ls) i) (holds l i)
+left_ahead (l ∷ ls) least h v i k a = by_test (λ t. holds l i ≡ t → executions_left (l ∷ ls) v i k ≤ times_at (l ∷ ls) i) (holds l i)
     (λ _ e. let low = h.0 in rw (left_before l ls v i k e (omega arith), times_in l ls i e) (omega arith))
     (λ _ e. let low = h.0 in rw (left_out l ls v i k e, times_out l ls i e) (left_ahead ls (l.head + 1) h.4 v i k (omega arith)))
     refl
 
 -- one is left of the instruction where a run stands
-pub left_here : (ls : List Loop) (v : ℕ → ℕ) (k : ℕ) → 1 ≤ left ls v k k
-unfolding left
+pub left_here : (ls : List Loop) (v : ℕ → ℕ) (k : ℕ) → 1 ≤ executions_left ls v k k
+unfolding executions_left
 left_here [] v k = by_le (λ t. 1 ≤ (if t then 1 else 0)) k k (λ _. omega arith) (λ a. absurd (omega arith))
-left_here (l ∷ ls) v k = by_test (λ t. holds l k ≡ t → 1 ≤ left (l ∷ ls) v k k) (holds l k)
-    (λ _ e. let more = left_here ls v k in rw (left_within l ls v k k e (low l k e) (high l k e)) (at_least (further l (v l.head) k * times_at ls k) (left ls v k k) more))
+left_here (l ∷ ls) v k = by_test (λ t. holds l k ≡ t → 1 ≤ executions_left (l ∷ ls) v k k) (holds l k)
+    (λ _ e. let more = left_here ls v k in rw (left_within l ls v k k e (low l k e) (high l k e)) (at_least (further_passes l (v l.head) k * times_at ls k) (executions_left ls v k k) more))
     (λ _ e. rw (left_out l ls v k k e) (left_here ls v k))
     refl
   where

@@ -5,7 +5,7 @@ use Rattle.bpf.specs.Program.{Program, IsProgram, insn_at}
 use Rattle.bpf.specs.Weight.{weight_of}
 use Rattle.bver_form.specs.declared.refusal.Refused.{Refused}
 use Rattle.bver_form.specs.Form.{IsFormed, IsFormFault}
-use Rattle.bver_form.specs.Loops.{AreCounted, ComesIn, IsEdge, left_at}
+use Rattle.bver_form.specs.Loops.{AreCounted, ComesIn, IsEdge, weight_left}
 
 -- a program that has a first fault has not its form
 abbrev pub FaultRefutesForm : Type 0
@@ -17,15 +17,15 @@ FirstFaultIsOne = (p : Program) (one other : Refused) → IsFormFault p one → 
 
 -- at slot 0 no more is left than the weight, where a loop that has its head there begins within its bound
 abbrev pub BeginsWithinWeight : Type 0
-BeginsWithinWeight = (p : Program) (values : ℕ → ℕ) → IsProgram p → IsFormed p → All (λ l. l.head ≡ 0 → values 0 ≤ l.bound) p.loops → left_at p values 0 ≤ weight_of p
+BeginsWithinWeight = (p : Program) (values : ℕ → ℕ) → IsProgram p → IsFormed p → All (λ l. l.head ≡ 0 → values 0 ≤ l.bound) p.loops → weight_left p values 0 ≤ weight_of p
 
 -- each step takes one
 abbrev pub EachStepTakesOne : Type 0
-EachStepTakesOne = (p : Program) (slot next : ℕ) (values after : ℕ → ℕ) → IsProgram p → IsFormed p → IsEdge p slot next → IsSome (insn_at p next) → AreCounted p slot next values after → left_at p after next + 1 ≤ left_at p values slot
+EachStepTakesOne = (p : Program) (slot next : ℕ) (values after : ℕ → ℕ) → IsProgram p → IsFormed p → IsEdge p slot next → IsSome (insn_at p next) → AreCounted p slot next values after → weight_left p after next + 1 ≤ weight_left p values slot
 
 -- one is left where a run stands, whatever the counters' values
 abbrev pub OneIsLeft : Type 0
-OneIsLeft = (p : Program) (slot : ℕ) (values : ℕ → ℕ) → IsProgram p → IsFormed p → IsSome (insn_at p slot) → 1 ≤ left_at p values slot
+OneIsLeft = (p : Program) (slot : ℕ) (values : ℕ → ℕ) → IsProgram p → IsFormed p → IsSome (insn_at p slot) → 1 ≤ weight_left p values slot
 
 -- into a loop a run comes at its head alone, and to its back from the slot before. An instruction of two slots cannot
 -- step over the head, since the back jump leads there, and so an instruction begins there

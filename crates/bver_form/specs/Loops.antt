@@ -108,33 +108,33 @@ pub record IsEdge (p : Program) (slot next : ℕ) : Type 0 where
 
 -- how often the loop's body is still passed after this pass, when a run stands in it at the slot with that value of
 -- its counter, which was taken down already at the back
-abbrev pub further : Loop → (value slot : ℕ) → ℕ
-further l value slot = if slot == l.back then value else value - 1
+abbrev pub further_passes : Loop → (value slot : ℕ) → ℕ
+further_passes l value slot = if slot == l.back then value else value - 1
 
 -- how often the instruction at slot `i` may still be executed when a run stands at slot `slot`, and each loop's
 -- counter has the value of its head
-unfoldable pub left : List Loop → (values : ℕ → ℕ) → (i slot : ℕ) → ℕ
-left [] values i slot = if nat_le slot i then 1 else 0
-left (l ∷ ls) values i slot =
+unfoldable pub executions_left : List Loop → (values : ℕ → ℕ) → (i slot : ℕ) → ℕ
+executions_left [] values i slot = if nat_le slot i then 1 else 0
+executions_left (l ∷ ls) values i slot =
     if holds l i
     then (if nat_lt slot l.head then times_at (l ∷ ls) i
     else (if nat_lt l.back slot then 0
-    else further l (values l.head) slot * times_at ls i + left ls values i slot))
-    else left ls values i slot
+    else further_passes l (values l.head) slot * times_at ls i + executions_left ls values i slot))
+    else executions_left ls values i slot
 
 -- the same for an instruction, and nothing for a second slot
-abbrev pub left_part : List Loop → (values : ℕ → ℕ) → (i slot : ℕ) → Option Insn → ℕ
-left_part loops values i slot None = 0
-left_part loops values i slot (Some insn) = left loops values i slot
+abbrev pub executions_of_part : List Loop → (values : ℕ → ℕ) → (i slot : ℕ) → Option Insn → ℕ
+executions_of_part loops values i slot None = 0
+executions_of_part loops values i slot (Some insn) = executions_left loops values i slot
 
 -- the sum of that over the slots from one on
-unfoldable pub left_from : List Loop → (values : ℕ → ℕ) → (slot i : ℕ) → List (Option Insn) → ℕ
-left_from loops values slot i [] = 0
-left_from loops values slot i (x ∷ xs) = left_part loops values i slot x + left_from loops values slot (i + 1) xs
+unfoldable pub weight_left_from : List Loop → (values : ℕ → ℕ) → (slot i : ℕ) → List (Option Insn) → ℕ
+weight_left_from loops values slot i [] = 0
+weight_left_from loops values slot i (x ∷ xs) = executions_of_part loops values i slot x + weight_left_from loops values slot (i + 1) xs
 
 -- how many instructions a run may still take that stands at the slot with these values of the counters
-abbrev pub left_at : Program → (values : ℕ → ℕ) → (slot : ℕ) → ℕ
-left_at p values slot = left_from p.loops values slot 0 p.slots
+abbrev pub weight_left : Program → (values : ℕ → ℕ) → (slot : ℕ) → ℕ
+weight_left p values slot = weight_left_from p.loops values slot 0 p.slots
 
 -- what a step from the slot to the next does to the counter of a loop, whose value was and is then: in the loop it is
 -- taken down before the back alone, at the head it is within the bound, and on the way back it is not zero

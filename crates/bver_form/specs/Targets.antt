@@ -48,12 +48,12 @@ pub record AreKept (p : Program) (marks : List Bool) : Type 0 where
 -- ---- their numbers
 
 -- the number of a slot that has none
-abbrev pub nowhere : ℕ
-nowhere = 65535
+abbrev pub no_place : ℕ
+no_place = 65535
 
 -- the number of a slot
 abbrev pub place_at : List ℕ → (slot : ℕ) → ℕ
-place_at places slot = slice_index_or places slot nowhere
+place_at places slot = slice_index_or places slot no_place
 
 -- the marked slots are numbered, by rising slot, below so many, and no other
 pub record IsNumbered (marks : List Bool) (places : List ℕ) (count : ℕ) : Type 0 where
@@ -68,6 +68,6 @@ pub record IsNumbering (marks : List Bool) (places : List ℕ) (count upto : ℕ
   pub few : count ≤ upto
   pub all : (slot : ℕ) → slot < upto → IsMarked marks slot → place_at places slot < count
   pub only : (slot : ℕ) → place_at places slot < count → IsMarked marks slot
-  pub either : (slot : ℕ) → (place_at places slot < count) ⊎ (place_at places slot ≡ nowhere)
-  pub rest : (slot : ℕ) → upto ≤ slot → place_at places slot ≡ nowhere
+  pub either : (slot : ℕ) → (place_at places slot < count) ⊎ (place_at places slot ≡ no_place)
+  pub rest : (slot : ℕ) → upto ≤ slot → place_at places slot ≡ no_place
   pub rising : (a b : ℕ) → a < b → place_at places a < count → place_at places b < count → place_at places a < place_at places b

@@ -2,7 +2,7 @@
 
 ghost use Rattle.std.specs.Prelude.{◌≡◌, ◌≤◌, ◌<◌, ◌+◌, ◌⊎◌, ℕ, IfOk, IsTrue, Some, false, length, slice_index_or};
 ghost use Rattle.bpf.specs.Program.{insn_at};
-ghost use Rattle.bver_form.specs.Targets.{AreKept, IsMarked, IsNumbered, IsNumbering, JumpsTo, landing_from, nowhere, place_at};
+ghost use Rattle.bver_form.specs.Targets.{AreKept, IsMarked, IsNumbered, IsNumbering, JumpsTo, landing_from, no_place, place_at};
 
 use crate::jumps::landing;
 use bpf::Image;
@@ -87,7 +87,7 @@ fn number_slot(kept: &Vec<bool>, places: &mut Vec<u16>, slot: usize, count: u16)
 pub fn number_slots(kept: &Vec<bool>, places: &mut Vec<u16>) -> u16
     requires size { length places.old.items ≡ length kept.now.items }
     requires few { length kept.now.items ≤ 512 }
-    requires nowhere { (k : ℕ) → place_at places.old.items k ≡ nowhere }
+    requires nowhere { (k : ℕ) → place_at places.old.items k ≡ no_place }
     ensures { IsNumbered kept.now.items places.new.items result }
 {
     let mut count = 0;

@@ -23,12 +23,12 @@ abbrev pub calls_of : (sizes : List ℕ) → List Draw → List Call
 calls_of sizes draws = map (λ d. call (question d.helper (cell_of sizes d.word).0 (cell_of sizes d.word).1) d.answer) draws
 
 -- how many tickets are drawn from a cell at least, once the draw is done: a ticket is one more
-abbrev pub drawn_after : Draw → ℕ
-drawn_after d = d.exact + cond (d.helper == 2) 1 0
+abbrev pub tickets_after : Draw → ℕ
+tickets_after d = d.exact + cond (d.helper == 2) 1 0
 
 -- a draw of that cell knew of no more tickets than so many
 abbrev pub IsBehind : (word drawn : ℕ) → Draw → Type 0
-IsBehind word drawn d = d.word ≡ word → drawn_after d ≤ drawn
+IsBehind word drawn d = d.word ≡ word → tickets_after d ≤ drawn
 
 -- whether it is a ticket of that cell
 abbrev pub is_ticket : (word : ℕ) → Draw → Bool

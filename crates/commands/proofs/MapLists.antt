@@ -4,7 +4,7 @@ use Rattle.std.proofs.lemmas.List.{map_push, take_more}
 use Rattle.std.proofs.lemmas.List.Elements.{All-cons, All-head, All-map, All-nil, All-tail}
 use Rattle.std.specs.Str.Parse.{digits_value}
 use Rattle.machine.specs.Sizes.{AreSizes}
-use Rattle.commands.specs.Options.{IsSize, IsMapList, list_parts, numbers_written}
+use Rattle.commands.specs.Options.{IsSize, IsMapList, list_parts, listed_numbers}
 
 -- one more element of a list is mapped
 pub map-one_more : {X : Type 0} (f : X → ℕ) (xs : List X) (i : ℕ) (d : X) (old new : List ℕ) (n : ℕ) → i < length xs
@@ -15,7 +15,7 @@ map-one_more f xs i d old new n inside joined is before =
 
 -- the numbers of texts are those of the list that they are the parts of
 pub numbers_of : {X : Type 0} (f : X → List ℕ) (xs : List X) (text : List ℕ) → map f xs ≡ list_parts text
-    → map (λ x. digits_value 10 (f x)) xs ≡ numbers_written text
+    → map (λ x. digits_value 10 (f x)) xs ≡ listed_numbers text
 numbers_of f xs text are = map_twice f xs ∙ ap (map (λ part. digits_value 10 part)) are
   where
     map_twice : {X : Type 0} (f : X → List ℕ) (xs : List X) → map (λ x. digits_value 10 (f x)) xs ≡ map (λ part. digits_value 10 part) (map f xs)
@@ -33,9 +33,9 @@ are_sizes f xs text are list = unmapped (λ part. IsSize part) f xs (subst (All 
 
 -- parts that are sizes, and numbers that are those of maps, make a list
 pub map_list : {X : Type 0} (f : X → List ℕ) (xs : List X) (text sizes : List ℕ) → map f xs ≡ list_parts text → All (λ x. IsSize (f x)) xs
-    → sizes ≡ map (λ x. digits_value 10 (f x)) xs → AreSizes sizes → IsMapList text × (sizes ≡ numbers_written text)
+    → sizes ≡ map (λ x. digits_value 10 (f x)) xs → AreSizes sizes → IsMapList text × (sizes ≡ listed_numbers text)
 map_list f xs text sizes are all written allowed =
-    let numbers : sizes ≡ numbers_written text = written ∙ numbers_of f xs text are in (
+    let numbers : sizes ≡ listed_numbers text = written ∙ numbers_of f xs text are in (
       (subst (All (λ part. IsSize part)) are (All-map (λ part. IsSize part) f xs all), subst AreSizes numbers allowed),
       numbers,
     )

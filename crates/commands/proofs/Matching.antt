@@ -8,7 +8,7 @@ use Rattle.clap.specs.Values.{kind_of}
 use Rattle.clap.proofs.OnLiterals.{clap_on_literals}
 use Rattle.clap.specs.declared.error.kind.ErrorKind.TheVariants.{OutOfMemory}
 use Rattle.clap.specs.declared.error.Error.{Error}
-use Rattle.commands.specs.CommandLine.{rmapctl_app, found_in, AreTaken, NamesNone, LacksJob, TellsRefusal}
+use Rattle.commands.specs.CommandLine.{rmapctl_app, subcommand_in, AreTaken, NamesNone, LacksJob, TellsRefusal}
 use Rattle.commands.specs.declared.usage.UsageFault.{UsageFault}
 use Rattle.commands.specs.declared.usage.UsageFault.TheVariants.{Parse, BadOption, Memory}
 
@@ -21,7 +21,7 @@ unfolding clap_on_literals rmapctl_app
 is_free-rmapctl_app = refl
 
 -- a fault of the matches of words that clap takes is one of the words
-pub lacks_job : (words : List Text) (fault : UsageFault) → AreTaken words → LacksJob (found_in words) fault → NamesNone words fault
+pub lacks_job : (words : List Text) (fault : UsageFault) → AreTaken words → LacksJob (subcommand_in words) fault → NamesNone words fault
 lacks_job words (Parse text) taken h = absurd h
 lacks_job words BadOption taken h = (taken, h)
 lacks_job words Memory taken h = h

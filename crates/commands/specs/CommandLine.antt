@@ -29,8 +29,8 @@ rmapctl_app =
     asm_app.top) dis_app.top) verify_app.top) judge_app.top
 
 -- the subcommand that clap finds in the words, with its matches
-abbrev pub found_in : List Text → Option (Text × List Row)
-found_in words = subcommand_of rmapctl_app words
+abbrev pub subcommand_in : List Text → Option (Text × List Row)
+subcommand_in words = subcommand_of rmapctl_app words
 
 -- the job is that of the subcommand with its matches
 abbrev pub Names : Option (Text × List Row) → Job → Type 0
@@ -70,10 +70,10 @@ AreTaken words = fault_of rmapctl_app words ≡ []
 
 -- the words name the job: clap takes them, and the subcommand that it finds names it
 abbrev pub NamesJob : List Text → Job → Type 0
-NamesJob words job = AreTaken words × Names (found_in words) job
+NamesJob words job = AreTaken words × Names (subcommand_in words) job
 
 -- the words name no job: clap refuses them, or takes them and what it finds is incomplete, or memory was refused
 abbrev pub NamesNone : List Text → UsageFault → Type 0
 NamesNone words Memory = Unit {0}
-NamesNone words BadOption = AreTaken words × IsIncomplete (found_in words)
+NamesNone words BadOption = AreTaken words × IsIncomplete (subcommand_in words)
 NamesNone words (Parse text) = ¬ AreTaken words

@@ -6,7 +6,7 @@ use Rattle.bpf_insn.specs.declared.insn.Insn.TheVariants.{Alu, Exit}
 use Rattle.bpf_parts.specs.declared.operation.AluOp.TheVariants.{Mov}
 use Rattle.bpf_parts.specs.declared.operation.Operand.TheVariants.{Immediate}
 use Rattle.bpf_parts.specs.declared.operation.Width.TheVariants.{Bits64}
-use Rattle.bpf.specs.Parts.{placed}
+use Rattle.bpf.specs.Parts.{placed_slots}
 use Rattle.bpf.specs.Program.{Program, program}
 use Rattle.bpf.specs.declared.fault.ImageFault.TheVariants as faults
 use Rattle.commands.specs.declared.faults.Fault.{Fault}
@@ -19,7 +19,7 @@ factory_insns = Alu Mov Bits64 0 (Immediate (pos 0)) ∷ Exit ∷ []
 -- the program that judges where no image is named, which is yes to every command: these two
 -- instructions, no loops, and a budget for two steps
 abbrev pub factory : Program
-factory = program 2 [] (flat_map placed factory_insns)
+factory = program 2 [] (flat_map placed_slots factory_insns)
 
 -- why there is no factory program: memory was refused to its image, or to the verifier
 abbrev pub IsNoFactory : Fault → Type 0

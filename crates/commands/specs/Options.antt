@@ -20,12 +20,12 @@ abbrev pub list_parts : List ℕ → List (List ℕ)
 list_parts text = slice_split (λ code. code == 44) text
 
 -- the numbers that the parts of a list write
-abbrev pub numbers_written : List ℕ → List ℕ
-numbers_written text = map (λ part. digits_value 10 part) (list_parts text)
+abbrev pub listed_numbers : List ℕ → List ℕ
+listed_numbers text = map (λ part. digits_value 10 part) (list_parts text)
 
 -- a list of sizes that the counter maps of a node may have
 abbrev pub IsMapList : List ℕ → Type 0
-IsMapList text = All (λ part. IsSize part) (list_parts text) × AreSizes (numbers_written text)
+IsMapList text = All (λ part. IsSize part) (list_parts text) × AreSizes (listed_numbers text)
 
 -- how many ports a node has: one to 32
 abbrev pub IsPortCount : List ℕ → Type 0
@@ -34,7 +34,7 @@ IsPortCount word = IsNumberWithin 1 32 word
 -- the sizes are those that the option's value writes; without the option there are no maps
 abbrev pub GivesSizes : Option (List ℕ) → Maps → Type 0
 GivesSizes None sizes = sizes ≡ []
-GivesSizes (Some text) sizes = IsMapList text × (sizes ≡ numbers_written text)
+GivesSizes (Some text) sizes = IsMapList text × (sizes ≡ listed_numbers text)
 
 -- the number of ports is what the option's value writes; without the option it is one
 abbrev pub GivesPorts : Option (List ℕ) → ℕ → Type 0

@@ -2,7 +2,7 @@
 use Rattle.std.specs.Prelude.{ℕ, List, Option}
 use Rattle.std.specs.Io.KnownBytes.{Appends}
 use Rattle.bpf.specs.Program.{Program}
-use Rattle.bpf.specs.Weight.{weight_of, saturated}
+use Rattle.bpf.specs.Weight.{weight_of, saturated_weight}
 use Rattle.bver.specs.Justified.{IsJustified}
 use Rattle.machine.specs.Runs.{IsSafe}
 use Rattle.machine.specs.Sizes.{Maps}
@@ -16,4 +16,4 @@ pub record Verifies {S : Type 0} (reads : Reads S) (before : S) (name : List ℕ
   pub image : HoldsImage reads before name program after
   pub justified : IsJustified program sizes
   pub safe : IsSafe program sizes
-  pub line : Appends old new (accepted_line (saturated (weight_of program)) program.budget)
+  pub line : Appends old new (accepted_line (saturated_weight (weight_of program)) program.budget)

@@ -4,7 +4,7 @@ ghost use Rattle.std.specs.Prelude.{◌≡◌, ◌⊎◌, All, IfErr, IfOk, Matc
 ghost use Rattle.std.specs.Str.Parse.{digits_value};
 ghost use Rattle.clap.specs.Walk.{first_of, rows_of};
 ghost use Rattle.clap.specs.Matches.{found_of};
-ghost use Rattle.commands.specs.Options.{GivesPorts, GivesSizes, IsMapList, IsPortCount, IsSize, RefusesCount, RefusesList, list_parts, numbers_written};
+ghost use Rattle.commands.specs.Options.{GivesPorts, GivesSizes, IsMapList, IsPortCount, IsSize, RefusesCount, RefusesList, list_parts, listed_numbers};
 
 use crate::arguments::text_of;
 use crate::usage::UsageFault;
@@ -64,7 +64,7 @@ fn parts_of(alloc: Global, text: &str) -> Result<Vec<&str>, AllocError>
 
 /// The sizes of counter maps that a list writes.
 fn map_sizes(alloc: Global, text: &str) -> Result<MapSizes, UsageFault>
-    ensures ok { IfOk result (λ sizes. IsMapList text.now × (sizes ≡ numbers_written text.now)) }
+    ensures ok { IfOk result (λ sizes. IsMapList text.now × (sizes ≡ listed_numbers text.now)) }
     ensures err { IfErr result (λ fault. (fault ≡ UsageFault.Memory)
         ⊎ ((fault ≡ UsageFault.BadOption) × ¬ IsMapList text.now)) }
 {

@@ -27,11 +27,11 @@ use Rattle.machine.specs.declared.regions.Region.{Region}
 use Rattle.machine.specs.declared.regions.Region.TheVariants.{Front, Tail, Stack}
 use Rattle.machine.specs.declared.values.Value.{Value}
 use Rattle.machine.specs.declared.values.Value.TheVariants.{Unset, Num, Ptr, Map}
-use Rattle.machine.specs.Words.{modulus, low, word, alu_words, negated, extended, swapped}
+use Rattle.machine.specs.Words.{modulus, low_part, word, alu_words, negation, sign_extension, swapped_bytes}
 use Rattle.bpf_parts.specs.Sizes.{load_bytes}
-use Rattle.machine.specs.Memory.{Header, IsHeader, place_of, byte_of, byte_after, byte_below, little, loaded}
+use Rattle.machine.specs.Memory.{Header, IsHeader, place_of, byte_of, byte_after, byte_below, little_endian, loaded_value}
 use Rattle.machine.specs.State.{State, state, entry_state}
-use Rattle.machine.specs.Step.{Outcome, Next, Ask, Verdict, Trap, operand, on_number, copied, copied_by, moved_by, alu, writes, load_value, bytes_at, loads, map_at, answered, exits, perform, knows_flow, perform_in, insn_at, step}
+use Rattle.machine.specs.Step.{Outcome, Next, Ask, Verdict, Trap, operand, number_result, copied_value, moved_value, moved_pointer, alu, writes, load_value, bytes_at, loads, map_at, after_answer, exits, perform, knows_flow, perform_in, insn_at, step}
 use Rattle.machine.specs.Runs.{Path, entry, moves, Runs}
 use Rattle.machine.specs.Runs as runs
 use Rattle.machine.specs.Laws.{FitsWord, FitsByte, IsBounded}
@@ -52,11 +52,11 @@ modulus_most Bits64 n h = h
 word_fits : (z : ℤ) → word z < 2 ^ 64
 word_fits z = residue_small (2 ^ 64) z (lit< tt)
 
-low_fits : (width : Width) (n : ℕ) → n < 2 ^ 64 → low width n < 2 ^ 64
+low_fits : (width : Width) (n : ℕ) → n < 2 ^ 64 → low_part width n < 2 ^ 64
 low_fits Bits32 n h = let small : n % 2 ^ 32 < 2 ^ 32 = mod_below n (2 ^ 32) (lit< tt) in omega arith
 low_fits Bits64 n h = h
 
-copied_fits : (width : Width) (v : Value) → FitsWord v → FitsResult (copied width v)
+copied_fits : (width : Width) (v : Value) → FitsWord v → FitsResult (copied_value width v)
 copied_fits width Unset h = tt
 copied_fits width (Num n) h = low_fits width n h
 copied_fits Bits32 (Ptr region offset) h = tt
@@ -64,7 +64,7 @@ copied_fits Bits64 (Ptr region offset) h = tt
 copied_fits Bits32 (Map index) h = tt
 copied_fits Bits64 (Map index) h = tt
 
-copied_by_fits : (op : AluOp) (width : Width) (v : Value) → FitsWord v → FitsResult (copied_by op width v)
+copied_by_fits : (op : AluOp) (width : Width) (v : Value) → FitsWord v → FitsResult (moved_value op width v)
 copied_by_fits Add width v h = tt
 copied_by_fits Sub width v h = tt
 copied_by_fits Mul width v h = tt
@@ -80,7 +80,7 @@ copied_by_fits Xor width v h = tt
 copied_by_fits Mov width v h = copied_fits width v h
 copied_by_fits Arsh width v h = tt
 
-moved_by_fits : (op : AluOp) (region : Region) (offset : ℤ) (n : ℕ) → n < 2 ^ 64 → FitsResult (moved_by op region offset n)
+moved_by_fits : (op : AluOp) (region : Region) (offset : ℤ) (n : ℕ) → n < 2 ^ 64 → FitsResult (moved_pointer op region offset n)
 moved_by_fits Add region offset n h = tt
 moved_by_fits Sub region offset n h = tt
 moved_by_fits Mul region offset n h = tt
@@ -109,17 +109,17 @@ alu_fits op width (Ptr region offset) (Map index) h k = copied_by_fits op width 
 alu_fits op width Unset value h k = copied_by_fits op width value k
 alu_fits op width (Map index) value h k = copied_by_fits op width value k
 
-on_number_fits : (f : ℕ → ℕ) → ((n : ℕ) → n < 2 ^ 64 → f n < 2 ^ 64) → (v : Value) → FitsWord v → FitsResult (on_number f v)
+on_number_fits : (f : ℕ → ℕ) → ((n : ℕ) → n < 2 ^ 64 → f n < 2 ^ 64) → (v : Value) → FitsWord v → FitsResult (number_result f v)
 on_number_fits f g Unset h = tt
 on_number_fits f g (Num n) h = g n h
 on_number_fits f g (Ptr region offset) h = tt
 on_number_fits f g (Map index) h = tt
 
-negated_fits : (width : Width) (n : ℕ) → n < 2 ^ 64 → negated width n < 2 ^ 64
+negated_fits : (width : Width) (n : ℕ) → n < 2 ^ 64 → negation width n < 2 ^ 64
 negated_fits Bits32 n h = modulus_most Bits32 _ (mod_below (2 ^ 32 - n % 2 ^ 32) (2 ^ 32) (lit< tt))
 negated_fits Bits64 n h = mod_below (2 ^ 64 - n) (2 ^ 64) (lit< tt)
 
-extended_fits : (extension : Extension) (n : ℕ) → n < 2 ^ 64 → extended extension n < 2 ^ 64
+extended_fits : (extension : Extension) (n : ℕ) → n < 2 ^ 64 → sign_extension extension n < 2 ^ 64
 extended_fits ByteTo32 n h = modulus_most Bits32 _ (residue_small (2 ^ 32) (cast_signed w8 (n % 2 ^ 8)) (lit< tt))
 extended_fits HalfTo32 n h = modulus_most Bits32 _ (residue_small (2 ^ 32) (cast_signed w16 (n % 2 ^ 16)) (lit< tt))
 extended_fits ByteTo64 n h = word_fits (cast_signed w8 (n % 2 ^ 8))
@@ -135,7 +135,7 @@ swap_32_fits n = omega arith
 swap_64_fits : (n : ℕ) → swap_bytes w64 n < 2 ^ 64
 swap_64_fits n = omega arith
 
-swapped_fits : (swap : Swap) (bits : SwapBits) (n : ℕ) → n < 2 ^ 64 → swapped swap bits n < 2 ^ 64
+swapped_fits : (swap : Swap) (bits : SwapBits) (n : ℕ) → n < 2 ^ 64 → swapped_bytes swap bits n < 2 ^ 64
 swapped_fits ToLittle Swap16 n h = omega arith
 swapped_fits ToLittle Swap32 n h = omega arith
 swapped_fits ToLittle Swap64 n h = h
@@ -162,18 +162,18 @@ byte_below_fits n None rest g h = tt
 byte_below_fits n (Some b) None g h = tt
 byte_below_fits n (Some b) (Some r) g h = let e : 256 ^ (suc n) ≡ 256 * 256 ^ n = pow-succ' 256 n in rw e (omega arith)
 
-little_fits : (byte : ℕ → Option ℕ) → ((place : ℕ) → FitsByte (byte place)) → (bytes place : ℕ) → IsBelow (256 ^ bytes) (little byte bytes place)
-unfolding little
+little_fits : (byte : ℕ → Option ℕ) → ((place : ℕ) → FitsByte (byte place)) → (bytes place : ℕ) → IsBelow (256 ^ bytes) (little_endian byte bytes place)
+unfolding little_endian
 little_fits byte all zero place = lit< tt
 little_fits byte all (suc bytes) place =
-    byte_below_fits bytes (byte place) (little byte bytes (suc place)) (all place) (little_fits byte all bytes (suc place))
+    byte_below_fits bytes (byte place) (little_endian byte bytes (suc place)) (all place) (little_fits byte all bytes (suc place))
 
 byte_in : (bytes : List ℕ) (place : ℕ) → All (λ b. b < 256) bytes → FitsByte (slice_get bytes place)
 byte_in [] place all = tt
 byte_in (b ∷ bytes) zero all = all 0 0 (omega arith)
 byte_in (b ∷ bytes) (suc place) all = byte_in bytes place (λ k d l. all (suc k) d (omega arith))
 
-loaded_fits : (size : LoadSize) (n : ℕ) → n < 256 ^ load_bytes size → loaded size n < 2 ^ 64
+loaded_fits : (size : LoadSize) (n : ℕ) → n < 256 ^ load_bytes size → loaded_value size n < 2 ^ 64
 loaded_fits LoadByte n h = omega arith
 loaded_fits LoadHalf n h = omega arith
 loaded_fits LoadWord n h = omega arith
@@ -240,7 +240,7 @@ module _ (header : Header) (s : State) (is_header : IsHeader header) (bounded : 
   map_at_fits (pos index) = tt
   map_at_fits (negsuc n) = tt
 
-  answered_fits : (answer : ℕ) → answer < 2 ^ 64 → IsBounded (answered s answer)
+  answered_fits : (answer : ℕ) → answer < 2 ^ 64 → IsBounded (after_answer s answer)
   answered_fits answer h =
       record {
         registers = λ k.
@@ -261,9 +261,9 @@ module _ (header : Header) (s : State) (is_header : IsHeader header) (bounded : 
 
   perform_fits : (insn : Insn) → IsInsn insn → IsBoundedAfter (perform header s insn)
   perform_fits (insns.Alu op width dst src) i = writes_fit _ dst _ (alu_fits op width (s.registers dst) (operand s src) (bounded.registers dst) (operand_fits src))
-  perform_fits (insns.Negate width dst) i = writes_fit _ dst _ (on_number_fits (negated width) (negated_fits width) (s.registers dst) (bounded.registers dst))
-  perform_fits (insns.MoveSigned extension dst src) i = writes_fit _ dst _ (on_number_fits (extended extension) (extended_fits extension) (s.registers src) (bounded.registers src))
-  perform_fits (insns.ByteSwap swap bits dst) i = writes_fit _ dst _ (on_number_fits (swapped swap bits) (swapped_fits swap bits) (s.registers dst) (bounded.registers dst))
+  perform_fits (insns.Negate width dst) i = writes_fit _ dst _ (on_number_fits (negation width) (negated_fits width) (s.registers dst) (bounded.registers dst))
+  perform_fits (insns.MoveSigned extension dst src) i = writes_fit _ dst _ (on_number_fits (sign_extension extension) (extended_fits extension) (s.registers src) (bounded.registers src))
+  perform_fits (insns.ByteSwap swap bits dst) i = writes_fit _ dst _ (on_number_fits (swapped_bytes swap bits) (swapped_fits swap bits) (s.registers dst) (bounded.registers dst))
   perform_fits (insns.Load size dst place) i = writes_fit _ dst _ (loads_fit size (s.registers place.base) place.offset)
   perform_fits (insns.Store size place src) i = stores_so IsBoundedAfter tt s stored_fits size (s.registers place.base) place.offset (operand s src)
   perform_fits (insns.Jump comparison offset) i = compares_so IsBoundedAfter tt s moves_fit comparison.condition comparison.width offset (s.registers comparison.dst) (operand s comparison.src)

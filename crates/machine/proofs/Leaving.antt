@@ -11,7 +11,7 @@ use Rattle.machine.specs.declared.values.Value.{Value}
 use Rattle.machine.specs.declared.values.Value.TheVariants.{Num}
 use Rattle.machine.specs.Memory.{Header}
 use Rattle.machine.specs.State.{State, state, register_after, register_after_call}
-use Rattle.machine.specs.Step.{Outcome, Next, Ask, Verdict, Trap, answered, writes, is_helper, perform, perform_at, knows_flow, perform_in, insn_at}
+use Rattle.machine.specs.Step.{Outcome, Next, Ask, Verdict, Trap, after_answer, writes, is_helper, perform, perform_at, knows_flow, perform_in, insn_at}
 use Rattle.machine.specs.Laws.{StepPerforms, IsLeftBy, AreLeftBy, InstructionsLeave, StepsLeave, InstructionsGoOn, QuestionsGoOn}
 use Rattle.machine.proofs.Outcomes.{unless, where_so, lands_so, compares_so, stores_so, calls_so, exits_so}
 
@@ -99,7 +99,7 @@ steps_leave program header insn s e =
 
 abbrev GoesOn : State → Outcome → Type 0
 GoesOn s (Next t) = Unit {0}
-GoesOn s (Ask question on) = on ≡ answered s
+GoesOn s (Ask question on) = on ≡ after_answer s
 GoesOn s (Verdict verdict) = Unit {0}
 GoesOn s Trap = Unit {0}
 

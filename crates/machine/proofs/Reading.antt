@@ -3,7 +3,7 @@ use Rattle.std.proofs.Common.{lit<, ◌≡◌, ℕ, zero, suc, ◌+◌, ◌-◌,
 use Rattle.std.proofs.Math.Nat.{pow-suc, pow-succ', div-div-eq-div-mul, div-one, mod-one}
 use Rattle.std.proofs.Math.Arith.{mod-mul}
 use Rattle.std.proofs.lemmas.Bool.Decides.{nat_tests}
-use Rattle.machine.specs.Memory.{little, byte_after}
+use Rattle.machine.specs.Memory.{little_endian, byte_after}
 use Rattle.machine.specs.Laws.{BytesAreRead}
 
 turned : (a b : ℕ) → a * 256 + b ≡ b + 256 * a
@@ -20,8 +20,8 @@ written stack bytes start n i l =
     rw e (grind (arith, nat_tests))
 
 -- what the bytes of a number from a place on are read as
-digits_read : (byte : ℕ → Option ℕ) (bytes place n : ℕ) → ((i : ℕ) → i < bytes → byte (place + i) ≡ Some (n / 256 ^ i % 256)) → little byte bytes place ≡ Some (n % 256 ^ bytes)
-unfolding little
+digits_read : (byte : ℕ → Option ℕ) (bytes place n : ℕ) → ((i : ℕ) → i < bytes → byte (place + i) ≡ Some (n / 256 ^ i % 256)) → little_endian byte bytes place ≡ Some (n % 256 ^ bytes)
+unfolding little_endian
 digits_read byte zero place n h = rw (mod-one n) refl
 digits_read byte (suc bytes) place n h =
     let p : place + 0 ≡ place = omega arith in
@@ -33,7 +33,7 @@ digits_read byte (suc bytes) place n h =
     let e : n / 256 ^ suc i ≡ n / 256 / 256 ^ i = ap (λ m. n / m) (pow-succ' 256 i) ∙ sym (div-div-eq-div-mul n 256 (256 ^ i)) in
     rw (q, e) at (h (suc i) (omega arith))
     in
-    let rest : little byte bytes (suc place) ≡ Some (n / 256 % 256 ^ bytes) = digits_read byte bytes (suc place) (n / 256) above in
+    let rest : little_endian byte bytes (suc place) ≡ Some (n / 256 % 256 ^ bytes) = digits_read byte bytes (suc place) (n / 256) above in
     let some : 0 < 256 ^ bytes = positive bytes in
     let whole : n % 256 ^ suc bytes ≡ n % 256 + 256 * (n / 256 % 256 ^ bytes) =
     ap (λ m. n % m) (pow-suc 256 bytes) ∙ mod-mul n some (lit< tt) ∙ turned (n / 256 % 256 ^ bytes) (n % 256)

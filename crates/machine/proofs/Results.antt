@@ -7,13 +7,13 @@ use Rattle.bpf_parts.specs.declared.operation.Width.{Width}
 use Rattle.bpf_parts.specs.declared.operation.Width.TheVariants.{Bits32, Bits64}
 use Rattle.bpf_parts.specs.declared.operation.AluOp.{AluOp}
 use Rattle.bpf_parts.specs.declared.operation.AluOp.TheVariants.{Add, Sub, Mul, Div, SignedDiv, Or, And, Lsh, Rsh, Mod, SignedMod, Xor, Mov, Arsh}
-use Rattle.machine.specs.Words.{bits_of, modulus, low, residue, alu_low, alu_words}
+use Rattle.machine.specs.Words.{bits_of, modulus, low_part, residue, alu_low, alu_words}
 
 modulus_positive : (width : Width) → 0 < modulus width
 modulus_positive Bits32 = lit< tt
 modulus_positive Bits64 = lit< tt
 
-low_small : (width : Width) (n : ℕ) → n < 2 ^ 64 → low width n < modulus width
+low_small : (width : Width) (n : ℕ) → n < 2 ^ 64 → low_part width n < modulus width
 low_small Bits32 n h = mod_below n (2 ^ 32) (lit< tt)
 low_small Bits64 n h = h
 
@@ -53,4 +53,4 @@ alu_low_small Mov width a b h k = k
 alu_low_small Arsh width a b h k = residue_small (modulus width) _ (modulus_positive width)
 
 pub results_small : (op : AluOp) (width : Width) (a b : ℕ) → a < 2 ^ 64 → b < 2 ^ 64 → alu_words op width a b < modulus width
-results_small op width a b h k = alu_low_small op width (low width a) (low width b) (low_small width a h) (low_small width b k)
+results_small op width a b h k = alu_low_small op width (low_part width a) (low_part width b) (low_small width a h) (low_small width b k)

@@ -5,8 +5,8 @@ use Rattle.std.proofs.lemmas.List.{length-take, take-append-drop}
 use Rattle.machine.specs.Sizes.{Maps}
 
 -- a list of at most eight sizes, with zeros up to eight
-abbrev pub padded : Maps → List ℕ
-padded sizes = sizes ++ replicate (8 - length sizes) 0
+abbrev pub padded_sizes : Maps → List ℕ
+padded_sizes sizes = sizes ++ replicate (8 - length sizes) 0
 
 -- there are eight cells, and all behind so many are zero
 pub record IsPadded (count : ℕ) (cells : List ℕ) : Type 0 where
@@ -19,7 +19,7 @@ pub length-front : (count : ℕ) (cells : List ℕ) → IsPadded count cells →
 length-front count cells h = let few = h.few in let len = h.len in omega (arith, length-take count cells)
 
 -- with zeros up to eight, the cells in front are all of them
-pub padded-front : (count : ℕ) (cells : List ℕ) → IsPadded count cells → padded (take count cells) ≡ cells
+pub padded-front : (count : ℕ) (cells : List ℕ) → IsPadded count cells → padded_sizes (take count cells) ≡ cells
 padded-front count cells h =
     let len = length-front count cells h in
     let zeros : replicate (8 - length (take count cells)) 0 ≡ drop count cells = ap (λ (n : ℕ). replicate (8 - n) 0) len ∙ sym h.zeros in

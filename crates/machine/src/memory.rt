@@ -2,15 +2,15 @@
 
 ghost use Rattle.std.specs.Prelude.{◌≡◌, ◌^◌, ◌<◌};
 ghost use Rattle.bpf_parts.specs.Sizes.{load_bytes};
-ghost use Rattle.machine.specs.Memory.{loaded};
+ghost use Rattle.machine.specs.Memory.{loaded_value};
 
 use crate::words::word;
 use bpf_insn::LoadSize;
 
 /// The word that the bytes of a load give, read as a number. The condition is a number of so many bytes.
-pub fn loaded(size: LoadSize, n: u64) -> u64
+pub fn loaded_value(size: LoadSize, n: u64) -> u64
     requires { n < 256 ^ load_bytes size }
-    ensures { result ≡ loaded size n }
+    ensures { result ≡ loaded_value size n }
 {
     match size {
         LoadSize::SignedByte => word(i64::from((n as u8).cast_signed())),

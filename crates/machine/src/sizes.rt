@@ -27,7 +27,7 @@ pub struct MapSizes {
 impl Model for MapSizes {
     ghost use Rattle.std.specs.Prelude.{◌≡◌, ◌≤◌, ◌-◌, ◌++◌, length, take, drop, replicate};
     ghost use Rattle.machine.specs.Sizes.{Maps, AreSizes};
-    ghost use Rattle.machine.specs.Padding.{IsPadded, padded, length-front, padded-front};
+    ghost use Rattle.machine.specs.Padding.{IsPadded, padded_sizes, length-front, padded-front};
 
     ghost Value = { Maps };
 
@@ -35,7 +35,7 @@ impl Model for MapSizes {
 
     ghost invariant = { λ s. IsPadded s.count s.cells × AreSizes (take s.count s.cells) };
 
-    ghost inverse = { λ sizes. record { count = length sizes; cells = padded sizes } };
+    ghost inverse = { λ sizes. record { count = length sizes; cells = padded_sizes sizes } };
 
     ghost inverse_ok = { λ s h i. record { count = length-front s.count s.cells h.0 i; cells = padded-front s.count s.cells h.0 i } };
 }

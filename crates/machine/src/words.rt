@@ -1,7 +1,7 @@
 //! Arithmetic on words (RFC 9669, section 4): what each operation does with two numbers.
 
 ghost use Rattle.std.specs.Prelude.{◌≡◌, ◌^◌, ◌<◌, ◌≤◌};
-ghost use Rattle.machine.specs.Words.{bits_of, modulus, low, signed, wrapped, word, quotient, remainder, signed_quotient, signed_remainder, alu_low, alu_words, negated, extended, low_bits, reversed, swapped, holds_low, holds_words};
+ghost use Rattle.machine.specs.Words.{bits_of, modulus, low_part, signed_value, wrapped_number, word, quotient, remainder, signed_quotient, signed_remainder, alu_low, alu_words, negation, sign_extension, low_bits, reversed_bytes, swapped_bytes, holds_low, holds_words};
 
 use bpf_insn::{AluOp, Condition, Extension, Swap, SwapBits, Width};
 
@@ -27,8 +27,8 @@ pub fn modulus(width: Width) -> u128
 }
 
 /// The part of a word that an operation of this width reads.
-pub fn low(width: Width, n: u64) -> u64
-    ensures { result ≡ low width n }
+pub fn low_part(width: Width, n: u64) -> u64
+    ensures { result ≡ low_part width n }
 {
     match width {
         Width::Bits32 => n % (1 << 32),
@@ -37,9 +37,9 @@ pub fn low(width: Width, n: u64) -> u64
 }
 
 /// A number of this width, read as signed.
-fn signed(width: Width, n: u64) -> i64
+fn signed_value(width: Width, n: u64) -> i64
     requires { n < modulus width }
-    ensures { result ≡ signed width n }
+    ensures { result ≡ signed_value width n }
 {
     match width {
         Width::Bits32 => i64::from((n as u32).cast_signed()),
@@ -48,10 +48,10 @@ fn signed(width: Width, n: u64) -> i64
 }
 
 /// A signed number in this width.
-fn wrapped(width: Width, z: i64) -> u64
-    ensures { result ≡ wrapped width z }
+fn wrapped_number(width: Width, z: i64) -> u64
+    ensures { result ≡ wrapped_number width z }
 {
-    low(width, z.cast_unsigned())
+    low_part(width, z.cast_unsigned())
 }
 
 /// A signed number as a word: an immediate is sign-extended to 64 bits (RFC 9669, section 4.1; for ST a
@@ -59,7 +59,7 @@ fn wrapped(width: Width, z: i64) -> u64
 pub fn word(z: i64) -> u64
     ensures { result ≡ word z }
 {
-    wrapped(Width::Bits64, z)
+    wrapped_number(Width::Bits64, z)
 }
 
 /// Division by zero gives 0.
@@ -85,7 +85,10 @@ fn signed_quotient(width: Width, a: u64, b: u64) -> u64
     if b == 0 {
         0
     } else {
-        wrapped(width, signed(width, a).wrapping_div(signed(width, b)))
+        wrapped_number(
+            width,
+            signed_value(width, a).wrapping_div(signed_value(width, b)),
+        )
     }
 }
 
@@ -98,7 +101,10 @@ fn signed_remainder(width: Width, a: u64, b: u64) -> u64
     if b == 0 {
         a
     } else {
-        wrapped(width, signed(width, a).wrapping_rem(signed(width, b)))
+        wrapped_number(
+            width,
+            signed_value(width, a).wrapping_rem(signed_value(width, b)),
+        )
     }
 }
 
@@ -109,20 +115,20 @@ fn alu_low(op: AluOp, width: Width, a: u64, b: u64) -> u64
     ensures { result ≡ alu_low op width a b }
 {
     match op {
-        AluOp::Add => low(width, a.wrapping_add(b)),
-        AluOp::Sub => low(width, a.wrapping_sub(b)),
-        AluOp::Mul => low(width, a.wrapping_mul(b)),
+        AluOp::Add => low_part(width, a.wrapping_add(b)),
+        AluOp::Sub => low_part(width, a.wrapping_sub(b)),
+        AluOp::Mul => low_part(width, a.wrapping_mul(b)),
         AluOp::Div => quotient(a, b),
         AluOp::SignedDiv => signed_quotient(width, a, b),
         AluOp::Or => a | b,
         AluOp::And => a & b,
-        AluOp::Lsh => low(width, a << (b % bits_of(width))),
+        AluOp::Lsh => low_part(width, a << (b % bits_of(width))),
         AluOp::Rsh => a >> (b % bits_of(width)),
         AluOp::Mod => remainder(a, b),
         AluOp::SignedMod => signed_remainder(width, a, b),
         AluOp::Xor => a ^ b,
         AluOp::Mov => b,
-        AluOp::Arsh => wrapped(width, signed(width, a) >> (b % bits_of(width))),
+        AluOp::Arsh => wrapped_number(width, signed_value(width, a) >> (b % bits_of(width))),
     }
 }
 
@@ -133,27 +139,27 @@ fn alu_low(op: AluOp, width: Width, a: u64, b: u64) -> u64
 pub fn alu_words(op: AluOp, width: Width, a: u64, b: u64) -> u64
     ensures { result ≡ alu_words op width a b }
 {
-    alu_low(op, width, low(width, a), low(width, b))
+    alu_low(op, width, low_part(width, a), low_part(width, b))
 }
 
 /// NEG of a word (RFC 9669, section 4.1), which wraps. At 32 bits the upper half of the result is zero.
-pub fn negated(width: Width, n: u64) -> u64
-    ensures { result ≡ negated width n }
+pub fn negation(width: Width, n: u64) -> u64
+    ensures { result ≡ negation width n }
 {
-    low(width, 0u64.wrapping_sub(low(width, n)))
+    low_part(width, 0u64.wrapping_sub(low_part(width, n)))
 }
 
 /// MOVSX of a word (RFC 9669, section 4.1): its low 8, 16 or 32 bits, sign-extended to 32 or 64 bits. At
 /// 32 bits the upper half of the result is zero.
-pub fn extended(extension: Extension, n: u64) -> u64
-    ensures { result ≡ extended extension n }
+pub fn sign_extension(extension: Extension, n: u64) -> u64
+    ensures { result ≡ sign_extension extension n }
 {
     match extension {
-        Extension::ByteTo32 => wrapped(
+        Extension::ByteTo32 => wrapped_number(
             Width::Bits32,
             i64::from(((n % (1 << 8)) as u8).cast_signed()),
         ),
-        Extension::HalfTo32 => wrapped(
+        Extension::HalfTo32 => wrapped_number(
             Width::Bits32,
             i64::from(((n % (1 << 16)) as u16).cast_signed()),
         ),
@@ -175,8 +181,8 @@ fn low_bits(bits: SwapBits, n: u64) -> u64
 }
 
 /// The low bytes of a word in the other order.
-fn reversed(bits: SwapBits, n: u64) -> u64
-    ensures { result ≡ reversed bits n }
+fn reversed_bytes(bits: SwapBits, n: u64) -> u64
+    ensures { result ≡ reversed_bytes bits n }
 {
     match bits {
         SwapBits::Swap16 => u64::from(((n % (1 << 16)) as u16).swap_bytes()),
@@ -187,12 +193,12 @@ fn reversed(bits: SwapBits, n: u64) -> u64
 
 /// END of a word (RFC 9669, section 4.2), on a little-endian machine. In both classes the whole word is
 /// read, and the width alone decides; the bits above it are zero.
-pub fn swapped(swap: Swap, bits: SwapBits, n: u64) -> u64
-    ensures { result ≡ swapped swap bits n }
+pub fn swapped_bytes(swap: Swap, bits: SwapBits, n: u64) -> u64
+    ensures { result ≡ swapped_bytes swap bits n }
 {
     match swap {
         Swap::ToLittle => low_bits(bits, n),
-        Swap::ToBig | Swap::Reverse => reversed(bits, n),
+        Swap::ToBig | Swap::Reverse => reversed_bytes(bits, n),
     }
 }
 
@@ -208,12 +214,12 @@ fn holds_low(condition: Condition, width: Width, a: u64, b: u64) -> bool
         Condition::GreaterEqual => a >= b,
         Condition::AnyBits => a & b != 0,
         Condition::NotEqual => a != b,
-        Condition::SignedGreater => signed(width, a) > signed(width, b),
-        Condition::SignedGreaterEqual => signed(width, a) >= signed(width, b),
+        Condition::SignedGreater => signed_value(width, a) > signed_value(width, b),
+        Condition::SignedGreaterEqual => signed_value(width, a) >= signed_value(width, b),
         Condition::Less => a < b,
         Condition::LessEqual => a <= b,
-        Condition::SignedLess => signed(width, a) < signed(width, b),
-        Condition::SignedLessEqual => signed(width, a) <= signed(width, b),
+        Condition::SignedLess => signed_value(width, a) < signed_value(width, b),
+        Condition::SignedLessEqual => signed_value(width, a) <= signed_value(width, b),
     }
 }
 
@@ -221,5 +227,5 @@ fn holds_low(condition: Condition, width: Width, a: u64, b: u64) -> bool
 pub fn holds_words(condition: Condition, width: Width, a: u64, b: u64) -> bool
     ensures { result ≡ holds_words condition width a b }
 {
-    holds_low(condition, width, low(width, a), low(width, b))
+    holds_low(condition, width, low_part(width, a), low_part(width, b))
 }

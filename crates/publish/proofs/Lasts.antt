@@ -4,7 +4,7 @@ use Rattle.std.proofs.lemmas.Bool.Decides.{nat_tests}
 use Rattle.std.proofs.lemmas.List.{append-nil}
 use Rattle.bver.specs.Justified.{AcceptedValue}
 use Rattle.publish.specs.declared.history.Publish.{Publish}
-use Rattle.publish.specs.Published.{published_from}
+use Rattle.publish.specs.Published.{judging_from}
 use Rattle.publish.specs.Laws.{AreOthers, IsLast, IsSetByNext, IsLastFor, IsBelow}
 use Rattle.publish.proofs.Shelves.{published_snoc}
 
@@ -41,20 +41,20 @@ last_next pre p k best is false test = record {
 }
 
 last_from : (pre ps : List Publish) (k : ℕ) (best : AcceptedValue × ℕ) (next : ℕ) → length pre ≡ next → IsLast pre k best.0 best.1
-    → IsLast (pre ++ ps) k (published_from best next ps k).0 (published_from best next ps k).1
+    → IsLast (pre ++ ps) k (judging_from best next ps k).0 (judging_from best next ps k).1
 last_from pre [] k best next len is = subst (λ (w : List Publish). IsLast w k best.0 best.1) (sym (append-nil pre)) is
 last_from pre (p ∷ ps) k best next len is =
     let one = last_next pre p k best is (p.slot == k) refl in
     let here : IsLast (pre ++ p ∷ []) k (cond (p.slot == k) (p.program, next) best).0 (cond (p.slot == k) (p.program, next) best).1
     = subst (λ (n : ℕ). IsLast (pre ++ p ∷ []) k (cond (p.slot == k) (p.program, n) best).0 (cond (p.slot == k) (p.program, n) best).1) len one in
     let long : length (pre ++ p ∷ []) ≡ next + 1 = omega (arith, len, length-append pre (p ∷ [])) in
-    subst (λ (w : List Publish). IsLast w k (published_from best next (p ∷ ps) k).0 (published_from best next (p ∷ ps) k).1) (append_assoc pre (p ∷ []) ps)
+    subst (λ (w : List Publish). IsLast w k (judging_from best next (p ∷ ps) k).0 (judging_from best next (p ∷ ps) k).1) (append_assoc pre (p ∷ []) ps)
     (last_from (pre ++ p ∷ []) ps k (cond (p.slot == k) (p.program, next) best) (next + 1) long here)
 
 pub last_for : IsLastFor
 last_for [] slot program generation is = absurd (cc is)
 last_for (f ∷ ps) slot program generation is =
-    let same : published_from (f.program, 0) 1 ps slot ≡ (program, generation) = cc is in
+    let same : judging_from (f.program, 0) 1 ps slot ≡ (program, generation) = cc is in
     let first : IsLast (f ∷ []) slot f.program 0 = record { before = []; last = f; after = []; parts = refl; count = refl; program = refl; slot = inl refl; others = tt } in
     subst (λ (x : AcceptedValue × ℕ). IsLast (f ∷ ps) slot x.0 x.1) same (last_from (f ∷ []) ps slot (f.program, 0) 1 refl first)
 

@@ -17,8 +17,8 @@ abbrev pub entry : ℕ → AcceptedValue → Publish
 entry slot program = record { slot = slot; program = program }
 
 -- the history with one publish more
-abbrev pub extended : List Publish → ℕ → AcceptedValue → List Publish
-extended history slot program = history ++ entry slot program ∷ []
+abbrev pub longer_history : List Publish → ℕ → AcceptedValue → List Publish
+longer_history history slot program = history ++ entry slot program ∷ []
 
 -- the program was added to all that had been seen; or the history was longer
 abbrev pub Adds : Step Publish → View Publish ℕ → ℕ → View Publish ℕ → Type 0

@@ -3,13 +3,13 @@ use Rattle.std.specs.Prelude.{◌≡◌, ◌≢◌, ◌<◌, ◌⊎◌, ℕ, ◌
 use mathlib.Core.List.{IsPrefix}
 use Rattle.bver.specs.Justified.{AcceptedValue}
 use Rattle.publish.specs.declared.history.Publish.{Publish}
-use Rattle.publish.specs.Histories.{extended}
-use Rattle.publish.specs.Published.{published}
+use Rattle.publish.specs.Histories.{longer_history}
+use Rattle.publish.specs.Published.{judging_program}
 
 -- one publish more sets its own slot, with its place for a generation, and leaves the others
 abbrev pub IsSetByNext : Type 0
 IsSetByNext = (history : List Publish) (slot : ℕ) (program : AcceptedValue) (k : ℕ) → 0 < length history
-    → published (extended history slot program) k ≡ cond (slot == k) (Some (program, length history)) (published history k)
+    → judging_program (longer_history history slot program) k ≡ cond (slot == k) (Some (program, length history)) (judging_program history k)
 
 -- none of these was published for the slot
 abbrev pub AreOthers : ℕ → List Publish → Type 0
@@ -29,11 +29,11 @@ pub record IsLast (history : List Publish) (k : ℕ) (judge : AcceptedValue) (pl
 
 -- what is published for a slot is the last of it
 abbrev pub IsLastFor : Type 0
-IsLastFor = (history : List Publish) (slot : ℕ) (program : AcceptedValue) (generation : ℕ) → published history slot ≡ Some (program, generation) → IsLast history slot program generation
+IsLastFor = (history : List Publish) (slot : ℕ) (program : AcceptedValue) (generation : ℕ) → judging_program history slot ≡ Some (program, generation) → IsLast history slot program generation
 
 -- its generation is a place in the history
 abbrev pub IsBelow : Type 0
-IsBelow = (history : List Publish) (slot : ℕ) (program : AcceptedValue) (generation : ℕ) → published history slot ≡ Some (program, generation) → generation < length history
+IsBelow = (history : List Publish) (slot : ℕ) (program : AcceptedValue) (generation : ℕ) → judging_program history slot ≡ Some (program, generation) → generation < length history
 
 -- the program with its generation is that one with that place, or one of a later place
 abbrev pub IsThatOrLater : AcceptedValue → ℕ → AcceptedValue × ℕ → Type 0
@@ -42,5 +42,5 @@ IsThatOrLater program place shown = ((shown.0 ≡ program) × (shown.1 ≡ place
 -- behind a publish for a slot that program is published there, or a later one
 abbrev pub IsKeptOrLater : Type 0
 IsKeptOrLater = (history seen : List Publish) (slot : ℕ) (program judge : AcceptedValue) (generation : ℕ)
-    → IsPrefix (extended history slot program) seen → published seen slot ≡ Some (judge, generation)
+    → IsPrefix (longer_history history slot program) seen → judging_program seen slot ≡ Some (judge, generation)
     → IsThatOrLater program (length history) (judge, generation)

@@ -6,23 +6,23 @@ use Rattle.publish.specs.declared.history.Publish.{Publish}
 
 -- the last program for a slot, with its generation, where `best` judged before these and `next` is the
 -- generation of the first of them
-abbrev pub published_from : AcceptedValue × ℕ → ℕ → List Publish → ℕ → AcceptedValue × ℕ
-published_from best next [] slot = best
-published_from best next (p ∷ ps) slot = published_from (cond (p.slot == slot) (p.program, next) best) (next + 1) ps slot
+abbrev pub judging_from : AcceptedValue × ℕ → ℕ → List Publish → ℕ → AcceptedValue × ℕ
+judging_from best next [] slot = best
+judging_from best next (p ∷ ps) slot = judging_from (cond (p.slot == slot) (p.program, next) best) (next + 1) ps slot
 
 -- the program that judges at a slot, with its generation: the last that was published for it, else the
 -- factory program, with which each history begins, and 0
-abbrev pub published : List Publish → ℕ → Option (AcceptedValue × ℕ)
-published [] slot = None
-published (f ∷ ps) slot = Some (published_from (f.program, 0) 1 ps slot)
+abbrev pub judging_program : List Publish → ℕ → Option (AcceptedValue × ℕ)
+judging_program [] slot = None
+judging_program (f ∷ ps) slot = Some (judging_from (f.program, 0) 1 ps slot)
 
 -- the program that judges at a slot
 abbrev pub program_at : List Publish → ℕ → Option AcceptedValue
-program_at history slot = option_map (λ p. p.0) (published history slot)
+program_at history slot = option_map (λ p. p.0) (judging_program history slot)
 
 -- the generation of the program that judges at a slot
 abbrev pub generation_at : List Publish → ℕ → Option ℕ
-generation_at history slot = option_map (λ p. p.1) (published history slot)
+generation_at history slot = option_map (λ p. p.1) (judging_program history slot)
 
 -- the sizes of the maps of a node: those of its factory program
 abbrev pub sizes_of : List Publish → List ℕ

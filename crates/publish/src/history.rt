@@ -3,7 +3,7 @@
 ghost use Rattle.std.specs.Prelude.{◌≡◌, ◌<◌, ◌≤◌, ◌^◌, [], length, true, false};
 ghost use Rattle.std.specs.Arc.{arc_value};
 ghost use mathlib.Core.List.{IsPrefix};
-ghost use Rattle.publish.specs.Histories.{extended};
+ghost use Rattle.publish.specs.Histories.{longer_history};
 ghost use Rattle.publish.specs.Reached.{reached};
 
 use bver::Accepted;
@@ -199,7 +199,7 @@ impl Front {
         ensures room { self.new.room ≡ self.old.room }
         ensures added { result ≡ true
             → self.new.programs
-            ≡ extended self.old.programs publish.now.0 (arc_value publish.now.1) }
+            ≡ longer_history self.old.programs publish.now.0 (arc_value publish.now.1) }
         ensures same { result ≡ false → self.new ≡ self.old }
     {
         let mut seen = self.seen.again();

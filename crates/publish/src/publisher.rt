@@ -2,7 +2,7 @@
 
 ghost use Rattle.std.specs.Prelude.{◌≡◌, ◌<◌, ◌≤◌, ◌^◌, [], length, drop, fold, IfOk, OnOk, OnErr, IfErr, Err};
 ghost use mathlib.Core.List.{IsPrefix};
-ghost use Rattle.publish.specs.Histories.{extended};
+ghost use Rattle.publish.specs.Histories.{longer_history};
 ghost use Rattle.publish.specs.Published.{sizes_of};
 ghost use Rattle.publish.specs.Reached.{reached};
 
@@ -70,7 +70,7 @@ impl<J: Room, R: Wait + Drop> Publisher<J, R> {
     /// refused. What is published stays as it was.
     pub fn install(&mut self, slot: u8, program: Accepted) -> Result<Told<J>, PublishFault>
         requires { program.sizes ≡ sizes_of self.old }
-        ensures published { OnOk result (self.new ≡ extended self.old slot program) }
+        ensures published { OnOk result (self.new ≡ longer_history self.old slot program) }
         ensures told { IfOk result (λ told. told ≡ self.new) }
         ensures same { OnErr result (self.new ≡ self.old) }
         ensures slot { 3 < slot → result ≡ Err PublishFault.Slot }

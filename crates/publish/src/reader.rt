@@ -6,9 +6,9 @@ ghost use Rattle.std.specs.Borrow.{sem, RestsIfNone};
 ghost use mathlib.Core.List.{IsPrefix};
 ghost use Rattle.left_right.specs.Sides.{view};
 ghost use Rattle.bver.specs.Justified.{IsJustified};
-ghost use Rattle.publish.specs.Published.{published, program_at, generation_at, sizes_of};
+ghost use Rattle.publish.specs.Published.{judging_program, program_at, generation_at, sizes_of};
 ghost use Rattle.publish.specs.Reached.{IsInside, known, reached};
-ghost use Rattle.publish.specs.Tables.{shown};
+ghost use Rattle.publish.specs.Tables.{shown_program};
 ghost use Rattle.publish.specs.contracts.reader.Reader.{the_row};
 
 use crate::history::{Front, Room};
@@ -166,7 +166,7 @@ impl<J: Room> Reader<J> {
     fn shown(&self, slot: u8) -> &Shown
         requires slot { slot < 4 }
         requires inside { IsInside self.now }
-        ensures value { published self.now.programs slot ≡ Some (shown result.now) }
+        ensures value { judging_program self.now.programs slot ≡ Some (shown_program result.now) }
         ensures sizes { (arc_value result.now.program).sizes ≡ sizes_of self.now.programs }
     {
         let Some(reading) = &self.inside else {

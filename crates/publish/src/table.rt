@@ -2,9 +2,9 @@
 
 ghost use Rattle.std.specs.Prelude.{◌≡◌, ◌<◌, ◌≤◌, ◌^◌, ◌∷◌, [], length, IfOk, Some};
 ghost use Rattle.std.specs.Arc.{arc_value};
-ghost use Rattle.publish.specs.Histories.{entry, extended};
-ghost use Rattle.publish.specs.Published.{published, sizes_of};
-ghost use Rattle.publish.specs.Tables.{all_shown, shown};
+ghost use Rattle.publish.specs.Histories.{entry, longer_history};
+ghost use Rattle.publish.specs.Published.{judging_program, sizes_of};
+ghost use Rattle.publish.specs.Tables.{shown_programs, shown_program};
 
 use crate::history::Front;
 use bver::Accepted;
@@ -23,7 +23,7 @@ pub(crate) struct Shown {
 impl Shown {
     /// Another owner of the same program.
     fn another(&self) -> Result<Shown, AllocError>
-        ensures { IfOk result (λ s. shown s ≡ shown self.now) }
+        ensures { IfOk result (λ s. shown_program s ≡ shown_program self.now) }
     {
         Ok(Shown {
             program: Arc::try_clone(&self.program)?,
@@ -34,7 +34,7 @@ impl Shown {
 
 /// The same programs once more.
 fn copied(slots: &[Shown; 4]) -> Result<[Shown; 4], AllocError>
-    ensures { IfOk result (λ s. all_shown s ≡ all_shown slots.now) }
+    ensures { IfOk result (λ s. shown_programs s ≡ shown_programs slots.now) }
 {
     let [reads, writes, rmws, window] = slots;
     Ok([
@@ -86,7 +86,7 @@ impl Table {
     pub(crate) fn put(&mut self, slot: u8, program: Arc<Accepted>, front: Front)
         requires slot { slot < 4 }
         requires few { length self.old.programs < 2 ^ 32 }
-        requires front { front.programs ≡ extended self.old.programs slot (arc_value program) }
+        requires front { front.programs ≡ longer_history self.old.programs slot (arc_value program) }
         requires sizes { (arc_value program).sizes ≡ sizes_of self.old.programs }
         ensures { self.new ≡ front }
     {
@@ -119,7 +119,7 @@ impl Table {
     /// The program of a slot.
     pub(crate) fn shown(&self, slot: u8) -> &Shown
         requires { slot < 4 }
-        ensures value { published self.now.programs slot ≡ Some (shown result.now) }
+        ensures value { judging_program self.now.programs slot ≡ Some (shown_program result.now) }
         ensures sizes { (arc_value result.now.program).sizes ≡ sizes_of self.now.programs }
     {
         &self.slots[usize::from(slot)]

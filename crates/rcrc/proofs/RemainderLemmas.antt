@@ -8,7 +8,7 @@ use Rattle.std.proofs.lemmas.Nat.{xor_of_8}
 use Rattle.std.proofs.lemmas.Nat.Bits.{bit_at_xor, bit_at-lt, same_from_bits_below}
 use Rattle.std.proofs.Math.ListN.{get_or-eq_default}
 use Rattle.rcrc.specs.Crc.{shift, shifts, crc_from}
-use Rattle.rcrc.specs.Polynomial.{coefficient, IsSame, add, plus, times, times_power, generator, IsMultiple, bit_of, of_byte, of_bytes, IsRemainder, RemainderIsUnique}
+use Rattle.rcrc.specs.Polynomial.{coefficient, IsSame, bit_sum, plus, times, times_power, generator, IsMultiple, bit_of, of_byte, of_bytes, IsRemainder, RemainderIsUnique}
 use Rattle.rcrc.proofs.PolynomialLemmas.{add_assoc, add_swap, add_twice, add_self, add-false, same_from_add, coefficient-plus, coefficient-plus_by, coefficient-times_power_plus, coefficient-times_power_same, coefficient-times_power_nil, times_power-add, times_power-suc, scaled, IsMultiple-same, IsMultiple-plus, IsMultiple-times_power}
 
 -- ---- one step of the register
@@ -70,8 +70,8 @@ join_steps n register k =
     let d = coefficient (of_byte (shifts n (shift register))) k in
     coefficient-plus_by (times_power (suc n) (of_byte register)) (of_byte (shifts n (shift register))) k a d
     (sym (ap (λ q. coefficient q k) (times_power-suc n (of_byte register)))) refl
-    ∙ ap (add a) (sym (add_twice b d)) ∙ sym (add_assoc a b (add b d))
-    ∙ sym (coefficient-plus_by (times_power n (step_sum register)) (steps_sum n (shift register)) k (add a b) (add b d)
+    ∙ ap (bit_sum a) (sym (add_twice b d)) ∙ sym (add_assoc a b (bit_sum b d))
+    ∙ sym (coefficient-plus_by (times_power n (step_sum register)) (steps_sum n (shift register)) k (bit_sum a b) (bit_sum b d)
     (coefficient-times_power_plus n (false ∷ of_byte register) (of_byte (shift register)) k)
     (coefficient-plus (times_power n (of_byte (shift register))) (of_byte (shifts n (shift register))) k))
 
@@ -102,12 +102,12 @@ two_bits : (P : ℕ → ℕ → Type 0) → P 0 0 → P 0 1 → P 1 0 → P 1 1 
 two_bits P p q r s a b i =
     bit_cases (λ x. P x (bit_at b i)) (bit_cases (P 0) p q (bit_at b i) (bit_at-lt b i)) (bit_cases (P 1) r s (bit_at b i) (bit_at-lt b i)) (bit_at a i) (bit_at-lt a i)
 
-bit_of-xor : (a b i : ℕ) → bit_of (bit_xor a b) i ≡ add (bit_of a i) (bit_of b i)
+bit_of-xor : (a b i : ℕ) → bit_of (bit_xor a b) i ≡ bit_sum (bit_of a i) (bit_of b i)
 bit_of-xor a b i =
     ap (λ n. eqb n 1) (bit_at_xor a b i)
-    ∙ two_bits (λ x y. eqb ((x + y) % 2) 1 ≡ add (eqb x 1) (eqb y 1)) refl refl refl refl a b i
+    ∙ two_bits (λ x y. eqb ((x + y) % 2) 1 ≡ bit_sum (eqb x 1) (eqb y 1)) refl refl refl refl a b i
 
-coefficient-xor : (a b k : ℕ) → coefficient (of_byte (bit_xor a b)) k ≡ add (coefficient (of_byte a) k) (coefficient (of_byte b) k)
+coefficient-xor : (a b k : ℕ) → coefficient (of_byte (bit_xor a b)) k ≡ bit_sum (coefficient (of_byte a) k) (coefficient (of_byte b) k)
 coefficient-xor a b zero = bit_of-xor a b 7
 coefficient-xor a b (suc zero) = bit_of-xor a b 6
 coefficient-xor a b (suc (suc zero)) = bit_of-xor a b 5
@@ -118,7 +118,7 @@ coefficient-xor a b (suc (suc (suc (suc (suc (suc zero)))))) = bit_of-xor a b 1
 coefficient-xor a b (suc (suc (suc (suc (suc (suc (suc zero))))))) = bit_of-xor a b 0
 coefficient-xor a b (suc (suc (suc (suc (suc (suc (suc (suc k)))))))) = refl
 
-coefficient-times_power_xor : (n a b k : ℕ) → coefficient (times_power n (of_byte (bit_xor a b))) k ≡ add (coefficient (times_power n (of_byte a)) k) (coefficient (times_power n (of_byte b)) k)
+coefficient-times_power_xor : (n a b k : ℕ) → coefficient (times_power n (of_byte (bit_xor a b))) k ≡ bit_sum (coefficient (times_power n (of_byte a)) k) (coefficient (times_power n (of_byte b)) k)
 coefficient-times_power_xor n a b k =
     coefficient-times_power_same n (of_byte (bit_xor a b)) (plus (of_byte a) (of_byte b))
     (λ j. coefficient-xor a b j ∙ sym (coefficient-plus (of_byte a) (of_byte b) j)) k
@@ -131,7 +131,7 @@ abbrev remainder_sum : ℕ → List ℕ → ℕ → List Bool
 remainder_sum crc bytes last =
     plus (plus (times_power (8 * length bytes) (of_byte crc)) (times_power 8 (of_bytes bytes))) (of_byte last)
 
-regroup : (a b s m e : Bool) → add (add a (add b m)) e ≡ add (add (add a b) s) (add (add s m) e)
+regroup : (a b s m e : Bool) → bit_sum (bit_sum a (bit_sum b m)) e ≡ bit_sum (bit_sum (bit_sum a b) s) (bit_sum (bit_sum s m) e)
 regroup a b s m e = simp (add_assoc, add_twice)
 
 -- one more byte in front
@@ -153,20 +153,20 @@ join_bytes crc byte bytes last k =
     let first : coefficient (times_power 8 (times_power n (of_byte byte))) k ≡ b =
     sym (ap (λ q. coefficient q k) (times_power-add n 8 (of_byte byte)))
     ∙ ap (λ j. coefficient (times_power j (of_byte byte)) k) turned in
-    let message : coefficient (times_power 8 (of_bytes (byte ∷ bytes))) k ≡ add b m =
-    coefficient-times_power_plus 8 (times_power n (of_byte byte)) (of_bytes bytes) k ∙ ap (λ z. add z m) first in
-    let both : coefficient (times_power n (times_power 8 (of_byte mixed))) k ≡ add a b =
+    let message : coefficient (times_power 8 (of_bytes (byte ∷ bytes))) k ≡ bit_sum b m =
+    coefficient-times_power_plus 8 (times_power n (of_byte byte)) (of_bytes bytes) k ∙ ap (λ z. bit_sum z m) first in
+    let both : coefficient (times_power n (times_power 8 (of_byte mixed))) k ≡ bit_sum a b =
     sym (ap (λ q. coefficient q k) (times_power-add 8 n (of_byte mixed)))
     ∙ coefficient-times_power_xor (8 + n) crc byte k in
-    let steps : coefficient (times_power n (steps_sum 8 mixed)) k ≡ add (add a b) s =
-    coefficient-times_power_plus n (times_power 8 (of_byte mixed)) (of_byte next) k ∙ ap (λ z. add z s) both in
+    let steps : coefficient (times_power n (steps_sum 8 mixed)) k ≡ bit_sum (bit_sum a b) s =
+    coefficient-times_power_plus n (times_power 8 (of_byte mixed)) (of_byte next) k ∙ ap (λ z. bit_sum z s) both in
     coefficient-plus_by (plus (times_power (8 * length (byte ∷ bytes)) (of_byte crc)) (times_power 8 (of_bytes (byte ∷ bytes)))) (of_byte last) k
-    (add a (add b m)) e
-    (coefficient-plus_by (times_power (8 * length (byte ∷ bytes)) (of_byte crc)) (times_power 8 (of_bytes (byte ∷ bytes))) k a (add b m) front message)
+    (bit_sum a (bit_sum b m)) e
+    (coefficient-plus_by (times_power (8 * length (byte ∷ bytes)) (of_byte crc)) (times_power 8 (of_bytes (byte ∷ bytes))) k a (bit_sum b m) front message)
     refl
     ∙ regroup a b s m e
-    ∙ sym (coefficient-plus_by (times_power n (steps_sum 8 mixed)) (remainder_sum next bytes last) k (add (add a b) s) (add (add s m) e) steps
-    (coefficient-plus_by (plus (times_power n (of_byte next)) (times_power 8 (of_bytes bytes))) (of_byte last) k (add s m) e
+    ∙ sym (coefficient-plus_by (times_power n (steps_sum 8 mixed)) (remainder_sum next bytes last) k (bit_sum (bit_sum a b) s) (bit_sum (bit_sum s m) e) steps
+    (coefficient-plus_by (plus (times_power n (of_byte next)) (times_power 8 (of_bytes bytes))) (of_byte last) k (bit_sum s m) e
     (coefficient-plus (times_power n (of_byte next)) (times_power 8 (of_bytes bytes)) k) refl))
 
 -- each element is a byte
@@ -225,7 +225,7 @@ high_scaled : (c : Bool) (k : ℕ) → 8 ≤ k → coefficient (scaled c generat
 high_scaled true k high = get_or-eq_default generator false {n = suc k} (omega arith)
 high_scaled false k high = refl
 
-top_is_zero : (c x : Bool) → add (coefficient (scaled c generator) 8) x ≡ false → x ≡ false → c ≡ false
+top_is_zero : (c x : Bool) → bit_sum (coefficient (scaled c generator) 8) x ≡ false → x ≡ false → c ≡ false
 top_is_zero true true h e = cc
 top_is_zero true false h e = cc
 top_is_zero false x h e = refl
@@ -241,14 +241,14 @@ low_product [] low = λ k. refl
 low_product (c ∷ q) low =
     let part = λ (k : ℕ). coefficient-plus (scaled c generator) (false ∷ times q generator) (suc k) in
     let rest = low_product q (λ k high.
-    sym (part k ∙ ap (λ z. add z (coefficient (times q generator) k)) (high_scaled c k high)) ∙ low (suc k) (omega arith)) in
+    sym (part k ∙ ap (λ z. bit_sum z (coefficient (times q generator) k)) (high_scaled c k high)) ∙ low (suc k) (omega arith)) in
     product_is_zero c q (top_is_zero c (coefficient (times q generator) 7) (sym (part 7) ∙ low 8 (lit≤ tt)) (rest 7)) rest
 
 high_byte : (byte k : ℕ) → 8 ≤ k → coefficient (of_byte byte) k ≡ false
 high_byte byte k high = get_or-eq_default (of_byte byte) false {n = k} high
 
-cancel : (p a b : Bool) → add (add p a) (add p b) ≡ add a b
-cancel p a b = add_swap p a p b ∙ ap (λ z. add z (add a b)) (add_self p)
+cancel : (p a b : Bool) → bit_sum (bit_sum p a) (bit_sum p b) ≡ bit_sum a b
+cancel p a b = add_swap p a p b ∙ ap (λ z. bit_sum z (bit_sum a b)) (add_self p)
 
 bit_at_from_bit_of : (a b i : ℕ) → bit_of a i ≡ bit_of b i → bit_at a i ≡ bit_at b i
 bit_at_from_bit_of a b i =
@@ -274,7 +274,7 @@ remainder_unique bytes r s m n =
     ∙ cancel (coefficient p k) (coefficient (of_byte r) k) (coefficient (of_byte s) k) in
     let zero_product = low_product both.quotient (λ k high.
     sym (both.product k) ∙ sum k
-    ∙ ap (λ z. add z (coefficient (of_byte s) k)) (high_byte r k high) ∙ high_byte s k high) in
+    ∙ ap (λ z. bit_sum z (coefficient (of_byte s) k)) (high_byte r k high) ∙ high_byte s k high) in
     let same = λ (k : ℕ).
     same_from_add (coefficient (of_byte r) k) (coefficient (of_byte s) k) (sym (sum k) ∙ both.product k ∙ zero_product k) in
     same_from_bits_below 8 r s m.is_byte n.is_byte

@@ -11,15 +11,15 @@ abbrev pub IsSame : List Bool → List Bool → Type 0
 IsSame p q = (k : ℕ) → coefficient p k ≡ coefficient q k
 
 -- the sum of two elements
-abbrev pub add : Bool → Bool → Bool
-add true b = not b
-add false b = b
+abbrev pub bit_sum : Bool → Bool → Bool
+bit_sum true b = not b
+bit_sum false b = b
 
 -- the sum of two polynomials
 abbrev pub plus : List Bool → List Bool → List Bool
 plus [] q = q
 plus (c ∷ p) [] = c ∷ p
-plus (c ∷ p) (d ∷ q) = add c d ∷ plus p q
+plus (c ∷ p) (d ∷ q) = bit_sum c d ∷ plus p q
 
 -- a polynomial times x^n
 abbrev pub times_power : ℕ → List Bool → List Bool

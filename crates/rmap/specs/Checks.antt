@@ -46,8 +46,8 @@ abbrev pub Stops : CommandValue → WindowsValue → Status → Type 0
 Stops c w status = header_line c w ≡ Some status
 
 -- how many bytes should follow the header: data and data CRC, or none
-abbrev pub wanted : CommandValue → ℕ
-wanted c = if carries_data (command_kind c) then length_of c + 1 else 0
+abbrev pub wanted_length : CommandValue → ℕ
+wanted_length c = if carries_data (command_kind c) then length_of c + 1 else 0
 
 -- the data of a body, which the data CRC follows
 abbrev pub data_of : CommandValue → List ℕ
@@ -62,8 +62,8 @@ has_wrong_data_crc c =
 abbrev pub body_line_at : End → CommandValue → Option Status
 body_line_at Eep c = Some ErrorEndOfPacket
 body_line_at Eop c =
-    if nat_lt (length c.body) (wanted c) then Some EarlyEndOfPacket
-    else if nat_lt (wanted c) (length c.body) then Some TooMuchData
+    if nat_lt (length c.body) (wanted_length c) then Some EarlyEndOfPacket
+    else if nat_lt (wanted_length c) (length c.body) then Some TooMuchData
     else if has_wrong_data_crc c then Some InvalidDataCrc
     else None
 

@@ -3,7 +3,7 @@
 ghost use Rattle.std.specs.Prelude.{◌≡◌, MatchResult, None, Some};
 ghost use Rattle.rmap.specs.Command.{length_of};
 ghost use Rattle.rmap.specs.Windows.{place_of};
-ghost use Rattle.rmap.specs.Checks.{Passes, Stops, header_line, body_line, wanted, has_wrong_rmw_length};
+ghost use Rattle.rmap.specs.Checks.{Passes, Stops, header_line, body_line, wanted_length, has_wrong_rmw_length};
 
 use crate::boot::{BOOT_WINDOW, boot_place};
 use crate::command::Command;
@@ -80,8 +80,8 @@ pub fn header_fault(command: &Command, windows: &Windows) -> Option<Status>
 }
 
 /// The bytes that should follow the header.
-fn wanted(command: &Command) -> usize
-    ensures { result ≡ wanted command.now }
+fn wanted_length(command: &Command) -> usize
+    ensures { result ≡ wanted_length command.now }
 {
     match command.kind() {
         Kind::Write | Kind::Rmw => command.length() as usize + 1,
@@ -96,7 +96,7 @@ pub fn body_fault(command: &Command) -> Option<Status>
     ensures { result ≡ body_line command.now }
 {
     let body = command.body();
-    let wanted = wanted(command);
+    let wanted = wanted_length(command);
     match command.end() {
         End::Eep => Some(Status::ErrorEndOfPacket),
         End::Eop if body.len() < wanted => Some(Status::EarlyEndOfPacket),

@@ -11,7 +11,7 @@ use Rattle.machine.specs.declared.regions.Region.{Region}
 use Rattle.machine.specs.declared.regions.Region.TheVariants.{Front, Tail, Stack}
 use Rattle.machine.specs.declared.values.Value.{Value}
 use Rattle.machine.specs.declared.values.Value.TheVariants.{Unset, Num, Ptr, Map}
-use Rattle.machine.specs.Words.{signed}
+use Rattle.machine.specs.Words.{signed_value}
 use Rattle.slow_machine.specs.Near.{IsNear, AreNear}
 use Rattle.bpf_parts.specs.declared.operation.Operand.{Operand}
 use Rattle.bpf_parts.specs.declared.operation.Operand.TheVariants.{FromRegister, Immediate}
@@ -27,7 +27,7 @@ use Rattle.machine.specs.Sizes.{Maps}
 use Rattle.machine.specs.State.{State, register_after, register_after_call}
 use Rattle.slow_machine.specs.Effects.{perform_with, outcome_of, registers_in}
 use Rattle.slow_machine.specs.declared.effects.Effect.{Effect}
-use Rattle.machine.specs.Step.{alu, moved_by, copied_by, copied, operand, on_number, Outcome, Next, Ask, Verdict, Trap, writes, lands, branches, compares, load_value, loads, puts, stores, map_at, is_helper, asks, calls, exits, perform, finds_maps}
+use Rattle.machine.specs.Step.{alu, moved_pointer, moved_value, copied_value, operand, number_result, Outcome, Next, Ask, Verdict, Trap, writes, lands, branches, compares, load_value, loads, puts, stores, map_at, is_helper, asks, calls, exits, perform, finds_maps}
 use Rattle.slow_machine.specs.Machine.{IsTurn, state_with}
 use Rattle.slow_machine.specs.declared.turns.Turn.{Turn}
 use Rattle.machine.specs.Words.{holds_words}
@@ -55,13 +55,13 @@ neg_size (negsuc n) = refl
 difference_near : (a b : ℤ) → unsigned_abs (a -ℤ b) ≤ unsigned_abs a + unsigned_abs b
 difference_near a b = omega (arith, sum_near a (neg_ℤ b), neg_size b)
 
-added : (offset : ℤ) (n limit : ℕ) → unsigned_abs offset ≤ limit → unsigned_abs (offset +ℤ signed Bits64 n) ≤ limit + 2 ^ 63
-added offset n limit h = omega (arith, sum_near offset (signed Bits64 n), cast_near n)
+added : (offset : ℤ) (n limit : ℕ) → unsigned_abs offset ≤ limit → unsigned_abs (offset +ℤ signed_value Bits64 n) ≤ limit + 2 ^ 63
+added offset n limit h = omega (arith, sum_near offset (signed_value Bits64 n), cast_near n)
 
-subtracted : (offset : ℤ) (n limit : ℕ) → unsigned_abs offset ≤ limit → unsigned_abs (offset -ℤ signed Bits64 n) ≤ limit + 2 ^ 63
-subtracted offset n limit h = omega (arith, difference_near offset (signed Bits64 n), cast_near n)
+subtracted : (offset : ℤ) (n limit : ℕ) → unsigned_abs offset ≤ limit → unsigned_abs (offset -ℤ signed_value Bits64 n) ≤ limit + 2 ^ 63
+subtracted offset n limit h = omega (arith, difference_near offset (signed_value Bits64 n), cast_near n)
 
-copied_near : (limit : ℕ) (width : Width) (v : Value) → IsNear limit v → IfSome (copied width v) (IsNear (limit + 2 ^ 63))
+copied_near : (limit : ℕ) (width : Width) (v : Value) → IsNear limit v → IfSome (copied_value width v) (IsNear (limit + 2 ^ 63))
 copied_near limit width Unset h = tt
 copied_near limit width (Num n) h = tt
 copied_near limit Bits32 (Ptr region offset) h = tt
@@ -69,7 +69,7 @@ copied_near limit Bits64 (Ptr region offset) h = omega arith
 copied_near limit Bits32 (Map index) h = tt
 copied_near limit Bits64 (Map index) h = tt
 
-copied_by_near : (limit : ℕ) (op : AluOp) (width : Width) (v : Value) → IsNear limit v → IfSome (copied_by op width v) (IsNear (limit + 2 ^ 63))
+copied_by_near : (limit : ℕ) (op : AluOp) (width : Width) (v : Value) → IsNear limit v → IfSome (moved_value op width v) (IsNear (limit + 2 ^ 63))
 copied_by_near limit Add width v h = tt
 copied_by_near limit Sub width v h = tt
 copied_by_near limit Mul width v h = tt
@@ -85,7 +85,7 @@ copied_by_near limit Xor width v h = tt
 copied_by_near limit Mov width v h = copied_near limit width v h
 copied_by_near limit Arsh width v h = tt
 
-moved_by_near : (limit : ℕ) (op : AluOp) (region : Region) (offset : ℤ) (n : ℕ) → unsigned_abs offset ≤ limit → IfSome (moved_by op region offset n) (IsNear (limit + 2 ^ 63))
+moved_by_near : (limit : ℕ) (op : AluOp) (region : Region) (offset : ℤ) (n : ℕ) → unsigned_abs offset ≤ limit → IfSome (moved_pointer op region offset n) (IsNear (limit + 2 ^ 63))
 moved_by_near limit Add region offset n h = added offset n limit h
 moved_by_near limit Sub region offset n h = subtracted offset n limit h
 moved_by_near limit Mul region offset n h = tt
@@ -162,7 +162,7 @@ module _ (limit : ℕ) (s : State) (all : AreAllNear limit s.registers) where
   operand_near (FromRegister register) = all register
   operand_near (Immediate value) = tt
 
-  on_number_near : (f : ℕ → ℕ) (v : Value) → IfSome (on_number f v) (IsNear (limit + 2 ^ 63))
+  on_number_near : (f : ℕ → ℕ) (v : Value) → IfSome (number_result f v) (IsNear (limit + 2 ^ 63))
   on_number_near f Unset = tt
   on_number_near f (Num n) = tt
   on_number_near f (Ptr region offset) = tt

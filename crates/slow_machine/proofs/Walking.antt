@@ -8,7 +8,7 @@ use Rattle.machine.specs.Memory.{Header}
 use Rattle.machine.specs.Sizes.{Maps}
 use Rattle.machine.specs.Laws.{QuestionsGoOn}
 use Rattle.machine.specs.State.{State, entry_state}
-use Rattle.machine.specs.Step.{Question, question, Outcome, Next, Ask, Verdict, Trap, answered, insn_at, step, finds_maps, step_with}
+use Rattle.machine.specs.Step.{Question, question, Outcome, Next, Ask, Verdict, Trap, after_answer, insn_at, step, finds_maps, step_with}
 use Rattle.machine.specs.Runs.{Path, moves, call}
 use Rattle.machine.specs.Runs as runs
 use Rattle.slow_machine.specs.Machine.{MachineValue, state_of, step_of, IsTurn, IsAsk, IsSameRun}
@@ -106,7 +106,7 @@ module _ (program : Program) (header : Header) (sizes : Maps) (port : ℕ) (answ
   more_given : (calls : List Call) (c : Call) (left : List ℕ) → answers ≡ answers_of calls ++ (c.answer ∷ left) → answers ≡ answers_of (calls ++ c ∷ []) ++ left
   more_given calls c left e = e ∙ sym (ap (λ xs. xs ++ left) (map-append (λ d. d.answer) calls (c ∷ [])) ∙ append_assoc (answers_of calls) (c.answer ∷ []) left)
 
-  pub walk_asks : QuestionsGoOn → (n : ℕ) (m asked after : MachineValue) (helper map key answer : ℕ) (left : List ℕ) → IsAt program header sizes port answers n m (answer ∷ left) → IsTurn (step_of m) (turns.Ask helper map key) (state_of m) (state_of asked) → IsSameRun m asked → answer < 2 ^ 64 → state_of after ≡ answered (state_of asked) answer → IsSameRun asked after → IsAt program header sizes port answers (n + 1) after left
+  pub walk_asks : QuestionsGoOn → (n : ℕ) (m asked after : MachineValue) (helper map key answer : ℕ) (left : List ℕ) → IsAt program header sizes port answers n m (answer ∷ left) → IsTurn (step_of m) (turns.Ask helper map key) (state_of m) (state_of asked) → IsSameRun m asked → answer < 2 ^ 64 → state_of after ≡ after_answer (state_of asked) answer → IsSameRun asked after → IsAt program header sizes port answers (n + 1) after left
   walk_asks goes_so n m asked after helper map key answer left at turn same small goes_on same_after =
       let told = turn_asks _ helper map key _ _ turn in
       let with_sizes = here n m (answer ∷ left) _ at told.1 in
@@ -114,7 +114,7 @@ module _ (program : Program) (header : Header) (sizes : Maps) (port : ℕ) (answ
       let no_trap : Ask asked_is told.0 ≡ Trap → ⊥ = λ e. cc in
       let bare = without_sizes sizes program header (state_of m) _ with_sizes no_trap in
       let on_is = goes_so program header (state_of m) asked_is told.0 bare in
-      let reached : told.0 answer ≡ state_of after = ap (λ (f : ℕ → State). f answer) on_is ∙ sym (goes_on ∙ ap (λ s. answered s answer) told.2) in
+      let reached : told.0 answer ≡ state_of after = ap (λ (f : ℕ → State). f answer) on_is ∙ sym (goes_on ∙ ap (λ s. after_answer s answer) told.2) in
       let longer : ClearPath program header sizes port (at.calls ++ call asked_is answer ∷ []) _ (told.0 answer) =
       record { path = runs.answered answer at.way.path bare small; clear = (at.way.clear, λ e. no_trap (sym with_sizes ∙ e)) }
       in

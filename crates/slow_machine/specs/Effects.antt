@@ -11,7 +11,7 @@ use Rattle.machine.specs.Memory.{Header, byte_after}
 use Rattle.slow_machine.specs.Bytes.{bytes_in, header_in}
 use Rattle.machine.specs.Sizes.{Maps}
 use Rattle.machine.specs.State.{State, state, register_after}
-use Rattle.machine.specs.Step.{Outcome, Next, Ask, Verdict, Trap, question, answered, asks, calls, is_cell, perform, finds_maps, writes}
+use Rattle.machine.specs.Step.{Outcome, Next, Ask, Verdict, Trap, question, after_answer, asks, calls, is_cell, perform, finds_maps, writes}
 
 -- a list of values, asked by register
 abbrev pub registers_in : List Value → ℕ → Value
@@ -26,7 +26,7 @@ abbrev pub outcome_of : State → Effect → Outcome
 outcome_of s (effects.Write register value slots) = Next (state (s.slot + slots) (register_after s.registers register value) s.stack)
 outcome_of s (effects.Put place bytes number) = Next (state (s.slot + 1) s.registers (byte_after s.stack bytes place number))
 outcome_of s (effects.Go slot) = Next (state slot s.registers s.stack)
-outcome_of s (effects.Ask helper map key) = Ask (question helper map key) (answered s)
+outcome_of s (effects.Ask helper map key) = Ask (question helper map key) (after_answer s)
 outcome_of s (effects.Verdict verdict) = Verdict verdict
 outcome_of s effects.Trap = Trap
 

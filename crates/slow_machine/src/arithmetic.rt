@@ -2,11 +2,11 @@
 
 ghost use Rattle.std.specs.Prelude.{◌≡◌, ◌^◌};
 ghost use Rattle.slow_machine.specs.Near.{IsNear};
-ghost use Rattle.machine.specs.Words.{negated, extended, swapped};
-ghost use Rattle.machine.specs.Step.{number, on_number, copied, copied_by, moved_by, alu};
+ghost use Rattle.machine.specs.Words.{negation, sign_extension, swapped_bytes};
+ghost use Rattle.machine.specs.Step.{number, number_result, copied_value, moved_value, moved_pointer, alu};
 
 use bpf_insn::{AluOp, Extension, Swap, SwapBits, Width};
-use machine::{Region, Value, alu_words, extended, low, negated, swapped};
+use machine::{Region, Value, alu_words, low_part, negation, sign_extension, swapped_bytes};
 
 /// The number that a value is. `None` for another kind of value.
 pub fn number(value: Value) -> Option<u64>
@@ -19,12 +19,12 @@ pub fn number(value: Value) -> Option<u64>
 }
 
 /// MOV: at 64 bits it copies pointers and maps too.
-fn copied(width: Width, value: Value) -> Option<Value>
-    ensures { result ≡ copied width value }
+fn copied_value(width: Width, value: Value) -> Option<Value>
+    ensures { result ≡ copied_value width value }
 {
     match value {
         Value::Unset => None,
-        Value::Num(n) => Some(Value::Num(low(width, n))),
+        Value::Num(n) => Some(Value::Num(low_part(width, n))),
         Value::Ptr { .. } | Value::Map(_) => match width {
             Width::Bits32 => None,
             Width::Bits64 => Some(value),
@@ -33,19 +33,19 @@ fn copied(width: Width, value: Value) -> Option<Value>
 }
 
 /// What an operation does whose destination it may not read: only MOV does anything.
-fn copied_by(op: AluOp, width: Width, value: Value) -> Option<Value>
-    ensures { result ≡ copied_by op width value }
+fn moved_value(op: AluOp, width: Width, value: Value) -> Option<Value>
+    ensures { result ≡ moved_value op width value }
 {
     match op {
-        AluOp::Mov => copied(width, value),
+        AluOp::Mov => copied_value(width, value),
         _ => None,
     }
 }
 
 /// ADD and SUB at 64 bits move a pointer by a number that is read as signed.
-fn moved_by(op: AluOp, region: Region, offset: i128, n: u64) -> Option<Value>
+fn moved_pointer(op: AluOp, region: Region, offset: i128, n: u64) -> Option<Value>
     requires { IsNear (2 ^ 126) (Value.Ptr region offset) }
-    ensures { result ≡ moved_by op region offset n }
+    ensures { result ≡ moved_pointer op region offset n }
 {
     let by = i128::from(n.cast_signed());
     match op {
@@ -70,45 +70,45 @@ pub fn alu(op: AluOp, width: Width, dst: Value, src: Value) -> Option<Value>
     match dst {
         Value::Num(a) => match src {
             Value::Num(b) => Some(Value::Num(alu_words(op, width, a, b))),
-            Value::Unset | Value::Ptr { .. } | Value::Map(_) => copied_by(op, width, src),
+            Value::Unset | Value::Ptr { .. } | Value::Map(_) => moved_value(op, width, src),
         },
         Value::Ptr { region, offset } => match src {
             Value::Num(n) => match width {
-                Width::Bits32 => copied_by(op, width, src),
-                Width::Bits64 => moved_by(op, region, offset, n),
+                Width::Bits32 => moved_value(op, width, src),
+                Width::Bits64 => moved_pointer(op, region, offset, n),
             },
-            Value::Unset | Value::Ptr { .. } | Value::Map(_) => copied_by(op, width, src),
+            Value::Unset | Value::Ptr { .. } | Value::Map(_) => moved_value(op, width, src),
         },
-        Value::Unset | Value::Map(_) => copied_by(op, width, src),
+        Value::Unset | Value::Map(_) => moved_value(op, width, src),
     }
 }
 
 /// NEG of a value. `None` is a trap.
 pub fn negate(width: Width, value: Value) -> Option<Value>
-    ensures { result ≡ on_number (negated width) value }
+    ensures { result ≡ number_result (negation width) value }
 {
     match value {
-        Value::Num(n) => Some(Value::Num(negated(width, n))),
+        Value::Num(n) => Some(Value::Num(negation(width, n))),
         Value::Unset | Value::Ptr { .. } | Value::Map(_) => None,
     }
 }
 
 /// MOVSX of a value. `None` is a trap.
 pub fn move_signed(extension: Extension, value: Value) -> Option<Value>
-    ensures { result ≡ on_number (extended extension) value }
+    ensures { result ≡ number_result (sign_extension extension) value }
 {
     match value {
-        Value::Num(n) => Some(Value::Num(extended(extension, n))),
+        Value::Num(n) => Some(Value::Num(sign_extension(extension, n))),
         Value::Unset | Value::Ptr { .. } | Value::Map(_) => None,
     }
 }
 
 /// END of a value. `None` is a trap.
 pub fn byte_swap(swap: Swap, bits: SwapBits, value: Value) -> Option<Value>
-    ensures { result ≡ on_number (swapped swap bits) value }
+    ensures { result ≡ number_result (swapped_bytes swap bits) value }
 {
     match value {
-        Value::Num(n) => Some(Value::Num(swapped(swap, bits, n))),
+        Value::Num(n) => Some(Value::Num(swapped_bytes(swap, bits, n))),
         Value::Unset | Value::Ptr { .. } | Value::Map(_) => None,
     }
 }

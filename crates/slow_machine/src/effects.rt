@@ -12,7 +12,7 @@ use bpf_insn::{
     AluOp, Callee, Comparison, FRAME_POINTER, Insn, LoadSize, Operand, Place, REGISTERS, Register,
     Size, Swap, SwapBits, Width,
 };
-use machine::{MapSizes, Region, Value, holds_words, loaded, word};
+use machine::{MapSizes, Region, Value, holds_words, loaded_value, word};
 
 /// What an instruction does.
 #[derive(Clone, Copy)]
@@ -176,7 +176,7 @@ fn load(frame: Frame<'_>, size: LoadSize, base: Value, offset: i16) -> Option<Va
             size.bytes(),
             start + i128::from(offset),
         ) {
-            Some(number) => Some(Value::Num(loaded(size, number))),
+            Some(number) => Some(Value::Num(loaded_value(size, number))),
             None => None,
         },
         Value::Unset | Value::Num(_) | Value::Map(_) => None,

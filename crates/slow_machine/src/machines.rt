@@ -5,7 +5,7 @@ ghost use Rattle.slow_machine.specs.Bytes.{bytes_in};
 ghost use Rattle.slow_machine.specs.Effects.{registers_in};
 ghost use Rattle.slow_machine.specs.Near.{AreNear};
 ghost use Rattle.machine.specs.State.{entry_state, entry_register, register_after_call};
-ghost use Rattle.machine.specs.Step.{insn_at, answered};
+ghost use Rattle.machine.specs.Step.{insn_at, after_answer};
 ghost use Rattle.slow_machine.specs.Machine.{state_of, step_of, IsTurn, IsAsk, IsRunOf, IsSameRun};
 
 use crate::effects::{Frame, perform};
@@ -150,7 +150,7 @@ impl<'a> Machine<'a> {
     /// Answers the question at which the machine stands: the answer is in r0, and r1 to r5 are unset.
     pub fn answer(&mut self, answer: u64)
         requires { IsAsk (step_of self.old) }
-        ensures state { state_of self.new ≡ answered (state_of self.old) answer }
+        ensures state { state_of self.new ≡ after_answer (state_of self.old) answer }
         ensures run { IsSameRun self.old self.new }
         ensures steps { self.new.steps ≡ self.old.steps }
     {

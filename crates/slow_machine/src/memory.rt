@@ -1,7 +1,7 @@
 //! Loads from the memory that a program sees (RFC 9669, section 5).
 
 ghost use Rattle.std.specs.Prelude.{◌≡◌, ◌+◌, ◌*◌, ◌^◌, ◌<◌, ◌≤◌, IfSome, unsigned_abs};
-ghost use Rattle.machine.specs.Memory.{place_of, little};
+ghost use Rattle.machine.specs.Memory.{place_of, little_endian};
 ghost use Rattle.slow_machine.specs.Bytes.{byte_seen, number_seen};
 
 use machine::Region;
@@ -52,10 +52,10 @@ fn byte_of(memory: Memory<'_>, region: Region, place: usize) -> Option<u8>
 }
 
 /// So many bytes from a place on as a number, the lowest byte first. `None` where one is unset.
-fn little(memory: Memory<'_>, region: Region, bytes: usize, place: usize) -> Option<u64>
+fn little_endian(memory: Memory<'_>, region: Region, bytes: usize, place: usize) -> Option<u64>
     requires few { bytes ≤ 8 }
     requires within { place + bytes ≤ 512 }
-    ensures value { result ≡ little (byte_seen memory.entry region) bytes place }
+    ensures value { result ≡ little_endian (byte_seen memory.entry region) bytes place }
     ensures bound { IfSome result (λ n. n < 256 ^ bytes) }
 {
     if bytes == 0 {
@@ -64,7 +64,7 @@ fn little(memory: Memory<'_>, region: Region, bytes: usize, place: usize) -> Opt
     let Some(byte) = byte_of(memory, region, place) else {
         return None;
     };
-    let Some(rest) = little(memory, region, bytes - 1, place + 1) else {
+    let Some(rest) = little_endian(memory, region, bytes - 1, place + 1) else {
         return None;
     };
     Some(u64::from(byte) + 256 * rest)
@@ -79,7 +79,7 @@ pub fn read(memory: Memory<'_>, region: Region, bytes: usize, offset: i128) -> O
     ensures bound { IfSome result (λ n. n < 256 ^ bytes) }
 {
     match place_of(region, bytes, offset) {
-        Some(place) => little(memory, region, bytes, place),
+        Some(place) => little_endian(memory, region, bytes, place),
         None => None,
     }
 }

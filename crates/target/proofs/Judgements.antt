@@ -8,7 +8,7 @@ use Rattle.rmap.specs.Command.{command_of, command_kind}
 use Rattle.bver.specs.Justified.{AcceptedValue, IsJustified}
 use Rattle.bank.specs.Records.{AdmittedValue, JudgedValue, ShareValue}
 use Rattle.publish.specs.declared.history.Publish.{Publish}
-use Rattle.publish.specs.Published.{published, program_at, generation_at}
+use Rattle.publish.specs.Published.{judging_program, program_at, generation_at}
 use Rattle.publish.specs.Staged.{Staged}
 use Rattle.target.specs.Slots.{slot_of}
 use Rattle.target.specs.Passes.{BearingValue, pass_of}
@@ -30,13 +30,13 @@ pub judged_by_taken : (known seen taken : List Publish) (old new : BearingValue)
     → IsJudgedOnce program generation old new admitted j → IsJudgedByTaken known seen old new admitted j
 judged_by_taken known seen taken old new admitted j program generation slot same longer at shows tells accepted once =
     let told : j.generation ≡ generation = ap (λ (x : JudgedValue). x.generation) once.judged.judged in
-    let shown = subst (λ s. published taken s ≡ Some (program, generation)) at (both_shown (published taken slot) program generation shows tells) in
+    let shown = subst (λ s. judging_program taken s ≡ Some (program, generation)) at (both_shown (judging_program taken slot) program generation shows tells) in
     record {
       program = program;
       taken = record {
         longer = subst (λ l. IsPrefix known l) (sym same) longer;
-        shown = subst (λ l. published l (slot_of (command_kind (command_of admitted.packet)) admitted.place) ≡ Some (program, j.generation)) (sym same)
-            (subst (λ n. published taken (slot_of (command_kind (command_of admitted.packet)) admitted.place) ≡ Some (program, n)) (sym told) shown);
+        shown = subst (λ l. judging_program l (slot_of (command_kind (command_of admitted.packet)) admitted.place) ≡ Some (program, j.generation)) (sym same)
+            (subst (λ n. judging_program taken (slot_of (command_kind (command_of admitted.packet)) admitted.place) ≡ Some (program, n)) (sym told) shown);
         accepted = accepted;
       };
       once = subst (λ n. IsJudgedOnce program n old new admitted j) (sym told) once;

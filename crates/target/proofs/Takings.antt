@@ -2,8 +2,8 @@
 use Rattle.std.proofs.Common.{◌≡◌, ℕ, List, ◌++◌, Some, ap, sym, ◌∙◌, subst, append_assoc}
 use mathlib.Core.List.{IsPrefix}
 use Rattle.publish.specs.declared.history.Publish.{Publish}
-use Rattle.publish.specs.Histories.{extended}
-use Rattle.publish.specs.Published.{published}
+use Rattle.publish.specs.Histories.{longer_history}
+use Rattle.publish.specs.Published.{judging_program}
 use Rattle.publish.specs.Laws.{IsKeptOrLater, IsThatOrLater}
 use Rattle.target.specs.Laws.{LoadsAreTaken}
 
@@ -14,8 +14,8 @@ pub loads_are_taken : IsKeptOrLater → LoadsAreTaken
 loads_are_taken later holder left between after old new j next result p loaded known judgement slot =
     let published_there = loaded.published in
     let seen = judgement.seen in
-    let told : IsPrefix (extended old published_there.slot published_there.program) left.programs = subst (λ (l : List Publish). IsPrefix l left.programs) published_there.extends published_there.told in
+    let told : IsPrefix (longer_history old published_there.slot published_there.program) left.programs = subst (λ (l : List Publish). IsPrefix l left.programs) published_there.extends published_there.told in
     let longer = prefix_trans _ left.programs seen told (prefix_trans left.programs between.programs seen known judgement.taken.longer) in
-    let shown : published seen published_there.slot ≡ Some (judgement.program, next.generation) = subst (λ (k : ℕ). published seen k ≡ Some (judgement.program, next.generation)) slot judgement.taken.shown in
+    let shown : judging_program seen published_there.slot ≡ Some (judgement.program, next.generation) = subst (λ (k : ℕ). judging_program seen k ≡ Some (judgement.program, next.generation)) slot judgement.taken.shown in
     subst (λ (n : ℕ). IsThatOrLater published_there.program n (judgement.program, next.generation)) (sym published_there.place)
     (later old seen published_there.slot published_there.program judgement.program next.generation longer shown)

@@ -8,7 +8,7 @@ use Rattle.rmap.specs.Reply.{reply_of}
 use Rattle.bank.specs.Answer.{judged_line}
 use Rattle.bank.specs.Records.{JudgedValue}
 use Rattle.bver.specs.Justified.{AcceptedValue}
-use Rattle.publish.specs.Histories.{extended}
+use Rattle.publish.specs.Histories.{longer_history}
 use Rattle.publish.specs.Published.{sizes_of}
 use Rattle.publish.specs.declared.history.Publish.{Publish}
 use Rattle.publish.specs.Staged.{staged}
@@ -28,7 +28,7 @@ pub record IsPublished (control : ControlData) (staged : List ℕ) (old new know
   pub slot : ℕ
   pub program : AcceptedValue
   pub load : IsLoad control staged (sizes_of old) (length old) (Published slot program)
-  pub extends : new ≡ extended old slot program
+  pub extends : new ≡ longer_history old slot program
   pub place : generation ≡ length old
   pub told : IsPrefix new seen
   pub keeps : IsPrefix known seen

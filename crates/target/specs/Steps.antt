@@ -16,7 +16,7 @@ use Rattle.bank.specs.Records.{AdmittedValue, JudgedValue, judgement}
 use Rattle.brun.specs.Runs.{header, RunsWithin}
 use Rattle.machine.specs.declared.calls.Call.{Call}
 use Rattle.publish.specs.declared.history.Publish.{Publish}
-use Rattle.publish.specs.Published.{published}
+use Rattle.publish.specs.Published.{judging_program}
 use Rattle.target.specs.Slots.{slot_of}
 use Rattle.target.specs.Passes.{PassValue, BearingValue, bearing_after, pass_after}
 use Rattle.target.specs.declared.step.Step.{Step}
@@ -94,7 +94,7 @@ pub record IsJudgedFor (program : AcceptedValue) (generation port : ℕ) (w : Wi
 -- slot of the command's place, and it is justified
 pub record IsTaken (known seen : List Publish) (c : CommandValue) (place : Place) (program : AcceptedValue) (generation : ℕ) : Type 0 where
   pub longer : IsPrefix known seen
-  pub shown : published seen (slot_of (command_kind c) place) ≡ Some (program, generation)
+  pub shown : judging_program seen (slot_of (command_kind c) place) ≡ Some (program, generation)
   pub accepted : IsJustified program.program program.sizes
 
 -- the admitted command was judged once, by the program that was taken in the slot of its place

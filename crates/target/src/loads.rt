@@ -4,7 +4,7 @@ ghost use Rattle.std.specs.Prelude.{◌≡◌, ◌<◌, ◌≤◌, ◌^◌, None
 ghost use mathlib.Core.List.{IsPrefix};
 ghost use Rattle.bpf.specs.Program.{IsProgram, image_bytes};
 ghost use Rattle.bver.specs.Justified.{IsJustified};
-ghost use Rattle.publish.specs.Histories.{extended};
+ghost use Rattle.publish.specs.Histories.{longer_history};
 ghost use Rattle.publish.specs.Published.{sizes_of};
 ghost use Rattle.target.specs.Loaded.{IsLoadEnd, IsPublished};
 ghost use Rattle.target.specs.Loads.{IsPrepared, IsUnprepared, IsUnpreparedBy, IsUnpublished, IsUnspelled, control_code, published_result};
@@ -90,7 +90,7 @@ fn install<J: Room, R: Wait + Drop>(
 ) -> Result<u32, LoadRefusal>
     requires slot { slot ≤ 3 }
     requires sizes { program.sizes ≡ sizes_of publisher.old }
-    ensures published { OnOk result (publisher.new ≡ extended publisher.old slot program) }
+    ensures published { OnOk result (publisher.new ≡ longer_history publisher.old slot program) }
     ensures generation { IfOk result (λ n. n ≡ length publisher.old) }
     ensures told { OnOk result (IsPrefix publisher.new reader.new.programs) }
     ensures keeps { IsPrefix reader.old.programs reader.new.programs }

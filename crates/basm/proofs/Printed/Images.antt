@@ -8,7 +8,7 @@ use Rattle.bpf_insn.specs.Spelling.{second_immediate}
 use Rattle.bpf_insn.specs.Text.{insn_text}
 use Rattle.bpf_parts.specs.Text.{register_text}
 use Rattle.bpf.specs.declared.loops.Loop.{Loop}
-use Rattle.bpf.specs.Parts.{placed, second_slots}
+use Rattle.bpf.specs.Parts.{placed_slots, second_slots}
 use Rattle.bpf.specs.Program.{AreLoops, AreSlots, IsProgram, Program}
 use Rattle.basm.specs.Printed.{budget_line, loop_line, printed_image, slot_line}
 use Rattle.basm.specs.Relation.{Defines, IsText, Item, budget_in, insn_in, loop_in}
@@ -108,7 +108,7 @@ loops_no_code [] rest = refl
 loops_no_code (l ∷ ls) rest = loops_no_code ls rest
 
 slots_again : (second : Bool) (xs : List (Option Insn)) → AreSlots second xs
-    → second_slots second ++ flat_map placed (flat_map insn_in (slot_items xs ++ Nothing ∷ [])) ≡ xs
+    → second_slots second ++ flat_map placed_slots (flat_map insn_in (slot_items xs ++ Nothing ∷ [])) ≡ xs
 slots_again true [] are = absurd (cc)
 slots_again false [] are = refl
 slots_again true (None ∷ xs) are = ap (λ more. None ∷ more) (slots_again false xs are)
@@ -133,7 +133,7 @@ printed_items laws p is =
       apart = rw none tt;
       budget = ap (λ more. p.budget ∷ more) (loops_no_budget p.loops p.slots);
       loops = rw (loops_again p.loops p.slots) (IsPermutation-refl p.loops);
-      code = sym (ap (flat_map placed) (loops_no_code p.loops (slot_items p.slots)) ∙ slots_again false p.slots is.code);
+      code = sym (ap (flat_map placed_slots) (loops_no_code p.loops (slot_items p.slots)) ∙ slots_again false p.slots is.code);
       program = is;
     }
 

@@ -16,7 +16,7 @@ use Rattle.bpf_insn.specs.declared.insn.Insn.TheVariants.{Alu, Negate, MoveSigne
 use Rattle.bpf_parts.specs.Codes.{address_first, address_second, address_subtype}
 use Rattle.bpf_insn.specs.Spelling.{IsInsn}
 use Rattle.bpf_parts.specs.Operands.{IsOperand}
-use Rattle.bpf_insn.specs.Text.{bits_text, insn_name, insn_operands, written}
+use Rattle.bpf_insn.specs.Text.{bits_text, insn_name, insn_operands, name_with_operands}
 use Rattle.bpf_parts.specs.Text.{operand_text, place_text, register_text, signed_text}
 use Rattle.basm_lex.specs.Lines.{operands_of, word_of}
 use Rattle.basm_lex.specs.Numbers.{WritesDistance, WritesNumber, WritesWide}
@@ -35,10 +35,10 @@ pub record PrintedWords : Type 0 where
   pub register : (number : ℕ) → number ≤ 10 → IsWord (register_text number)
   pub name : (insn : Insn) → IsWord (insn_name insn)
   pub operands : (insn : Insn) → IsInsn insn → AreWords (insn_operands insn)
-  pub first : (name : List ℕ) (xs : List (List ℕ)) → IsWord name → AreWords xs → word_of (written name xs) ≡ name
-  pub rest : (name : List ℕ) (xs : List (List ℕ)) → IsWord name → AreWords xs → operands_of (written name xs) ≡ xs
+  pub first : (name : List ℕ) (xs : List (List ℕ)) → IsWord name → AreWords xs → word_of (name_with_operands name xs) ≡ name
+  pub rest : (name : List ℕ) (xs : List (List ℕ)) → IsWord name → AreWords xs → operands_of (name_with_operands name xs) ≡ xs
   pub line : (name : List ℕ) (xs : List (List ℕ)) (rest : List ℕ) → IsWord name → AreWords xs
-      → slice_split (λ c. c == 10) (written name xs ++ 10 ∷ rest) ≡ written name xs ∷ slice_split (λ c. c == 10) rest
+      → slice_split (λ c. c == 10) (name_with_operands name xs ++ 10 ∷ rest) ≡ name_with_operands name xs ∷ slice_split (λ c. c == 10) rest
 
 address_small : (address : Address) → address_subtype address < 7
 address_small (MapByFile first) = lit< tt

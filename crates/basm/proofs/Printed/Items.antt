@@ -3,7 +3,7 @@ use Rattle.std.proofs.Common.{◌≡◌, ℕ, ◌+◌, ◌≤◌, List, [], ◌�
 use Rattle.std.specs.Prelude.{◌==◌, codes, decimal}
 use Rattle.std.specs.List.{slice_split}
 use Rattle.bpf_insn.specs.Spelling.{IsInsn}
-use Rattle.bpf_insn.specs.Text.{insn_name, insn_operands, written}
+use Rattle.bpf_insn.specs.Text.{insn_name, insn_operands, name_with_operands}
 use Rattle.bpf_parts.specs.Text.{register_text}
 use Rattle.bpf.specs.Program.{IsBudget, IsLoop}
 use Rattle.basm_lex.specs.Lines.{code_of, operands_of, rest_of, word_of}
@@ -28,7 +28,7 @@ item_operands (Code insn) = insn_operands insn
 
 -- the line that is printed for an item
 abbrev pub item_line : Item → List ℕ
-item_line item = written (item_name item) (item_operands item)
+item_line item = name_with_operands (item_name item) (item_operands item)
 
 -- an item of an image of so many slots
 abbrev pub IsPrinted : (slots : ℕ) → Item → Type 0

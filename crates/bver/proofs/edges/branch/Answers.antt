@@ -1,12 +1,12 @@
 use Rattle.std.proofs.Common.{rules, ◌+◌, ◌≡◌, Option, subst, ◌∙◌}
 use Rattle.bpf.specs.Program.{Program}
 use Rattle.absdom.specs.State.{StateValue}
-use Rattle.absdom.specs.Edges.{on_edge}
+use Rattle.absdom.specs.Edges.{edge_state}
 use Rattle.bver_form.specs.Jumps.{target}
 use Rattle.bver.specs.Justified.{IsCoveredIfAny}
-use Rattle.bver.specs.Table.{AreEntries, carried, known_in}
+use Rattle.bver.specs.Table.{AreEntries, knowledge_beside, knowledge_in}
 use Rattle.bver_form.specs.Targets.{IsKept}
-use Rattle.bver.specs.Visit.{taken_in}
+use Rattle.bver.specs.Visit.{knowledge_there}
 use Rattle.bver.proofs.Covering.{AreCovered, any_covered_more, known_covered}
 use Rattle.bver.proofs.Passing.{carried_covers}
 use Rattle.bver.proofs.Visiting.{extended_twice}
@@ -21,14 +21,14 @@ returns-clause-covered c =
     let runs = c.follow_not_taken-runs.result in
     let after = c.follow_not_taken-runs.new.state in
     let comparison = c.args.comparison.now in
-    let edge : Option StateValue = on_edge c.args.state.now comparison.dst comparison.src c.args.edges.now.taken in
+    let edge : Option StateValue = edge_state c.args.state.now comparison.dst comparison.src c.args.edges.now.taken in
     let program : new.program ≡ v.program = c.follow_not_taken-runs.ensures.extended.program ∙ c.follow_taken.ensures.extended.program ∙ c.requires.table in
     let entries : AreEntries new = c.stands_at_targets.ensures.entries in
-    let reaches : AreCovered (known_in new) (carried new runs next after) = carried_covers c.order_of_states.ensures.reflexive new runs next after entries (λ on kept. (c.follow_not_taken-runs.ensures.plain on).unkept (subst (λ (p : Program). IsKept p next) program kept)) in
+    let reaches : AreCovered (knowledge_in new) (knowledge_beside new runs next after) = carried_covers c.order_of_states.ensures.reflexive new runs next after entries (λ on kept. (c.follow_not_taken-runs.ensures.plain on).unkept (subst (λ (p : Program). IsKept p next) program kept)) in
     λ settled.
-    let covered : IsCoveredIfAny edge (taken_in v c.args.distance (known_in mid)) = search rules in
-    let more : IsCoveredIfAny edge (taken_in v c.args.distance (known_in new)) = any_covered_more c.order_of_states.ensures.transitive edge (taken_in v c.args.distance (known_in mid)) (taken_in v c.args.distance (known_in new)) covered (known_covered (known_in mid) (known_in new) c.follow_not_taken-runs.ensures.extended.grown (target v.slot c.args.distance)) in
-    (any_covered_more c.order_of_states.ensures.transitive edge (taken_in v c.args.distance (known_in new)) (taken_in v c.args.distance (carried new runs next after)) more (known_covered (known_in new) (carried new runs next after) reaches (target v.slot c.args.distance)), c.follow_not_taken-runs.ensures.covered)
+    let covered : IsCoveredIfAny edge (knowledge_there v c.args.distance (knowledge_in mid)) = search rules in
+    let more : IsCoveredIfAny edge (knowledge_there v c.args.distance (knowledge_in new)) = any_covered_more c.order_of_states.ensures.transitive edge (knowledge_there v c.args.distance (knowledge_in mid)) (knowledge_there v c.args.distance (knowledge_in new)) covered (known_covered (knowledge_in mid) (knowledge_in new) c.follow_not_taken-runs.ensures.extended.grown (target v.slot c.args.distance)) in
+    (any_covered_more c.order_of_states.ensures.transitive edge (knowledge_there v c.args.distance (knowledge_in new)) (knowledge_there v c.args.distance (knowledge_beside new runs next after)) more (known_covered (knowledge_in new) (knowledge_beside new runs next after) reaches (target v.slot c.args.distance)), c.follow_not_taken-runs.ensures.covered)
 
 pub returns-clause-extended : goal.returns-clause-extended
 returns-clause-extended c =

@@ -1,10 +1,10 @@
 use Rattle.std.proofs.Common.{rules, ◌≡◌, ◌+◌, Some, IsTrue}
 use Rattle.bpf_insn.specs.Spelling.{slots_of}
-use Rattle.bver.specs.Justified.{IsPermitted, accessed}
+use Rattle.bver.specs.Justified.{IsPermitted, accessed_region}
 use Rattle.bver_form.specs.Lowered.{IsSettled}
-use Rattle.bver.specs.Table.{carried}
+use Rattle.bver.specs.Table.{knowledge_beside}
 use Rattle.bver_form.specs.Targets.{IsPlain}
-use Rattle.bver.specs.Visit.{IsExtended, visited_with}
+use Rattle.bver.specs.Visit.{IsExtended, visited_state}
 use Rattle.bver.specs.Heads.{AreHeadsAt}
 use Rattle.bver.proofs.Passing.{insn_visit}
 use Rattle.bver.proofs.Slots.{has_next}
@@ -29,11 +29,11 @@ returns-clause-visit c =
     let before = c.args.state.now in
     let here = c.arrive.new.state in
     let left = c.flow.new.state in
-    let known : visited_with was before mid v.slot ≡ Some here = search rules in
-    let permitted : IsSettled c.args.lowered.now c.flow.new.lowered → IsPermitted v.sizes (carried new runs (v.slot + slots_of insn) left) v.slot here insn = search rules in
-    let accesses : c.accessed-region.result ≡ accessed here insn = search rules in
-    let heads : AreHeadsAt v.program v.slot (visited_with was before mid v.slot) = search rules in
+    let known : visited_state was before mid v.slot ≡ Some here = search rules in
+    let permitted : IsSettled c.args.lowered.now c.flow.new.lowered → IsPermitted v.sizes (knowledge_beside new runs (v.slot + slots_of insn) left) v.slot here insn = search rules in
+    let accesses : c.accessed_region-region.result ≡ accessed_region here insn = search rules in
+    let heads : AreHeadsAt v.program v.slot (visited_state was before mid v.slot) = search rules in
     let plain : IsTrue runs → IsPlain v.program (v.slot + slots_of insn) = search rules in
     let first : IsExtended v.slot old mid = search rules in
     let second : IsExtended (v.slot + 1) mid new = search rules in
-    insn_visit c.order_of_states.ensures.transitive v old mid new was runs before here left (IsSettled c.args.lowered.now c.flow.new.lowered) c.accessed-region.result insn known permitted accesses heads plain first second
+    insn_visit c.order_of_states.ensures.transitive v old mid new was runs before here left (IsSettled c.args.lowered.now c.flow.new.lowered) c.accessed_region-region.result insn known permitted accesses heads plain first second

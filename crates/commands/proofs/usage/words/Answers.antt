@@ -4,7 +4,7 @@ use Rattle.clap.specs.Walk.{texts}
 use Rattle.clap.specs.Simple.{is_simple, subcommand_of, subcommand_rows_of}
 use Rattle.clap.specs.Faults.{fault_of, is_simple_and_free}
 use Rattle.clap.specs.Kinds.{HasKind}
-use Rattle.commands.specs.CommandLine.{found_in, AreTaken, Names, LacksJob}
+use Rattle.commands.specs.CommandLine.{subcommand_in, AreTaken, Names, LacksJob}
 use Rattle.commands.proofs.Matching.{is_simple-rmapctl_app, is_free-rmapctl_app, lacks_job, refused_words}
 use Rattle.commands.proofs.usage.words.Goals as goal
 
@@ -12,7 +12,7 @@ pub returns-in-Ok-clause-ok : goal.returns-in-Ok-clause-ok
 returns-in-Ok-clause-ok c =
     let words = texts c.args.words.now in
     let app = c.in_ok-command.ensures in
-    let found : subcommand_rows_of c.in-Ok.found ≡ found_in words =
+    let found : subcommand_rows_of c.in-Ok.found ≡ subcommand_in words =
     (c.in-Ok.ensures.matches (ap is_simple app ∙ is_simple-rmapctl_app)).1 ∙ ap (λ a. subcommand_of a words) app in
     let kinds = c.in-Ok.ensures.kinds (ap is_simple_and_free app ∙ is_free-rmapctl_app) in
     let taken : AreTaken words = subst (λ a. fault_of a words ≡ []) app kinds in
@@ -22,7 +22,7 @@ pub returns-in-Ok-clause-err : goal.returns-in-Ok-clause-err
 returns-in-Ok-clause-err c =
     let words = texts c.args.words.now in
     let app = c.in_ok-command.ensures in
-    let found : subcommand_rows_of c.in-Ok.found ≡ found_in words =
+    let found : subcommand_rows_of c.in-Ok.found ≡ subcommand_in words =
     (c.in-Ok.ensures.matches (ap is_simple app ∙ is_simple-rmapctl_app)).1 ∙ ap (λ a. subcommand_of a words) app in
     let kinds = c.in-Ok.ensures.kinds (ap is_simple_and_free app ∙ is_free-rmapctl_app) in
     let taken : AreTaken words = subst (λ a. fault_of a words ≡ []) app kinds in

@@ -1,6 +1,6 @@
 use Rattle.std.proofs.Common.{◌≡◌, ℕ, rules, subst}
 use Rattle.std.specs.Io.KnownBytes.{Appends}
-use Rattle.bpf.specs.Weight.{weight_of, saturated}
+use Rattle.bpf.specs.Weight.{weight_of, saturated_weight}
 use Rattle.commands.specs.VerifyJob.{accepted_line}
 use Rattle.commands.proofs.verify.verify_file.Goals as goal
 
@@ -9,7 +9,7 @@ returns-clause-done g c =
     let program = c.in_ok-program.program.program in
     let old = g.W.Write.contents c.args.out.now in
     let new = g.W.Write.contents c.print_accepted.new.out in
-    let weight : c.weight.result ≡ saturated (weight_of program) = search rules in
+    let weight : c.weight.result ≡ saturated_weight (weight_of program) = search rules in
     let budget : c.budget.result ≡ program.budget = search rules in
     let printed : Appends old new (accepted_line c.weight.result c.budget.result) = c.in_ok-print_accepted.ensures in
     record {

@@ -2,7 +2,7 @@ use Rattle.std.proofs.Common.{rules, ◌≡◌, Some, None, refl}
 use Rattle.std.specs.Prelude.{slice_index_or}
 use Rattle.std.proofs.Math.ListN.{length-set}
 use Rattle.bver.specs.Justified.{IsCoveredIfAny}
-use Rattle.bver.specs.Table.{TableValue, entry_of, known_in}
+use Rattle.bver.specs.Table.{TableValue, entry_of, knowledge_in}
 use Rattle.bver.proofs.Keeping.{entries_same, found_covers, found_there, set_elsewhere, set_grown}
 use Rattle.bver.proofs.Passing.{carried_here}
 use Rattle.bver.proofs.table.Table.go_on.Goals as goal
@@ -18,7 +18,7 @@ returns-in-Some-clause-grown c =
     let view : c.args.self.now ≡ t = search rules in
     let is : Some c.in-Some.place ≡ entry_of t c.args.slot = search rules in
     let there : slice_index_or t.entries c.in-Some.place None ≡ c.index_mut.result.now = found_there t c.args.slot c.in-Some.place c.index_mut.result.now is c.index_mut.ensures.value in
-    let covers : IsCoveredIfAny (known_in t c.args.slot) c.include.new.self = found_covers t c.args.slot c.in-Some.place c.index_mut.result.now c.include.new.self is there c.include.ensures.known in
+    let covers : IsCoveredIfAny (knowledge_in t c.args.slot) c.include.new.self = found_covers t c.args.slot c.in-Some.place c.index_mut.result.now c.include.new.self is there c.include.ensures.known in
     rw view (set_grown c.order_of_states.ensures.reflexive t c.args.slot c.in-Some.place c.include.new.self c.self.invariant is covers)
 
 pub returns-in-Some-clause-others : goal.returns-in-Some-clause-others

@@ -1,7 +1,7 @@
 use Rattle.std.proofs.Common.{rules, ◌≡◌, Some}
 use Rattle.std.proofs.Math.ListN.{length-set}
 use Rattle.bver.specs.Justified.{IsCoveredIfAny}
-use Rattle.bver.specs.Table.{TableValue, entry_of, known_in}
+use Rattle.bver.specs.Table.{TableValue, entry_of, knowledge_in}
 use Rattle.bver.proofs.Keeping.{entries_same, set_elsewhere, set_grown}
 use Rattle.bver.proofs.table.Table.raise.Goals as goal
 
@@ -15,7 +15,7 @@ returns-clause-grown c =
     let t : TableValue = record { program = c.self.inside.image.now; places = c.self.inside.places.items; entries = c.self.inside.entries.items } in
     let view : c.args.self.now ≡ t = search rules in
     let is : Some c.in-Some.place ≡ entry_of t c.args.slot = search rules in
-    let covers : IsCoveredIfAny (known_in t c.args.slot) c.put.new.self = search rules in
+    let covers : IsCoveredIfAny (knowledge_in t c.args.slot) c.put.new.self = search rules in
     rw view (set_grown c.order_of_states.ensures.reflexive t c.args.slot c.in-Some.place c.put.new.self c.self.invariant is covers)
 
 pub returns-clause-others : goal.returns-clause-others
