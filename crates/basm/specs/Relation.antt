@@ -1,6 +1,5 @@
 -- The text relation: when lines stand to an image.
-use Rattle.std.specs.Prelude.{◌≡◌, ◌≢◌, ◌↔◌, ◌⊎◌, ◌==◌, ℕ, ◌+◌, ℤ, pos, ◌-ℤ◌, List, [], ◌∷◌, ◌++◌, map, codes, Option, Some, FitsSigned}
-use Rattle.std.specs.Borrow.{Bor}
+use Rattle.std.specs.Prelude.{◌≡◌, ◌≢◌, ◌↔◌, ◌⊎◌, ◌==◌, ℕ, ◌+◌, ℤ, pos, ◌-ℤ◌, List, [], ◌∷◌, ◌++◌, codes, Option, Some, FitsSigned}
 use Rattle.std.specs.Int.{w16, w32}
 use Rattle.std.specs.List.{slice_split, flat_map}
 use Rattle.std.specs.List.Sorted.{IsPermutation}
@@ -16,6 +15,7 @@ use Rattle.bpf.specs.declared.loops.Loop.{Loop}
 use Rattle.bpf.specs.Parts.{placed_slots}
 use Rattle.bpf.specs.Program.{Program, IsProgram}
 use Rattle.basm_lex.specs.Lines.{IsLabel, operands_of, word_of}
+pub use Rattle.basm_lex.specs.Lines.{texts}
 use Rattle.basm_lex.specs.Names.{IsName}
 use Rattle.basm_lex.specs.Numbers.{WritesDistance, WritesNumber, WritesWide}
 use Rattle.basm_lex.specs.Places.{WritesPlace, WritesRegister}
@@ -39,10 +39,6 @@ abbrev pub WritesTarget : (names : List ℕ → Option ℕ) (slot : ℕ) → Lis
 WritesTarget names slot word offset = NamesTarget names slot word offset ⊎ WritesDistance word offset
 
 -- ---- the words of an instruction, by its own name
-
--- the texts of words that are lent
-abbrev pub texts : List (Bor (List ℕ)) → List (List ℕ)
-texts words = map (λ word. word.now) words
 
 -- one operand, which stands in the relation
 abbrev pub One : List (List ℕ) → (List ℕ → Type 0) → Type 0

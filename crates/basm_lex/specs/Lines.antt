@@ -1,7 +1,12 @@
 -- The words of a line: its first word, and its operands.
 use Rattle.std.specs.Prelude.{◌≡◌, ℕ, Bool, ◌==◌, if◌then◌else◌, List, [], ◌∷◌, ◌++◌, codes, map}
+use Rattle.std.specs.Borrow.{Bor}
 use Rattle.std.specs.List.{before_first, after_first, slice_split}
 use Rattle.basm_lex.specs.Names.{IsName}
+
+-- the texts of words that are lent
+abbrev pub texts : List (Bor (List ℕ)) → List (List ℕ)
+texts words = map (λ word. word.now) words
 
 -- the space between words
 abbrev pub is_space : ℕ → Bool

@@ -1,5 +1,5 @@
 -- Names of places in a program.
-use Rattle.std.specs.Prelude.{◌≡◌, ℕ, Bool, true, false, ◌&&◌, ◌||◌, ◌==◌, List, [], ◌∷◌}
+use Rattle.std.specs.Prelude.{◌≡◌, ◌≢◌, ℕ, Bool, true, false, ◌&&◌, ◌||◌, ◌==◌, List, [], ◌∷◌, ◌++◌}
 use Rattle.std.specs.Char.{is_ascii_alphabetic, is_ascii_alphanumeric}
 use Rattle.std.specs.List.{list_all}
 
@@ -15,3 +15,11 @@ is_name (c ∷ cs) = is_ascii_alphabetic c && list_all is_name_byte (c ∷ cs)
 -- the word is a name
 abbrev pub IsName : List ℕ → Type 0
 IsName word = is_name word ≡ true
+
+-- the word defines the name: it is the name and a colon (58)
+abbrev pub DefinesName : (word name : List ℕ) → Type 0
+DefinesName word name = IsName name × (word ≡ name ++ 58 ∷ [])
+
+-- the word defines no name
+abbrev pub DefinesNoName : (word : List ℕ) → Type 0
+DefinesNoName word = (name : List ℕ) → IsName name → word ≢ name ++ 58 ∷ []

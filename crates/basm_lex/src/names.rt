@@ -1,8 +1,8 @@
 //! Names of places in a program.
 
-ghost use Rattle.std.specs.Prelude.{◌≡◌, ◌≢◌, ◌∷◌, [], ◌++◌, List, ℕ, MatchOption};
+ghost use Rattle.std.specs.Prelude.{◌≡◌, MatchOption};
 ghost use Rattle.std.specs.List.{list_all};
-ghost use Rattle.basm_lex.specs.Names.{IsName, is_name, is_name_byte};
+ghost use Rattle.basm_lex.specs.Names.{DefinesName, DefinesNoName, is_name, is_name_byte};
 
 /// Whether the word is a name: a letter, and then letters, digits and underscores.
 pub fn is_name(word: &str) -> bool
@@ -29,8 +29,7 @@ fn is_name_byte(byte: &u8) -> bool
 
 /// The name that a label defines: a name and a colon.
 pub fn label_name(word: &str) -> Option<&str>
-    ensures { MatchOption result ((name : List ℕ) → IsName name → word.now ≢ name ++ 58 ∷ [])
-        (λ name. IsName name.now × (word.now ≡ name.now ++ 58 ∷ [])) }
+    ensures { MatchOption result (DefinesNoName word.now) (λ name. DefinesName word.now name.now) }
 {
     match word.strip_suffix(':') {
         Some(name) => { if is_name(name) { Some(name) } else { None } }

@@ -1,8 +1,8 @@
 //! The words of a line.
 
-ghost use Rattle.std.specs.Prelude.{◌≡◌, map, IfOk, MatchOption};
+ghost use Rattle.std.specs.Prelude.{◌≡◌, IfOk, MatchOption};
 ghost use Rattle.std.specs.List.{before_first};
-ghost use Rattle.basm_lex.specs.Lines.{IsLabel, IsNoLabel, code_of, without_trailing_spaces, is_semicolon, operands_of, rest_of, parts_between_commas, without_leading_spaces, trimmed_text, word_of};
+ghost use Rattle.basm_lex.specs.Lines.{IsLabel, IsNoLabel, code_of, without_trailing_spaces, is_semicolon, operands_of, rest_of, parts_between_commas, texts, without_leading_spaces, trimmed_text, word_of};
 
 use crate::names::label_name;
 use std::alloc::{AllocError, Global};
@@ -74,8 +74,7 @@ pub fn label(line: &str) -> Option<&str>
 /// `AllocError` where memory was refused.
 pub fn read_statement<'a>(alloc: Global, line: &'a str) -> Result<Statement<'a>, AllocError>
     ensures word { IfOk result (λ found. found.word.now ≡ word_of line.now) }
-    ensures operands { IfOk result
-        (λ found. map (λ operand. operand.now) found.operands.items ≡ operands_of line.now) }
+    ensures operands { IfOk result (λ found. texts found.operands.items ≡ operands_of line.now) }
 {
     let (word, rest) = split_word(line);
     let operands = read_operands(alloc, rest)?;
@@ -84,8 +83,7 @@ pub fn read_statement<'a>(alloc: Global, line: &'a str) -> Result<Statement<'a>,
 
 /// What stands between commas, without the spaces around it.
 fn read_operands(alloc: Global, rest: &str) -> Result<Vec<&str>, AllocError>
-    ensures { IfOk result
-        (λ operands. map (λ operand. operand.now) operands.items ≡ parts_between_commas rest.now) }
+    ensures { IfOk result (λ operands. texts operands.items ≡ parts_between_commas rest.now) }
 {
     if rest.is_empty() {
         Ok(Vec::new(alloc))

@@ -3,3 +3,4 @@ pub mod Parts
 pub mod Program
 pub mod Reading
 pub mod Weight
+pub mod Laws

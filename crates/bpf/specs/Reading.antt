@@ -1,5 +1,5 @@
 -- How an image is read, from its first byte to its last, with the first fault that is met.
-use Rattle.std.specs.Prelude.{◌≡◌, ℕ, zero, suc, ◌+◌, ◌*◌, Bool, true, false, ◌&&◌, ◌==◌, nat_eq, nat_lt, nat_le, if◌then◌else◌, List, [], ◌∷◌, ◌++◌, length, take, drop, slice_index, Option, Some, None, is_some, Result, Ok, Err}
+use Rattle.std.specs.Prelude.{◌≡◌, ◌≤◌, ℕ, zero, suc, ◌+◌, ◌*◌, Bool, true, false, ◌&&◌, ◌==◌, nat_eq, nat_lt, nat_le, if◌then◌else◌, List, [], ◌∷◌, ◌++◌, length, take, drop, slice_index, Option, Some, None, is_some, Result, Ok, Err}
 use Rattle.std.specs.List.{starts_with}
 use Rattle.bpf_insn.specs.declared.insn.Insn.{Insn}
 use Rattle.bpf_insn.specs.declared.decoder.BadInsn.{BadInsn}
@@ -10,7 +10,7 @@ use Rattle.bpf.specs.declared.header.Header.{Header}
 use Rattle.bpf.specs.declared.loops.Loop.{Loop}
 use Rattle.bpf.specs.declared.fault.ImageFault.{ImageFault}
 use Rattle.bpf.specs.declared.fault.ImageFault.TheVariants as faults
-use Rattle.bpf.specs.Program.{Program, program}
+use Rattle.bpf.specs.Program.{IsBudget, IsProgram, IsSlotCount, Program, header_bytes, image_bytes, program}
 
 -- the next step of a reading, unless a fault was found
 infixl 10 ◌>>=◌
@@ -63,6 +63,14 @@ declared_header loops slots reserved budget =
     then Ok (record { loops = loops; slots = slots; budget = budget })
     else Err faults.Budget)
     else Err faults.Count
+
+-- the counts and the budget of a header are in the limits of the format
+abbrev pub HasLimits : Header → Type 0
+HasLimits h = (h.loops ≤ 8) × IsSlotCount h.slots × IsBudget h.budget
+
+-- the bytes of a header
+abbrev pub bytes_of_header : Header → List ℕ
+bytes_of_header h = header_bytes 1 h.loops h.slots h.budget
 
 -- the counts and the budget
 unfoldable pub counts_reading : List ℕ → Result Header ImageFault
@@ -155,6 +163,11 @@ image_reading bytes =
     slots_reading h.slots 0 false (drop (16 + 8 * h.loops) bytes) >>= (λ slots.
     Ok (program h.budget loops slots))))
     else Err faults.Length)
+
+-- what spells a program is read as it, unless memory was refused
+abbrev pub ReadsWhatSpells : List ℕ → Result Program ImageFault → Type 0
+ReadsWhatSpells bytes read =
+    (p : Program) → IsProgram p → bytes ≡ image_bytes p → Gives (λ image. image) read (Ok p)
 
 -- the bytes from a slot on, which stand after the header and as many loops as it counts
 abbrev pub bytes_at : List ℕ → ℕ → List ℕ

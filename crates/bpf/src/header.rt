@@ -1,8 +1,8 @@
 //! The first 16 bytes of an image.
 
 ghost use Rattle.std.specs.Prelude.{◌≡◌, ◌≤◌, ◌==◌, ◌&&◌, ◌↔◌, IsTrue, nat_lt, slice_index, length, take, drop, IfOk};
-ghost use Rattle.bpf.specs.Program.{IsBudget, IsSlotCount, header_bytes};
-ghost use Rattle.bpf.specs.Reading.{counts_reading, declared_header, header_reading, is_budget, is_count};
+ghost use Rattle.bpf.specs.Program.{IsBudget, header_bytes};
+ghost use Rattle.bpf.specs.Reading.{HasLimits, bytes_of_header, counts_reading, declared_header, header_reading, is_budget, is_count};
 
 use crate::fault::ImageFault;
 
@@ -29,8 +29,7 @@ impl Header {
     /// before one of the budget.
     pub fn new(loops: usize, slots: usize, reserved: u32, budget: u32) -> Result<Header, ImageFault>
         ensures value { result ≡ declared_header loops slots reserved budget }
-        ensures limits { IfOk result
-            (λ h. (h.loops ≤ 8) × IsSlotCount h.slots × IsBudget h.budget) }
+        ensures limits { IfOk result HasLimits }
     {
         if !is_count(loops, slots, reserved) {
             return Err(ImageFault::Count);
@@ -50,9 +49,9 @@ impl Header {
 #[tactic(auto, unfolding(crate::specs::Reading::header_reading))]
 pub fn read_header(bytes: &[u8]) -> Result<Header, ImageFault>
     ensures value { result ≡ header_reading bytes.now }
-    ensures limits { IfOk result (λ h. (h.loops ≤ 8) × IsSlotCount h.slots × IsBudget h.budget) }
+    ensures limits { IfOk result HasLimits }
     ensures spelled { IfOk result
-        (λ h. take 16 bytes.now ≡ header_bytes 1 h.loops h.slots h.budget) }
+        (λ h. take 16 bytes.now ≡ bytes_of_header h) }
 {
     if !bytes.starts_with(&MAGIC) {
         return Err(ImageFault::Magic);
@@ -76,9 +75,9 @@ fn has_version(bytes: &[u8]) -> bool
 fn read_counts(bytes: &[u8]) -> Result<Header, ImageFault>
     requires { 16 ≤ length bytes.now }
     ensures value { result ≡ counts_reading bytes.now }
-    ensures limits { IfOk result (λ h. (h.loops ≤ 8) × IsSlotCount h.slots × IsBudget h.budget) }
+    ensures limits { IfOk result HasLimits }
     ensures spelled { IfOk result
-        (λ h. drop 5 (take 16 bytes.now) ≡ drop 5 (header_bytes 1 h.loops h.slots h.budget)) }
+        (λ h. drop 5 (take 16 bytes.now) ≡ drop 5 (bytes_of_header h)) }
 {
     let loops = bytes[5];
     let slots = u16::from_le_bytes([bytes[6], bytes[7]]);

@@ -4,7 +4,7 @@ ghost use Rattle.std.specs.Prelude.{◌≡◌, ◌≤◌, length, IfErr, IfOk, O
 ghost use Rattle.bpf.specs.Parts.{parts_reading};
 ghost use Rattle.bpf.specs.Program.{IsProgram, Program, image_bytes, insn_at, program};
 ghost use Rattle.bpf.specs.Weight.{saturated_weight, weight_of};
-ghost use Rattle.bpf.specs.Reading.{Gives, IsFaultAt, image_reading};
+ghost use Rattle.bpf.specs.Reading.{Gives, IsFaultAt, ReadsWhatSpells, image_reading};
 
 use crate::fault::ImageFault;
 use crate::header::{Header, VERSION, header_bytes, read_header};
@@ -45,9 +45,7 @@ impl Image {
         // What is read is spelled so.
         ensures found { IfOk result (λ image. IsProgram image × (bytes.now ≡ image_bytes image)) }
 
-        // What spells a program is read as it, unless memory is refused.
-        ensures only { (p : Program) → IsProgram p → bytes.now ≡ image_bytes p
-            → Gives (λ image. image) result (Ok p) }
+        ensures only { ReadsWhatSpells bytes.now result }
 
         // The first fault, or the image, unless memory is refused.
         ensures exact { Gives (λ image. image) result (image_reading bytes.now) }

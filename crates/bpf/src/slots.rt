@@ -4,7 +4,7 @@ ghost use Rattle.std.specs.Prelude.{◌≡◌, ◌≤◌, ◌+◌, ◌*◌, ◌<
 ghost use Rattle.std.specs.Option.{option_copied};
 ghost use Rattle.std.specs.List.{flat_map};
 ghost use Rattle.bpf_insn.specs.Spelling.{spelling};
-ghost use Rattle.bpf.specs.Program.{AreSlots, slot_bytes};
+ghost use Rattle.bpf.specs.Program.{SpellSlots, slot_bytes};
 ghost use Rattle.bpf.specs.Reading.{Fails, Gives, IsSlot, PushesSlot, begins_two, slot_in, slot_reading, slots_reading};
 
 use crate::fault::ImageFault;
@@ -16,8 +16,7 @@ pub fn read_slots(alloc: Global, bytes: &[u8], count: u16) -> Result<Vec<Option<
     requires { length bytes.now ≡ 8 * count }
     ensures value { Gives (λ v. v.items) result (slots_reading count 0 false bytes.now) }
     ensures length { IfOk result (λ slots. length slots.items ≡ count) }
-    ensures spelled { IfOk result
-        (λ slots. AreSlots false slots.items × (bytes.now ≡ flat_map slot_bytes slots.items)) }
+    ensures spelled { IfOk result (λ slots. SpellSlots bytes.now slots.items) }
 {
     let mut slots = Vec::with_capacity(alloc, usize::from(count))?;
     let mut rest = bytes;

@@ -163,6 +163,10 @@ meant_of f next =
 abbrev pub same_fields : Fields → Fields → Bool
 same_fields f g = f.opcode == g.opcode && f.dst == g.dst && f.src == g.src && int_eq f.offset g.offset && int_eq f.immediate g.immediate
 
+-- the fields of the next slot, where there is one
+abbrev pub next_fields : Option (List ℕ) → Option Fields
+next_fields next = option_map fields_in next
+
 -- whether the next slot is the second one of this immediate, where there is one
 abbrev pub same_second : Option ℤ → Option Fields → Bool
 same_second None next = true
@@ -179,4 +183,4 @@ reading_of f next = meant_of f next >>= (λ insn. if has_fields insn f next then
 
 -- the instruction that the bytes spell, or the first fault; the next slot is read only where it is wanted
 unfoldable pub reading : List ℕ → Option (List ℕ) → Result Insn BadInsn
-reading bytes next = reading_of (fields_in bytes) (option_map fields_in next)
+reading bytes next = reading_of (fields_in bytes) (next_fields next)

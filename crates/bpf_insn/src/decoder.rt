@@ -1,12 +1,12 @@
 //! From bytes to an instruction.
 
 ghost use Rattle.std.specs.Prelude.{◌≡◌, ◌≤◌, ◌<◌, ◌^◌, Ok, IfOk, IfErr, IsTrue};
-ghost use Rattle.std.specs.Option.{option_copied, option_map};
+ghost use Rattle.std.specs.Option.{option_copied};
 ghost use Rattle.bpf_insn.specs.declared.insn.Insn.{Insn};
 ghost use Rattle.bpf_insn.specs.Faults.{bad_insn_code, IsFault};
 ghost use Rattle.bpf_insn.specs.Spelling.{HasSecond, HasSlots, IsInsn, Spells};
 ghost use Rattle.bpf_parts.specs.Operands.{IsOperand};
-ghost use Rattle.bpf_insn.specs.Reading.{arithmetic_of, branch_of, byte_swap_of, call_of, fields_in, has_fields, constant_of, jump_of, load_of, meant_of, move_of, names_register, negation_of, operand_of, pair_of, reading_of, register_of, same_second, store_of, two_operands_of, wide_of};
+ghost use Rattle.bpf_insn.specs.Reading.{arithmetic_of, branch_of, byte_swap_of, call_of, constant_of, has_fields, jump_of, load_of, meant_of, move_of, names_register, negation_of, next_fields, operand_of, pair_of, reading_of, register_of, same_second, store_of, two_operands_of, wide_of};
 
 use crate::encoder::{first_fields, second_immediate};
 use crate::fields::Fields;
@@ -76,8 +76,7 @@ pub fn decode(bytes: &[u8; 8], next: Option<&[u8; 8]>) -> Result<Insn, BadInsn>
 /// The instruction that has these fields, and in the next slot its own.
 #[tactic(auto, unfolding(crate::specs::Reading::reading_of))]
 fn checked(fields: &Fields, next: Option<&[u8; 8]>) -> Result<Insn, BadInsn>
-    ensures value { result
-        ≡ reading_of fields.now (option_map fields_in (option_copied next.entry)) }
+    ensures value { result ≡ reading_of fields.now (next_fields (option_copied next.entry)) }
     ensures insn { IfOk result IsInsn }
     ensures own { IfOk result (λ insn. HasSlots insn fields.now (option_copied next.entry)) }
 {
@@ -91,8 +90,7 @@ fn checked(fields: &Fields, next: Option<&[u8; 8]>) -> Result<Insn, BadInsn>
 
 /// Whether these are the instruction's fields, unused ones too.
 fn has_fields(insn: &Insn, fields: &Fields, next: Option<&[u8; 8]>) -> bool
-    ensures value { result
-        ≡ has_fields insn.now fields.now (option_map fields_in (option_copied next.entry)) }
+    ensures value { result ≡ has_fields insn.now fields.now (next_fields (option_copied next.entry)) }
     ensures own { IsTrue result → HasSlots insn.now fields.now (option_copied next.entry) }
 {
     first_fields(insn) == *fields && has_second(second_immediate(insn), next)
@@ -100,8 +98,7 @@ fn has_fields(insn: &Insn, fields: &Fields, next: Option<&[u8; 8]>) -> bool
 
 /// Whether the next slot, where a second one is wanted, holds nothing but the immediate.
 fn has_second(immediate: Option<i32>, next: Option<&[u8; 8]>) -> bool
-    ensures value { result
-        ≡ same_second immediate (option_map fields_in (option_copied next.entry)) }
+    ensures value { result ≡ same_second immediate (next_fields (option_copied next.entry)) }
     ensures own { IsTrue result → HasSecond immediate (option_copied next.entry) }
 {
     match immediate {
@@ -116,7 +113,7 @@ fn has_second(immediate: Option<i32>, next: Option<&[u8; 8]>) -> bool
 /// The instruction that the used fields mean, whatever the unused ones hold.
 #[tactic(auto, unfolding(crate::specs::Reading::meant_of))]
 fn meant(fields: &Fields, next: Option<&[u8; 8]>) -> Result<Insn, BadInsn>
-    ensures value { result ≡ meant_of fields.now (option_map fields_in (option_copied next.entry)) }
+    ensures value { result ≡ meant_of fields.now (next_fields (option_copied next.entry)) }
     ensures insn { IfOk result IsInsn }
 {
     match fields.opcode % 8 {
@@ -327,7 +324,7 @@ fn store(fields: &Fields, from_register: bool) -> Result<Insn, BadInsn>
 
 #[tactic(auto, unfolding(crate::specs::Reading::wide_of))]
 fn wide(fields: &Fields, next: Option<&[u8; 8]>) -> Result<Insn, BadInsn>
-    ensures value { result ≡ wide_of fields.now (option_map fields_in (option_copied next.entry)) }
+    ensures value { result ≡ wide_of fields.now (next_fields (option_copied next.entry)) }
     ensures insn { IfOk result IsInsn }
 {
     if fields.opcode != LOAD_WIDE {

@@ -10,7 +10,7 @@ ghost use Rattle.bver.specs.Table.{knowledge_in};
 ghost use Rattle.bver_form.specs.Targets.{IsKept};
 ghost use Rattle.bver.specs.Visit.{AreEntered, IsExtended, IsInsnVisit, IsTableOf, IsVisit, visited_state};
 
-use crate::edges::{accessed, flow};
+use crate::edges::{accessed_region, flow};
 use crate::table::Table;
 use crate::visit::Visit;
 use absdom::{Region, State, order_of_states};

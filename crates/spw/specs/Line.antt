@@ -1,5 +1,6 @@
 -- Packet lines: their words, what the words write, and which fault a line has.
-use Rattle.std.specs.Prelude.{◌≡◌, ℕ, ◌+◌, ◌*◌, ◌%◌, ◌<◌, ◌≤◌, ◌==◌, ◌⊎◌, not, List, [], ◌∷◌, ◌++◌, length, filter, codes, All, Result, Ok, Err, IfOk, IfErr}
+use Rattle.std.specs.Prelude.{◌≡◌, ◌≢◌, ℕ, ◌+◌, ◌*◌, ◌%◌, ◌<◌, ◌≤◌, ◌==◌, ◌⊎◌, not, List, [], ◌∷◌, ◌++◌, length, filter, codes, All, Result, Ok, Err, IfOk, IfErr}
+use Rattle.std.specs.Borrow.{Bor}
 use Rattle.std.specs.Char.{digit_value}
 use Rattle.std.specs.List.{slice_split, flat_map}
 use Rattle.std.specs.Str.Parse.{AllDigits, IsNumeral, digits_value}
@@ -17,10 +18,22 @@ words_of line = filter (λ word. not (length word == 0)) (slice_split (λ code. 
 abbrev pub IsPort : List ℕ → Type 0
 IsPort word = IsNumeral 10 word × (digits_value 10 word ≤ 31)
 
+-- the word writes this port
+abbrev pub WritesPort : List ℕ → ℕ → Type 0
+WritesPort word port = IsPort word × (port ≡ digits_value 10 word)
+
+-- the fault of a word that writes no port
+abbrev pub IsNoPort : List ℕ → LineFault → Type 0
+IsNoPort word fault = (fault ≡ NoPort) × ¬ IsPort word
+
 -- the word for an end marker
 abbrev pub marker_word : End → List ℕ
 marker_word Eop = codes "EOP"
 marker_word Eep = codes "EEP"
+
+-- the fault of a word that is no end marker
+abbrev pub IsNoMarker : List ℕ → LineFault → Type 0
+IsNoMarker word fault = (fault ≡ BadMarker) × ((end : End) → word ≢ marker_word end)
 
 -- an even number of hexadecimal digits, in either case
 abbrev pub IsHex : List ℕ → Type 0
@@ -31,6 +44,18 @@ abbrev pub bytes_written : List ℕ → List ℕ
 bytes_written [] = []
 bytes_written (digit ∷ []) = []
 bytes_written (high ∷ low ∷ digits) = (digit_value high * 16 + digit_value low) ∷ bytes_written digits
+
+-- the word writes these bytes
+abbrev pub WritesBytes : List ℕ → List ℕ → Type 0
+WritesBytes word bytes = IsHex word × (bytes ≡ bytes_written word)
+
+-- the words write these bytes, one after the other
+abbrev pub WriteBytes : List (Bor (List ℕ)) → List ℕ → Type 0
+WriteBytes words bytes = All (λ word. IsHex word.now) words × (bytes ≡ flat_map (λ word. bytes_written word.now) words)
+
+-- the fault of what is not hexadecimal; or memory was refused
+abbrev pub IsHexFault : (hexadecimal : Type 0) → LineFault → Type 0
+IsHexFault hexadecimal fault = (fault ≡ Memory) ⊎ ((fault ≡ BadHex) × ¬ hexadecimal)
 
 -- the words of a line are a port, hexadecimal words and an end marker, and they write this port and
 -- this cargo

@@ -1,10 +1,7 @@
 //! Packet lines: text that writes a port, the bytes of a packet and its end marker.
 
-ghost use Rattle.std.specs.Prelude.{◌≡◌, ◌≢◌, ◌⊎◌, map, All, IfOk, IfErr, MatchResult};
-ghost use Rattle.std.specs.List.{flat_map};
-ghost use Rattle.std.specs.Str.Parse.{digits_value};
-ghost use Rattle.spw.specs.Line.{words_of as words_in, IsPort, marker_word, IsHex, bytes_written, IsReading, LineIsUnambiguous};
-ghost use Rattle.spw.specs.declared.packets.End.{End as Marker};
+ghost use Rattle.std.specs.Prelude.{◌≡◌, map, All, IfOk, IfErr, MatchResult};
+ghost use Rattle.spw.specs.Line.{words_of as words_in, IsHex, IsHexFault, IsNoMarker, IsNoPort, IsReading, LineIsUnambiguous, WriteBytes, WritesBytes, WritesPort, marker_word};
 
 use crate::faults::LineFault;
 use crate::packets::{End, Packet};
@@ -24,9 +21,7 @@ fn words_of(alloc: Global, line: &str) -> Result<Vec<&str>, AllocError>
 
 /// The port that a word writes: a decimal number from 0 to 31 without a sign, or `NoPort`.
 fn port_of(word: &str) -> Result<u8, LineFault>
-    ensures { MatchResult result
-        (λ port. IsPort word.now × (port ≡ digits_value 10 word.now))
-        (λ fault. (fault ≡ LineFault.NoPort) × ¬ IsPort word.now) }
+    ensures { MatchResult result (WritesPort word.now) (IsNoPort word.now) }
 {
     if word.starts_with('+') {
         return Err(LineFault::NoPort);
@@ -41,9 +36,7 @@ fn port_of(word: &str) -> Result<u8, LineFault>
 
 /// The marker that a word writes, or `BadMarker`.
 fn end_of(word: &str) -> Result<End, LineFault>
-    ensures { MatchResult result
-        (λ end. word.now ≡ marker_word end)
-        (λ fault. (fault ≡ LineFault.BadMarker) × ((end : Marker) → word.now ≢ marker_word end)) }
+    ensures { MatchResult result (λ end. word.now ≡ marker_word end) (IsNoMarker word.now) }
 {
     match word {
         "EOP" => Ok(End::Eop),
@@ -54,19 +47,15 @@ fn end_of(word: &str) -> Result<End, LineFault>
 
 /// The bytes that a word of hexadecimal digits writes.
 fn bytes_of_word(alloc: Global, word: &str) -> Result<Vec<u8>, LineFault>
-    ensures { MatchResult result
-        (λ bytes. IsHex word.now × (bytes.items ≡ bytes_written word.now))
-        (λ fault. (fault ≡ LineFault.Memory) ⊎ ((fault ≡ LineFault.BadHex) × ¬ IsHex word.now)) }
+    ensures { MatchResult result (λ b. WritesBytes word.now b.items) (IsHexFault (IsHex word.now)) }
 {
     Ok(hex::decode(alloc, word)?)
 }
 
 /// The bytes that some words write, joined.
 fn bytes_of(alloc: Global, words: &[&str]) -> Result<Vec<u8>, LineFault>
-    ensures ok { IfOk result (λ bytes. All (λ word. IsHex word.now) words.now
-        × (bytes.items ≡ flat_map (λ word. bytes_written word.now) words.now)) }
-    ensures err { IfErr result (λ fault. (fault ≡ LineFault.Memory)
-        ⊎ ((fault ≡ LineFault.BadHex) × ¬ All (λ word. IsHex word.now) words.now)) }
+    ensures ok { IfOk result (λ bytes. WriteBytes words.now bytes.items) }
+    ensures err { IfErr result (IsHexFault (All (λ word. IsHex word.now) words.now)) }
 {
     let mut bytes = Vec::new(alloc);
     for word in words {

@@ -1,0 +1,77 @@
+-- Laws of printed words: what is printed is read as it was.
+use Rattle.std.specs.Prelude.{◌≡◌, ◌==◌, ◌≤◌, ◌<◌, ◌^◌, ◌++◌, ◌∷◌, ℕ, ℤ, List, decimal, pos, FitsSigned}
+use Rattle.std.specs.Fmt.{signed_decimal}
+use Rattle.std.specs.Int.{w16, w32}
+use Rattle.std.specs.List.{slice_split}
+use Rattle.bpf_insn.specs.declared.insn.Insn.{Insn}
+use Rattle.bpf_parts.specs.declared.memory.Place.{Place}
+use Rattle.bpf_insn.specs.Spelling.{IsInsn}
+use Rattle.bpf_insn.specs.Text.{bits_text, insn_name, insn_operands, name_with_operands}
+use Rattle.bpf_parts.specs.Text.{place_text, register_text, signed_text}
+use Rattle.basm_lex.specs.Lines.{operands_of, word_of}
+use Rattle.basm_lex.specs.Numbers.{WritesDistance, WritesNumber, WritesWide}
+use Rattle.basm_lex.specs.Places.{WritesPlace}
+use Rattle.basm_lex.specs.Printed.{AreWords, IsWord}
+
+-- ---- printed numbers, distances, places and constants write what they are
+
+-- a number without a sign
+abbrev pub NumbersAreWritten : Type 0
+NumbersAreWritten = (n : ℕ) → n < 2 ^ 31 → WritesNumber (decimal n) (pos n)
+
+-- a number with its sign
+abbrev pub SignedAreWritten : Type 0
+SignedAreWritten = (z : ℤ) → FitsSigned w32 z → WritesNumber (signed_decimal z) z
+
+-- a distance, whose sign is always printed
+abbrev pub DistancesAreWritten : Type 0
+DistancesAreWritten = (z : ℤ) → FitsSigned w32 z → WritesDistance (signed_text z) z
+
+-- a place in memory
+abbrev pub PlacesAreWritten : Type 0
+PlacesAreWritten =
+    (place : Place) → place.base ≤ 10 → FitsSigned w16 place.offset
+    → WritesPlace (place_text place) place
+
+-- a constant of 64 bits
+abbrev pub ConstantsAreWritten : Type 0
+ConstantsAreWritten = (value : ℕ) → value < 2 ^ 64 → WritesWide (bits_text value) value
+
+-- ---- numbers and registers are words, and so are the name and the operands of an instruction
+
+-- a number
+abbrev pub NumbersAreWords : Type 0
+NumbersAreWords = (n : ℕ) → n < 2 ^ 64 → IsWord (decimal n)
+
+-- a register
+abbrev pub RegistersAreWords : Type 0
+RegistersAreWords = (number : ℕ) → number ≤ 10 → IsWord (register_text number)
+
+-- the name of an instruction
+abbrev pub NamesAreWords : Type 0
+NamesAreWords = (insn : Insn) → IsWord (insn_name insn)
+
+-- its operands
+abbrev pub OperandsAreWords : Type 0
+OperandsAreWords = (insn : Insn) → IsInsn insn → AreWords (insn_operands insn)
+
+-- ---- a line of a name and operands
+
+-- its first word is the name
+abbrev pub FirstIsTheName : Type 0
+FirstIsTheName =
+    (name : List ℕ) (xs : List (List ℕ)) → IsWord name → AreWords xs
+    → word_of (name_with_operands name xs) ≡ name
+
+-- the rest are the operands
+abbrev pub RestAreTheOperands : Type 0
+RestAreTheOperands =
+    (name : List ℕ) (xs : List (List ℕ)) → IsWord name → AreWords xs
+    → operands_of (name_with_operands name xs) ≡ xs
+
+-- it is one line
+abbrev pub IsOneLine : Type 0
+IsOneLine =
+    (name : List ℕ) (xs : List (List ℕ)) (rest : List ℕ) → IsWord name → AreWords xs
+    → slice_split (λ c. c == 10) (name_with_operands name xs ++ 10 ∷ rest)
+    ≡ name_with_operands name xs ∷ slice_split (λ c. c == 10) rest
