@@ -148,7 +148,8 @@ pub(crate) fn load(
 /// A store to the stack at one of these offsets: it sets its bytes where there is one offset alone.
 fn write(state: &mut State, bytes: usize, offsets: Offsets, offset: i16) -> Result<(), Cause>
     requires { bytes ≤ 8 }
-    ensures { Becomes result state.old state.new (after_stack_write state.old bytes offsets offset) }
+    ensures { Becomes result state.old state.new
+        (after_stack_write state.old bytes offsets offset) }
 {
     match access(Region::Stack, bytes, offsets, offset) {
         Some((lowest, highest)) => {

@@ -78,7 +78,8 @@ pub fn refine(
     src: &Operand,
 ) -> Result<Edges, Cause>
     ensures { MatchResult result
-        (λ new. refined_edges state.now condition width dst src.now ≡ Ok (edge_states state.now dst src.now new))
+        (λ new. refined_edges state.now condition width dst src.now
+        ≡ Ok (edge_states state.now dst src.now new))
         (λ cause. refined_edges state.now condition width dst src.now ≡ Err cause) }
 {
     let left = state.kind(dst).number()?;

@@ -17,6 +17,10 @@ use Rattle.basm.specs.declared.survey.Survey.{Survey}
 use Rattle.basm.specs.Names.{slot_named}
 use Rattle.basm.specs.Relation.{Four, Item, Nothing, Label, Budget, OneLoop, Code, AreLines, IsLine, IsText, WritesEnd, budget_in, loop_in, insn_in, slots_in}
 
+-- the slots that the names of a text stand for, as its survey found them
+abbrev pub names_in : Survey → List ℕ → Option ℕ
+names_in survey = slot_named survey.names
+
 -- the operands of `.loop` write the loop
 abbrev pub WritesLoop : (names : List ℕ → Option ℕ) → List (List ℕ) → Loop → Type 0
 WritesLoop names xs l =

@@ -1,7 +1,9 @@
+pub mod Additions
 pub mod Draft
 pub mod Codes
 pub mod Labels
 pub mod Names
 pub mod Outcomes
 pub mod Printed
+pub mod Readers
 pub mod Relation

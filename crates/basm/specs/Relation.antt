@@ -1,7 +1,7 @@
 -- The text relation: when lines stand to an image.
 use Rattle.std.specs.Prelude.{◌≡◌, ◌≢◌, ◌↔◌, ◌⊎◌, ◌==◌, ℕ, ◌+◌, ℤ, pos, ◌-ℤ◌, List, [], ◌∷◌, ◌++◌, codes, Option, Some, FitsSigned}
 use Rattle.std.specs.Int.{w16, w32}
-use Rattle.std.specs.List.{slice_split, flat_map}
+use Rattle.std.specs.List.{flat_map}
 use Rattle.std.specs.List.Sorted.{IsPermutation}
 use Rattle.bpf_parts.specs.declared.operation.Operand.{Operand}
 use Rattle.bpf_parts.specs.declared.operation.Operand.TheVariants.{FromRegister, Immediate}
@@ -15,7 +15,7 @@ use Rattle.bpf.specs.declared.loops.Loop.{Loop}
 use Rattle.bpf.specs.Parts.{placed_slots}
 use Rattle.bpf.specs.Program.{Program, IsProgram}
 use Rattle.basm_lex.specs.Lines.{IsLabel, operands_of, word_of}
-pub use Rattle.basm_lex.specs.Lines.{texts}
+pub use Rattle.basm_lex.specs.Lines.{pieces_of, texts}
 use Rattle.basm_lex.specs.Names.{IsName}
 use Rattle.basm_lex.specs.Numbers.{WritesDistance, WritesNumber, WritesWide}
 use Rattle.basm_lex.specs.Places.{WritesPlace, WritesRegister}
@@ -37,6 +37,14 @@ pub record NamesTarget (names : List ℕ → Option ℕ) (slot : ℕ) (word : Li
 -- a target by its distance or its name, where names stand for slots
 abbrev pub WritesTarget : (names : List ℕ → Option ℕ) (slot : ℕ) → List ℕ → ℤ → Type 0
 WritesTarget names slot word offset = NamesTarget names slot word offset ⊎ WritesDistance word offset
+
+-- the same, in reach of a field of 16 bits
+abbrev pub WritesShortTarget : (names : List ℕ → Option ℕ) (slot : ℕ) → List ℕ → ℤ → Type 0
+WritesShortTarget names slot word offset = WritesTarget names slot word offset × FitsSigned w16 offset
+
+-- the same, in reach of a field of 32 bits
+abbrev pub WritesLongTarget : (names : List ℕ → Option ℕ) (slot : ℕ) → List ℕ → ℤ → Type 0
+WritesLongTarget names slot word offset = WritesTarget names slot word offset × FitsSigned w32 offset
 
 -- ---- the words of an instruction, by its own name
 
@@ -70,9 +78,9 @@ WritesOperands names slot xs (ByteSwap swap bits dst) = One xs (λ a. WritesRegi
 WritesOperands names slot xs (Load size dst place) = Two xs (λ a. WritesRegister a dst) (λ b. WritesPlace b place)
 WritesOperands names slot xs (Store size place src) = Two xs (λ a. WritesPlace a place) (λ b. WritesOperand b src)
 WritesOperands names slot xs (Jump comparison offset) =
-    Three xs (λ a. WritesRegister a comparison.dst) (λ b. WritesOperand b comparison.src) (λ c. WritesTarget names slot c offset × FitsSigned w16 offset)
-WritesOperands names slot xs (Goto (Short offset)) = One xs (λ a. WritesTarget names slot a offset × FitsSigned w16 offset)
-WritesOperands names slot xs (Goto (Long distance)) = One xs (λ a. WritesTarget names slot a distance × FitsSigned w32 distance)
+    Three xs (λ a. WritesRegister a comparison.dst) (λ b. WritesOperand b comparison.src) (λ c. WritesShortTarget names slot c offset)
+WritesOperands names slot xs (Goto (Short offset)) = One xs (λ a. WritesShortTarget names slot a offset)
+WritesOperands names slot xs (Goto (Long distance)) = One xs (λ a. WritesLongTarget names slot a distance)
 WritesOperands names slot xs (Wide dst value) = Two xs (λ a. WritesRegister a dst) (λ b. WritesWide b value)
 WritesOperands names slot xs (LoadMap dst index) = Two xs (λ a. WritesRegister a dst) (λ b. WritesNumber b index)
 WritesOperands names slot xs (LoadAddress dst address) =
@@ -182,7 +190,7 @@ AreApart (pair ∷ pairs) = IsFree pairs pair.0 × AreApart pairs
 pub record IsText (text : List ℕ) (p : Program) : Type 0 where
   pub items : List Item
   pub names : List ℕ → Option ℕ
-  pub lines : AreLines names 0 (slice_split (λ c. c == 10) text) items
+  pub lines : AreLines names 0 (pieces_of text) items
   pub defined : (name : List ℕ) (slot : ℕ) → (names name ≡ Some slot) ↔ Defines (names_from 0 items) name slot
   pub apart : AreApart (names_from 0 items)
   pub budget : flat_map budget_in items ≡ p.budget ∷ []

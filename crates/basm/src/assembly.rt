@@ -1,12 +1,10 @@
 //! From a text to an image.
 
 ghost use Rattle.std.specs.Prelude.{◌≡◌, ◌==◌, IfOk, MatchResult};
-ghost use Rattle.std.specs.List.{slice_split};
 ghost use Rattle.bpf.specs.Program.{Program};
-ghost use Rattle.basm.specs.Draft.{ArePartsOf, SayParts, SurveysText};
-ghost use Rattle.basm.specs.Names.{slot_named};
+ghost use Rattle.basm.specs.Draft.{ArePartsOf, SayParts, SurveysText, names_in};
 ghost use Rattle.basm.specs.Outcomes.{Makes, out_of_memory};
-ghost use Rattle.basm.specs.Relation.{IsText};
+ghost use Rattle.basm.specs.Relation.{IsText, pieces_of};
 ghost use Rattle.basm.specs.declared.faults.AsmCode.TheVariants.{Memory};
 
 use crate::draft::Draft;
@@ -46,8 +44,7 @@ pub fn assemble(alloc: Global, text: &str) -> Result<Image, AsmFault>
 
 /// What the lines declare.
 fn read_lines(alloc: Global, text: &str, survey: &Survey) -> Result<Draft, AsmFault>
-    ensures parts { IfOk result
-        (SayParts (slot_named survey.now.names) (slice_split (λ c. c == 10) text.now)) }
+    ensures parts { IfOk result (SayParts (names_in survey.now) (pieces_of text.now)) }
     ensures exact { (p : Program) (t : IsText text.now p) → SurveysText t survey.now
         → MatchResult result (ArePartsOf t.items) (λ fault. fault ≡ out_of_memory) }
 {

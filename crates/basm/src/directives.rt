@@ -3,9 +3,10 @@
 ghost use Rattle.std.specs.Prelude.{◌≡◌, ◌≤◌, ◌<◌, ℕ, ℤ, pos, IfOk};
 ghost use Rattle.basm_lex.specs.Numbers.{WritesNumber};
 ghost use Rattle.bpf.specs.Program.{IsBudget, IsLoop};
-ghost use Rattle.basm.specs.Draft.{WritesLoop};
+ghost use Rattle.basm.specs.Draft.{WritesLoop, names_in};
 ghost use Rattle.basm.specs.Names.{slot_named};
-ghost use Rattle.basm.specs.Relation.{One, WritesEnd, texts};
+ghost use Rattle.basm.specs.Relation.{WritesEnd, texts};
+ghost use Rattle.basm.specs.Readers.{WritesBudget};
 
 use crate::faults::{AsmCode, both};
 use crate::instructions::reg;
@@ -16,10 +17,8 @@ use bpf::{Loop, MAX_SLOTS, is_budget};
 
 /// The budget that the operands of `.budget` declare.
 pub fn read_budget(operands: &[&str]) -> Result<u32, AsmCode>
-    ensures writes { IfOk result
-        (λ budget. One (texts operands.now) (λ a. WritesNumber a (pos budget))) }
-    ensures exact { (n : ℕ) → IsBudget n → One (texts operands.now) (λ a. WritesNumber a (pos n))
-        → result ≡ Ok n }
+    ensures writes { IfOk result (WritesBudget operands.now) }
+    ensures exact { (n : ℕ) → IsBudget n → WritesBudget operands.now n → result ≡ Ok n }
 {
     let [budget] = operands else {
         return Err(AsmCode::BadOperand);
@@ -34,9 +33,9 @@ pub fn read_budget(operands: &[&str]) -> Result<u32, AsmCode>
 
 /// The loop that the operands of `.loop` declare.
 pub fn read_loop(operands: &[&str], survey: &Survey) -> Result<Loop, AsmCode>
-    ensures writes { IfOk result (WritesLoop (slot_named survey.now.names) (texts operands.now)) }
+    ensures writes { IfOk result (WritesLoop (names_in survey.now) (texts operands.now)) }
     ensures exact { (l : Loop) → IsLoop survey.now.slots l → survey.now.slots ≤ 512
-        → WritesLoop (slot_named survey.now.names) (texts operands.now) l → result ≡ Ok l }
+        → WritesLoop (names_in survey.now) (texts operands.now) l → result ≡ Ok l }
 {
     let [head, back, bound, counter] = operands else {
         return Err(AsmCode::BadOperand);

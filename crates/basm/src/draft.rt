@@ -1,17 +1,17 @@
 //! The parts of an image, line by line.
 
-ghost use Rattle.std.specs.Prelude.{◌≡◌, ◌+◌, ◌≤◌, ◌<◌, ◌++◌, ◌∷◌, [], ℕ, List, pos, length, None, IfOk};
+ghost use Rattle.std.specs.Prelude.{◌≡◌, ◌+◌, ◌≤◌, ◌<◌, [], ℕ, List, length, None, IfOk};
 ghost use Rattle.bpf.specs.declared.loops.Loop.{Loop as ALoop};
 ghost use Rattle.bpf.specs.Program.{IsBudget, Program};
 ghost use Rattle.bpf_insn.specs.declared.insn.Insn.{Insn as AnInsn};
 ghost use Rattle.bpf_insn.specs.Spelling.{slots_of};
 ghost use Rattle.basm_lex.specs.Lines.{IsLabel};
-ghost use Rattle.basm_lex.specs.Numbers.{WritesNumber};
-ghost use Rattle.basm.specs.Draft.{AddsItem, AddsLine, ArePartsOf, HasRoom, IsImageOf, UnlessMemory, WritesLoop, has_head};
+ghost use Rattle.basm.specs.Draft.{AddsLine, ArePartsOf, HasRoom, IsImageOf, WritesLoop, has_head, names_in};
 ghost use Rattle.basm_lex.specs.Mnemonics.{mnemonic_word};
-ghost use Rattle.basm.specs.Names.{slot_named};
 ghost use Rattle.basm.specs.Outcomes.{Makes};
-ghost use Rattle.basm.specs.Relation.{Budget, Code, IsLine, Item, One, OneLoop, WritesInsn, texts};
+ghost use Rattle.basm.specs.Relation.{Budget, Code, IsLine, Item, OneLoop, WritesInsn, texts};
+ghost use Rattle.basm.specs.Readers.{WritesBudget};
+ghost use Rattle.basm.specs.Additions.{AddsBudget, AddsInsn, AddsLoop, IsAdded};
 
 use crate::directives::{read_budget, read_loop};
 use crate::faults::{AsmCode, AsmFault, both};
@@ -49,11 +49,11 @@ impl Draft {
     /// Adds what a line says.
     pub fn add_line(&mut self, alloc: Global, survey: &Survey, line: &str) -> Result<(), AsmCode>
         ensures adds { IfOk result
-            (λ _. AddsLine (slot_named survey.now.names) line.now self.old self.new) }
+            (λ _. AddsLine (names_in survey.now) line.now self.old self.new) }
         ensures exact { (item : Item)
-            → IsLine (slot_named survey.now.names) self.old.slots line.now item
+            → IsLine (names_in survey.now) self.old.slots line.now item
             → HasRoom survey.now.slots item self.old
-            → UnlessMemory result (λ _. AddsItem item self.old self.new) }
+            → IsAdded item self.old self.new result }
     {
         let statement = read_statement(alloc, line)?;
         let operands = statement.operands.as_slice();
@@ -69,12 +69,10 @@ impl Draft {
     }
 
     fn add_budget(&mut self, operands: &[&str]) -> Result<(), AsmCode>
-        ensures adds { IfOk result
-            (λ _. (n : ℕ) × One (texts operands.now) (λ a. WritesNumber a (pos n))
-            × AddsItem (Budget n) self.old self.new) }
-        ensures exact { (n : ℕ) → One (texts operands.now) (λ a. WritesNumber a (pos n))
+        ensures adds { IfOk result (λ _. AddsBudget operands.now self.old self.new) }
+        ensures exact { (n : ℕ) → WritesBudget operands.now n
             → IsBudget n → self.old.budget ≡ None
-            → UnlessMemory result (λ _. AddsItem (Budget n) self.old self.new) }
+            → IsAdded (Budget n) self.old self.new result }
     {
         let budget = read_budget(operands)?;
         if self.budget.is_some() {
@@ -86,12 +84,11 @@ impl Draft {
 
     fn add_loop(&mut self, operands: &[&str], survey: &Survey) -> Result<(), AsmCode>
         ensures adds { IfOk result
-            (λ _. (l : ALoop) × WritesLoop (slot_named survey.now.names) (texts operands.now) l
-            × AddsItem (OneLoop l) self.old self.new) }
+            (λ _. AddsLoop (names_in survey.now) operands.now self.old self.new) }
         ensures exact { (l : ALoop)
-            → WritesLoop (slot_named survey.now.names) (texts operands.now) l
+            → WritesLoop (names_in survey.now) (texts operands.now) l
             → HasRoom survey.now.slots (OneLoop l) self.old
-            → UnlessMemory result (λ _. AddsItem (OneLoop l) self.old self.new) }
+            → IsAdded (OneLoop l) self.old self.new result }
     {
         let (found, _) = both(read_loop(operands, survey), self.loop_room())?;
         if self.has_head(found.head) {
@@ -124,14 +121,11 @@ impl Draft {
         survey: &Survey,
     ) -> Result<(), AsmCode>
         ensures adds { IfOk result
-            (λ _. (insn : AnInsn)
-            × WritesInsn (slot_named survey.now.names) self.old.slots (mnemonic_word found)
-            (texts operands.now) insn × AddsItem (Code insn) self.old self.new
-            × (self.new.slots ≤ 512)) }
+            (λ _. AddsInsn (names_in survey.now) found operands.now self.old self.new) }
         ensures exact { (insn : AnInsn)
-            → WritesInsn (slot_named survey.now.names) self.old.slots (mnemonic_word found)
+            → WritesInsn (names_in survey.now) self.old.slots (mnemonic_word found)
             (texts operands.now) insn → self.old.slots + slots_of insn ≤ 512
-            → UnlessMemory result (λ _. AddsItem (Code insn) self.old self.new) }
+            → IsAdded (Code insn) self.old self.new result }
     {
         self.slots = add_insn(&mut self.insns, found, operands, &survey.names, self.slots)?;
         Ok(())

@@ -1,16 +1,17 @@
 //! From a line to an instruction.
 
-ghost use Rattle.std.specs.Prelude.{◌≡◌, ◌+◌, ◌≤◌, ◌++◌, ◌∷◌, [], ℕ, ℤ, List, Option, pos, FitsSigned, IfOk, IfSome};
-ghost use Rattle.std.specs.Int.{w16, w32};
+ghost use Rattle.std.specs.Prelude.{◌≡◌, ◌+◌, ◌≤◌, [], ℕ, ℤ, Option, pos, IfOk, IfSome};
 ghost use Rattle.bpf_parts.specs.Codes.{address_first, address_second, address_subtype};
 ghost use Rattle.bpf_insn.specs.declared.insn.Insn.{Insn as AnInsn};
 ghost use Rattle.bpf_insn.specs.Spelling.{slots_of};
-ghost use Rattle.basm_lex.specs.Numbers.{WritesNumber, WritesWide};
+ghost use Rattle.basm_lex.specs.Numbers.{WritesNumber};
 ghost use Rattle.basm_lex.specs.Places.{WritesPlace, WritesRegister};
 ghost use Rattle.basm.specs.Draft.{PushesInsn, UnlessMemory};
 ghost use Rattle.basm_lex.specs.Mnemonics.{mnemonic_word};
 ghost use Rattle.basm.specs.Names.{slot_named};
-ghost use Rattle.basm.specs.Relation.{Four, One, Three, Two, WritesInsn, WritesOperand, WritesTarget, texts};
+ghost use Rattle.basm.specs.Relation.{Four, Three, Two, WritesInsn, WritesOperand, texts};
+ghost use Rattle.basm.specs.Readers.{HasFields, IsRead, IsReadAt, Reads, ReadsAt, WriteFields, WriteNumbers, WriteRegisterAndNumbers};
+ghost use Rattle.basm.specs.Additions.{AppendsInsn};
 
 use crate::faults::{AsmCode, both};
 use crate::names::Names;
@@ -31,9 +32,8 @@ pub fn add_insn(
     slot: u32,
 ) -> Result<u32, AsmCode>
     ensures writes { IfOk result
-        (λ after. (insn : AnInsn)
-        × WritesInsn (slot_named names.now) slot (mnemonic_word found) (texts operands.now) insn
-        × PushesInsn insns.old.items insns.new.items slot insn after) }
+        (AppendsInsn (slot_named names.now) slot found operands.now
+        insns.old.items insns.new.items) }
     ensures exact { (insn : AnInsn)
         → WritesInsn (slot_named names.now) slot (mnemonic_word found) (texts operands.now) insn
         → slot + slots_of insn ≤ 512
@@ -69,8 +69,7 @@ fn slot_after(slot: u32, insn: &Insn) -> Result<u32, AsmCode>
 
 /// The instruction of this name with these operands, at the slot.
 fn read_insn(found: Mnemonic, operands: &[&str], names: &Names, slot: u32) -> Result<Insn, AsmCode>
-    ensures writes { IfOk result
-        (WritesInsn (slot_named names.now) slot (mnemonic_word found) (texts operands.now)) }
+    ensures writes { ReadsAt (slot_named names.now) slot found operands.now result }
     ensures exact { (insn : Insn)
         → WritesInsn (slot_named names.now) slot (mnemonic_word found) (texts operands.now) insn
         → result ≡ Ok insn }
@@ -129,13 +128,9 @@ fn source(word: &str) -> Result<Operand, AsmCode>
 }
 
 fn arithmetic(op: AluOp, width: Width, operands: &[&str]) -> Result<Insn, AsmCode>
-    ensures writes { (names : List ℕ → Option ℕ) (slot : ℕ)
-        → IfOk result
-        (WritesInsn names slot (mnemonic_word (Mnemonic.Arithmetic op width))
-        (texts operands.now)) }
+    ensures writes { Reads (Mnemonic.Arithmetic op width) operands.now result }
     ensures exact { (dst : ℕ) (src : Operand)
-        → Two (texts operands.now) (λ a. WritesRegister a dst) (λ b. WritesOperand b src)
-        → result ≡ Ok (Insn.Alu op width dst src) }
+        → IsRead operands.now (Insn.Alu op width dst src) result }
 {
     let [dst, src] = operands else {
         return Err(AsmCode::BadOperand);
@@ -150,11 +145,8 @@ fn arithmetic(op: AluOp, width: Width, operands: &[&str]) -> Result<Insn, AsmCod
 }
 
 fn negation(width: Width, operands: &[&str]) -> Result<Insn, AsmCode>
-    ensures writes { (names : List ℕ → Option ℕ) (slot : ℕ)
-        → IfOk result
-        (WritesInsn names slot (mnemonic_word (Mnemonic.Negation width)) (texts operands.now)) }
-    ensures exact { (dst : ℕ) → One (texts operands.now) (λ a. WritesRegister a dst)
-        → result ≡ Ok (Insn.Negate width dst) }
+    ensures writes { Reads (Mnemonic.Negation width) operands.now result }
+    ensures exact { (dst : ℕ) → IsRead operands.now (Insn.Negate width dst) result }
 {
     let [dst] = operands else {
         return Err(AsmCode::BadOperand);
@@ -164,13 +156,8 @@ fn negation(width: Width, operands: &[&str]) -> Result<Insn, AsmCode>
 }
 
 fn signed_move(extension: Extension, operands: &[&str]) -> Result<Insn, AsmCode>
-    ensures writes { (names : List ℕ → Option ℕ) (slot : ℕ)
-        → IfOk result
-        (WritesInsn names slot (mnemonic_word (Mnemonic.SignedMove extension))
-        (texts operands.now)) }
-    ensures exact { (dst src : ℕ)
-        → Two (texts operands.now) (λ a. WritesRegister a dst) (λ b. WritesRegister b src)
-        → result ≡ Ok (Insn.MoveSigned extension dst src) }
+    ensures writes { Reads (Mnemonic.SignedMove extension) operands.now result }
+    ensures exact { (dst src : ℕ) → IsRead operands.now (Insn.MoveSigned extension dst src) result }
 {
     let [dst, src] = operands else {
         return Err(AsmCode::BadOperand);
@@ -184,11 +171,8 @@ fn signed_move(extension: Extension, operands: &[&str]) -> Result<Insn, AsmCode>
 }
 
 fn byte_swap(swap: Swap, bits: SwapBits, operands: &[&str]) -> Result<Insn, AsmCode>
-    ensures writes { (names : List ℕ → Option ℕ) (slot : ℕ)
-        → IfOk result
-        (WritesInsn names slot (mnemonic_word (Mnemonic.Swapping swap bits)) (texts operands.now)) }
-    ensures exact { (dst : ℕ) → One (texts operands.now) (λ a. WritesRegister a dst)
-        → result ≡ Ok (Insn.ByteSwap swap bits dst) }
+    ensures writes { Reads (Mnemonic.Swapping swap bits) operands.now result }
+    ensures exact { (dst : ℕ) → IsRead operands.now (Insn.ByteSwap swap bits dst) result }
 {
     let [dst] = operands else {
         return Err(AsmCode::BadOperand);
@@ -198,12 +182,9 @@ fn byte_swap(swap: Swap, bits: SwapBits, operands: &[&str]) -> Result<Insn, AsmC
 }
 
 fn load(size: LoadSize, operands: &[&str]) -> Result<Insn, AsmCode>
-    ensures writes { (names : List ℕ → Option ℕ) (slot : ℕ)
-        → IfOk result
-        (WritesInsn names slot (mnemonic_word (Mnemonic.Loading size)) (texts operands.now)) }
+    ensures writes { Reads (Mnemonic.Loading size) operands.now result }
     ensures exact { (dst : ℕ) (place : Place)
-        → Two (texts operands.now) (λ a. WritesRegister a dst) (λ b. WritesPlace b place)
-        → result ≡ Ok (Insn.Load size dst place) }
+        → IsRead operands.now (Insn.Load size dst place) result }
 {
     let [dst, place] = operands else {
         return Err(AsmCode::BadOperand);
@@ -213,12 +194,9 @@ fn load(size: LoadSize, operands: &[&str]) -> Result<Insn, AsmCode>
 }
 
 fn store(size: Size, operands: &[&str]) -> Result<Insn, AsmCode>
-    ensures writes { (names : List ℕ → Option ℕ) (slot : ℕ)
-        → IfOk result
-        (WritesInsn names slot (mnemonic_word (Mnemonic.Storing size)) (texts operands.now)) }
+    ensures writes { Reads (Mnemonic.Storing size) operands.now result }
     ensures exact { (place : Place) (value : ℤ)
-        → Two (texts operands.now) (λ a. WritesPlace a place) (λ b. WritesNumber b value)
-        → result ≡ Ok (Insn.Store size place (Operand.Immediate value)) }
+        → IsRead operands.now (Insn.Store size place (Operand.Immediate value)) result }
 {
     let [place, src] = operands else {
         return Err(AsmCode::BadOperand);
@@ -229,13 +207,9 @@ fn store(size: Size, operands: &[&str]) -> Result<Insn, AsmCode>
 }
 
 fn store_register(size: Size, operands: &[&str]) -> Result<Insn, AsmCode>
-    ensures writes { (names : List ℕ → Option ℕ) (slot : ℕ)
-        → IfOk result
-        (WritesInsn names slot (mnemonic_word (Mnemonic.StoringRegister size))
-        (texts operands.now)) }
+    ensures writes { Reads (Mnemonic.StoringRegister size) operands.now result }
     ensures exact { (place : Place) (src : ℕ)
-        → Two (texts operands.now) (λ a. WritesPlace a place) (λ b. WritesRegister b src)
-        → result ≡ Ok (Insn.Store size place (Operand.FromRegister src)) }
+        → IsRead operands.now (Insn.Store size place (Operand.FromRegister src)) result }
 {
     let [place, src] = operands else {
         return Err(AsmCode::BadOperand);
@@ -252,14 +226,12 @@ fn jump(
     names: &Names,
     slot: u32,
 ) -> Result<Insn, AsmCode>
-    ensures writes { IfOk result
-        (WritesInsn (slot_named names.now) slot (mnemonic_word (Mnemonic.Jumping condition width))
-        (texts operands.now)) }
+    ensures writes { ReadsAt (slot_named names.now) slot
+        (Mnemonic.Jumping condition width) operands.now result }
     ensures exact { (dst : ℕ) (src : Operand) (offset : ℤ)
-        → Three (texts operands.now) (λ a. WritesRegister a dst) (λ b. WritesOperand b src)
-        (λ c. WritesTarget (slot_named names.now) slot c offset × FitsSigned w16 offset)
-        → result ≡ Ok
-        (Insn.Jump (record { condition = condition; width = width; dst = dst; src = src }) offset) }
+        → IsReadAt (slot_named names.now) slot operands.now
+        (Insn.Jump (record { condition = condition; width = width; dst = dst; src = src }) offset)
+        result }
 {
     let [dst, src, target] = operands else {
         return Err(AsmCode::BadOperand);
@@ -276,13 +248,10 @@ fn jump(
 }
 
 fn short_goto(operands: &[&str], names: &Names, slot: u32) -> Result<Insn, AsmCode>
-    ensures writes { IfOk result
-        (WritesInsn (slot_named names.now) slot (mnemonic_word (Mnemonic.ShortGoto))
-        (texts operands.now)) }
+    ensures writes { ReadsAt (slot_named names.now) slot Mnemonic.ShortGoto operands.now result }
     ensures exact { (offset : ℤ)
-        → One (texts operands.now)
-        (λ a. WritesTarget (slot_named names.now) slot a offset × FitsSigned w16 offset)
-        → result ≡ Ok (Insn.Goto (Distance.Short offset)) }
+        → IsReadAt (slot_named names.now) slot operands.now
+        (Insn.Goto (Distance.Short offset)) result }
 {
     let [target] = operands else {
         return Err(AsmCode::BadOperand);
@@ -294,13 +263,10 @@ fn short_goto(operands: &[&str], names: &Names, slot: u32) -> Result<Insn, AsmCo
 }
 
 fn long_goto(operands: &[&str], names: &Names, slot: u32) -> Result<Insn, AsmCode>
-    ensures writes { IfOk result
-        (WritesInsn (slot_named names.now) slot (mnemonic_word (Mnemonic.LongGoto))
-        (texts operands.now)) }
+    ensures writes { ReadsAt (slot_named names.now) slot Mnemonic.LongGoto operands.now result }
     ensures exact { (slots : ℤ)
-        → One (texts operands.now)
-        (λ a. WritesTarget (slot_named names.now) slot a slots × FitsSigned w32 slots)
-        → result ≡ Ok (Insn.Goto (Distance.Long slots)) }
+        → IsReadAt (slot_named names.now) slot operands.now
+        (Insn.Goto (Distance.Long slots)) result }
 {
     let [target] = operands else {
         return Err(AsmCode::BadOperand);
@@ -312,12 +278,8 @@ fn long_goto(operands: &[&str], names: &Names, slot: u32) -> Result<Insn, AsmCod
 }
 
 fn wide(operands: &[&str]) -> Result<Insn, AsmCode>
-    ensures writes { (names : List ℕ → Option ℕ) (slot : ℕ)
-        → IfOk result
-        (WritesInsn names slot (mnemonic_word (Mnemonic.WideLoad)) (texts operands.now)) }
-    ensures exact { (dst value : ℕ)
-        → Two (texts operands.now) (λ a. WritesRegister a dst) (λ b. WritesWide b value)
-        → result ≡ Ok (Insn.Wide dst value) }
+    ensures writes { Reads Mnemonic.WideLoad operands.now result }
+    ensures exact { (dst value : ℕ) → IsRead operands.now (Insn.Wide dst value) result }
 {
     let [dst, value] = operands else {
         return Err(AsmCode::BadOperand);
@@ -328,12 +290,8 @@ fn wide(operands: &[&str]) -> Result<Insn, AsmCode>
 }
 
 fn map(operands: &[&str]) -> Result<Insn, AsmCode>
-    ensures writes { (names : List ℕ → Option ℕ) (slot : ℕ)
-        → IfOk result
-        (WritesInsn names slot (mnemonic_word (Mnemonic.MapLoad)) (texts operands.now)) }
-    ensures exact { (dst : ℕ) (index : ℤ)
-        → Two (texts operands.now) (λ a. WritesRegister a dst) (λ b. WritesNumber b index)
-        → result ≡ Ok (Insn.LoadMap dst index) }
+    ensures writes { Reads Mnemonic.MapLoad operands.now result }
+    ensures exact { (dst : ℕ) (index : ℤ) → IsRead operands.now (Insn.LoadMap dst index) result }
 {
     let [dst, index] = operands else {
         return Err(AsmCode::BadOperand);
@@ -344,14 +302,9 @@ fn map(operands: &[&str]) -> Result<Insn, AsmCode>
 
 /// A load of another kind of address.
 fn address_load(operands: &[&str]) -> Result<Insn, AsmCode>
-    ensures writes { (names : List ℕ → Option ℕ) (slot : ℕ)
-        → IfOk result
-        (WritesInsn names slot (mnemonic_word Mnemonic.AddressLoad) (texts operands.now)) }
+    ensures writes { Reads Mnemonic.AddressLoad operands.now result }
     ensures exact { (dst : ℕ) (address : Address)
-        → Four (texts operands.now) (λ a. WritesNumber a (pos (address_subtype address)))
-        (λ b. WritesRegister b dst) (λ c. WritesNumber c (address_first address))
-        (λ d. WritesNumber d (address_second address))
-        → result ≡ Ok (Insn.LoadAddress dst address) }
+        → IsRead operands.now (Insn.LoadAddress dst address) result }
 {
     let (subtype, (dst, (first, second))) = address_operands(operands)?;
     match address(subtype, first, second) {
@@ -362,10 +315,7 @@ fn address_load(operands: &[&str]) -> Result<Insn, AsmCode>
 
 /// A subtype, a register and two numbers.
 fn address_operands(operands: &[&str]) -> Result<(i32, (Register, (i32, i32))), AsmCode>
-    ensures writes { IfOk result
-        (λ found. Four (texts operands.now) (λ a. WritesNumber a found.0)
-        (λ b. WritesRegister b found.1.0) (λ c. WritesNumber c found.1.1.0)
-        (λ d. WritesNumber d found.1.1.1)) }
+    ensures writes { IfOk result (WriteFields operands.now) }
     ensures exact { (subtype : ℤ) (dst : ℕ) (first second : ℤ)
         → Four (texts operands.now) (λ a. WritesNumber a subtype) (λ b. WritesRegister b dst)
         (λ c. WritesNumber c first) (λ d. WritesNumber d second)
@@ -379,9 +329,7 @@ fn address_operands(operands: &[&str]) -> Result<(i32, (Register, (i32, i32))), 
 
 /// A register and two numbers.
 fn address_place(operands: &[&str]) -> Result<(Register, (i32, i32)), AsmCode>
-    ensures writes { IfOk result
-        (λ found. Three (texts operands.now) (λ a. WritesRegister a found.0)
-        (λ b. WritesNumber b found.1.0) (λ c. WritesNumber c found.1.1)) }
+    ensures writes { IfOk result (WriteRegisterAndNumbers operands.now) }
     ensures exact { (dst : ℕ) (first second : ℤ)
         → Three (texts operands.now) (λ a. WritesRegister a dst) (λ b. WritesNumber b first)
         (λ c. WritesNumber c second) → result ≡ Ok (dst, (first, second)) }
@@ -393,12 +341,10 @@ fn address_place(operands: &[&str]) -> Result<(Register, (i32, i32)), AsmCode>
 }
 
 fn two_numbers(operands: &[&str]) -> Result<(i32, i32), AsmCode>
-    ensures writes { IfOk result
-        (λ found. Two (texts operands.now) (λ a. WritesNumber a found.0)
-        (λ b. WritesNumber b found.1)) }
+    ensures writes { IfOk result (WriteNumbers operands.now) }
     ensures exact { (first second : ℤ)
-        → Two (texts operands.now) (λ a. WritesNumber a first) (λ b. WritesNumber b second)
-        → result ≡ Ok (first, second) }
+        → Two (texts operands.now) (λ a. WritesNumber a first)
+        (λ b. WritesNumber b second) → result ≡ Ok (first, second) }
 {
     let [first, second] = operands else {
         return Err(AsmCode::BadOperand);
@@ -408,9 +354,7 @@ fn two_numbers(operands: &[&str]) -> Result<(i32, i32), AsmCode>
 
 /// The address of this subtype; `None` where there is none with these numbers.
 fn address(subtype: i32, first: i32, second: i32) -> Option<Address>
-    ensures writes { IfSome result
-        (λ found. (pos (address_subtype found) ≡ subtype) × (address_first found ≡ first)
-        × (address_second found ≡ second)) }
+    ensures writes { IfSome result (HasFields subtype first second) }
     ensures exact { (found : Address) → pos (address_subtype found) ≡ subtype
         → address_first found ≡ first → address_second found ≡ second → result ≡ Some found }
 {
@@ -438,11 +382,8 @@ fn known_address(subtype: u8, first: i32, second: i32) -> Option<Address>
 }
 
 fn call(callee: Callee, operands: &[&str]) -> Result<Insn, AsmCode>
-    ensures writes { (names : List ℕ → Option ℕ) (slot : ℕ)
-        → IfOk result
-        (WritesInsn names slot (mnemonic_word (Mnemonic.Calling callee)) (texts operands.now)) }
-    ensures exact { (number : ℤ) → One (texts operands.now) (λ a. WritesNumber a number)
-        → result ≡ Ok (Insn.Call callee number) }
+    ensures writes { Reads (Mnemonic.Calling callee) operands.now result }
+    ensures exact { (number : ℤ) → IsRead operands.now (Insn.Call callee number) result }
 {
     let [number] = operands else {
         return Err(AsmCode::BadOperand);
@@ -452,9 +393,7 @@ fn call(callee: Callee, operands: &[&str]) -> Result<Insn, AsmCode>
 }
 
 fn exit(operands: &[&str]) -> Result<Insn, AsmCode>
-    ensures writes { (names : List ℕ → Option ℕ) (slot : ℕ)
-        → IfOk result
-        (WritesInsn names slot (mnemonic_word (Mnemonic.Exiting)) (texts operands.now)) }
+    ensures writes { Reads Mnemonic.Exiting operands.now result }
     ensures exact { operands.now ≡ [] → result ≡ Ok Insn.Exit }
 {
     if operands.is_empty() {

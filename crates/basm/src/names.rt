@@ -1,7 +1,8 @@
 //! The names of slots.
 
-ghost use Rattle.std.specs.Prelude.{◌≡◌, ◌↔◌, ◌++◌, ◌∷◌, [], ℕ, List, IfOk, IsTrue};
+ghost use Rattle.std.specs.Prelude.{◌≡◌, [], ℕ, List, IfOk};
 ghost use Rattle.basm.specs.Names.{slot_named};
+ghost use Rattle.basm.specs.Additions.{HasOneMore, IsNew};
 
 use std::alloc::{AllocError, Global};
 use std::collections::BTreeMap;
@@ -44,11 +45,8 @@ impl<'a> Names<'a> {
     /// Lets the name stand for a slot, unless it stands for one. Gives whether it does so now.
     pub fn define(&mut self, name: &'a str, slot: u32) -> Result<bool, AllocError>
         // A name keeps its first slot.
-        ensures names { IfOk result
-            (λ _. (other : List ℕ)
-            → slot_named self.new other ≡ slot_named (self.old ++ (name.now, slot) ∷ []) other) }
-        ensures is_new { IfOk result
-            (λ is_new. IsTrue is_new ↔ (slot_named self.old name.now ≡ None)) }
+        ensures names { IfOk result (λ _. HasOneMore self.old self.new name.now slot) }
+        ensures is_new { IfOk result (IsNew self.old name.now) }
     {
         if self.slots.contains_key(name) {
             return Ok(false);

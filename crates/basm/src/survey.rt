@@ -1,9 +1,8 @@
 //! What the whole text says before its lines are read one by one.
 
 ghost use Rattle.std.specs.Prelude.{◌≡◌, ◌==◌, ◌++◌, ◌∷◌, [], ℕ, List, IfOk};
-ghost use Rattle.std.specs.List.{slice_split};
-ghost use Rattle.basm_lex.specs.Lines.{word_of};
 ghost use Rattle.basm.specs.Labels.{AddsName, IsSurvey, word_slots};
+ghost use Rattle.basm.specs.Relation.{pieces_of};
 
 use crate::names::Names;
 use basm_lex::{first_word, label, read_mnemonic};
@@ -25,7 +24,7 @@ pub struct Survey<'a> {
 impl<'a> Survey<'a> {
     /// What the text says.
     pub fn of(alloc: Global, text: &'a str) -> Result<Survey<'a>, AllocError>
-        ensures { IfOk result (IsSurvey (slice_split (λ c. c == 10) text.now)) }
+        ensures { IfOk result (IsSurvey (pieces_of text.now)) }
     {
         let mut survey = Survey {
             names: Names::new(alloc),

@@ -3,7 +3,7 @@
 ghost use Rattle.std.specs.Prelude.{◌≡◌, ℤ, IfOk, FitsSigned};
 ghost use Rattle.std.specs.Int.{w16, w32};
 ghost use Rattle.basm.specs.Names.{slot_named};
-ghost use Rattle.basm.specs.Relation.{WritesTarget};
+ghost use Rattle.basm.specs.Relation.{WritesLongTarget, WritesShortTarget, WritesTarget};
 
 use crate::faults::AsmCode;
 use crate::names::Names;
@@ -31,8 +31,7 @@ pub fn read_target(word: &str, names: &Names, slot: u32) -> Result<i64, AsmCode>
 
 /// The target of a jump, as a distance that a field of 16 bits holds.
 pub fn read_short_target(word: &str, names: &Names, slot: u32) -> Result<i16, AsmCode>
-    ensures writes { IfOk result
-        (λ slots. WritesTarget (slot_named names.now) slot word.now slots × FitsSigned w16 slots) }
+    ensures writes { IfOk result (WritesShortTarget (slot_named names.now) slot word.now) }
     ensures exact { (offset : ℤ) → WritesTarget (slot_named names.now) slot word.now offset
         → FitsSigned w16 offset → result ≡ Ok offset }
 {
@@ -42,8 +41,7 @@ pub fn read_short_target(word: &str, names: &Names, slot: u32) -> Result<i16, As
 
 /// The same in a field of 32 bits.
 pub fn read_long_target(word: &str, names: &Names, slot: u32) -> Result<i32, AsmCode>
-    ensures writes { IfOk result
-        (λ slots. WritesTarget (slot_named names.now) slot word.now slots × FitsSigned w32 slots) }
+    ensures writes { IfOk result (WritesLongTarget (slot_named names.now) slot word.now) }
     ensures exact { (offset : ℤ) → WritesTarget (slot_named names.now) slot word.now offset
         → FitsSigned w32 offset → result ≡ Ok offset }
 {

@@ -1,14 +1,13 @@
 -- Laws of printed words: what is printed is read as it was.
-use Rattle.std.specs.Prelude.{◌≡◌, ◌==◌, ◌≤◌, ◌<◌, ◌^◌, ◌++◌, ◌∷◌, ℕ, ℤ, List, decimal, pos, FitsSigned}
+use Rattle.std.specs.Prelude.{◌≡◌, ◌≤◌, ◌<◌, ◌^◌, ◌++◌, ◌∷◌, ℕ, ℤ, List, decimal, pos, FitsSigned}
 use Rattle.std.specs.Fmt.{signed_decimal}
 use Rattle.std.specs.Int.{w16, w32}
-use Rattle.std.specs.List.{slice_split}
 use Rattle.bpf_insn.specs.declared.insn.Insn.{Insn}
 use Rattle.bpf_parts.specs.declared.memory.Place.{Place}
 use Rattle.bpf_insn.specs.Spelling.{IsInsn}
 use Rattle.bpf_insn.specs.Text.{bits_text, insn_name, insn_operands, name_with_operands}
 use Rattle.bpf_parts.specs.Text.{place_text, register_text, signed_text}
-use Rattle.basm_lex.specs.Lines.{operands_of, word_of}
+use Rattle.basm_lex.specs.Lines.{operands_of, pieces_of, word_of}
 use Rattle.basm_lex.specs.Numbers.{WritesDistance, WritesNumber, WritesWide}
 use Rattle.basm_lex.specs.Places.{WritesPlace}
 use Rattle.basm_lex.specs.Printed.{AreWords, IsWord}
@@ -73,5 +72,4 @@ RestAreTheOperands =
 abbrev pub IsOneLine : Type 0
 IsOneLine =
     (name : List ℕ) (xs : List (List ℕ)) (rest : List ℕ) → IsWord name → AreWords xs
-    → slice_split (λ c. c == 10) (name_with_operands name xs ++ 10 ∷ rest)
-    ≡ name_with_operands name xs ∷ slice_split (λ c. c == 10) rest
+    → pieces_of (name_with_operands name xs ++ 10 ∷ rest) ≡ name_with_operands name xs ∷ pieces_of rest

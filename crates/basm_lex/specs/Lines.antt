@@ -8,6 +8,10 @@ use Rattle.basm_lex.specs.Names.{IsName}
 abbrev pub texts : List (Bor (List ℕ)) → List (List ℕ)
 texts words = map (λ word. word.now) words
 
+-- the lines of a text: what stands between its line feeds (10)
+abbrev pub pieces_of : List ℕ → List (List ℕ)
+pieces_of text = slice_split (λ c. c == 10) text
+
 -- the space between words
 abbrev pub is_space : ℕ → Bool
 is_space c = c == 32

@@ -90,7 +90,8 @@ fn checked(fields: &Fields, next: Option<&[u8; 8]>) -> Result<Insn, BadInsn>
 
 /// Whether these are the instruction's fields, unused ones too.
 fn has_fields(insn: &Insn, fields: &Fields, next: Option<&[u8; 8]>) -> bool
-    ensures value { result ≡ has_fields insn.now fields.now (next_fields (option_copied next.entry)) }
+    ensures value { result ≡ has_fields insn.now fields.now
+        (next_fields (option_copied next.entry)) }
     ensures own { IsTrue result → HasSlots insn.now fields.now (option_copied next.entry) }
 {
     first_fields(insn) == *fields && has_second(second_immediate(insn), next)

@@ -32,3 +32,7 @@ pub record AreEntries (t : TableValue) : Type 0 where
 -- what is known at a slot, where a running state may stand at the next one
 abbrev pub knowledge_beside : TableValue → (runs : Bool) (next : ℕ) → StateValue → (slot : ℕ) → Option StateValue
 knowledge_beside t runs next state slot = if runs && slot == next then Some state else knowledge_in t slot
+
+-- what is known at the next slot, where a running state may stand
+abbrev pub knowledge_next : TableValue → (runs : Bool) (next : ℕ) → StateValue → Option StateValue
+knowledge_next t runs next state = knowledge_beside t runs next state next

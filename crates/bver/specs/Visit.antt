@@ -1,5 +1,5 @@
 -- How the verifier's table grows while it passes over the slots.
-use Rattle.std.specs.Prelude.{All, ◌≡◌, ◌<◌, ℕ, ◌+◌, ℤ, Bool, if◌then◌else◌, List, length, slice_index_or, Option, Some, None, IsSome, IsTrue, IfSome}
+use Rattle.std.specs.Prelude.{All, ◌≡◌, ◌<◌, ℕ, ◌+◌, ℤ, Bool, if◌then◌else◌, List, length, slice_index_or, Option, Some, None, IsSome, IsTrue, IfSome, Result}
 use Rattle.bpf.specs.Program.{Program}
 use Rattle.bpf_insn.specs.declared.insn.Insn.{Insn}
 use Rattle.bpf_insn.specs.declared.flow.Flow.{Flow}
@@ -9,12 +9,13 @@ use Rattle.bpf_insn.specs.Spelling.{slots_of}
 use Rattle.machine.specs.Sizes.{Maps}
 use Rattle.machine.specs.declared.regions.Region.{Region}
 use Rattle.machine.specs.Step.{insn_at}
-use Rattle.absdom.specs.State.{StateValue, IsBelow}
-use Rattle.absdom.specs.State.{IsWhole}
+use Rattle.absdom.specs.declared.cause.Cause.{Cause}
+use Rattle.absdom.specs.Edges.{Edges}
+use Rattle.absdom.specs.State.{StateValue, IsBelow, IsWhole}
 use Rattle.bver_form.specs.Jumps.{first_slot, target}
-use Rattle.bver.specs.Justified.{IsHead, IsCoveredIfAny, IsEntered, IsPermittedAt, region_at, knowledge_at}
+use Rattle.bver.specs.Justified.{AreEdgesCovered, IsHead, IsCoveredIfAny, IsEntered, IsPermittedAt, region_at, knowledge_at}
 use Rattle.bver.specs.Heads.{AreHeadsAt}
-use Rattle.bver.specs.Table.{TableValue, knowledge_beside, knowledge_in}
+use Rattle.bver.specs.Table.{TableValue, knowledge_beside, knowledge_in, knowledge_next}
 use Rattle.bver_form.specs.Targets.{IsPlain, landing_from}
 
 -- ---- what is known at each slot
@@ -64,6 +65,17 @@ IsTableOf v table = table.program ≡ v.program
 -- what is known where a jump by so many slots leads
 abbrev pub knowledge_there : VisitValue → (distance : ℤ) → (known : ℕ → Option StateValue) → Option StateValue
 knowledge_there v distance known = knowledge_at known (target v.slot distance)
+
+-- the edges of a comparison were followed: what they lead to is known where it jumps to, and at the next slot, where
+-- the state stands if it runs on
+abbrev pub AreFollowed : VisitValue → (distance : ℤ) → Result Edges Cause → TableValue → StateValue → (runs : Bool) → Type 0
+AreFollowed v distance edges table state runs =
+    AreEdgesCovered edges (knowledge_there v distance (knowledge_beside table runs (v.slot + 1) state))
+    (knowledge_next table runs (v.slot + 1) state)
+
+-- the slot is plain where the running state stands there
+abbrev pub GoesOnPlain : Program → (slot : ℕ) → (runs : Bool) → Type 0
+GoesOnPlain p slot runs = IsTrue runs → IsPlain p slot
 
 -- the instruction at the slot leads there by a jump of so many slots
 abbrev pub LeadsBy : VisitValue → (distance : ℤ) → Type 0

@@ -144,7 +144,8 @@ impl<'a> Body<'a> {
     /// `LoopEntry` where a run may come there with a counter outside its bound, or with none.
     pub(crate) fn raise(&self, lowered: &Lowered, state: &mut State) -> Result<(), Refusal>
         ensures raised { OnOk result
-            (IsRaised self.now.program self.now.declared lowered.now self.now.place state.old state.new) }
+            (IsRaised self.now.program self.now.declared lowered.now self.now.place
+            state.old state.new) }
         ensures bound { MatchResult result (λ _. IsWithinBound self.now.declared state.old)
             (IsEntryFault self.now.declared state.old) }
     {

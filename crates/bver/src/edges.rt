@@ -10,11 +10,11 @@ ghost use Rattle.absdom.specs.State.{after_call, kind_at};
 ghost use Rattle.bver_form.specs.Form.{IsAllowed};
 ghost use Rattle.bver_form.specs.Jumps.{IsJump};
 ghost use Rattle.bver.specs.Codes.{refusal_of};
-ghost use Rattle.bver.specs.Justified.{AsksCell, IsCovered, IsCoveredIfAny, IsResultCovered, AreEdgesCovered, edges_of_comparison, IsNumber, IsPermitted, knowledge_at, pointed_region, accessed_region};
+ghost use Rattle.bver.specs.Justified.{AsksCell, IsCovered, IsCoveredIfAny, IsNumber, IsPermitted, IsResultCovered, accessed_region, edges_of_comparison, pointed_region};
 ghost use Rattle.bver_form.specs.Lowered.{IsMore, IsSettled};
-ghost use Rattle.bver.specs.Table.{knowledge_beside, knowledge_in};
+ghost use Rattle.bver.specs.Table.{knowledge_beside, knowledge_in, knowledge_next};
 ghost use Rattle.bver_form.specs.Targets.{IsPlain};
-ghost use Rattle.bver.specs.Visit.{IsTableOf, IsExtendedAfter, IsNext, HasNext, LeadsBy, knowledge_there};
+ghost use Rattle.bver.specs.Visit.{AreFollowed, GoesOnPlain, HasNext, IsExtendedAfter, IsNext, IsTableOf, LeadsBy, knowledge_there};
 
 use crate::table::Table;
 use crate::visit::Visit;
@@ -106,7 +106,7 @@ fn go_on(visit: &Visit, table: &mut Table<'_>, state: &State, slots: u16) -> boo
     requires table { IsTableOf visit.now table.old }
     requires next { IsNext visit.now slots }
     ensures covered { IsCovered state.now
-        (knowledge_beside table.new result (visit.now.slot + slots) state.now (visit.now.slot + slots)) }
+        (knowledge_next table.new result (visit.now.slot + slots) state.now) }
     ensures plain { IsTrue result → IsPlain visit.now.program (visit.now.slot + slots) }
     ensures extended { IsExtendedAfter visit.now table.old table.new }
 {
@@ -127,7 +127,7 @@ fn follow_not_taken(
     requires next { IsNext visit.now 1 }
     ensures covered { IsCoveredIfAny
         (edge_state state.old comparison.now.dst comparison.now.src edge.now)
-        (knowledge_beside table.new result (visit.now.slot + 1) state.new (visit.now.slot + 1)) }
+        (knowledge_next table.new result (visit.now.slot + 1) state.new) }
     ensures plain { IsTrue result → IsPlain visit.now.program (visit.now.slot + 1) }
     ensures extended { IsExtendedAfter visit.now table.old table.new }
 {
@@ -157,11 +157,10 @@ fn branch(
     requires next { IsNext visit.now 1 }
     ensures covered { IfOk result
         (λ runs. IsSettled lowered.old lowered.new
-        → AreEdgesCovered (Ok (edge_states state.old comparison.now.dst comparison.now.src edges.now))
-        (knowledge_there visit.now distance (knowledge_beside table.new runs (visit.now.slot + 1) state.new))
-        (knowledge_beside table.new runs (visit.now.slot + 1) state.new (visit.now.slot + 1))) }
-    ensures plain { IfOk result
-        (λ runs. IsTrue runs → IsPlain visit.now.program (visit.now.slot + 1)) }
+        → AreFollowed visit.now distance
+        (Ok (edge_states state.old comparison.now.dst comparison.now.src edges.now))
+        table.new state.new runs) }
+    ensures plain { IfOk result (GoesOnPlain visit.now.program (visit.now.slot + 1)) }
     ensures extended { IsExtendedAfter visit.now table.old table.new }
     ensures more { IsMore lowered.old lowered.new }
 {
@@ -195,11 +194,10 @@ fn compare(
     requires next { IsNext visit.now 1 }
     ensures covered { IfOk result
         (λ runs. IsSettled lowered.old lowered.new
-        → AreEdgesCovered (edges_of_comparison state.old comparison.now)
-        (knowledge_there visit.now offset (knowledge_beside table.new runs (visit.now.slot + 1) state.new))
-        (knowledge_beside table.new runs (visit.now.slot + 1) state.new (visit.now.slot + 1))) }
-    ensures plain { IfOk result
-        (λ runs. IsTrue runs → IsPlain visit.now.program (visit.now.slot + 1)) }
+        → AreFollowed visit.now offset
+        (edges_of_comparison state.old comparison.now)
+        table.new state.new runs) }
+    ensures plain { IfOk result (GoesOnPlain visit.now.program (visit.now.slot + 1)) }
     ensures extended { IsExtendedAfter visit.now table.old table.new }
     ensures more { IsMore lowered.old lowered.new }
 {
@@ -237,10 +235,9 @@ fn straight(
     requires next { IsNext visit.now (slots_of insn.now) }
     ensures covered { IfOk result
         (λ runs. IsResultCovered (after_insn state.old insn.now)
-        (knowledge_beside table.new runs (visit.now.slot + slots_of insn.now) state.new
-        (visit.now.slot + slots_of insn.now))) }
+        (knowledge_next table.new runs (visit.now.slot + slots_of insn.now) state.new)) }
     ensures plain { IfOk result
-        (λ runs. IsTrue runs → IsPlain visit.now.program (visit.now.slot + slots_of insn.now)) }
+        (GoesOnPlain visit.now.program (visit.now.slot + slots_of insn.now)) }
     ensures extended { IsExtendedAfter visit.now table.old table.new }
 {
     order_of_states();
@@ -322,9 +319,8 @@ fn ask(visit: &Visit, table: &mut Table<'_>, state: &mut State) -> Result<bool, 
     ensures left { OnOk result (state.new ≡ after_call state.old) }
     ensures covered { IfOk result
         (λ runs. IsCovered (after_call state.old)
-        (knowledge_beside table.new runs (visit.now.slot + 1) state.new (visit.now.slot + 1))) }
-    ensures plain { IfOk result
-        (λ runs. IsTrue runs → IsPlain visit.now.program (visit.now.slot + 1)) }
+        (knowledge_next table.new runs (visit.now.slot + 1) state.new)) }
+    ensures plain { IfOk result (GoesOnPlain visit.now.program (visit.now.slot + 1)) }
     ensures extended { IsExtendedAfter visit.now table.old table.new }
 {
     order_of_states();
@@ -382,7 +378,7 @@ pub(crate) fn flow(
         (knowledge_beside table.new runs
         (visit.now.slot + slots_of insn.now) state.new) visit.now.slot state.old insn.now) }
     ensures plain { IfOk result
-        (λ runs. IsTrue runs → IsPlain visit.now.program (visit.now.slot + slots_of insn.now)) }
+        (GoesOnPlain visit.now.program (visit.now.slot + slots_of insn.now)) }
     ensures extended { IsExtendedAfter visit.now table.old table.new }
     ensures more { IsMore lowered.old lowered.new }
 {

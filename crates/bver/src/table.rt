@@ -1,12 +1,12 @@
 //! What is known at the slots to which a program jumps.
 
-ghost use Rattle.std.specs.Prelude.{◌≡◌, ◌≢◌, ◌<◌, ◌≤◌, ◌↔◌, ℕ, IsTrue, IfOk, IfSome, Some, None, length, if◌then◌else◌};
+ghost use Rattle.std.specs.Prelude.{◌≡◌, ◌≢◌, ◌<◌, ◌↔◌, ℕ, IsTrue, IfOk, IfSome, Some, None, length, if◌then◌else◌};
 ghost use Rattle.bpf.specs.Program.{IsProgram};
 ghost use Rattle.bver.specs.Justified.{IsCovered, IsCoveredIfAny};
 ghost use Rattle.absdom.specs.State.{IsWhole};
 ghost use Rattle.bver.specs.Heads.{is_number, is_number_at};
 ghost use Rattle.bver_form.specs.Targets.{IsKept};
-ghost use Rattle.bver.specs.Table.{AreEntries, HasEntry, knowledge_beside, knowledge_in, entry_of};
+ghost use Rattle.bver.specs.Table.{AreEntries, entry_of, knowledge_in, knowledge_next};
 ghost use Rattle.bver.specs.Visit.{AreWhole, IsGrown, IsLeast};
 
 use absdom::{AbsKind, State, join_is_least, order_of_states};
@@ -122,7 +122,7 @@ pub(crate) struct Table<'a> {
 }
 
 impl<'a> Model for Table<'a> {
-    ghost use Rattle.bver.specs.Table.{TableValue, AreEntries};
+    ghost use Rattle.bver.specs.Table.{AreEntries, TableValue};
 
     ghost Value = { TableValue };
 
@@ -187,7 +187,8 @@ impl<'a> Table<'a> {
         requires kept { IsKept self.old.program slot }
         ensures program { self.new.program ≡ self.old.program }
         ensures covered { IsCovered state.now (knowledge_in self.new slot) }
-        ensures least { IsLeast (knowledge_in self.old slot) state.now (knowledge_in self.new slot) }
+        ensures least { IsLeast (knowledge_in self.old slot) state.now
+            (knowledge_in self.new slot) }
         ensures grown { IsGrown (knowledge_in self.old) (knowledge_in self.new) }
         ensures others { (k : ℕ) → k ≢ slot → knowledge_in self.new k ≡ knowledge_in self.old k }
         ensures whole { IfSome (knowledge_in self.new slot) IsWhole }
@@ -205,7 +206,7 @@ impl<'a> Table<'a> {
     pub(crate) fn go_on(&mut self, slot: u16, state: &State) -> bool
         requires inside { slot < length self.old.program.slots }
         ensures program { self.new.program ≡ self.old.program }
-        ensures covered { IsCovered state.now (knowledge_beside self.new result slot state.now slot) }
+        ensures covered { IsCovered state.now (knowledge_next self.new result slot state.now) }
         ensures plain { IsTrue result → IsKept self.new.program slot → ⊥ }
         ensures grown { IsGrown (knowledge_in self.old) (knowledge_in self.new) }
         ensures others { (k : ℕ) → k ≢ slot → knowledge_in self.new k ≡ knowledge_in self.old k }

@@ -1,7 +1,8 @@
 -- The packet lines of a text, and what is printed of each.
 use Rattle.std.specs.Prelude.{◌≡◌, ◌≤◌, ◌⊎◌, ◌==◌, ℕ, suc, cond, List, [], ◌∷◌, ◌++◌, length, Option}
 use Rattle.std.specs.Io.KnownBytes.{Appends}
-use Rattle.std.specs.List.{onto_first, slice_split}
+use Rattle.std.specs.List.{onto_first}
+pub use Rattle.basm.specs.Relation.{pieces_of}
 use Rattle.spw.specs.Cargo.{Cargo}
 use Rattle.spw.specs.Fault.{line_fault_code}
 use Rattle.spw.specs.Line.{HasFault, IsPacketLine}
@@ -19,10 +20,6 @@ use Rattle.commands.specs.declared.faults.Fault.TheVariants.{CannotRead, CannotW
 abbrev pub lines_of : List ℕ → List (List ℕ)
 lines_of [] = []
 lines_of (byte ∷ bytes) = cond (byte == 10) ([] ∷ lines_of bytes) (onto_first byte (lines_of bytes))
-
--- the parts of a text between its line feeds
-abbrev pub pieces_of : List ℕ → List (List ℕ)
-pieces_of text = slice_split (λ byte. byte == 10) text
 
 -- the line that is printed of what became of a packet, with the reply that was due
 abbrev pub served_line : (port : ℕ) → Served → (reply : List ℕ) → List ℕ

@@ -1,5 +1,6 @@
 -- The values of the options: the sizes of counter maps, and how many ports a node has.
-use Rattle.std.specs.Prelude.{◌≡◌, ◌≤◌, ◌==◌, codes, ℕ, List, [], map, All, Option, Some, None}
+use Rattle.std.specs.Prelude.{◌≡◌, ◌≤◌, ◌==◌, ◌⊎◌, codes, ℕ, List, [], map, All, Option, Some, None}
+use Rattle.std.specs.Borrow.{Bor}
 use Rattle.std.specs.List.{slice_split}
 use Rattle.std.specs.Str.Parse.{IsNumeral, digits_value}
 use Rattle.clap.specs.Walk.{Row, first_of}
@@ -11,9 +12,25 @@ use Rattle.commands.specs.declared.usage.UsageFault.TheVariants.{Parse, BadOptio
 abbrev pub IsNumberWithin : (least most : ℕ) → List ℕ → Type 0
 IsNumberWithin least most word = IsNumeral 10 word × (least ≤ digits_value 10 word) × (digits_value 10 word ≤ most)
 
+-- the word is of the form, and writes the number
+abbrev pub WritesSuch : (form : List ℕ → Type 0) → List ℕ → ℕ → Type 0
+WritesSuch form word n = form word × (n ≡ digits_value 10 word)
+
+-- the fault of a value that is not right
+abbrev pub IsBadValue : (right : Type 0) → UsageFault → Type 0
+IsBadValue right fault = (fault ≡ BadOption) × ¬ right
+
+-- the same; or memory was refused
+abbrev pub IsValueFault : (right : Type 0) → UsageFault → Type 0
+IsValueFault right fault = (fault ≡ Memory) ⊎ IsBadValue right fault
+
 -- how many cells a map has: one to 256
 abbrev pub IsSize : List ℕ → Type 0
 IsSize part = IsNumberWithin 1 256 part
+
+-- each part writes the size of a map
+abbrev pub WriteSizes : List (Bor (List ℕ)) → List ℕ → Type 0
+WriteSizes parts sizes = All (λ part. IsSize part.now) parts × (sizes ≡ map (λ part. digits_value 10 part.now) parts)
 
 -- what stands between the commas (44) of a list
 abbrev pub list_parts : List ℕ → List (List ℕ)

@@ -1,10 +1,9 @@
 //! The values of the options `--maps` and `--ports`.
 
-ghost use Rattle.std.specs.Prelude.{◌≡◌, ◌⊎◌, All, IfErr, IfOk, MatchResult, codes, map, []};
-ghost use Rattle.std.specs.Str.Parse.{digits_value};
+ghost use Rattle.std.specs.Prelude.{◌≡◌, All, IfErr, IfOk, MatchResult, codes, map, []};
 ghost use Rattle.clap.specs.Walk.{first_of, rows_of};
 ghost use Rattle.clap.specs.Matches.{found_of};
-ghost use Rattle.commands.specs.Options.{GivesPorts, GivesSizes, IsMapList, IsPortCount, IsSize, RefusesCount, RefusesList, list_parts, listed_numbers};
+ghost use Rattle.commands.specs.Options.{GivesPorts, GivesSizes, IsBadValue, IsMapList, IsPortCount, IsSize, IsValueFault, RefusesCount, RefusesList, WriteSizes, WritesSuch, list_parts, listed_numbers};
 
 use crate::arguments::text_of;
 use crate::usage::UsageFault;
@@ -25,9 +24,7 @@ fn no_maps() -> MapSizes
 
 /// How many cells a map has by a part of a list, or `BadOption`.
 fn size_written(part: &str) -> Result<u16, UsageFault>
-    ensures { MatchResult result
-        (λ size. IsSize part.now × (size ≡ digits_value 10 part.now))
-        (λ fault. (fault ≡ UsageFault.BadOption) × ¬ IsSize part.now) }
+    ensures { MatchResult result (WritesSuch IsSize part.now) (IsBadValue (IsSize part.now)) }
 {
     if part.starts_with('+') {
         return Err(UsageFault::BadOption);
@@ -42,10 +39,8 @@ fn size_written(part: &str) -> Result<u16, UsageFault>
 
 /// How many cells each map has by the parts of a list.
 fn sizes_written(alloc: Global, parts: &[&str]) -> Result<Vec<u16>, UsageFault>
-    ensures ok { IfOk result (λ sizes. All (λ part. IsSize part.now) parts.now
-        × (sizes.items ≡ map (λ part. digits_value 10 part.now) parts.now)) }
-    ensures err { IfErr result (λ fault. (fault ≡ UsageFault.Memory)
-        ⊎ ((fault ≡ UsageFault.BadOption) × ¬ All (λ part. IsSize part.now) parts.now)) }
+    ensures ok { IfOk result (λ sizes. WriteSizes parts.now sizes.items) }
+    ensures err { IfErr result (IsValueFault (All (λ part. IsSize part.now) parts.now)) }
 {
     let mut sizes = Vec::new(alloc);
     for part in parts {
@@ -65,8 +60,7 @@ fn parts_of(alloc: Global, text: &str) -> Result<Vec<&str>, AllocError>
 /// The sizes of counter maps that a list writes.
 fn map_sizes(alloc: Global, text: &str) -> Result<MapSizes, UsageFault>
     ensures ok { IfOk result (λ sizes. IsMapList text.now × (sizes ≡ listed_numbers text.now)) }
-    ensures err { IfErr result (λ fault. (fault ≡ UsageFault.Memory)
-        ⊎ ((fault ≡ UsageFault.BadOption) × ¬ IsMapList text.now)) }
+    ensures err { IfErr result (IsValueFault (IsMapList text.now)) }
 {
     let parts = parts_of(alloc, text)?;
     let sizes = sizes_written(alloc, parts.as_slice())?;
@@ -78,9 +72,8 @@ fn map_sizes(alloc: Global, text: &str) -> Result<MapSizes, UsageFault>
 
 /// How many ports a word writes, or `BadOption`.
 fn port_count(word: &str) -> Result<u8, UsageFault>
-    ensures { MatchResult result
-        (λ ports. IsPortCount word.now × (ports ≡ digits_value 10 word.now))
-        (λ fault. (fault ≡ UsageFault.BadOption) × ¬ IsPortCount word.now) }
+    ensures { MatchResult result (WritesSuch IsPortCount word.now)
+        (IsBadValue (IsPortCount word.now)) }
 {
     if word.starts_with('+') {
         return Err(UsageFault::BadOption);

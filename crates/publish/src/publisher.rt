@@ -136,7 +136,8 @@ fn flushed<J: Room, R: Wait>(
     rt: &R,
     writer: Writer<Table, Table, Sight, InRoom<J>>,
 ) -> (Writer<Table, Table, Sight, InRoom<J>>, ())
-    requires room { (fold (λ _ t. t) writer.desk.shown.value (drop writer.behind writer.log.items)).room
+    requires room { (fold (λ _ t. t) writer.desk.shown.value
+        (drop writer.behind writer.log.items)).room
         ≡ J.book }
     requires longer { IsPrefix writer.desk.shown.value.programs
         (fold (λ _ t. t) writer.desk.shown.value (drop writer.behind writer.log.items)).programs }

@@ -86,7 +86,8 @@ impl Table {
     pub(crate) fn put(&mut self, slot: u8, program: Arc<Accepted>, front: Front)
         requires slot { slot < 4 }
         requires few { length self.old.programs < 2 ^ 32 }
-        requires front { front.programs ≡ longer_history self.old.programs slot (arc_value program) }
+        requires front { front.programs ≡ longer_history self.old.programs slot
+            (arc_value program) }
         requires sizes { (arc_value program).sizes ≡ sizes_of self.old.programs }
         ensures { self.new ≡ front }
     {

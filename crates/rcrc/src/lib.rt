@@ -26,7 +26,8 @@ pub fn crc(bytes: &[u8]) -> u8
 /// (ECSS-E-ST-50-52C, 8-bit CRC).
 pub fn crc_more(crc: u8, bytes: &[u8]) -> u8
     ensures value { result ≡ crc_from crc bytes.now }
-    ensures joined { (before : List ℕ) → crc_of before ≡ crc → result ≡ crc_of (before ++ bytes.now) }
+    ensures joined { (before : List ℕ) → crc_of before ≡ crc
+        → result ≡ crc_of (before ++ bytes.now) }
 {
     let (chunks, rest) = bytes.as_chunks::<8>();
     let mut register = crc;

@@ -68,7 +68,8 @@ fn judge_taken<J: Room>(
 ) -> Result<Judged, Admitted>
     requires { bearing.old.seat.sizes ≡ sizes_of reader.old.programs }
     ensures judged { IfOk result (λ j.
-        IsJudgedByTaken reader.old.programs reader.new.programs bearing.old bearing.new admitted j) }
+        IsJudgedByTaken reader.old.programs reader.new.programs
+        bearing.old bearing.new admitted j) }
     ensures back { IfErr result (λ back. back ≡ admitted) }
     ensures same { OnErr result ((bearing.new ≡ bearing.old) × (reader.new ≡ reader.old)) }
     ensures sizes { sizes_of reader.new.programs ≡ sizes_of reader.old.programs }

@@ -1,0 +1,57 @@
+-- What the readers of operands promise: what they read is written, and what is written they read.
+use Rattle.std.specs.Prelude.{◌≡◌, ℕ, ℤ, pos, List, Option, None, Result, Ok, IfOk}
+use Rattle.std.specs.Borrow.{Bor}
+use Rattle.bpf_parts.specs.declared.address.Address.{Address}
+use Rattle.bpf_parts.specs.Codes.{address_first, address_second, address_subtype}
+use Rattle.bpf_insn.specs.declared.insn.Insn.{Insn}
+use Rattle.basm_lex.specs.declared.mnemonics.Mnemonic.{Mnemonic}
+use Rattle.basm_lex.specs.Mnemonics.{mnemonic_word}
+use Rattle.basm_lex.specs.Numbers.{WritesNumber}
+use Rattle.basm_lex.specs.Places.{WritesRegister}
+use Rattle.basm.specs.declared.faults.AsmCode.{AsmCode}
+use Rattle.basm.specs.Relation.{Four, One, Three, Two, WritesInsn, WritesOperands, texts}
+
+-- ---- an instruction
+
+-- the mnemonic and the operands write what was read, where names stand for slots
+abbrev pub ReadsAt : (names : List ℕ → Option ℕ) (slot : ℕ) → Mnemonic → List (Bor (List ℕ)) → Result Insn AsmCode → Type 0
+ReadsAt names slot mnemonic operands read = IfOk read (WritesInsn names slot (mnemonic_word mnemonic) (texts operands))
+
+-- the same of operands that name no slot
+abbrev pub Reads : Mnemonic → List (Bor (List ℕ)) → Result Insn AsmCode → Type 0
+Reads mnemonic operands read = (names : List ℕ → Option ℕ) (slot : ℕ) → ReadsAt names slot mnemonic operands read
+
+-- where the operands write the instruction, it is read
+abbrev pub IsReadAt : (names : List ℕ → Option ℕ) (slot : ℕ) → List (Bor (List ℕ)) → Insn → Result Insn AsmCode → Type 0
+IsReadAt names slot operands insn read = WritesOperands names slot (texts operands) insn → read ≡ Ok insn
+
+-- the same of operands that name no slot
+abbrev pub IsRead : List (Bor (List ℕ)) → Insn → Result Insn AsmCode → Type 0
+IsRead = IsReadAt (λ name. None) 0
+
+-- ---- the operands of `ldimm`: a subtype, a register and two numbers
+
+-- the four of them
+abbrev pub WriteFields : List (Bor (List ℕ)) → ℤ × (ℕ × (ℤ × ℤ)) → Type 0
+WriteFields operands found =
+    Four (texts operands) (λ a. WritesNumber a found.0) (λ b. WritesRegister b found.1.0) (λ c. WritesNumber c found.1.1.0) (λ d. WritesNumber d found.1.1.1)
+
+-- those behind the subtype
+abbrev pub WriteRegisterAndNumbers : List (Bor (List ℕ)) → ℕ × (ℤ × ℤ) → Type 0
+WriteRegisterAndNumbers operands found =
+    Three (texts operands) (λ a. WritesRegister a found.0) (λ b. WritesNumber b found.1.0) (λ c. WritesNumber c found.1.1)
+
+-- those behind the register
+abbrev pub WriteNumbers : List (Bor (List ℕ)) → ℤ × ℤ → Type 0
+WriteNumbers operands found = Two (texts operands) (λ a. WritesNumber a found.0) (λ b. WritesNumber b found.1)
+
+-- the address has this subtype and these numbers
+abbrev pub HasFields : (subtype first second : ℤ) → Address → Type 0
+HasFields subtype first second address =
+    (pos (address_subtype address) ≡ subtype) × (address_first address ≡ first) × (address_second address ≡ second)
+
+-- ---- the operand of `.budget`
+
+-- it writes this budget
+abbrev pub WritesBudget : List (Bor (List ℕ)) → ℕ → Type 0
+WritesBudget operands budget = One (texts operands) (λ a. WritesNumber a (pos budget))
