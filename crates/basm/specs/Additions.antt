@@ -1,5 +1,5 @@
--- What a line of a directive or an instruction adds to the parts of an image, and a label to the names.
-use Rattle.std.specs.Prelude.{◌≡◌, ◌↔◌, ◌≤◌, ℕ, List, [], ◌∷◌, ◌++◌, Bool, true, Option, None, Result, IsTrue}
+-- What a line of a directive or an instruction adds to the parts of an image.
+use Rattle.std.specs.Prelude.{◌≤◌, ℕ, List, Option, Result}
 use Rattle.std.specs.Borrow.{Bor}
 use Rattle.bpf.specs.declared.loops.Loop.{Loop}
 use Rattle.bpf_insn.specs.declared.insn.Insn.{Insn}
@@ -8,7 +8,6 @@ use Rattle.basm_lex.specs.Mnemonics.{mnemonic_word}
 use Rattle.basm.specs.declared.draft.Draft.{Draft}
 use Rattle.basm.specs.declared.faults.AsmCode.{AsmCode}
 use Rattle.basm.specs.Draft.{AddsItem, PushesInsn, UnlessMemory, WritesLoop}
-use Rattle.basm.specs.Names.{slot_named}
 use Rattle.basm.specs.Readers.{WritesBudget}
 use Rattle.basm.specs.Relation.{Budget, Code, Item, OneLoop, WritesInsn, texts}
 
@@ -34,11 +33,3 @@ AddsInsn names mnemonic operands old new =
 abbrev pub AppendsInsn : (names : List ℕ → Option ℕ) (slot : ℕ) → Mnemonic → List (Bor (List ℕ)) → (old new : List Insn) (after : ℕ) → Type 0
 AppendsInsn names slot mnemonic operands old new after =
     (insn : Insn) × WritesInsn names slot (mnemonic_word mnemonic) (texts operands) insn × PushesInsn old new slot insn after
-
--- a name more stands for a slot, unless it stood for one
-abbrev pub HasOneMore : (old new : List (List ℕ × ℕ)) (name : List ℕ) (slot : ℕ) → Type 0
-HasOneMore old new name slot = (other : List ℕ) → slot_named new other ≡ slot_named (old ++ (name, slot) ∷ []) other
-
--- whether the name stood for no slot
-abbrev pub IsNew : (names : List (List ℕ × ℕ)) (name : List ℕ) → Bool → Type 0
-IsNew names name is_new = IsTrue is_new ↔ (slot_named names name ≡ None)

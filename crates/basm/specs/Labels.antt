@@ -7,7 +7,7 @@ use Rattle.basm_lex.specs.Names.{is_name}
 use Rattle.basm_lex.specs.declared.mnemonics.Mnemonic.{Mnemonic}
 use Rattle.basm_lex.specs.Mnemonics.{mnemonic_slots, mnemonic_named}
 use Rattle.basm.specs.declared.survey.Survey.{Survey}
-use Rattle.basm.specs.Names.{slot_named}
+use Rattle.basm.specs.Names.{HasOneMore, slot_named}
 use Rattle.basm.specs.Relation.{AreApart}
 
 -- the name of a word that is a label
@@ -76,7 +76,7 @@ pub record IsSurvey (lines : List (List ℕ)) (survey : Survey) : Type 0 where
 
 -- the survey has met one more name
 pub record AddsName (name : List ℕ) (old new : Survey) : Type 0 where
-  pub names : (other : List ℕ) → slot_named new.names other ≡ slot_named (old.names ++ (name, old.slots) ∷ []) other
+  pub names : HasOneMore old.names new.names name old.slots
   pub repeated : (new.repeated ≡ None) ↔ ((old.repeated ≡ None) × (slot_named old.names name ≡ None))
   pub slots : new.slots ≡ old.slots
   pub budget : new.has_budget ≡ old.has_budget

@@ -1,8 +1,7 @@
 //! The names of slots.
 
 ghost use Rattle.std.specs.Prelude.{◌≡◌, [], ℕ, List, IfOk};
-ghost use Rattle.basm.specs.Names.{slot_named};
-ghost use Rattle.basm.specs.Additions.{HasOneMore, IsNew};
+ghost use Rattle.basm.specs.Names.{HasOneMore, IsNew, slot_named};
 
 use std::alloc::{AllocError, Global};
 use std::collections::BTreeMap;
@@ -44,7 +43,6 @@ impl<'a> Names<'a> {
 
     /// Lets the name stand for a slot, unless it stands for one. Gives whether it does so now.
     pub fn define(&mut self, name: &'a str, slot: u32) -> Result<bool, AllocError>
-        // A name keeps its first slot.
         ensures names { IfOk result (λ _. HasOneMore self.old self.new name.now slot) }
         ensures is_new { IfOk result (IsNew self.old name.now) }
     {

@@ -39,13 +39,13 @@ pub record ArePortShares (n ports : ℕ) (by_port : List (List ShareValue)) : Ty
 abbrev pub bank_of : ℕ → BankConfig → BankValue
 bank_of ports bank = fresh_bank bank.base bank.size (record { entries = []; room = bank.room }) ports
 
--- the banks of those configurations
-abbrev pub fresh_banks : ℕ → List BankConfig → List BankValue
-fresh_banks ports banks = map (bank_of ports) banks
+-- the banks of a node
+abbrev pub fresh_banks : NodeConfig → List BankValue
+fresh_banks config = map (bank_of config.ports) config.banks.now
 
--- for each port, by its number, a first share of each of those banks
-abbrev pub AreSharesOf : List BankConfig → ℕ → List (List ShareValue) → Type 0
-AreSharesOf banks ports by_port = ArePortShares (length banks) ports by_port
+-- for each port of a node, by its number, a first share of each of its banks
+abbrev pub AreSharesOf : NodeConfig → List (List ShareValue) → Type 0
+AreSharesOf config by_port = ArePortShares (length config.banks.now) config.ports by_port
 
 -- what was published of a node at first: the factory program
 abbrev pub first_programs : AcceptedValue → List Publish
@@ -89,10 +89,10 @@ is_within bank = is_bank_size bank.base bank.size bank.room
 abbrev pub are_within : List BankConfig → Bool
 are_within banks = nat_le 1 (length banks) && nat_le (length banks) 8 && list_all is_within banks
 
--- the limit that so many ports and those banks pass, the ports' first
-abbrev pub limit_fault : ℕ → List BankConfig → Option NodeFault
-limit_fault ports banks =
-    if not (is_ports ports) then Some Ports else if not (are_within banks) then Some Banks else None
+-- the limit that a node's ports and banks pass, the ports' first
+abbrev pub limit_fault : NodeConfig → Option NodeFault
+limit_fault config =
+    if not (is_ports config.ports) then Some Ports else if not (are_within config.banks.now) then Some Banks else None
 
 -- why a node could not be made: a limit that was passed, else want of memory
 abbrev pub IsNodeFault : (limit : Option NodeFault) → NodeFault → Type 0

@@ -99,11 +99,9 @@ fn make_banks(
     requires within { list_all is_within config.now.banks.now ≡ true }
     requires ports { is_ports config.now.ports ≡ true }
     requires by_port { ArePortShares 0 config.now.ports by_port.old.items }
-    ensures banks { IfOk result
-        (λ banks. banks.items ≡ fresh_banks config.now.ports config.now.banks.now) }
+    ensures banks { IfOk result (λ banks. banks.items ≡ fresh_banks config.now) }
     ensures memory { IfErr result (λ fault. fault ≡ NodeFault.Memory) }
-    ensures by_port { OnOk result
-        (AreSharesOf config.now.banks.now config.now.ports by_port.new.items) }
+    ensures by_port { OnOk result (AreSharesOf config.now by_port.new.items) }
 {
     let mut banks = Vec::with_capacity(alloc, config.banks.len())?;
     for bank in config.banks {
@@ -121,16 +119,12 @@ impl Banks {
     /// Banks of zero bytes, and for each port, in order, its share of each. `Ports` and then `Banks`
     /// where a number is outside its limits; `Memory` where memory was refused.
     pub fn new(alloc: Global, config: &NodeConfig) -> Result<(Banks, Vec<PortShares>), NodeFault>
-        ensures banks { IfOk result
-            (λ made. made.0 ≡ fresh_banks config.now.ports config.now.banks.now) }
-        ensures by_port { IfOk result
-            (λ made. AreSharesOf config.now.banks.now config.now.ports made.1.items) }
+        ensures banks { IfOk result (λ made. made.0 ≡ fresh_banks config.now) }
+        ensures by_port { IfOk result (λ made. AreSharesOf config.now made.1.items) }
         ensures few_ports { IfOk result (λ _. config.now.ports ≤ PORTS) }
         ensures few_banks { IfOk result (λ _. length config.now.banks.now ≤ MAX_BANKS) }
-        ensures limits { IfOk result
-            (λ _. limit_fault config.now.ports config.now.banks.now ≡ None) }
-        ensures fault { IfErr result
-            (IsNodeFault (limit_fault config.now.ports config.now.banks.now)) }
+        ensures limits { IfOk result (λ _. limit_fault config.now ≡ None) }
+        ensures fault { IfErr result (IsNodeFault (limit_fault config.now)) }
     {
         if config.ports == 0 || config.ports > PORTS {
             return Err(NodeFault::Ports);

@@ -69,10 +69,8 @@ impl<J: Room, R: Wait + Drop> Node<J, R> {
         ensures banks { IfOk result (λ made. made.0 ≡ length config.now.banks.now) }
         ensures passes { IfOk result
             (λ made. (home : Gv) × (made.1.items ≡ first_passes config.now factory home)) }
-        ensures limits { IfOk result
-            (λ _. limit_fault config.now.ports config.now.banks.now ≡ None) }
-        ensures fault { IfErr result
-            (IsNodeFault (limit_fault config.now.ports config.now.banks.now)) }
+        ensures limits { IfOk result (λ _. limit_fault config.now ≡ None) }
+        ensures fault { IfErr result (IsNodeFault (limit_fault config.now)) }
     {
         let (banks, _cells, publisher, passes) = banks_and_passes(
             alloc, rt, opened, config, factory,

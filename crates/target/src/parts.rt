@@ -44,7 +44,7 @@ fn passes<J: Room>(
 ) -> Result<Vec<Pass<J>>, AllocError>
     requires banks { length config.now.banks.now ≤ MAX_BANKS }
     requires ports { config.now.ports ≤ PORTS }
-    requires by_port { AreSharesOf config.now.banks.now config.now.ports by_port.old.items }
+    requires by_port { AreSharesOf config.now by_port.old.items }
     requires made { (factory : AcceptedValue) × (home : Gv)
         × AreFirst factory home config.now.ports seats.items readers.items }
     ensures { (factory : AcceptedValue) (home : Gv)
@@ -82,8 +82,7 @@ pub fn banks_and_passes<J: Room, R: Wait + Drop>(
 ) -> Result<(Banks, Cells, Publisher<J, R>, Vec<Pass<J>>), NodeFault>
     requires room { opened ≡ J.book }
     requires sizes { factory.sizes ≡ config.now.sizes }
-    ensures banks { IfOk result
-        (λ made. made.0 ≡ fresh_banks config.now.ports config.now.banks.now) }
+    ensures banks { IfOk result (λ made. made.0 ≡ fresh_banks config.now) }
     ensures cells { IfOk result
         (λ made. made.1 ≡ cells config.now.sizes made.1.home (256 - config.now.ports) []) }
     ensures publisher { IfOk result (λ made. made.2 ≡ first_programs factory) }
@@ -91,8 +90,8 @@ pub fn banks_and_passes<J: Room, R: Wait + Drop>(
         (λ made. made.3.items ≡ first_passes config.now factory made.1.home) }
     ensures paired { IfOk result (λ made. ArePaired made.0 made.3.items) }
     ensures few_banks { IfOk result (λ _. length config.now.banks.now ≤ MAX_BANKS) }
-    ensures limits { IfOk result (λ _. limit_fault config.now.ports config.now.banks.now ≡ None) }
-    ensures fault { IfErr result (IsNodeFault (limit_fault config.now.ports config.now.banks.now)) }
+    ensures limits { IfOk result (λ _. limit_fault config.now ≡ None) }
+    ensures fault { IfErr result (IsNodeFault (limit_fault config.now)) }
 {
     let (banks, mut by_port) = Banks::new(alloc, config)?;
     let (cells, seats) = Cells::new(alloc, &config.sizes, config.ports)?;
