@@ -29,27 +29,27 @@ range_without a n =
 abbrev pub range_apart : Range → Range → Range
 range_apart a b = if is_single b then range_without a b.0 else a
 
--- a = b: the common part
+-- `a = b`: the common part
 abbrev pub when_equal : Range → Range → Option Operands
 when_equal a b = edge (max a.0 b.0, min a.1 b.1) (max a.0 b.0, min a.1 b.1)
 
--- a not equal b
+-- `a` is not `b`
 abbrev pub when_not_equal : Range → Range → Option Operands
 when_not_equal a b = edge (range_apart a b) (range_apart b a)
 
--- a < b
+-- `a < b`
 abbrev pub when_less : Range → Range → Option Operands
 when_less a b = edge (a.0, min a.1 (b.1 - 1)) (max b.0 (a.0 + 1), b.1)
 
--- a <= b
+-- `a <= b`
 abbrev pub when_at_most : Range → Range → Option Operands
 when_at_most a b = edge (a.0, min a.1 b.1) (max b.0 a.0, b.1)
 
--- a > b: as b < a
+-- `a > b`: as `b < a`
 abbrev pub when_greater : Range → Range → Option Operands
 when_greater a b = edge (max a.0 (b.0 + 1), a.1) (b.0, min b.1 (a.1 - 1))
 
--- a >= b: as b <= a
+-- `a >= b`: as `b <= a`
 abbrev pub when_at_least : Range → Range → Option Operands
 when_at_least a b = edge (max a.0 b.0, a.1) (b.0, min b.1 a.1)
 

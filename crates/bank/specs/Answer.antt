@@ -1,5 +1,5 @@
--- How a judged command ends (ECSS-E-ST-50-52C, 5.3.3, 5.4.3, 5.5.3; the order is a choice of this
--- target): the verdict, then the body, then the room in the journal, then its effect.
+-- How a judged command ends (ECSS-E-ST-50-52C, actions of write, read and read-modify-write commands; the order is a
+-- choice of this target): the verdict, then the body, then the room in the journal, then its effect.
 use Rattle.std.specs.Prelude.{ℕ, Bool, ◌==◌, if◌then◌else◌, List, [], Option, None, Some}
 use Rattle.rmap.specs.declared.status.Status.{Status}
 use Rattle.rmap.specs.declared.status.Status.TheVariants.{Success, GeneralError, InvalidKey, NotAuthorised, InvalidLogicalAddress}

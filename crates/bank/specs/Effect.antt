@@ -1,5 +1,5 @@
--- What a command does to memory, and the data of its reply (ECSS-E-ST-50-52C, 5.3.3 write, 5.4.3
--- read, 5.5.3 read-modify-write).
+-- What a command does to memory, and the data of its reply (ECSS-E-ST-50-52C, actions of write,
+-- read and read-modify-write commands).
 use Rattle.std.specs.Prelude.{◌≡◌, ◌≤◌, ◌<◌, true, ℕ, ◌+◌, ◌-◌, ◌/◌, ◌==◌, ◌&&◌, nat_le, nat_lt, if◌then◌else◌, List, [], map, length, slice_index, bit_and, bit_or}
 use Rattle.std.specs.Int.{bit_not, w8}
 use Rattle.std.specs.List.{range_with_len}

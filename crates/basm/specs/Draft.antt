@@ -1,4 +1,4 @@
--- What a line adds to the parts of an image.
+-- The parts of an image that the lines so far declare, and what an item adds to them.
 use Rattle.std.specs.Prelude.{◌≡◌, ℕ, ◌+◌, ◌≤◌, ◌<◌, ◌==◌, Bool, true, false, List, ◌∷◌, [], ◌++◌, length, pos, Option, Some, None, Result, MatchResult}
 use Rattle.std.specs.Option.{option_to_list}
 use Rattle.std.specs.List.{flat_map, list_any}

@@ -17,7 +17,7 @@ use Rattle.basm.specs.Relation.{Four, One, Three, Two, WritesInsn, WritesOperand
 abbrev pub ReadsAt : (names : List ℕ → Option ℕ) (slot : ℕ) → Mnemonic → List (Bor (List ℕ)) → Result Insn AsmCode → Type 0
 ReadsAt names slot mnemonic operands read = IfOk read (WritesInsn names slot (mnemonic_word mnemonic) (texts operands))
 
--- the same of operands that name no slot
+-- the mnemonic and the operands, which name no slot, write what was read
 abbrev pub Reads : Mnemonic → List (Bor (List ℕ)) → Result Insn AsmCode → Type 0
 Reads mnemonic operands read = (names : List ℕ → Option ℕ) (slot : ℕ) → ReadsAt names slot mnemonic operands read
 
@@ -25,23 +25,23 @@ Reads mnemonic operands read = (names : List ℕ → Option ℕ) (slot : ℕ) �
 abbrev pub IsReadAt : (names : List ℕ → Option ℕ) (slot : ℕ) → List (Bor (List ℕ)) → Insn → Result Insn AsmCode → Type 0
 IsReadAt names slot operands insn read = WritesOperands names slot (texts operands) insn → read ≡ Ok insn
 
--- the same of operands that name no slot
+-- where operands that name no slot write the instruction, it is read
 abbrev pub IsRead : List (Bor (List ℕ)) → Insn → Result Insn AsmCode → Type 0
 IsRead = IsReadAt (λ name. None) 0
 
--- ---- the operands of `ldimm`: a subtype, a register and two numbers
+-- ---- the operands of `ldimm`
 
--- the four of them
+-- the four operands of `ldimm` write a subtype, a register and two numbers
 abbrev pub WriteFields : List (Bor (List ℕ)) → ℤ × (ℕ × (ℤ × ℤ)) → Type 0
 WriteFields operands found =
     Four (texts operands) (λ a. WritesNumber a found.0) (λ b. WritesRegister b found.1.0) (λ c. WritesNumber c found.1.1.0) (λ d. WritesNumber d found.1.1.1)
 
--- those behind the subtype
+-- the operands of `ldimm` behind its subtype write a register and two numbers
 abbrev pub WriteRegisterAndNumbers : List (Bor (List ℕ)) → ℕ × (ℤ × ℤ) → Type 0
 WriteRegisterAndNumbers operands found =
     Three (texts operands) (λ a. WritesRegister a found.0) (λ b. WritesNumber b found.1.0) (λ c. WritesNumber c found.1.1)
 
--- those behind the register
+-- the operands of `ldimm` behind its register write two numbers
 abbrev pub WriteNumbers : List (Bor (List ℕ)) → ℤ × ℤ → Type 0
 WriteNumbers operands found = Two (texts operands) (λ a. WritesNumber a found.0) (λ b. WritesNumber b found.1)
 
@@ -52,6 +52,6 @@ HasFields subtype first second address =
 
 -- ---- the operand of `.budget`
 
--- it writes this budget
+-- the operand of `.budget` writes this budget
 abbrev pub WritesBudget : List (Bor (List ℕ)) → ℕ → Type 0
 WritesBudget operands budget = One (texts operands) (λ a. WritesNumber a (pos budget))

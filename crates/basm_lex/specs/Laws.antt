@@ -14,61 +14,61 @@ use Rattle.basm_lex.specs.Printed.{AreWords, IsWord}
 
 -- ---- printed numbers, distances, places and constants write what they are
 
--- a number without a sign
+-- a printed number without a sign writes the number
 abbrev pub NumbersAreWritten : Type 0
 NumbersAreWritten = (n : ℕ) → n < 2 ^ 31 → WritesNumber (decimal n) (pos n)
 
--- a number with its sign
+-- a printed number with its sign writes the number
 abbrev pub SignedAreWritten : Type 0
 SignedAreWritten = (z : ℤ) → FitsSigned w32 z → WritesNumber (signed_decimal z) z
 
--- a distance, whose sign is always printed
+-- a printed distance, which always has its sign, writes the distance
 abbrev pub DistancesAreWritten : Type 0
 DistancesAreWritten = (z : ℤ) → FitsSigned w32 z → WritesDistance (signed_text z) z
 
--- a place in memory
+-- a printed place in memory writes the place
 abbrev pub PlacesAreWritten : Type 0
 PlacesAreWritten =
     (place : Place) → place.base ≤ 10 → FitsSigned w16 place.offset
     → WritesPlace (place_text place) place
 
--- a constant of 64 bits
+-- a printed constant of 64 bits writes the constant
 abbrev pub ConstantsAreWritten : Type 0
 ConstantsAreWritten = (value : ℕ) → value < 2 ^ 64 → WritesWide (bits_text value) value
 
 -- ---- numbers and registers are words, and so are the name and the operands of an instruction
 
--- a number
+-- a printed number is a word
 abbrev pub NumbersAreWords : Type 0
 NumbersAreWords = (n : ℕ) → n < 2 ^ 64 → IsWord (decimal n)
 
--- a register
+-- a printed register is a word
 abbrev pub RegistersAreWords : Type 0
 RegistersAreWords = (number : ℕ) → number ≤ 10 → IsWord (register_text number)
 
--- the name of an instruction
+-- the printed name of an instruction is a word
 abbrev pub NamesAreWords : Type 0
 NamesAreWords = (insn : Insn) → IsWord (insn_name insn)
 
--- its operands
+-- the printed operands of an instruction are words
 abbrev pub OperandsAreWords : Type 0
 OperandsAreWords = (insn : Insn) → IsInsn insn → AreWords (insn_operands insn)
 
 -- ---- a line of a name and operands
 
--- its first word is the name
+-- the first word of a line of a name and operands is the name
 abbrev pub FirstIsTheName : Type 0
 FirstIsTheName =
     (name : List ℕ) (xs : List (List ℕ)) → IsWord name → AreWords xs
     → word_of (name_with_operands name xs) ≡ name
 
--- the rest are the operands
+-- the operands of such a line are those that were printed
 abbrev pub RestAreTheOperands : Type 0
 RestAreTheOperands =
     (name : List ℕ) (xs : List (List ℕ)) → IsWord name → AreWords xs
     → operands_of (name_with_operands name xs) ≡ xs
 
--- it is one line
+-- such a line has no line feed in it: in a text it is one line
 abbrev pub IsOneLine : Type 0
 IsOneLine =
     (name : List ℕ) (xs : List (List ℕ)) (rest : List ℕ) → IsWord name → AreWords xs

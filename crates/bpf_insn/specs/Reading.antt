@@ -37,7 +37,7 @@ fields_in bytes =
 abbrev pub register_of : ℕ → Result ℕ BadInsn
 register_of number = if nat_le number 10 then Ok number else Err faults.Register
 
--- the source bit of arithmetic and jumps
+-- whether the source bit of arithmetic and jumps names a register
 abbrev pub names_register : Fields → Bool
 names_register f = f.opcode / 8 % 2 == 1
 

@@ -19,7 +19,7 @@ FirstFaultIsOne = (p : Program) (one other : Refused) → IsFormFault p one → 
 abbrev pub BeginsWithinWeight : Type 0
 BeginsWithinWeight = (p : Program) (values : ℕ → ℕ) → IsProgram p → IsFormed p → All (λ l. l.head ≡ 0 → values 0 ≤ l.bound) p.loops → weight_left p values 0 ≤ weight_of p
 
--- each step takes one
+-- each step takes at least one of what is left
 abbrev pub EachStepTakesOne : Type 0
 EachStepTakesOne = (p : Program) (slot next : ℕ) (values after : ℕ → ℕ) → IsProgram p → IsFormed p → IsEdge p slot next → IsSome (insn_at p next) → AreCounted p slot next values after → weight_left p after next + 1 ≤ weight_left p values slot
 

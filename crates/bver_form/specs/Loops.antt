@@ -75,7 +75,7 @@ IsInside l m = (m.head < l.head) × (l.back < m.back)
 abbrev pub IsNestedOrApart : Loop → Loop → Type 0
 IsNestedOrApart l m = (IsBefore l m ⊎ IsBefore m l) ⊎ (IsInside l m ⊎ IsInside m l)
 
--- the loop is so with every declared loop of another head, and heads rise strictly
+-- the loop is so with every declared loop of another head (heads rise strictly, so there is one loop a head)
 abbrev pub IsAmongOthers : Program → Loop → Type 0
 IsAmongOthers p l = All (λ m. m.head ≢ l.head → IsNestedOrApart l m) p.loops
 

@@ -47,8 +47,9 @@ fn check_slots(image: &Image) -> Result<(), Refused>
 /// # Errors
 ///
 /// The first that is met. By rising slot, for the instruction at the slot: `Unsupported`, `Helper` where a
-/// helper is called by a number other than 1 and 2, `FrameWrite`, `Target`, `BackJump`. Then `FallOff` at the last instruction, `LoopShape` at the back of
-/// the first declared loop, by rising head, that has not its form, and `Budget` at slot 0.
+/// helper is called by a number other than 1 and 2, `FrameWrite`, `Target`, `BackJump`. Then `FallOff` at
+/// the last instruction, `LoopShape` at the back of the first declared loop, by rising head, that has not
+/// its form, and `Budget` at slot 0.
 pub fn check(image: &Image) -> Result<(), Refused>
     ensures formed { OnOk result (IsFormed image.now) }
 

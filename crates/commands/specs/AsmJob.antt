@@ -9,7 +9,7 @@ use Rattle.commands.specs.declared.jobs.Job.TheVariants.{Assemble, Disassemble, 
 use Rattle.commands.specs.declared.usage.UsageFault.{UsageFault}
 use Rattle.commands.specs.declared.usage.UsageFault.TheVariants.{Parse, BadOption, Memory}
 
--- asm FILE OUT
+-- `asm FILE OUT`
 abbrev pub asm_app : App
 asm_app = with_rule (with_rule (new_app (codes "asm")) (file_rule (codes "text"))) (file_rule (codes "image"))
 

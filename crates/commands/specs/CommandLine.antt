@@ -22,7 +22,7 @@ rmapctl_shape s = record s {
   subcommand_required = true;
 }
 
--- rmapctl with its subcommands
+-- `rmapctl` with its subcommands
 unfoldable pub rmapctl_app : App
 rmapctl_app =
     with_subcommand (with_subcommand (with_subcommand (with_subcommand (on_top rmapctl_shape (new_app (codes "rmapctl")))

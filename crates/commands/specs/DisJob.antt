@@ -6,7 +6,7 @@ use Rattle.commands.specs.Arguments.{image_app}
 use Rattle.commands.specs.declared.jobs.Job.{Job}
 use Rattle.commands.specs.declared.jobs.Job.TheVariants.{Assemble, Disassemble, Verify, Judge}
 
--- dis FILE
+-- `dis FILE`
 abbrev pub dis_app : App
 dis_app = image_app (codes "dis")
 

@@ -12,7 +12,7 @@ use Rattle.bpf.specs.declared.fault.ImageFault.TheVariants as faults
 use Rattle.commands.specs.declared.faults.Fault.{Fault}
 use Rattle.commands.specs.declared.faults.Fault.TheVariants.{CannotRead, CannotWrite, NoMemory, BadText, BadImage, Unfit, BadLine}
 
--- mov r0, 0; exit
+-- `mov r0, 0; exit`
 abbrev pub factory_insns : List Insn
 factory_insns = Alu Mov Bits64 0 (Immediate (pos 0)) ∷ Exit ∷ []
 

@@ -12,11 +12,11 @@ use Rattle.commands.specs.declared.jobs.Job.TheVariants.{Assemble, Disassemble, 
 use Rattle.commands.specs.declared.usage.UsageFault.{UsageFault}
 use Rattle.commands.specs.declared.usage.UsageFault.TheVariants.{Parse, BadOption, Memory}
 
--- judge LINES
+-- `judge LINES`
 abbrev pub lines_app : App
 lines_app = with_rule (new_app (codes "judge")) (file_rule (codes "lines"))
 
--- judge LINES [--image FILE] [--maps LIST] [--ports N]
+-- `judge LINES [--image FILE] [--maps LIST] [--ports N]`
 abbrev pub judge_app : App
 judge_app = with_rule (with_rule (with_rule lines_app (option_rule (codes "image"))) (option_rule (codes "maps")))
     (option_rule (codes "ports"))

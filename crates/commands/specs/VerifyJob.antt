@@ -9,7 +9,7 @@ use Rattle.commands.specs.declared.jobs.Job.TheVariants.{Assemble, Disassemble, 
 use Rattle.commands.specs.declared.usage.UsageFault.{UsageFault}
 use Rattle.commands.specs.declared.usage.UsageFault.TheVariants.{Parse, BadOption, Memory}
 
--- verify FILE [--maps LIST]
+-- `verify FILE [--maps LIST]`
 abbrev pub verify_app : App
 verify_app = with_rule (image_app (codes "verify")) (option_rule (codes "maps"))
 

@@ -22,8 +22,8 @@ pub enum Step {
     Discarded(Discard, Packet),
     /// A check of the header holds: its status is the reply's, and no program was run.
     Answered(Status, Packet),
-    /// No program was given for the command: the reply is a general error, and no program was run. It does not
-    /// happen while the publisher lives.
+    /// No program was given for the command: the reply is a general error, and no program was run. No clause rules
+    /// it out while the publisher lives, and no test of a node met it.
     Unread(Packet),
     /// The program gave its verdict; the reply is still to come.
     Judged(Judged),
