@@ -86,14 +86,16 @@ fn accepted(alloc: Global, text: &str) -> Result<Accepted, Fail> {
     Ok(verify(alloc, image, &MapSizes::new(&[])?)?)
 }
 
-/// Compares one row: two verdicts by one bearing, since a run leaves nothing that the next one sees.
-fn verdicts(rt: &impl Abort, alloc: Global, line: &str) -> Result<(), Fail> {
-    let mut row = Row::of(line);
-    let shows = row.part()?;
-    let program = accepted(alloc, row.part()?)?;
-    let port = u8::try_from(row.hexadecimal()?)?;
+/// Two verdicts on the plain read by one bearing, since a run leaves nothing that the next one sees.
+fn twice(
+    rt: &impl Abort,
+    alloc: Global,
+    program: &Accepted,
+    port: u8,
+    want: u64,
+    shows: &str,
+) -> Result<(), Fail> {
     assert!(rt; port < 32);
-    let want = row.hexadecimal()?;
     let (_cells, mut seats) = Cells::new(alloc, &program.sizes(), 1)?;
     let seat = seats.pop().ok_or("no seat")?;
     let mut bearing = Bearing::new(port, windows(), seat);
@@ -103,13 +105,25 @@ fn verdicts(rt: &impl Abort, alloc: Global, line: &str) -> Result<(), Fail> {
         let Ok(admitted) = admit(sent, bearing.windows(), &mut reply) else {
             return Err("the packet stops".into());
         };
-        let judged = judge_by(&mut bearing, &program, generation, admitted);
-        assert_eq!(rt; judged.verdict(), want, "the verdict of {shows}");
-        assert_eq!(rt; (judged.port(), judged.generation()), (port, generation));
-        assert_eq!(rt; judged.command().transaction(), 1);
-        assert_eq!(rt; judged.answer_error(&mut reply), Status::GeneralError);
+        let judged = judge_by(&mut bearing, program, generation, admitted);
+        let found = (judged.verdict(), judged.port(), judged.generation());
+        let transaction = judged.command().transaction();
+        let status = judged.answer_error(&mut reply);
+        assert_eq!(rt; found, (want, port, generation), "the verdict of {shows}");
+        assert_eq!(rt; (transaction, status), (1, Status::GeneralError));
     }
     Ok(())
+}
+
+/// Compares one row.
+fn verdicts(rt: &impl Abort, alloc: Global, line: &str) -> Result<(), Fail> {
+    let mut row = Row::of(line);
+    let shows = row.part()?;
+    let text = row.part()?;
+    let port = u8::try_from(row.hexadecimal()?)?;
+    let want = row.hexadecimal()?;
+    let program = accepted(alloc, text)?;
+    twice(rt, alloc, &program, port, want, shows)
 }
 
 #[test]
