@@ -19,7 +19,7 @@ use Rattle.absdom.specs.declared.kinds.AbsKind.{AbsKind}
 use Rattle.absdom.specs.declared.kinds.AbsKind.TheVariants.{Unset, Num, Ptr, Map}
 use Rattle.absdom.specs.Offsets.{offsets_within, is_offset}
 use Rattle.absdom.specs.Kinds.{number_of}
-use Rattle.absdom.specs.Effect.{kind_of_two, kind_of_one, copied_kind, signed_ends, pointer_kind, offsets_up, offsets_down, sum_kind, difference_kind, alu_kind}
+use Rattle.absdom.specs.Effect.{binary_kind, unary_kind, copied_kind, signed_ends, pointer_kind, offsets_up, offsets_down, sum_kind, difference_kind, alu_kind}
 use Rattle.absdom.specs.Fits.{IsAmong, FitsKind}
 
 -- where an operation is not refused, the machine gives a value that fits
@@ -28,7 +28,7 @@ FitsResult value (Err cause) = Unit {0}
 FitsResult None (Ok kind) = ⊥
 FitsResult (Some value) (Ok kind) = FitsKind value kind
 
-pub computed_fits : AluFits → (op : AluOp) (width : Width) (u v : Value) (p q : AbsKind) → FitsKind u p → FitsKind v q → FitsResult (alu op width u v) (kind_of_two op width (number_of p) (number_of q))
+pub computed_fits : AluFits → (op : AluOp) (width : Width) (u v : Value) (p q : AbsKind) → FitsKind u p → FitsKind v q → FitsResult (alu op width u v) (binary_kind op width (number_of p) (number_of q))
 computed_fits fits op width u v Unset q g h = tt
 computed_fits fits op width u v (Ptr r o) q g h = tt
 computed_fits fits op width u v (Map i) q g h = tt
@@ -190,7 +190,7 @@ alu_fits fits Mov width u v p q g h =
     subst P (sym (alu-Mov width u v)) (copied_fits fits width v q h)
 
 -- an operation on one number
-pub computed_alone_fits : (f : ℕ → ℕ) (F : Range → Range) → ((a : Range) (n : ℕ) → IsIn n a → IsIn (f n) (F a)) → (u : Value) (p : AbsKind) → FitsKind u p → FitsResult (number_result f u) (kind_of_one F (number_of p))
+pub computed_alone_fits : (f : ℕ → ℕ) (F : Range → Range) → ((a : Range) (n : ℕ) → IsIn n a → IsIn (f n) (F a)) → (u : Value) (p : AbsKind) → FitsKind u p → FitsResult (number_result f u) (unary_kind F (number_of p))
 computed_alone_fits f F fits u Unset g = tt
 computed_alone_fits f F fits u (Ptr r o) g = tt
 computed_alone_fits f F fits u (Map i) g = tt

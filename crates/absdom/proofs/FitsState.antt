@@ -23,7 +23,7 @@ use Rattle.absdom.specs.declared.kinds.AbsKind.TheVariants.{Unset, Num, Ptr, Map
 use Rattle.absdom.specs.Kinds.{number_of}
 use Rattle.absdom.specs.State.{StateValue, kind_in, kind_at, with_kind, with_marks}
 use Rattle.absdom.specs.Marks.{mark_at, marks_after}
-use Rattle.absdom.specs.Effect.{operand_kind, alu_kind, kind_of_one, load_kind, access_places, after_write_at, after_store, with_result, map_kind}
+use Rattle.absdom.specs.Effect.{operand_kind, alu_kind, unary_kind, load_kind, access_places, after_write_at, after_store, with_result, map_kind}
 use Rattle.absdom.specs.Fits.{FitsKind, IsByte, Fits, GoesOn, IsSound, IsIndex}
 use Rattle.absdom.specs.Laws.{ApplyFits}
 use Rattle.absdom.proofs.FitsAlu.{FitsResult, alu_fits, computed_alone_fits}
@@ -157,13 +157,13 @@ apply_fits af nf mf bf header s a (Alu op width dst src) known straight fits =
     writes_sound s a (s.slot + 1) dst (alu op width (s.registers dst) (operand s src)) (alu_kind op width (kind_at a dst) (operand_kind a src)) straight fits
     (alu_fits af op width (s.registers dst) (operand s src) (kind_at a dst) (operand_kind a src) (fits.registers dst) (operand_fits s a src fits))
 apply_fits af nf mf bf header s a (Negate width dst) known straight fits =
-    writes_sound s a (s.slot + 1) dst (number_result (negation width) (s.registers dst)) (kind_of_one (negated_range width) (number_of (kind_at a dst))) straight fits
+    writes_sound s a (s.slot + 1) dst (number_result (negation width) (s.registers dst)) (unary_kind (negated_range width) (number_of (kind_at a dst))) straight fits
     (computed_alone_fits (negation width) (negated_range width) (nf width) (s.registers dst) (kind_at a dst) (fits.registers dst))
 apply_fits af nf mf bf header s a (MoveSigned extension dst src) known straight fits =
-    writes_sound s a (s.slot + 1) dst (number_result (sign_extension extension) (s.registers src)) (kind_of_one (extended_range extension) (number_of (kind_at a src))) straight fits
+    writes_sound s a (s.slot + 1) dst (number_result (sign_extension extension) (s.registers src)) (unary_kind (extended_range extension) (number_of (kind_at a src))) straight fits
     (computed_alone_fits (sign_extension extension) (extended_range extension) (mf extension) (s.registers src) (kind_at a src) (fits.registers src))
 apply_fits af nf mf bf header s a (ByteSwap swap bits dst) known straight fits =
-    writes_sound s a (s.slot + 1) dst (number_result (swapped_bytes swap bits) (s.registers dst)) (kind_of_one (swapped_range swap bits) (number_of (kind_at a dst))) straight fits
+    writes_sound s a (s.slot + 1) dst (number_result (swapped_bytes swap bits) (s.registers dst)) (unary_kind (swapped_range swap bits) (number_of (kind_at a dst))) straight fits
     (computed_alone_fits (swapped_bytes swap bits) (swapped_range swap bits) (bf swap bits) (s.registers dst) (kind_at a dst) (fits.registers dst))
 apply_fits af nf mf bf header s a (Load size dst place) known straight fits =
     writes_sound s a (s.slot + 1) dst (loads header s size (s.registers place.base) place.offset) (load_kind a size (kind_at a place.base) place.offset) straight fits

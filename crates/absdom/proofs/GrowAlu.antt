@@ -16,7 +16,7 @@ use Rattle.absdom.specs.declared.kinds.AbsKind.{AbsKind}
 use Rattle.absdom.specs.declared.kinds.AbsKind.TheVariants.{Unset, Num, Ptr, Map}
 use Rattle.absdom.specs.Offsets.{offsets_within, is_offset, AreAmong}
 use Rattle.absdom.specs.Kinds.{same_region, number_of, IsKindBelow}
-use Rattle.absdom.specs.Effect.{kind_of_two, kind_of_one, copied_kind, signed_ends, pointer_kind, offsets_up, offsets_down, sum_kind, difference_kind, alu_kind}
+use Rattle.absdom.specs.Effect.{binary_kind, unary_kind, copied_kind, signed_ends, pointer_kind, offsets_up, offsets_down, sum_kind, difference_kind, alu_kind}
 use Rattle.absdom.specs.State.{IsProper}
 use Rattle.absdom.proofs.FitsAlu.{HasSign, sign_known, negatives_rise, sum_order, difference_order}
 
@@ -26,7 +26,7 @@ IsKindGrown small (Err cause) = Unit {0}
 IsKindGrown (Err cause) (Ok large) = ⊥
 IsKindGrown (Ok small) (Ok large) = IsKindBelow small large
 
-pub computed_grows : AluGrows → (op : AluOp) (width : Width) (p q p' q' : AbsKind) → IsProper p → IsProper q → IsKindBelow p p' → IsKindBelow q q' → IsKindGrown (kind_of_two op width (number_of p) (number_of q)) (kind_of_two op width (number_of p') (number_of q'))
+pub computed_grows : AluGrows → (op : AluOp) (width : Width) (p q p' q' : AbsKind) → IsProper p → IsProper q → IsKindBelow p p' → IsKindBelow q q' → IsKindGrown (binary_kind op width (number_of p) (number_of q)) (binary_kind op width (number_of p') (number_of q'))
 computed_grows grows op width p q Unset q' a b g h = tt
 computed_grows grows op width p q (Ptr r o) q' a b g h = tt
 computed_grows grows op width p q (Map i) q' a b g h = tt
@@ -41,7 +41,7 @@ computed_grows grows op width (Num x) (Ptr r o) (Num c) (Num d) a b g h = absurd
 computed_grows grows op width (Num x) (Map i) (Num c) (Num d) a b g h = absurd h
 computed_grows grows op width (Num x) (Num y) (Num c) (Num d) a b g h = grows op width x y c d a b g h
 
-pub computed_alone_grows : (F : Range → Range) → ((a c : Range) → IsRange a → IsWithin a c → IsWithin (F a) (F c)) → (p p' : AbsKind) → IsProper p → IsKindBelow p p' → IsKindGrown (kind_of_one F (number_of p)) (kind_of_one F (number_of p'))
+pub computed_alone_grows : (F : Range → Range) → ((a c : Range) → IsRange a → IsWithin a c → IsWithin (F a) (F c)) → (p p' : AbsKind) → IsProper p → IsKindBelow p p' → IsKindGrown (unary_kind F (number_of p)) (unary_kind F (number_of p'))
 computed_alone_grows F grows p Unset a g = tt
 computed_alone_grows F grows p (Ptr r o) a g = tt
 computed_alone_grows F grows p (Map i) a g = tt

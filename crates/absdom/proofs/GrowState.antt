@@ -23,7 +23,7 @@ use Rattle.absdom.specs.Offsets.{AreAmong}
 use Rattle.absdom.specs.Kinds.{number_of, IsKindBelow}
 use Rattle.absdom.specs.State.{StateValue, IsBelow, kind_in, kind_at, with_kind, with_marks, IsProper, IsWhole}
 use Rattle.absdom.specs.Marks.{mark_at, all_marked, marks_after}
-use Rattle.absdom.specs.Effect.{operand_kind, alu_kind, kind_of_one, both_places, access_places, is_set, loaded_range, read_kind, load_kind, after_write_at, after_write_to, after_store, with_result, map_kind}
+use Rattle.absdom.specs.Effect.{operand_kind, alu_kind, unary_kind, both_places, access_places, is_set, loaded_range, read_kind, load_kind, after_write_at, after_write_to, after_store, with_result, map_kind}
 use Rattle.absdom.specs.Laws.{ApplyGrows as StatesGrow, IsGrown, CallGrows}
 use Rattle.absdom.proofs.Order.{region_from_test, kind_below-refl}
 use Rattle.absdom.proofs.FitsMemory.{IsBetween, HasPlace, place_between, marked_bytes, word_below}
@@ -229,13 +229,13 @@ apply_grows af nf mf bf a b (Alu op width dst src) p q below =
     written_grows a b dst (alu_kind op width (kind_at a dst) (operand_kind a src)) (alu_kind op width (kind_at b dst) (operand_kind b src)) p q below
     (alu_grows af op width (kind_at a dst) (operand_kind a src) (kind_at b dst) (operand_kind b src) (p.kinds dst) (operand_proper a src p) (below.kinds dst) (operand_below a b src below))
 apply_grows af nf mf bf a b (Negate width dst) p q below =
-    written_grows a b dst (kind_of_one (negated_range width) (number_of (kind_at a dst))) (kind_of_one (negated_range width) (number_of (kind_at b dst))) p q below
+    written_grows a b dst (unary_kind (negated_range width) (number_of (kind_at a dst))) (unary_kind (negated_range width) (number_of (kind_at b dst))) p q below
     (computed_alone_grows (negated_range width) (nf width) (kind_at a dst) (kind_at b dst) (p.kinds dst) (below.kinds dst))
 apply_grows af nf mf bf a b (MoveSigned extension dst src) p q below =
-    written_grows a b dst (kind_of_one (extended_range extension) (number_of (kind_at a src))) (kind_of_one (extended_range extension) (number_of (kind_at b src))) p q below
+    written_grows a b dst (unary_kind (extended_range extension) (number_of (kind_at a src))) (unary_kind (extended_range extension) (number_of (kind_at b src))) p q below
     (computed_alone_grows (extended_range extension) (mf extension) (kind_at a src) (kind_at b src) (p.kinds src) (below.kinds src))
 apply_grows af nf mf bf a b (ByteSwap swap bits dst) p q below =
-    written_grows a b dst (kind_of_one (swapped_range swap bits) (number_of (kind_at a dst))) (kind_of_one (swapped_range swap bits) (number_of (kind_at b dst))) p q below
+    written_grows a b dst (unary_kind (swapped_range swap bits) (number_of (kind_at a dst))) (unary_kind (swapped_range swap bits) (number_of (kind_at b dst))) p q below
     (computed_alone_grows (swapped_range swap bits) (bf swap bits) (kind_at a dst) (kind_at b dst) (p.kinds dst) (below.kinds dst))
 apply_grows af nf mf bf a b (Load size dst place) p q below =
     written_grows a b dst (load_kind a size (kind_at a place.base) place.offset) (load_kind b size (kind_at b place.base) place.offset) p q below

@@ -26,7 +26,7 @@ use Rattle.absdom.specs.declared.kinds.AbsKind.TheVariants.{Unset, Num, Ptr, Map
 use Rattle.absdom.specs.Kinds.{number_of, IsKindBelow}
 use Rattle.absdom.specs.State.{StateValue, IsBelow, kind_at, with_kind, after_call}
 use Rattle.absdom.specs.Marks.{marks_after}
-use Rattle.absdom.specs.Effect.{after_bytes, after_write_at, after_write_to, after_store, with_result}
+use Rattle.absdom.specs.Effect.{with_bytes_set, after_write_at, after_write_to, after_store, with_result}
 use Rattle.absdom.specs.Edges.{compared_range, with_source, edge_state, edge_states, unrefined_edges, is_itself, edges_of, compared_edges}
 use Rattle.absdom.specs.Laws.{IsLeftBy, ApplyLeaves, CallLeaves, AreEdgesBelow, RefineShrinks}
 use Rattle.absdom.proofs.Order.{below_is_reflexive}
@@ -63,7 +63,7 @@ leaves_written insn a register (Ok kind) names = leaves_others insn a register k
 
 -- a store
 
-leaves_wrote : (insn : Insn) (a : StateValue) (bytes : ℕ) (places : ℕ × ℕ) → is_store insn ≡ true → IsLeftBy insn a (after_bytes a bytes places)
+leaves_wrote : (insn : Insn) (a : StateValue) (bytes : ℕ) (places : ℕ × ℕ) → is_store insn ≡ true → IsLeftBy insn a (with_bytes_set a bytes places)
 leaves_wrote insn a bytes places is =
     elim (places.0 == places.1) as (λ t. IsLeftBy insn a (if t then record { kinds = a.kinds; marks = marks_after a.marks places.0 bytes } else a)) [
       | true ↦

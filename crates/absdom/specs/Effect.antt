@@ -34,16 +34,16 @@ operand_kind a (Immediate value) = Num (single_range (word value))
 
 -- ---- arithmetic (RFC 9669, section 4.1)
 
--- an operation on two numbers
-abbrev pub kind_of_two : AluOp → Width → Result Range Cause → Result Range Cause → Result AbsKind Cause
-kind_of_two op width (Err cause) b = Err cause
-kind_of_two op width (Ok a) (Err cause) = Err cause
-kind_of_two op width (Ok a) (Ok b) = Ok (Num (alu_range op width a b))
+-- what an operation on two numbers gives, where both are numbers
+abbrev pub binary_kind : AluOp → Width → Result Range Cause → Result Range Cause → Result AbsKind Cause
+binary_kind op width (Err cause) b = Err cause
+binary_kind op width (Ok a) (Err cause) = Err cause
+binary_kind op width (Ok a) (Ok b) = Ok (Num (alu_range op width a b))
 
--- an operation on one number
-abbrev pub kind_of_one : (Range → Range) → Result Range Cause → Result AbsKind Cause
-kind_of_one f (Err cause) = Err cause
-kind_of_one f (Ok a) = Ok (Num (f a))
+-- what an operation on one number gives, where it is a number
+abbrev pub unary_kind : (Range → Range) → Result Range Cause → Result AbsKind Cause
+unary_kind f (Err cause) = Err cause
+unary_kind f (Ok a) = Ok (Num (f a))
 
 -- MOV: in ALU64 it copies pointers and maps too
 abbrev pub copied_kind : Width → AbsKind → Result AbsKind Cause
@@ -86,17 +86,17 @@ pointer_down region offsets (Ok n) = pointer_kind region (offsets_down offsets (
 
 -- ADD: in ALU64 it moves a pointer
 abbrev pub sum_kind : Width → AbsKind → AbsKind → Result AbsKind Cause
-sum_kind Bits32 a b = kind_of_two Add Bits32 (number_of a) (number_of b)
+sum_kind Bits32 a b = binary_kind Add Bits32 (number_of a) (number_of b)
 sum_kind Bits64 Unset b = Err UnsetOperand
-sum_kind Bits64 (Num a) b = kind_of_two Add Bits64 (Ok a) (number_of b)
+sum_kind Bits64 (Num a) b = binary_kind Add Bits64 (Ok a) (number_of b)
 sum_kind Bits64 (Ptr region offsets) b = pointer_up region offsets (number_of b)
 sum_kind Bits64 (Map index) b = Err KindMismatch
 
 -- SUB: likewise
 abbrev pub difference_kind : Width → AbsKind → AbsKind → Result AbsKind Cause
-difference_kind Bits32 a b = kind_of_two Sub Bits32 (number_of a) (number_of b)
+difference_kind Bits32 a b = binary_kind Sub Bits32 (number_of a) (number_of b)
 difference_kind Bits64 Unset b = Err UnsetOperand
-difference_kind Bits64 (Num a) b = kind_of_two Sub Bits64 (Ok a) (number_of b)
+difference_kind Bits64 (Num a) b = binary_kind Sub Bits64 (Ok a) (number_of b)
 difference_kind Bits64 (Ptr region offsets) b = pointer_down region offsets (number_of b)
 difference_kind Bits64 (Map index) b = Err KindMismatch
 
@@ -104,18 +104,18 @@ difference_kind Bits64 (Map index) b = Err KindMismatch
 abbrev pub alu_kind : AluOp → Width → AbsKind → AbsKind → Result AbsKind Cause
 alu_kind Add width a b = sum_kind width a b
 alu_kind Sub width a b = difference_kind width a b
-alu_kind Mul width a b = kind_of_two Mul width (number_of a) (number_of b)
-alu_kind Div width a b = kind_of_two Div width (number_of a) (number_of b)
-alu_kind SignedDiv width a b = kind_of_two SignedDiv width (number_of a) (number_of b)
-alu_kind Or width a b = kind_of_two Or width (number_of a) (number_of b)
-alu_kind And width a b = kind_of_two And width (number_of a) (number_of b)
-alu_kind Lsh width a b = kind_of_two Lsh width (number_of a) (number_of b)
-alu_kind Rsh width a b = kind_of_two Rsh width (number_of a) (number_of b)
-alu_kind Mod width a b = kind_of_two Mod width (number_of a) (number_of b)
-alu_kind SignedMod width a b = kind_of_two SignedMod width (number_of a) (number_of b)
-alu_kind Xor width a b = kind_of_two Xor width (number_of a) (number_of b)
+alu_kind Mul width a b = binary_kind Mul width (number_of a) (number_of b)
+alu_kind Div width a b = binary_kind Div width (number_of a) (number_of b)
+alu_kind SignedDiv width a b = binary_kind SignedDiv width (number_of a) (number_of b)
+alu_kind Or width a b = binary_kind Or width (number_of a) (number_of b)
+alu_kind And width a b = binary_kind And width (number_of a) (number_of b)
+alu_kind Lsh width a b = binary_kind Lsh width (number_of a) (number_of b)
+alu_kind Rsh width a b = binary_kind Rsh width (number_of a) (number_of b)
+alu_kind Mod width a b = binary_kind Mod width (number_of a) (number_of b)
+alu_kind SignedMod width a b = binary_kind SignedMod width (number_of a) (number_of b)
+alu_kind Xor width a b = binary_kind Xor width (number_of a) (number_of b)
 alu_kind Mov width a b = copied_kind width b
-alu_kind Arsh width a b = kind_of_two Arsh width (number_of a) (number_of b)
+alu_kind Arsh width a b = binary_kind Arsh width (number_of a) (number_of b)
 
 -- ---- loads and stores (RFC 9669, section 5)
 
@@ -167,13 +167,13 @@ load_kind a size (Ptr region offsets) offset =
 load_kind a size (Map index) offset = Err KindMismatch
 
 -- a store of so many bytes sets them where it has one place, and no byte else
-abbrev pub after_bytes : StateValue → (bytes : ℕ) → ℕ × ℕ → StateValue
-after_bytes a bytes places = if places.0 == places.1 then with_marks a (marks_after a.marks places.0 bytes) else a
+abbrev pub with_bytes_set : StateValue → (bytes : ℕ) → ℕ × ℕ → StateValue
+with_bytes_set a bytes places = if places.0 == places.1 then with_marks a (marks_after a.marks places.0 bytes) else a
 
 -- a store at these places
 abbrev pub after_write_at : StateValue → (bytes : ℕ) → Option (ℕ × ℕ) → Result StateValue Cause
 after_write_at a bytes None = Err OutOfRegion
-after_write_at a bytes (Some places) = Ok (after_bytes a bytes places)
+after_write_at a bytes (Some places) = Ok (with_bytes_set a bytes places)
 
 -- a store to the stack at one of these offsets
 abbrev pub after_stack_write : StateValue → (bytes : ℕ) → ℤ × ℤ → (offset : ℤ) → Result StateValue Cause
@@ -208,9 +208,9 @@ map_kind (negsuc n) = Unset
 -- what an instruction does that goes on to the next one. All others leave what is known as it is.
 abbrev pub after_insn : StateValue → Insn → Result StateValue Cause
 after_insn a (Alu op width dst src) = with_result a dst (alu_kind op width (kind_at a dst) (operand_kind a src))
-after_insn a (Negate width dst) = with_result a dst (kind_of_one (negated_range width) (number_of (kind_at a dst)))
-after_insn a (MoveSigned extension dst src) = with_result a dst (kind_of_one (extended_range extension) (number_of (kind_at a src)))
-after_insn a (ByteSwap swap bits dst) = with_result a dst (kind_of_one (swapped_range swap bits) (number_of (kind_at a dst)))
+after_insn a (Negate width dst) = with_result a dst (unary_kind (negated_range width) (number_of (kind_at a dst)))
+after_insn a (MoveSigned extension dst src) = with_result a dst (unary_kind (extended_range extension) (number_of (kind_at a src)))
+after_insn a (ByteSwap swap bits dst) = with_result a dst (unary_kind (swapped_range swap bits) (number_of (kind_at a dst)))
 after_insn a (Load size dst place) = with_result a dst (load_kind a size (kind_at a place.base) place.offset)
 after_insn a (Store size place src) =
     after_store a (size_bytes size) (kind_at a place.base) place.offset (number_of (operand_kind a src))

@@ -4,7 +4,7 @@ ghost use Rattle.std.specs.Prelude.{◌≡◌, ◌+◌, ◌-◌, ◌^◌, ◌<�
 ghost use Rattle.bpf_parts.specs.Sizes.{size_bytes};
 ghost use Rattle.machine.specs.Memory.{place_within, place_of};
 ghost use Rattle.absdom.specs.Offsets.{IsOffset};
-ghost use Rattle.absdom.specs.Effect.{access_places, is_set, loaded_range, load_kind, after_bytes, after_stack_write, AreInside, Becomes, Stores};
+ghost use Rattle.absdom.specs.Effect.{access_places, is_set, loaded_range, load_kind, with_bytes_set, after_stack_write, AreInside, Becomes, Stores};
 
 use crate::cause::Cause;
 use crate::kinds::AbsKind;

@@ -4,7 +4,7 @@ ghost use Rattle.std.specs.Prelude.{◌≡◌, ◌+◌, ◌^◌, ◌≤ℤ◌, �
 ghost use Rattle.machine.specs.Words.{word};
 ghost use Rattle.absdom_num.specs.Tables.{negated_range, extended_range, swapped_range, single_range};
 ghost use Rattle.absdom.specs.Kinds.{number_of};
-ghost use Rattle.absdom.specs.Effect.{kind_of_two, kind_of_one, copied_kind, signed_ends, pointer_kind, offsets_up, offsets_down, pointer_up, pointer_down, sum_kind, difference_kind, alu_kind};
+ghost use Rattle.absdom.specs.Effect.{binary_kind, unary_kind, copied_kind, signed_ends, pointer_kind, offsets_up, offsets_down, pointer_up, pointer_down, sum_kind, difference_kind, alu_kind};
 
 use crate::cause::Cause;
 use crate::kinds::AbsKind;
@@ -15,7 +15,7 @@ use machine::Region;
 
 /// An operation on two numbers.
 fn compute(op: AluOp, width: Width, a: &AbsKind, b: &AbsKind) -> Result<AbsKind, Cause>
-    ensures { result ≡ kind_of_two op width (number_of a.now) (number_of b.now) }
+    ensures { result ≡ binary_kind op width (number_of a.now) (number_of b.now) }
 {
     let a = a.number()?;
     let b = b.number()?;
@@ -155,21 +155,21 @@ pub(crate) fn alu(op: AluOp, width: Width, a: &AbsKind, b: &AbsKind) -> Result<A
 
 /// NEG: a number with the other sign.
 pub(crate) fn negate(width: Width, a: &AbsKind) -> Result<AbsKind, Cause>
-    ensures { result ≡ kind_of_one (negated_range width) (number_of a.now) }
+    ensures { result ≡ unary_kind (negated_range width) (number_of a.now) }
 {
     Ok(AbsKind::Num(absdom_num::negate(width, a.number()?)))
 }
 
 /// MOVSX: the low bits of a number, sign-extended.
 pub(crate) fn move_signed(extension: Extension, source: &AbsKind) -> Result<AbsKind, Cause>
-    ensures { result ≡ kind_of_one (extended_range extension) (number_of source.now) }
+    ensures { result ≡ unary_kind (extended_range extension) (number_of source.now) }
 {
     Ok(AbsKind::Num(absdom_num::move_signed(extension, source.number()?)))
 }
 
 /// END: the low bits of a number, with their bytes in that order.
 pub(crate) fn byte_swap(swap: Swap, bits: SwapBits, a: &AbsKind) -> Result<AbsKind, Cause>
-    ensures { result ≡ kind_of_one (swapped_range swap bits) (number_of a.now) }
+    ensures { result ≡ unary_kind (swapped_range swap bits) (number_of a.now) }
 {
     Ok(AbsKind::Num(absdom_num::byte_swap(swap, bits, a.number()?)))
 }

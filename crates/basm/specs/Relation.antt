@@ -38,11 +38,11 @@ pub record NamesTarget (names : List ℕ → Option ℕ) (slot : ℕ) (word : Li
 abbrev pub WritesTarget : (names : List ℕ → Option ℕ) (slot : ℕ) → List ℕ → ℤ → Type 0
 WritesTarget names slot word offset = NamesTarget names slot word offset ⊎ WritesDistance word offset
 
--- the same, in reach of a field of 16 bits
+-- a target by its distance or its name, in reach of a field of 16 bits
 abbrev pub WritesShortTarget : (names : List ℕ → Option ℕ) (slot : ℕ) → List ℕ → ℤ → Type 0
 WritesShortTarget names slot word offset = WritesTarget names slot word offset × FitsSigned w16 offset
 
--- the same, in reach of a field of 32 bits
+-- a target by its distance or its name, in reach of a field of 32 bits
 abbrev pub WritesLongTarget : (names : List ℕ → Option ℕ) (slot : ℕ) → List ℕ → ℤ → Type 0
 WritesLongTarget names slot word offset = WritesTarget names slot word offset × FitsSigned w32 offset
 

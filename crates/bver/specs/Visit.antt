@@ -63,14 +63,14 @@ abbrev pub IsTableOf : VisitValue → TableValue → Type 0
 IsTableOf v table = table.program ≡ v.program
 
 -- what is known where a jump by so many slots leads
-abbrev pub knowledge_there : VisitValue → (distance : ℤ) → (known : ℕ → Option StateValue) → Option StateValue
-knowledge_there v distance known = knowledge_at known (target v.slot distance)
+abbrev pub knowledge_at_target : VisitValue → (distance : ℤ) → (known : ℕ → Option StateValue) → Option StateValue
+knowledge_at_target v distance known = knowledge_at known (target v.slot distance)
 
 -- the edges of a comparison were followed: what they lead to is known where it jumps to, and at the next slot, where
 -- the state stands if it runs on
 abbrev pub AreFollowed : VisitValue → (distance : ℤ) → Result Edges Cause → TableValue → StateValue → (runs : Bool) → Type 0
 AreFollowed v distance edges table state runs =
-    AreEdgesCovered edges (knowledge_there v distance (knowledge_beside table runs (v.slot + 1) state))
+    AreEdgesCovered edges (knowledge_at_target v distance (knowledge_beside table runs (v.slot + 1) state))
     (knowledge_next table runs (v.slot + 1) state)
 
 -- the slot is plain where the running state stands there

@@ -14,7 +14,7 @@ ghost use Rattle.bver.specs.Justified.{AsksCell, IsCovered, IsCoveredIfAny, IsNu
 ghost use Rattle.bver_form.specs.Lowered.{IsMore, IsSettled};
 ghost use Rattle.bver.specs.Table.{knowledge_beside, knowledge_in, knowledge_next};
 ghost use Rattle.bver_form.specs.Targets.{IsPlain};
-ghost use Rattle.bver.specs.Visit.{AreFollowed, GoesOnPlain, HasNext, IsExtendedAfter, IsNext, IsTableOf, LeadsBy, knowledge_there};
+ghost use Rattle.bver.specs.Visit.{AreFollowed, GoesOnPlain, HasNext, IsExtendedAfter, IsNext, IsTableOf, LeadsBy, knowledge_at_target};
 
 use crate::table::Table;
 use crate::visit::Visit;
@@ -50,7 +50,7 @@ fn jump(
     requires leads { LeadsBy visit.now distance }
     ensures covered { OnOk result
         (IsSettled lowered.old lowered.new
-        → IsCovered state.now (knowledge_there visit.now distance (knowledge_in table.new))) }
+        → IsCovered state.now (knowledge_at_target visit.now distance (knowledge_in table.new))) }
     ensures extended { IsExtendedAfter visit.now table.old table.new }
     ensures more { IsMore lowered.old lowered.new }
 {
@@ -86,7 +86,7 @@ fn follow_taken(
     ensures covered { OnOk result
         (IsSettled lowered.old lowered.new
         → IsCoveredIfAny (edge_state state.now comparison.now.dst comparison.now.src edge.now)
-        (knowledge_there visit.now distance (knowledge_in table.new))) }
+        (knowledge_at_target visit.now distance (knowledge_in table.new))) }
     ensures extended { IsExtendedAfter visit.now table.old table.new }
     ensures more { IsMore lowered.old lowered.new }
 {

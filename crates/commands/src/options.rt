@@ -1,8 +1,9 @@
 //! The values of the options `--maps` and `--ports`.
 
-ghost use Rattle.std.specs.Prelude.{◌≡◌, All, IfErr, IfOk, MatchResult, codes, map, []};
+ghost use Rattle.std.specs.Prelude.{◌≡◌, All, IfErr, IfOk, MatchResult, codes, []};
 ghost use Rattle.clap.specs.Walk.{first_of, rows_of};
 ghost use Rattle.clap.specs.Matches.{found_of};
+ghost use Rattle.basm.specs.Relation.{texts};
 ghost use Rattle.commands.specs.Options.{GivesPorts, GivesSizes, IsBadValue, IsMapList, IsPortCount, IsSize, IsValueFault, RefusesCount, RefusesList, WriteSizes, WritesSuch, list_parts, listed_numbers};
 
 use crate::arguments::text_of;
@@ -52,7 +53,7 @@ fn sizes_written(alloc: Global, parts: &[&str]) -> Result<Vec<u16>, UsageFault>
 
 /// The parts of a list: what stands between its commas.
 fn parts_of(alloc: Global, text: &str) -> Result<Vec<&str>, AllocError>
-    ensures { IfOk result (λ parts. map (λ part. part.now) parts.items ≡ list_parts text.now) }
+    ensures { IfOk result (λ parts. texts parts.items ≡ list_parts text.now) }
 {
     text.split(',').collect(alloc)
 }

@@ -87,7 +87,7 @@ fn accepted(alloc: Global, text: &str) -> Result<Accepted, Fail> {
 }
 
 /// Two verdicts on the plain read by one bearing, since a run leaves nothing that the next one sees.
-fn twice(
+fn two_verdicts(
     rt: &impl Abort,
     alloc: Global,
     program: &Accepted,
@@ -123,7 +123,7 @@ fn verdicts(rt: &impl Abort, alloc: Global, line: &str) -> Result<(), Fail> {
     let port = u8::try_from(row.hexadecimal()?)?;
     let want = row.hexadecimal()?;
     let program = accepted(alloc, text)?;
-    twice(rt, alloc, &program, port, want, shows)
+    two_verdicts(rt, alloc, &program, port, want, shows)
 }
 
 #[test]

@@ -6,7 +6,7 @@ use Rattle.bver_form.specs.Jumps.{target}
 use Rattle.bver.specs.Justified.{IsCoveredIfAny}
 use Rattle.bver.specs.Table.{AreEntries, knowledge_beside, knowledge_in}
 use Rattle.bver_form.specs.Targets.{IsKept}
-use Rattle.bver.specs.Visit.{knowledge_there}
+use Rattle.bver.specs.Visit.{knowledge_at_target}
 use Rattle.bver.proofs.Covering.{AreCovered, any_covered_more, known_covered}
 use Rattle.bver.proofs.Passing.{carried_covers}
 use Rattle.bver.proofs.Visiting.{extended_twice}
@@ -26,9 +26,9 @@ returns-clause-covered c =
     let entries : AreEntries new = c.stands_at_targets.ensures.entries in
     let reaches : AreCovered (knowledge_in new) (knowledge_beside new runs next after) = carried_covers c.order_of_states.ensures.reflexive new runs next after entries (λ on kept. (c.follow_not_taken-runs.ensures.plain on).unkept (subst (λ (p : Program). IsKept p next) program kept)) in
     λ settled.
-    let covered : IsCoveredIfAny edge (knowledge_there v c.args.distance (knowledge_in mid)) = search rules in
-    let more : IsCoveredIfAny edge (knowledge_there v c.args.distance (knowledge_in new)) = any_covered_more c.order_of_states.ensures.transitive edge (knowledge_there v c.args.distance (knowledge_in mid)) (knowledge_there v c.args.distance (knowledge_in new)) covered (known_covered (knowledge_in mid) (knowledge_in new) c.follow_not_taken-runs.ensures.extended.grown (target v.slot c.args.distance)) in
-    (any_covered_more c.order_of_states.ensures.transitive edge (knowledge_there v c.args.distance (knowledge_in new)) (knowledge_there v c.args.distance (knowledge_beside new runs next after)) more (known_covered (knowledge_in new) (knowledge_beside new runs next after) reaches (target v.slot c.args.distance)), c.follow_not_taken-runs.ensures.covered)
+    let covered : IsCoveredIfAny edge (knowledge_at_target v c.args.distance (knowledge_in mid)) = search rules in
+    let more : IsCoveredIfAny edge (knowledge_at_target v c.args.distance (knowledge_in new)) = any_covered_more c.order_of_states.ensures.transitive edge (knowledge_at_target v c.args.distance (knowledge_in mid)) (knowledge_at_target v c.args.distance (knowledge_in new)) covered (known_covered (knowledge_in mid) (knowledge_in new) c.follow_not_taken-runs.ensures.extended.grown (target v.slot c.args.distance)) in
+    (any_covered_more c.order_of_states.ensures.transitive edge (knowledge_at_target v c.args.distance (knowledge_in new)) (knowledge_at_target v c.args.distance (knowledge_beside new runs next after)) more (known_covered (knowledge_in new) (knowledge_beside new runs next after) reaches (target v.slot c.args.distance)), c.follow_not_taken-runs.ensures.covered)
 
 pub returns-clause-extended : goal.returns-clause-extended
 returns-clause-extended c =
