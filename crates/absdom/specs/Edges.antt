@@ -71,6 +71,17 @@ compared_edges condition width a dst src (Err cause) right = Err cause
 compared_edges condition width a dst src (Ok left) (Err cause) = Err cause
 compared_edges condition width a dst src (Ok left) (Ok right) = Ok (edges_of condition width a dst src left right)
 
+-- the ranges on the edges of a comparison of two numbers
+abbrev pub compared_ranges : Condition → Width → (dst : ℕ) → Operand → Result Range Cause → Result Range Cause → Result RangeEdges Cause
+compared_ranges condition width dst src (Err cause) right = Err cause
+compared_ranges condition width dst src (Ok left) (Err cause) = Err cause
+compared_ranges condition width dst src (Ok left) (Ok right) = Ok (ranges_of condition width dst src left right)
+
+-- the ranges of the operands on the edges of a comparison, or why it is refused
+abbrev pub refined_operands : StateValue → Condition → Width → (dst : ℕ) → Operand → Result RangeEdges Cause
+refined_operands a condition width dst src =
+    compared_ranges condition width dst src (number_of (kind_at a dst)) (compared_range width a src)
+
 -- what is known on the edges of a comparison, or why it is refused
 abbrev pub refined_edges : StateValue → Condition → Width → (dst : ℕ) → Operand → Result Edges Cause
 refined_edges a condition width dst src =

@@ -47,7 +47,7 @@ with_kind a register kind = record { kinds = slice_set a.kinds register kind; ma
 abbrev pub with_marks : StateValue → List Bool → StateValue
 with_marks a marks = record { kinds = a.kinds; marks = marks }
 
--- after a helper's call: r0 is any number, r1 to r5 are unset (RFC 9669, section 2)
+-- after a helper's call: r0 is any number, r1 to r5 are unset
 abbrev pub after_call : StateValue → StateValue
 after_call a =
     with_kind (with_kind (with_kind (with_kind (with_kind (with_kind a 0 (Num (whole_range Bits64))) 1 Unset) 2 Unset) 3 Unset) 4 Unset) 5 Unset

@@ -2,7 +2,7 @@
 
 ghost use Rattle.std.specs.Prelude.{◌≡◌, Ok, Err, MatchResult};
 ghost use Rattle.machine.specs.Words.{word, low_part};
-ghost use Rattle.absdom.specs.Edges.{compared_range, with_operands, edge_states, is_itself, ranges_of, refined_edges};
+ghost use Rattle.absdom.specs.Edges.{compared_range, with_operands, edge_states, is_itself, ranges_of, refined_edges, refined_operands};
 
 use crate::cause::Cause;
 use crate::kinds::AbsKind;
@@ -77,7 +77,10 @@ pub fn refine(
     dst: Register,
     src: &Operand,
 ) -> Result<Edges, Cause>
-    ensures { MatchResult result
+    ensures ranges { result ≡ refined_operands state.now condition width dst src.now }
+
+    // With them the state is what is known on each edge.
+    ensures edges { MatchResult result
         (λ new. refined_edges state.now condition width dst src.now
         ≡ Ok (edge_states state.now dst src.now new))
         (λ cause. refined_edges state.now condition width dst src.now ≡ Err cause) }

@@ -3,9 +3,9 @@
 //!
 //! A [`State`] has a kind for each register and a mark for each byte of the stack that is set, and changes in
 //! place. [`State::apply`] does what an instruction does to it, or says why the instruction is refused;
-//! [`refine`] tells the ranges on the two edges of a comparison. The definitions are in `specs/`: `Kinds` has the kinds and their order,
-//! `Effect` what an instruction does to them, `Fits` which states of the machine a state stands for, and
-//! `Laws` what holds of all this.
+//! [`refine`] tells the ranges on the two edges of a comparison. The definitions are in `specs/`: `Kinds` has the
+//! kinds and their order, `Effect` what an instruction does to them, `Fits` which states of the machine a state
+//! stands for, and `Laws` what holds of all this.
 #![tactic(auto)]
 
 mod access;

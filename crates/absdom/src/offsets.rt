@@ -5,7 +5,7 @@ ghost use Rattle.absdom.specs.Offsets.{joined_offsets, AreAmong, offsets_within,
 
 use std::marker::Model;
 
-/// The greatest distance of a pointer from the start of its region.
+/// The greatest distance of a pointer from offset 0 of its region.
 const LIMIT: i32 = 65_536;
 
 /// The least and the greatest offset of a pointer, in bytes from where its region begins (from the end of
@@ -30,7 +30,7 @@ impl Model for Offsets {
 }
 
 impl Offsets {
-    /// The start of a region alone.
+    /// Offset 0 alone: the first byte of a region of the header, the end of the stack.
     pub fn zero() -> Offsets
         ensures { result ≡ (pos 0, pos 0) }
     {

@@ -87,7 +87,7 @@ impl State {
         are_below(&self.kinds, &other.kinds) && self.marks.leq(&other.marks)
     }
 
-    /// Calls a helper: r0 is then any number, and r1 to r5 are unset (RFC 9669, section 2).
+    /// Calls a helper: r0 is then any number, and r1 to r5 are unset.
     pub fn call(&mut self)
         ensures { self.new ≡ after_call self.old }
     {

@@ -15,7 +15,7 @@ use crate::faults::BankFault;
 use crate::journal::{Journal, is_room};
 use crate::judged::Judged;
 use crate::share::Share;
-use rmap::{ReplyBuf, Status};
+use rmap::{Place, ReplyBuf, Status};
 use spw::PORTS;
 use std::alloc::{AllocError, Global};
 use std::marker::Model;
@@ -162,13 +162,15 @@ impl Bank {
     }
 
     /// Whether the command may be applied with that share: the share is the command's port's, its
-    /// number is the bank's count of that port, and the command's bytes lie in this bank.
+    /// number is the bank's count of that port, and the command's place is a bank in whose range its
+    /// bytes lie. A bank does not know its number: that it is the bank of the place is the caller's to see.
     pub fn fits(&self, share: &Share, judged: &Judged) -> bool
         ensures { result ≡ fits self.now share.now judged.now }
     {
         let size = self.bytes.len() as u32;
         share.port() == judged.port()
             && self.is_next(share)
+            && matches!(judged.place(), Place::Bank(_))
             && judged.command().lies_inside(self.first, size)
     }
 

@@ -1,5 +1,7 @@
 -- The numbers of the assembler's faults.
 use Rattle.std.specs.Prelude.{ℕ, nat_lt, if◌then◌else◌}
+use Rattle.basm_lex.specs.declared.numbers.NumberFault.{NumberFault}
+use Rattle.basm_lex.specs.declared.numbers.NumberFault.TheVariants.{Form, Range}
 use Rattle.basm.specs.declared.faults.AsmCode.{AsmCode}
 use Rattle.basm.specs.declared.faults.AsmCode.TheVariants.{BadWord, BadOperand, BadNumber, BadLabel, Reach, TooMany, BadBudget, BadLoop, Memory}
 
@@ -14,6 +16,11 @@ asm_code TooMany = 6
 asm_code BadBudget = 7
 asm_code BadLoop = 8
 asm_code Memory = 9
+
+-- the fault of a word that is no number as it should be
+abbrev pub number_code : NumberFault → AsmCode
+number_code Form = BadOperand
+number_code Range = BadNumber
 
 -- the one of two faults that has the lower number
 abbrev pub lower_code : AsmCode → AsmCode → AsmCode

@@ -1,7 +1,7 @@
 //! Why a text is no image.
 
 ghost use Rattle.std.specs.Prelude.{◌≡◌, Ok, IfOk};
-ghost use Rattle.basm.specs.Codes.{asm_code, lower_code};
+ghost use Rattle.basm.specs.Codes.{asm_code, lower_code, number_code};
 ghost use Rattle.basm.specs.Outcomes.{image_code, line_fault, out_of_memory, text_fault};
 ghost use Rattle.basm.specs.declared.faults.AsmCode.TheVariants.{Memory};
 
@@ -109,6 +109,8 @@ impl<T: Drop> From<AllocFailed<T>> for AsmCode {
 }
 
 impl From<NumberFault> for AsmCode {
+    ghost from_gives = { λ fault code. code ≡ number_code fault };
+
     fn from(fault: NumberFault) -> AsmCode {
         match fault {
             NumberFault::Form => AsmCode::BadOperand,

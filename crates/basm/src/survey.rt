@@ -67,7 +67,7 @@ impl<'a> Survey<'a> {
 }
 
 /// How many slots a line with this first word takes, where it is no label. An unknown word counts as an
-/// instruction.
+/// instruction, and as none where it begins with a full stop.
 #[tactic(auto, unfolding(crate::specs::Labels::word_slots))]
 fn slots_of(word: &str) -> u32
     ensures { result ≡ word_slots word.now }

@@ -67,7 +67,7 @@ impl Insn {
     }
 
     /// Whether a run of the instruction may change the register: its destination, and r0 to r5 for a
-    /// call (RFC 9669, section 2).
+    /// call (a choice of this project).
     pub fn writes(&self, register: Register) -> bool
         ensures { result ≡ is_written self.now register }
     {

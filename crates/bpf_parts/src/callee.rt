@@ -4,8 +4,8 @@ ghost use Rattle.std.specs.Prelude.{◌≡◌, ◌<◌};
 ghost use Rattle.bpf_parts.specs.Codes.{callee_code};
 ghost use Rattle.bpf_parts.specs.Kinds.{callee_of};
 
-/// What a call calls: a helper by its number, a function of the program, or a helper by its type's
-/// number (RFC 9669, section 4.3.1 and 4.3.2).
+/// What a call calls: a helper by its number, a function of the program, or a helper by its BTF
+/// ID (RFC 9669, sections 4.3.1 and 4.3.2).
 #[derive(Clone, Copy, Debug, PartialEq, Eq)]
 pub enum Callee {
     Helper,

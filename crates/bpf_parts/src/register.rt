@@ -11,7 +11,7 @@ pub const REGISTERS: usize = 11;
 /// The number of the frame pointer, which no instruction may write.
 pub const FRAME_POINTER: u8 = 10;
 
-/// One of the registers r0 to r10 (RFC 9669, section 2). r10 is the read-only frame pointer.
+/// One of the registers r0 to r10 (RFC 9669, section 3.1). r10 is the read-only frame pointer.
 #[derive(Clone, Copy, Debug, PartialEq, Eq)]
 pub struct Register {
     number: u8,

@@ -57,6 +57,7 @@ entries_of t marks size kept numbers = record {
   size = numbers.size ∙ size;
   all = λ slot is. numbers.all slot (kept.all slot is);
   only = λ slot has. kept.only slot (numbers.only slot has);
+  used = numbers.used;
   rising = numbers.rising;
 }
 
@@ -66,6 +67,7 @@ entries_same t entries size h = record {
   size = h.size;
   all = λ slot kept. rw size (h.all slot kept);
   only = λ slot has. h.only slot (rw size at has);
+  used = λ place below. h.used place (rw size at below);
   rising = λ a b order below under. h.rising a b order (rw size at below) (rw size at under);
 }
 

@@ -2,7 +2,7 @@
 use Rattle.std.specs.Prelude.{◌≡◌, ◌<◌, ℕ, Bool, ◌&&◌, ◌==◌, nat_lt, if◌then◌else◌, List, length, slice_index_or, Option, Some, None}
 use Rattle.bpf.specs.Program.{Program}
 use Rattle.absdom.specs.State.{StateValue}
-use Rattle.bver_form.specs.Targets.{IsKept, place_at}
+use Rattle.bver_form.specs.Targets.{IsKept, NumbersSlot, place_at}
 
 -- a program, the place of each slot's entry, and the entries
 pub record TableValue : Type 0 where
@@ -27,6 +27,7 @@ pub record AreEntries (t : TableValue) : Type 0 where
   pub size : length t.places ≡ length t.program.slots
   pub all : (slot : ℕ) → IsKept t.program slot → HasEntry t slot
   pub only : (slot : ℕ) → HasEntry t slot → IsKept t.program slot
+  pub used : (place : ℕ) → place < length t.entries → NumbersSlot t.places place
   pub rising : (a b : ℕ) → a < b → HasEntry t a → HasEntry t b → place_at t.places a < place_at t.places b
 
 -- what is known at a slot, where a running state may stand at the next one

@@ -7,7 +7,7 @@ use Rattle.std.proofs.Math.ListN.{length-set}
 use Rattle.bpf.specs.Program.{Program, insn_at}
 use Rattle.bpf_insn.specs.declared.insn.Insn.{Insn}
 use Rattle.bver_form.specs.Jumps.{first_slot, jump_distance, target}
-use Rattle.bver_form.specs.Targets.{AreKept, IsKept, IsMarked, IsNumbered, IsNumbering, JumpsTo, landing_by, landing_from, no_place, place_at}
+use Rattle.bver_form.specs.Targets.{AreKept, IsKept, IsMarked, IsNumbered, IsNumbering, NumbersSlot, JumpsTo, landing_by, landing_from, no_place, place_at}
 
 -- ---- where jumps lead
 
@@ -101,6 +101,7 @@ numbering_none marks places size nothing = record {
   few = omega arith;
   all = λ slot below marked. absurd (omega (arith, below));
   only = λ slot below. absurd (omega (arith, below));
+  used = λ place below. absurd (omega (arith, below));
   either = λ slot. inr (nothing slot);
   rest = λ slot past. nothing slot;
   rising = λ a b order below under. absurd (omega (arith, below));
@@ -116,6 +117,7 @@ numbering_skip marks places count upto unmarked h = record {
         | inr past ↦ absurd (unmarked (subst (λ (k : ℕ). IsMarked marks k) (omega (arith, past, below)) marked))
       ];
   only = h.only;
+  used = h.used;
   either = h.either;
   rest = λ slot past. h.rest slot (omega (arith, past));
   rising = h.rising;
@@ -137,6 +139,11 @@ numbering_next marks places count upto inside few marked h = record {
           | inl beyond ↦ absurd (outside slot beyond (rw (other slot (λ same. omega (arith, same, beyond))) at below))
           | inr here ↦ subst (λ (k : ℕ). IsMarked marks k) (omega (arith, past, here)) marked
         ]
+      ];
+  used = λ place below.
+      elim (cases_lt place count) [
+        | inl low ↦ still place low (h.used place low)
+        | inr new ↦ record { slot = upto; is = at upto refl ∙ omega (arith, new, below) }
       ];
   either = λ slot.
       elim (cases_lt slot upto) [
@@ -169,6 +176,13 @@ numbering_next marks places count upto inside few marked h = record {
     at : (k : ℕ) → k ≡ upto → place_at (slice_set places upto count) k ≡ count
     at k same = ap (λ (j : ℕ). place_at (slice_set places upto count) j) same ∙ get_or-set_same places upto count no_place (omega (arith, inside, h.size))
 
+    -- a number that was given stays: the slot that has it is another
+    still : (place : ℕ) → place < count → NumbersSlot places place → NumbersSlot (slice_set places upto count) place
+    still place low earlier = record {
+      slot = earlier.slot;
+      is = other earlier.slot (λ same. omega (arith, low, h.few, inside, few, sym earlier.is ∙ ap (λ (k : ℕ). place_at places k) same ∙ h.rest upto (omega arith))) ∙ earlier.is;
+    }
+
     -- an earlier slot has a place that is below the count, or none
     lower : (k : ℕ) → k < upto → place_at places k < count + 1 → place_at places k < count
     lower k earlier below =
@@ -185,6 +199,7 @@ numbered marks places count upto all h = record {
   size = h.size;
   all = λ slot marked. h.all slot (omega (arith, all, below slot marked)) marked;
   only = h.only;
+  used = h.used;
   rising = h.rising;
 }
   where

@@ -32,7 +32,7 @@ IsSupportedFlow Unsupported = ⊥
 abbrev pub IsSupported : Insn → Type 0
 IsSupported insn = IsSupportedFlow (flow_of insn)
 
--- the frame pointer r10 is read-only (section 2)
+-- the frame pointer r10 is read-only
 abbrev pub LeavesFrame : Insn → Type 0
 LeavesFrame insn = IfSome (written_register insn) (λ register. register ≢ 10)
 

@@ -55,11 +55,17 @@ no_place = 65535
 abbrev pub place_at : List ℕ → (slot : ℕ) → ℕ
 place_at places slot = slice_index_or places slot no_place
 
--- the marked slots are numbered, by rising slot, below so many, and no other
+-- a slot has that number
+pub record NumbersSlot (places : List ℕ) (place : ℕ) : Type 0 where
+  pub slot : ℕ
+  pub is : place_at places slot ≡ place
+
+-- the marked slots are numbered from 0 on, by rising slot, and no other; there are so many
 pub record IsNumbered (marks : List Bool) (places : List ℕ) (count : ℕ) : Type 0 where
   pub size : length places ≡ length marks
   pub all : (slot : ℕ) → IsMarked marks slot → place_at places slot < count
   pub only : (slot : ℕ) → place_at places slot < count → IsMarked marks slot
+  pub used : (place : ℕ) → place < count → NumbersSlot places place
   pub rising : (a b : ℕ) → a < b → place_at places a < count → place_at places b < count → place_at places a < place_at places b
 
 -- the marked slots before one are numbered, and no other
@@ -68,6 +74,7 @@ pub record IsNumbering (marks : List Bool) (places : List ℕ) (count upto : ℕ
   pub few : count ≤ upto
   pub all : (slot : ℕ) → slot < upto → IsMarked marks slot → place_at places slot < count
   pub only : (slot : ℕ) → place_at places slot < count → IsMarked marks slot
+  pub used : (place : ℕ) → place < count → NumbersSlot places place
   pub either : (slot : ℕ) → (place_at places slot < count) ⊎ (place_at places slot ≡ no_place)
   pub rest : (slot : ℕ) → upto ≤ slot → place_at places slot ≡ no_place
   pub rising : (a b : ℕ) → a < b → place_at places a < count → place_at places b < count → place_at places a < place_at places b

@@ -42,7 +42,7 @@ fn check_slots(image: &Image) -> Result<(), Refused>
     Ok(())
 }
 
-/// Tests the form of a program (RFC 9669, sections 2, 4.3 and 5.4).
+/// Tests the form of a program (RFC 9669, sections 4.3 and 5.4, and choices of this project).
 ///
 /// # Errors
 ///

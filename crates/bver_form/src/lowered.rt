@@ -7,10 +7,10 @@ use bpf_insn::Register;
 use std::marker::Model;
 
 /// How many registers can be lowered for a loop: r0 to r9.
-const REGISTERS: usize = 10;
+const LOWERABLE: usize = 10;
 
 /// How many registers can be lowered for the eight loops that a program declares at most.
-const PAIRS: usize = 8 * REGISTERS;
+const PAIRS: usize = 8 * LOWERABLE;
 
 /// The registers that were lowered for each loop that a program declares: at its head nothing is known of them.
 #[derive(Drop)]
@@ -56,7 +56,7 @@ impl Lowered {
         requires register { register ≤ 9 }
         ensures { result ≡ is_lowered self.now place register }
     {
-        self.lowered[REGISTERS * place + usize::from(register.number())]
+        self.lowered[LOWERABLE * place + usize::from(register.number())]
     }
 
     /// Lowers the register for the loop, by its place among the declared ones. The place is below 8, and the register
@@ -67,7 +67,7 @@ impl Lowered {
         ensures lowered { self.new ≡ slice_set self.old (10 * place + register) true }
         ensures more { IsMore self.old self.new }
     {
-        let place = REGISTERS * place + usize::from(register.number());
+        let place = LOWERABLE * place + usize::from(register.number());
         if !self.lowered[place] {
             self.lowered[place] = true;
             self.count += 1;

@@ -11,7 +11,7 @@ pub enum Refusal {
     /// A jump leads outside the code, or to the second slot of an instruction.
     #[error("a jump leads outside the code or into an instruction")]
     Target,
-    /// A jump leads backward and is not the back jump of a declared loop.
+    /// A jump leads backward, or to its own slot, and is not the back jump of a declared loop.
     #[error("a backward jump is not that of a declared loop")]
     BackJump,
     /// The slots of a declared loop do not count its register down and jump back.
@@ -38,7 +38,7 @@ pub enum Refusal {
     /// The frame pointer r10 is written.
     #[error("the frame pointer is written")]
     FrameWrite,
-    /// A pointer may be moved too far.
+    /// A pointer may be moved too far, or by a number of unknown sign.
     #[error("a pointer may be moved too far")]
     PointerRange,
     /// A map does not exist, or a key may lie outside its map.

@@ -4,8 +4,8 @@
 //! [`CellSeat`] counts as `brun::Counters` says: `count` is one load of the cell's word, `ticket` one
 //! `fetch_add`, and neither waits for another thread. What a seat drew stands in proofs alone.
 //!
-//! The tickets of all seats for a cell are the numbers below its word, each once (`IsCounted` in `specs/`),
-//! whatever the threads do. [`Cells::take_back`] and [`Cells::drawn`] say so where every seat came back.
+//! The tickets of all seats for a cell are the numbers below its word, each once (modulo 2^64 from 2^64 tickets
+//! on; `IsCounted` in `specs/`), whatever the threads do. [`Cells::take_back`] and [`Cells::drawn`] say so where every seat came back.
 #![tactic(auto)]
 
 mod cells;

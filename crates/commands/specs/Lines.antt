@@ -57,7 +57,7 @@ pub record HasNoPort (line : List ℕ) (node : JobNodeValue) : Type 0 where
   pub port : ℕ
   pub packet : Cargo
   pub written : IsPacketLine line port packet
-  pub other : length node.holders ≤ port
+  pub other : length node.passes ≤ port
 
 -- the number of the fault of a line: it is no packet line, or it has no port of the node
 abbrev pub IsBad : List ℕ → JobNodeValue → ℕ → Type 0

@@ -86,7 +86,7 @@ impl From<Refused> for Fault<'_> {
     }
 }
 
-/// The node's configuration is within its limits, so only memory can be refused.
+/// Memory was refused, or the number of ports is one that no node has, which [`words`](crate::words) never gives.
 impl From<NodeFault> for Fault<'_> {
     ghost from_gives = { λ _ given. given ≡ NoMemory };
 

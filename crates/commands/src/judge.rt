@@ -35,7 +35,7 @@ use spw::read_line;
 use std::alloc::{AllocError, Global};
 use std::io::{self, Write};
 use std::sync::Wait;
-use target::{Served, Stop as Header};
+use target::{Served, Stop as PacketStop};
 
 /// The budget of the factory program, which has two steps.
 const FACTORY_BUDGET: u32 = 2;
@@ -170,8 +170,8 @@ fn print_served<'a, W: Write>(
     ensures quiet { IfErr result (StopsBy (λ _. W.contents out.new ≡ W.contents out.old)) }
 {
     match served {
-        Served::Stopped(Header::Discarded(discard)) => Ok(print_discard(out, port, discard)?),
-        Served::Stopped(Header::Answered(_))
+        Served::Stopped(PacketStop::Discarded(discard)) => Ok(print_discard(out, port, discard)?),
+        Served::Stopped(PacketStop::Answered(_))
         | Served::Unread
         | Served::Done(_)
         | Served::Window(_) => { print_reply(alloc, out, port, reply) }

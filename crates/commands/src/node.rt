@@ -77,8 +77,8 @@ impl<J: Room, R: Wait + Drop> JobNode<J, R> {
     /// may wait for readers only where it loads.
     pub fn serve(&mut self, alloc: Global, port: u8, packet: Packet) -> Option<Served>
         ensures served { IfSome result (λ served. Serves served port packet self.old self.new) }
-        ensures no_port { length self.old.holders ≤ port → (result ≡ None) × (self.new ≡ self.old) }
-        ensures own_port { port < length self.old.holders → result ≢ None }
+        ensures no_port { length self.old.passes ≤ port → (result ≡ None) × (self.new ≡ self.old) }
+        ensures own_port { port < length self.old.passes → result ≢ None }
     {
         let place = usize::from(port);
         if place >= self.passes.len() {

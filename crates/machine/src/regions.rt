@@ -13,7 +13,7 @@ pub enum Region {
     Front,
     /// The last 12 bytes of a command's header, at offsets 0 to 11.
     Tail,
-    /// The stack of 512 bytes, at offsets -512 to -1 (RFC 9669, section 2).
+    /// The stack of 512 bytes, at offsets -512 to -1 (a choice of this project).
     Stack,
 }
 

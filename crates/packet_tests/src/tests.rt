@@ -1,5 +1,4 @@
-//! What no clause says, crate by crate: values from outside, printed words, each call once, and memory that is
-//! refused.
+//! What no clause says, crate by crate: values from outside, printed words, and memory that is refused.
 
 mod crc;
 mod lines;

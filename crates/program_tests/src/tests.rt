@@ -11,8 +11,8 @@ pub const YES: [u8; 32] = [
     0xb7, 0x00, 0x00, 0x00, 0x00, 0x00, 0x00, 0x00, 0x95, 0x00, 0x00, 0x00, 0x00, 0x00, 0x00, 0x00,
 ];
 
-/// Forms that the table of outside vectors lacks, and their slots (RFC 9669, sections 4.2, 4.3.1 and
-/// 5.4).
+/// Forms that the table of outside vectors lacks, and two of worked examples, with their slots (RFC 9669,
+/// sections 4.2, 4.3.1 and 5.4).
 pub const RARE_FORMS: &str = "\
 swap32 r2|d702000020000000
 ldimm 1, r1, 7, 0|1811000007000000 0000000000000000

@@ -22,7 +22,7 @@ pub use faults::PublishFault;
 pub use history::{Opened, Publish, Room};
 pub use laws::{one_history, published_programs};
 pub use programs::Programs;
-pub use publisher::Publisher;
+pub use publisher::{LAST_SLOT, Publisher};
 pub use reader::{Reader, Taken};
 pub use staging::Staging;
 pub use told::Told;

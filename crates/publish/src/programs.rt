@@ -21,6 +21,10 @@ pub struct Programs;
 impl Programs {
     /// The programs of a node: what publishes them, and so many readers of them. Each slot begins with the
     /// factory program, of generation 0. The publisher keeps `rt`, since its end waits for readers.
+    ///
+    /// # Errors
+    ///
+    /// Memory is refused, or the history takes no program (no test met that).
     pub fn new<J: Room, R: Wait + Drop>(
         alloc: Global,
         rt: R,

@@ -18,8 +18,8 @@ use std::alloc::{AllocError, Global};
 use std::marker::Model;
 use std::sync::{Arc, Wait};
 
-/// The greatest slot.
-const LAST_SLOT: u8 = 3;
+/// The greatest slot of the four.
+pub const LAST_SLOT: u8 = 3;
 
 /// What changes the table of programs. Contracts see it as the list of what was published, which begins
 /// with the factory program. Its end waits for readers.
@@ -67,7 +67,7 @@ impl<J: Room, R: Wait + Drop> Publisher<J, R> {
     /// # Errors
     ///
     /// `Slot` for a slot above 3; `GenerationsFull` after 4,294,967,295 publishes; `Memory` where memory was
-    /// refused. What is published stays as it was.
+    /// refused, or the history takes no more (no test met that). What is published stays as it was.
     pub fn install(&mut self, slot: u8, program: Accepted) -> Result<Told<J>, PublishFault>
         requires { program.sizes ≡ sizes_of self.old }
         ensures published { OnOk result (self.new ≡ longer_history self.old slot program) }

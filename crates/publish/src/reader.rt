@@ -110,7 +110,8 @@ impl<J: Room> Reader<J> {
         self.known.advance(told.front());
     }
 
-    /// Takes the program of a slot, which is below 4. `None` where a program that was taken was never let go of.
+    /// Takes the program of a slot, which is below 4. `None` where a program that was taken was never let go of,
+    /// where the publisher is gone, and where the table shows less than is known (no test met that).
     pub fn take(&mut self, slot: u8) -> Option<Taken<'_, J>>
         requires slot { slot < 4 }
         ensures* unchanged { sem 𝓛

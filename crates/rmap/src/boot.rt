@@ -31,7 +31,7 @@ fn is_register(command: &Command, size: u32) -> bool
 }
 
 /// The place in the boot window.
-pub fn boot_place(command: &Command) -> Option<Place>
+pub(crate) fn boot_place(command: &Command) -> Option<Place>
     ensures { result ≡ boot_place command.now }
 {
     let kind = command.kind();

@@ -47,7 +47,7 @@ struct Taker<J: Room> {
 }
 
 impl<J: Room> Taker<J> {
-    /// Takes so often.
+    /// Takes so often. What was taken is read, so that it is not left out: the program's budget is 2.
     fn take(&mut self, rounds: u32) {
         for _ in 0..rounds {
             if let Some(taken) = self.reader.take(0) {

@@ -16,13 +16,10 @@ use crate::refusal::LoadRefusal;
 use bank::{Judged, judged_fault};
 use bpf::Image;
 use bver::{Accepted, MapSizes, verify};
-use publish::{Publisher, Reader, Room, Staging};
+use publish::{LAST_SLOT, Publisher, Reader, Room, Staging};
 use rmap::{Place, ReplyBuf, STAGING_SIZE, Status};
 use std::alloc::Global;
 use std::sync::Wait;
-
-/// The greatest slot.
-const LAST_SLOT: u8 = 3;
 
 /// The code of control data that is not right.
 fn control_code(control: ControlData) -> Option<u8>

@@ -26,7 +26,7 @@ pub enum Served {
     Stopped(Stop),
     /// No program judged it.
     Unread,
-    /// It was judged, and applied to its bank.
+    /// It was judged, and ended so at its bank.
     Done(Applied),
     /// It was judged, and ended with that status in the boot window.
     Window(Status),

@@ -152,6 +152,39 @@ fn compare_calls<W: Write>(alloc: Global, table: &str, out: &mut W) -> Result<()
     Ok(())
 }
 
+/// Compares the whole texts, and prints where they differ.
+fn compare_texts<W: Write>(alloc: Global, table: &str, out: &mut W) -> Result<()> {
+    let mut texts = Tally::new();
+    for line in table.lines() {
+        let Some((wanted, text)) = line.split_once('\t') else {
+            continue;
+        };
+        if !texts.count(answers(alloc, wanted, text)?) {
+            writeln!(out, "differs: {line}")?;
+        }
+    }
+    let Tally { agreeing, lines } = texts;
+    writeln!(out, "{agreeing} of {lines} texts agree")?;
+    Ok(())
+}
+
+/// Compares what is printed of the packets with the replies, and prints where it differs.
+fn compare_replies<W: Write>(printed: &str, table: &str, out: &mut W) -> Result<()> {
+    let mut replies = Tally::new();
+    let mut found = printed.lines();
+    for wanted in table.lines() {
+        if !replies.count(found.next() == Some(wanted)) {
+            writeln!(out, "differs: {wanted}")?;
+        }
+    }
+    if let Some(more) = found.next() {
+        writeln!(out, "differs: {more} is printed too")?;
+    }
+    let Tally { agreeing, lines } = replies;
+    writeln!(out, "{agreeing} of {lines} replies agree")?;
+    Ok(())
+}
+
 fn main(rt: HostRuntime) -> Result<()> {
     let mut insns = Tally::new();
     for line in rt.lines(rt.alloc()) {
@@ -166,31 +199,10 @@ fn main(rt: HostRuntime) -> Result<()> {
     let Tally { agreeing, lines } = insns;
     println!(rt; "{agreeing} of {lines} lines agree")?;
 
-    let mut texts = Tally::new();
-    for line in fs::read_to_string(&rt, TEXTS)?.lines() {
-        let Some((wanted, text)) = line.split_once('\t') else {
-            continue;
-        };
-        if !texts.count(answers(rt.alloc(), wanted, text)?) {
-            println!(rt; "differs: {line}")?;
-        }
-    }
-    let Tally { agreeing, lines } = texts;
-    println!(rt; "{agreeing} of {lines} texts agree")?;
-
     let mut out = io::writer(&rt);
+    compare_texts(rt.alloc(), &fs::read_to_string(&rt, TEXTS)?, &mut out)?;
     compare_loops(rt.alloc(), &fs::read_to_string(&rt, LOOPS)?, &mut out)?;
     compare_calls(rt.alloc(), &fs::read_to_string(&rt, CALLS)?, &mut out)?;
-
-    let mut replies = Tally::new();
     let printed = packets::printed(&rt, rt.alloc())?;
-    let mut found = printed.lines();
-    for wanted in fs::read_to_string(&rt, REPLIES)?.lines() {
-        if !replies.count(found.next() == Some(wanted)) {
-            println!(rt; "differs: {wanted}")?;
-        }
-    }
-    let Tally { agreeing, lines } = replies;
-    println!(rt; "{agreeing} of {lines} replies agree")?;
-    Ok(())
+    compare_replies(&printed, &fs::read_to_string(&rt, REPLIES)?, &mut out)
 }

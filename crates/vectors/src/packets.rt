@@ -19,6 +19,11 @@ pub fn printed<R: rt::Files + Input + Wait>(rt: &R, alloc: Global) -> Result<Str
         ports: 2,
     };
     let mut out = Vec::new(alloc);
-    perform(rt, alloc, &job, &mut HostFiles { rt }, &mut out).map_err(|_| anyhow!("cannot write"))?;
+    let status = perform(rt, alloc, &job, &mut HostFiles { rt }, &mut out).map_err(|_| anyhow!(
+        "cannot write"
+    ))?;
+    if status != 0 {
+        return Err(anyhow!("the exit status is {status}"));
+    }
     Ok(String::from_utf8(out)?)
 }

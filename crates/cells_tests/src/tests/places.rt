@@ -83,7 +83,7 @@ fn no_maps_have_seats(rt: HostRuntime) -> Result<(), Fail> {
     Ok(())
 }
 
-/// Seats that come back leave the words as they are.
+/// Where every seat came back the words can be read.
 #[test]
 fn seats_come_back(rt: HostRuntime) -> Result<(), Fail> {
     let sizes = MapSizes::new(&[1])?;

@@ -31,7 +31,7 @@ fn text_to_image_and_back(rt: HostRuntime) -> Result<(), Fail> {
 
 /// The counting loop, with names, comments and the loop's line last.
 #[test]
-fn loops_are_assembled_and_refused(rt: HostRuntime) -> Result<(), Fail> {
+fn loops_are_assembled_and_accepted(rt: HostRuntime) -> Result<(), Fail> {
     let alloc = rt.alloc();
     let text =
         "; counts to four\n.budget 15\nmov r0, 0\nmov r6, 4 ; the counter\nhead:\nadd r0, 1\nadd r6, -1\n\

@@ -192,6 +192,7 @@ fn usage_faults(rt: HostRuntime) -> Result<(), Fail> {
         "dis a --ports 2",
         "serve a",
         "sim a",
+        "policy a b",
         "help",
         "--help",
         "judge --help",
@@ -204,7 +205,7 @@ fn usage_faults(rt: HostRuntime) -> Result<(), Fail> {
 }
 
 #[test]
-fn text_of_a_missing_word(rt: HostRuntime) -> Result<(), Fail> {
+fn texts_and_statuses_of_faults(rt: HostRuntime) -> Result<(), Fail> {
     let fault = words(rt.alloc(), &["judge"]).err().ok_or("a job")?;
     let UsageFault::Parse(text) = &fault else {
         return Err(Fail::from("another fault"));
@@ -214,7 +215,9 @@ fn text_of_a_missing_word(rt: HostRuntime) -> Result<(), Fail> {
         "error: the following required arguments were not provided:\n  <LINES>\n\nUsage: rmapctl judge <LINES>\n\nFor more information, try '--help'.\n"
     );
     assert_eq!(rt; fault.status(), 2);
-    assert_eq!(rt; UsageFault::BadOption.status(), 2);
-    assert_eq!(rt; UsageFault::Memory.status(), 1);
+    let (bad, memory) = (UsageFault::BadOption, UsageFault::Memory);
+    assert_eq!(rt; (bad.status(), memory.status()), (2, 1));
+    let printed = format!(in rt.alloc(); "{bad}, {memory}")?;
+    assert_eq!(rt; printed.as_str(), "bad option, no memory");
     Ok(())
 }

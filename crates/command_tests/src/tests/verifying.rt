@@ -3,7 +3,7 @@
 use conformance::{run, verdict_image};
 use std::test::Fail;
 
-/// What `verify` prints of an image, and the exit status.
+/// The words of the job.
 const WORDS: [&str; 2] = ["verify", "image"];
 
 #[test]

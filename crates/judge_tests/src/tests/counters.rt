@@ -137,7 +137,8 @@ fn count_of_tickets(rt: HostRuntime) -> Result<(), Fail> {
     Ok(())
 }
 
-/// Lines that draw no ticket: a read-modify-write of length 3, a wrong header CRC, and no bank 1.
+/// Lines that draw no ticket: a read-modify-write of length 3, a wrong header CRC, no bank 1, and an unused
+/// code without a reply.
 #[test]
 fn no_run_draws_no_ticket(rt: HostRuntime) -> Result<(), Fail> {
     let alloc = rt.alloc();

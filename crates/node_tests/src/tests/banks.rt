@@ -1,4 +1,4 @@
-//! `bank`: outside rows, each call once, and memory that is refused.
+//! `bank`: outside rows, and memory that is refused.
 
 use bank::{Applied, Bank, BankFault, Journal, Judged, Share};
 use rmap::{Command, ReplyBuf, Status, Windows, header_fault};

@@ -145,10 +145,10 @@ fn finished<J: Room, R: Wait + Drop>(
 
 #[test]
 fn a_command_of_another_port_sees_the_bank(rt: HostRuntime) -> Result<(), Fail> {
-    both_ports_read::<Brand, _>(&rt, rt.alloc(), Opened::new())
+    one_writes_and_one_reads::<Brand, _>(&rt, rt.alloc(), Opened::new())
 }
 
-fn both_ports_read<J: Room, R: Wait + Abort>(
+fn one_writes_and_one_reads<J: Room, R: Wait + Abort>(
     rt: &R,
     alloc: Global,
     opened: Opened,
@@ -157,9 +157,9 @@ fn both_ports_read<J: Room, R: Wait + Abort>(
 {
     let (node, mut passes) = shared::<J, _>(rt, alloc, opened)?;
     let mut reply = ReplyBuf::new();
-    for port in [0, 1] {
+    for (port, line) in [(0, PLAIN_WRITE), (1, PLAIN_READ)] {
         let pass = passes.get_mut(port).ok_or("no pass")?;
-        let sent = packet(alloc, PLAIN_READ)?;
+        let sent = packet(alloc, line)?;
         let (fits, applied) = finished(rt, &node, pass, sent, &mut reply)?;
         assert!(rt; fits);
         assert_eq!(rt;
@@ -171,6 +171,8 @@ fn both_ports_read<J: Room, R: Wait + Abort>(
         }
         assert_eq!(rt; node.bank(0).lock(rt).entries().len(), port + 1);
     }
+    // The data CRC of what was written.
+    assert_eq!(rt; reply.bytes().last(), Some(&0x56));
     Ok(())
 }
 

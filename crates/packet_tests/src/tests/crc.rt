@@ -141,6 +141,6 @@ fn goes_on_from_an_earlier_crc(rt: HostRuntime) {
 }
 
 #[test]
-fn law_costs_nothing() {
+fn laws_are_called() {
     remainder_is_unique();
 }

@@ -100,7 +100,7 @@ fn long_line(alloc: Global, bytes: usize, between: &str, last: &str) -> Result<S
     Ok(line)
 }
 
-/// In one word, and in as many as there are bytes: the packet is read, and memory is not short for it.
+/// In two words, and in as many as there are bytes: the packet is read, and memory is not short for it.
 #[test]
 fn longest_packet_is_read(rt: HostRuntime) -> Result<(), Fail> {
     let mut bytes = vec![in rt.alloc(); 0; 4199]?;
@@ -118,8 +118,11 @@ fn longest_packet_is_read(rt: HostRuntime) -> Result<(), Fail> {
 #[test]
 fn longer_packet_is_refused(rt: HostRuntime) -> Result<(), Fail> {
     let alloc = rt.alloc();
-    for (last, fault) in [("FF", LineFault::TooLong), ("F", LineFault::BadHex)] {
-        let line = long_line(alloc, MAX_PACKET, "", last)?;
+    for (bytes, last, fault) in [
+        (MAX_PACKET, "FF", LineFault::TooLong),
+        (MAX_PACKET + 1, "F", LineFault::BadHex),
+    ] {
+        let line = long_line(alloc, bytes, "", last)?;
         assert_eq!(rt; read_line(alloc, line.as_str()).err(), Some(fault));
     }
     Ok(())
@@ -159,7 +162,7 @@ fn faults_have_numbers_and_words(rt: HostRuntime) -> Result<(), Fail> {
 }
 
 #[test]
-fn law_can_be_called() {
+fn laws_are_called() {
     line_is_unambiguous();
 }
 

@@ -208,9 +208,7 @@ fn tells_quota(rt: &impl Abort, image: &Image) {
     assert_eq!(rt; image.slots(), 9);
     assert_eq!(rt; image.budget(), 8);
     assert!(rt; image.loops().is_empty());
-    let Some(r1) = Register::new(1) else {
-        return;
-    };
+    let r1 = Register::new(1).unwrap();
     assert!(rt; image.insn(0) == Some(Insn::LoadMap { dst: r1, index: 0 }));
     assert!(rt; image.insn(1).is_none(), "a second slot");
     assert!(rt;
@@ -220,9 +218,7 @@ fn tells_quota(rt: &impl Abort, image: &Image) {
                 number: 2
             })
     );
-    let Some(r0) = Register::new(0) else {
-        return;
-    };
+    let r0 = Register::new(0).unwrap();
     let src = Operand::Immediate(5);
     let comparison = Comparison {
         condition: Condition::Less,
@@ -339,9 +335,7 @@ const EXITS: [Insn; 513] = [Insn::Exit; 513];
 
 #[test]
 fn each_count_of_parts_is_tested(rt: HostRuntime) {
-    let Some(register) = Register::new(0) else {
-        return;
-    };
+    let register = Register::new(0).unwrap();
     assert_eq!(rt; parts_fault(rt, &[], &[], 1), 4, "no slot");
     assert_eq!(rt; parts_fault(rt, &EXITS[..512], &[], 1), 0);
     assert_eq!(rt; parts_fault(rt, &EXITS, &[], 1), 4, "too many instructions");
@@ -392,11 +386,9 @@ const LOOPS: [(u16, u16, u16, u8, u8); 7] = [
 ];
 
 #[test]
-fn each_field_of_a_loop_is_tested(rt: HostRuntime) {
+fn each_field_of_a_loop_is_tested(rt: HostRuntime) -> Result<(), Fail> {
     for (head, back, bound, number, code) in &LOOPS {
-        let Some(register) = Register::new(*number) else {
-            return;
-        };
+        let register = Register::new(*number).ok_or("no register")?;
         let found = Loop {
             head: *head,
             back: *back,
@@ -409,6 +401,7 @@ fn each_field_of_a_loop_is_tested(rt: HostRuntime) {
             "at {back} {bound} {number}"
         );
     }
+    Ok(())
 }
 
 #[test]

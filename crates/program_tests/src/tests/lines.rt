@@ -7,6 +7,6 @@ use std::test::Fail;
 fn statement_of_a_line(rt: HostRuntime) -> Result<(), Fail> {
     let found = read_statement(rt.alloc(), "  mov r0 ,7; old")?;
     assert_eq!(rt; found.word, "mov");
-    assert_eq!(rt; found.operands.len(), 2);
+    assert_eq!(rt; found.operands.as_slice(), &["r0", "7"][..]);
     Ok(())
 }

@@ -55,6 +55,7 @@ const FAULTS: &str = "\
 .budget 1, 1/exit|1|2
 .budget 1/.loop 0, 1, 1/exit/exit|2|2
 .budget 1/.loop 0, 1, 1, r11/exit/exit|2|2
+.budget 1/lddw r0, x/exit|2|2
 .budget 1/mov r0, 2147483648/exit|2|3
 .budget 1/mov r0, -2147483649/exit|2|3
 .budget 1/mov r0, 4294967295/exit|2|3
@@ -103,6 +104,8 @@ exit|0|7
 
 /// Texts with several faults, and the one that is named.
 const ORDER: &str = "\
+.budget 1/.frob|0|6
+.budget 1/.loop 0, 1, 1, r0/exit/.frob|2|8
 .budget 1/frob r11, 2147483648/exit|2|1
 .budget 1/mov r11, 2147483648/exit|2|2
 .budget 1/mov r0, 2147483648, 1/exit|2|2
@@ -239,7 +242,7 @@ fn too_many_loops(rt: HostRuntime) -> Result<(), Fail> {
     Ok(())
 }
 
-/// Each label is looked for among all, and all are compared with one another.
+/// Ten thousand labels, and one that stands twice.
 #[test]
 fn many_labels(rt: HostRuntime) -> Result<(), Fail> {
     let alloc = rt.alloc();

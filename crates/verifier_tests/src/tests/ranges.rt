@@ -9,8 +9,8 @@
 //! has it.
 
 use absdom_num::{
-    Edges, Operands, Range, alu, byte_swap, edges_fit, edges_grow, move_signed, negate,
-    ones_are_least, ranges_are_ordered, refine, results_fit, results_grow,
+    Edges, Operands, Range, alu, byte_swap, edges_fit, edges_grow, edges_shrink, move_signed,
+    negate, ones_are_least, ranges_are_ordered, refine, results_fit, results_grow,
 };
 use bpf_insn::{Extension, Insn, Swap, SwapBits, Width};
 use std::alloc::Global;
@@ -185,6 +185,7 @@ jge r0, r1, +0|3 9|4 c|4 9, 4 9|3 9, 4 c
 jslt r0, r1, +0|3 9|2 5|3 4, 4 5|3 9, 2 5
 jsge32 r0, r1, +0|3 9|4 c|4 9, 4 9|3 9, 4 c
 jlt32 r0, r1, +0|3 9|2 5|3 4, 4 5|3 9, 2 5
+jne r0, r1, +0|3 9|5 5|3 9, 5 5|5 5, 5 5
 ";
 
 #[test]
@@ -206,7 +207,6 @@ jset r0, r1, +0|3 9|4 4
 jslt r0, r1, +0|3 8000000000000000|5 5
 jsgt32 r0, r1, +0|3 9|5 80000000
 jeq32 r0, r1, +0|3 100000000|5 5
-jne r0, r1, +0|3 9|5 5
 ";
 
 #[test]
@@ -217,6 +217,7 @@ fn comparisons_that_tell_nothing(rt: HostRuntime) -> Result<(), Fail> {
         let (dst, src) = (range(row.part()?)?, range(row.part()?)?);
         let edges = edges(rt.alloc(), insn, dst, src)?;
         assert_eq!(rt; edges.taken, Some(Operands { dst, src }), "{line}");
+        assert_eq!(rt; edges.not_taken, Some(Operands { dst, src }), "{line}");
     }
     Ok(())
 }
@@ -234,9 +235,10 @@ fn a_range_and_its_words(rt: HostRuntime) {
 }
 
 #[test]
-fn laws_can_be_called(_rt: HostRuntime) {
+fn laws_are_called() {
     results_fit();
     edges_fit();
+    edges_shrink();
     results_grow();
     edges_grow();
     ranges_are_ordered();

@@ -64,6 +64,8 @@ the source is refined too|ldxb r4, [r1+0]; mov r5, 4; jgt r5, r4, +2; mov r0, 0;
 a destination is its own source|mov r0, 5; add r0, r0; exit|3||ok
 a base is its own destination|mov r4, r2; ldxb r4, [r4+11]; mov r0, r4; exit|4||ok
 a constant is the last word|mov r0, -1; exit|2||ok
+a loop|.loop 2, 4, 4, r6; mov r0, 0; mov r6, 4; add r0, 1; add r6, -1; jne r6, 0, -3; exit|15||ok
+two loops|.loop 2, 7, 3, r6; .loop 3, 5, 4, r7; mov r0, 0; mov r6, 3; mov r7, 4; add r0, 1; add r7, -1; jne r7, 0, -3; add r6, -1; jne r6, 0, -6; exit|48||ok
 ";
 
 #[test]
@@ -79,7 +81,7 @@ an unset stack byte|ldxb r0, [r10-1]; exit|2||8 0
 below the stack|stb [r10-513], 1; mov r0, 0; exit|3||7 0
 r0 is unset on one path|jeq r3, 0, +1; mov r0, 0; exit|3||5 2
 a pointer is compared|mov r1, r10; jeq r1, 0, +1; mov r0, 0; exit|4||6 1
-and its budget is three|lddw r0, 0x102030405060708; le64 r0; rsh r0, 56; exit|3||15 0
+a budget below the weight of a constant of two slots|lddw r0, 0x102030405060708; le64 r0; rsh r0, 56; exit|3||15 0
 a jump past the end|mov r0, 0; ja +1; exit|3||1 1
 a jump to the slot after the last|ja +1; exit|2||1 0
 a jump before the start|mov r0, 0; ja -3; exit|3||1 1
@@ -130,7 +132,7 @@ outside before unset|ldxdw r0, [r10-4]; exit|2||7 0
 a moved pointer is outside|add r1, 4; ldxb r0, [r1+0]; exit|3||7 1
 a port is no place of the tail|add r2, r3; ldxb r0, [r2+0]; exit|3||7 1
 one byte of two is unset|stb [r10-2], 1; ldxh r0, [r10-2]; exit|3||8 1
-a store at an open offset sets nothing|mov r4, r3; sub r10, 1; exit|3||10 1
+the frame pointer is subtracted from|mov r4, r3; sub r10, 1; exit|3||10 1
 a store at an open offset sets no byte|mov r4, r10; sub r4, r3; stb [r4-1], 1; ldxb r0, [r10-1]; exit|5||8 3
 a load at open offsets of which one is unset|stdw [r10-8], 1; stdw [r10-16], 1; stdw [r10-24], 1; stw [r10-28], 1; mov r4, r10; sub r4, r3; ldxb r0, [r4-1]; exit|8||8 6
 a store to the front|stb [r1+0], 1; exit|2||9 0
@@ -164,9 +166,7 @@ address 3|mov r0, 0; ldimm 3, r1, 1, 0; exit|3||16 1
 address 4|mov r0, 0; ldimm 4, r1, 1, 0; exit|3||16 1
 address 6|mov r0, 0; ldimm 6, r1, 1, 1; exit|3||16 1
 an address is no frame write first|ldimm 1, r10, 1, 0; exit|2||16 0
-a loop|.loop 2, 4, 4, r6; mov r0, 0; mov r6, 4; add r0, 1; add r6, -1; jne r6, 0, -3; exit|15||ok
-the same without its loop|mov r0, 0; mov r6, 4; add r0, 1; add r6, -1; jne r6, 0, -3; exit|15||2 4
-two loops|.loop 2, 7, 3, r6; .loop 3, 5, 4, r7; mov r0, 0; mov r6, 3; mov r7, 4; add r0, 1; add r7, -1; jne r7, 0, -3; add r6, -1; jne r6, 0, -6; exit|48||ok
+a loop that is not declared|mov r0, 0; mov r6, 4; add r0, 1; add r6, -1; jne r6, 0, -3; exit|15||2 4
 the frame pointer before a loop|.loop 2, 4, 4, r6; mov r10, 0; mov r6, 4; add r0, 1; add r6, -1; jne r6, 0, -3; exit|15||10 0
 a loop that ends in a second slot|.loop 0, 2, 1, r6; mov r0, 0; lddw r1, 1; exit|4||3 2
 the first slot decides|mov r0, 0; call 3; mov r10, 0; exit|4||13 1

@@ -51,6 +51,9 @@ fn entry_follows_the_calling_rules(rt: HostRuntime) -> Result<(), Fail> {
     );
     assert_eq!(rt; start.low(), 0);
     assert_eq!(rt; start.high(), 0);
+    for number in 4..10 {
+        assert_eq!(rt; entry.kind(register(number)?), AbsKind::Unset, "r{number}");
+    }
     Ok(())
 }
 
@@ -112,7 +115,9 @@ fn a_call_unsets_its_arguments(rt: HostRuntime) -> Result<(), Fail> {
     state.write(r1, AbsKind::Map(3));
     assert_eq!(rt; state.kind(r1).map(), Ok(3));
     state.call();
-    assert_eq!(rt; state.kind(r1), AbsKind::Unset);
+    for number in 1..6 {
+        assert_eq!(rt; state.kind(register(number)?), AbsKind::Unset, "r{number}");
+    }
     assert_eq!(rt; state.kind(r0), AbsKind::Num(Range::whole()));
     Ok(())
 }

@@ -6,9 +6,9 @@ use Rattle.commands.specs.JobNode.{job_node}
 use Rattle.commands.proofs.node.JobNode.new.Goals as goal
 
 -- nodes of the same parts
-same_node : (b banks : List BankValue) (p programs : List Publish) (h holders : List PassValue) (r reply : List ℕ) → b ≡ banks → p ≡ programs → h ≡ holders → r ≡ reply → job_node b p h r ≡ job_node banks programs holders reply
-same_node b banks p programs h holders r reply same_banks same_programs same_holders same_reply =
-    rw (same_banks, same_programs, same_holders, same_reply) refl
+same_node : (b banks : List BankValue) (p programs : List Publish) (h passes : List PassValue) (r reply : List ℕ) → b ≡ banks → p ≡ programs → h ≡ passes → r ≡ reply → job_node b p h r ≡ job_node banks programs passes reply
+same_node b banks p programs h passes r reply same_banks same_programs same_passes same_reply =
+    rw (same_banks, same_programs, same_passes, same_reply) refl
 
 pub returns-clause-made : goal.returns-clause-made
 returns-clause-made g c =

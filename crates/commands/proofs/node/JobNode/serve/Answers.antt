@@ -8,26 +8,26 @@ use Rattle.commands.proofs.node.JobNode.serve.Goals as goal
 
 pub invariant_of-self : goal.invariant_of-self
 invariant_of-self g c =
-    let holders = c.self.inside.passes.items in
+    let passes = c.self.inside.passes.items in
     let pass = c.index_mut-pass.result.now in
-    let below : c.from-place.result < length holders = search rules in
-    let own : slice_get holders c.from-place.result ≡ Some pass = slice_get-get_or holders c.from-place.result pass below ∙ ap Some (sym c.index_mut-pass.ensures.value) in
-    let whole : ArePaired c.self.inside.banks holders = c.self.invariant.paired in
-    record { paired = c.serve_packet.ensures.all holders c.from-place.result whole own }
+    let below : c.from-place.result < length passes = search rules in
+    let own : slice_get passes c.from-place.result ≡ Some pass = slice_get-get_or passes c.from-place.result pass below ∙ ap Some (sym c.index_mut-pass.ensures.value) in
+    let whole : ArePaired c.self.inside.banks passes = c.self.invariant.paired in
+    record { paired = c.serve_packet.ensures.all passes c.from-place.result whole own }
 
 pub returns-clause-served : goal.returns-clause-served
 returns-clause-served g c =
-    let holders = c.self.inside.passes.items in
+    let passes = c.self.inside.passes.items in
     let pass = c.index_mut-pass.result.now in
-    let below : c.from-place.result < length holders = search rules in
-    let own : slice_get holders c.from-place.result ≡ Some pass = slice_get-get_or holders c.from-place.result pass below ∙ ap Some (sym c.index_mut-pass.ensures.value) in
-    let whole : ArePaired c.self.inside.banks holders = c.self.invariant.paired in
+    let below : c.from-place.result < length passes = search rules in
+    let own : slice_get passes c.from-place.result ≡ Some pass = slice_get-get_or passes c.from-place.result pass below ∙ ap Some (sym c.index_mut-pass.ensures.value) in
+    let whole : ArePaired c.self.inside.banks passes = c.self.invariant.paired in
     let paired = whole.each c.from-place.result pass own in
     record {
       holder = pass;
       left = c.serve_packet.new.pass;
-      own = ap (λ (s : JobNodeValue). slice_get s.holders c.args.port) (sym c.self.view_is)
-          ∙ ap (λ (k : ℕ). slice_get holders k) (sym c.from-place.ensures) ∙ own;
+      own = ap (λ (s : JobNodeValue). slice_get s.passes c.args.port) (sym c.self.view_is)
+          ∙ ap (λ (k : ℕ). slice_get passes k) (sym c.from-place.ensures) ∙ own;
       others = search rules;
       answered = subst (λ (s : JobNodeValue). IsAnswered c.serve_packet.result c.args.packet (parts s.banks s.programs) (parts c.serve_packet.new.banks c.serve_packet.new.publisher) pass c.serve_packet.new.pass c.serve_packet.new.reply)
           c.self.view_is (c.serve_packet.ensures.answered paired);
