@@ -16,7 +16,7 @@ use Rattle.rmap.specs.Windows.{WindowsValue, bank_place, lies_inside}
 use Rattle.bver.specs.Justified.{AcceptedValue}
 use Rattle.bank.specs.declared.bank.Applied.{Applied}
 use Rattle.bank.specs.Laws.{ExtentsStay}
-use Rattle.bank.specs.Records.{BankValue, ShareValue, JudgedValue, extent_of, after_command, after_record, answer_of, has_room, next_share, first_share, is_next, fits}
+use Rattle.bank.specs.Records.{BankValue, ShareValue, JudgedValue, extent_of, after_command, after_record, answer_of, has_room, next_share, first_share, is_bank_place, is_next, fits}
 use Rattle.target.specs.declared.config.BankConfig.{BankConfig}
 use base.Stored.{Gv}
 use Rattle.machine.specs.declared.calls.Call.{Call}
@@ -68,10 +68,10 @@ own_share b share j port h same =
       | false ↦ h
     ]
 
-three : (a b c : Bool) → (a && b && c) ≡ true → (a ≡ true) × (b ≡ true)
-three true true c e = (refl, refl)
-three true false c e = absurd cc
-three false b c e = absurd cc
+first_two : (a b c d : Bool) → (a && b && c && d) ≡ true → (a ≡ true) × (b ≡ true)
+first_two true true c d e = (refl, refl)
+first_two true false c d e = absurd cc
+first_two false b c d e = absurd cc
 
 same_port : (a b : ℕ) → eqb a b ≡ true → a ≡ b
 same_port a b e = grind (arith, nat_tests)
@@ -86,7 +86,7 @@ pub agrees : (old new : BankValue) (h after : PassValue) (j : JudgedValue) (resu
 agrees old new h after j result bytes below finished fit =
     let share = share_of h j.place in
     let end = finished.applied fit in
-    let tests = three (eqb share.port j.port) (is_next old share) (lies_inside old.first (length old.bytes) (command_of j.packet)) fit in
+    let tests = first_two (eqb share.port j.port) (is_next old share) (is_bank_place j.place) (lies_inside old.first (length old.bytes) (command_of j.packet)) fit in
     let own = own_share old share j share.port (refl, tests.1) (sym (same_port share.port j.port tests.0)) in
     let next : is_next (after_command old share j) (next_share old share j) ≡ true = own.1 in
     let written : share_of (with_share h j.place (next_share old share j)) j.place ≡ next_share old share j = share_written h j.place (next_share old share j) below in
