@@ -206,7 +206,7 @@ impl Bank {
         ensures share { share.new ≡ next_share self.old share.old judged }
     {
         let room = self.has_room(judged.port());
-        let status = answer(&mut self.bytes, self.first, room, &judged, reply);
+        let status = carry_out_on(&mut self.bytes, self.first, room, &judged, reply);
         if !room {
             drop(judged.into_packet());
             return Applied {
@@ -238,8 +238,9 @@ impl Bank {
     }
 }
 
-/// Does what a judged command asks for to the bytes of a bank, if it may be done, and leaves the reply.
-fn answer(
+/// Does what a judged command asks for to the bytes of a bank, if it may be done, and leaves the reply:
+/// as `carry_out` does it to bytes that are lent.
+fn carry_out_on(
     bytes: &mut Vec<u8>,
     first: u32,
     room: bool,

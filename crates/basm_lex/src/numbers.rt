@@ -108,10 +108,7 @@ fn decimal(word: &str) -> Result<i32, NumberFault>
     if !is_decimal(word) {
         return Err(NumberFault::Form);
     }
-    match word.parse::<i32>() {
-        Ok(value) => Ok(value),
-        Err(_) => Err(NumberFault::Range),
-    }
+    word.parse::<i32>().map_err(|_| NumberFault::Range)
 }
 
 fn wide_decimal(word: &str) -> Result<u64, NumberFault>
@@ -122,15 +119,10 @@ fn wide_decimal(word: &str) -> Result<u64, NumberFault>
         return Err(NumberFault::Form);
     }
     if word.starts_with('-') {
-        match word.parse::<i64>() {
-            Ok(value) => Ok(value.cast_unsigned()),
-            Err(_) => Err(NumberFault::Range),
-        }
+        let value = word.parse::<i64>().map_err(|_| NumberFault::Range)?;
+        Ok(value.cast_unsigned())
     } else {
-        match word.parse::<u64>() {
-            Ok(value) => Ok(value),
-            Err(_) => Err(NumberFault::Range),
-        }
+        word.parse::<u64>().map_err(|_| NumberFault::Range)
     }
 }
 
@@ -141,10 +133,7 @@ fn long_decimal(digits: &str) -> Result<u32, NumberFault>
     if !is_numeral(digits, 10) {
         return Err(NumberFault::Form);
     }
-    match digits.parse::<u32>() {
-        Ok(value) => Ok(value),
-        Err(_) => Err(NumberFault::Range),
-    }
+    digits.parse::<u32>().map_err(|_| NumberFault::Range)
 }
 
 /// Whether the word is decimal digits after an optional minus.

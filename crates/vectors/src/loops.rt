@@ -13,9 +13,10 @@ fn ends(image: &Image, none: &MapSizes, verdict: u64, steps: u32) -> bool {
     after(steps) == Ending::Verdict(verdict) && after(steps.saturating_sub(1)) == Ending::OutOfSteps
 }
 
-/// Whether the verifier has this answer to the image: `ok`, or the code and the slot of its refusal; and, where
-/// it is accepted, whether a run has this verdict after so many steps.
-pub fn agrees(alloc: Global, digits: &str, answer: &str, run: &str) -> Result<bool> {
+/// Whether the verifier has the answer of the row to the image: `ok`, or the code and the slot of its refusal; and,
+/// where it is accepted, whether a run has the verdict of the row after so many steps.
+pub fn agrees(alloc: Global, digits: &str, row: &str) -> Result<bool> {
+    let (answer, run) = row.split_once('\t').unwrap_or((row, ""));
     let none = MapSizes::new(&[])?;
     let bytes = hex::decode(alloc, digits).context("reading the digits")?;
     let image = Image::read(alloc, &bytes)?;

@@ -119,52 +119,25 @@ impl Tally {
     }
 }
 
-/// Compares the programs with loops, and prints where they differ.
-fn compare_loops<W: Write>(alloc: Global, table: &str, out: &mut W) -> Result<()> {
-    let mut programs = Tally::new();
+/// Compares the lines of a table, each of which has a tab, and prints where they differ. The lines are of what is
+/// named.
+fn compare<W: Write, F: Fn(&str, &str) -> Result<bool>>(
+    table: &str,
+    what: &str,
+    agrees: F,
+    out: &mut W,
+) -> Result<()> {
+    let mut rows = Tally::new();
     for line in table.lines() {
-        let Some((image, row)) = line.split_once('\t') else {
+        let Some((first, rest)) = line.split_once('\t') else {
             continue;
         };
-        let (answer, run) = row.split_once('\t').unwrap_or((row, ""));
-        if !programs.count(loops::agrees(alloc, image, answer, run)?) {
+        if !rows.count(agrees(first, rest)?) {
             writeln!(out, "differs: {line}")?;
         }
     }
-    let Tally { agreeing, lines } = programs;
-    writeln!(out, "{agreeing} of {lines} programs with loops agree")?;
-    Ok(())
-}
-
-/// Compares the programs that ask counters, and prints where they differ.
-fn compare_calls<W: Write>(alloc: Global, table: &str, out: &mut W) -> Result<()> {
-    let mut programs = Tally::new();
-    for line in table.lines() {
-        let Some((image, row)) = line.split_once('\t') else {
-            continue;
-        };
-        if !programs.count(calls::agrees(alloc, image, row)?) {
-            writeln!(out, "differs: {line}")?;
-        }
-    }
-    let Tally { agreeing, lines } = programs;
-    writeln!(out, "{agreeing} of {lines} programs with calls agree")?;
-    Ok(())
-}
-
-/// Compares the whole texts, and prints where they differ.
-fn compare_texts<W: Write>(alloc: Global, table: &str, out: &mut W) -> Result<()> {
-    let mut texts = Tally::new();
-    for line in table.lines() {
-        let Some((wanted, text)) = line.split_once('\t') else {
-            continue;
-        };
-        if !texts.count(answers(alloc, wanted, text)?) {
-            writeln!(out, "differs: {line}")?;
-        }
-    }
-    let Tally { agreeing, lines } = texts;
-    writeln!(out, "{agreeing} of {lines} texts agree")?;
+    let Tally { agreeing, lines } = rows;
+    writeln!(out, "{agreeing} of {lines} {what} agree")?;
     Ok(())
 }
 
@@ -200,9 +173,25 @@ fn main(rt: HostRuntime) -> Result<()> {
     println!(rt; "{agreeing} of {lines} lines agree")?;
 
     let mut out = io::writer(&rt);
-    compare_texts(rt.alloc(), &fs::read_to_string(&rt, TEXTS)?, &mut out)?;
-    compare_loops(rt.alloc(), &fs::read_to_string(&rt, LOOPS)?, &mut out)?;
-    compare_calls(rt.alloc(), &fs::read_to_string(&rt, CALLS)?, &mut out)?;
+    let alloc = rt.alloc();
+    compare(
+        &fs::read_to_string(&rt, TEXTS)?,
+        "texts",
+        |wanted, text| answers(alloc, wanted, text),
+        &mut out,
+    )?;
+    compare(
+        &fs::read_to_string(&rt, LOOPS)?,
+        "programs with loops",
+        |image, row| loops::agrees(alloc, image, row),
+        &mut out,
+    )?;
+    compare(
+        &fs::read_to_string(&rt, CALLS)?,
+        "programs with calls",
+        |image, row| calls::agrees(alloc, image, row),
+        &mut out,
+    )?;
     let printed = packets::printed(&rt, rt.alloc())?;
     compare_replies(&printed, &fs::read_to_string(&rt, REPLIES)?, &mut out)
 }

@@ -1,6 +1,7 @@
 //! Programs that ask counters: what the verifier answers, and how many steps a run of an accepted one takes with
 //! which verdict, for a list of answers. Both were computed by hand from docs/BPF.md and RFC 9669.
 
+use super::answers_of;
 use bver::verify;
 use slow_machine::{Ending, run};
 use std::alloc::Global;
@@ -71,15 +72,6 @@ two ports meet, port 1|.loop 10, 16, 4096, r9; mov r6, r3; jgt r6, 1, +15; ldmap
 two ports meet, port 2|.loop 10, 16, 4096, r9; mov r6, r3; jgt r6, 1, +15; ldmap r1, 0; mov r2, r6; call 2; mov r7, r0; mov r8, 1; sub r8, r6; mov r9, 4096; ldmap r1, 0; mov r2, r8; call 1; jgt r0, r7, +4; add r9, -1; jne r9, 0, -7; mov r0, 10; exit; mov r0, 0; exit|24589|2|ok|2||4|10
 ";
 
-/// The answers of a row.
-fn answers(alloc: Global, text: &str) -> Result<Vec<u64>, Fail> {
-    let mut numbers = Vec::new(alloc);
-    for word in text.split_whitespace() {
-        numbers.push(word.parse::<u64>()?)?;
-    }
-    Ok(numbers)
-}
-
 /// The run ends with that verdict, at its last step and not before.
 fn check_run(
     rt: &impl Abort,
@@ -91,7 +83,7 @@ fn check_run(
     let image = image_of_text(alloc, text, 65_536)?;
     let sizes = sizes(alloc, maps)?;
     let port = row.part()?.parse::<u8>()? % 32;
-    let answers = answers(alloc, row.part()?)?;
+    let answers = answers_of(alloc, row.part()?)?;
     let steps = row.part()?.parse::<u32>()?;
     let verdict = row.part()?.parse::<u64>()?;
     let whole = run(&image, &sizes, &FRONT, &TAIL, port, &answers, steps);

@@ -1,20 +1,12 @@
 //! Programs that ask counters, run by turns: each question gets the next of some answers.
 
+use super::answers_of;
 use bver::{MapSizes, verify};
 use slow_machine::Ending;
 use std::alloc::Global;
 use std::process::Abort;
 use std::test::Fail;
 use trial::{FRONT, Row, TAIL, by_turns, image_of_text, sizes};
-
-/// The answers, with spaces between them.
-fn answers_of(alloc: Global, text: &str) -> Result<Vec<u64>, Fail> {
-    let mut answers = Vec::new(alloc);
-    for word in text.split_whitespace() {
-        answers.push(word.parse::<u64>()?)?;
-    }
-    Ok(answers)
-}
 
 /// A program that is run: where, with which answers, and what comes of it.
 #[derive(Drop)]
