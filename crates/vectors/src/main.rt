@@ -126,7 +126,9 @@ fn compare<W: Write, F: Fn(&str, &str) -> Result<bool>>(
     what: &str,
     agrees: F,
     out: &mut W,
-) -> Result<()> {
+) -> Result<()>
+    requires { F.IsAlwaysCallable agrees }
+{
     let mut rows = Tally::new();
     for line in table.lines() {
         let Some((first, rest)) = line.split_once('\t') else {
