@@ -7,6 +7,7 @@ use Rattle.machine.specs.declared.calls.Call.{Call}
 use Rattle.machine.specs.Memory.{Header}
 use Rattle.machine.specs.State.{State, entry_state}
 use Rattle.machine.specs.Step.{Question, Outcome, Next, Ask, Verdict, Trap, step}
+use Rattle.machine.specs.Laws.{IsHalt, HaltsAgree}
 use Rattle.machine.specs.Runs.{Path, entry, moves, answered, Runs, call}
 
 -- the state after an outcome, with the calls that are left
@@ -30,9 +31,6 @@ goes_moves o t calls e = rw e refl
 
 goes_asks : (o : Outcome) (question : Question) (on : ℕ → State) (c : Call) (calls : List Call) → o ≡ Ask question on → goes o (c ∷ calls) ≡ Some (on c.answer, calls)
 goes_asks o question on c calls e = rw e refl
-
-goes_ends : (o : Outcome) (verdict : ℕ) (calls : List Call) → o ≡ Verdict verdict → goes o calls ≡ None
-goes_ends o verdict calls e = rw e refl
 
 from_some : (program : Program) (header : Header) (x : Option (State × List Call)) (s : State) (calls : List Call) → x ≡ Some (s, calls) → goes_from program header x ≡ goes (step program header s) calls
 from_some program header x s calls e = rw e refl
@@ -65,25 +63,24 @@ ended program header port calls n (suc m) below e =
 last_of : (program : Program) (header : Header) (port : ℕ) (calls : List Call) (n : ℕ) (s : State) → Path program header port calls n s → after program header port calls n ≡ Some (s, [])
 last_of program header port calls n s path = rw append-nil at (follows program header port calls n s path [])
 
-no_more : (program : Program) (header : Header) (port : ℕ) (calls : List Call) (n verdict : ℕ) (s : State) → Path program header port calls n s → step program header s ≡ Verdict verdict → after program header port calls (suc n) ≡ None
-no_more program header port calls n verdict s path e =
-    from_some program header _ s [] (last_of program header port calls n s path) ∙ goes_ends _ verdict [] e
+-- ---- what halts goes no further
 
-not_later : (program : Program) (header : Header) (port : ℕ) (calls : List Call) (n m verdict : ℕ) (s t : State) → Path program header port calls n s → step program header s ≡ Verdict verdict → Path program header port calls m t → n < m → ⊥
-not_later program header port calls n m verdict s t path e longer below =
-    let nothing = ended program header port calls (suc n) m below (no_more program header port calls n verdict s path e) in
+halts : (o : Outcome) → IsHalt o → goes o [] ≡ None
+halts (Next t) h = absurd h
+halts (Ask question on) h = refl
+halts (Verdict verdict) h = refl
+halts Trap h = absurd h
+
+halted : (program : Program) (header : Header) (port : ℕ) (calls : List Call) (n : ℕ) (s : State) → Path program header port calls n s → IsHalt (step program header s) → after program header port calls (suc n) ≡ None
+halted program header port calls n s path h =
+    from_some program header _ s [] (last_of program header port calls n s path) ∙ halts _ h
+
+not_later : (program : Program) (header : Header) (port : ℕ) (calls : List Call) (n m : ℕ) (s t : State) → Path program header port calls n s → IsHalt (step program header s) → Path program header port calls m t → n < m → ⊥
+not_later program header port calls n m s t path h longer below =
+    let nothing = ended program header port calls (suc n) m below (halted program header port calls n s path h) in
     let something = last_of program header port calls m t longer in
     let clash : ◌≡◌ {A = Option (State × List Call)} None (Some (t, [])) = sym nothing ∙ something in
     cc
-
-same_length : (program : Program) (header : Header) (port : ℕ) (calls : List Call) (n m v w : ℕ) (s t : State) → Path program header port calls n s → step program header s ≡ Verdict v → Path program header port calls m t → step program header t ≡ Verdict w → n ≡ m
-same_length program header port calls n m v w s t path e other f =
-    ⊎_elim
-    (λ (same : n ≡ m). same)
-    (⊎_elim
-    (λ (below : n < m). absurd (not_later program header port calls n m v s t path e other below))
-    (λ (above : m < n). absurd (not_later program header port calls m n w t s other f path above)))
-    (cases_order n m)
 
 abbrev state_or : State → Option (State × List Call) → State
 state_or s None = s
@@ -92,15 +89,30 @@ state_or s (Some (t, calls)) = t
 same_state : (s t : State) → ◌≡◌ {A = Option (State × List Call)} (Some (s, [])) (Some (t, [])) → s ≡ t
 same_state s t e = ap (state_or s) e
 
+pub halts_are_one : HaltsAgree
+halts_are_one program header port calls n m s t path h other k =
+    let same : n ≡ m = ⊎_elim
+    (λ (same : n ≡ m). same)
+    (⊎_elim
+    (λ (below : n < m). absurd (not_later program header port calls n m s t path h other below))
+    (λ (above : m < n). absurd (not_later program header port calls m n t s other k path above)))
+    (cases_order n m)
+    in
+    let one = last_of program header port calls n s path in
+    let two = last_of program header port calls m t other in
+    let here = rw same at one in
+    (same, same_state s t (sym here ∙ two))
+
+-- ---- a verdict is a halt
+
+is_halt : (o : Outcome) (verdict : ℕ) → o ≡ Verdict verdict → IsHalt o
+is_halt o verdict e = rw e tt
+
 same_verdict : (v w : ℕ) → Verdict v ≡ Verdict w → v ≡ w
 same_verdict v w e = cc
 
 pub runs_are_one : (program : Program) (header : Header) (port : ℕ) (calls : List Call) (n m v w : ℕ) → Runs program header port calls n v → Runs program header port calls m w → (n ≡ m) × (v ≡ w)
 runs_are_one program header port calls n m v w r q =
-    let same = same_length program header port calls r.before q.before v w r.last q.last r.path r.exit q.path q.exit in
-    let one = last_of program header port calls r.before r.last r.path in
-    let two = last_of program header port calls q.before q.last q.path in
-    let here = rw same at one in
-    let state_is = same_state r.last q.last (sym here ∙ two) in
-    let verdict_is = sym r.exit ∙ ap (λ (x : State). step program header x) state_is ∙ q.exit in
-    (r.steps ∙ ap (λ k. k + 1) same ∙ sym q.steps, same_verdict v w verdict_is)
+    let one = halts_are_one program header port calls r.before q.before r.last q.last r.path (is_halt _ v r.exit) q.path (is_halt _ w q.exit) in
+    let verdict_is = sym r.exit ∙ ap (λ (x : State). step program header x) one.1 ∙ q.exit in
+    (r.steps ∙ ap (λ k. k + 1) one.0 ∙ sym q.steps, same_verdict v w verdict_is)

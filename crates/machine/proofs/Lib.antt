@@ -5,3 +5,4 @@ mod Fitting
 mod Filled
 mod Leaving
 mod Reading
+mod Front

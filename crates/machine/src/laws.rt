@@ -1,11 +1,23 @@
 //! Laws of the machine: what its definition comes to. These functions do nothing; their contracts are
 //! the laws.
 
-ghost use Rattle.machine.specs.Laws.{RunsAgree, SizesOnlyTrap, StepPerforms, InstructionsLeave, StepsLeave, InstructionsGoOn, QuestionsGoOn, BytesAreRead, ResultsFit, NumbersFit, VerdictsFit};
+ghost use Rattle.machine.specs.Laws.{AnswersDecide, RunsAgree, RunsFromTheFront, HaltsAgree, SizesOnlyTrap, StepPerforms, InstructionsLeave, StepsLeave, InstructionsGoOn, QuestionsGoOn, BytesAreRead, ResultsFit, NumbersFit, VerdictsFit};
 
 /// A run has one verdict, and one number of steps, for a header, a port and a list of helper calls.
 pub fn runs_agree()
     ensures { RunsAgree }
+{}
+
+/// With the same helper calls a run comes to one halt, at a question or with its verdict: for given calls there is one
+/// question or one verdict, and never both.
+pub fn halts_agree()
+    ensures { HaltsAgree }
+{}
+
+/// A run from its front: its first step, and then what ends from the state behind it.
+pub fn runs_from_the_front()
+    ensures front { RunsFromTheFront }
+    ensures answers { AnswersDecide }
 {}
 
 /// The sizes of the maps matter to traps alone.

@@ -15,12 +15,12 @@ mod words;
 
 pub use calls::Call;
 pub use laws::{
-    numbers_fit, questions_go_on, results_fit, runs_agree, sizes_only_trap, steps_leave,
-    steps_perform, stored_bytes_are_read,
+    halts_agree, numbers_fit, questions_go_on, results_fit, runs_agree, runs_from_the_front,
+    sizes_only_trap, steps_leave, steps_perform, stored_bytes_are_read,
 };
 pub use memory::loaded_value;
 pub use regions::{Region, STACK_SIZE};
-pub use sizes::{MapSizes, TooMany};
+pub use sizes::{MAX_CELLS, MapSizes, TooMany};
 pub use values::Value;
 pub use words::{
     alu_words, holds_words, low_part, modulus, negation, sign_extension, swapped_bytes, word,

@@ -10,7 +10,7 @@ use thiserror::Error;
 const MAX_MAPS: usize = 8;
 
 /// The most cells that all maps have together.
-const MAX_CELLS: u64 = 256;
+pub const MAX_CELLS: u16 = 256;
 
 /// More maps or cells than a node has, or a map of no cells.
 #[derive(Clone, Copy, Debug, PartialEq, Eq, Error)]
@@ -65,7 +65,7 @@ impl MapSizes {
         ensures sizes { IfOk result (λ s. s ≡ sizes.now) }
         ensures allowed { IsOk result ↔ AreSizes sizes.now }
     {
-        if sizes.len() > MAX_MAPS || !all_have_cells(sizes) || total(sizes) > MAX_CELLS {
+        if sizes.len() > MAX_MAPS || !all_have_cells(sizes) || total(sizes) > u64::from(MAX_CELLS) {
             return Err(TooMany);
         }
         let mut cells = [0; MAX_MAPS];
