@@ -1,3 +1,4 @@
 pub mod Cargo
 pub mod Fault
+pub mod Feeding
 pub mod Line

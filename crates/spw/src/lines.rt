@@ -1,10 +1,10 @@
 //! Packet lines: text that writes a port, the bytes of a packet and its end marker.
 
-ghost use Rattle.std.specs.Prelude.{◌≡◌, map, All, IfOk, IfErr, MatchResult};
-ghost use Rattle.spw.specs.Line.{words_of as words_in, IsHex, IsHexFault, IsNoMarker, IsNoPort, IsReading, LineIsUnambiguous, WriteBytes, WritesBytes, WritesPort, marker_word};
+ghost use Rattle.std.specs.Prelude.{◌≡◌, ◌≤◌, map, length, All, IfOk, IfErr, MatchResult};
+ghost use Rattle.spw.specs.Line.{words_of as words_in, AreNoParts, AreParts, IsBytesFault, IsHex, IsHexFault, IsNoMark, IsNoPort, IsReading, IsUnambiguous, WriteBytes, WritesBytes, WritesPort, mark_word, marker_word};
 
 use crate::faults::LineFault;
-use crate::packets::{End, Packet};
+use crate::packets::{End, MAX_PACKET, Packet};
 use std::alloc::{AllocError, Global};
 
 /// How many ports there are: their numbers are 0 to 31.
@@ -34,14 +34,44 @@ fn port_of(word: &str) -> Result<u8, LineFault>
     }
 }
 
+/// A port, the words between, and the last word of a line.
+type Parts<'w, 'a> = (u8, &'w [&'a str], &'a str);
+
+/// The words of a line taken apart: the port that the first writes, those between, and the last. `NoPort`
+/// where the first writes none, or there is none; `BadMarker` where there is no other.
+fn parts_of<'w, 'a>(words: &'w [&'a str]) -> Result<Parts<'w, 'a>, LineFault>
+    ensures { MatchResult result
+        (λ p. AreParts (map (λ word. word.now) words.now) p.0 (map (λ word. word.now) p.1.now) p.2.now)
+        (AreNoParts (map (λ word. word.now) words.now)) }
+{
+    let [port, rest @ ..] = words else {
+        return Err(LineFault::NoPort);
+    };
+    let port = port_of(port)?;
+    let [hex @ .., last] = rest else {
+        return Err(LineFault::BadMarker);
+    };
+    Ok((port, hex, last))
+}
+
 /// The marker that a word writes, or `BadMarker`.
 fn end_of(word: &str) -> Result<End, LineFault>
-    ensures { MatchResult result (λ end. word.now ≡ marker_word end) (IsNoMarker word.now) }
+    ensures { MatchResult result (λ end. word.now ≡ marker_word end) (IsNoMark marker_word word.now) }
 {
     match word {
         "EOP" => Ok(End::Eop),
         "EEP" => Ok(End::Eep),
         _ => Err(LineFault::BadMarker),
+    }
+}
+
+/// What a piece ends in by its last word: a marker, or `None` for `PART`; or `BadMarker`.
+fn mark_of(word: &str) -> Result<Option<End>, LineFault>
+    ensures { MatchResult result (λ mark. word.now ≡ mark_word mark) (IsNoMark mark_word word.now) }
+{
+    match word {
+        "PART" => Ok(None),
+        _ => Ok(Some(end_of(word)?)),
     }
 }
 
@@ -65,6 +95,18 @@ fn bytes_of(alloc: Global, words: &[&str]) -> Result<Vec<u8>, LineFault>
     Ok(bytes)
 }
 
+/// The bytes of a packet, or of a piece of one, that some words write: at most [`MAX_PACKET`].
+fn packet_bytes(alloc: Global, hex: &[&str]) -> Result<Vec<u8>, LineFault>
+    ensures { MatchResult result
+        (λ bytes. WriteBytes hex.now bytes.items × (length bytes.items ≤ 4200)) (IsBytesFault hex.now) }
+{
+    let bytes = bytes_of(alloc, hex)?;
+    if bytes.len() > MAX_PACKET {
+        return Err(LineFault::TooLong);
+    }
+    Ok(bytes)
+}
+
 /// The port and the packet that a line writes.
 ///
 /// A packet line has words separated by spaces: the port (decimal, 0 to 31), words with an even
@@ -75,22 +117,31 @@ fn bytes_of(alloc: Global, words: &[&str]) -> Result<Vec<u8>, LineFault>
 /// The faults are tested in this order: `NoPort`, `BadMarker`, `BadHex`, `TooLong`. `Memory` comes
 /// where memory was refused.
 pub fn read_line(alloc: Global, line: &str) -> Result<(u8, Packet), LineFault>
-    ensures { IsReading line.now result }
+    ensures { IsReading marker_word line.now (λ r. (r.0, r.1.bytes, r.1.end)) result }
 {
     let words = words_of(alloc, line)?;
-    let [port, rest @ ..] = words.as_slice() else {
-        return Err(LineFault::NoPort);
-    };
-    let port = port_of(port)?;
-    let [hex @ .., marker] = rest else {
-        return Err(LineFault::BadMarker);
-    };
-    let end = end_of(marker)?;
-    let bytes = bytes_of(alloc, hex)?;
+    let (port, hex, last) = parts_of(words.as_slice())?;
+    let end = end_of(last)?;
+    let bytes = packet_bytes(alloc, hex)?;
     Ok((port, Packet::new(bytes, end)?))
 }
 
-/// A law and no work: a line writes at most one port and one packet.
+/// The port, the bytes and the marker of the piece of a packet that a line writes: a packet line, whose last
+/// word may also be `PART`. Then there is no marker: the packet goes on with the next piece.
+///
+/// The faults are those of [`read_line`], in its order.
+pub fn read_part(alloc: Global, line: &str) -> Result<(u8, Vec<u8>, Option<End>), LineFault>
+    ensures { IsReading mark_word line.now (λ r. (r.0, r.1.items, r.2)) result }
+{
+    let words = words_of(alloc, line)?;
+    let (port, hex, last) = parts_of(words.as_slice())?;
+    let mark = mark_of(last)?;
+    let bytes = packet_bytes(alloc, hex)?;
+    Ok((port, bytes, mark))
+}
+
+/// A law and no work: a line writes at most one port and one packet, or one port and one piece of a packet.
 pub fn line_is_unambiguous()
-    ensures { LineIsUnambiguous }
+    ensures packet { IsUnambiguous marker_word }
+    ensures piece { IsUnambiguous mark_word }
 {}

@@ -1,0 +1,77 @@
+//! Packets that arrive in pieces.
+
+ghost use Rattle.std.specs.Prelude.{◌≡◌, ◌<◌, ◌+◌, ◌↔◌, ◌++◌, [], length, IsErrOf, IfOk, IfErr, OnOk, OnErr};
+ghost use Rattle.spw.specs.Feeding.{PacketIsJoin};
+
+use crate::faults::LineFault;
+use crate::packets::{End, MAX_PACKET, Packet};
+use bytes::BytesMut;
+use std::alloc::Global;
+use std::marker::Model;
+
+/// The bytes of a packet that has not ended yet, in the order of arrival. Room for the longest packet is
+/// taken when it is made, so that a piece needs no memory.
+#[derive(Drop)]
+pub struct Feed {
+    held: BytesMut,
+    alloc: Global,
+}
+
+impl Model for Feed {
+    ghost use Rattle.std.specs.Prelude.{ℕ, List, ◌≤◌, ◌+◌, length};
+
+    ghost Value = { List ℕ };
+
+    ghost view = { λ f. f.held.items };
+
+    ghost invariant = { λ f. (length f.held.items ≤ 4200) × (4200 ≤ length f.held.items + f.held.spare) };
+}
+
+impl Feed {
+    /// A feed that holds nothing. The only fault is `Memory`.
+    pub fn new(alloc: Global) -> Result<Feed, LineFault>
+        ensures ok { IfOk result (λ f. f ≡ []) }
+        ensures err { IfErr result (λ fault. fault ≡ LineFault.Memory) }
+    {
+        let held = BytesMut::with_capacity(alloc, MAX_PACKET)?;
+        Ok(Feed { held, alloc })
+    }
+
+    /// Takes a piece: it follows what is held. `TooLong` where they are together more than
+    /// [`MAX_PACKET`] bytes; then what is held stays.
+    pub fn piece(&mut self, bytes: &[u8]) -> Result<(), LineFault>
+        ensures ok { OnOk result (self.new ≡ self.old ++ bytes.now) }
+        ensures too_long { IsErrOf result LineFault.TooLong ↔ (4200 < length self.old + length bytes.now) }
+        ensures err { IfErr result (λ fault. fault ≡ LineFault.TooLong) }
+        ensures kept { OnErr result (self.new ≡ self.old) }
+    {
+        if bytes.len() > MAX_PACKET - self.held.len() {
+            return Err(LineFault::TooLong);
+        }
+        if self.held.extend_from_slice(bytes).is_err() {
+            unreachable!();
+        }
+        Ok(())
+    }
+
+    /// Ends the packet: the packet of what is held, with that marker. Nothing is held then. The only
+    /// fault is `Memory`; then what is held stays.
+    pub fn close(&mut self, end: End) -> Result<Packet, LineFault>
+        ensures ok { IfOk result (λ p. p ≡ record { bytes = self.old; end = end }) }
+        ensures empty { OnOk result (self.new ≡ []) }
+        ensures err { IfErr result (λ fault. fault ≡ LineFault.Memory) }
+        ensures kept { OnErr result (self.new ≡ self.old) }
+    {
+        let held = self.held.as_slice();
+        let mut bytes = Vec::with_capacity(self.alloc, held.len())?;
+        bytes.extend_from_slice(held)?;
+        let packet = Packet::new(bytes, end)?;
+        self.held.clear();
+        Ok(packet)
+    }
+}
+
+/// A law and no work: a packet is the join of its pieces, however it was cut.
+pub fn packet_is_join()
+    ensures { PacketIsJoin }
+{}
