@@ -9,3 +9,4 @@ pub mod Counters
 pub mod Raising
 pub mod Safety
 pub mod Regions
+pub mod Above

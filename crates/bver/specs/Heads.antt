@@ -10,6 +10,7 @@ use Rattle.absdom.specs.Kinds.{IsKindBelow}
 use Rattle.absdom.specs.State.{StateValue, kind_at}
 use Rattle.bver_form.specs.declared.refusal.Refusal.{Refusal}
 use Rattle.bver_form.specs.declared.refusal.Refusal.TheVariants.{LoopEntry}
+use Rattle.bver_form.specs.declared.refusal.Refused.{Refused}
 use Rattle.bver_form.specs.Lowered.{is_lowered}
 use Rattle.bver.specs.Justified.{IsHead, IsWrittenIn}
 
@@ -73,6 +74,11 @@ pub record Falls (b : BodyValue) (head : Option StateValue) (edge : StateValue) 
   pub head_number : IsTrue (is_number_at head register)
   pub edge_number : is_number (kind_at edge register) ≡ false
   pub written : IsWrittenIn b.program b.declared register
+
+-- an edge back to the head is refused there, since it neither lowers a register nor is covered
+pub record IsClosingFault (l : Loop) (refused : Refused) : Type 0 where
+  pub code : refused.code ≡ LoopEntry
+  pub slot : refused.slot ≡ l.head
 
 -- at the head of each loop that has it at the slot, what is known stands for every pass
 abbrev pub AreHeadsAt : Program → (slot : ℕ) → Option StateValue → Type 0

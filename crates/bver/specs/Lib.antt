@@ -1,4 +1,5 @@
 pub mod Codes
+pub mod Refusals
 pub mod Justified
 pub mod Operations
 pub mod Resolved

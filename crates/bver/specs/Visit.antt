@@ -13,7 +13,7 @@ use Rattle.absdom.specs.declared.cause.Cause.{Cause}
 use Rattle.absdom.specs.Edges.{Edges}
 use Rattle.absdom.specs.State.{StateValue, IsBelow, IsWhole}
 use Rattle.bver_form.specs.Jumps.{first_slot, target}
-use Rattle.bver.specs.Justified.{AreEdgesCovered, IsHead, IsCoveredIfAny, IsEntered, IsPermittedAt, region_at, knowledge_at}
+use Rattle.bver.specs.Justified.{AreEdgesCovered, IsHead, IsCovered, IsCoveredIfAny, IsEntered, IsPermittedAt, region_at, knowledge_at}
 use Rattle.bver.specs.Heads.{AreHeadsAt}
 use Rattle.bver.specs.Table.{TableValue, knowledge_beside, knowledge_in, knowledge_next}
 use Rattle.bver_form.specs.Targets.{IsPlain, landing_from}
@@ -27,6 +27,11 @@ IsGrown old new = (slot : ℕ) → IsCoveredIfAny (old slot) (new slot)
 -- no more is known at a slot than was, and than is known along an edge to it: what covers both covers it
 abbrev pub IsLeast : (old : Option StateValue) → StateValue → (new : Option StateValue) → Type 0
 IsLeast old edge new = (above : StateValue) → IsCoveredIfAny old (Some above) → IsBelow edge above → IsCoveredIfAny new (Some above)
+
+-- no more is known in a table than was, and than the state that was brought to a slot: what covers both covers it
+abbrev pub IsLeastNext : (old new : ℕ → Option StateValue) (next : ℕ) → StateValue → Type 0
+IsLeastNext old new next state =
+    (above : ℕ → Option StateValue) → IsGrown old above → IsCovered state (above next) → IsGrown new above
 
 -- something is known only where an instruction begins
 abbrev pub IsPlaced : Program → (known : ℕ → Option StateValue) → Type 0

@@ -1,11 +1,11 @@
 //! A loop that a program declares, with what stands at its head for every pass.
 
-ghost use Rattle.std.specs.Prelude.{◌≡◌, ◌≤◌, ◌<◌, ◌↔◌, IsTrue, OnOk, MatchResult, length};
+ghost use Rattle.std.specs.Prelude.{◌≡◌, ◌≤◌, ◌<◌, ◌↔◌, IfErr, IsTrue, OnOk, MatchResult, length};
 ghost use Rattle.bpf.specs.Program.{insn_at};
 ghost use Rattle.bver.specs.Justified.{IsCovered, IsWrittenBy, IsWrittenIn};
 ghost use Rattle.bver_form.specs.Lowered.{IsMore, IsSettled};
 ghost use Rattle.bver.specs.Table.{knowledge_in};
-ghost use Rattle.bver.specs.Heads.{BodyValue, Falls, IsDeclared, IsEntryFault, IsRaised, IsRaisedKind, IsWithinBound, opened_kind};
+ghost use Rattle.bver.specs.Heads.{BodyValue, Falls, IsClosingFault, IsDeclared, IsEntryFault, IsRaised, IsRaisedKind, IsWithinBound, opened_kind};
 
 use crate::table::{Table, is_number};
 use absdom::{AbsKind, State};
@@ -202,6 +202,7 @@ impl<'a> Body<'a> {
         ensures covered { OnOk result
             (IsSettled lowered.old lowered.new
             → IsCovered edge.now (knowledge_in table.now self.now.declared.head)) }
+        ensures refused { IfErr result (IsClosingFault self.now.declared) }
     {
         let head = self.declared.head;
         let before = lowered.count();

@@ -1,6 +1,6 @@
 //! What an instruction does to the table: the edges that it follows, and why it is refused.
 
-ghost use Rattle.std.specs.Prelude.{◌≡◌, ◌+◌, IfOk, IsTrue, OnOk, Ok, Some};
+ghost use Rattle.std.specs.Prelude.{◌≡◌, ◌+◌, IfErr, IfOk, IsErr, IsSome, IsTrue, MatchResult, OnOk, Ok, Some, false};
 ghost use Rattle.bpf_insn.specs.Spelling.{slots_of};
 ghost use Rattle.machine.specs.Step.{insn_at, is_map};
 ghost use Rattle.absdom.specs.Effect.{after_insn};
@@ -12,9 +12,10 @@ ghost use Rattle.bver_form.specs.Jumps.{IsJump};
 ghost use Rattle.bver.specs.Codes.{refusal_of};
 ghost use Rattle.bver.specs.Justified.{AsksCell, IsCovered, IsCoveredIfAny, IsNumber, IsPermitted, IsResultCovered, accessed_region, edges_of_comparison, pointed_region};
 ghost use Rattle.bver_form.specs.Lowered.{IsMore, IsSettled};
+ghost use Rattle.bver.specs.Refusals.{IsValueFault, IsValueRefusal};
 ghost use Rattle.bver.specs.Table.{knowledge_beside, knowledge_in, knowledge_next};
 ghost use Rattle.bver_form.specs.Targets.{IsPlain};
-ghost use Rattle.bver.specs.Visit.{AreFollowed, GoesOnPlain, HasNext, IsExtendedAfter, IsNext, IsTableOf, LeadsBy, knowledge_at_target};
+ghost use Rattle.bver.specs.Visit.{AreFollowed, GoesOnPlain, HasNext, IsExtendedAfter, IsLeastNext, IsNext, IsTableOf, LeadsBy, knowledge_at_target};
 
 use crate::table::Table;
 use crate::visit::Visit;
@@ -25,7 +26,8 @@ use bver_form::{Lowered, Refusal, Refused};
 
 /// The refusal for what an instruction may do wrong.
 fn refusal_of(cause: Cause) -> Refusal
-    ensures { result ≡ refusal_of cause }
+    ensures is { result ≡ refusal_of cause }
+    ensures value { IsValueRefusal result }
 {
     match cause {
         Cause::UnsetOperand => Refusal::Unset,
@@ -53,6 +55,7 @@ fn jump(
         → IsCovered state.now (knowledge_at_target visit.now distance (knowledge_in table.new))) }
     ensures extended { IsExtendedAfter visit.now table.old table.new }
     ensures more { IsMore lowered.old lowered.new }
+    ensures refused { IfErr result (IsValueFault visit.now.program) }
 {
     order_of_states();
     match visit.landing(distance) {
@@ -80,6 +83,7 @@ fn follow_taken(
     distance: i32,
     edge: &Option<Operands>,
 ) -> Result<(), Refused>
+    requires begins { IsSome (insn_at visit.now.program visit.now.slot) }
     requires table { IsTableOf visit.now table.old }
     requires jump { IsJump visit.now.program visit.now.slot distance }
     requires leads { LeadsBy visit.now distance }
@@ -89,6 +93,7 @@ fn follow_taken(
         (knowledge_at_target visit.now distance (knowledge_in table.new))) }
     ensures extended { IsExtendedAfter visit.now table.old table.new }
     ensures more { IsMore lowered.old lowered.new }
+    ensures refused { IfErr result (IsValueFault visit.now.program) }
 {
     order_of_states();
     match edge {
@@ -107,6 +112,8 @@ fn go_on(visit: &Visit, table: &mut Table<'_>, state: &State, slots: u16) -> boo
     requires next { IsNext visit.now slots }
     ensures covered { IsCovered state.now
         (knowledge_next table.new result (visit.now.slot + slots) state.now) }
+    ensures least { IsLeastNext (knowledge_in table.old) (knowledge_in table.new)
+        (visit.now.slot + slots) state.now }
     ensures plain { IsTrue result → IsPlain visit.now.program (visit.now.slot + slots) }
     ensures extended { IsExtendedAfter visit.now table.old table.new }
 {
@@ -151,6 +158,7 @@ fn branch(
     distance: i32,
     edges: &Edges,
 ) -> Result<bool, Refused>
+    requires begins { IsSome (insn_at visit.now.program visit.now.slot) }
     requires table { IsTableOf visit.now table.old }
     requires jump { IsJump visit.now.program visit.now.slot distance }
     requires leads { LeadsBy visit.now distance }
@@ -163,6 +171,7 @@ fn branch(
     ensures plain { IfOk result (GoesOnPlain visit.now.program (visit.now.slot + 1)) }
     ensures extended { IsExtendedAfter visit.now table.old table.new }
     ensures more { IsMore lowered.old lowered.new }
+    ensures refused { IfErr result (IsValueFault visit.now.program) }
 {
     order_of_states();
     follow_taken(
@@ -188,6 +197,7 @@ fn compare(
     comparison: &Comparison,
     offset: i16,
 ) -> Result<bool, Refused>
+    requires begins { IsSome (insn_at visit.now.program visit.now.slot) }
     requires table { IsTableOf visit.now table.old }
     requires jump { IsJump visit.now.program visit.now.slot offset }
     requires leads { LeadsBy visit.now offset }
@@ -200,6 +210,7 @@ fn compare(
     ensures plain { IfOk result (GoesOnPlain visit.now.program (visit.now.slot + 1)) }
     ensures extended { IsExtendedAfter visit.now table.old table.new }
     ensures more { IsMore lowered.old lowered.new }
+    ensures refused { IfErr result (IsValueFault visit.now.program) }
 {
     order_of_states();
     match refine(
@@ -231,25 +242,31 @@ fn straight(
     state: &mut State,
     insn: &Insn,
 ) -> Result<bool, Refused>
+    requires begins { IsSome (insn_at visit.now.program visit.now.slot) }
     requires table { IsTableOf visit.now table.old }
     requires next { IsNext visit.now (slots_of insn.now) }
     ensures covered { IfOk result
         (λ runs. IsResultCovered (after_insn state.old insn.now)
         (knowledge_next table.new runs (visit.now.slot + slots_of insn.now) state.new)) }
+    ensures refuted { IfErr result (λ _. IsErr (after_insn state.old insn.now)) }
     ensures plain { IfOk result
         (GoesOnPlain visit.now.program (visit.now.slot + slots_of insn.now)) }
     ensures extended { IsExtendedAfter visit.now table.old table.new }
+    ensures refused { IfErr result (IsValueFault visit.now.program) }
 {
     order_of_states();
-    state
-        .apply(insn)
-        .map_err(|cause| visit.refused(refusal_of(cause)))?;
-    Ok(go_on(visit, table, state, insn.slots()))
+    match state.apply(insn) {
+        Ok(()) => Ok(go_on(visit, table, state, insn.slots())),
+        Err(cause) => Err(visit.refused(refusal_of(cause))),
+    }
 }
 
 /// Tests that there is a map of the index.
 fn check_map(visit: &Visit, index: i32) -> Result<(), Refused>
-    ensures { OnOk result (IsTrue (is_map visit.now.sizes index)) }
+    requires begins { IsSome (insn_at visit.now.program visit.now.slot) }
+    ensures map { MatchResult result (λ _. IsTrue (is_map visit.now.sizes index))
+        (λ _. is_map visit.now.sizes index ≡ false) }
+    ensures refused { IfErr result (IsValueFault visit.now.program) }
 {
     if index < 0 || index >= i32::from(visit.maps()) {
         return Err(visit.refused(Refusal::MapKey));
@@ -259,47 +276,59 @@ fn check_map(visit: &Visit, index: i32) -> Result<(), Refused>
 
 /// Tests that r0 is a number, as EXIT wants.
 fn check_answer(visit: &Visit, state: &State) -> Result<(), Refused>
-    ensures { OnOk result (IsNumber (kind_at state.now 0)) }
+    requires begins { IsSome (insn_at visit.now.program visit.now.slot) }
+    ensures answer { MatchResult result (λ _. IsNumber (kind_at state.now 0))
+        (λ _. IsNumber (kind_at state.now 0) → ⊥) }
+    ensures refused { IfErr result (IsValueFault visit.now.program) }
 {
     match Register::new(0) {
-        Some(answer) => {
-            let number = state.kind(answer).number();
-            let _ = number.map_err(|cause| visit.refused(refusal_of(cause)))?;
-            Ok(())
-        }
+        Some(answer) => match state.kind(answer).number() {
+            Ok(_) => Ok(()),
+            Err(cause) => Err(visit.refused(refusal_of(cause))),
+        },
         None => unreachable!(),
     }
 }
 
 /// The map in r1, which a helper asks.
 fn asked_map(visit: &Visit, state: &State) -> Result<u8, Refused>
-    ensures { IfOk result (λ map. map_of (kind_at state.now 1) ≡ Ok map) }
+    requires begins { IsSome (insn_at visit.now.program visit.now.slot) }
+    ensures map { MatchResult result (λ map. map_of (kind_at state.now 1) ≡ Ok map)
+        (λ _. IsErr (map_of (kind_at state.now 1))) }
+    ensures refused { IfErr result (IsValueFault visit.now.program) }
 {
     match Register::new(1) {
-        Some(register) => {
-            let map = state.kind(register).map();
-            map.map_err(|cause| visit.refused(refusal_of(cause)))
-        }
+        Some(register) => match state.kind(register).map() {
+            Ok(map) => Ok(map),
+            Err(cause) => Err(visit.refused(refusal_of(cause))),
+        },
         None => unreachable!(),
     }
 }
 
 /// The keys that may be in r2, for one of which a helper asks.
 fn asked_keys(visit: &Visit, state: &State) -> Result<Range, Refused>
-    ensures { IfOk result (λ keys. number_of (kind_at state.now 2) ≡ Ok keys) }
+    requires begins { IsSome (insn_at visit.now.program visit.now.slot) }
+    ensures keys { MatchResult result (λ keys. number_of (kind_at state.now 2) ≡ Ok keys)
+        (λ _. IsErr (number_of (kind_at state.now 2))) }
+    ensures refused { IfErr result (IsValueFault visit.now.program) }
 {
     match Register::new(2) {
-        Some(register) => {
-            let keys = state.kind(register).number();
-            keys.map_err(|cause| visit.refused(refusal_of(cause)))
-        }
+        Some(register) => match state.kind(register).number() {
+            Ok(keys) => Ok(keys),
+            Err(cause) => Err(visit.refused(refusal_of(cause))),
+        },
         None => unreachable!(),
     }
 }
 
 /// Tests that r1 is a map and r2 a key of it, as a helper wants.
 fn check_cell(visit: &Visit, state: &State) -> Result<(), Refused>
-    ensures { OnOk result (AsksCell visit.now.sizes (kind_at state.now 1) (kind_at state.now 2)) }
+    requires begins { IsSome (insn_at visit.now.program visit.now.slot) }
+    ensures cell { MatchResult result
+        (λ _. AsksCell visit.now.sizes (kind_at state.now 1) (kind_at state.now 2))
+        (λ _. AsksCell visit.now.sizes (kind_at state.now 1) (kind_at state.now 2) → ⊥) }
+    ensures refused { IfErr result (IsValueFault visit.now.program) }
 {
     let map = asked_map(visit, state)?;
     let keys = asked_keys(visit, state)?;
@@ -312,16 +341,20 @@ fn check_cell(visit: &Visit, state: &State) -> Result<(), Refused>
 /// A helper's call, which goes on with any answer. Tells whether the state is the running one at the next
 /// instruction.
 fn ask(visit: &Visit, table: &mut Table<'_>, state: &mut State) -> Result<bool, Refused>
+    requires begins { IsSome (insn_at visit.now.program visit.now.slot) }
     requires table { IsTableOf visit.now table.old }
     requires next { IsNext visit.now 1 }
     ensures cell { OnOk result
         (AsksCell visit.now.sizes (kind_at state.old 1) (kind_at state.old 2)) }
+    ensures refuted { IfErr result
+        (λ _. AsksCell visit.now.sizes (kind_at state.old 1) (kind_at state.old 2) → ⊥) }
     ensures left { OnOk result (state.new ≡ after_call state.old) }
     ensures covered { IfOk result
         (λ runs. IsCovered (after_call state.old)
         (knowledge_next table.new runs (visit.now.slot + 1) state.new)) }
     ensures plain { IfOk result (GoesOnPlain visit.now.program (visit.now.slot + 1)) }
     ensures extended { IsExtendedAfter visit.now table.old table.new }
+    ensures refused { IfErr result (IsValueFault visit.now.program) }
 {
     order_of_states();
     check_cell(visit, state)?;
@@ -381,6 +414,7 @@ pub(crate) fn flow(
         (GoesOnPlain visit.now.program (visit.now.slot + slots_of insn.now)) }
     ensures extended { IsExtendedAfter visit.now table.old table.new }
     ensures more { IsMore lowered.old lowered.new }
+    ensures refused { IfErr result (IsValueFault visit.now.program) }
 {
     order_of_states();
     match insn {

@@ -1,15 +1,17 @@
 //! The pass over a program's slots.
 
-ghost use Rattle.std.specs.Prelude.{◌≡◌, ◌<◌, IfOk, IsTrue, OnOk, Some, None, length, if◌then◌else◌};
+ghost use Rattle.std.specs.Prelude.{◌≡◌, ◌<◌, IfErr, IfOk, IsSome, IsTrue, OnOk, Some, None, length, if◌then◌else◌};
 ghost use Rattle.machine.specs.Step.{insn_at};
 ghost use Rattle.bver_form.specs.Form.{IsFormed};
-ghost use Rattle.bver.specs.Heads.{AreHeadsAt};
+ghost use Rattle.bver.specs.Heads.{AreHeadsAt, IsRaised, IsWithinBound};
 ghost use Rattle.bver.specs.Justified.{IsJudged};
 ghost use Rattle.bver_form.specs.Lowered.{IsMore, IsSettled};
+ghost use Rattle.bver.specs.Refusals.{IsValueFault};
 ghost use Rattle.bver.specs.Table.{knowledge_in};
 ghost use Rattle.bver_form.specs.Targets.{IsKept};
 ghost use Rattle.bver.specs.Visit.{AreEntered, IsExtended, IsInsnVisit, IsTableOf, IsVisit, visited_state};
 
+use crate::body::Body;
 use crate::edges::{accessed_region, flow};
 use crate::table::Table;
 use crate::visit::Visit;
@@ -19,6 +21,26 @@ use bpf_insn::Insn;
 use bver_form::{Lowered, Refused};
 use machine::MapSizes;
 
+/// Raises what is known at a head, where the loop is entered within its bound.
+fn raise_head(
+    visit: &Visit,
+    body: &Body<'_>,
+    lowered: &Lowered,
+    state: &mut State,
+) -> Result<(), Refused>
+    requires begins { IsSome (insn_at visit.now.program visit.now.slot) }
+    ensures raised { OnOk result
+        (IsRaised body.now.program body.now.declared lowered.now body.now.place
+        state.old state.new) }
+    ensures bound { OnOk result (IsWithinBound body.now.declared state.old) }
+    ensures refused { IfErr result (IsValueFault visit.now.program) }
+{
+    match body.raise(lowered, state) {
+        Ok(()) => Ok(()),
+        Err(code) => Err(visit.refused(code)),
+    }
+}
+
 /// At the head of a loop, raises what is known there to what stands for every pass.
 fn enter(
     visit: &Visit,
@@ -26,20 +48,21 @@ fn enter(
     lowered: &Lowered,
     state: &mut State,
 ) -> Result<(), Refused>
+    requires begins { IsSome (insn_at visit.now.program visit.now.slot) }
     requires table { IsTableOf visit.now table.old }
     requires known { knowledge_in table.old visit.now.slot ≡ Some state.old }
     requires inside { visit.now.slot < length visit.now.program.slots }
     ensures known { OnOk result (knowledge_in table.new visit.now.slot ≡ Some state.new) }
     ensures heads { OnOk result (AreHeadsAt visit.now.program visit.now.slot (Some state.new)) }
     ensures extended { IsExtended visit.now.slot table.old table.new }
+    ensures refused { IfErr result (IsValueFault visit.now.program) }
 {
     order_of_states();
     table.stands_at_targets();
     match visit.head() {
         Some(body) => {
             state.stands_whole();
-            body.raise(lowered, state)
-                .map_err(|code| visit.refused(code))?;
+            raise_head(visit, &body, lowered, state)?;
             state.stands_whole();
             table.raise(visit.slot(), state);
             Ok(())
@@ -57,6 +80,7 @@ fn arrive(
     state: &mut State,
     runs: bool,
 ) -> Result<bool, Refused>
+    requires begins { IsSome (insn_at visit.now.program visit.now.slot) }
     requires table { IsTableOf visit.now table.old }
     requires inside { visit.now.slot < length visit.now.program.slots }
     requires plain { IsTrue runs → IsKept visit.now.program visit.now.slot → ⊥ }
@@ -67,6 +91,7 @@ fn arrive(
         (AreHeadsAt visit.now.program visit.now.slot
         (visited_state runs state.old table.new visit.now.slot)) }
     ensures extended { IsExtended visit.now.slot table.old table.new }
+    ensures refused { IfErr result (IsValueFault visit.now.program) }
 {
     order_of_states();
     visit.stands_formed();
@@ -99,6 +124,7 @@ fn visit_insn(
         (IsSettled lowered.old lowered.new) region insn.now) }
     ensures table { IsTableOf visit.now table.new }
     ensures more { IsMore lowered.old lowered.new }
+    ensures refused { IfErr result (IsValueFault visit.now.program) }
 {
     order_of_states();
     visit.stands_formed();
@@ -127,6 +153,7 @@ fn visit_slot(
         (IsSettled lowered.old lowered.new) region (insn_at visit.now.program visit.now.slot)) }
     ensures table { IsTableOf visit.now table.new }
     ensures more { IsMore lowered.old lowered.new }
+    ensures refused { IfErr result (IsValueFault visit.now.program) }
 {
     match visit.insn() {
         Some(insn) => visit_insn(visit, table, lowered, state, runs, &insn),
@@ -156,6 +183,7 @@ pub(crate) fn pass(
     ensures table { table.new.program ≡ image.now }
     ensures regions { length regions.new.items ≡ length image.now.slots }
     ensures more { IsMore lowered.old lowered.new }
+    ensures refused { IfErr result (IsValueFault image.now) }
 {
     order_of_states();
     let mut state = State::entry();

@@ -1,6 +1,6 @@
 //! What is known at the slots to which a program jumps.
 
-ghost use Rattle.std.specs.Prelude.{◌≡◌, ◌≢◌, ◌<◌, ◌↔◌, ℕ, IsTrue, IfOk, IfSome, Some, None, length, if◌then◌else◌};
+ghost use Rattle.std.specs.Prelude.{◌≡◌, ◌≢◌, ◌<◌, ◌↔◌, ℕ, IsTrue, IsFalse, IfOk, IfSome, Some, None, length, if◌then◌else◌};
 ghost use Rattle.bpf.specs.Program.{IsProgram};
 ghost use Rattle.bver.specs.Justified.{IsCovered, IsCoveredIfAny};
 ghost use Rattle.absdom.specs.State.{IsWhole};
@@ -208,6 +208,9 @@ impl<'a> Table<'a> {
         ensures program { self.new.program ≡ self.old.program }
         ensures covered { IsCovered state.now (knowledge_next self.new result slot state.now) }
         ensures plain { IsTrue result → IsKept self.new.program slot → ⊥ }
+        ensures least { IsFalse result → IsLeast (knowledge_in self.old slot) state.now
+            (knowledge_in self.new slot) }
+        ensures same { IsTrue result → self.new ≡ self.old }
         ensures grown { IsGrown (knowledge_in self.old) (knowledge_in self.new) }
         ensures others { (k : ℕ) → k ≢ slot → knowledge_in self.new k ≡ knowledge_in self.old k }
         ensures all_whole { AreWhole (knowledge_in self.old) → AreWhole (knowledge_in self.new) }

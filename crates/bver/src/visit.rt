@@ -1,6 +1,6 @@
 //! A slot that is visited.
 
-ghost use Rattle.std.specs.Prelude.{◌≡◌, ◌≢◌, IfSome, None, All, false, length, nat_lt, slice_index};
+ghost use Rattle.std.specs.Prelude.{◌≡◌, ◌≢◌, IfSome, IsSome, None, All, false, length, nat_lt, slice_index};
 ghost use Rattle.bpf.specs.Program.{IsProgram};
 ghost use Rattle.machine.specs.Step.{insn_at};
 ghost use Rattle.bver_form.specs.Form.{IsFormed};
@@ -66,7 +66,8 @@ impl<'a> Visit<'a> {
     /// The slot to which a jump leads by a distance in slots from the next one. `None` where no instruction
     /// begins there.
     pub(crate) fn landing(&self, distance: i32) -> Option<u16>
-        ensures { result ≡ first_slot self.now.program (target self.now.slot distance) }
+        ensures slot { result ≡ first_slot self.now.program (target self.now.slot distance) }
+        ensures begins { IfSome result (λ landing. IsSome (insn_at self.now.program landing)) }
     {
         bver_form::landing(self.image, self.slot, distance)
     }

@@ -1,9 +1,10 @@
--- The first fault of a program's form: a program that has one has not its form, and has no other.
-use Rattle.std.proofs.Common.{◌≡◌, ◌≢◌, ◌⊎◌, inl, inr, ℕ, ◌<◌, ℤ, pos, negsuc, true, Option, Some, None, refl, sym, subst, ap, ◌∙◌, arith}
-use Rattle.std.specs.Prelude.{All, IfSome, nat_lt, ◌||◌, if◌then◌else◌, slice_index_or}
+-- The first fault of a program's form: a program that has one has not its form, and has no other. It is a refusal of the
+-- form, at a slot of the program.
+use Rattle.std.proofs.Common.{◌≡◌, ◌≢◌, ◌⊎◌, inl, inr, ℕ, ◌-◌, ◌<◌, ℤ, pos, negsuc, Bool, true, false, length, Option, Some, None, refl, sym, subst, ap, ◌∙◌, arith}
+use Rattle.std.specs.Prelude.{All, IfSome, IsSome, is_some, nat_lt, ◌||◌, ◌==◌, if◌then◌else◌, slice_index_or}
 use Rattle.std.proofs.lemmas.Bool.{cases_lt, or_left, or_right, lt-ltb}
 use Rattle.bpf.specs.declared.loops.Loop.{Loop}
-use Rattle.bpf.specs.Program.{Program}
+use Rattle.bpf.specs.Program.{Program, IsProgram}
 use Rattle.bpf_insn.specs.Flow.{flow_of, written_register}
 use Rattle.bpf_insn.specs.declared.flow.Flow.{Flow}
 use Rattle.bpf_insn.specs.declared.flow.Flow.TheVariants.{GoesOn, Branches, Jumps, Calls, Ends, Unsupported}
@@ -12,13 +13,17 @@ use Rattle.bpf_parts.specs.declared.callee.Callee.TheVariants.{Local, ByTypeId}
 use Rattle.bpf_parts.specs.declared.callee.Callee.TheVariants as callees
 use Rattle.bpf_insn.specs.declared.insn.Insn.{Insn}
 use Rattle.bver_form.specs.declared.refusal.Refusal.{Refusal}
-use Rattle.bver_form.specs.declared.refusal.Refusal.TheVariants.{FrameWrite}
+use Rattle.bver_form.specs.declared.refusal.Refusal.TheVariants.{BackJump, Budget, FallOff, FrameWrite, Helper, LoopShape}
 use Rattle.bver_form.specs.declared.refusal.Refused.{Refused}
+use Rattle.machine.specs.Step.{is_helper}
+use Rattle.bver_form.specs.Codes.{IsFormCode}
 use Rattle.bver_form.specs.Support.{IsSupportedCall, IsSupportedFlow, call_fault, support_fault, frame_fault}
 use Rattle.bver_form.specs.Jumps.{IsAfter, IsBackToHead, IsFirstSlot, IsJump, first_slot, is_loop_back, jump_distance, insn_at, target}
 use Rattle.bver_form.specs.Loops.{IsLoopFormed}
-use Rattle.bver_form.specs.Form.{AreAllowed, IsAllowed, IsAllowedAt, IsFaultAt, of_insn, of_end, of_loop, of_weight, IsInsnFault, IsLoopFault, first_of, insn_fault, jump_fault, landing_fault}
-use Rattle.bver_form.specs.Laws.{FaultRefutesForm, FirstFaultIsOne}
+use Rattle.bver_form.specs.Form.{AreAllowed, IsAllowed, IsAllowedAt, IsFaultAt, of_insn, of_end, of_loop, of_weight, IsInsnFault, IsLoopFault, first_of, insn_fault, jump_fault, landing_fault, last_slot}
+use Rattle.bver_form.specs.Laws.{FaultIsKnown, FaultRefutesForm, FirstFaultIsOne}
+use Rattle.bver_form.proofs.Fitting.{loop_at}
+use Rattle.bver_form.proofs.Kept.{begins_inside}
 use Rattle.bver_form.proofs.Left.{by_eq}
 
 -- ---- what may stand at its slot has no fault there
@@ -148,3 +153,83 @@ one_fault p one other (of_weight allowed ends loops f) (of_insn g) = absurd (all
 one_fault p one other (of_weight allowed ends loops f) (of_end also g) = absurd (g.no_exit ends)
 one_fault p one other (of_weight allowed ends loops f) (of_loop also too g) = absurd (unformed_or_all p other loops g)
 one_fault p one other (of_weight allowed ends loops f) (of_weight also too more g) = same_refused one other (f.code ∙ sym g.code) (f.slot ∙ sym g.slot)
+
+-- ---- it is a refusal of the form, at a slot of the program
+
+-- a fault, if there is one, is of the form
+abbrev MayBeForm : Option Refusal → Type 0
+MayBeForm None = Unit {0}
+MayBeForm (Some code) = IsFormCode code
+
+form_fault : (o : Option Refusal) (code : Refusal) → MayBeForm o → o ≡ Some code → IsFormCode code
+form_fault None code h e = absurd cc
+form_fault (Some own) code h e = let same : own ≡ code = cc in subst IsFormCode same h
+
+call_form : (callee : Callee) (number : ℤ) → MayBeForm (call_fault callee number)
+call_form callees.Helper number = by_helper (is_helper number)
+  where
+    by_helper : (t : Bool) → MayBeForm (if t then None else Some Helper)
+    by_helper true = tt
+    by_helper false = tt
+call_form Local number = tt
+call_form ByTypeId number = tt
+
+support_form : (f : Flow) → MayBeForm (support_fault f)
+support_form GoesOn = tt
+support_form (Branches distance) = tt
+support_form (Jumps distance) = tt
+support_form (Calls callee number) = call_form callee number
+support_form Ends = tt
+support_form Unsupported = tt
+
+frame_form : (o : Option ℕ) → MayBeForm (frame_fault o)
+frame_form None = tt
+frame_form (Some register) = by_frame (register == 10)
+  where
+    by_frame : (t : Bool) → MayBeForm (if t then Some FrameWrite else None)
+    by_frame true = tt
+    by_frame false = tt
+
+landing_form : (p : Program) (slot : ℕ) (o : Option ℕ) → MayBeForm (landing_fault p slot o)
+landing_form p slot None = tt
+landing_form p slot (Some next) = by_onward (nat_lt slot next || is_loop_back p slot next)
+  where
+    by_onward : (t : Bool) → MayBeForm (if t then None else Some BackJump)
+    by_onward true = tt
+    by_onward false = tt
+
+jump_form : (p : Program) (slot : ℕ) (o : Option ℤ) → MayBeForm (jump_fault p slot o)
+jump_form p slot None = tt
+jump_form p slot (Some distance) = landing_form p slot (first_slot p (target slot distance))
+
+first_form : (a b : Option Refusal) → MayBeForm a → MayBeForm b → MayBeForm (first_of a b)
+first_form None b h g = g
+first_form (Some code) b h g = h
+
+insn_form : (p : Program) (slot : ℕ) (insn : Insn) → MayBeForm (insn_fault p slot insn)
+insn_form p slot insn =
+    first_form (support_fault (flow_of insn)) (first_of (frame_fault (written_register insn)) (jump_fault p slot (jump_distance insn))) (support_form (flow_of insn))
+    (first_form (frame_fault (written_register insn)) (jump_fault p slot (jump_distance insn)) (frame_form (written_register insn)) (jump_form p slot (jump_distance insn)))
+
+insn_known : (p : Program) (slot : ℕ) (o : Option Insn) (code : Refusal) → insn_at p slot ≡ o → IsFaultAt p slot o code → IsFormCode code × (slot < length p.slots)
+insn_known p slot None code is fault = absurd fault
+insn_known p slot (Some insn) code is fault =
+    (form_fault (insn_fault p slot insn) code (insn_form p slot insn) fault, begins_inside p slot (subst (λ (o : Option Insn). IsSome o) (sym is) refl))
+
+last_inside : (p : Program) → IsProgram p → last_slot p < length p.slots
+last_inside p limits = by_end (is_some (insn_at p (length p.slots - 1)))
+  where
+    by_end : (t : Bool) → (if t then length p.slots - 1 else length p.slots - 2) < length p.slots
+    by_end true = omega (arith, limits.slots.0)
+    by_end false = omega (arith, limits.slots.0)
+
+form_code : (code known : Refusal) → code ≡ known → IsFormCode known → IsFormCode code
+form_code code known is h = subst IsFormCode (sym is) h
+
+pub fault_is_known : FaultIsKnown
+fault_is_known p refused limits (of_insn fault) = insn_known p refused.slot (insn_at p refused.slot) refused.code refl fault.fault
+fault_is_known p refused limits (of_end allowed fault) = (form_code refused.code FallOff fault.code tt, rw fault.slot (last_inside p limits))
+fault_is_known p refused limits (of_loop allowed ends fault) =
+    let d : Loop = record { head = 0; back = 0; bound = 0; register = 0 } in
+    (form_code refused.code LoopShape fault.code tt, rw (fault.slot d) ((loop_at p fault.place d limits fault.inside).within))
+fault_is_known p refused limits (of_weight allowed ends loops fault) = (form_code refused.code Budget fault.code tt, omega (arith, limits.slots.0, fault.slot))

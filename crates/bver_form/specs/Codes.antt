@@ -1,4 +1,4 @@
--- The numbers of the refusals.
+-- The numbers of the refusals, and which of them are for a program's form.
 use Rattle.std.specs.Prelude.{ℕ}
 use Rattle.bver_form.specs.declared.refusal.Refusal.{Refusal}
 use Rattle.bver_form.specs.declared.refusal.Refusal.TheVariants.{Target, BackJump, LoopShape, LoopEntry, Unset, KindMismatch, OutOfRegion, UnsetStack, HeaderWrite, FrameWrite, PointerRange, MapKey, Helper, FallOff, Budget, Unsupported, Memory}
@@ -22,3 +22,23 @@ refusal_code FallOff = 14
 refusal_code Budget = 15
 refusal_code Unsupported = 16
 refusal_code Memory = 17
+
+-- the refusals for the form of a program. The others are for its values, and for want of memory
+abbrev pub IsFormCode : Refusal → Type 0
+IsFormCode Target = Unit {0}
+IsFormCode BackJump = Unit {0}
+IsFormCode LoopShape = Unit {0}
+IsFormCode LoopEntry = ⊥
+IsFormCode Unset = ⊥
+IsFormCode KindMismatch = ⊥
+IsFormCode OutOfRegion = ⊥
+IsFormCode UnsetStack = ⊥
+IsFormCode HeaderWrite = ⊥
+IsFormCode FrameWrite = Unit {0}
+IsFormCode PointerRange = ⊥
+IsFormCode MapKey = ⊥
+IsFormCode Helper = Unit {0}
+IsFormCode FallOff = Unit {0}
+IsFormCode Budget = Unit {0}
+IsFormCode Unsupported = Unit {0}
+IsFormCode Memory = ⊥

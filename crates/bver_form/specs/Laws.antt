@@ -1,9 +1,10 @@
 -- What the form of a program is worth: what its first fault tells, and how many instructions a run through its loops
 -- may take.
-use Rattle.std.specs.Prelude.{◌≡◌, ◌≤◌, ℕ, ◌+◌, IsSome, All}
+use Rattle.std.specs.Prelude.{◌≡◌, ◌≤◌, ◌<◌, ℕ, ◌+◌, IsSome, All, length}
 use Rattle.bpf.specs.Program.{Program, IsProgram, insn_at}
 use Rattle.bpf.specs.Weight.{weight_of}
 use Rattle.bver_form.specs.declared.refusal.Refused.{Refused}
+use Rattle.bver_form.specs.Codes.{IsFormCode}
 use Rattle.bver_form.specs.Form.{IsFormed, IsFormFault}
 use Rattle.bver_form.specs.Loops.{AreCounted, ComesIn, IsEdge, weight_left}
 
@@ -14,6 +15,10 @@ FaultRefutesForm = (p : Program) (refused : Refused) → IsFormFault p refused �
 -- and it has no other first fault
 abbrev pub FirstFaultIsOne : Type 0
 FirstFaultIsOne = (p : Program) (one other : Refused) → IsFormFault p one → IsFormFault p other → one ≡ other
+
+-- it tells a refusal of the form, at a slot of the program
+abbrev pub FaultIsKnown : Type 0
+FaultIsKnown = (p : Program) (refused : Refused) → IsProgram p → IsFormFault p refused → IsFormCode refused.code × (refused.slot < length p.slots)
 
 -- at slot 0 no more is left than the weight, where a loop that has its head there begins within its bound
 abbrev pub BeginsWithinWeight : Type 0

@@ -1,13 +1,15 @@
 //! What the form of a program is worth. Each function does nothing: its contract is the law.
 
-ghost use Rattle.bver_form.specs.Laws.{BeginsWithinWeight, EachStepTakesOne, FaultRefutesForm, FirstFaultIsOne, LoopsAreEntered, OneIsLeft};
+ghost use Rattle.bver_form.specs.Laws.{BeginsWithinWeight, EachStepTakesOne, FaultIsKnown, FaultRefutesForm, FirstFaultIsOne, LoopsAreEntered, OneIsLeft};
 
-/// A law and no work: a program that [`check`] refuses has not its form, and no other fault comes first.
+/// A law and no work: a program that [`check`] refuses has not its form, and no other fault comes first. The first
+/// one is a refusal of the form, at a slot of the program.
 ///
 /// [`check`]: crate::check
 pub fn first_faults()
     ensures refutes { FaultRefutesForm }
     ensures one { FirstFaultIsOne }
+    ensures known { FaultIsKnown }
 {}
 
 /// A law and no work, in plain arithmetic: a run of a program that has its form takes no more

@@ -96,3 +96,12 @@ pub struct Refused {
     pub code: Refusal,
     pub slot: u16,
 }
+
+impl Refused {
+    /// The number by which outputs name the refusal, 1 to 17.
+    pub fn number(self) -> u8
+        ensures { result ≡ refusal_code self.code }
+    {
+        Refusal::code(self.code)
+    }
+}

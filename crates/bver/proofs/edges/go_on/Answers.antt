@@ -1,4 +1,6 @@
-use Rattle.std.proofs.Common.{rules, ◌+◌}
+use Rattle.std.proofs.Common.{rules, ◌+◌, ap}
+use Rattle.bver.specs.Table.{TableValue, knowledge_in}
+use Rattle.bver.proofs.Above.{least_next}
 use Rattle.bver.proofs.Visiting.{changed_at}
 use Rattle.bver.proofs.edges.go_on.Goals as goal
 
@@ -6,3 +8,8 @@ pub returns-clause-extended : goal.returns-clause-extended
 returns-clause-extended c =
     let v = c.args.visit.now in
     changed_at (v.slot + 1) (c.slot.result + c.args.slots) c.args.table.now c.go_on.new.self (search rules) c.go_on.ensures.program c.go_on.ensures.grown c.go_on.ensures.others c.go_on.ensures.all_whole
+
+pub returns-clause-least : goal.returns-clause-least
+returns-clause-least c =
+    rw c.slot.ensures.slot at (least_next (knowledge_in c.args.table.now) (knowledge_in c.go_on.new.self) c.go_on.result (c.slot.result + c.args.slots) c.args.state.now
+    c.go_on.ensures.least (λ on k. ap (λ (t : TableValue). knowledge_in t k) (c.go_on.ensures.same on)) c.go_on.ensures.others)

@@ -8,14 +8,14 @@ use Rattle.bver.proofs.Raising.{raised_above, raised_head}
 use Rattle.bver.proofs.Visiting.{heads_of}
 use Rattle.bver.proofs.passes.enter.Goals as goal
 
-pub raise-requires-in-Some-clause-kept : goal.raise-requires-in-Some-clause-kept
-raise-requires-in-Some-clause-kept c =
+pub raise-requires-clause-kept : goal.raise-requires-clause-kept
+raise-requires-clause-kept c =
     rw c.slot.ensures.slot (known_kept c.args.table.now c.args.visit.now.slot c.args.state.now c.stands_at_targets.ensures.entries c.requires.known)
 
-pub raise-requires-in-Some-clause-covers : goal.raise-requires-in-Some-clause-covers
-raise-requires-in-Some-clause-covers c =
+pub raise-requires-clause-covers : goal.raise-requires-clause-covers
+raise-requires-clause-covers c =
     let b = c.in-Some.body in
-    let new = c.raise.new.state in
+    let new = c.raise_head.new.state in
     let raised : IsRaised b.program b.declared c.args.lowered.now b.place c.args.state.now new = search rules in
     let within : IsWithinBound b.declared c.args.state.now = search rules in
     let old_whole : IsWhole c.args.state.now = search rules in
@@ -23,12 +23,12 @@ raise-requires-in-Some-clause-covers c =
     rw (c.slot.ensures.slot, c.requires.known)
     (raised_above c.order_of_states.ensures.reflexive b.program b.declared c.args.lowered.now b.place c.args.state.now new old_whole new_whole within raised)
 
-pub returns-in_ok-map_err-in-Some-clause-heads : goal.returns-in_ok-map_err-in-Some-clause-heads
-returns-in_ok-map_err-in-Some-clause-heads c =
+pub returns-in_ok-raise_head-in-Some-clause-heads : goal.returns-in_ok-raise_head-in-Some-clause-heads
+returns-in_ok-raise_head-in-Some-clause-heads c =
     let v = c.args.visit.now in
     let b = c.in-Some.body in
     let l = b.declared in
-    let new = c.raise.new.state in
+    let new = c.raise_head.new.state in
     let same : b.program ≡ v.program = search rules in
     let at : l.head ≡ v.slot = search rules in
     let declared : IsDeclared b.program l b.place = search rules in

@@ -1,0 +1,203 @@
+-- What a pass knows is below what every table says under which the program is justified.
+use Rattle.std.proofs.Common.{◌≡◌, ◌≢◌, ℕ, ◌+◌, ◌<◌, ◌≤◌, ◌^◌, ℤ, pos, negsuc, Bool, true, false, List, Option, None, Some, Result, Ok, Err, ◌⊎◌, inl, inr, refl, sym, subst, ◌∙◌, arith}
+use Rattle.std.specs.Prelude.{IsTrue, IsFalse, IfSome, All, slice_index, slice_index_or}
+use Rattle.std.proofs.lemmas.Bool.{cases_lt, false≢true}
+use Rattle.std.proofs.lemmas.List.{get_or_past}
+use Rattle.bpf.specs.declared.loops.Loop.{Loop}
+use Rattle.bpf.specs.Program.{Program}
+use Rattle.bpf_insn.specs.declared.insn.Insn.{Insn}
+use Rattle.bpf_insn.specs.declared.insn.Insn.TheVariants.{Alu, Negate, MoveSigned, ByteSwap, Load, Store, Jump, Goto, Wide, LoadMap, LoadAddress, Call, Exit}
+use Rattle.bpf_insn.specs.Spelling.{slots_of}
+use Rattle.bpf_parts.specs.Operands.{distance_of}
+use Rattle.bpf_parts.specs.declared.operation.Width.TheVariants.{Bits64}
+use Rattle.machine.specs.Sizes.{Maps}
+use Rattle.machine.specs.Step.{insn_at}
+use Rattle.absdom_num.specs.Ranges.{IsWithin}
+use Rattle.absdom_num.specs.Tables.{whole_range}
+use Rattle.absdom.specs.declared.cause.Cause.{Cause}
+use Rattle.absdom.specs.declared.kinds.AbsKind.{AbsKind}
+use Rattle.absdom.specs.declared.kinds.AbsKind.TheVariants.{Unset, Num, Ptr, Map}
+use Rattle.absdom.specs.Kinds.{IsKindBelow}
+use Rattle.absdom.specs.State.{StateValue, IsBelow, IsWhole, IsProper, after_call, kind_at}
+use Rattle.absdom.specs.Effect.{after_insn}
+use Rattle.absdom.specs.Edges.{Edges, refined_edges}
+use Rattle.absdom.specs.Laws.{BelowIsTransitive, ApplyGrows, RefineGrows, CallGrows, IsGrown, IsEdgeBelow, AreEdgesGrown}
+use Rattle.bver_form.specs.Form.{target}
+use Rattle.bver_form.specs.Lowered.{is_lowered}
+use Rattle.bver_form.specs.declared.refusal.Refusal.{Refusal}
+use Rattle.bver.specs.Heads.{BodyValue, Falls, IsEntryFault, IsRaised, IsRaisedKind, IsWithinBound, counts, opens, keeps, opened_kind, is_number, is_number_at}
+use Rattle.bver.specs.Visit.{IsGrown as HasGrown, IsLeast, IsLeastNext}
+use Rattle.bver.specs.Justified.{AreEdgesCovered, AsksCell, IsCovered, IsCoveredIfAny, IsHead, IsNumber, IsOpen, IsPermitted, IsResultCovered, IsWrittenIn, Proceeds, knowledge_at}
+
+-- ---- what a table permits of a state, it permits of a smaller one
+
+covered_less : BelowIsTransitive → (a b : StateValue) (there : Option StateValue) → IsBelow a b → IsCovered b there → IsCovered a there
+covered_less transitive a b None below h = absurd h
+covered_less transitive a b (Some d) below h = transitive a b d below h
+
+any_covered_less : BelowIsTransitive → (a b : Option StateValue) (there : Option StateValue) → IsEdgeBelow a b → IsCoveredIfAny b there → IsCoveredIfAny a there
+any_covered_less transitive None b there below h = tt
+any_covered_less transitive (Some a) None there below h = absurd below
+any_covered_less transitive (Some a) (Some b) there below h = covered_less transitive a b there below h
+
+result_covered_less : BelowIsTransitive → (small large : Result StateValue Cause) (there : Option StateValue) → IsGrown small large → IsResultCovered large there → IsResultCovered small there
+result_covered_less transitive small (Err cause) there grown h = absurd h
+result_covered_less transitive (Err cause) (Ok b) there grown h = absurd grown
+result_covered_less transitive (Ok a) (Ok b) there grown h = covered_less transitive a b there grown h
+
+edges_covered_less : BelowIsTransitive → (small large : Result Edges Cause) (taken next : Option StateValue) → AreEdgesGrown small large → AreEdgesCovered large taken next → AreEdgesCovered small taken next
+edges_covered_less transitive small (Err cause) taken next grown h = absurd h
+edges_covered_less transitive (Err cause) (Ok b) taken next grown h = absurd grown
+edges_covered_less transitive (Ok a) (Ok b) taken next grown h =
+    (any_covered_less transitive a.taken b.taken taken grown.0 h.0, any_covered_less transitive a.not_taken b.not_taken next grown.1 h.1)
+
+number_less : (k l : AbsKind) → IsKindBelow k l → IsNumber l → IsNumber k
+number_less k Unset below h = absurd h
+number_less k (Ptr s b) below h = absurd h
+number_less k (Map j) below h = absurd h
+number_less Unset (Num b) below h = absurd below
+number_less (Num a) (Num b) below h = tt
+number_less (Ptr r a) (Num b) below h = absurd below
+number_less (Map i) (Num b) below h = absurd below
+
+key_less : (sizes : Maps) (map : ℕ) (k l : AbsKind) → IsKindBelow k l → AsksCell sizes (Map map) l → AsksCell sizes (Map map) k
+key_less sizes map k Unset below h = absurd h
+key_less sizes map k (Ptr s b) below h = absurd h
+key_less sizes map k (Map j) below h = absurd h
+key_less sizes map Unset (Num b) below h = absurd below
+key_less sizes map (Num a) (Num b) below h = omega (arith, below.below, h)
+key_less sizes map (Ptr r a) (Num b) below h = absurd below
+key_less sizes map (Map i) (Num b) below h = absurd below
+
+cell_less : (sizes : Maps) (m n k l : AbsKind) → IsKindBelow m n → IsKindBelow k l → AsksCell sizes n l → AsksCell sizes m k
+cell_less sizes m Unset k l map key h = absurd h
+cell_less sizes m (Num b) k l map key h = absurd h
+cell_less sizes m (Ptr s b) k l map key h = absurd h
+cell_less sizes Unset (Map j) k l map key h = absurd map
+cell_less sizes (Num a) (Map j) k l map key h = absurd map
+cell_less sizes (Ptr r a) (Map j) k l map key h = absurd map
+cell_less sizes (Map i) (Map j) k l map key h = subst (λ (n : ℕ). AsksCell sizes (Map n) k) (sym map) (key_less sizes j k l key h)
+
+pub permitted_less : ApplyGrows → RefineGrows → CallGrows → BelowIsTransitive → (sizes : Maps) (table : ℕ → Option StateValue) (slot : ℕ) (a b : StateValue) (insn : Insn) → IsWhole a → IsWhole b → IsBelow a b → IsPermitted sizes table slot b insn → IsPermitted sizes table slot a insn
+permitted_less applies refines calls transitive sizes table slot a b insn p q below h = by_insn insn h
+  where
+    proceeds : (insn : Insn) → Proceeds table slot b insn → Proceeds table slot a insn
+    proceeds insn h = result_covered_less transitive (after_insn a insn) (after_insn b insn) (table (slot + slots_of insn)) (applies a b insn p q below) h
+
+    by_insn : (insn : Insn) → IsPermitted sizes table slot b insn → IsPermitted sizes table slot a insn
+    by_insn (Alu op width dst src) h = proceeds (Alu op width dst src) h
+    by_insn (Negate width dst) h = proceeds (Negate width dst) h
+    by_insn (MoveSigned extension dst src) h = proceeds (MoveSigned extension dst src) h
+    by_insn (ByteSwap swap bits dst) h = proceeds (ByteSwap swap bits dst) h
+    by_insn (Load size dst place) h = proceeds (Load size dst place) h
+    by_insn (Store size place src) h = proceeds (Store size place src) h
+    by_insn (Jump comparison offset) h =
+        edges_covered_less transitive (refined_edges a comparison.condition comparison.width comparison.dst comparison.src) (refined_edges b comparison.condition comparison.width comparison.dst comparison.src)
+        (knowledge_at table (target slot offset)) (table (slot + 1)) (refines a b comparison.condition comparison.width comparison.dst comparison.src p q below) h
+    by_insn (Goto distance) h = covered_less transitive a b (knowledge_at table (target slot (distance_of distance))) below h
+    by_insn (Wide dst value) h = proceeds (Wide dst value) h
+    by_insn (LoadMap dst index) h = (h.0, proceeds (LoadMap dst index) h.1)
+    by_insn (LoadAddress dst address) h = absurd h
+    by_insn (Call callee number) h = (
+      cell_less sizes (kind_at a 1) (kind_at b 1) (kind_at a 2) (kind_at b 2) (below.kinds 1) (below.kinds 2) h.0,
+      covered_less transitive (after_call a) (after_call b) (table (slot + 1)) (calls a b p q below) h.1,
+    )
+    by_insn Exit h = number_less (kind_at a 0) (kind_at b 0) (below.kinds 0) h
+
+-- ---- what is raised at a head stays below a table that stands for every pass
+
+-- the registers that were lowered for the loop hold no number at its head in the table
+abbrev pub HasLowered : Program → Loop → (lowered : List Bool) (place : ℕ) → StateValue → Type 0
+HasLowered p l lowered place above =
+    (register : ℕ) → register ≢ l.register → IsWrittenIn p l register → IsTrue (is_lowered lowered place register) → kind_at above register ≡ Unset
+
+open_less : (lowered : Bool) (before above : AbsKind) → IsOpen above → IsKindBelow before above → (IsTrue lowered → above ≡ Unset) → IsKindBelow (opened_kind lowered before) above
+open_less lowered before Unset is_open below low = by_kind lowered before
+  where
+    by_kind : (lowered : Bool) (before : AbsKind) → IsKindBelow (opened_kind lowered before) Unset
+    by_kind lowered Unset = tt
+    by_kind true (Num a) = tt
+    by_kind false (Num a) = tt
+    by_kind lowered (Ptr r a) = tt
+    by_kind lowered (Map i) = tt
+open_less lowered before (Ptr s b) is_open below low = absurd is_open
+open_less lowered before (Map j) is_open below low = absurd is_open
+open_less true before (Num b) is_open below low = absurd (set_unset (low refl))
+  where
+    set_unset : Num b ≡ Unset → ⊥
+    set_unset is = cc
+open_less false Unset (Num b) is_open below low = absurd below
+open_less false (Num a) (Num b) is_open below low = rw is_open (record { above = omega arith; below = omega arith })
+open_less false (Ptr r a) (Num b) is_open below low = absurd below
+open_less false (Map i) (Num b) is_open below low = absurd below
+
+kind_less : (p : Program) (l : Loop) (lowered : List Bool) (place register : ℕ) (before after : AbsKind) (above : StateValue) → IsHead p l above → HasLowered p l lowered place above → IsKindBelow before (kind_at above register) → IsRaisedKind p l lowered place register before after → IsKindBelow after (kind_at above register)
+kind_less p l lowered place register before after above head low below (counts at is) =
+    rw (is, at, head.counter) (record { above = omega arith; below = omega arith })
+kind_less p l lowered place register before after above head low below (opens other written is) =
+    rw is (open_less (is_lowered lowered place register) before (kind_at above register) (head.others register other written) below (low register other written))
+kind_less p l lowered place register before after above head low below (keeps other unwritten is) = rw is below
+
+pub raised_less : (p : Program) (l : Loop) (lowered : List Bool) (place : ℕ) (before after above : StateValue) → IsWhole before → IsWhole after → IsHead p l above → HasLowered p l lowered place above → IsBelow before above → IsRaised p l lowered place before after → IsBelow after above
+raised_less p l lowered place before after above p_before p_after head low below raised = record {
+  kinds = λ register.
+      elim (cases_lt register 10) [
+        | inl small ↦ kind_less p l lowered place register (kind_at before register) (kind_at after register) above head low (below.kinds register) (raised.registers register (omega (arith, small)))
+        | inr past ↦ elim (cases_lt 10 register) [
+          | inl beyond ↦
+              rw (get_or_past after.kinds register Unset (omega (arith, beyond, p_after.sizes.registers)))
+              (rw (get_or_past before.kinds register Unset (omega (arith, beyond, p_before.sizes.registers))) at (below.kinds register))
+          | inr at ↦
+              let same : 10 ≡ register = omega (arith, past, at) in
+              subst (λ (r : ℕ). IsKindBelow (kind_at after r) (kind_at above r)) same (rw raised.frame (below.kinds 10))
+        ]
+      ];
+  marks = λ mark is. rw raised.marks (below.marks mark is);
+}
+
+-- a head that is entered outside its bound is in no such table
+pub entry_refuted : (p : Program) (l : Loop) (a above : StateValue) (refusal : Refusal) → IsHead p l above → IsBelow a above → IsEntryFault l a refusal → ⊥
+entry_refuted p l a above refusal head below fault =
+    fault.outside (subst (λ (k : AbsKind). IsKindBelow (kind_at a l.register) k) head.counter (below.kinds l.register))
+
+-- ---- what an edge back lowers is no number in the table
+
+unset_above : (edge above : AbsKind) → is_number edge ≡ false → IsOpen above → IsKindBelow edge above → above ≡ Unset
+unset_above edge Unset nothing is_open below = refl
+unset_above edge (Ptr s b) nothing is_open below = absurd is_open
+unset_above edge (Map j) nothing is_open below = absurd is_open
+unset_above Unset (Num b) nothing is_open below = absurd below
+unset_above (Num a) (Num b) nothing is_open below = absurd (false≢true (sym nothing))
+unset_above (Ptr r a) (Num b) nothing is_open below = absurd below
+unset_above (Map i) (Num b) nothing is_open below = absurd below
+
+pub falls_unset : (b : BodyValue) (head : Option StateValue) (edge above : StateValue) (register : ℕ) → register ≢ b.declared.register → IsHead b.program b.declared above → IsBelow edge above → Falls b head edge register → kind_at above register ≡ Unset
+falls_unset b head edge above register other stands below falls =
+    unset_above (kind_at edge register) (kind_at above register) falls.edge_number (stands.others register other falls.written) (below.kinds register)
+
+-- ---- a state that goes on
+
+cases_same : (k next : ℕ) → k ≡ next ⊎ k ≢ next
+cases_same k next =
+    elim (cases_lt k next) [
+      | inl below ↦ inr (λ same. omega (arith, same, below))
+      | inr past ↦ elim (cases_lt next k) [ inl beyond ↦ inr (λ same. omega (arith, same, beyond)) | inr at ↦ inl (omega (arith, past, at)) ]
+    ]
+
+pub least_next : (old new : ℕ → Option StateValue) (runs : Bool) (next : ℕ) (state : StateValue) → (IsFalse runs → IsLeast (old next) state (new next)) → (IsTrue runs → (k : ℕ) → new k ≡ old k) → ((k : ℕ) → k ≢ next → new k ≡ old k) → IsLeastNext old new next state
+least_next old new runs next state least same others above grown covered k = by_place (cases_same k next)
+  where
+    stays : new k ≡ old k → IsCoveredIfAny (new k) (above k)
+    stays is = subst (λ (o : Option StateValue). IsCoveredIfAny o (above k)) (sym is) (grown k)
+
+    at_next : (there : Option StateValue) → IsCoveredIfAny (old next) there → IsCovered state there → IsLeast (old next) state (new next) → IsCoveredIfAny (new next) there
+    at_next None was now is = absurd now
+    at_next (Some b) was now is = is b was now
+
+    by_runs : (b : Bool) → runs ≡ b → k ≡ next → IsCoveredIfAny (new k) (above k)
+    by_runs true is here = stays (same is k)
+    by_runs false is here = subst (λ (i : ℕ). IsCoveredIfAny (new i) (above i)) (sym here) (at_next (above next) (grown next) covered (least is))
+
+    by_place : k ≡ next ⊎ k ≢ next → IsCoveredIfAny (new k) (above k)
+    by_place (inl here) = by_runs runs refl here
+    by_place (inr other) = stays (others k other)
