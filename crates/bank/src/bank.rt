@@ -1,7 +1,9 @@
 //! Banks of memory.
 
 ghost use Rattle.std.specs.Prelude.{◌≡◌, ◌≤◌, ◌<◌, ◌+◌, ◌-◌, ◌^◌, ◌⊎◌, ◌↔◌, [], ◌∷◌, ◌++◌, length, true, Some, None, IfOk, IsErrOf, slice_index, map, false};
-ghost use Rattle.std.specs.List.{range_with_len};
+ghost use Rattle.std.specs.List.{concat, range_with_len};
+ghost use Rattle.std.specs.Vec.{vec_items};
+ghost use Rattle.bank.specs.Pages.{ArePages};
 ghost use Rattle.rmap.specs.Command.{command_of};
 ghost use Rattle.rmap.specs.Windows.{lies_inside};
 ghost use Rattle.bank.specs.Answer.{status_of};
@@ -9,13 +11,14 @@ ghost use Rattle.bank.specs.Effect.{memory_at};
 ghost use Rattle.bank.specs.Limits.{is_bank_size, is_range, is_bank};
 ghost use Rattle.bank.specs.Records.{first_share, fresh_bank, byte_in, fits, is_next, has_room, IsBank, IsExecutable, memory_of, memory_from, reply_from, base_of, replay, answer_of, after_command, after_rotation, number_left, next_share};
 
-use crate::answers::carry_out;
+use crate::answers::judged_fault;
 use crate::entry::Entry;
 use crate::faults::BankFault;
 use crate::journal::{Journal, is_room};
 use crate::judged::Judged;
+use crate::pages::Pages;
 use crate::share::Share;
-use rmap::{Place, ReplyBuf, Status};
+use rmap::{Place, ReplyBuf, Status, put_reply};
 use spw::PORTS;
 use std::alloc::{AllocError, Global};
 use std::marker::Model;
@@ -37,8 +40,8 @@ pub struct Applied {
 #[derive(Debug, Drop)]
 pub struct Bank {
     first: u32,
-    bytes: Vec<u8>,
-    base: Vec<u8>,
+    bytes: Pages,
+    base: Pages,
     journal: Journal,
     counts: Vec<u64>,
 }
@@ -48,9 +51,9 @@ impl Model for Bank {
 
     ghost Value = { BankValue };
 
-    ghost view = { λ b. record { first = b.first; bytes = b.bytes.items; base = b.base.items; journal = b.journal; counts = b.counts.items } };
+    ghost view = { λ b. record { first = b.first; bytes = b.bytes; base = b.base; journal = b.journal; counts = b.counts.items } };
 
-    ghost invariant = { λ b. IsBank (record { first = b.first; bytes = b.bytes.items; base = b.base.items; journal = b.journal; counts = b.counts.items }) };
+    ghost invariant = { λ b. IsBank (record { first = b.first; bytes = b.bytes; base = b.base; journal = b.journal; counts = b.counts.items }) };
 }
 
 /// Whether a bank may have that many bytes from that address on.
@@ -102,8 +105,8 @@ impl Bank {
         let shares = shares(alloc, ports)?;
         let bank = Bank {
             first: base,
-            bytes: vec![in alloc; 0; size as usize]?,
-            base: vec![in alloc; 0; size as usize]?,
+            bytes: Pages::zeros(alloc, size)?,
+            base: Pages::zeros(alloc, size)?,
             journal,
             counts: vec![in alloc; 0; usize::from(ports)]?,
         };
@@ -115,7 +118,7 @@ impl Bank {
         ensures { result ≡ byte_in self.now.first self.now.bytes address }
     {
         let offset = address.checked_sub(self.first)?;
-        self.bytes.get(offset as usize).copied()
+        self.bytes.get(offset as usize)
     }
 
     /// The byte at an address before the first entry of the journal, or `None` outside the bank.
@@ -123,7 +126,16 @@ impl Bank {
         ensures { result ≡ byte_in self.now.first self.now.base address }
     {
         let offset = address.checked_sub(self.first)?;
-        self.base.get(offset as usize).copied()
+        self.base.get(offset as usize)
+    }
+
+    /// The pages of memory, in order: each but the last has 4,096 bytes, the last one 1 to 4,096.
+    /// Joined they are the memory.
+    pub fn pages(&self) -> &[Vec<u8>]
+        ensures joined { concat (map vec_items result.now) ≡ self.now.bytes }
+        ensures pages { ArePages (map vec_items result.now) }
+    {
+        self.bytes.pages()
     }
 
     /// The entries of the journal, oldest first.
@@ -141,7 +153,7 @@ impl Bank {
         ensures few { result.1 ≤ MAX_SIZE }
         ensures bank { IsBank self.now }
     {
-        (self.first, self.bytes.len() as u32)
+        (self.first, self.bytes.len())
     }
 
     /// How many ports share the bank.
@@ -167,7 +179,7 @@ impl Bank {
     pub fn fits(&self, share: &Share, judged: &Judged) -> bool
         ensures { result ≡ fits self.now share.now judged.now }
     {
-        let size = self.bytes.len() as u32;
+        let size = self.bytes.len();
         share.port() == judged.port()
             && self.is_next(share)
             && matches!(judged.place(), Place::Bank(_))
@@ -233,26 +245,36 @@ impl Bank {
         ensures journal { result ≡ self.old.journal }
         ensures replayed { base_of self.new ≡ replay (base_of self.old) result.entries }
     {
-        self.base.copy_from_slice(&self.bytes);
+        self.base.copy_from(&self.bytes);
         mem::replace(&mut self.journal, fresh)
     }
 }
 
-/// Does what a judged command asks for to the bytes of a bank, if it may be done, and leaves the reply:
-/// as `carry_out` does it to bytes that are lent.
+/// Does what a judged command asks for to the bytes of a bank, if it may be done, and leaves the reply.
 fn carry_out_on(
-    bytes: &mut Vec<u8>,
+    bytes: &mut Pages,
     first: u32,
     room: bool,
     judged: &Judged,
     reply: &mut ReplyBuf,
 ) -> Status
-    requires { lies_inside first (length bytes.old.items) (command_of judged.now.packet) ≡ true }
+    requires inside { lies_inside first (length bytes.old) (command_of judged.now.packet) ≡ true }
+    requires range { first + length bytes.old ≤ 2 ^ 32 }
     ensures status { result ≡ status_of room (command_of judged.now.packet) judged.now.verdict }
-    ensures memory { memory_at first bytes.new.items
-        ≡ memory_from result first bytes.old.items judged.now }
-    ensures reply { reply.new ≡ reply_from result first bytes.old.items judged.now }
+    ensures memory { memory_at first bytes.new ≡ memory_from result first bytes.old judged.now }
+    ensures reply { reply.new ≡ reply_from result first bytes.old judged.now }
     ensures executed { IsExecutable result judged.now.packet }
 {
-    carry_out(bytes, first, room, judged, reply)
+    let command = judged.command();
+    match judged_fault(&command, judged.verdict()) {
+        None if room => {
+            bytes.execute(first, &command, reply);
+            Status::Success
+        }
+        fault => {
+            let status = fault.unwrap_or(Status::GeneralError);
+            put_reply(reply, &command, status, &[]);
+            status
+        }
+    }
 }

@@ -15,7 +15,13 @@ const MAX_MODIFIED: usize = 4;
 
 /// Replies with `count` bytes of the memory that begins at the address `first`: those from the
 /// command's address on, or the one there again and again.
-fn reply_read(reply: &mut ReplyBuf, command: &Command, memory: &[u8], first: u32, count: usize)
+pub(crate) fn reply_read(
+    reply: &mut ReplyBuf,
+    command: &Command,
+    memory: &[u8],
+    first: u32,
+    count: usize,
+)
     requires few { count ≤ MAX_DATA }
     requires within { IsWithin first (length memory.now) command.now count }
     ensures { reply.new ≡ read_reply (memory_at first memory.now) command.now count }

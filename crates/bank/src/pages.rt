@@ -1,0 +1,270 @@
+//! Memory in pages.
+
+ghost use Rattle.std.specs.Prelude.{◌≡◌, ◌≤◌, ◌<◌, ◌+◌, ◌-◌, ◌%◌, ◌++◌, true, None, [], length, take, drop, replicate, map, slice_get, slice_index_or, slice_set, IfOk};
+ghost use Rattle.std.specs.List.{concat};
+ghost use Rattle.std.specs.Vec.{vec_items};
+ghost use Rattle.rmap.specs.Windows.{lies_inside};
+ghost use Rattle.rmap.specs.Checks.{body_line};
+ghost use Rattle.bank.specs.Admission.{IsAdmissible};
+ghost use Rattle.bank.specs.Effect.{IsWithin, memory_at, effect};
+ghost use Rattle.bank.specs.Answer.{executed_reply, read_reply};
+ghost use Rattle.bank.specs.Pages.{ArePages, after_page};
+
+use crate::effect::{change, reply_read};
+use rmap::{Command, Kind, MAX_DATA, ReplyBuf, Status, put_reply};
+use std::alloc::{AllocError, Global};
+use std::marker::Model;
+
+/// How many bytes a page has, but for the last one, which may be shorter.
+const PAGE: usize = 4096;
+
+/// Memory in pages of [`PAGE`] bytes, the last one possibly shorter. Joined they are the memory.
+#[derive(Debug, Drop)]
+pub(crate) struct Pages {
+    pages: Vec<Vec<u8>>,
+    size: u32,
+}
+
+impl Model for Pages {
+    ghost use Rattle.std.specs.Prelude.{◌≡◌, ℕ, List, map, length};
+    ghost use Rattle.std.specs.List.{concat};
+    ghost use Rattle.std.specs.Vec.{vec_items};
+    ghost use Rattle.bank.specs.Pages.{ArePages};
+
+    ghost Value = { List ℕ };
+
+    ghost view = { λ p. concat (map vec_items p.pages.items) };
+
+    ghost invariant = { λ p. ArePages (map vec_items p.pages.items) × (length (concat (map vec_items p.pages.items)) ≡ p.size) };
+}
+
+impl Pages {
+    /// That many zeros.
+    pub(crate) fn zeros(alloc: Global, size: u32) -> Result<Pages, AllocError>
+        ensures { IfOk result (λ p. p ≡ replicate size 0) }
+    {
+        let pages = zero_pages(alloc, size as usize)?;
+        Ok(Pages { pages, size })
+    }
+
+    /// How many bytes there are.
+    pub(crate) fn len(&self) -> u32
+        ensures { result ≡ length self.now }
+    {
+        self.size
+    }
+
+    /// The pages, in order.
+    pub(crate) fn pages(&self) -> &[Vec<u8>]
+        ensures joined { concat (map vec_items result.now) ≡ self.now }
+        ensures pages { ArePages (map vec_items result.now) }
+    {
+        self.pages.as_slice()
+    }
+
+    /// The byte that many bytes behind the first, or `None` past the end.
+    pub(crate) fn get(&self, offset: usize) -> Option<u8>
+        ensures { result ≡ slice_get self.now offset }
+    {
+        if offset < self.size as usize {
+            self.from(offset).first().copied()
+        } else {
+            None
+        }
+    }
+
+    /// The bytes from that many bytes behind the first to the end of their page.
+    fn from(&self, offset: usize) -> &[u8]
+        requires { offset < length self.now }
+        ensures { result.now ≡ take (4096 - offset % 4096) (drop offset self.now) }
+    {
+        let pages = self.pages.as_slice();
+        from_byte(&pages[offset / PAGE], offset % PAGE)
+    }
+
+    /// Takes the bytes of memory of the same length.
+    pub(crate) fn copy_from(&mut self, other: &Pages)
+        requires { length other.now ≡ length self.old }
+        ensures { self.new ≡ other.now }
+    {
+        copy_pages(&mut self.pages, &other.pages);
+    }
+
+    /// Executes the command on the memory that begins at the address `first`, and replies with success.
+    pub(crate) fn execute(&mut self, first: u32, command: &Command, reply: &mut ReplyBuf)
+        requires admitted { IsAdmissible command.now }
+        requires body { body_line command.now ≡ None }
+        requires inside { lies_inside first (length self.old) command.now ≡ true }
+        requires range { first + length self.old ≤ 4294967296 }
+        ensures memory { memory_at first self.new ≡ (effect (memory_at first self.old) command.now).memory }
+        ensures reply { reply.new ≡ executed_reply (memory_at first self.old) command.now }
+    {
+        let length = command.length() as usize;
+        match command.kind() {
+            Kind::Read => self.reply_read(reply, command, first, length),
+            Kind::Write => put_reply(reply, command, Status::Success, &[]),
+            Kind::Rmw => self.reply_read(reply, command, first, length / 2),
+            Kind::Unused => unreachable!(),
+        }
+        self.change(first, command);
+    }
+
+    /// Does what the command does to its bytes, which lie in the memory that begins at the address
+    /// `first`: in one page, or in one and the next.
+    pub(crate) fn change(&mut self, first: u32, command: &Command)
+        requires admitted { IsAdmissible command.now }
+        requires body { body_line command.now ≡ None }
+        requires inside { lies_inside first (length self.old) command.now ≡ true }
+        requires range { first + length self.old ≤ 4294967296 }
+        ensures { memory_at first self.new ≡ (effect (memory_at first self.old) command.now).memory }
+    {
+        let k = (command.address() - first) as usize / PAGE;
+        let address = first + (k * PAGE) as u32;
+        let count = self.pages.as_slice().len();
+        change_page(&mut self.pages, k, address, command);
+        if k + 1 < count {
+            change_page(&mut self.pages, k + 1, address + PAGE as u32, command);
+        }
+    }
+
+    /// Replies with `count` bytes of the memory that begins at the address `first`: those from the
+    /// command's address on, or the one there again and again.
+    pub(crate) fn reply_read(
+        &self,
+        reply: &mut ReplyBuf,
+        command: &Command,
+        first: u32,
+        count: usize,
+    )
+        requires few { count ≤ MAX_DATA }
+        requires within { IsWithin first (length self.now) command.now count }
+        ensures { reply.new ≡ read_reply (memory_at first self.now) command.now count }
+    {
+        let address = command.address();
+        let offset = (address - first) as usize;
+        let bytes = self.from(offset);
+        if !command.increments() || count <= bytes.len() {
+            reply_read(reply, command, bytes, address, count);
+        } else {
+            let rest = &self.from(offset + bytes.len())[..count - bytes.len()];
+            reply_read(
+                reply,
+                command,
+                &joined(bytes, rest)[..count],
+                address,
+                count,
+            );
+        }
+    }
+}
+
+/// The pages of that many zeros.
+fn zero_pages(alloc: Global, size: usize) -> Result<Vec<Vec<u8>>, AllocError>
+    ensures pages { IfOk result (λ pages. ArePages (map vec_items pages.items)) }
+    ensures zeros { IfOk result (λ pages. concat (map vec_items pages.items) ≡ replicate size 0) }
+{
+    let mut pages = full_pages(alloc, size / PAGE)?;
+    let rest = size % PAGE;
+    if rest == 0 {
+        return Ok(pages);
+    }
+    let last = zero_page(alloc, rest)?;
+    pages.push(last)?;
+    Ok(pages)
+}
+
+/// So many full pages of zeros.
+fn full_pages(alloc: Global, count: usize) -> Result<Vec<Vec<u8>>, AllocError>
+    ensures { IfOk result (λ pages. map vec_items pages.items ≡ replicate count (replicate 4096 0)) }
+{
+    let mut pages = Vec::new(alloc);
+    for _ in 0..count {
+        pages.push(vec![in alloc; 0; PAGE]?)?;
+    }
+    Ok(pages)
+}
+
+/// A page of so many zeros.
+fn zero_page(alloc: Global, count: usize) -> Result<Vec<u8>, AllocError>
+    ensures { IfOk result (λ page. page.items ≡ replicate count 0) }
+{
+    vec![in alloc; 0; count]
+}
+
+/// Takes the bytes of others, page by page.
+fn copy_pages(pages: &mut Vec<Vec<u8>>, others: &Vec<Vec<u8>>)
+    requires { map length (map vec_items others.now.items) ≡ map length (map vec_items pages.old.items) }
+    ensures { map vec_items pages.new.items ≡ map vec_items others.now.items }
+{
+    let count = others.as_slice().len();
+    for k in 0..count {
+        copy_page(pages, others, k);
+    }
+}
+
+/// Takes the bytes of page k of others.
+fn copy_page(pages: &mut Vec<Vec<u8>>, others: &Vec<Vec<u8>>, k: usize)
+    requires below { k < length pages.old.items }
+    requires alike { map length (map vec_items others.now.items) ≡ map length (map vec_items pages.old.items) }
+    ensures { map vec_items pages.new.items
+        ≡ slice_set (map vec_items pages.old.items) k (slice_index_or (map vec_items others.now.items) k []) }
+{
+    copy_bytes(&mut pages[k], &others[k]);
+}
+
+/// Takes the bytes of a page of the same length.
+fn copy_bytes(page: &mut Vec<u8>, other: &Vec<u8>)
+    requires { length other.now.items ≡ length page.old.items }
+    ensures { page.new.items ≡ other.now.items }
+{
+    page.copy_from_slice(other);
+}
+
+/// Does what the command does to those of its bytes that are in page k, which begins at that address.
+fn change_page(pages: &mut Vec<Vec<u8>>, k: usize, address: u32, command: &Command)
+    requires admitted { IsAdmissible command.now }
+    requires body { body_line command.now ≡ None }
+    requires below { k < length pages.old.items }
+    ensures { map vec_items pages.new.items
+        ≡ after_page address (map vec_items pages.old.items) k command.now }
+{
+    change_bytes(&mut pages[k], address, command);
+}
+
+/// Does what the command does to those of its bytes that are in the page, which begins at that address.
+fn change_bytes(page: &mut Vec<u8>, address: u32, command: &Command)
+    requires admitted { IsAdmissible command.now }
+    requires body { body_line command.now ≡ None }
+    ensures { memory_at address page.new.items
+        ≡ (effect (memory_at address page.old.items) command.now).memory }
+{
+    change(page, address, command);
+}
+
+/// The bytes of a page from one on.
+fn from_byte(page: &Vec<u8>, start: usize) -> &[u8]
+    requires { start ≤ length page.now.items }
+    ensures { result.now ≡ take (length page.now.items - start) (drop start page.now.items) }
+{
+    &page[start..]
+}
+
+/// The bytes at the end of a page and those at the beginning of the next, and zeros behind them.
+fn joined(end: &[u8], next: &[u8]) -> [u8; PAGE]
+    requires { length end.now + length next.now ≤ 4096 }
+    ensures { take (length end.now + length next.now) result ≡ end.now ++ next.now }
+{
+    let mut bytes = [0; PAGE];
+    put_at(&mut bytes, 0, end);
+    put_at(&mut bytes, end.len(), next);
+    bytes
+}
+
+/// Puts some bytes behind the first `start`.
+fn put_at(bytes: &mut [u8], start: usize, part: &[u8])
+    requires { start + length part.now ≤ length bytes.old }
+    ensures value { take (start + length part.now) bytes.new ≡ take start bytes.old ++ part.now }
+    ensures length { length bytes.new ≡ length bytes.old }
+{
+    bytes[start..start + part.len()].copy_from_slice(part);
+}
