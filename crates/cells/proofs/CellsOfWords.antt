@@ -15,7 +15,7 @@ use Rattle.machine.specs.Step.{question}
 use Rattle.cells.specs.declared.hands.Draw.{Draw}
 use Rattle.cells.specs.Draws.{word_of, cell_of, draw, calls_of, tickets, tickets_of, is_ticket, asks_ticket, IsBehind, AreNumbersBelow}
 use Rattle.cells.specs.Counting.{IsCounted, IsDrawn}
-use Rattle.cells.specs.Seats.{IsOf, AreOf}
+use Rattle.cells.specs.Seats.{CellSeatValue, CellsValue, IsOf, AreOf, IsSeatOf, calls, calls_back, cells_with}
 
 -- the word of a cell is one of the words
 pub word_inside : (sizes : List ℕ) (m key : ℕ) → IsInside sizes m key → word_of sizes m key < sum sizes
@@ -136,3 +136,7 @@ told sizes m key value ds h are counted small =
     let same : tickets_of m key (calls_of sizes ds) ≡ tickets word ds = same_tickets sizes m key n h few ds are counted.behind in
     let all : value ≡ n = counted.counts ∙ mod-eq_of_lt few in
     subst (λ (ns : List ℕ). AreNumbersBelow value ns) (sym same) (subst (λ (k : ℕ). AreNumbersBelow k (tickets word ds)) (sym all) counted.each_once)
+
+-- the calls of the cells where a seat came back
+pub calls_joined : (it new : CellsValue) (s : CellSeatValue) → IsSeatOf it s → new ≡ cells_with it s → calls_back new ≡ calls_back it ++ calls s
+calls_joined it new s of is = ap calls_back is ∙ rw (of.sizes) (map-append _ it.draws s.draws)

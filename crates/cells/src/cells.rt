@@ -1,12 +1,12 @@
 //! All cells of a node.
 
-ghost use Rattle.std.specs.Prelude.{◌≡◌, ◌-◌, ◌<◌, [], IfOk, replicate};
+ghost use Rattle.std.specs.Prelude.{◌≡◌, ◌-◌, ◌<◌, ◌++◌, [], IfOk, replicate};
 ghost use Rattle.std.specs.Arc.{arc_value};
 ghost use Rattle.atomic_table.specs.Seated.{table_id_coded};
 ghost use Rattle.machine.specs.Sizes.{IsInside};
 ghost use Rattle.cells.specs.Counting.{hand, IsAhead, IsCounted};
 ghost use Rattle.cells.specs.Draws.{word_of};
-ghost use Rattle.cells.specs.Seats.{seat, cells, cells_with, AreNumbered, IsPlaced, IsSeatOf, IsWhole};
+ghost use Rattle.cells.specs.Seats.{seat, calls, calls_back, cells, cells_with, AreNumbered, IsPlaced, IsSeatOf, IsWhole};
 
 use crate::hands::Hand;
 use crate::rule::{Parts, Totals, Words};
@@ -116,9 +116,11 @@ impl Cells {
     }
 
     /// Takes back a seat of these cells, with what it drew.
+    #[tactic(auto, using(crate::proofs::CellsOfWords::calls_joined))]
     pub fn take_back(&mut self, seat: CellSeat)
         requires { IsSeatOf self.old seat }
-        ensures { self.new ≡ cells_with self.old seat }
+        ensures cells { self.new ≡ cells_with self.old seat }
+        ensures calls { calls_back self.new ≡ calls_back self.old ++ calls seat }
     {
         let CellSeat { place, .. } = seat;
         self.words.shared.join_seat::<Parts>(&mut self.rest, place);

@@ -24,5 +24,5 @@ pub use laws::{one_history, published_programs};
 pub use programs::Programs;
 pub use publisher::{LAST_SLOT, Publisher};
 pub use reader::{Reader, Taken};
-pub use staging::Staging;
+pub use staging::{STAGING_BYTES, Staging};
 pub use told::Told;

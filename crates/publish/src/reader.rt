@@ -1,6 +1,6 @@
 //! What a port has of the table of programs.
 
-ghost use Rattle.std.specs.Prelude.{◌≡◌, ◌<◌, true, false, IfSome, Some, None, length};
+ghost use Rattle.std.specs.Prelude.{◌≡◌, ◌<◌, ◌≤◌, true, false, IfSome, Some, None, length};
 ghost use Rattle.std.specs.Arc.{arc_value};
 ghost use Rattle.std.specs.Borrow.{sem, RestsIfNone};
 ghost use mathlib.Core.List.{IsPrefix};
@@ -100,8 +100,11 @@ impl<J: Room> Reader<J> {
         self.sizes
     }
 
-    /// Takes in what a publisher told.
+    /// Takes in what a publisher told, where that is no less than is known.
     pub fn learn(&mut self, told: &Told<J>)
+        ensures longer { length self.old.programs ≤ length told.now
+            → self.new ≡ known told.now self.old.inside }
+        ensures shorter { length told.now < length self.old.programs → self.new ≡ self.old }
         ensures old { IsPrefix self.old.programs self.new.programs }
         ensures told { IsPrefix told.now self.new.programs }
         ensures inside { self.new.inside ≡ self.old.inside }

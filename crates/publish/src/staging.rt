@@ -6,8 +6,8 @@ ghost use Rattle.publish.specs.Staged.{staged};
 use std::alloc::{AllocError, Global};
 use std::marker::Model;
 
-/// The bytes of a staging.
-const SIZE: usize = 16_384;
+/// How many bytes a staging has.
+pub const STAGING_BYTES: usize = 16_384;
 
 /// A port's staging: 16,384 bytes from address 0 on, and the result of its last load.
 #[derive(Debug, Drop)]
@@ -19,12 +19,13 @@ pub struct Staging {
 impl Model for Staging {
     ghost use Rattle.std.specs.Prelude.{◌≡◌, length};
     ghost use Rattle.publish.specs.Staged.{Staged, staged};
+    ghost use Rattle.publish.specs.declared.staging.TheConstants.{STAGING_BYTES};
 
     ghost Value = { Staged };
 
     ghost view = { λ s. staged s.bytes.items s.result };
 
-    ghost invariant = { λ s. length s.bytes.items ≡ 16384 };
+    ghost invariant = { λ s. length s.bytes.items ≡ STAGING_BYTES };
 }
 
 /// So many zero bytes.
@@ -40,10 +41,10 @@ impl Staging {
 
     /// A staging of zero bytes, with a load result of zeros.
     pub fn new(alloc: Global) -> Result<Staging, AllocError>
-        ensures { IfOk result (λ s. s ≡ staged (replicate 16384 0) (replicate 8 0)) }
+        ensures { IfOk result (λ s. s ≡ staged (replicate STAGING_BYTES 0) (replicate 8 0)) }
     {
         Ok(Staging {
-            bytes: zeros(alloc, SIZE)?,
+            bytes: zeros(alloc, STAGING_BYTES)?,
             result: [0; 8],
         })
     }
@@ -55,9 +56,9 @@ impl Staging {
         self.bytes.get(address as usize).copied()
     }
 
-    /// Writes a byte. The condition is an address below 16,384.
+    /// Writes a byte. The condition is an address below [`STAGING_BYTES`].
     pub fn write(&mut self, address: u32, byte: u8)
-        requires { address < 16384 }
+        requires { address < STAGING_BYTES }
         ensures { self.new ≡ staged (slice_set self.old.bytes address byte) self.old.load_result }
     {
         self.bytes[address as usize] = byte;
@@ -66,7 +67,7 @@ impl Staging {
     /// The bytes.
     pub fn bytes(&self) -> &[u8]
         ensures value { result.now ≡ self.now.bytes }
-        ensures size { length result.now ≡ 16384 }
+        ensures size { length result.now ≡ STAGING_BYTES }
     {
         &self.bytes
     }
@@ -75,7 +76,7 @@ impl Staging {
     pub fn bytes_mut(&mut self) -> &mut [u8]
         ensures* writes_back { sem 𝓛 (LendsBytes self.entry result) }
         ensures value { result.now ≡ self.old.bytes }
-        ensures size { length result.now ≡ 16384 }
+        ensures size { length result.now ≡ STAGING_BYTES }
     {
         &mut self.bytes
     }
