@@ -1,5 +1,5 @@
 -- How a control write ends that nothing stops.
-use Rattle.std.proofs.Common.{◌≡◌, ℕ, List, [], length, Option, None, sym, ap, ap₂, subst, ◌∙◌, inl, inr}
+use Rattle.std.proofs.Common.{◌≡◌, ◌≤◌, ◌<◌, ℕ, List, [], length, Option, None, sym, ap, ap₂, subst, ◌∙◌, inl, inr}
 use Rattle.rmap.specs.declared.status.Status.{Status}
 use Rattle.rmap.specs.declared.status.Status.TheVariants.{Success, GeneralError}
 use Rattle.rmap.specs.Command.{command_of}
@@ -8,13 +8,14 @@ use Rattle.bank.specs.Answer.{judged_line}
 use Rattle.bank.specs.Records.{JudgedValue, ShareValue}
 use Rattle.publish.specs.declared.history.Publish.{Publish}
 use Rattle.publish.specs.Published.{sizes_of}
+use Rattle.publish.specs.Reached.{Known, known}
 use Rattle.publish.specs.Staged.{Staged, staged}
 use Rattle.target.specs.declared.control.ControlData.{ControlData}
 use Rattle.target.specs.declared.refusal.LoadRefusal.{LoadRefusal}
 use Rattle.target.specs.Passes.{BearingValue, pass_of}
 use Rattle.target.specs.Loads.{published_result, refused_result}
-use Rattle.target.specs.Outcomes.{IsLoad, Refused}
-use Rattle.target.specs.Loaded.{IsPublished, control_in, EndsAs, HasLoaded, HasRefused, IsLoadEnd}
+use Rattle.target.specs.Outcomes.{IsLoadRefusal}
+use Rattle.target.specs.Loaded.{HasLearnt, IsPublished, control_in, EndsAs, HasLoaded, HasRefused, IsLoadEnd}
 
 -- a load that published
 pub ends_loaded : (b : BearingValue) (known seen : List Publish) (shares : List ShareValue) (staging left : Staged) (old new : List Publish) (j : JudgedValue) (result : Status) (bytes loaded : List ℕ) (control : ControlData) (generation : ℕ)
@@ -37,7 +38,7 @@ ends_loaded b known seen shares staging left old new j result bytes loaded contr
 -- a load that was refused
 pub ends_refused : (b : BearingValue) (known seen : List Publish) (shares : List ShareValue) (staging left : Staged) (old new : List Publish) (j : JudgedValue) (result : Status) (bytes loaded : List ℕ) (control : ControlData) (refusal : LoadRefusal)
     → judged_line (command_of j.packet) j.verdict ≡ None → control ≡ control_in j
-    → IsLoad control staging.bytes (sizes_of old) (length old) (Refused refusal) → seen ≡ known → new ≡ old
+    → IsLoadRefusal control staging.bytes (sizes_of old) (length old) refusal → seen ≡ known → new ≡ old
     → result ≡ GeneralError → left ≡ staged staging.bytes loaded → loaded ≡ refused_result refusal
     → bytes ≡ reply_of (command_of j.packet) result []
     → IsLoadEnd (pass_of b known shares staging) (pass_of b seen shares left) old new j result bytes
@@ -46,9 +47,16 @@ ends_refused b known seen shares staging left old new j result bytes loaded cont
     let after = pass_of b seen shares left in
     let has : HasRefused holder after old new j result = record {
       refusal = refusal;
-      refused = subst (λ (x : ControlData). IsLoad x staging.bytes (sizes_of old) (length old) (Refused refusal)) asks refused;
+      refused = subst (λ (x : ControlData). IsLoadRefusal x staging.bytes (sizes_of old) (length old) refusal) asks refused;
       status = status;
       same = same;
       holder_after = ap₂ (λ (l : List Publish) (s : Staged). pass_of b l shares s) knows (kept ∙ ap (λ l. staged staging.bytes l) tells);
     } in
     record { ended = subst (λ (line : Option Status). EndsAs line holder after old new j result) (sym none) (inr has); reply = reply }
+
+-- a reader that was told of programs
+pub learnt : (old new : Known) (told programs : List Publish) → told ≡ programs → (length old.programs ≤ length told → new ≡ known told old.inside) → (length told < length old.programs → new ≡ old) → HasLearnt old.programs programs new.programs
+learnt old new told programs is longer shorter = subst (λ (l : List Publish). HasLearnt old.programs l new.programs) is (record {
+  longer = λ less. ap (λ (r : Known). r.programs) (longer less);
+  shorter = λ more. ap (λ (r : Known). r.programs) (shorter more);
+})

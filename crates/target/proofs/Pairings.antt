@@ -15,6 +15,7 @@ use Rattle.rmap.specs.Command.{CommandValue, command_of, extended_of}
 use Rattle.rmap.specs.Windows.{WindowsValue, bank_place, lies_inside}
 use Rattle.bver.specs.Justified.{AcceptedValue}
 use Rattle.bank.specs.declared.bank.Applied.{Applied}
+use Rattle.bank.specs.Admission.{IsPlacedBy}
 use Rattle.bank.specs.Laws.{ExtentsStay}
 use Rattle.bank.specs.Records.{BankValue, ShareValue, JudgedValue, extent_of, after_command, after_record, answer_of, has_room, next_share, first_share, is_bank_place, is_next, fits}
 use Rattle.target.specs.declared.config.BankConfig.{BankConfig}
@@ -186,16 +187,16 @@ extent_at banks k b range at window =
     some_same range (extent_of b) (sym window ∙ slice_get-map extent_of banks k ∙ ap (option_map extent_of) at)
 
 pub paired_commands_fit : PairedCommandsFit
-paired_commands_fit banks h program generation k calls p j b paired judged place at =
+paired_commands_fit banks h k j b paired port placed place at =
     let share = paired.shares k b at in
-    let found = in_window h.windows (command_of p) k (slice_get h.windows.banks (extended_of (command_of p))) refl (judged.placed.lies ∙ ap (λ x. Some x) place) in
+    let c = command_of j.packet in
+    let found = in_window h.windows c k (slice_get h.windows.banks (extended_of c)) refl (placed.lies ∙ ap (λ x. Some x) place) in
     let window : slice_get (map extent_of banks) k ≡ Some found.range = subst (λ l. slice_get l k ≡ Some found.range) paired.windows found.window in
     let same : found.range ≡ extent_of b = extent_at banks k b found.range at window in
-    let inside : lies_inside b.first (length b.bytes) (command_of p) ≡ true = subst (λ (r : ℕ × ℕ). lies_inside r.0 r.1 (command_of p) ≡ true) same found.inside in
-    let lies : lies_inside b.first (length b.bytes) (command_of j.packet) ≡ true = rw (judged.packet) inside in
-    let ports : (share_of h (Bank k)).port ≡ j.port = share.0 ∙ sym judged.port_of in
+    let inside : lies_inside b.first (length b.bytes) c ≡ true = subst (λ (r : ℕ × ℕ). lies_inside r.0 r.1 c ≡ true) same found.inside in
+    let ports : (share_of h (Bank k)).port ≡ j.port = share.0 ∙ sym port in
     let test : eqb (share_of h (Bank k)).port j.port ≡ true = same_ports _ _ ports in
-    rw (place, test, share.1, lies) refl
+    rw (place, test, share.1, inside) refl
   where
     same_ports : (a b : ℕ) → a ≡ b → eqb a b ≡ true
     same_ports a b e = grind (arith, nat_tests)
@@ -213,8 +214,10 @@ judged_paired banks h between p j run paired =
 pub judged_fits : (banks : List BankValue) (h between : PassValue) (p : Cargo) (j : JudgedValue) (k : ℕ) (b : BankValue) → IsJudgement h between p j → IsPaired banks h → j.place ≡ Bank k → slice_get banks k ≡ Some b → fits b (share_of between j.place) j ≡ true
 judged_fits banks h between p j k b run paired place at =
     let asked = pass_after h run.seen run.calls in
+    let judged = run.judged_for in
+    let placed : IsPlacedBy h.windows j.packet j.place = subst (λ (packet : Cargo). IsPlacedBy h.windows packet j.place) (sym judged.packet) judged.placed in
     subst (λ (x : PassValue). fits b (share_of x j.place) j ≡ true) (sym run.asked)
-    (paired_commands_fit banks asked run.program j.generation k run.calls p j b (asked_paired banks h run.seen run.calls paired) run.judged_for place at)
+    (paired_commands_fit banks asked k j b (asked_paired banks h run.seen run.calls paired) judged.port_of placed place at)
 
 -- another staging leaves a port paired
 pub staged_paired : (banks : List BankValue) (h : PassValue) (staging : Staged) → IsPaired banks h → IsPaired banks (with_staging h staging)

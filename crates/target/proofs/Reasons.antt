@@ -1,62 +1,84 @@
--- What the codes of refused loads say.
-use Rattle.std.proofs.Common.{◌≡◌, ◌≢◌, ◌≤◌, ◌<◌, ◌⊎◌, ◌^◌, inl, inr, ℕ, ◌+◌, List, Bool, true, false, cond, Option, Some, None, refl, sym, ap, subst, arith}
-use Rattle.std.specs.Prelude.{◌==◌, ◌||◌, not, nat_lt}
-use Rattle.bpf.specs.Fault.{image_fault_code}
+-- What the refusals of loads say.
+use Rattle.std.proofs.Common.{◌≡◌, ◌≢◌, ◌≤◌, ◌<◌, ◌⊎◌, ◌^◌, inl, inr, ℕ, ◌+◌, List, Bool, true, false, cond, length, Option, Some, None, refl, sym, ap, ◌∙◌, subst, arith}
+use Rattle.std.specs.Prelude.{is_some, IsSome}
+use Rattle.std.proofs.lemmas.List.{get_or_past}
+use Rattle.bpf_insn.specs.declared.insn.Insn.{Insn}
+use Rattle.bpf.specs.Fault.{image_fault_code, image_fault_slot}
+use Rattle.bpf.specs.Program.{Program, IsProgram, image_bytes, insn_at}
 use Rattle.bpf.specs.declared.fault.ImageFault.{ImageFault}
-use Rattle.bpf.specs.declared.fault.ImageFault.TheVariants.{Memory}
+use Rattle.bpf.specs.declared.fault.ImageFault.TheVariants as image_faults
+use Rattle.bver.specs.Refusals.{IsRefusal, of_form, of_values, of_memory}
 use Rattle.bver_form.specs.Codes.{refusal_code}
+use Rattle.bver_form.specs.Laws.{FaultIsKnown}
 use Rattle.bver_form.specs.declared.refusal.Refusal.{Refusal}
 use Rattle.bver_form.specs.declared.refusal.Refusal.TheVariants as refusals
+use Rattle.bver_form.specs.declared.refusal.Refused.{Refused}
 use Rattle.target.specs.declared.control.ControlData.{ControlData}
 use Rattle.target.specs.declared.refusal.LoadRefusal.{LoadRefusal}
-use Rattle.target.specs.Loads.{IsUnpreparedBy, IsUnpublished, IsUnspelled, IsUnverified, control_code, loaded_bytes, refusal_at}
+use Rattle.target.specs.declared.refusal.LoadRefusal.TheVariants.{Control, Slot, Image, Program as Unverified, GenerationsFull}
+use Rattle.target.specs.Loads.{IsUnpreparedBy, IsUnspelled, IsUnverified, control_fault, load_refusal_code, load_refusal_place, loaded_bytes, wants_image_memory, wants_verifier_memory}
 use Rattle.target.specs.Laws.{IsControlCode, RefusalsTellWhy, TellsWhy}
-use Rattle.target.proofs.Refusals.{image_codes_few}
+use Rattle.target.proofs.Refusals.{control_faults, image_codes_few}
 
-some_same : (a b : ℕ) → Some a ≡ Some b → a ≡ b
-some_same a b e = cc
+by_control : (control : ControlData) (staged : List ℕ) (count : ℕ) → control_fault control ≡ Some Control → TellsWhy control staged count Control
+by_control control staged count is = record {
+  control_is_wrong = (λ e. inl refl, λ w. is);
+  unspelled = λ low high. absurd (omega (arith, high));
+  spelled = λ low. absurd (omega (arith, low));
+  full = λ e. absurd (omega (arith, e));
+  unplaced = λ low other. refl;
+  no_want = refl;
+}
 
--- control data that are not right have one of two codes
-two_codes : (first second : Bool) (code : ℕ) → cond first (Some 71) (cond second (Some 66) None) ≡ Some code → IsControlCode code
-two_codes true second code e = inl (sym (some_same 71 code e))
-two_codes false true code e = inr (sym (some_same 66 code e))
-two_codes false false code e = absurd cc
+by_slot : (control : ControlData) (staged : List ℕ) (count : ℕ) → control_fault control ≡ Some Slot → TellsWhy control staged count Slot
+by_slot control staged count is = record {
+  control_is_wrong = (λ e. inr refl, λ w. is);
+  unspelled = λ low high. absurd (omega (arith, high));
+  spelled = λ low. absurd (omega (arith, low));
+  full = λ e. absurd (omega (arith, e));
+  unplaced = λ low other. refl;
+  no_want = refl;
+}
 
-control_codes : (control : ControlData) (code : ℕ) → control_code control ≡ Some code → IsControlCode code
-control_codes control code e = two_codes (not (control.zero == 0) || nat_lt 16384 control.length) (nat_lt 3 control.slot) code e
-
-is_none : (o : Option ℕ) (code : ℕ) → o ≡ None → o ≡ Some code → ⊥
-is_none o code none some = absurd (cc (none, some))
-
--- the refusal has a code of the control data
-by_control : (control : ControlData) (staged : List ℕ) (count code : ℕ) → control_code control ≡ Some code → TellsWhy control staged count (refusal_at code 0)
-by_control control staged count code is =
-    let which = control_codes control code is in
-    record {
-      control_is_wrong = (λ e. which, λ w. is);
-      unspelled = λ low high p program spelled. elim which [ inl a ↦ absurd (omega (arith, a, high)) | inr b ↦ absurd (omega (arith, b, high)) ];
-      spelled = λ low. elim which [ inl a ↦ absurd (omega (arith, a, low)) | inr b ↦ absurd (omega (arith, b, low)) ];
-      full = λ e. elim which [ inl a ↦ absurd (omega (arith, a, e)) | inr b ↦ absurd (omega (arith, b, e)) ];
-    }
+is_none : (o : Option LoadRefusal) (refusal : LoadRefusal) → o ≡ None → o ≡ Some refusal → ⊥
+is_none o refusal none some = absurd (cc (none, some))
 
 -- the code is none of the control data's, which are right
-no_control : (control : ControlData) (code : ℕ) → control_code control ≡ None → code ≢ 71 → code ≢ 66 → ((control_code control ≡ Some code) → IsControlCode code) × (IsControlCode code → (control_code control ≡ Some code))
-no_control control code none first second =
-    (λ e. absurd (is_none (control_code control) code none e), λ w. elim w [ inl a ↦ absurd (first a) | inr b ↦ absurd (second b) ])
+no_control : (control : ControlData) (refusal : LoadRefusal) → control_fault control ≡ None → load_refusal_code refusal ≢ 71 → load_refusal_code refusal ≢ 66 → ((control_fault control ≡ Some refusal) → IsControlCode (load_refusal_code refusal)) × (IsControlCode (load_refusal_code refusal) → (control_fault control ≡ Some refusal))
+no_control control refusal none first second =
+    (λ e. absurd (is_none (control_fault control) refusal none e), λ w. elim w [ inl a ↦ absurd (first a) | inr b ↦ absurd (second b) ])
 
--- a number below 8 is that of no want of memory
-not_memory : (f : ImageFault) → image_fault_code f ≤ 7 → f ≢ Memory
-not_memory f low same = absurd (omega (arith, low, ap image_fault_code same))
+-- only the fault of an instruction has a slot
+no_slot : (f : ImageFault) → image_fault_code f ≢ 7 → image_fault_slot f ≡ 0
+no_slot image_faults.Magic other = refl
+no_slot image_faults.Version other = refl
+no_slot image_faults.Length other = refl
+no_slot image_faults.Count other = refl
+no_slot image_faults.Budget other = refl
+no_slot image_faults.Loop other = refl
+no_slot (image_faults.Insn slot fault) other = absurd (other refl)
+no_slot image_faults.Memory other = refl
 
-by_image : (control : ControlData) (staged : List ℕ) (count : ℕ) (refusal : LoadRefusal) → control_code control ≡ None → IsUnspelled (loaded_bytes control staged) refusal → TellsWhy control staged count refusal
-by_image control staged count refusal none is =
-    let few = image_codes_few is.fault in
-    let code : refusal.code ≡ 32 + image_fault_code is.fault = ap (λ (r : LoadRefusal). r.code) is.is in
+image_wants_none : (f : ImageFault) → f ≢ image_faults.Memory → wants_image_memory f ≡ false
+image_wants_none image_faults.Magic other = refl
+image_wants_none image_faults.Version other = refl
+image_wants_none image_faults.Length other = refl
+image_wants_none image_faults.Count other = refl
+image_wants_none image_faults.Budget other = refl
+image_wants_none image_faults.Loop other = refl
+image_wants_none (image_faults.Insn slot fault) other = refl
+image_wants_none image_faults.Memory other = absurd (other refl)
+
+by_image : (control : ControlData) (staged : List ℕ) (count : ℕ) (fault : ImageFault) → control_fault control ≡ None → fault ≢ image_faults.Memory → ((p : Program) → IsProgram p → loaded_bytes control staged ≢ image_bytes p) → TellsWhy control staged count (Image fault)
+by_image control staged count fault none other spells_none =
+    let few = image_codes_few fault in
     record {
-      control_is_wrong = no_control control refusal.code none (omega (arith, code, few)) (omega (arith, code, few));
-      unspelled = λ low high. is.unspelled (not_memory is.fault (omega (arith, code, high)));
-      spelled = λ low. absurd (omega (arith, code, low));
-      full = λ e. absurd (omega (arith, code, few, e));
+      control_is_wrong = no_control control (Image fault) none (omega (arith, few)) (omega (arith, few));
+      unspelled = λ low high. spells_none;
+      spelled = λ low. absurd (omega (arith, low));
+      full = λ e. absurd (omega (arith, few, e));
+      unplaced = λ low other. no_slot fault (λ e. absurd (other (ap (λ n. 32 + n) e)));
+      no_want = image_wants_none fault other;
     }
 
 -- the numbers of the verifier's refusals are at most 17
@@ -79,52 +101,87 @@ refusal_codes_few refusals.Budget = omega arith
 refusal_codes_few refusals.Unsupported = omega arith
 refusal_codes_few refusals.Memory = omega arith
 
-by_verifier : (control : ControlData) (staged : List ℕ) (count : ℕ) (refusal : LoadRefusal) → control_code control ≡ None → IsUnverified (loaded_bytes control staged) refusal → TellsWhy control staged count refusal
-by_verifier control staged count refusal none is =
-    let few = refusal_codes_few is.refused.code in
-    let code : refusal.code ≡ refusal_code is.refused.code = ap (λ (r : LoadRefusal). r.code) is.is in
-    record {
-      control_is_wrong = no_control control refusal.code none (omega (arith, code, few)) (omega (arith, code, few));
-      unspelled = λ low high. absurd (omega (arith, code, few, low));
-      spelled = λ low. (is.program, is.is_program, is.spelled);
-      full = λ e. absurd (omega (arith, code, few, e));
-    }
+verifier_wants_none : (r : Refusal) → r ≢ refusals.Memory → wants_verifier_memory r ≡ false
+verifier_wants_none refusals.Target other = refl
+verifier_wants_none refusals.BackJump other = refl
+verifier_wants_none refusals.LoopShape other = refl
+verifier_wants_none refusals.LoopEntry other = refl
+verifier_wants_none refusals.Unset other = refl
+verifier_wants_none refusals.KindMismatch other = refl
+verifier_wants_none refusals.OutOfRegion other = refl
+verifier_wants_none refusals.UnsetStack other = refl
+verifier_wants_none refusals.HeaderWrite other = refl
+verifier_wants_none refusals.FrameWrite other = refl
+verifier_wants_none refusals.PointerRange other = refl
+verifier_wants_none refusals.MapKey other = refl
+verifier_wants_none refusals.Helper other = refl
+verifier_wants_none refusals.FallOff other = refl
+verifier_wants_none refusals.Budget other = refl
+verifier_wants_none refusals.Unsupported other = refl
+verifier_wants_none refusals.Memory other = absurd (other refl)
 
-at_end : (count : ℕ) → (count < 2 ^ 32) ⊎ (2 ^ 32 ≤ count)
-at_end count = search arith
+-- a slot where an instruction begins is one of the program's
+slot_within : (p : Program) (slot : ℕ) → IsSome (insn_at p slot) → slot < length p.slots
+slot_within p slot begins = elim at_end [
+  | inl below ↦ below
+  | inr past ↦ absurd (true_is_not_false (sym begins ∙ ap (λ (o : Option Insn). is_some o) (get_or_past p.slots slot None past)))
+]
+  where
+    at_end : (slot < length p.slots) ⊎ (length p.slots ≤ slot)
+    at_end = search arith
 
--- a code of publishing, which says 67 only of a history that is full
-of_publishing : (control : ControlData) (staged : List ℕ) (count : ℕ) (refusal : LoadRefusal) → control_code control ≡ None → (refusal.code ≡ 65) ⊎ (refusal.code ≡ 67) → (refusal.code ≡ 67 → 2 ^ 32 ≤ count) → TellsWhy control staged count refusal
-of_publishing control staged count refusal none which full =
-    let apart : (refusal.code ≢ 71) × (refusal.code ≢ 66) × (40 ≤ refusal.code) = elim which [
-      | inl a ↦ (omega (arith, a), omega (arith, a), omega (arith, a))
-      | inr b ↦ (omega (arith, b), omega (arith, b), omega (arith, b))
-    ] in
-    record {
-      control_is_wrong = no_control control refusal.code none apart.0 apart.1;
-      unspelled = λ low high. absurd (omega (arith, apart.2, high));
-      spelled = λ low. absurd (omega (arith, apart.2, low));
-      full = full;
-    }
+    true_is_not_false : true ≡ false → ⊥
+    true_is_not_false e = absurd cc
 
-by_publishing : (control : ControlData) (staged : List ℕ) (count : ℕ) (refusal : LoadRefusal) → control_code control ≡ None → IsUnpublished count refusal → TellsWhy control staged count refusal
-by_publishing control staged count refusal none is = elim (at_end count) [
-  | inl fewer ↦
-      let code : refusal.code ≡ 65 = ap (λ (r : LoadRefusal). r.code) (is.memory fewer) in
-      of_publishing control staged count refusal none (inl code) (λ e. absurd (omega (arith, code, e)))
-  | inr all ↦ of_publishing control staged count refusal none (inr (ap (λ (r : LoadRefusal). r.code) (is.full all))) (λ e. all)
+-- the slot of a refusal is one of the program's, where memory was not refused
+placed : FaultIsKnown → (p : Program) (r : Refused) → IsProgram p → IsRefusal p r → r.code ≢ refusals.Memory → r.slot < length p.slots
+placed known p r program why other = elim why [
+  | of_form fault ↦ (known p r program fault).1
+  | of_values formed fault ↦ slot_within p r.slot fault.begins
+  | of_memory formed code slot ↦ absurd (other code)
 ]
 
-by_code : (control : ControlData) (staged : List ℕ) (count : ℕ) (refusal : LoadRefusal) (o : Option ℕ) → control_code control ≡ o → IsUnpreparedBy o (loaded_bytes control staged) refusal → TellsWhy control staged count refusal
-by_code control staged count refusal (Some code) is why =
-    subst (λ (r : LoadRefusal). TellsWhy control staged count r) (sym why) (by_control control staged count code is)
-by_code control staged count refusal None is why = elim why [
-  | inl unspelled ↦ by_image control staged count refusal is unspelled
-  | inr unverified ↦ by_verifier control staged count refusal is unverified
+by_verifier : FaultIsKnown → (control : ControlData) (staged : List ℕ) (count : ℕ) (refused : Refused) → control_fault control ≡ None → IsUnverified (loaded_bytes control staged) (Unverified refused) → TellsWhy control staged count (Unverified refused)
+by_verifier known control staged count refused none is =
+    let few = refusal_codes_few refused.code in
+    let same : refused ≡ is.refused = unverified_same refused is.refused is.is in
+    let other : refused.code ≢ refusals.Memory = λ e. absurd (is.no_want (sym (ap (λ (r : Refused). r.code) same) ∙ e)) in
+    let why : IsRefusal is.program refused = subst (λ (r : Refused). IsRefusal is.program r) (sym same) is.why in
+    record {
+      control_is_wrong = no_control control (Unverified refused) none (omega (arith, few)) (omega (arith, few));
+      unspelled = λ low high. absurd (omega (arith, few, low));
+      spelled = λ low. (is.program, is.is_program, is.spelled, placed known is.program refused is.is_program why other);
+      full = λ e. absurd (omega (arith, few, e));
+      unplaced = λ low other. absurd (omega (arith, few, low));
+      no_want = verifier_wants_none refused.code other;
+    }
+  where
+    unverified_same : (a b : Refused) → Unverified a ≡ Unverified b → a ≡ b
+    unverified_same a b e = cc
+
+by_publishing : (control : ControlData) (staged : List ℕ) (count : ℕ) → control_fault control ≡ None → 2 ^ 32 ≤ count → TellsWhy control staged count GenerationsFull
+by_publishing control staged count none all = record {
+  control_is_wrong = no_control control GenerationsFull none (omega arith) (omega arith);
+  unspelled = λ low high. absurd (omega (arith, high));
+  spelled = λ low. absurd (omega (arith, low));
+  full = λ e. all;
+  unplaced = λ low other. refl;
+  no_want = refl;
+}
+
+by_fault : FaultIsKnown → (control : ControlData) (staged : List ℕ) (count : ℕ) (refusal : LoadRefusal) (o : Option LoadRefusal) → control_fault control ≡ o → IsUnpreparedBy o (loaded_bytes control staged) refusal → TellsWhy control staged count refusal
+by_fault known control staged count refusal (Some fault) is why = elim (control_faults control fault is) [
+  | inl first ↦ subst (λ (r : LoadRefusal). TellsWhy control staged count r) (sym (why ∙ first)) (by_control control staged count (is ∙ ap Some first))
+  | inr second ↦ subst (λ (r : LoadRefusal). TellsWhy control staged count r) (sym (why ∙ second)) (by_slot control staged count (is ∙ ap Some second))
+]
+by_fault known control staged count refusal None is why = elim why [
+  | inl unspelled ↦ subst (λ (r : LoadRefusal). TellsWhy control staged count r) (sym unspelled.is) (by_image control staged count unspelled.fault is unspelled.no_want unspelled.unspelled)
+  | inr unverified ↦ subst (λ (r : LoadRefusal). TellsWhy control staged count r) (sym unverified.is)
+      (by_verifier known control staged count unverified.refused is (subst (λ (r : LoadRefusal). IsUnverified (loaded_bytes control staged) r) unverified.is unverified))
 ]
 
-pub refusals_tell_why : RefusalsTellWhy
-refusals_tell_why control staged sizes count refusal load = elim load [
-  | inl unprepared ↦ by_code control staged count refusal (control_code control) refl unprepared
-  | inr prepared ↦ by_publishing control staged count refusal prepared.2.control_is_right prepared.3
+pub refusals_tell_why : FaultIsKnown → RefusalsTellWhy
+refusals_tell_why known control staged sizes count refusal load = elim load [
+  | inl unprepared ↦ by_fault known control staged count refusal (control_fault control) refl unprepared
+  | inr prepared ↦ subst (λ (r : LoadRefusal). TellsWhy control staged count r) (sym prepared.4) (by_publishing control staged count prepared.2.control_is_right prepared.3)
 ]

@@ -1,5 +1,5 @@
 -- Laws of loads.
-use Rattle.std.specs.Prelude.{◌≡◌, ◌≢◌, ◌≤◌, ◌⊎◌, ◌^◌, ◌↔◌, ℕ, List, Some}
+use Rattle.std.specs.Prelude.{◌≡◌, ◌≢◌, ◌<◌, ◌≤◌, ◌⊎◌, ◌^◌, ◌↔◌, ℕ, List, Some, false, length}
 use mathlib.Core.List.{IsPrefix}
 use Rattle.spw.specs.Cargo.{Cargo}
 use Rattle.rmap.specs.declared.status.Status.{Status}
@@ -14,7 +14,7 @@ use Rattle.target.specs.declared.refusal.LoadRefusal.{LoadRefusal}
 use Rattle.target.specs.Slots.{slot_of}
 use Rattle.target.specs.Passes.{PassValue}
 use Rattle.target.specs.Steps.{IsJudgement}
-use Rattle.target.specs.Loads.{control_code, loaded_bytes}
+use Rattle.target.specs.Loads.{control_fault, load_refusal_code, load_refusal_place, loaded_bytes, wants_memory}
 use Rattle.target.specs.Outcomes.{IsLoad, Refused}
 use Rattle.target.specs.Loaded.{HasLoaded}
 
@@ -22,15 +22,18 @@ use Rattle.target.specs.Loaded.{HasLoaded}
 abbrev pub IsControlCode : ℕ → Type 0
 IsControlCode code = (code ≡ 71) ⊎ (code ≡ 66)
 
--- what a refusal's code says: 71 and 66 come exactly where the control data have them, 33 to 39 only where the bytes
--- spell no image, 1 to 16 only where they spell one, and 67 only after 2^32 - 1 publishes
+-- what a refusal says: its code is 71 or 66 exactly where the control data are wrong, 33 to 39 only where the bytes
+-- spell no image, 1 to 16 only where they spell one, at a slot of which it stands, and 67 only after 2^32 - 1
+-- publishes; with every other code but 39, which is an instruction's, it has place 0; and memory was not wanted
 pub record TellsWhy (control : ControlData) (staged : List ℕ) (count : ℕ) (refusal : LoadRefusal) : Type 0 where
-  pub control_is_wrong : (control_code control ≡ Some refusal.code) ↔ IsControlCode refusal.code
-  pub unspelled : 33 ≤ refusal.code → refusal.code ≤ 39 → (p : Program) → IsProgram p → loaded_bytes control staged ≢ image_bytes p
-  pub spelled : refusal.code ≤ 16 → (p : Program) × IsProgram p × (loaded_bytes control staged ≡ image_bytes p)
-  pub full : refusal.code ≡ 67 → 2 ^ 32 ≤ count
+  pub control_is_wrong : (control_fault control ≡ Some refusal) ↔ IsControlCode (load_refusal_code refusal)
+  pub unspelled : 33 ≤ load_refusal_code refusal → load_refusal_code refusal ≤ 39 → (p : Program) → IsProgram p → loaded_bytes control staged ≢ image_bytes p
+  pub spelled : load_refusal_code refusal ≤ 16 → (p : Program) × IsProgram p × (loaded_bytes control staged ≡ image_bytes p) × (load_refusal_place refusal < length p.slots)
+  pub full : load_refusal_code refusal ≡ 67 → 2 ^ 32 ≤ count
+  pub unplaced : 33 ≤ load_refusal_code refusal → load_refusal_code refusal ≢ 39 → load_refusal_place refusal ≡ 0
+  pub no_want : wants_memory refusal ≡ false
 
--- the code of each refusal of a load tells why; of 40, 17 and 65, want of memory, nothing is said
+-- the refusal of each load tells why
 abbrev pub RefusalsTellWhy : Type 0
 RefusalsTellWhy =
     (control : ControlData) (staged : List ℕ) (sizes : Maps) (count : ℕ) (refusal : LoadRefusal)

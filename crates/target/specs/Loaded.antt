@@ -1,5 +1,5 @@
 -- How a judged control write ends.
-use Rattle.std.specs.Prelude.{◌≡◌, ◌⊎◌, ℕ, List, [], length, Option, Some, None}
+use Rattle.std.specs.Prelude.{◌≡◌, ◌<◌, ◌≤◌, ◌⊎◌, ℕ, List, [], length, Option, Some, None}
 use mathlib.Core.List.{IsPrefix}
 use Rattle.rmap.specs.declared.status.Status.{Status}
 use Rattle.rmap.specs.declared.status.Status.TheVariants.{Success, GeneralError}
@@ -16,11 +16,16 @@ use Rattle.target.specs.declared.control.ControlData.{ControlData}
 use Rattle.target.specs.declared.refusal.LoadRefusal.{LoadRefusal}
 use Rattle.target.specs.Passes.{PassValue}
 use Rattle.target.specs.Loads.{control_of, published_result, refused_result}
-use Rattle.target.specs.Outcomes.{IsLoad, Published, Refused}
+use Rattle.target.specs.Outcomes.{IsLoad, IsLoadRefusal, Published}
 
 -- what a control write asks for
 abbrev pub control_in : JudgedValue → ControlData
 control_in j = control_of (command_of j.packet).body
+
+-- a reader that knew of some programs and was told of others knows the longer list then, and nothing else
+pub record HasLearnt (known told seen : List Publish) : Type 0 where
+  pub longer : length known ≤ length told → seen ≡ told
+  pub shorter : length told < length known → seen ≡ known
 
 -- the staged program was published for the slot that the control data ask, with that generation, and the
 -- reader, which keeps what it knew, has learnt of it
@@ -32,6 +37,7 @@ pub record IsPublished (control : ControlData) (staged : List ℕ) (old new know
   pub place : generation ≡ length old
   pub told : IsPrefix new seen
   pub keeps : IsPrefix known seen
+  pub learnt : HasLearnt known new seen
 
 -- a port that has learnt so much, with that load result
 abbrev pub after_load : PassValue → (seen : List Publish) → (load_result : List ℕ) → PassValue
@@ -47,7 +53,7 @@ pub record HasLoaded (holder after : PassValue) (old new : List Publish) (j : Ju
 -- the load was refused, which the load result tells, and nothing else changed
 pub record HasRefused (holder after : PassValue) (old new : List Publish) (j : JudgedValue) (result : Status) : Type 0 where
   pub refusal : LoadRefusal
-  pub refused : IsLoad (control_in j) holder.staging.bytes (sizes_of old) (length old) (Refused refusal)
+  pub refused : IsLoadRefusal (control_in j) holder.staging.bytes (sizes_of old) (length old) refusal
   pub status : result ≡ GeneralError
   pub same : new ≡ old
   pub holder_after : after ≡ after_load holder holder.programs (refused_result refusal)

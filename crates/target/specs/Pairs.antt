@@ -1,16 +1,14 @@
 -- Banks and what ports have of them, as they are made together and as packets leave them.
 use Rattle.std.specs.Prelude.{◌≡◌, ◌≢◌, ℕ, true, List, map, length, slice_get, slice_set, Some}
 use Rattle.std.specs.List.{range_with_len}
-use Rattle.spw.specs.Cargo.{Cargo}
 use Rattle.rmap.specs.declared.places.Place.TheVariants.{Bank}
 use Rattle.bver.specs.Justified.{AcceptedValue}
 use base.Stored.{Gv}
-use Rattle.machine.specs.declared.calls.Call.{Call}
+use Rattle.bank.specs.Admission.{IsPlacedBy}
 use Rattle.bank.specs.Records.{BankValue, ShareValue, JudgedValue, extent_of, is_next, fits, after_command, next_share}
 use Rattle.target.specs.declared.config.BankConfig.{BankConfig}
 use Rattle.target.specs.Passes.{PassValue}
 use Rattle.target.specs.Nodes.{bank_of, first_pass}
-use Rattle.target.specs.Steps.{IsJudgedFor}
 use Rattle.target.specs.Applied.{share_of, with_share}
 
 -- the share is that port's, and its number is the bank's count of the port
@@ -34,11 +32,12 @@ MadeArePaired =
     (address ports : ℕ) (banks : List BankConfig) (program : AcceptedValue) (home : Gv)
     → ArePaired (map (bank_of ports) banks) (map (first_pass address banks program home) (range_with_len 0 ports))
 
--- where banks and a port are paired, a command that was judged for the port fits the bank of its place
+-- where banks and a port are paired, a judged command of the port whose place is that of its bytes under the port's
+-- windows fits the bank of its place
 abbrev pub PairedCommandsFit : Type 0
 PairedCommandsFit =
-    (banks : List BankValue) (h : PassValue) (program : AcceptedValue) (generation k : ℕ) (calls : List Call) (p : Cargo) (j : JudgedValue) (b : BankValue)
-    → IsPaired banks h → IsJudgedFor program generation h.port h.windows calls p j
+    (banks : List BankValue) (h : PassValue) (k : ℕ) (j : JudgedValue) (b : BankValue)
+    → IsPaired banks h → j.port ≡ h.port → IsPlacedBy h.windows j.packet j.place
     → j.place ≡ Bank k → slice_get banks k ≡ Some b → fits b (share_of h j.place) j ≡ true
 
 -- a command that is applied with the port's share leaves the port paired

@@ -27,7 +27,7 @@ fn end<J: Room>(
     let k = usize::from(k);
     if !bank.fits(&pass.shares[k], &judged) {
         return Applied {
-            status: judged.answer_error(reply),
+            status: judged.answer_error(bank, &pass.shares[k], reply),
             number: None,
         };
     }

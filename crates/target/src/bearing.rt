@@ -59,4 +59,17 @@ impl Bearing {
     {
         &self.windows
     }
+
+    /// The seat at the counters.
+    pub(crate) fn into_seat(self) -> CellSeat
+        ensures { seat_of result ≡ self.seat }
+    {
+        let Bearing {
+            port: _,
+            windows: _,
+            seat,
+            stack: _,
+        } = self;
+        seat
+    }
 }

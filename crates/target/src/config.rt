@@ -1,6 +1,10 @@
 //! What a node is made of.
 
+ghost use Rattle.std.specs.Prelude.{◌≡◌, ◌≤◌, length};
+ghost use Rattle.target.specs.Nodes.{windows_of};
+
 use bver::MapSizes;
+use rmap::{MAX_BANKS, Windows};
 
 /// One bank of a node.
 #[derive(Clone, Copy, Debug)]
@@ -24,4 +28,19 @@ pub struct NodeConfig<'a> {
     pub banks: &'a [BankConfig],
     /// The sizes of its counter maps.
     pub sizes: MapSizes,
+}
+
+impl NodeConfig<'_> {
+    /// The windows of the node: its address, and where its banks lie. The condition is at most eight banks.
+    pub fn windows(&self) -> Windows
+        requires { length self.now.banks.now ≤ MAX_BANKS }
+        ensures { result ≡ windows_of self.now.address self.now.banks.now }
+    {
+        let mut ranges = [(0, 0); MAX_BANKS];
+        let banks = self.banks;
+        for k in 0..banks.len() {
+            ranges[k] = (banks[k].base, banks[k].size);
+        }
+        Windows::new(self.address, &ranges[..banks.len()])
+    }
 }

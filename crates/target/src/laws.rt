@@ -4,6 +4,7 @@ ghost use Rattle.target.specs.Pairs.{MadeArePaired, PairedCommandsFit, OwnStaysP
 ghost use Rattle.target.specs.Laws.{LoadsAreTaken, RefusalsTellWhy};
 
 use bank::extents_stay;
+use bver_form::first_faults;
 use publish::published_programs;
 
 /// A law and no work: the banks and the passes of all ports are paired as they are made.
@@ -34,7 +35,9 @@ pub fn loads_are_taken()
     published_programs();
 }
 
-/// A law and no work: what the code of a load's refusal says.
+/// A law and no work: what the refusal of a load says, by its code and its place.
 pub fn refusals_tell_why()
     ensures { RefusalsTellWhy }
-{}
+{
+    first_faults();
+}

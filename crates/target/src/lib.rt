@@ -43,7 +43,7 @@ pub use lock::BankLock;
 pub use node::Node;
 pub use parts::banks_and_passes;
 pub use pass::Pass;
-pub use refusal::LoadRefusal;
+pub use refusal::{LoadRefusal, load_result_of};
 pub use served::{Served, serve_packet};
 pub use shares::PortShares;
 pub use slots::slot;

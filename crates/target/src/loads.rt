@@ -1,54 +1,62 @@
 //! Loads: a program that was staged is verified, to be published.
 
-ghost use Rattle.std.specs.Prelude.{◌≡◌, ◌<◌, ◌≤◌, ◌^◌, None, IfErr, IfOk, OnErr, OnOk, length};
+ghost use Rattle.std.specs.Prelude.{◌≡◌, ◌<◌, ◌≤◌, ◌^◌, ◌⊎◌, None, IfErr, IfOk, OnErr, OnOk, length};
 ghost use mathlib.Core.List.{IsPrefix};
 ghost use Rattle.bpf.specs.Program.{IsProgram, image_bytes};
 ghost use Rattle.bver.specs.Justified.{IsJustified};
 ghost use Rattle.publish.specs.Histories.{longer_history};
 ghost use Rattle.publish.specs.Published.{sizes_of};
-ghost use Rattle.target.specs.Loaded.{IsLoadEnd, IsPublished};
-ghost use Rattle.target.specs.Loads.{IsPrepared, IsUnprepared, IsUnpreparedBy, IsUnpublished, IsUnspelled, control_code, published_result};
-ghost use Rattle.target.specs.Outcomes.{IsLoad, Refused};
+ghost use Rattle.target.specs.Loaded.{HasLearnt, IsLoadEnd, IsPublished};
+ghost use Rattle.target.specs.Loads.{IsFirstFault, IsPrepared, IsUnprepared, IsUnpreparedBy, IsUnpublished, IsUnspelled, WantsToPrepare, WantsToVerify, control_fault, loaded_bytes};
+ghost use Rattle.target.specs.Outcomes.{IsLoadRefusal};
 
 use crate::control::{ControlData, read_control};
 use crate::pass::Pass;
-use crate::refusal::LoadRefusal;
+use crate::refusal::{LoadRefusal, load_result_of};
 use bank::{Judged, judged_fault};
-use bpf::Image;
+use bpf::{Image, ImageFault};
 use bver::{Accepted, MapSizes, verify};
+use bver_form::first_faults;
 use publish::{LAST_SLOT, Publisher, Reader, Room, Staging};
 use rmap::{Place, ReplyBuf, STAGING_SIZE, Status};
 use std::alloc::Global;
 use std::sync::Wait;
 
-/// The code of control data that is not right.
-fn control_code(control: ControlData) -> Option<u8>
-    ensures { result ≡ control_code control }
+/// What is wrong with control data.
+fn control_fault(control: ControlData) -> Option<LoadRefusal>
+    ensures { result ≡ control_fault control }
 {
     if control.zero != 0 || u32::from(control.length) > STAGING_SIZE {
-        return Some(71);
+        return Some(LoadRefusal::Control);
     }
     if control.slot > LAST_SLOT {
-        return Some(66);
+        return Some(LoadRefusal::Slot);
     }
     None
 }
 
 /// The image that the bytes spell.
+#[tactic(auto, using(crate::proofs::Refusals::unspelled, crate::proofs::Refusals::first_fault))]
 fn image_of(alloc: Global, bytes: &[u8]) -> Result<Image, LoadRefusal>
     ensures spelled { IfOk result (λ image. IsProgram image × (bytes.now ≡ image_bytes image)) }
-    ensures unspelled { IfErr result (λ refusal. IsUnspelled bytes.now refusal) }
+    ensures unspelled { IfErr result (λ refusal.
+        IsUnspelled bytes.now refusal ⊎ (refusal ≡ LoadRefusal.Image ImageFault.Memory)) }
+    ensures first { IfErr result (IsFirstFault bytes.now) }
 {
     let image = Image::read(alloc, bytes)?;
     Ok(image)
 }
 
 /// The program that the bytes spell, accepted for those sizes.
+#[tactic(auto, using(crate::proofs::Refusals::unread, crate::proofs::Refusals::unverified, crate::proofs::Refusals::no_fault))]
 fn program_of(alloc: Global, bytes: &[u8], sizes: &MapSizes) -> Result<Accepted, LoadRefusal>
     ensures spelled { IfOk result (λ a. IsProgram a.program × (bytes.now ≡ image_bytes a.program)) }
     ensures justified { IfOk result (λ a. IsJustified a.program sizes.now × (a.sizes ≡ sizes.now)) }
-    ensures refused { IfErr result (λ refusal. IsUnpreparedBy None bytes.now refusal) }
+    ensures refused { IfErr result (λ refusal.
+        IsUnpreparedBy None bytes.now refusal ⊎ WantsToVerify bytes.now refusal) }
+    ensures first { IfErr result (IsFirstFault bytes.now) }
 {
+    first_faults();
     let image = image_of(alloc, bytes)?;
     Ok(verify(alloc, image, sizes)?)
 }
@@ -58,8 +66,10 @@ fn program_of(alloc: Global, bytes: &[u8], sizes: &MapSizes) -> Result<Accepted,
 ///
 /// # Errors
 ///
-/// In this order: 71 for a second byte that is not zero or a length over 16,384, 66 for a slot over 3, 32 + k for
-/// the image fault k, 1 to 17 for a refusal of the verifier.
+/// In this order: `Control` for a second byte that is not zero or a length over 16,384, `Slot` for a slot over 3,
+/// `Image` for bytes that spell no image, with its first fault, `Program` for a refusal of the verifier; the last two
+/// also where memory was refused ([`LoadRefusal::wants_memory`]).
+#[tactic(auto, using(crate::proofs::Refusals::misdirected, crate::proofs::Refusals::unprepared, crate::proofs::Refusals::no_control_fault))]
 pub fn prepare(
     alloc: Global,
     staging: &Staging,
@@ -68,10 +78,12 @@ pub fn prepare(
 ) -> Result<(u8, Accepted), LoadRefusal>
     ensures prepared { IfOk result
         (λ made. IsPrepared control staging.now.bytes sizes.now made.0 made.1) }
-    ensures refused { IfErr result (IsUnprepared control staging.now.bytes) }
+    ensures refused { IfErr result (λ refusal. IsUnprepared control staging.now.bytes refusal
+        ⊎ WantsToPrepare control staging.now.bytes refusal) }
+    ensures first { IfErr result (IsFirstFault (loaded_bytes control staging.now.bytes)) }
 {
-    if let Some(code) = control_code(control) {
-        return Err(LoadRefusal { code, place: 0 });
+    if let Some(fault) = control_fault(control) {
+        return Err(fault);
     }
     let bytes = &staging.bytes()[..usize::from(control.length)];
     let accepted = program_of(alloc, bytes, sizes)?;
@@ -79,6 +91,7 @@ pub fn prepare(
 }
 
 /// Publishes a program for a slot, and lets a reader learn of it: the program's generation. It may wait.
+#[tactic(auto, using(crate::proofs::Loadings::learnt))]
 fn install<J: Room, R: Wait + Drop>(
     reader: &mut Reader<J>,
     publisher: &mut Publisher<J, R>,
@@ -91,6 +104,8 @@ fn install<J: Room, R: Wait + Drop>(
     ensures generation { IfOk result (λ n. n ≡ length publisher.old) }
     ensures told { OnOk result (IsPrefix publisher.new reader.new.programs) }
     ensures keeps { IsPrefix reader.old.programs reader.new.programs }
+    ensures learnt { OnOk result
+        (HasLearnt reader.old.programs publisher.new reader.new.programs) }
     ensures same { OnErr result ((publisher.new ≡ publisher.old) × (reader.new ≡ reader.old)) }
     ensures refused { IfErr result (IsUnpublished (length publisher.old)) }
     ensures fewer { OnOk result (length publisher.old < 2 ^ 32) }
@@ -103,6 +118,7 @@ fn install<J: Room, R: Wait + Drop>(
 
 /// Publishes the staged program that control data ask for, and lets the reader learn of it: its generation.
 /// It may wait.
+#[tactic(auto, using(crate::proofs::Refusals::not_prepared, crate::proofs::Refusals::not_published))]
 fn publish_staged<J: Room, R: Wait + Drop>(
     alloc: Global,
     reader: &mut Reader<J>,
@@ -112,24 +128,13 @@ fn publish_staged<J: Room, R: Wait + Drop>(
 ) -> Result<u32, LoadRefusal>
     ensures published { IfOk result (λ n. IsPublished control staging.now.bytes
         publisher.old publisher.new reader.old.programs reader.new.programs n) }
-    ensures refused { IfErr result (λ refusal. IsLoad control staging.now.bytes
-        (sizes_of publisher.old) (length publisher.old) (Refused refusal)) }
+    ensures refused { IfErr result (IsLoadRefusal control staging.now.bytes
+        (sizes_of publisher.old) (length publisher.old)) }
     ensures same { OnErr result ((publisher.new ≡ publisher.old) × (reader.new ≡ reader.old)) }
     ensures sizes { sizes_of reader.new.programs ≡ sizes_of reader.old.programs }
 {
     let (slot, program) = prepare(alloc, staging, control, &publisher.sizes())?;
     install(reader, publisher, slot, program)
-}
-
-/// The load result of a program that was published with that generation, the most significant byte first.
-fn published_result(generation: u32) -> [u8; 8]
-    ensures { result ≡ published_result generation }
-{
-    let first = (generation / 0x100_0000 % 0x100) as u8;
-    let second = (generation / 0x1_0000 % 0x100) as u8;
-    let third = (generation / 0x100 % 0x100) as u8;
-    let fourth = (generation % 0x100) as u8;
-    [0, 0, 0, 0, first, second, third, fourth]
 }
 
 /// Loads what the port staged, where the verdict on the control write is yes and its body is right, and leaves
@@ -153,7 +158,7 @@ pub fn load<J: Room, R: Wait + Drop>(
     let control = read_control(judged.command().body());
     let reader = &mut pass.reader;
     let (status, loaded) = match publish_staged(alloc, reader, publisher, &pass.staging, control) {
-        Ok(generation) => (Status::Success, published_result(generation)),
+        Ok(generation) => (Status::Success, load_result_of(generation)),
         Err(refusal) => (Status::GeneralError, refusal.load_result()),
     };
     pass.staging.set_load_result(loaded);

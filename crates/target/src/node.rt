@@ -1,7 +1,8 @@
 //! A node, as threads share it.
 
-ghost use Rattle.std.specs.Prelude.{◌≡◌, ◌<◌, ◌≤◌, length, IfOk, IfErr, None};
+ghost use Rattle.std.specs.Prelude.{◌≡◌, ◌<◌, ◌≤◌, ◌-◌, [], length, IfOk, IfErr, None};
 ghost use base.Stored.{Gv};
+ghost use Rattle.cells.specs.Seats.{cells};
 ghost use Rattle.target.specs.Nodes.{AreNumbered, IsNodeFault, first_passes, limit_fault};
 
 use crate::banks::Banks;
@@ -11,6 +12,7 @@ use crate::lock::BankLock;
 use crate::parts::banks_and_passes;
 use crate::pass::Pass;
 use bver::Accepted;
+use cells::Cells;
 use publish::{Opened, Publisher, Room};
 use rmap::MAX_BANKS;
 use std::alloc::{AllocError, Global};
@@ -72,12 +74,36 @@ impl<J: Room, R: Wait + Drop> Node<J, R> {
         ensures limits { IfOk result (λ _. limit_fault config.now ≡ None) }
         ensures fault { IfErr result (IsNodeFault (limit_fault config.now)) }
     {
-        let (banks, _cells, publisher, passes) = banks_and_passes(
+        let (node, _cells, passes) = Node::with_cells(alloc, rt, opened, config, factory)?;
+        Ok((node, passes))
+    }
+
+    /// A node as [`Node::new`] makes it, and beside it the cells of its counters. They are no part of the node, which
+    /// is shared: whoever keeps them may take each pass's seat back ([`Pass::into_seat`]) and then knows which
+    /// tickets were drawn.
+    pub fn with_cells(
+        alloc: Global,
+        rt: R,
+        opened: Opened,
+        config: &NodeConfig,
+        factory: Accepted,
+    ) -> Result<(Node<J, R>, Cells, Vec<Pass<J>>), NodeFault>
+        requires room { opened ≡ J.book }
+        requires sizes { factory.sizes ≡ config.now.sizes }
+        ensures banks { IfOk result (λ made. made.0 ≡ length config.now.banks.now) }
+        ensures cells { IfOk result
+            (λ made. made.1 ≡ cells config.now.sizes made.1.home (256 - config.now.ports) []) }
+        ensures passes { IfOk result
+            (λ made. made.2.items ≡ first_passes config.now factory made.1.home) }
+        ensures limits { IfOk result (λ _. limit_fault config.now ≡ None) }
+        ensures fault { IfErr result (IsNodeFault (limit_fault config.now)) }
+    {
+        let (banks, cells, publisher, passes) = banks_and_passes(
             alloc, rt, opened, config, factory,
         )?;
         let banks = locks(alloc, banks)?;
         let publisher = Mutex::new(publisher);
-        Ok((Node { banks, publisher }, passes))
+        Ok((Node { banks, publisher }, cells, passes))
     }
 
     /// How many banks the node has.

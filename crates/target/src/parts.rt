@@ -5,7 +5,7 @@ ghost use base.Stored.{Gv};
 ghost use Rattle.bver.specs.Justified.{AcceptedValue};
 ghost use Rattle.cells.specs.Seats.{cells};
 ghost use Rattle.target.specs.Pairs.{ArePaired};
-ghost use Rattle.target.specs.Nodes.{AreFirst, AreSharesOf, IsNodeFault, windows_of, fresh_banks, first_passes, first_programs, limit_fault};
+ghost use Rattle.target.specs.Nodes.{AreFirst, AreSharesOf, IsNodeFault, fresh_banks, first_passes, first_programs, limit_fault};
 
 use crate::banks::Banks;
 use crate::bearing::Bearing;
@@ -16,23 +16,10 @@ use crate::shares::PortShares;
 use bver::Accepted;
 use cells::{CellSeat, Cells};
 use publish::{Opened, Programs, Publisher, Reader, Room, Staging};
-use rmap::{MAX_BANKS, Windows};
+use rmap::MAX_BANKS;
 use spw::PORTS;
 use std::alloc::{AllocError, Global};
 use std::sync::Wait;
-
-/// The windows of the node.
-fn windows(config: &NodeConfig) -> Windows
-    requires { length config.now.banks.now ≤ MAX_BANKS }
-    ensures { result ≡ windows_of config.now.address config.now.banks.now }
-{
-    let mut ranges = [(0, 0); MAX_BANKS];
-    let banks = config.banks;
-    for k in 0..banks.len() {
-        ranges[k] = (banks[k].base, banks[k].size);
-    }
-    Windows::new(config.address, &ranges[..banks.len()])
-}
 
 /// The pass of each port, in order.
 fn passes<J: Room>(
@@ -57,7 +44,7 @@ fn passes<J: Room>(
             unreachable!()
         };
         let pass = Pass {
-            bearing: Bearing::new(port, windows(config), seat),
+            bearing: Bearing::new(port, config.windows(), seat),
             reader,
             shares: by_port[usize::from(port)].take(alloc),
             staging: Staging::new(alloc)?,

@@ -1,10 +1,11 @@
 //! What a port has of its node.
 
 ghost use Rattle.std.specs.Prelude.{◌≡◌, ◌<◌, length, slice_get, Some};
-ghost use Rattle.target.specs.Passes.{IsPass};
+ghost use Rattle.target.specs.Passes.{IsPass, seat_of};
 
 use crate::bearing::Bearing;
 use bank::Share;
+use cells::CellSeat;
 use publish::{Reader, Room, Staging};
 use spw::PORTS;
 use std::marker::Model;
@@ -59,5 +60,19 @@ impl<J: Room> Pass<J> {
         ensures { result.now ≡ self.now.staging }
     {
         &self.staging
+    }
+
+    /// Takes the pass apart: its seat at the counters, to be given back to the cells
+    /// ([`Cells::take_back`](cells::Cells::take_back)). The other parts end.
+    pub fn into_seat(self) -> CellSeat
+        ensures { seat_of result ≡ self.seat }
+    {
+        let Pass {
+            bearing,
+            reader: _reader,
+            shares: _shares,
+            staging: _staging,
+        } = self;
+        bearing.into_seat()
     }
 }

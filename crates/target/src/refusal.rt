@@ -1,65 +1,120 @@
 //! Why a load is refused.
 
 ghost use Rattle.std.specs.Prelude.{◌≡◌};
-ghost use Rattle.target.specs.Loads.{image_refusal, program_refusal, publish_refusal, refused_result};
+ghost use Rattle.target.specs.Loads.{load_refusal_code, load_refusal_place, published_result, refused_result, refusal_of_publishing, wants_memory};
+ghost use Rattle.target.specs.declared.refusal.LoadRefusal.TheVariants.{Image, Program};
 
 use bpf::ImageFault;
-use bver::Refused;
+use bver::{Refusal, Refused};
+use byteorder::{BigEndian, ByteOrder};
 use publish::PublishFault;
 
-/// Why a load is refused: a code, and a slot of the image where there is one.
+/// Why a load is refused. It is tested in the order of the variants; the last two come in publishing, for which
+/// memory is taken only while generations are not full.
 #[derive(Clone, Copy, Debug, PartialEq, Eq)]
-pub struct LoadRefusal {
-    /// 71 for a second byte that is not zero and for a length over 16,384, 66 for a slot over 3, 32 + k for the
-    /// image fault k, 1 to 17 for the verifier's refusals, and in publishing 65 for want of memory and 67 where
-    /// generations are full.
-    pub code: u8,
-    /// The slot of the image at which it was refused, or 0.
-    pub place: u16,
+pub enum LoadRefusal {
+    /// The second byte of the control data is not zero, or the length is over 16,384.
+    Control,
+    /// The slot is over 3.
+    Slot,
+    /// The staged bytes spell no image, or memory was refused to the image.
+    Image(ImageFault),
+    /// The verifier refuses the program, or memory was refused to the verifier.
+    Program(Refused),
+    /// Memory was refused to publishing.
+    Memory,
+    /// 4,294,967,295 programs were published.
+    GenerationsFull,
 }
 
 impl LoadRefusal {
+    /// The number by which the load result names the refusal: 71 for control data, 66 for a slot, 32 more than
+    /// the number of an image's fault, the number of the verifier's refusal, and in publishing 65 for memory and
+    /// 67 where generations are full.
+    #[tactic(auto, using(crate::proofs::Refusals::image_codes_few))]
+    pub fn code(self) -> u8
+        ensures { result ≡ load_refusal_code self }
+    {
+        match self {
+            LoadRefusal::Control => 71,
+            LoadRefusal::Slot => 66,
+            LoadRefusal::Image(fault) => 32 + fault.code(),
+            LoadRefusal::Program(refused) => refused.number(),
+            LoadRefusal::Memory => 65,
+            LoadRefusal::GenerationsFull => 67,
+        }
+    }
+
+    /// The slot of the image at which it was refused, or 0 where there is none.
+    pub fn place(self) -> u16
+        ensures { result ≡ load_refusal_place self }
+    {
+        match self {
+            LoadRefusal::Image(fault) => fault.slot(),
+            LoadRefusal::Program(refused) => refused.slot,
+            LoadRefusal::Control
+            | LoadRefusal::Slot
+            | LoadRefusal::Memory
+            | LoadRefusal::GenerationsFull => 0,
+        }
+    }
+
+    /// Whether memory was refused, to the image, to the verifier or to publishing: no fault of what was staged.
+    pub fn wants_memory(self) -> bool
+        ensures { result ≡ wants_memory self }
+    {
+        match self {
+            LoadRefusal::Image(fault) => matches!(fault, ImageFault::Memory),
+            LoadRefusal::Program(refused) => matches!(refused.code, Refusal::Memory),
+            LoadRefusal::Memory => true,
+            LoadRefusal::Control | LoadRefusal::Slot | LoadRefusal::GenerationsFull => false,
+        }
+    }
+
     /// The load result: code, a zero byte, place, and generation 0, the most significant bytes first.
     pub fn load_result(self) -> [u8; 8]
         ensures { result ≡ refused_result self }
     {
-        let high = (self.place / 256) as u8;
-        let low = (self.place % 256) as u8;
-        [self.code, 0, high, low, 0, 0, 0, 0]
+        let mut bytes = [self.code(), 0, 0, 0, 0, 0, 0, 0];
+        BigEndian::write_u16(&mut bytes[2..], self.place());
+        bytes
     }
 }
 
-impl From<ImageFault> for LoadRefusal {
-    ghost from_gives = { λ fault refusal. refusal ≡ image_refusal fault };
+/// The load result of a program that was published with that generation: four zero bytes, and the generation, the
+/// most significant byte first.
+pub fn load_result_of(generation: u32) -> [u8; 8]
+    ensures { result ≡ published_result generation }
+{
+    let mut bytes = [0; 8];
+    BigEndian::write_u32(&mut bytes[4..], generation);
+    bytes
+}
 
-    #[tactic(auto, using(crate::proofs::Refusals::image_codes_few))]
+impl From<ImageFault> for LoadRefusal {
+    ghost from_gives = { λ fault refusal. refusal ≡ Image fault };
+
     fn from(fault: ImageFault) -> LoadRefusal {
-        LoadRefusal {
-            code: 32 + fault.code(),
-            place: fault.slot(),
-        }
+        LoadRefusal::Image(fault)
     }
 }
 
 impl From<Refused> for LoadRefusal {
-    ghost from_gives = { λ refused refusal. refusal ≡ program_refusal refused };
+    ghost from_gives = { λ refused refusal. refusal ≡ Program refused };
 
     fn from(refused: Refused) -> LoadRefusal {
-        LoadRefusal {
-            code: refused.code.code(),
-            place: refused.slot,
-        }
+        LoadRefusal::Program(refused)
     }
 }
 
 impl From<PublishFault> for LoadRefusal {
-    ghost from_gives = { λ fault refusal. refusal ≡ publish_refusal fault };
+    ghost from_gives = { λ fault refusal. refusal ≡ refusal_of_publishing fault };
 
-    #[tactic(auto, using(crate::proofs::Refusals::publish_codes_few))]
     fn from(fault: PublishFault) -> LoadRefusal {
-        LoadRefusal {
-            code: 64 + fault.code(),
-            place: 0,
+        match fault {
+            PublishFault::Memory => LoadRefusal::Memory,
+            PublishFault::Slot => LoadRefusal::Slot,
+            PublishFault::GenerationsFull => LoadRefusal::GenerationsFull,
         }
     }
 }

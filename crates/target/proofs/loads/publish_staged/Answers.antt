@@ -1,0 +1,14 @@
+use Rattle.std.proofs.Common.{subst}
+use Rattle.machine.specs.Sizes.{Maps}
+use Rattle.target.specs.Loads.{IsPrepared}
+use Rattle.target.proofs.Refusals.{not_prepared_told, not_published_told}
+use Rattle.target.proofs.loads.publish_staged.Goals as goal
+
+pub returns-in_err-slot-clause-refused : goal.returns-in_err-slot-clause-refused
+returns-in_err-slot-clause-refused g c =
+    not_prepared_told _ _ _ _ c.in_err-slot.field-0.0 _ c.from_residual.ensures.1 c.in_err-slot.ensures.refused
+
+pub returns-clause-refused : goal.returns-clause-refused
+returns-clause-refused g c =
+    let prepared = subst (λ (sizes : Maps). IsPrepared c.args.control c.args.staging.now.bytes sizes c.in_ok-slot.slot c.in_ok-slot.program) c.sizes.ensures c.in_ok-slot.ensures.prepared in
+    not_published_told _ _ _ _ _ _ _ prepared c.install.ensures.refused
