@@ -1,0 +1,4 @@
+mod Outcomes
+mod Readings
+mod TextLines
+mod Numerals

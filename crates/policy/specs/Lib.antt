@@ -1,0 +1,5 @@
+pub mod Codes
+pub mod Fields
+pub mod Lines
+pub mod Meaning
+pub mod Laws

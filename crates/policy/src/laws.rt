@@ -1,0 +1,24 @@
+//! Laws of policy tables. These functions do nothing; their contracts are the laws.
+
+ghost use Rattle.policy.specs.Laws.{DrawsAreAnswered, DrawsAreFew, FirstRuleDecides, HeadersHaveFields, NoRuleRefuses};
+ghost use Rattle.policy.specs.Lines.{TableIsUnambiguous};
+
+/// A table draws at most once a rule, and its draws are answered by what is told, in order. Where the first
+/// rule whose conditions hold has no quota, nothing is drawn, and the verdict is that rule's; where those of
+/// no rule hold, nothing is drawn, and the verdict is 10.
+pub fn decisions()
+    ensures few { DrawsAreFew }
+    ensures answered { DrawsAreAnswered }
+    ensures first { FirstRuleDecides }
+    ensures none { NoRuleRefuses }
+{}
+
+/// A rule speaks of a header as of the command whose header it is: the fields are the command's.
+pub fn headers_have_fields()
+    ensures { HeadersHaveFields }
+{}
+
+/// A text is one table at most.
+pub fn table_is_unambiguous()
+    ensures { TableIsUnambiguous }
+{}

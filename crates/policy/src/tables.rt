@@ -1,0 +1,138 @@
+//! Policy tables.
+
+ghost use Rattle.std.specs.Prelude.{◌≡◌, ◌+◌, ◌≤◌, ◌++◌, length, slice_index, vec_len, IfErr, IfOk, OnErr, OnOk};
+ghost use Rattle.std.specs.Vec.{vec_capacity};
+ghost use Rattle.machine.specs.Memory.{header};
+ghost use Rattle.spw.specs.Line.{lines_of};
+ghost use Rattle.policy.specs.Lines.{IsReadFault, IsTable};
+ghost use Rattle.policy.specs.Meaning.{decision, draw as draw_of, told_by};
+
+use crate::faults::PolicyFault;
+use crate::lines::read_rules;
+use crate::rules::{Quota, Rule, Ruling};
+use machine::Call;
+use std::alloc::{AllocError, Global};
+use std::marker::Model;
+
+/// The number of the helper that draws a ticket.
+const TICKET: u8 = 2;
+
+/// A policy table: rules in order, of which the first that matches gives the verdict.
+#[derive(Debug, Drop)]
+pub struct Table {
+    rules: Vec<Rule>,
+}
+
+impl Model for Table {
+    ghost use Rattle.std.specs.Prelude.{List};
+    ghost use Rattle.policy.specs.declared.rules.Rule.{Rule};
+
+    ghost Value = { List Rule };
+
+    ghost view = { λ t. t.rules.items };
+}
+
+/// The answer of that number, or 0 where there is none left.
+fn answer_at(answers: &[u64], drawn: usize) -> u64
+    ensures { result ≡ slice_index answers.now drawn }
+{
+    answers.get(drawn).copied().unwrap_or(0)
+}
+
+/// The ticket of a quota that was drawn, with its answer.
+fn draw(quota: &Quota, answer: u64) -> Call
+    ensures { result ≡ draw_of quota.now answer }
+{
+    Call {
+        helper: TICKET,
+        map: quota.map,
+        key: quota.cell,
+        answer,
+    }
+}
+
+/// What rules say of a header. Each draw is appended to the calls, for which there is room.
+fn decide_by(
+    rules: &[Rule],
+    front: &[u8; 4],
+    tail: &[u8; 12],
+    answers: &[u64],
+    calls: &mut Vec<Call>,
+) -> u64
+    requires { vec_len calls.old + length rules.now ≤ vec_capacity calls.old }
+    ensures draws { calls.new.items ≡ calls.old.items
+        ++ (decision rules.now (header front.now tail.now) (told_by answers.now)).0 }
+    ensures verdict { result
+        ≡ (decision rules.now (header front.now tail.now) (told_by answers.now)).1 }
+{
+    let mut left = rules;
+    let mut drawn = 0;
+    while let [rule, later @ ..] = left {
+        left = later;
+        if !rule.holds(front, tail) {
+            continue;
+        }
+        let Some(quota) = rule.quota else {
+            return u64::from(rule.ruling.code());
+        };
+        let answer = answer_at(answers, drawn);
+        drawn += 1;
+        calls.push_reserved(draw(&quota, answer));
+        if answer < u64::from(quota.limit) {
+            return u64::from(rule.ruling.code());
+        }
+    }
+    u64::from(Ruling::No.code())
+}
+
+impl Table {
+    /// The table that a text writes, one rule a line.
+    ///
+    /// A line is ended by a line feed, which the last may lack. It has eight words, with spaces between
+    /// them: kind (`read`, `write`, `rmw` or `any`), key, initiator logical address and extended address
+    /// (two hexadecimal digits, or `*` for any), first and last address (eight hexadecimal digits), quota
+    /// (`-` for none, or `MAP:CELL:LIMIT` in decimal, with a limit of at most 2,147,483,647) and verdict
+    /// (`0`, `3`, `10` or `12`). The empty text is the table without rules.
+    ///
+    /// # Errors
+    ///
+    /// `BadLine` where a line is none of these, a blank one too; `Memory` where memory was refused.
+    pub fn read(alloc: Global, text: &str) -> Result<Table, PolicyFault>
+        ensures read { IfOk result (IsTable text.now) }
+        ensures fault { IfErr result (IsReadFault (lines_of text.now)) }
+    {
+        let rules = read_rules(alloc, text)?;
+        Ok(Table { rules })
+    }
+
+    /// The rules, in order.
+    pub fn rules(&self) -> &[Rule]
+        ensures { result.now ≡ self.now }
+    {
+        self.rules.as_slice()
+    }
+
+    /// What the table says of a header, without being compiled: the first four bytes of the header, target
+    /// logical address to key, and the last twelve, initiator logical address to header CRC. The answers of
+    /// its draws are taken in order, and 0 where none is left. Each draw is appended to the calls.
+    ///
+    /// # Errors
+    ///
+    /// Where memory was refused; the calls are as they were.
+    pub fn decide(
+        &self,
+        front: &[u8; 4],
+        tail: &[u8; 12],
+        answers: &[u64],
+        calls: &mut Vec<Call>,
+    ) -> Result<u64, AllocError>
+        ensures draws { OnOk result (calls.new.items ≡ calls.old.items
+            ++ (decision self.now (header front.now tail.now) (told_by answers.now)).0) }
+        ensures verdict { IfOk result (λ verdict. verdict
+            ≡ (decision self.now (header front.now tail.now) (told_by answers.now)).1) }
+        ensures kept { OnErr result (calls.new.items ≡ calls.old.items) }
+    {
+        calls.reserve(self.rules.len())?;
+        Ok(decide_by(self.rules.as_slice(), front, tail, answers, calls))
+    }
+}
