@@ -1,0 +1,58 @@
+-- A port's queue: what was put is what was taken, and then what the queue holds. One pass puts, and one takes.
+use Rattle.std.specs.Prelude.{◌≡◌, ◌≤◌, ◌⊎◌, ◌^◌, ℕ, Bool, true, List, ◌++◌}
+use mathlib.Core.Option.{some}
+use lib.ListN.{get_elem?}
+use Rattle.crossbeam_queue.specs.Passes.{view, IsPassOf, IsSamePass, ruled_capacity}
+use Rattle.crossbeam_queue.specs.Fifo.{Held}
+use Rattle.ports.specs.declared.item.Item.{Item}
+use Rattle.ports.specs.declared.item.Log.{Log}
+use Rattle.ports.specs.declared.port.Port.{Port}
+use Rattle.ports.specs.declared.port.PutPass.{PutPass}
+use Rattle.ports.specs.declared.port.ServePass.{ServePass}
+
+-- a view with these rights, which has put and taken these items
+abbrev pub log : Bool → Bool → List Item → List Item → Log
+log puts takes put taken = record { puts = puts; takes = takes; put = put; taken = taken }
+
+-- a pass that may put is the writer's and has what was put, and a pass that may take is the reader's and has what was
+-- taken
+abbrev pub Fits : (writer reader : ℕ) → (put taken : List Item) → ℕ → Log → Type 0
+Fits writer reader put taken pass v = (v.puts ≡ true → (pass ≡ writer) × (v.put ≡ put)) × (v.takes ≡ true → (pass ≡ reader) × (v.taken ≡ taken))
+
+-- in order: what was put is what was taken, then what the queue holds; one pass at most puts, and one at most takes
+abbrev pub InOrder : List Item → List Log → Type 0
+InOrder items views = (writer : ℕ) × (reader : ℕ) × (put : List Item) × (taken : List Item) × (put ≡ taken ++ items)
+    × ((pass : ℕ) (v : Log) → get_elem? views pass ≡ some v → Fits writer reader put taken pass v)
+
+-- the second list ends with the first
+abbrev pub IsEnd : List Item → List Item → Type 0
+IsEnd items all = (first : List Item) × (all ≡ first ++ items)
+
+-- what a pass has put, in order
+abbrev pub put_of : PutPass → List Item
+put_of p = (view p.pass).put
+
+-- what a pass has taken, in order
+abbrev pub taken_of : ServePass → List Item
+taken_of p = (view p.pass).taken
+
+-- the pass is of this port, and may put
+abbrev pub IsPutPassOf : Port → PutPass → Type 0
+IsPutPassOf port p = IsPassOf port.queue p.pass × ((view p.pass).puts ≡ true)
+
+-- the pass is of this port, and may take
+abbrev pub IsServePassOf : Port → ServePass → Type 0
+IsServePassOf port p = IsPassOf port.queue p.pass × ((view p.pass).takes ≡ true)
+
+-- the second pass is the first, later: of the port of which that was, and it may take
+abbrev pub IsServePassAfter : (old new : ServePass) → Type 0
+IsServePassAfter old new = IsSamePass old.pass new.pass × ((view new.pass).takes ≡ true)
+
+-- how many items a port's queue has room for
+abbrev pub capacity_of : Port → ℕ
+capacity_of port = ruled_capacity port.queue
+
+-- at one moment of the call the queue held as many items as it has room for, the end of what was put; or 2^62 items
+-- were put
+abbrev pub IsFullOf : Port → PutPass → Type 0
+IsFullOf port p = Held (capacity_of port) (λ items. IsEnd items (put_of p)) ⊎ (2 ^ 62 ≤ p.puts)
