@@ -5,8 +5,8 @@ use Rattle.commands.specs.Lines.{Judges, JudgesAll, ServesLine, IsBad, IsBadPack
 use Rattle.commands.specs.Stops.{StopsBy}
 use Rattle.commands.specs.declared.faults.Fault.{Fault}
 use Rattle.commands.specs.declared.faults.Fault.TheVariants.{CannotRead, CannotWrite, NoMemory, BadText, BadImage, Unfit, BadLine}
-use Rattle.commands.specs.declared.stops.Stop.{Stop}
-use Rattle.commands.specs.declared.stops.Stop.TheVariants.{Ended, Unwritten}
+use Rattle.commands.specs.declared.stops.Halt.{Halt}
+use Rattle.commands.specs.declared.stops.Halt.TheVariants.{Ended, Unwritten}
 
 -- one more line
 pub judges_more : (lines : List (List ℕ)) (line : List ℕ) (a b c : JobNodeValue) (o p q : Option (List ℕ))
@@ -23,14 +23,14 @@ around (first ∷ lines) zero line low = refl
 around (first ∷ lines) (suc n) line low = ap (λ (l : List (List ℕ)). first ∷ l) (around lines n line (omega (arith, low)))
 
 -- a packet was served, but memory was refused to what is printed of it
-pub untold : (line : List ℕ) (count : ℕ) (a b : JobNodeValue) (o p : Option (List ℕ)) (stop : Stop)
+pub untold : (line : List ℕ) (count : ℕ) (a b : JobNodeValue) (o p : Option (List ℕ)) (stop : Halt)
     → ServesLine line a b → StopsBy (λ fault. fault ≡ NoMemory) stop → StopsBy (λ fault. p ≡ o) stop → StopsBy (IsBadPacket line count a b o p) stop
 untold line count a b o p (Unwritten refused) serves none quiet = tt
 untold line count a b o p (Ended fault) serves none quiet =
     subst (λ (f : Fault). IsBadPacket line count a b o p f) (sym none) (serves, quiet)
 
 -- a stop at a line is one of the lines
-pub stops_at : (lines judged rest : List (List ℕ)) (line : List ℕ) (count : ℕ) (a b c : JobNodeValue) (o p q : Option (List ℕ)) (stop : Stop)
+pub stops_at : (lines judged rest : List (List ℕ)) (line : List ℕ) (count : ℕ) (a b c : JobNodeValue) (o p q : Option (List ℕ)) (stop : Halt)
     → lines ≡ judged ++ line ∷ rest → count ≡ suc (length judged) → JudgesAll judged a b o p → StopsBy (IsBadPacket line count b c p q) stop → StopsBy (IsBadLine lines a c o q) stop
 stops_at lines judged rest line count a b c o p q (Unwritten refused) are place all bad = tt
 stops_at lines judged rest line count a b c o p q (Ended (CannotRead file)) are place all bad = absurd bad

@@ -4,8 +4,7 @@ use Rattle.clap.specs.Walk.{Row, first_of}
 use Rattle.clap.specs.Simple.{App, new_app, with_rule}
 use Rattle.bpf.specs.Program.{Program}
 use Rattle.commands.specs.Arguments.{file_rule}
-use Rattle.commands.specs.declared.jobs.Job.{Job}
-use Rattle.commands.specs.declared.jobs.Job.TheVariants.{Assemble, Disassemble, Verify, Judge}
+use Rattle.commands.specs.declared.asm.AsmWords.{AsmWords}
 use Rattle.commands.specs.declared.usage.UsageFault.{UsageFault}
 use Rattle.commands.specs.declared.usage.UsageFault.TheVariants.{Parse, BadOption, Memory}
 
@@ -13,13 +12,10 @@ use Rattle.commands.specs.declared.usage.UsageFault.TheVariants.{Parse, BadOptio
 abbrev pub asm_app : App
 asm_app = with_rule (with_rule (new_app (codes "asm")) (file_rule (codes "text"))) (file_rule (codes "image"))
 
--- the job is that of asm with these matches
-abbrev pub NamesAsm : List Row → Job → Type 0
-NamesAsm rows (Assemble text image) = (first_of (codes "text") rows ≡ Some (string_bytes text))
-    × (first_of (codes "image") rows ≡ Some (string_bytes image))
-NamesAsm rows (Disassemble image) = ⊥
-NamesAsm rows (Verify image sizes) = ⊥
-NamesAsm rows (Judge lines image sizes ports) = ⊥
+-- the words are those of asm with these matches
+abbrev pub NamesAsm : List Row → AsmWords → Type 0
+NamesAsm rows words = (first_of (codes "text") rows ≡ Some (string_bytes words.text))
+    × (first_of (codes "image") rows ≡ Some (string_bytes words.image))
 
 -- matches of asm without one of its files, or memory was refused
 abbrev pub LacksEither : List Row → UsageFault → Type 0

@@ -35,10 +35,10 @@ subcommand_in words = subcommand_of rmapctl_app words
 -- the job is that of the subcommand with its matches
 abbrev pub Names : Option (Text × List Row) → Job → Type 0
 Names None job = ⊥
-Names (Some found) (Assemble text image) = (found.0 ≡ codes "asm") × NamesAsm found.1 (Assemble text image)
-Names (Some found) (Disassemble image) = (found.0 ≡ codes "dis") × NamesDis found.1 (Disassemble image)
-Names (Some found) (Verify image sizes) = (found.0 ≡ codes "verify") × NamesVerify found.1 (Verify image sizes)
-Names (Some found) (Judge lines image sizes ports) = (found.0 ≡ codes "judge") × NamesJudge found.1 (Judge lines image sizes ports)
+Names (Some found) (Assemble words) = (found.0 ≡ codes "asm") × NamesAsm found.1 words
+Names (Some found) (Disassemble words) = (found.0 ≡ codes "dis") × NamesDis found.1 words
+Names (Some found) (Verify words) = (found.0 ≡ codes "verify") × NamesVerify found.1 words
+Names (Some found) (Judge words) = (found.0 ≡ codes "judge") × NamesJudge found.1 words
 
 -- what the user is told of a refusal by clap of this kind
 abbrev pub TellsRefusal : ErrorKind → UsageFault → Type 0

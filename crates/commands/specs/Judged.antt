@@ -1,18 +1,19 @@
 -- What the job `judge` reads and prints.
-use Rattle.std.specs.Prelude.{◌≡◌, ◌⊎◌, ℕ, List, Option, Some, None}
+use Rattle.std.specs.Prelude.{◌≡◌, ◌⊎◌, ℕ, List, Option, Some, None, string_bytes}
 use Rattle.std.specs.Borrow.{Bor}
 use Rattle.std.specs.Str.{IsUtf8}
 use Rattle.bpf.specs.Program.{Program}
 use Rattle.bver.specs.Justified.{AcceptedValue, IsJustified}
 use Rattle.machine.specs.Runs.{IsSafe}
-use Rattle.machine.specs.Sizes.{Maps}
 use Rattle.commands.specs.Factory.{factory, IsNoFactory}
 use Rattle.commands.specs.Files.{Reads, HoldsImage, HoldsNoText}
 use Rattle.commands.specs.JobNode.{JobNodeValue, IsFresh}
 use Rattle.commands.specs.Lines.{IsBadLine, JudgesAll, lines_of}
+use Rattle.commands.specs.Options.{image_name}
 use Rattle.commands.specs.Reading.{IsNoProgram}
 use Rattle.commands.specs.declared.faults.Fault.{Fault}
 use Rattle.commands.specs.declared.faults.Fault.TheVariants.{CannotRead, NoMemory}
+use Rattle.commands.specs.declared.judge.JudgeWords.{JudgeWords}
 
 module _ {S : Type 0} (reads : Reads S) where
   -- the program is that of the image in the file of this name, or the factory program
@@ -54,36 +55,36 @@ module _ {S : Type 0} (reads : Reads S) where
       ⊎ ProgramUnread before lines image after fault
       ⊎ ((fault ≡ NoMemory) × ((text : List ℕ) × (p : Program) × AreRead before lines image text p after))
 
-module _ {S : Type 0} (reads : Reads S) (sizes : Maps) (ports : ℕ) where
-  -- the text is that of the file of lines, and the node is a fresh one with so many ports, whose
+module _ {S : Type 0} (reads : Reads S) (words : JudgeWords) where
+  -- the text is that of the file of lines, and the node is a fresh one of these words, whose
   -- commands the program judges, which is justified on it, and so safe
-  pub record IsReady (before : S) (lines : List ℕ) (image : Option (List ℕ)) (text : List ℕ) (node : JobNodeValue) (after : S) : Type 0 where
+  pub record IsReady (before : S) (text : List ℕ) (node : JobNodeValue) (after : S) : Type 0 where
     pub program : AcceptedValue
-    pub read : AreRead reads before lines image text program.program after
-    pub sizes_of : program.sizes ≡ sizes
-    pub justified : IsJustified program.program sizes
-    pub safe : IsSafe program.program sizes
-    pub fresh : IsFresh ports program node
+    pub read : AreRead reads before (string_bytes words.lines) (image_name words.node) text program.program after
+    pub sizes_of : program.sizes ≡ words.node.sizes
+    pub justified : IsJustified program.program words.node.sizes
+    pub safe : IsSafe program.program words.node.sizes
+    pub fresh : IsFresh words.node.ports program node
 
   -- each line of the file was judged in turn on that node
-  pub record JudgesFile (before : S) (lines : List ℕ) (image : Option (List ℕ)) (after : S) (old new : Option (List ℕ)) : Type 0 where
+  pub record JudgesFile (before after : S) (old new : Option (List ℕ)) : Type 0 where
     pub text : List ℕ
     pub fresh : JobNodeValue
     pub left : JobNodeValue
-    pub ready : IsReady before lines image text fresh after
+    pub ready : IsReady before text fresh after
     pub all : JudgesAll (lines_of text) fresh left old new
 
   -- each line up to a bad one, or to one of which memory was refused to what is printed, was judged in turn on
   -- that node
-  pub record StopsAtLine (before : S) (lines : List ℕ) (image : Option (List ℕ)) (after : S) (old new : Option (List ℕ)) (fault : Fault) : Type 0 where
+  pub record StopsAtLine (before after : S) (old new : Option (List ℕ)) (fault : Fault) : Type 0 where
     pub text : List ℕ
     pub fresh : JobNodeValue
     pub left : JobNodeValue
-    pub ready : IsReady before lines image text fresh after
+    pub ready : IsReady before text fresh after
     pub bad : IsBadLine (lines_of text) fresh left old new fault
 
   -- why not all lines were judged: nothing was printed where lines or program cannot be read
-  abbrev pub IsNotJudged : (before : S) (lines : List ℕ) → Option (List ℕ) → (after : S) → (old new : Option (List ℕ)) → Fault → Type 0
-  IsNotJudged before lines image after old new fault =
-      ((new ≡ old) × IsNotReady reads before lines image after fault)
-      ⊎ StopsAtLine before lines image after old new fault
+  abbrev pub IsNotJudged : (before after : S) → (old new : Option (List ℕ)) → Fault → Type 0
+  IsNotJudged before after old new fault =
+      ((new ≡ old) × IsNotReady reads before (string_bytes words.lines) (image_name words.node) after fault)
+      ⊎ StopsAtLine before after old new fault

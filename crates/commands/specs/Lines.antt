@@ -1,11 +1,11 @@
 -- The packet lines of a text, and what is printed of each.
-use Rattle.std.specs.Prelude.{◌≡◌, ◌≤◌, ◌⊎◌, ◌==◌, ℕ, suc, cond, List, [], ◌∷◌, ◌++◌, length, Option}
+use Rattle.std.specs.Prelude.{◌≡◌, ◌≤◌, ◌⊎◌, ℕ, suc, List, [], ◌∷◌, ◌++◌, length, Option}
 use Rattle.std.specs.Io.KnownBytes.{Appends}
-use Rattle.std.specs.List.{onto_first}
 pub use Rattle.basm.specs.Relation.{pieces_of}
 use Rattle.spw.specs.Cargo.{Cargo}
 use Rattle.spw.specs.Fault.{line_fault_code}
-use Rattle.spw.specs.Line.{HasFault, IsPacketLine}
+pub use Rattle.spw.specs.Line.{lines_of}
+use Rattle.spw.specs.Line.{HasFault, IsPacketLine, marker_word}
 use Rattle.spw.specs.declared.faults.LineFault.{LineFault}
 use Rattle.spw.specs.declared.faults.LineFault.TheVariants as line_faults
 use Rattle.target.specs.declared.served.Served.{Served}
@@ -15,11 +15,6 @@ use Rattle.commands.specs.JobNode.{JobNodeValue, Serves}
 use Rattle.commands.specs.JudgeJob.{discard_line, reply_line}
 use Rattle.commands.specs.declared.faults.Fault.{Fault}
 use Rattle.commands.specs.declared.faults.Fault.TheVariants.{CannotRead, CannotWrite, NoMemory, BadText, BadImage, Unfit, BadLine}
-
--- the lines of a text: a line feed ends a line, and the last may lack its own
-abbrev pub lines_of : List ℕ → List (List ℕ)
-lines_of [] = []
-lines_of (byte ∷ bytes) = cond (byte == 10) ([] ∷ lines_of bytes) (onto_first byte (lines_of bytes))
 
 -- the line that is printed of what became of a packet, with the reply that was due
 abbrev pub served_line : (port : ℕ) → Served → (reply : List ℕ) → List ℕ
@@ -62,7 +57,7 @@ pub record HasNoPort (line : List ℕ) (node : JobNodeValue) : Type 0 where
 -- the number of the fault of a line: it is no packet line, or it has no port of the node
 abbrev pub IsBad : List ℕ → JobNodeValue → ℕ → Type 0
 IsBad line node code =
-    ((fault : LineFault) × (code ≡ line_fault_code fault) × ((fault ≡ line_faults.Memory) ⊎ HasFault line fault))
+    ((fault : LineFault) × (code ≡ line_fault_code fault) × ((fault ≡ line_faults.Memory) ⊎ HasFault marker_word line fault))
     ⊎ ((code ≡ 6) × HasNoPort line node)
 
 -- the line of this number is bad, and nothing came of it; or its packet was served, and memory was refused to

@@ -1,10 +1,14 @@
--- The values of the options: the sizes of counter maps, and how many ports a node has.
-use Rattle.std.specs.Prelude.{◌≡◌, ◌≤◌, ◌==◌, ◌⊎◌, codes, ℕ, List, [], map, All, Option, Some, None}
+-- The values of the options: the sizes of counter maps, and how many ports a node has; and the words of a node.
+use Rattle.std.specs.Prelude.{◌≡◌, ◌≤◌, ◌==◌, ◌⊎◌, codes, ℕ, List, [], map, All, Option, Some, None, option_map, string_bytes}
 use Rattle.std.specs.Borrow.{Bor}
 use Rattle.std.specs.List.{slice_split}
 use Rattle.std.specs.Str.Parse.{IsNumeral, digits_value}
 use Rattle.clap.specs.Walk.{Row, first_of}
+use Rattle.clap.specs.Simple.{App, with_rule}
 use Rattle.machine.specs.Sizes.{Maps, AreSizes}
+use Rattle.machine.specs.declared.sizes.TheConstants.{MAX_CELLS}
+use Rattle.commands.specs.Arguments.{option_rule}
+use Rattle.commands.specs.declared.options.NodeWords.{NodeWords}
 use Rattle.commands.specs.declared.usage.UsageFault.{UsageFault}
 use Rattle.commands.specs.declared.usage.UsageFault.TheVariants.{Parse, BadOption, Memory}
 
@@ -26,7 +30,7 @@ IsValueFault right fault = (fault ≡ Memory) ⊎ IsBadValue right fault
 
 -- how many cells a map has: one to 256
 abbrev pub IsSize : List ℕ → Type 0
-IsSize part = IsNumberWithin 1 256 part
+IsSize part = IsNumberWithin 1 MAX_CELLS part
 
 -- each part writes the size of a map
 abbrev pub WriteSizes : List (Bor (List ℕ)) → List ℕ → Type 0
@@ -79,3 +83,27 @@ abbrev pub RefusesCount : List Row → UsageFault → Type 0
 RefusesCount rows Memory = ⊥
 RefusesCount rows BadOption = IsBadCount (first_of (codes "ports") rows)
 RefusesCount rows (Parse text) = ⊥
+
+-- a subcommand with the options of a node: `[--image FILE] [--maps LIST] [--ports N]`
+abbrev pub with_node_options : App → App
+with_node_options app =
+    with_rule (with_rule (with_rule app (option_rule (codes "image"))) (option_rule (codes "maps"))) (option_rule (codes "ports"))
+
+-- the name of the file of the image that judges, where the words of a node have one
+abbrev pub image_name : NodeWords → Option (List ℕ)
+image_name node = option_map string_bytes node.image
+
+-- the words are those of a node with these matches
+abbrev pub GivesNode : List Row → NodeWords → Type 0
+GivesNode rows node = (first_of (codes "image") rows ≡ image_name node)
+    × GivesSizes (first_of (codes "maps") rows) node.sizes × GivesPorts (first_of (codes "ports") rows) node.ports
+
+-- matches with a list of maps or a number of ports that is none
+abbrev pub SpoilsNode : List Row → Type 0
+SpoilsNode rows = IsBadList (first_of (codes "maps") rows) ⊎ IsBadCount (first_of (codes "ports") rows)
+
+-- such matches, or memory was refused
+abbrev pub RefusesNode : List Row → UsageFault → Type 0
+RefusesNode rows Memory = Unit {0}
+RefusesNode rows BadOption = SpoilsNode rows
+RefusesNode rows (Parse text) = ⊥

@@ -1,5 +1,5 @@
 -- What each job does, with its fault and its exit status.
-use Rattle.std.specs.Prelude.{◌≡◌, ℕ, zero, suc, List, Option, option_map, string_bytes}
+use Rattle.std.specs.Prelude.{◌≡◌, ℕ, zero, suc, List, Option, string_bytes}
 use Rattle.std.specs.Io.KnownBytes.{Appends}
 use Rattle.commands.specs.Assembled.{Assembles, IsNotAssembled}
 use Rattle.commands.specs.Disassembled.{Disassembles, IsNotPrinted}
@@ -16,23 +16,21 @@ module _ {S : Type 0} (reads : Reads S) (writes : Writes S) where
   -- the job was done: what it read and wrote led from one state of the files to the other, and
   -- what it prints was printed
   abbrev pub IsDone : Job → (before after : S) → (old new : Option (List ℕ)) → Type 0
-  IsDone (Judge lines image sizes ports) before after old new =
-      JudgesFile reads sizes ports before (string_bytes lines) (option_map string_bytes image) after old new
-  IsDone (Assemble text image) before after old new =
-      Assembles reads writes before (string_bytes text) (string_bytes image) after old new
-  IsDone (Disassemble image) before after old new = Disassembles reads before (string_bytes image) after old new
-  IsDone (Verify image sizes) before after old new = Verifies reads before (string_bytes image) sizes after old new
+  IsDone (Judge words) before after old new = JudgesFile reads words before after old new
+  IsDone (Assemble words) before after old new =
+      Assembles reads writes before (string_bytes words.text) (string_bytes words.image) after old new
+  IsDone (Disassemble words) before after old new = Disassembles reads before (string_bytes words.image) after old new
+  IsDone (Verify words) before after old new = Verifies reads before (string_bytes words.image) words.sizes after old new
 
   -- the fault ended the job; only `judge` printed before it
   abbrev pub IsEnded : Job → (before after : S) → (old new : Option (List ℕ)) → Fault → Type 0
-  IsEnded (Judge lines image sizes ports) before after old new fault =
-      IsNotJudged reads sizes ports before (string_bytes lines) (option_map string_bytes image) after old new fault
-  IsEnded (Assemble text image) before after old new fault =
-      IsNotAssembled reads writes before (string_bytes text) (string_bytes image) after fault × (new ≡ old)
-  IsEnded (Disassemble image) before after old new fault =
-      IsNotPrinted reads before (string_bytes image) after fault × (new ≡ old)
-  IsEnded (Verify image sizes) before after old new fault =
-      IsNoProgram reads before (string_bytes image) after fault × (new ≡ old)
+  IsEnded (Judge words) before after old new fault = IsNotJudged reads words before after old new fault
+  IsEnded (Assemble words) before after old new fault =
+      IsNotAssembled reads writes before (string_bytes words.text) (string_bytes words.image) after fault × (new ≡ old)
+  IsEnded (Disassemble words) before after old new fault =
+      IsNotPrinted reads before (string_bytes words.image) after fault × (new ≡ old)
+  IsEnded (Verify words) before after old new fault =
+      IsNoProgram reads before (string_bytes words.image) after fault × (new ≡ old)
 
   -- a fault ended the job, and its line was printed after what came before
   pub record TellsFault (job : Job) (before after : S) (old new : Option (List ℕ)) : Type 0 where

@@ -4,22 +4,18 @@ use Rattle.clap.specs.Walk.{Row, first_of}
 use Rattle.clap.specs.Simple.{App, with_rule}
 use Rattle.commands.specs.Arguments.{image_app, option_rule}
 use Rattle.commands.specs.Options.{GivesSizes, IsBadList}
-use Rattle.commands.specs.declared.jobs.Job.{Job}
-use Rattle.commands.specs.declared.jobs.Job.TheVariants.{Assemble, Disassemble, Verify, Judge}
 use Rattle.commands.specs.declared.usage.UsageFault.{UsageFault}
 use Rattle.commands.specs.declared.usage.UsageFault.TheVariants.{Parse, BadOption, Memory}
+use Rattle.commands.specs.declared.verify.VerifyWords.{VerifyWords}
 
 -- `verify FILE [--maps LIST]`
 abbrev pub verify_app : App
 verify_app = with_rule (image_app (codes "verify")) (option_rule (codes "maps"))
 
--- the job is that of verify with these matches
-abbrev pub NamesVerify : List Row → Job → Type 0
-NamesVerify rows (Assemble text image) = ⊥
-NamesVerify rows (Disassemble image) = ⊥
-NamesVerify rows (Verify image sizes) = (first_of (codes "image") rows ≡ Some (string_bytes image))
-    × GivesSizes (first_of (codes "maps") rows) sizes
-NamesVerify rows (Judge lines image sizes ports) = ⊥
+-- the words are those of verify with these matches
+abbrev pub NamesVerify : List Row → VerifyWords → Type 0
+NamesVerify rows words = (first_of (codes "image") rows ≡ Some (string_bytes words.image))
+    × GivesSizes (first_of (codes "maps") rows) words.sizes
 
 -- matches without the file, or with a list of maps that is none
 abbrev pub SpoilsVerify : List Row → Type 0

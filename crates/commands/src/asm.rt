@@ -12,9 +12,8 @@ ghost use Rattle.commands.specs.Stops.{StopsBy};
 
 use crate::arguments::{file, name_of};
 use crate::faults::Fault;
-use crate::jobs::Job;
 use crate::programs::text_in;
-use crate::stops::Stop;
+use crate::stops::Halt;
 use crate::storage::Files;
 use crate::usage::UsageFault;
 use basm::assemble;
@@ -22,6 +21,15 @@ use bpf::Image;
 use clap::{ArgMatches, Command};
 use std::alloc::{AllocError, Global};
 use std::io::{self, Write};
+
+/// The words of the job `asm`.
+#[derive(Debug, Drop)]
+pub struct AsmWords {
+    /// The name of the file of the text.
+    pub text: String,
+    /// The name of the file that the image is written to.
+    pub image: String,
+}
 
 /// `asm FILE OUT`.
 pub fn asm_command<'a>(alloc: Global) -> Result<Command<'a>, AllocError>
@@ -38,14 +46,14 @@ pub fn asm_command<'a>(alloc: Global) -> Result<Command<'a>, AllocError>
         .arg(image)
 }
 
-/// The job of `asm` with these matches.
-pub fn asm_job(alloc: Global, found: &ArgMatches) -> Result<Job, UsageFault>
+/// The words of `asm` with these matches.
+pub fn asm_job(alloc: Global, found: &ArgMatches) -> Result<AsmWords, UsageFault>
     ensures ok { IfOk result (NamesAsm (rows_of (found_of found.now))) }
     ensures err { IfErr result (LacksEither (rows_of (found_of found.now))) }
 {
     let text = name_of(alloc, found, "text")?;
     let image = name_of(alloc, found, "image")?;
-    Ok(Job::Assemble { text, image })
+    Ok(AsmWords { text, image })
 }
 
 /// The image that the text of a file writes.
@@ -77,7 +85,7 @@ pub fn assemble_file<'a, F: Files, W: Write>(
     image: &'a str,
     files: &mut F,
     out: &mut W,
-) -> Result<(), Stop<'a>>
+) -> Result<(), Halt<'a>>
     ensures done { OnOk result (Assembles F.reads F.writes files.old text.now image.now files.new
         (W.contents out.old) (W.contents out.new)) }
     ensures stops { IfErr result (StopsBy

@@ -12,15 +12,21 @@ ghost use Rattle.commands.specs.Printed.{Prints};
 ghost use Rattle.commands.specs.Stops.{StopsBy};
 
 use crate::arguments::{image_command, name_of};
-use crate::jobs::Job;
 use crate::programs::image_in;
-use crate::stops::Stop;
+use crate::stops::Halt;
 use crate::storage::Files;
 use crate::usage::UsageFault;
 use basm::disassemble;
 use clap::{ArgMatches, Command};
 use std::alloc::{AllocError, Global};
 use std::io::{self, Write};
+
+/// The words of the job `dis`.
+#[derive(Debug, Drop)]
+pub struct DisWords {
+    /// The name of the file of the image.
+    pub image: String,
+}
 
 /// `dis FILE`.
 pub fn dis_command<'a>(alloc: Global) -> Result<Command<'a>, AllocError>
@@ -30,13 +36,13 @@ pub fn dis_command<'a>(alloc: Global) -> Result<Command<'a>, AllocError>
     image_command(alloc, "dis", "Prints the text of a BPF image")
 }
 
-/// The job of `dis` with these matches.
-pub fn dis_job(alloc: Global, found: &ArgMatches) -> Result<Job, UsageFault>
+/// The words of `dis` with these matches.
+pub fn dis_job(alloc: Global, found: &ArgMatches) -> Result<DisWords, UsageFault>
     ensures ok { IfOk result (NamesDis (rows_of (found_of found.now))) }
     ensures err { IfErr result (Lacks (codes "image") (rows_of (found_of found.now))) }
 {
     let image = name_of(alloc, found, "image")?;
-    Ok(Job::Disassemble { image })
+    Ok(DisWords { image })
 }
 
 /// Prints the text of an image, which has its line feeds.
@@ -54,7 +60,7 @@ pub fn disassemble_file<'a, F: Files, W: Write>(
     image: &'a str,
     files: &mut F,
     out: &mut W,
-) -> Result<(), Stop<'a>>
+) -> Result<(), Halt<'a>>
     ensures done { OnOk result (Disassembles F.reads files.old image.now files.new
         (W.contents out.old) (W.contents out.new)) }
     ensures stops { IfErr result (StopsBy (IsNotPrinted F.reads files.old image.now files.new)) }

@@ -112,7 +112,7 @@ impl fmt::Display for Fault<'_> {
             Fault::CannotWrite(name) => write!(f, "cannot write {name}"),
             Fault::NoMemory => write!(f, "no memory"),
             Fault::BadText(fault) => {
-                let code = fault.code.code();
+                let code = fault.number();
                 let line = fault.line;
                 write!(f, "asm fault {code} line {line}")
             }
@@ -122,7 +122,7 @@ impl fmt::Display for Fault<'_> {
                 write!(f, "image fault {code} slot {slot}")
             }
             Fault::Unfit(refused) => {
-                let code = refused.code.code();
+                let code = refused.number();
                 let slot = refused.slot;
                 write!(f, "refused V{code} slot {slot}")
             }

@@ -4,13 +4,12 @@ ghost use Rattle.std.specs.Prelude.{◌≡◌, IfErr, IfOk, OnOk};
 ghost use Rattle.commands.specs.Performed.{IsDone, IsEnded, Performs};
 ghost use Rattle.commands.specs.Stops.{StopsBy};
 
-use crate::asm::assemble_file;
-use crate::dis::disassemble_file;
-use crate::judge::judge_file;
-use crate::stops::{Stop, WriteFault};
+use crate::asm::{AsmWords, assemble_file};
+use crate::dis::{DisWords, disassemble_file};
+use crate::judge::{JudgeWords, judge_file};
+use crate::stops::{Halt, WriteFault};
 use crate::storage::Files;
-use crate::verify::verify_file;
-use bver::MapSizes;
+use crate::verify::{VerifyWords, verify_file};
 use publish::{Opened, Room};
 use std::alloc::Global;
 use std::io::Write;
@@ -21,35 +20,13 @@ use std::sync::Wait;
 #[derive(Debug, Drop)]
 pub enum Job {
     /// Judges each packet line of a file, and prints what comes of it.
-    Judge {
-        /// The name of the file of packet lines.
-        lines: String,
-        /// The name of the file of the BPF image that judges; without it the factory image does.
-        image: Option<String>,
-        /// How many cells each counter map of the node has.
-        sizes: MapSizes,
-        /// How many ports the node has: 1 to 32. With any other number the job ends as for want of memory.
-        ports: u8,
-    },
+    Judge(JudgeWords),
     /// Assembles a text, and writes the image.
-    Assemble {
-        /// The name of the file of the text.
-        text: String,
-        /// The name of the file that the image is written to.
-        image: String,
-    },
+    Assemble(AsmWords),
     /// Prints the text of a BPF image.
-    Disassemble {
-        /// The name of the file of the image.
-        image: String,
-    },
+    Disassemble(DisWords),
     /// Verifies a BPF image, and prints whether it may judge.
-    Verify {
-        /// The name of the file of the image.
-        image: String,
-        /// How many cells each counter map has of the node that it may judge on.
-        sizes: MapSizes,
-    },
+    Verify(VerifyWords),
 }
 
 /// Does a job, up to its end or the fault that ends it, which is still to be printed.
@@ -60,7 +37,7 @@ fn attempt<'a, J: Room, R: Wait, F: Files, W: Write>(
     job: &'a Job,
     files: &mut F,
     out: &mut W,
-) -> Result<(), Stop<'a>>
+) -> Result<(), Halt<'a>>
     requires { opened ≡ J.book }
     ensures done { OnOk result (IsDone F.reads F.writes job.now files.old files.new
         (W.contents out.old) (W.contents out.new)) }
@@ -68,21 +45,12 @@ fn attempt<'a, J: Room, R: Wait, F: Files, W: Write>(
         (W.contents out.old) (W.contents out.new))) }
 {
     match job {
-        Job::Judge {
-            lines,
-            image,
-            sizes,
-            ports,
-        } => {
-            let image = image.as_deref();
-            let lines = lines.as_str();
-            judge_file::<J, _, _, _>(rt, alloc, opened, lines, image, *sizes, *ports, files, out)
+        Job::Judge(words) => judge_file::<J, _, _, _>(rt, alloc, opened, words, files, out),
+        Job::Assemble(words) => {
+            assemble_file(alloc, words.text.as_str(), words.image.as_str(), files, out)
         }
-        Job::Assemble { text, image } => {
-            assemble_file(alloc, text.as_str(), image.as_str(), files, out)
-        }
-        Job::Disassemble { image } => disassemble_file(alloc, image.as_str(), files, out),
-        Job::Verify { image, sizes } => verify_file(alloc, image.as_str(), *sizes, files, out),
+        Job::Disassemble(words) => disassemble_file(alloc, words.image.as_str(), files, out),
+        Job::Verify(words) => verify_file(alloc, words.image.as_str(), words.sizes, files, out),
     }
 }
 
@@ -101,11 +69,11 @@ fn perform_opened<J: Room, R: Wait, F: Files, W: Write>(
 {
     match attempt::<J, _, _, _>(rt, alloc, opened, job, files, out) {
         Ok(()) => Ok(0),
-        Err(Stop::Ended(fault)) => {
+        Err(Halt::Ended(fault)) => {
             writeln!(out, "{fault}")?;
             Ok(1)
         }
-        Err(Stop::Unwritten(fault)) => Err(fault),
+        Err(Halt::Unwritten(fault)) => Err(fault),
     }
 }
 

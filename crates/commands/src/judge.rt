@@ -8,6 +8,7 @@ ghost use Rattle.clap.specs.Matches.{found_of};
 ghost use Rattle.bver.specs.Justified.{IsJustified};
 ghost use Rattle.machine.specs.Runs.{IsSafe};
 ghost use Rattle.commands.specs.Arguments.{name_in};
+ghost use Rattle.commands.specs.Options.{image_name};
 ghost use Rattle.commands.specs.Factory.{IsNoFactory, factory, factory_insns};
 ghost use Rattle.commands.specs.JudgeJob.{NamesJudge, RefusesJudge, discard_line, judge_app, reply_line};
 ghost use Rattle.commands.specs.Judged.{HoldsNoProgram, HoldsProgram, IsNotJudged, IsNotReady, IsReady, JudgesFile};
@@ -16,13 +17,12 @@ ghost use Rattle.commands.specs.Printed.{Prints};
 ghost use Rattle.commands.specs.Stops.{StopsBy};
 ghost use Rattle.commands.specs.declared.faults.Fault.TheVariants.{NoMemory};
 
-use crate::arguments::{file, name_of, option, text_of};
+use crate::arguments::{file, name_of};
 use crate::faults::Fault;
-use crate::jobs::Job;
 use crate::node::JobNode;
-use crate::options::{ports_of, sizes_of};
+use crate::options::{NodeWords, node_arguments, node_words};
 use crate::programs::{program_in, text_in};
-use crate::stops::Stop;
+use crate::stops::Halt;
 use crate::storage::Files;
 use crate::usage::UsageFault;
 use bpf::Image;
@@ -35,10 +35,19 @@ use spw::read_line;
 use std::alloc::{AllocError, Global};
 use std::io::{self, Write};
 use std::sync::Wait;
-use target::{Served, Stop as PacketStop};
+use target::{Served, Stop};
 
 /// The budget of the factory program, which has two steps.
 const FACTORY_BUDGET: u32 = 2;
+
+/// The words of the job `judge`.
+#[derive(Debug, Drop)]
+pub struct JudgeWords {
+    /// The name of the file of packet lines.
+    pub lines: String,
+    /// The node that judges.
+    pub node: NodeWords,
+}
 
 /// `judge LINES [--image FILE] [--maps LIST] [--ports N]`.
 pub fn judge_command<'a>(alloc: Global) -> Result<Command<'a>, AllocError>
@@ -47,38 +56,19 @@ pub fn judge_command<'a>(alloc: Global) -> Result<Command<'a>, AllocError>
 {
     let help = "The file of packet lines, or - for standard input";
     let lines = file(alloc, "lines", "LINES", help);
-    let help = "The file of the BPF image that judges, in place of the factory image";
-    let image = option(alloc, "image", "FILE", help);
-    let help = "How many cells each counter map has, as 5,1; without it there are no maps";
-    let maps = option(alloc, "maps", "LIST", help);
-    let help = "How many ports the node has, 1 to 32; without it one";
-    let ports = option(alloc, "ports", "N", help);
-    Command::new(alloc, "judge")
-        .about("Judges each packet line and prints its reply")
-        .arg(lines)?
-        .arg(image)?
-        .arg(maps)?
-        .arg(ports)
+    let about = "Judges each packet line and prints its reply";
+    let judge = Command::new(alloc, "judge").about(about).arg(lines)?;
+    node_arguments(alloc, judge)
 }
 
-/// The job of `judge` with these matches.
-pub fn judge_job(alloc: Global, found: &ArgMatches) -> Result<Job, UsageFault>
+/// The words of `judge` with these matches.
+pub fn judge_job(alloc: Global, found: &ArgMatches) -> Result<JudgeWords, UsageFault>
     ensures ok { IfOk result (NamesJudge (rows_of (found_of found.now))) }
     ensures err { IfErr result (RefusesJudge (rows_of (found_of found.now))) }
 {
     let lines = name_of(alloc, found, "lines")?;
-    let image = match text_of(found, "image") {
-        Some(name) => Some(String::from_str(alloc, name)?),
-        None => None,
-    };
-    let sizes = sizes_of(alloc, found)?;
-    let ports = ports_of(found)?;
-    Ok(Job::Judge {
-        lines,
-        image,
-        sizes,
-        ports,
-    })
+    let node = node_words(alloc, found)?;
+    Ok(JudgeWords { lines, node })
 }
 
 /// The instructions of the factory program, `mov r0, 0; exit`: yes to every command.
@@ -142,7 +132,7 @@ fn print_reply<'a, W: Write>(
     out: &mut W,
     port: u8,
     reply: &[u8],
-) -> Result<(), Stop<'a>>
+) -> Result<(), Halt<'a>>
     ensures printed { OnOk result (Prints W.contents out.old out.new (reply_line port reply.now)) }
     ensures stops { IfErr result (StopsBy (λ fault. fault ≡ NoMemory)) }
     ensures quiet { IfErr result (StopsBy (λ _. W.contents out.new ≡ W.contents out.old)) }
@@ -163,18 +153,16 @@ fn print_served<'a, W: Write>(
     port: u8,
     served: Served,
     reply: &[u8],
-) -> Result<(), Stop<'a>>
+) -> Result<(), Halt<'a>>
     ensures printed { OnOk result
         (Prints W.contents out.old out.new (served_line port served reply.now)) }
     ensures stops { IfErr result (StopsBy (λ fault. fault ≡ NoMemory)) }
     ensures quiet { IfErr result (StopsBy (λ _. W.contents out.new ≡ W.contents out.old)) }
 {
     match served {
-        Served::Stopped(PacketStop::Discarded(discard)) => Ok(print_discard(out, port, discard)?),
-        Served::Stopped(PacketStop::Answered(_))
-        | Served::Unread
-        | Served::Done(_)
-        | Served::Window(_) => { print_reply(alloc, out, port, reply) }
+        Served::Stopped(Stop::Discarded(discard)) => Ok(print_discard(out, port, discard)?),
+        Served::Stopped(Stop::Answered(_)) | Served::Unread | Served::Done(_) | Served::Window(_) =>
+            { print_reply(alloc, out, port, reply) }
     }
 }
 
@@ -185,7 +173,7 @@ fn judge_line<'a, J: Room, R: Wait + Drop, W: Write>(
     line: &str,
     number: usize,
     out: &mut W,
-) -> Result<(), Stop<'a>>
+) -> Result<(), Halt<'a>>
     ensures judged { OnOk result (Judges line.now node.old node.new
         (W.contents out.old) (W.contents out.new)) }
     ensures stops { IfErr result (StopsBy (IsBadPacket line.now number node.old node.new
@@ -204,7 +192,7 @@ fn judge_lines<'a, J: Room, R: Wait + Drop, W: Write>(
     node: &mut JobNode<J, R>,
     text: &str,
     out: &mut W,
-) -> Result<(), Stop<'a>>
+) -> Result<(), Halt<'a>>
     ensures judged { OnOk result (JudgesAll (pieces_of text.now) node.old node.new
         (W.contents out.old) (W.contents out.new)) }
     ensures stops { IfErr result (StopsBy (IsBadLine (pieces_of text.now) node.old node.new
@@ -232,7 +220,7 @@ fn judge_text<'a, J: Room, R: Wait + Drop, W: Write>(
     node: &mut JobNode<J, R>,
     text: &str,
     out: &mut W,
-) -> Result<(), Stop<'a>>
+) -> Result<(), Halt<'a>>
     ensures judged { OnOk result (JudgesAll (lines_of text.now) node.old node.new
         (W.contents out.old) (W.contents out.new)) }
     ensures stops { IfErr result (StopsBy (IsBadLine (lines_of text.now) node.old node.new
@@ -244,33 +232,30 @@ fn judge_text<'a, J: Room, R: Wait + Drop, W: Write>(
     judge_lines(alloc, node, without_last_feed(text), out)
 }
 
-/// The text of a file of packet lines, and a fresh node with so many ports, whose commands the program of
-/// an image file, or the factory program, judges.
+/// The text of the file of packet lines, and a fresh node of these words, whose commands the program of its
+/// image file, or the factory program, judges.
 fn lines_and_node<'a, J: Room, R: Wait + Drop, F: Files>(
     alloc: Global,
     rt: R,
     opened: Opened,
-    lines: &'a str,
-    image: Option<&'a str>,
-    sizes: MapSizes,
-    ports: u8,
+    words: &'a JudgeWords,
     files: &mut F,
 ) -> Result<(String, JobNode<J, R>), Fault<'a>>
     requires { opened ≡ J.book }
     ensures ready { IfOk result
-        (λ made. IsReady F.reads sizes ports files.old lines.now (name_in image.entry)
-        (string_bytes made.0) made.1 files.new) }
-    ensures refused { IfErr result
-        (IsNotReady F.reads files.old lines.now (name_in image.entry) files.new) }
+        (λ made. IsReady F.reads words.now files.old (string_bytes made.0) made.1 files.new) }
+    ensures refused { IfErr result (IsNotReady F.reads files.old
+        (string_bytes words.now.lines) (image_name words.now.node) files.new) }
 {
-    let text = text_in(alloc, files, lines)?;
-    let program = judging_program(alloc, files, image, sizes)?;
-    let node = JobNode::new(alloc, rt, opened, ports, program)?;
+    let text = text_in(alloc, files, words.lines.as_str())?;
+    let image = words.node.image.as_deref();
+    let program = judging_program(alloc, files, image, words.node.sizes)?;
+    let node = JobNode::new(alloc, rt, opened, words.node.ports, program)?;
     Ok((text, node))
 }
 
-/// Judges the packet lines of a file by the program of an image file, or by the factory program, on a node
-/// with counter maps of these sizes and so many ports. It may wait: the end of the node does.
+/// Judges the packet lines of a file by the program of an image file, or by the factory program, on the node
+/// of these words. It may wait: the end of the node does.
 ///
 /// Faults are found in this order: the file of lines (`CannotRead`, also where it is not UTF-8),
 /// the image file, its image, and then each line.
@@ -278,21 +263,16 @@ pub fn judge_file<'a, J: Room, R: Wait, F: Files, W: Write>(
     rt: &R,
     alloc: Global,
     opened: Opened,
-    lines: &'a str,
-    image: Option<&'a str>,
-    sizes: MapSizes,
-    ports: u8,
+    words: &'a JudgeWords,
     files: &mut F,
     out: &mut W,
-) -> Result<(), Stop<'a>>
+) -> Result<(), Halt<'a>>
     requires { opened ≡ J.book }
-    ensures done { OnOk result (JudgesFile F.reads sizes ports files.old lines.now
-        (name_in image.entry) files.new (W.contents out.old) (W.contents out.new)) }
-    ensures stops { IfErr result (StopsBy (IsNotJudged F.reads sizes ports files.old lines.now
-        (name_in image.entry) files.new (W.contents out.old) (W.contents out.new))) }
+    ensures done { OnOk result (JudgesFile F.reads words.now files.old files.new
+        (W.contents out.old) (W.contents out.new)) }
+    ensures stops { IfErr result (StopsBy (IsNotJudged F.reads words.now files.old files.new
+        (W.contents out.old) (W.contents out.new))) }
 {
-    let (text, mut node) = lines_and_node::<J, _, _>(
-        alloc, rt, opened, lines, image, sizes, ports, files,
-    )?;
+    let (text, mut node) = lines_and_node::<J, _, _>(alloc, rt, opened, words, files)?;
     judge_text(alloc, &mut node, text.as_str(), out)
 }

@@ -16,8 +16,13 @@ mod storage;
 mod usage;
 mod verify;
 
+pub use asm::AsmWords;
+pub use dis::DisWords;
 pub use host::HostFiles;
 pub use jobs::{Job, perform};
+pub use judge::JudgeWords;
+pub use options::NodeWords;
 pub use stops::WriteFault;
 pub use storage::{Cannot, Files};
 pub use usage::{UsageFault, words};
+pub use verify::VerifyWords;

@@ -1,20 +1,31 @@
-//! The values of the options `--maps` and `--ports`.
+//! The values of the options `--maps` and `--ports`, and the words of a node.
 
-ghost use Rattle.std.specs.Prelude.{◌≡◌, All, IfErr, IfOk, MatchResult, codes, []};
+ghost use Rattle.std.specs.Prelude.{◌≡◌, All, IfErr, IfOk, MatchResult, codes, false, option_map, string_bytes, []};
+ghost use Rattle.clap.specs.Simple.{app_of};
+ghost use Rattle.clap.specs.declared.builder.command.Command.TheViews.{out-Command as fields_of};
 ghost use Rattle.clap.specs.Walk.{first_of, rows_of};
 ghost use Rattle.clap.specs.Matches.{found_of};
 ghost use Rattle.basm.specs.Relation.{texts};
-ghost use Rattle.commands.specs.Options.{GivesPorts, GivesSizes, IsBadValue, IsMapList, IsPortCount, IsSize, IsValueFault, RefusesCount, RefusesList, WriteSizes, WritesSuch, list_parts, listed_numbers};
+ghost use Rattle.commands.specs.Options.{GivesNode, GivesPorts, GivesSizes, IsBadValue, IsMapList, IsPortCount, IsSize, IsValueFault, RefusesCount, RefusesList, RefusesNode, WriteSizes, WritesSuch, list_parts, listed_numbers, with_node_options};
 
-use crate::arguments::text_of;
+use crate::arguments::{option, text_of};
 use crate::usage::UsageFault;
 use bver::MapSizes;
-use clap::ArgMatches;
+use clap::{ArgMatches, Command};
+use machine::MAX_CELLS;
 use spw::PORTS;
 use std::alloc::{AllocError, Global};
 
-/// The most cells that a map has.
-const MAX_CELLS: u16 = 256;
+/// The words of a node, which each job that runs one has.
+#[derive(Debug, Drop)]
+pub struct NodeWords {
+    /// The name of the file of the BPF image that judges; without it the factory image does.
+    pub image: Option<String>,
+    /// How many cells each counter map of the node has.
+    pub sizes: MapSizes,
+    /// How many ports the node has: 1 to 32. With any other number the job ends as for want of memory.
+    pub ports: u8,
+}
 
 /// The sizes of no counter maps.
 fn no_maps() -> MapSizes
@@ -110,4 +121,45 @@ pub fn ports_of(found: &ArgMatches) -> Result<u8, UsageFault>
         Some(word) => port_count(word),
         None => Ok(1),
     }
+}
+
+/// The subcommand with the options of a node: `[--image FILE] [--maps LIST] [--ports N]`.
+pub fn node_arguments<'a>(alloc: Global, command: Command<'a>) -> Result<Command<'a>, AllocError>
+    requires { (fields_of command).has_globals ≡ false }
+    ensures shape { IfOk result (λ c. app_of c ≡ with_node_options (app_of command.entry)) }
+    ensures local { IfOk result (λ c. (fields_of c).has_globals ≡ false) }
+{
+    let help = "The file of the BPF image that judges, in place of the factory image";
+    let image = option(alloc, "image", "FILE", help);
+    let help = "How many cells each counter map has, as 5,1; without it there are no maps";
+    let maps = option(alloc, "maps", "LIST", help);
+    let help = "How many ports the node has, 1 to 32; without it one";
+    let ports = option(alloc, "ports", "N", help);
+    command.arg(image)?.arg(maps)?.arg(ports)
+}
+
+/// The name of the file of an image by `--image`, where the option is given.
+fn image_of(alloc: Global, found: &ArgMatches) -> Result<Option<String>, AllocError>
+    ensures { IfOk result (λ image. first_of (codes "image") (rows_of (found_of found.now))
+        ≡ option_map string_bytes image) }
+{
+    match text_of(found, "image") {
+        Some(name) => Ok(Some(String::from_str(alloc, name)?)),
+        None => Ok(None),
+    }
+}
+
+/// The words of a node with these matches.
+pub fn node_words(alloc: Global, found: &ArgMatches) -> Result<NodeWords, UsageFault>
+    ensures ok { IfOk result (GivesNode (rows_of (found_of found.now))) }
+    ensures err { IfErr result (RefusesNode (rows_of (found_of found.now))) }
+{
+    let image = image_of(alloc, found)?;
+    let sizes = sizes_of(alloc, found)?;
+    let ports = ports_of(found)?;
+    Ok(NodeWords {
+        image,
+        sizes,
+        ports,
+    })
 }

@@ -2,7 +2,7 @@
 
 ghost use Rattle.std.specs.Prelude.{◌≡◌};
 ghost use Rattle.commands.specs.declared.faults.Fault.TheVariants.{NoMemory};
-ghost use Rattle.commands.specs.declared.stops.Stop.TheVariants.{Ended, Unwritten};
+ghost use Rattle.commands.specs.declared.stops.Halt.TheVariants.{Ended, Unwritten};
 
 use crate::faults::Fault;
 use std::alloc::AllocError;
@@ -20,33 +20,33 @@ impl From<io::Error> for WriteFault {
 
 /// Why a job stops before its end.
 #[derive(Debug, Drop)]
-pub enum Stop<'a> {
+pub enum Halt<'a> {
     /// A fault, which is still to be printed.
     Ended(Fault<'a>),
     /// The writer failed.
     Unwritten(WriteFault),
 }
 
-impl<'a> From<Fault<'a>> for Stop<'a> {
+impl<'a> From<Fault<'a>> for Halt<'a> {
     ghost from_gives = { λ fault stop. stop ≡ Ended fault };
 
     fn from(fault: Fault<'a>) -> Self {
-        Stop::Ended(fault)
+        Halt::Ended(fault)
     }
 }
 
-impl From<AllocError> for Stop<'_> {
+impl From<AllocError> for Halt<'_> {
     ghost from_gives = { λ _ stop. stop ≡ Ended NoMemory };
 
     fn from(_refused: AllocError) -> Self {
-        Stop::Ended(Fault::NoMemory)
+        Halt::Ended(Fault::NoMemory)
     }
 }
 
-impl From<io::Error> for Stop<'_> {
+impl From<io::Error> for Halt<'_> {
     ghost from_gives = { λ _ stop. stop ≡ Unwritten (record {}) };
 
     fn from(_refused: io::Error) -> Self {
-        Stop::Unwritten(WriteFault)
+        Halt::Unwritten(WriteFault)
     }
 }

@@ -99,16 +99,16 @@ fn job_of(alloc: Global, found: &ArgMatches) -> Result<Job, UsageFault>
     ensures err { IfErr result (LacksJob (subcommand_rows_of found.now)) }
 {
     if let Some(asm) = found.subcommand_matches("asm") {
-        return asm_job(alloc, asm);
+        return Ok(Job::Assemble(asm_job(alloc, asm)?));
     }
     if let Some(dis) = found.subcommand_matches("dis") {
-        return dis_job(alloc, dis);
+        return Ok(Job::Disassemble(dis_job(alloc, dis)?));
     }
     if let Some(verify) = found.subcommand_matches("verify") {
-        return verify_job(alloc, verify);
+        return Ok(Job::Verify(verify_job(alloc, verify)?));
     }
     match found.subcommand_matches("judge") {
-        Some(judge) => judge_job(alloc, judge),
+        Some(judge) => Ok(Job::Judge(judge_job(alloc, judge)?)),
         None => Err(UsageFault::BadOption),
     }
 }

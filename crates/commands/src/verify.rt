@@ -12,16 +12,24 @@ ghost use Rattle.commands.specs.Verified.{Verifies};
 ghost use Rattle.commands.specs.VerifyJob.{NamesVerify, RefusesVerify, accepted_line, verify_app};
 
 use crate::arguments::{image_command, name_of, option};
-use crate::jobs::Job;
 use crate::options::sizes_of;
 use crate::programs::program_in;
-use crate::stops::Stop;
+use crate::stops::Halt;
 use crate::storage::Files;
 use crate::usage::UsageFault;
 use bver::MapSizes;
 use clap::{ArgMatches, Command};
 use std::alloc::{AllocError, Global};
 use std::io::{self, Write};
+
+/// The words of the job `verify`.
+#[derive(Debug, Drop)]
+pub struct VerifyWords {
+    /// The name of the file of the image.
+    pub image: String,
+    /// How many cells each counter map has of the node that it may judge on.
+    pub sizes: MapSizes,
+}
 
 /// `verify FILE [--maps LIST]`.
 pub fn verify_command<'a>(alloc: Global) -> Result<Command<'a>, AllocError>
@@ -34,14 +42,14 @@ pub fn verify_command<'a>(alloc: Global) -> Result<Command<'a>, AllocError>
     image_command(alloc, "verify", about)?.arg(maps)
 }
 
-/// The job of `verify` with these matches.
-pub fn verify_job(alloc: Global, found: &ArgMatches) -> Result<Job, UsageFault>
+/// The words of `verify` with these matches.
+pub fn verify_job(alloc: Global, found: &ArgMatches) -> Result<VerifyWords, UsageFault>
     ensures ok { IfOk result (NamesVerify (rows_of (found_of found.now))) }
     ensures err { IfErr result (RefusesVerify (rows_of (found_of found.now))) }
 {
     let image = name_of(alloc, found, "image")?;
     let sizes = sizes_of(alloc, found)?;
-    Ok(Job::Verify { image, sizes })
+    Ok(VerifyWords { image, sizes })
 }
 
 /// Prints that a program may judge: `accepted weight W budget B`.
@@ -62,7 +70,7 @@ pub fn verify_file<'a, F: Files, W: Write>(
     sizes: MapSizes,
     files: &mut F,
     out: &mut W,
-) -> Result<(), Stop<'a>>
+) -> Result<(), Halt<'a>>
     ensures done { OnOk result (Verifies F.reads files.old image.now sizes files.new
         (W.contents out.old) (W.contents out.new)) }
     ensures stops { IfErr result (StopsBy (IsNoProgram F.reads files.old image.now files.new)) }
