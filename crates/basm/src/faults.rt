@@ -146,6 +146,13 @@ impl AsmFault {
             _ => AsmFault { line, code },
         }
     }
+
+    /// The number of what is wrong: 1 to 9.
+    pub fn number(self) -> u8
+        ensures { result ≡ asm_code self.code }
+    {
+        AsmCode::code(self.code)
+    }
 }
 
 impl From<AllocError> for AsmFault {

@@ -16,7 +16,7 @@ use Rattle.rmap.specs.declared.discard.Discard.TheVariants.{Short, Protocol, Rep
 -- the parts are cut where a reply address of n bytes puts them
 pub record IsCut (bytes : List ℕ) (n : ℕ) (c : CommandValue) : Type 0 where
   pub front : c.front ≡ take 4 bytes
-  pub path : c.path ≡ take n (drop 4 bytes)
+  pub reply_address : c.reply_address ≡ take n (drop 4 bytes)
   pub tail : c.tail ≡ take 12 (drop n (drop 4 bytes))
   pub body : c.body ≡ drop 12 (drop n (drop 4 bytes))
   pub long : 16 + n ≤ length bytes
@@ -25,8 +25,8 @@ pub record IsCut (bytes : List ℕ) (n : ℕ) (c : CommandValue) : Type 0 where
 bytes_of-cut : (bytes : List ℕ) (n : ℕ) (c : CommandValue) → IsCut bytes n c → bytes ≡ bytes_of c
 bytes_of-cut bytes n c h =
     let rest : drop n (drop 4 bytes) ≡ drop (4 + n) bytes = drop-drop n 4 bytes in
-    let front : c.front ++ c.path ≡ take (4 + n) bytes = rw (h.front, h.path) (sym (take-add 4 n bytes)) in
-    let header : (c.front ++ c.path) ++ c.tail ≡ take (4 + n + 12) bytes = rw (front, h.tail, rest) (sym (take-add (4 + n) 12 bytes)) in
+    let front : c.front ++ c.reply_address ≡ take (4 + n) bytes = rw (h.front, h.reply_address) (sym (take-add 4 n bytes)) in
+    let header : (c.front ++ c.reply_address) ++ c.tail ≡ take (4 + n + 12) bytes = rw (front, h.tail, rest) (sym (take-add (4 + n) 12 bytes)) in
     let body : c.body ≡ drop (4 + n + 12) bytes = h.body ∙ ap (λ (l : List ℕ). drop 12 l) rest ∙ drop-drop 12 (4 + n) bytes in
     sym (rw (header, body) (take-append-drop (4 + n + 12) bytes))
 
@@ -34,7 +34,7 @@ bytes_of-cut bytes n c h =
 pub header_of-cut : (bytes : List ℕ) (n : ℕ) (c : CommandValue) → IsCut bytes n c → header_of c ≡ take (15 + n) bytes
 header_of-cut bytes n c h =
     let rest : drop n (drop 4 bytes) ≡ drop (4 + n) bytes = drop-drop n 4 bytes in
-    let front : c.front ++ c.path ≡ take (4 + n) bytes = rw (h.front, h.path) (sym (take-add 4 n bytes)) in
+    let front : c.front ++ c.reply_address ≡ take (4 + n) bytes = rw (h.front, h.reply_address) (sym (take-add 4 n bytes)) in
     let tail : take 11 c.tail ≡ take 11 (drop (4 + n) bytes) = rw (h.tail, rest) (take-take 11 12 (drop (4 + n) bytes) (omega arith)) in
     let count : 15 + n ≡ 4 + n + 11 = omega arith in
     rw (front, tail, count) (sym (take-add (4 + n) 11 bytes))
@@ -73,11 +73,11 @@ is_header bytes n c cut count protocol type crc =
     let second : get_or c.front 1 0 ≡ get_or bytes 1 0 = rw (cut.front) (get_or-take 4 bytes 1 0 (omega arith)) in
     let third : get_or c.front 2 0 ≡ get_or bytes 2 0 = rw (cut.front) (get_or-take 4 bytes 2 0 (omega arith)) in
     let front : length c.front ≡ 4 = rw (cut.front) (omega (arith, length-take 4 bytes)) in
-    let path : length c.path ≡ n = rw (cut.path) (omega (arith, length-take n (drop 4 bytes), length-drop 4 bytes)) in
+    let path : length c.reply_address ≡ n = rw (cut.reply_address) (omega (arith, length-take n (drop 4 bytes), length-drop 4 bytes)) in
     let tail : length c.tail ≡ 12 = rw (cut.tail) (omega (arith, length-take 12 (drop n (drop 4 bytes)), length-drop n (drop 4 bytes), length-drop 4 bytes)) in
     record {
       front = front;
-      path = rw third (path ∙ count);
+      reply_address = rw third (path ∙ count);
       tail = tail;
       protocol = second ∙ protocol;
       no_reply = rw third (omega arith);
@@ -85,32 +85,32 @@ is_header bytes n c cut count protocol type crc =
     }
 
 -- a command is cut from the front of its bytes
-pub cut_of : (bytes : List ℕ) (c : CommandValue) → IsCommand bytes c → IsCut bytes (length c.path) c
+pub cut_of : (bytes : List ℕ) (c : CommandValue) → IsCommand bytes c → IsCut bytes (length c.reply_address) c
 cut_of bytes c h =
-    let whole : bytes ≡ c.front ++ (c.path ++ (c.tail ++ c.body)) = h.parts ∙ append_assoc (c.front ++ c.path) c.tail c.body ∙ append_assoc c.front c.path (c.tail ++ c.body) in
-    let behind_front : drop 4 bytes ≡ c.path ++ (c.tail ++ c.body) = rw whole (drop_at c.front (c.path ++ (c.tail ++ c.body)) 4 h.header.front) in
-    let behind_path : drop (length c.path) (drop 4 bytes) ≡ c.tail ++ c.body = rw behind_front (drop_at c.path (c.tail ++ c.body) (length c.path) refl) in
+    let whole : bytes ≡ c.front ++ (c.reply_address ++ (c.tail ++ c.body)) = h.parts ∙ append_assoc (c.front ++ c.reply_address) c.tail c.body ∙ append_assoc c.front c.reply_address (c.tail ++ c.body) in
+    let behind_front : drop 4 bytes ≡ c.reply_address ++ (c.tail ++ c.body) = rw whole (drop_at c.front (c.reply_address ++ (c.tail ++ c.body)) 4 h.header.front) in
+    let behind_path : drop (length c.reply_address) (drop 4 bytes) ≡ c.tail ++ c.body = rw behind_front (drop_at c.reply_address (c.tail ++ c.body) (length c.reply_address) refl) in
     let front : length c.front ≡ 4 = h.header.front in
     let tail : length c.tail ≡ 12 = h.header.tail in
     record {
-      front = rw whole (sym (take_at c.front (c.path ++ (c.tail ++ c.body)) 4 front));
-      path = rw behind_front (sym (take_at c.path (c.tail ++ c.body) (length c.path) refl));
+      front = rw whole (sym (take_at c.front (c.reply_address ++ (c.tail ++ c.body)) 4 front));
+      reply_address = rw behind_front (sym (take_at c.reply_address (c.tail ++ c.body) (length c.reply_address) refl));
       tail = rw behind_path (sym (take_at c.tail c.body 12 tail));
       body = rw behind_path (sym (drop_at c.tail c.body 12 tail));
-      long = rw whole (omega (arith, length-append c.front (c.path ++ (c.tail ++ c.body)), length-append c.path (c.tail ++ c.body), length-append c.tail c.body));
+      long = rw whole (omega (arith, length-append c.front (c.reply_address ++ (c.tail ++ c.body)), length-append c.reply_address (c.tail ++ c.body), length-append c.tail c.body));
     }
 
 -- a command is not discarded
 pub not_discarded : (bytes : List ℕ) (c : CommandValue) → IsCommand bytes c → discard_of bytes ≡ None
 not_discarded bytes c h =
-    let n = length c.path in
+    let n = length c.reply_address in
     let cut : IsCut bytes n c = cut_of bytes c h in
     let long : 16 + n ≤ length bytes = cut.long in
     let second : get_or c.front 1 0 ≡ get_or bytes 1 0 = rw (cut.front) (get_or-take 4 bytes 1 0 (omega arith)) in
     let third : get_or c.front 2 0 ≡ get_or bytes 2 0 = rw (cut.front) (get_or-take 4 bytes 2 0 (omega arith)) in
     let protocol : get_or bytes 1 0 ≡ 1 = sym second ∙ h.header.protocol in
     let type : 1 ≤ get_or bytes 2 0 / 64 = rw (← third) (h.header.no_reply) in
-    let count : n ≡ 4 * (get_or bytes 2 0 % 4) = rw (← third) (h.header.path) in
+    let count : n ≡ 4 * (get_or bytes 2 0 % 4) = rw (← third) (h.header.reply_address) in
     let place : 16 + 4 * (get_or bytes 2 0 % 4) - 1 ≡ 15 + n = omega arith in
     let crc : get_or bytes (15 + n) 0 ≡ crc_of (take (15 + n) bytes) = sym (header_crc_of-cut bytes n c cut) ∙ h.header.crc ∙ ap crc_of (header_of-cut bytes n c cut) in
     let short : ltb (length bytes) 3 ≡ false = grind (arith, nat_tests) in
@@ -121,23 +121,23 @@ not_discarded bytes c h =
     rw (short, is_rmap, no_reply, whole, place, right) refl
 
 -- commands with the same parts are the same
-pub same_parts : (c d : CommandValue) → c.front ≡ d.front → c.path ≡ d.path → c.tail ≡ d.tail → c.body ≡ d.body → c.end ≡ d.end → c ≡ d
+pub same_parts : (c d : CommandValue) → c.front ≡ d.front → c.reply_address ≡ d.reply_address → c.tail ≡ d.tail → c.body ≡ d.body → c.end ≡ d.end → c ≡ d
 same_parts c d front path tail body end =
-    let parts : List ℕ → List ℕ → List ℕ → List ℕ → End → CommandValue = λ f p t b e. record { front = f; path = p; tail = t; body = b; end = e } in
-    ap (λ (f : List ℕ). parts f c.path c.tail c.body c.end) front
+    let parts : List ℕ → List ℕ → List ℕ → List ℕ → End → CommandValue = λ f p t b e. record { front = f; reply_address = p; tail = t; body = b; end = e } in
+    ap (λ (f : List ℕ). parts f c.reply_address c.tail c.body c.end) front
     ∙ ap (λ (p : List ℕ). parts d.front p c.tail c.body c.end) path
-    ∙ ap (λ (t : List ℕ). parts d.front d.path t c.body c.end) tail
-    ∙ ap (λ (b : List ℕ). parts d.front d.path d.tail b c.end) body
-    ∙ ap (λ (e : End). parts d.front d.path d.tail d.body e) end
+    ∙ ap (λ (t : List ℕ). parts d.front d.reply_address t c.body c.end) tail
+    ∙ ap (λ (b : List ℕ). parts d.front d.reply_address d.tail b c.end) body
+    ∙ ap (λ (e : End). parts d.front d.reply_address d.tail d.body e) end
 
 -- bytes and an end marker are at most one command
 pub only_command : (bytes : List ℕ) (c d : CommandValue) → IsCommand bytes c → IsCommand bytes d → c.end ≡ d.end → c ≡ d
 only_command bytes c d h k end =
-    let cut : IsCut bytes (length c.path) c = cut_of bytes c h in
-    let cut' : IsCut bytes (length d.path) d = cut_of bytes d k in
+    let cut : IsCut bytes (length c.reply_address) c = cut_of bytes c h in
+    let cut' : IsCut bytes (length d.reply_address) d = cut_of bytes d k in
     let front : c.front ≡ d.front = cut.front ∙ sym cut'.front in
-    let count : length c.path ≡ length d.path = h.header.path ∙ ap (λ (l : List ℕ). 4 * (get_or l 2 0 % 4)) front ∙ sym k.header.path in
-    let path : c.path ≡ d.path = cut.path ∙ ap (λ (n : ℕ). take n (drop 4 bytes)) count ∙ sym cut'.path in
+    let count : length c.reply_address ≡ length d.reply_address = h.header.reply_address ∙ ap (λ (l : List ℕ). 4 * (get_or l 2 0 % 4)) front ∙ sym k.header.reply_address in
+    let path : c.reply_address ≡ d.reply_address = cut.reply_address ∙ ap (λ (n : ℕ). take n (drop 4 bytes)) count ∙ sym cut'.reply_address in
     let tail : c.tail ≡ d.tail = cut.tail ∙ ap (λ (n : ℕ). take 12 (drop n (drop 4 bytes))) count ∙ sym cut'.tail in
     let body : c.body ≡ d.body = cut.body ∙ ap (λ (n : ℕ). drop 12 (drop n (drop 4 bytes))) count ∙ sym cut'.body in
     same_parts c d front path tail body end
@@ -171,8 +171,8 @@ read_as bytes end h =
     let protocol : get_or bytes 1 0 ≡ 1 = grind (arith, nat_tests, tests.rmap) in
     let type : get_or bytes 2 0 / 64 ≡ 0 → ⊥ = grind (arith, nat_tests, tests.command) in
     let place : 16 + n - 1 ≡ 15 + n = omega arith in
-    let parts : CommandValue = record { front = take 4 bytes; path = take n (drop 4 bytes); tail = take 12 (drop n (drop 4 bytes)); body = drop 12 (drop n (drop 4 bytes)); end = end } in
-    let cut : IsCut bytes n parts = record { front = refl; path = refl; tail = refl; body = refl; long = long } in
+    let parts : CommandValue = record { front = take 4 bytes; reply_address = take n (drop 4 bytes); tail = take 12 (drop n (drop 4 bytes)); body = drop 12 (drop n (drop 4 bytes)); end = end } in
+    let cut : IsCut bytes n parts = record { front = refl; reply_address = refl; tail = refl; body = refl; long = long } in
     let crc : get_or bytes (15 + n) 0 ≡ crc_of (take (15 + n) bytes) = rw (← place) (grind (arith, nat_tests, tests.right)) in
     record {
       parts = parts;

@@ -70,10 +70,10 @@ of_twelve (x0 ∷ x1 ∷ x2 ∷ x3 ∷ x4 ∷ x5 ∷ x6 ∷ x7 ∷ x8 ∷ x9 ∷
 of_twelve (x0 ∷ x1 ∷ x2 ∷ x3 ∷ x4 ∷ x5 ∷ x6 ∷ x7 ∷ x8 ∷ x9 ∷ x10 ∷ []) h b = let no : ⊥ = omega arith in absurd no
 
 -- the bytes of a command are its fields
-pub laid_out : (bytes : List ℕ) (c : CommandValue) → IsCommand bytes c → All (λ b. b < 256) bytes → bytes ≡ front_fields c ++ c.path ++ tail_fields c ++ c.body
+pub laid_out : (bytes : List ℕ) (c : CommandValue) → IsCommand bytes c → All (λ b. b < 256) bytes → bytes ≡ front_fields c ++ c.reply_address ++ tail_fields c ++ c.body
 laid_out bytes c h small =
-    let parts : All IsByte (c.front ++ c.path ++ c.tail ++ c.body) = rw (← h.parts) small in
-    let tail_bytes : All IsByte c.tail = all_right (c.front ++ c.path) c.tail (all_left (c.front ++ c.path ++ c.tail) c.body parts) in
+    let parts : All IsByte (c.front ++ c.reply_address ++ c.tail ++ c.body) = rw (← h.parts) small in
+    let tail_bytes : All IsByte c.tail = all_right (c.front ++ c.reply_address) c.tail (all_left (c.front ++ c.reply_address ++ c.tail) c.body parts) in
     let front : c.front ≡ front_fields c = of_four c.front h.header.front in
     let tail : c.tail ≡ tail_fields c = of_twelve c.tail h.header.tail tail_bytes in
-    h.parts ∙ ap (λ (f : List ℕ). f ++ c.path ++ c.tail ++ c.body) front ∙ ap (λ (t : List ℕ). front_fields c ++ c.path ++ t ++ c.body) tail
+    h.parts ∙ ap (λ (f : List ℕ). f ++ c.reply_address ++ c.tail ++ c.body) front ∙ ap (λ (t : List ℕ). front_fields c ++ c.reply_address ++ t ++ c.body) tail

@@ -34,12 +34,12 @@ length-joined path header body crc = omega (arith, length-append (path ++ (heade
 pub length-reply_of : (c : CommandValue) (status : Status) (bytes : List ℕ) → IsHeader c → length bytes ≤ 4096 → length (reply_of c status bytes) ≤ 4121
 length-reply_of c status bytes h few =
     let words : instruction_of c % 4 ≤ 3 = omega arith in
-    let path : length (reply_path_of c.path) ≤ 12 = omega (arith, length-reply_path_of c.path, h.path) in
+    let path : length (reply_path_of c.reply_address) ≤ 12 = omega (arith, length-reply_path_of c.reply_address, h.reply_address) in
     let start : List ℕ = initiator_of c ∷ 1 ∷ reply_instruction (instruction_of c) ∷ status_code status ∷ target_of c ∷ [] ++ big_bytes 2 (transaction_of c) in
     let header : length (reply_header c status bytes) ≡ 7 + length (read_fields c bytes) = length-append start (read_fields c bytes) in
     let read : length (read_fields c bytes) + length (reply_body c bytes) ≤ 5 + length bytes = length-read (writes c) bytes (crc_of bytes) in
-    let whole : length (reply_path_of c.path ++ with_crc (reply_header c status bytes) ++ reply_body c bytes) ≤ 4121 = omega (arith, length-joined (reply_path_of c.path) (reply_header c status bytes) (reply_body c bytes) (crc_of (reply_header c status bytes))) in
-    elim (wants_reply c) as (λ b. length (cond b (reply_path_of c.path ++ with_crc (reply_header c status bytes) ++ reply_body c bytes) []) ≤ 4121) [ true ↦ whole | false ↦ omega arith ]
+    let whole : length (reply_path_of c.reply_address ++ with_crc (reply_header c status bytes) ++ reply_body c bytes) ≤ 4121 = omega (arith, length-joined (reply_path_of c.reply_address) (reply_header c status bytes) (reply_body c bytes) (crc_of (reply_header c status bytes))) in
+    elim (wants_reply c) as (λ b. length (cond b (reply_path_of c.reply_address ++ with_crc (reply_header c status bytes) ++ reply_body c bytes) []) ≤ 4121) [ true ↦ whole | false ↦ omega arith ]
 
 -- the CRCs of a reply are remainders where those of its header and of its data are
 pub has_remainders : (c : CommandValue) (status : Status) (bytes reply : List ℕ) → wants_reply c ≡ true → reply ≡ reply_of c status bytes → IsRemainder (reply_header c status bytes) (crc_of (reply_header c status bytes)) → (writes c ≡ false → IsRemainder bytes (crc_of bytes)) → HasRemainders c bytes reply

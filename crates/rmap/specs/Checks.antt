@@ -5,6 +5,7 @@ use Rattle.std.specs.Prelude.{◌≡◌, ℕ, ◌+◌, Bool, false, ◌==◌, �
 use Rattle.rcrc.specs.Crc.{crc_of}
 use Rattle.spw.specs.declared.packets.End.{End}
 use Rattle.spw.specs.declared.packets.End.TheVariants.{Eop, Eep}
+use Rattle.rmap.specs.declared.checks.TheConstants.{MAX_DATA}
 use Rattle.rmap.specs.declared.kind.Kind.{Kind}
 use Rattle.rmap.specs.declared.kind.Kind.TheVariants.{Read, Write, Rmw, Unused}
 use Rattle.rmap.specs.declared.places.Place.{Place}
@@ -34,7 +35,7 @@ header_line c w =
     else if not (target_of c == w.node_address) then Some InvalidLogicalAddress
     else if has_wrong_rmw_length (command_kind c) (length_of c) then Some RmwDataLength
     else if verifies c && nat_lt 1024 (length_of c) then Some VerifyBufferOverrun
-    else if nat_lt 4096 (length_of c) || is_none (place_of c w) then Some NotAuthorised
+    else if nat_lt MAX_DATA (length_of c) || is_none (place_of c w) then Some NotAuthorised
     else None
 
 -- no check of the header stops the command, and its bytes have that place

@@ -15,7 +15,7 @@ pub record CommandValue : Type 0 where
   -- target logical address, protocol identifier, instruction, key
   pub front : List ℕ
   -- the reply address
-  pub path : List ℕ
+  pub reply_address : List ℕ
   -- initiator logical address, transaction identifier, extended address, address, data length, header CRC
   pub tail : List ℕ
   -- what follows the header: data and data CRC, where the command has them
@@ -84,16 +84,16 @@ increments c = has_increment_bit (instruction_of c)
 
 -- the bytes of the command
 abbrev pub bytes_of : CommandValue → List ℕ
-bytes_of c = c.front ++ c.path ++ c.tail ++ c.body
+bytes_of c = c.front ++ c.reply_address ++ c.tail ++ c.body
 
 -- the header without its CRC
 abbrev pub header_of : CommandValue → List ℕ
-header_of c = c.front ++ c.path ++ take 11 c.tail
+header_of c = c.front ++ c.reply_address ++ take 11 c.tail
 
 -- a header of RMAP: each part has its length, the protocol is 1, it is no reply, and its CRC is right
 pub record IsHeader (c : CommandValue) : Type 0 where
   pub front : length c.front ≡ 4
-  pub path : length c.path ≡ reply_address_length (instruction_of c)
+  pub reply_address : length c.reply_address ≡ reply_address_length (instruction_of c)
   pub tail : length c.tail ≡ 12
   pub protocol : protocol_of c ≡ 1
   pub no_reply : 1 ≤ packet_type (instruction_of c)
@@ -149,7 +149,7 @@ path_length bytes = reply_address_length (slice_index bytes 2)
 abbrev pub command_of : Cargo → CommandValue
 command_of p = record {
   front = take 4 p.bytes;
-  path = take (path_length p.bytes) (drop 4 p.bytes);
+  reply_address = take (path_length p.bytes) (drop 4 p.bytes);
   tail = take 12 (drop (4 + path_length p.bytes) p.bytes);
   body = drop (16 + path_length p.bytes) p.bytes;
   end = p.end;

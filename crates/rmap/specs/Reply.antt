@@ -49,7 +49,7 @@ reply_body c bytes = if writes c then [] else with_crc bytes
 -- the reply, or nothing where none is wanted
 abbrev pub reply_of : CommandValue → Status → List ℕ → List ℕ
 reply_of c status bytes =
-    if wants_reply c then reply_path_of c.path ++ with_crc (reply_header c status bytes) ++ reply_body c bytes
+    if wants_reply c then reply_path_of c.reply_address ++ with_crc (reply_header c status bytes) ++ reply_body c bytes
     else []
 
 -- the CRC of the bytes is their remainder
@@ -62,6 +62,6 @@ pub record HasRemainders (c : CommandValue) (bytes reply : List ℕ) : Type 0 wh
   pub header : List ℕ
   pub header_crc : ℕ
   pub data_crc : ℕ
-  pub layout : reply ≡ reply_path_of c.path ++ (header ++ header_crc ∷ []) ++ (if writes c then [] else bytes ++ data_crc ∷ [])
+  pub layout : reply ≡ reply_path_of c.reply_address ++ (header ++ header_crc ∷ []) ++ (if writes c then [] else bytes ++ data_crc ∷ [])
   pub header_remainder : IsRemainder header header_crc
   pub data_remainder : writes c ≡ false → IsRemainder bytes data_crc

@@ -1,6 +1,7 @@
 -- Where the bytes of a command lie. The standard leaves open what is behind the addresses
 -- (ECSS-E-ST-50-52C, extended address field and address field): this is a choice of this target.
 use Rattle.std.specs.Prelude.{ℕ, ◌+◌, Bool, ◌==◌, ◌&&◌, ◌||◌, not, nat_le, nat_lt, if◌then◌else◌, List, slice_get, Option, None, Some}
+use Rattle.rmap.specs.declared.boot.TheConstants.{STAGING_SIZE}
 use Rattle.rmap.specs.declared.kind.Kind.{Kind}
 use Rattle.rmap.specs.declared.kind.Kind.TheVariants.{Read, Write, Rmw, Unused}
 use Rattle.rmap.specs.declared.places.Place.{Place}
@@ -21,7 +22,7 @@ lies_inside base size c =
 
 -- staging is as a bank of 16,384 bytes at 0, for every kind that is used
 abbrev pub is_staged : CommandValue → Bool
-is_staged c = is_used (command_kind c) && lies_inside 0 16384 c
+is_staged c = is_used (command_kind c) && lies_inside 0 STAGING_SIZE c
 
 -- exactly that many bytes at 0x10000, with increment
 abbrev pub is_register : ℕ → CommandValue → Bool

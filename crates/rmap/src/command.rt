@@ -22,7 +22,7 @@ pub const PROTOCOL: u8 = 0x01;
 #[derive(Debug, Drop)]
 pub struct Command<'a> {
     front: &'a [u8; 4],
-    path: &'a [u8],
+    reply_address: &'a [u8],
     tail: &'a [u8; 12],
     body: &'a [u8],
     end: End,
@@ -34,9 +34,9 @@ impl<'a> Model for Command<'a> {
 
     ghost Value = { CommandValue };
 
-    ghost view = { λ c. record { front = c.front.now; path = c.path.now; tail = c.tail.now; body = c.body.now; end = c.end } };
+    ghost view = { λ c. record { front = c.front.now; reply_address = c.reply_address.now; tail = c.tail.now; body = c.body.now; end = c.end } };
 
-    ghost invariant = { λ c. IsHeader (record { front = c.front.now; path = c.path.now; tail = c.tail.now; body = c.body.now; end = c.end }) };
+    ghost invariant = { λ c. IsHeader (record { front = c.front.now; reply_address = c.reply_address.now; tail = c.tail.now; body = c.body.now; end = c.end }) };
 }
 
 impl<'a> Command<'a> {
@@ -71,14 +71,14 @@ impl<'a> Command<'a> {
         if rest.len() < address {
             return Err(Discard::Short);
         }
-        let (path, rest) = rest.split_at(address);
+        let (reply_address, rest) = rest.split_at(address);
         let (tail, body) = rest.split_first_chunk::<12>().ok_or(Discard::Short)?;
         if tail[field::HEADER_CRC] != crc(&bytes[..field::CHECKED + address]) {
             return Err(Discard::HeaderCrc);
         }
         Ok(Command {
             front,
-            path,
+            reply_address,
             tail,
             body,
             end: packet.end(),
@@ -95,11 +95,11 @@ impl<'a> Command<'a> {
         let bytes = packet.bytes();
         let address = Instruction(bytes[field::INSTRUCTION]).reply_address_len();
         let (front, rest) = bytes.split_first_chunk::<4>().unwrap();
-        let (path, rest) = rest.split_at(address);
+        let (reply_address, rest) = rest.split_at(address);
         let (tail, body) = rest.split_first_chunk::<12>().unwrap();
         Command {
             front,
-            path,
+            reply_address,
             tail,
             body,
             end,
@@ -116,10 +116,10 @@ impl<'a> Command<'a> {
 
     /// The whole reply address: 0, 4, 8 or 12 bytes (ECSS-E-ST-50-52C, reply address field).
     pub fn reply_path(&self) -> &'a [u8]
-        ensures value { result.now ≡ self.now.path }
+        ensures value { result.now ≡ self.now.reply_address }
         ensures header { IsHeader self.now }
     {
-        self.path
+        self.reply_address
     }
 
     /// The last twelve bytes of the header: initiator logical address to header CRC.

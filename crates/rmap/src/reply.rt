@@ -8,6 +8,7 @@ ghost use Rattle.rcrc.specs.Polynomial.{IsRemainder};
 ghost use Rattle.rmap.specs.Command.{wants_reply};
 ghost use Rattle.rmap.specs.Reply.{HasRemainder, HasRemainders, reply_of, reply_header, reply_path_of, read_fields, with_crc, without_leading_zeros, reply_instruction};
 
+use crate::checks::MAX_DATA;
 use crate::command::{Command, PROTOCOL};
 use crate::status::Status;
 use byteorder::{BigEndian, ByteOrder};
@@ -82,7 +83,7 @@ impl ReplyBuf {
     /// Adds the header of a reply without its CRC, for `bytes` as its data.
     fn push_header(&mut self, command: &Command, status: Status, bytes: &[u8])
         requires room { length self.old ≤ 12 }
-        requires few { length bytes.now ≤ 4096 }
+        requires few { length bytes.now ≤ MAX_DATA }
         ensures { self.new ≡ self.old ++ reply_header command.now status bytes.now }
     {
         self.push(command.initiator());
@@ -104,7 +105,7 @@ impl ReplyBuf {
     /// Adds the header of a reply, for `bytes` as its data, and the CRC of the header.
     fn push_checked_header(&mut self, command: &Command, status: Status, bytes: &[u8])
         requires room { length self.old ≤ 12 }
-        requires few { length bytes.now ≤ 4096 }
+        requires few { length bytes.now ≤ MAX_DATA }
         ensures value { self.new
             ≡ self.old ++ with_crc (reply_header command.now status bytes.now) }
         ensures remainder { HasRemainder (reply_header command.now status bytes.now) }
@@ -140,7 +141,7 @@ fn without_leading_zeros(address: &[u8]) -> &[u8]
 
 /// The reply path that a reply address stands for: without its leading zeros, or one zero where it
 /// has nothing else (ECSS-E-ST-50-52C, reply address field).
-fn reply_path(address: &[u8]) -> &[u8]
+fn path_from(address: &[u8]) -> &[u8]
     ensures value { result.now ≡ reply_path_of address.now }
     ensures bound { length result.now ≤ length address.now }
 {
@@ -157,7 +158,7 @@ fn reply_path(address: &[u8]) -> &[u8]
 /// read-modify-write reply format). It has write form where the instruction has bit 5, else read form.
 /// Without the reply bit the buffer is left empty. What it held before plays no part.
 pub fn put_reply(reply: &mut ReplyBuf, command: &Command, status: Status, bytes: &[u8])
-    requires few { length bytes.now ≤ 4096 }
+    requires few { length bytes.now ≤ MAX_DATA }
     requires none_at_error { status ≢ Success → bytes.now ≡ [] }
     ensures value { reply.new ≡ reply_of command.now status bytes.now }
     ensures remainders { IsTrue (wants_reply command.now)
@@ -168,7 +169,7 @@ pub fn put_reply(reply: &mut ReplyBuf, command: &Command, status: Status, bytes:
     if !command.wants_reply() {
         return;
     }
-    reply.extend(reply_path(command.reply_path()));
+    reply.extend(path_from(command.reply_path()));
     reply.push_checked_header(command, status, bytes);
     if !command.writes() {
         reply.push_checked(bytes);

@@ -8,8 +8,8 @@ pub returns : goal.returns
 returns c =
     let p = c.args.packet.now in
     let n = c.reply_address_len-address.result in
-    let parts : CommandValue = record { front = c.unwrap.result.0.now; path = c.split_at.result.0.now; tail = c.unwrap-2.result.0.now; body = c.unwrap-2.result.1.now; end = c.end-end.result } in
-    let cut : IsCut p.bytes n parts = record { front = search rules; path = search rules; tail = search rules; body = search rules; long = search rules } in
+    let parts : CommandValue = record { front = c.unwrap.result.0.now; reply_address = c.split_at.result.0.now; tail = c.unwrap-2.result.0.now; body = c.unwrap-2.result.1.now; end = c.end-end.result } in
+    let cut : IsCut p.bytes n parts = record { front = search rules; reply_address = search rules; tail = search rules; body = search rules; long = search rules } in
     cut_is p n parts cut (search rules) (search rules)
 
 pub invariant_of-result : goal.invariant_of-result

@@ -10,24 +10,24 @@ pub returns-then-tail-crc-clause-command : goal.returns-then-tail-crc-clause-com
 returns-then-tail-crc-clause-command c =
     let bytes = c.args.packet.now.bytes in
     let n = c.reply_address_len-address.result in
-    let parts : CommandValue = record { front = c.in_ok-front.front.now; path = c.split_at.result.0.now; tail = c.in_ok-tail.tail.now; body = c.in_ok-tail.body.now; end = c.args.packet.now.end } in
-    let cut : IsCut bytes n parts = record { front = search rules; path = search rules; tail = search rules; body = search rules; long = search rules } in
+    let parts : CommandValue = record { front = c.in_ok-front.front.now; reply_address = c.split_at.result.0.now; tail = c.in_ok-tail.tail.now; body = c.in_ok-tail.body.now; end = c.args.packet.now.end } in
+    let cut : IsCut bytes n parts = record { front = search rules; reply_address = search rules; tail = search rules; body = search rules; long = search rules } in
     discard_of-crc bytes n parts cut (search rules) (search rules) (search rules) (search rules)
 
 pub invariant_of-result : goal.invariant_of-result
 invariant_of-result c =
     let bytes = c.args.packet.now.bytes in
     let n = c.reply_address_len-address.result in
-    let parts : CommandValue = record { front = c.in_ok-front.front.now; path = c.split_at.result.0.now; tail = c.in_ok-tail.tail.now; body = c.in_ok-tail.body.now; end = c.end.result } in
-    let cut : IsCut bytes n parts = record { front = search rules; path = search rules; tail = search rules; body = search rules; long = search rules } in
+    let parts : CommandValue = record { front = c.in_ok-front.front.now; reply_address = c.split_at.result.0.now; tail = c.in_ok-tail.tail.now; body = c.in_ok-tail.body.now; end = c.end.result } in
+    let cut : IsCut bytes n parts = record { front = search rules; reply_address = search rules; tail = search rules; body = search rules; long = search rules } in
     is_header bytes n parts cut (search rules) (search rules) (search rules) (search rules)
 
 pub returns-clause-command : goal.returns-clause-command
 returns-clause-command c =
     let bytes = c.args.packet.now.bytes in
     let n = c.reply_address_len-address.result in
-    let parts : CommandValue = record { front = c.in_ok-front.front.now; path = c.split_at.result.0.now; tail = c.in_ok-tail.tail.now; body = c.in_ok-tail.body.now; end = c.end.result } in
-    let cut : IsCut bytes n parts = record { front = search rules; path = search rules; tail = search rules; body = search rules; long = search rules } in
+    let parts : CommandValue = record { front = c.in_ok-front.front.now; reply_address = c.split_at.result.0.now; tail = c.in_ok-tail.tail.now; body = c.in_ok-tail.body.now; end = c.end.result } in
+    let cut : IsCut bytes n parts = record { front = search rules; reply_address = search rules; tail = search rules; body = search rules; long = search rules } in
     is_command bytes n parts cut (is_header bytes n parts cut (search rules) (search rules) (search rules) (search rules))
 
 pub returns-then-tail-crc-clause-only : goal.returns-then-tail-crc-clause-only
@@ -38,8 +38,8 @@ pub returns-clause-crc : goal.returns-clause-crc
 returns-clause-crc c =
     let bytes = c.args.packet.now.bytes in
     let n = c.reply_address_len-address.result in
-    let parts : CommandValue = record { front = c.in_ok-front.front.now; path = c.split_at.result.0.now; tail = c.in_ok-tail.tail.now; body = c.in_ok-tail.body.now; end = c.end.result } in
-    let cut : IsCut bytes n parts = record { front = search rules; path = search rules; tail = search rules; body = search rules; long = search rules } in
+    let parts : CommandValue = record { front = c.in_ok-front.front.now; reply_address = c.split_at.result.0.now; tail = c.in_ok-tail.tail.now; body = c.in_ok-tail.body.now; end = c.end.result } in
+    let cut : IsCut bytes n parts = record { front = search rules; reply_address = search rules; tail = search rules; body = search rules; long = search rules } in
     right_crc bytes n parts cut c.crc.result (rw c.bytes-bytes.ensures.bytes at c.crc.ensures.remainder) (search rules)
 
 pub returns-clause-kept : goal.returns-clause-kept
