@@ -9,6 +9,13 @@ mod threads;
 
 use brun::Counters;
 use cells::{CellSeat, Cells};
+use std::fmt::Debug;
+use std::process::Abort;
+
+/// Ends the test where what was found is not what is wanted. `what` says of which call it is.
+fn same<T: Copy + PartialEq + Debug>(rt: &impl Abort, what: &str, found: T, wanted: T) {
+    assert_eq!(rt; found, wanted, "at {what}");
+}
 
 /// The answer of `count`, where there is the cell.
 fn count(seat: &mut CellSeat, map: u8, key: u16) -> Option<u64> {

@@ -1,4 +1,4 @@
-//! Tests of the words of `rmapctl` and of its jobs over files in memory: programs, images, and what fails.
+//! Tests of jobs of `rmapctl` over files in memory that text cannot say: a writer that fails, and refused memory.
 #![tactic(auto)]
 
 #[cfg(test)]

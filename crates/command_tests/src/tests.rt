@@ -1,9 +1,4 @@
-//! Jobs over files in memory: what they print, and their exit statuses.
+//! Jobs whose writer fails, and jobs to which memory is refused.
 
-mod assembling;
-mod faults;
-mod images;
-mod programs;
-mod usage;
-mod verifying;
+mod checks;
 mod writers;

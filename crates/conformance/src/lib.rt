@@ -7,4 +7,4 @@ mod outcomes;
 
 pub use folder::{Folder, LOCKED};
 pub use jobs::perform_in;
-pub use outcomes::{Outcome, done, folder_of, judged, judged_by, run, verdict_image};
+pub use outcomes::{folder_of, judged};

@@ -4,7 +4,7 @@
 
 use anyhow::{Result, anyhow};
 use bver::MapSizes;
-use commands::{HostFiles, Job, perform};
+use commands::{AsmWords, HostFiles, Job, JudgeWords, NodeWords, VerifyWords, perform};
 use std::alloc::{AllocError, Global};
 use std::io::{self, Write};
 use std::rt;
@@ -36,20 +36,22 @@ fn image_of(alloc: Global, name: &str) -> Result<String, AllocError> {
 /// The jobs of one program: its text is assembled, its image is verified, and it judges.
 fn jobs(alloc: Global, name: &str, node: &Node<'_>) -> Result<[Job; 3]> {
     Ok([
-        Job::Assemble {
+        Job::Assemble(AsmWords {
             text: format!(in alloc; "{name}.bpf")?,
             image: image_of(alloc, name)?,
-        },
-        Job::Verify {
+        }),
+        Job::Verify(VerifyWords {
             image: image_of(alloc, name)?,
             sizes: node.sizes,
-        },
-        Job::Judge {
+        }),
+        Job::Judge(JudgeWords {
             lines: String::from_str(alloc, node.lines)?,
-            image: Some(image_of(alloc, name)?),
-            sizes: node.sizes,
-            ports: node.ports,
-        },
+            node: NodeWords {
+                image: Some(image_of(alloc, name)?),
+                sizes: node.sizes,
+                ports: node.ports,
+            },
+        }),
     ])
 }
 

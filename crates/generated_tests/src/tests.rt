@@ -2,5 +2,6 @@
 
 mod agreement;
 mod asking;
+mod checks;
 mod generated;
 mod generator;

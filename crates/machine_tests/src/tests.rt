@@ -1,6 +1,7 @@
 //! Outside values, from words to runs by turns.
 
 mod calls;
+mod checks;
 mod corners;
 mod loop_runs;
 mod machine_programs;

@@ -2,8 +2,10 @@
 
 mod admissions;
 mod banks;
+mod checks;
 mod full_journals;
 mod journals;
 mod loads;
 mod locks;
 mod nodes;
+mod pages;

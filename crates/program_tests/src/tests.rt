@@ -1,8 +1,10 @@
 //! What no clause says of instructions, images and their text.
 
+mod checks;
 mod images;
 mod instructions;
 mod lines;
+mod policies;
 mod texts;
 
 /// `mov r0, 0; exit`, budget 2.

@@ -10,6 +10,13 @@ mod takes;
 use bpf::Image;
 use bver::{Accepted, MapSizes, verify};
 use std::alloc::Global;
+use std::fmt::Debug;
+use std::process::Abort;
+
+/// Ends the test where what was found is not what is wanted. `what` says of which call it is.
+fn same<T: Copy + PartialEq + Debug>(rt: &impl Abort, what: &str, found: T, wanted: T) {
+    assert_eq!(rt; found, wanted, "at {what}");
+}
 
 /// The program of that budget, where memory is given: `mov r0, 0; exit`.
 fn program(alloc: Global, sizes: &MapSizes, budget: u8) -> Option<Accepted>

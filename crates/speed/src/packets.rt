@@ -73,7 +73,7 @@ fn serve(
         if bank.fits(share, &judged) {
             let _applied = bank.apply(share, judged, reply);
         } else {
-            let _status = judged.answer_error(reply);
+            let _status = judged.answer_error(bank, share, reply);
         }
     }
     reply.bytes().len() as u64

@@ -1,4 +1,4 @@
-//! What crates of tests share: random numbers, the tables of all operations, rows of a table in text and
+//! What crates of tests share: comparisons, random numbers, the tables of all operations, rows of a table in text and
 //! what stands in them, images of program text, runs of programs, and a node of one bank. `rmapctl` does not stand
 //! on it.
 #![tactic(auto)]
@@ -11,10 +11,12 @@ mod rows;
 mod runs;
 
 pub use images::image_of_text;
-pub use nodes::{BASE, PLAIN_READ, PLAIN_REPLY, PLAIN_WRITE, bank, node, packet, program, served};
+pub use nodes::{
+    BASE, PLAIN_READ, PLAIN_REPLY, PLAIN_WRITE, SpareBank, bank, node, packet, program, served,
+};
 pub use operations::{
     CONDITIONS, EXTENSIONS, LOAD_SIZES, OPERATIONS, SIZES, SWAP_BITS, SWAPS, WIDTHS,
 };
 pub use random::Random;
 pub use rows::{Row, answer, hexadecimals, sizes, word};
-pub use runs::{FRONT, TAIL, by_turns, verdict};
+pub use runs::{FRONT, TAIL, by_turns, turns_on, verdict};

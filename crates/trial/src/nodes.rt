@@ -3,9 +3,10 @@
 ghost use Rattle.std.specs.Prelude.{◌≡◌};
 
 use crate::images::image_of_text;
+use bank::{Bank, Journal, Judged, Share};
 use bver::{Accepted, MapSizes, verify};
 use publish::{Opened, Publisher, Room};
-use rmap::ReplyBuf;
+use rmap::{ReplyBuf, Status};
 use spw::{Packet, read_line};
 use std::alloc::Global;
 use std::sync::Wait;
@@ -84,4 +85,31 @@ pub fn served<J: Room, R: Wait + Drop>(
         return Err("another number of banks".into());
     }
     Ok(serve_packet(alloc, banks, publisher, pass, packet, reply))
+}
+
+/// A bank of one byte with its only share. Tests end judged commands there that have no bank of their own.
+#[derive(Drop)]
+pub struct SpareBank {
+    bank: Bank,
+    share: Share,
+}
+
+impl SpareBank {
+    /// A fresh one.
+    pub fn new(alloc: Global) -> Result<SpareBank, Fail> {
+        let journal = Journal::new(alloc, 1)?;
+        let (bank, mut shares) = Bank::new(alloc, 0, 1, journal, 1)?;
+        let share = shares.pop().ok_or("no share")?;
+        Ok(SpareBank { bank, share })
+    }
+
+    /// Ends a judged command: it is applied where it fits the bank, else it is a general error. The status is that
+    /// of the reply.
+    pub fn end(&mut self, judged: Judged, reply: &mut ReplyBuf) -> Status {
+        if self.bank.fits(&self.share, &judged) {
+            self.bank.apply(&mut self.share, judged, reply).status
+        } else {
+            judged.answer_error(&self.bank, &self.share, reply)
+        }
+    }
 }

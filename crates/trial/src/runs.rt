@@ -32,10 +32,12 @@ fn note(questions: &mut String, helper: u8, map: u8, key: u16) -> Result<(), All
     write!(questions, "{helper},{map},{key}")
 }
 
-/// The verdict of a run at the port on the plain read, and the questions before it. There is no verdict
-/// where a question comes for which no answer is left.
-pub fn by_turns(
+/// The verdict of a run at the port on a header, of which the first four and the last twelve bytes are given, and the
+/// questions before it. There is no verdict where a question comes for which no answer is left.
+pub fn turns_on(
     accepted: &Accepted,
+    front: &[u8; 4],
+    tail: &[u8; 12],
     port: u8,
     stack: &mut [u8; 512],
     answers: &[u64],
@@ -43,7 +45,6 @@ pub fn by_turns(
 ) -> Result<Option<u64>, AllocError>
     requires { port < 32 }
 {
-    let (front, tail) = (&FRONT, &TAIL);
     let mut paused = start(accepted, port);
     for told in answers {
         match advance(accepted, front, tail, stack, &mut paused) {
@@ -61,4 +62,17 @@ pub fn by_turns(
             Ok(None)
         }
     }
+}
+
+/// The same on the plain read.
+pub fn by_turns(
+    accepted: &Accepted,
+    port: u8,
+    stack: &mut [u8; 512],
+    answers: &[u64],
+    questions: &mut String,
+) -> Result<Option<u64>, AllocError>
+    requires { port < 32 }
+{
+    turns_on(accepted, &FRONT, &TAIL, port, stack, answers, questions)
 }

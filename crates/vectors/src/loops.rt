@@ -32,7 +32,7 @@ pub fn agrees(alloc: Global, digits: &str, row: &str) -> Result<bool> {
         }
         Ok(_) => Ok(false),
         Err(refused) => {
-            let (code, slot) = (refused.code.code(), refused.slot);
+            let (code, slot) = (refused.number(), refused.slot);
             let found = format!(in alloc; "{code} {slot}")?;
             Ok(found.as_str() == answer)
         }

@@ -1,5 +1,5 @@
-//! Compares instructions, whole texts, programs with loops, programs that ask counters and packets with what
-//! independent assemblers, a verifier, an interpreter and a target make of them.
+//! Compares instructions, whole texts, programs with loops, programs that ask counters, packets and policy tables with
+//! what independent assemblers, a verifier, an interpreter, a target and a reader of tables make of them.
 //!
 //! Each line of the input has the text of an instruction, a tab and its bytes in hexadecimal. Each line of the
 //! file `texts.txt` has an answer, a tab and the text of a program, whose lines are apart by `|`; the answer is
@@ -7,13 +7,15 @@
 //! hexadecimal, a tab and the verifier's answer, and behind another tab the verdict and the steps of a run where it
 //! is accepted. Each line of the file `calls.txt` has map sizes between the image and the answer, and the questions
 //! behind the steps. The file `packets.txt` has packet lines of two ports, and `replies.txt` has for each, in order,
-//! what is printed of it on one fresh node by the factory program. A line that begins with `#` says where the others
-//! come from. Prints each line at which this workspace differs, and how many lines agree.
+//! what is printed of it on one fresh node by the factory program. Each line of the file `policies.txt` has a policy
+//! table, whose lines are apart by ` / `, map sizes, a header, answers, the draws and the verdict, or a fault. A line that
+//! begins with `#` says where the others come from. Prints each line at which this workspace differs, and how many lines agree.
 #![tactic(auto)]
 
 mod calls;
 mod loops;
 mod packets;
+mod policies;
 
 use anyhow::{Context, Result};
 use basm::{assemble, disassemble};
@@ -33,6 +35,9 @@ const REPLIES: &str = "replies.txt";
 
 /// The file of programs that ask counters.
 const CALLS: &str = "calls.txt";
+
+/// The file of policy tables.
+const POLICIES: &str = "policies.txt";
 
 /// Whether the bytes are the instruction's, all of them.
 fn is_spelling(insn: &Insn, bytes: &[u8]) -> bool {
@@ -84,7 +89,7 @@ fn answer(alloc: Global, text: &str) -> Result<String, AllocError> {
     match assemble(alloc, text) {
         Ok(image) => hex::encode(alloc, image.write()?),
         Err(fault) => {
-            let (code, line) = (fault.code.code(), fault.line);
+            let (code, line) = (fault.number(), fault.line);
             format!(in alloc; "fault {code} line {line}")
         }
     }
@@ -119,8 +124,8 @@ impl Tally {
     }
 }
 
-/// Compares the lines of a table, each of which has a tab, and prints where they differ. The lines are of what is
-/// named.
+/// Compares what stands on both sides of the first tab of each line of a table, and prints the lines that differ and
+/// how many agree. `what` says in the plural of what the lines are.
 fn compare<W: Write, F: Fn(&str, &str) -> Result<bool>>(
     table: &str,
     what: &str,
@@ -192,6 +197,12 @@ fn main(rt: HostRuntime) -> Result<()> {
         &fs::read_to_string(&rt, CALLS)?,
         "programs with calls",
         |image, row| calls::agrees(alloc, image, row),
+        &mut out,
+    )?;
+    compare(
+        &policies::of_reading(alloc, &fs::read_to_string(&rt, POLICIES)?)?,
+        "tables",
+        |table, row| policies::agrees(alloc, table, row),
         &mut out,
     )?;
     let printed = packets::printed(&rt, rt.alloc())?;

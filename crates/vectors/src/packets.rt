@@ -2,7 +2,7 @@
 
 use anyhow::{Result, anyhow};
 use bver::MapSizes;
-use commands::{HostFiles, Job, perform};
+use commands::{HostFiles, Job, JudgeWords, NodeWords, perform};
 use std::alloc::Global;
 use std::rt;
 use std::sync::Wait;
@@ -12,12 +12,13 @@ const PACKETS: &str = "packets.txt";
 
 /// What `judge` prints of the packet lines by the factory program, on a node of two ports without counter maps.
 pub fn printed<R: rt::Files + Input + Wait>(rt: &R, alloc: Global) -> Result<String> {
-    let job = Job::Judge {
-        lines: String::from_str(alloc, PACKETS)?,
+    let node = NodeWords {
         image: None,
         sizes: MapSizes::new(&[])?,
         ports: 2,
     };
+    let lines = String::from_str(alloc, PACKETS)?;
+    let job = Job::Judge(JudgeWords { lines, node });
     let mut out = Vec::new(alloc);
     let status = perform(rt, alloc, &job, &mut HostFiles { rt }, &mut out).map_err(|_| anyhow!(
         "cannot write"

@@ -1,6 +1,6 @@
 //! Cells by their places, and what seats of one thread see.
 
-use crate::tests::{count, give_back, ticket};
+use crate::tests::{count, give_back, same, ticket};
 use cells::Cells;
 use machine::MapSizes;
 use std::test::*;
@@ -13,15 +13,15 @@ fn two_seats_see_one_word(rt: HostRuntime) -> Result<(), Fail> {
     let mut one = seats.pop().ok_or("two seats")?;
     let mut other = seats.pop().ok_or("two seats")?;
     for number in 0..3u64 {
-        assert_eq!(&rt; ticket(&mut one, 0, 0), Some(number));
+        same(&rt, "a ticket", ticket(&mut one, 0, 0), Some(number));
     }
-    assert_eq!(&rt; count(&mut other, 0, 0), Some(3));
-    assert_eq!(&rt; count(&mut other, 0, 0), Some(3));
-    assert_eq!(&rt; count(&mut one, 0, 0), Some(3));
-    assert_eq!(&rt; ticket(&mut other, 0, 0), Some(3));
-    assert_eq!(&rt; count(&mut one, 0, 0), Some(4));
+    same(&rt, "the other's count", count(&mut other, 0, 0), Some(3));
+    same(&rt, "the same again", count(&mut other, 0, 0), Some(3));
+    same(&rt, "the own count", count(&mut one, 0, 0), Some(3));
+    same(&rt, "the other's ticket", ticket(&mut other, 0, 0), Some(3));
+    same(&rt, "the count after it", count(&mut one, 0, 0), Some(4));
     if sizes.contains(0, 0) {
-        assert_eq!(&rt; cells.drawn(0, 0), 4);
+        same(&rt, "what was drawn", cells.drawn(0, 0), 4);
     }
     Ok(())
 }
@@ -31,12 +31,17 @@ fn two_seats_see_one_word(rt: HostRuntime) -> Result<(), Fail> {
 fn each_seat_draws_its_own(rt: HostRuntime) -> Result<(), Fail> {
     let sizes = MapSizes::new(&[1])?;
     let (_cells, mut seats) = Cells::new(rt.alloc(), &sizes, 32)?;
-    assert_eq!(&rt; seats.len(), 32);
+    same(&rt, "how many seats", seats.len(), 32);
     for number in 0..32u64 {
         let mut seat = seats.pop().ok_or("32 seats")?;
-        assert_eq!(&rt; ticket(&mut seat, 0, 0), Some(number));
+        same(
+            &rt,
+            "a seat's ticket",
+            ticket(&mut seat, 0, 0),
+            Some(number),
+        );
     }
-    assert!(&rt; seats.is_empty());
+    same(&rt, "how many seats are left", seats.len(), 0);
     Ok(())
 }
 
@@ -46,13 +51,27 @@ fn maps_have_their_own_cells(rt: HostRuntime) -> Result<(), Fail> {
     let sizes = MapSizes::new(&[2, 3])?;
     let (_cells, mut seats) = Cells::new(rt.alloc(), &sizes, 1)?;
     let mut seat = seats.pop().ok_or("a seat")?;
-    assert_eq!(&rt; ticket(&mut seat, 0, 1), Some(0));
-    assert_eq!(&rt; count(&mut seat, 1, 0), Some(0));
-    assert_eq!(&rt; count(&mut seat, 0, 0), Some(0));
-    assert_eq!(&rt; count(&mut seat, 0, 1), Some(1));
-    assert_eq!(&rt; count(&mut seat, 0, 2), None);
-    assert_eq!(&rt; count(&mut seat, 1, 3), None);
-    assert_eq!(&rt; count(&mut seat, 2, 0), None);
+    same(
+        &rt,
+        "a ticket of the last cell",
+        ticket(&mut seat, 0, 1),
+        Some(0),
+    );
+    for (map, key, counted) in [
+        (1, 0, Some(0)),
+        (0, 0, Some(0)),
+        (0, 1, Some(1)),
+        (0, 2, None),
+        (1, 3, None),
+        (2, 0, None),
+    ] {
+        same(
+            &rt,
+            "a count",
+            (map, key, count(&mut seat, map, key)),
+            (map, key, counted),
+        );
+    }
     Ok(())
 }
 
@@ -62,14 +81,24 @@ fn all_cells_are_apart(rt: HostRuntime) -> Result<(), Fail> {
     let sizes = MapSizes::new(&[32; 8])?;
     let (_cells, mut seats) = Cells::new(rt.alloc(), &sizes, 1)?;
     let mut seat = seats.pop().ok_or("a seat")?;
-    assert_eq!(&rt; ticket(&mut seat, 7, 31), Some(0));
+    same(
+        &rt,
+        "a ticket of the last cell",
+        ticket(&mut seat, 7, 31),
+        Some(0),
+    );
     for map in 0..8u8 {
         for key in 0..32u16 {
-            let is_last = map == 7 && key == 31;
-            assert_eq!(&rt; count(&mut seat, map, key), Some(u64::from(is_last)));
+            let wanted = u64::from(map == 7 && key == 31);
+            same(
+                &rt,
+                "a count",
+                (map, key, count(&mut seat, map, key)),
+                (map, key, Some(wanted)),
+            );
         }
     }
-    assert_eq!(&rt; count(&mut seat, 7, 32), None);
+    same(&rt, "past the last cell", count(&mut seat, 7, 32), None);
     Ok(())
 }
 
@@ -77,9 +106,9 @@ fn all_cells_are_apart(rt: HostRuntime) -> Result<(), Fail> {
 #[test]
 fn no_maps_have_seats(rt: HostRuntime) -> Result<(), Fail> {
     let (_cells, mut seats) = Cells::new(rt.alloc(), &MapSizes::new(&[])?, 2)?;
-    assert_eq!(&rt; seats.len(), 2);
+    same(&rt, "how many seats", seats.len(), 2);
     let mut seat = seats.pop().ok_or("two seats")?;
-    assert_eq!(&rt; count(&mut seat, 0, 0), None);
+    same(&rt, "a count without maps", count(&mut seat, 0, 0), None);
     Ok(())
 }
 
@@ -88,10 +117,10 @@ fn no_maps_have_seats(rt: HostRuntime) -> Result<(), Fail> {
 fn seats_come_back(rt: HostRuntime) -> Result<(), Fail> {
     let sizes = MapSizes::new(&[1])?;
     let (mut cells, seats) = Cells::new(rt.alloc(), &sizes, 255)?;
-    assert_eq!(&rt; seats.len(), 255);
+    same(&rt, "how many seats", seats.len(), 255);
     give_back(&mut cells, seats);
     if sizes.contains(0, 0) {
-        assert_eq!(&rt; cells.drawn(0, 0), 0);
+        same(&rt, "what was drawn", cells.drawn(0, 0), 0);
     }
     Ok(())
 }

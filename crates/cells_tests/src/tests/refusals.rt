@@ -1,6 +1,6 @@
 //! Memory that is refused. Run with `--fail-alloc N`, each allocation in turn is the one that is refused.
 
-use crate::tests::ticket;
+use crate::tests::{same, ticket};
 use cells::Cells;
 use machine::MapSizes;
 use std::test::*;
@@ -15,7 +15,7 @@ fn memory_refused_while_made(rt: HostRuntime) -> Result<(), Fail> {
     };
     let (_cells, mut seats) = made;
     let mut seat = seats.pop().ok_or("two seats")?;
-    assert_eq!(&rt; ticket(&mut seat, 0, 2), Some(0));
-    assert_eq!(&rt; ticket(&mut seat, 0, 2), Some(1));
+    same(&rt, "the first ticket", ticket(&mut seat, 0, 2), Some(0));
+    same(&rt, "the second ticket", ticket(&mut seat, 0, 2), Some(1));
     Ok(())
 }

@@ -1,6 +1,6 @@
 //! Seats in threads.
 
-use crate::tests::{count, ticket};
+use crate::tests::{count, same, ticket};
 use cells::{CellSeat, Cells};
 use machine::MapSizes;
 use std::alloc::{AllocError, Global};
@@ -46,16 +46,21 @@ fn eight_threads_draw(rt: HostRuntime) -> Result<(), Fail> {
     let mut numbers = Vec::new(alloc);
     for drawn in all {
         let drawn = drawn?;
-        assert_eq!(&rt; (drawn.tickets.len(), drawn.late), (1000, 0));
+        same(
+            &rt,
+            "a thread",
+            (drawn.tickets.len(), drawn.late),
+            (1000, 0),
+        );
         numbers.extend_from_slice(drawn.tickets.as_slice())?;
     }
     numbers.sort()?;
-    assert_eq!(&rt; numbers.len(), 8000);
+    same(&rt, "how many numbers", numbers.len(), 8000);
     for (number, place) in numbers.iter().zip(0..8000u64) {
-        assert_eq!(&rt; *number, place);
+        same(&rt, "a number", *number, place);
     }
     if sizes.contains(0, 0) {
-        assert_eq!(&rt; cells.drawn(0, 0), 8000);
+        same(&rt, "what was drawn", cells.drawn(0, 0), 8000);
     }
     Ok(())
 }

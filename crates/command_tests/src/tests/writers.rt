@@ -1,6 +1,7 @@
 //! Writers that fail, and memory that is refused.
 
-use commands::{Job, WriteFault, perform, words};
+use crate::tests::checks::{check, same};
+use commands::{Job, UsageFault, WriteFault, perform, words};
 use conformance::{Folder, folder_of, judged};
 use std::alloc::Global;
 use std::io::{self, Write};
@@ -62,26 +63,24 @@ fn writers_that_fail_at_each_write(rt: HostRuntime) -> Result<(), Fail> {
     let lines =
         "0 EOP\n0 FE014C0067000901A000000000001095 EOP\n0 FE01640067000000A0000000000010610123456789ABCDEF101112131415161756 EOP\nport\n";
     let (whole, status) = judged(&rt, rt.alloc(), lines)?;
-    assert_eq!(rt; status, 1);
+    same(&rt, "the whole", status, 1);
     let job = words(rt.alloc(), &["judge", "lines"])?;
     let files = [("lines", lines.as_bytes())];
     let mut folder = folder_of(rt.alloc(), &files).map_err(|_| "no folder")?;
-    let mut ended = false;
     for writes in 0..100 {
         let (out, done) = perform_until(&rt, rt.alloc(), &job, &mut folder, writes);
         let written = str::from_utf8(out.written.as_slice())?;
-        assert_eq!(rt; out.late, 0, "at {writes}");
-        assert!(rt; whole.as_str().starts_with(written), "at {writes}");
+        let what = format!(in rt.alloc(); "{writes} writes")?;
+        same(&rt, &what, out.late, 0);
+        check(&rt, &what, whole.as_str().starts_with(written));
         if !out.has_failed {
-            assert_eq!(rt; done, Ok(1));
-            assert_eq!(rt; written, whole.as_str());
-            ended = true;
-            break;
+            same(&rt, &what, done, Ok(1));
+            same(&rt, &what, written, whole.as_str());
+            return Ok(());
         }
-        assert_eq!(rt; done, Err(WriteFault), "at {writes}");
+        same(&rt, &what, done, Err(WriteFault));
     }
-    assert!(rt; ended);
-    Ok(())
+    Err("the writer failed each time".into())
 }
 
 /// What `judge` prints of these lines, and the exit status; `None` where memory was refused to the
@@ -110,15 +109,23 @@ fn refused_memory(rt: HostRuntime) -> Result<(), Fail> {
     if let Some((printed, status)) = tried(&rt, rt.alloc(), PLAIN_READ) {
         let (whole, wanted) = judged(&rt, rt.alloc(), PLAIN_READ)?;
         if status == wanted {
-            assert_eq!(rt; printed, whole);
+            same(&rt, "the answer", printed.as_str(), whole.as_str());
         } else {
-            assert_eq!(rt; status, 1);
-            assert!(rt; is_refused(printed.as_str()), "{printed}");
+            same(&rt, "the status of a fault", status, 1);
+            check(&rt, &printed, is_refused(printed.as_str()));
         }
     }
     // With ample memory again the answer is the whole.
     let (whole, status) = judged(&rt, rt.alloc(), PLAIN_READ)?;
-    assert_eq!(rt; whole.as_str().len(), PLAIN_REPLY.len() + 1);
-    assert_eq!(rt; status, 0);
+    let printed = whole.as_str().strip_suffix('\n');
+    same(&rt, "the whole", (printed, status), (Some(PLAIN_REPLY), 0));
+    let fault = UsageFault::Memory;
+    let told = format!(in rt.alloc(); "{fault}")?;
+    same(
+        &rt,
+        "the words' fault of memory",
+        (told.as_str(), fault.status()),
+        ("no memory", 1),
+    );
     Ok(())
 }

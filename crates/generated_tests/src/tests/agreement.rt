@@ -1,6 +1,7 @@
 //! Random programs, on which the interpreter and the slow machine agree.
 
 use super::generator::{instructions, is_nested, program_with_loops};
+use crate::tests::checks::same;
 use bpf::Image;
 use bver::{MapSizes, verify};
 use slow_machine::Ending;
@@ -46,10 +47,7 @@ fn agrees(
     let port = random.below(32) as u8;
     let slow = slow_machine::run(image, &none, &FRONT, &TAIL, port, &[], 65_536);
     let fast = verdict(alloc, &program, port, 0xa5)?;
-    assert!(rt;
-        slow == Ending::Verdict(fast),
-        "seed {seed}: {slow:?}, {fast:#x}"
-    );
+    same(rt, "a seed", (seed, slow), (seed, Ending::Verdict(fast)));
     Ok(true)
 }
 
@@ -63,7 +61,12 @@ fn agrees_with_the_slow_machine(rt: HostRuntime) -> Result<(), Fail> {
             count = count.saturating_add(1);
         }
     }
-    assert!(rt; count >= PROGRAMS / 2, "{count} are accepted");
+    same(
+        &rt,
+        "how many are accepted",
+        (count, count >= PROGRAMS / 2),
+        (count, true),
+    );
     Ok(())
 }
 
@@ -79,10 +82,12 @@ fn agrees_on_loops(rt: HostRuntime) -> Result<(), Fail> {
             nested = nested.saturating_add(u64::from(is_nested(image.loops())));
         }
     }
-    assert!(rt; count >= LOOPED / 2, "{count} are accepted");
-    assert!(rt;
-        nested >= LOOPED / 4,
-        "{nested} with nested loops are accepted"
+    let are_enough = count >= LOOPED / 2 && nested >= LOOPED / 4;
+    same(
+        &rt,
+        "how many are accepted",
+        (count, nested, are_enough),
+        (count, nested, true),
     );
     Ok(())
 }

@@ -6,6 +6,7 @@ use super::generator::{
     add, alu, arithmetic, extension, immediate, jump, load, mix_numbers, mix_stack, negation,
     number, operand, register, set_registers, set_stack, store, swap,
 };
+use crate::tests::checks::same;
 use bpf::Image;
 use bpf_insn::{AluOp, Callee, Insn, Operand};
 use bver::{MapSizes, verify};
@@ -142,7 +143,7 @@ fn agrees(rt: &impl Abort, alloc: Global, seed: u64) -> Result<bool, Fail> {
     let mut questions = String::new(alloc);
     let fast = by_turns(&program, port, &mut [0xa5; 512], &answers, &mut questions)?;
     let wanted = fast.map_or(Ending::Unanswered, Ending::Verdict);
-    assert!(rt; slow == wanted, "seed {seed}: {slow:?}, {fast:?}");
+    same(rt, "a seed", (seed, slow), (seed, wanted));
     Ok(fast.is_some())
 }
 
@@ -155,9 +156,12 @@ fn programs_that_ask_agree_with_the_slow_machine(rt: HostRuntime) -> Result<(), 
             verdicts = verdicts.saturating_add(1);
         }
     }
-    assert!(rt;
-        PROGRAMS / 2 < verdicts && verdicts < PROGRAMS,
-        "{verdicts} verdicts"
+    let is_enough = PROGRAMS / 2 < verdicts && verdicts < PROGRAMS;
+    same(
+        &rt,
+        "how many verdicts",
+        (verdicts, is_enough),
+        (verdicts, true),
     );
     Ok(())
 }

@@ -2,6 +2,7 @@
 //! within its budget.
 
 use super::generator::{instructions, is_nested, program_with_loops};
+use crate::tests::checks::same;
 use bpf::Image;
 use bver::{Accepted, MapSizes, verify};
 use slow_machine::{Ending, run};
@@ -29,7 +30,8 @@ fn check_runs(rt: &impl Abort, accepted: &Accepted, none: &MapSizes) {
                 &[],
                 accepted.budget(),
             );
-            assert!(rt; matches!(ending, Ending::Verdict(_)), "{ending:?}");
+            let is_verdict = matches!(ending, Ending::Verdict(_));
+            same(rt, "a run", (ending, is_verdict), (ending, true));
         }
     }
 }
@@ -51,9 +53,12 @@ fn accepted_programs_end_with_a_verdict(rt: HostRuntime) -> Result<(), Fail> {
             accepted_programs = accepted_programs.saturating_add(1);
         }
     }
-    assert!(rt;
-        60 < accepted_programs && accepted_programs < 540,
-        "{accepted_programs}"
+    let is_enough = 60 < accepted_programs && accepted_programs < 540;
+    same(
+        &rt,
+        "how many are accepted",
+        (accepted_programs, is_enough),
+        (accepted_programs, true),
     );
     Ok(())
 }
@@ -84,10 +89,13 @@ fn accepted_loops_end_with_a_verdict(rt: HostRuntime) -> Result<(), Fail> {
             nested = nested.saturating_add(u32::from(is_nested(accepted.image().loops())));
         }
     }
-    assert!(rt;
-        100 < accepted_programs && accepted_programs < 200,
-        "{accepted_programs}"
+    let are_enough = 100 < accepted_programs && accepted_programs < 200 && 50 < nested;
+    let counts = (accepted_programs, nested);
+    same(
+        &rt,
+        "how many are accepted",
+        (counts, are_enough),
+        (counts, true),
     );
-    assert!(rt; 50 < nested, "{nested}");
     Ok(())
 }

@@ -2,6 +2,7 @@
 //! which verdict, for a list of answers. Both were computed by hand from docs/BPF.md and RFC 9669.
 
 use super::answers_of;
+use crate::tests::checks::same;
 use bver::verify;
 use slow_machine::{Ending, run};
 use std::alloc::Global;
@@ -87,7 +88,7 @@ fn check_run(
     let steps = row.part()?.parse::<u32>()?;
     let verdict = row.part()?.parse::<u64>()?;
     let whole = run(&image, &sizes, &FRONT, &TAIL, port, &answers, steps);
-    assert!(rt; whole == Ending::Verdict(verdict), "{text}: {whole:?}");
+    same(rt, text, whole, Ending::Verdict(verdict));
     let short = run(
         &image,
         &sizes,
@@ -97,7 +98,7 @@ fn check_run(
         &answers,
         steps.saturating_sub(1),
     );
-    assert!(rt; short == Ending::OutOfSteps, "{text}: {short:?}");
+    same(rt, text, short, Ending::OutOfSteps);
     Ok(())
 }
 
@@ -109,12 +110,12 @@ fn check(rt: &impl Abort, alloc: Global, line: &str) -> Result<(), Fail> {
     let maps = row.part()?;
     let wanted = answer(row.part()?)?;
     let image = image_of_text(alloc, text, weight)?;
-    assert_eq!(rt; image.weight(), u64::from(weight));
+    same(rt, name, image.weight(), u64::from(weight));
     let found = match verify(alloc, image, &sizes(alloc, maps)?) {
         Ok(_) => None,
-        Err(refused) => Some((refused.code.code(), refused.slot)),
+        Err(refused) => Some((refused.number(), refused.slot)),
     };
-    assert!(rt; found == wanted, "{name}: {found:?}");
+    same(rt, name, found, wanted);
     if wanted.is_none() {
         check_run(rt, alloc, &mut row, text, maps)?;
     }
@@ -141,10 +142,10 @@ fn the_quota_has_these_bytes(rt: HostRuntime) -> Result<(), Fail> {
     let alloc = rt.alloc();
     let text = "ldmap r1, 0; mov r2, 0; call 2; jlt r0, 5, +2; mov r0, 10; exit; mov r0, 0; exit";
     let bytes = image_of_text(alloc, text, 8)?.write()?;
-    assert_eq!(rt; bytes.len(), 88);
     let wanted = hexadecimals(alloc, QUOTA)?;
-    for (place, byte) in bytes.iter().enumerate() {
-        assert!(rt; wanted.get(place) == Some(&u64::from(*byte)), "{place}");
+    same(&rt, "how many bytes", (bytes.len(), wanted.len()), (88, 88));
+    for (byte, wanted) in bytes.iter().zip(&wanted) {
+        same(&rt, "a byte", u64::from(*byte), *wanted);
     }
     Ok(())
 }
@@ -161,11 +162,9 @@ fn calls_are_within_the_weight(rt: HostRuntime) -> Result<(), Fail> {
         let maps = row.part()?;
         if answer(row.part()?)?.is_none() {
             let image = image_of_text(alloc, text, weight.saturating_sub(1))?;
-            let refused = verify(alloc, image, &sizes(alloc, maps)?);
-            assert!(rt;
-                refused.is_err_and(|r| r.code.code() == 15 && r.slot == 0),
-                "{name}"
-            );
+            let refused = verify(alloc, image, &sizes(alloc, maps)?).err();
+            let found = refused.map(|refused| (refused.number(), refused.slot));
+            same(&rt, name, found, Some((15, 0)));
         }
     }
     Ok(())

@@ -1,6 +1,7 @@
 //! The operations on words at their corners. The results were computed with Python's integers, which
 //! have no width, by `//`, `%`, `<<`, `>>`, `&`, `|` and `^` of numbers that were cut and signed by hand.
 
+use crate::tests::checks::same;
 use bpf_insn::{AluOp, Width};
 use machine::alu_words;
 use std::process::Abort;
@@ -33,10 +34,9 @@ fn check(rt: &impl Abort, op: AluOp, width: Width, results: &str) -> Result<(), 
     for a in &FIRST {
         for b in &SECOND {
             let result = u64::from_str_radix(left.next().ok_or("result")?, 16)?;
-            assert!(rt;
-                result == alu_words(op, width, *a, *b),
-                "{op:?} {width:?} {a:#x} {b:#x}"
-            );
+            let operation = (op, width, *a, *b);
+            let found = (operation, alu_words(op, width, *a, *b));
+            same(rt, "an operation", found, (operation, result));
         }
     }
     Ok(())

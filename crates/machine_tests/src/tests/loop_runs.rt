@@ -1,6 +1,7 @@
 //! Programs with declared loops: what the verifier answers, and how many steps a run of an accepted one takes
 //! with which verdict. Both were computed by hand from docs/BPF.md and RFC 9669.
 
+use crate::tests::checks::same;
 use bver::{MapSizes, verify};
 use slow_machine::Ending;
 use std::alloc::Global;
@@ -72,11 +73,11 @@ fn check_run(
     let steps = row.part()?.parse::<u32>()?;
     let verdict = row.part()?.parse::<u64>()?;
     let fast = trial::verdict(alloc, &program, port, 0xa5)?;
-    assert!(rt; fast == verdict, "{text}: {fast}");
+    same(rt, text, fast, verdict);
     let slow = slow_machine::run(&image, &none, &FRONT, &TAIL, port, &[], steps);
     assert!(rt; slow == Ending::Verdict(verdict), "{text}: {slow:?}");
     let short = slow_machine::run(&image, &none, &FRONT, &TAIL, port, &[], steps - 1);
-    assert!(rt; short == Ending::OutOfSteps, "{text}: {short:?}");
+    same(rt, text, short, Ending::OutOfSteps);
     Ok(())
 }
 
@@ -89,9 +90,9 @@ fn check(rt: &impl Abort, alloc: Global, line: &str) -> Result<(), Fail> {
     let image = image_of_text(alloc, text, budget)?;
     let found = match verify(alloc, image, &MapSizes::new(&[])?) {
         Ok(_) => None,
-        Err(refused) => Some((refused.code.code(), refused.slot)),
+        Err(refused) => Some((refused.number(), refused.slot)),
     };
-    assert!(rt; found == wanted, "{name}: {found:?}");
+    same(rt, name, found, wanted);
     if wanted.is_none() {
         check_run(rt, alloc, &mut row, text, budget)?;
     }

@@ -1,6 +1,7 @@
 //! Whole programs on the slow machine. The ending of each was computed by an interpreter that was written in
 //! Python for these tables alone, with Python's integers, which have no width.
 
+use crate::tests::checks::same;
 use slow_machine::{Ending, run};
 use std::alloc::Global;
 use std::process::Abort;
@@ -27,7 +28,7 @@ fn check(rt: &impl Abort, alloc: Global, line: &str) -> Result<(), Fail> {
     let limit = row.part()?.parse::<u32>()?;
     let wanted = ending(row.part()?)?;
     let ended = run(&image, &sizes, &FRONT, &TAIL, port, &answers, limit);
-    assert!(rt; ended == wanted, "{name}");
+    same(rt, name, ended, wanted);
     Ok(())
 }
 

@@ -1,5 +1,6 @@
 //! Whole programs on the interpreter. The verdicts were computed by hand from RFC 9669.
 
+use crate::tests::checks::same;
 use bver::{MapSizes, verify};
 use std::alloc::Global;
 use std::process::Abort;
@@ -48,7 +49,7 @@ fn check(rt: &impl Abort, alloc: Global, line: &str) -> Result<(), Fail> {
     let program = verify(alloc, image, &MapSizes::new(&[])?)?;
     for old in [0x00, 0xa5] {
         let verdict = verdict(alloc, &program, port, old)?;
-        assert!(rt; verdict == wanted, "{name}: {verdict:#x}");
+        same(rt, name, verdict, wanted);
     }
     Ok(())
 }

@@ -1,6 +1,7 @@
 //! Programs that ask counters, run by turns: each question gets the next of some answers.
 
 use super::answers_of;
+use crate::tests::checks::same;
 use bver::{MapSizes, verify};
 use slow_machine::Ending;
 use std::alloc::Global;
@@ -56,11 +57,8 @@ fn check(rt: &impl Abort, alloc: Global, line: &str) -> Result<(), Fail> {
             &wanted.answers,
             &mut questions,
         )?;
-        assert!(rt; found == Some(wanted.verdict), "{name}: {found:?}");
-        assert!(rt;
-            questions.as_str() == wanted.questions,
-            "{name}: {questions}"
-        );
+        let run = (found, questions.as_str());
+        same(rt, name, run, (Some(wanted.verdict), wanted.questions));
     }
     let slow = |steps: u32| {
         slow_machine::run(
@@ -73,13 +71,13 @@ fn check(rt: &impl Abort, alloc: Global, line: &str) -> Result<(), Fail> {
             steps,
         )
     };
-    let ending = slow(wanted.steps);
-    assert!(rt;
-        ending == Ending::Verdict(wanted.verdict),
-        "{name}: {ending:?}"
+    let endings = (slow(wanted.steps), slow(wanted.steps.saturating_sub(1)));
+    same(
+        rt,
+        name,
+        endings,
+        (Ending::Verdict(wanted.verdict), Ending::OutOfSteps),
     );
-    let short = slow(wanted.steps.saturating_sub(1));
-    assert!(rt; short == Ending::OutOfSteps, "{name}: {short:?}");
     Ok(())
 }
 
@@ -147,20 +145,19 @@ fn one_port_waits_in_vain(rt: HostRuntime) -> Result<(), Fail> {
     let alloc = rt.alloc();
     let two = sizes(alloc, "2")?;
     let light = image_of_text(alloc, TWO_PORTS_MEET, 24_588)?;
-    assert!(rt;
-        verify(alloc, light, &two).is_err_and(|refused| (refused.code.code(), refused.slot)
-            == (15, 0))
-    );
+    let refused = verify(alloc, light, &two).err();
+    let found = refused.map(|refused| (refused.number(), refused.slot));
+    same(&rt, "a budget below the weight", found, Some((15, 0)));
     let image = image_of_text(alloc, TWO_PORTS_MEET, 24_589)?;
     let accepted = verify(alloc, image.copy()?, &two)?;
     let answers = [0; 4097];
     let mut questions = String::new(alloc);
     let found = by_turns(&accepted, 0, &mut [0; 512], &answers, &mut questions)?;
-    assert!(rt; found == Some(10), "{found:?}");
-    assert_eq!(rt; questions.split(';').count(), 4097);
+    let run = (found, questions.split(';').count());
+    same(&rt, "the run and its questions", run, (Some(10), 4097));
     let ending = slow_machine::run(&image, &two, &FRONT, &TAIL, 0, &answers, 24_587);
-    assert!(rt; ending == Ending::Verdict(10), "{ending:?}");
+    same(&rt, "all steps", ending, Ending::Verdict(10));
     let short = slow_machine::run(&image, &two, &FRONT, &TAIL, 0, &answers, 24_586);
-    assert!(rt; short == Ending::OutOfSteps, "{short:?}");
+    same(&rt, "one step less", short, Ending::OutOfSteps);
     Ok(())
 }

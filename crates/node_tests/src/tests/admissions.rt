@@ -1,5 +1,6 @@
 //! `target`: packets that are admitted, and verdicts on them, without a node.
 
+use crate::tests::checks::same;
 use bver::{Accepted, MapSizes, verify};
 use cells::Cells;
 use hex::decode;
@@ -8,7 +9,7 @@ use std::alloc::Global;
 use std::process::Abort;
 use std::test::Fail;
 use target::{Bearing, admit, judge_by};
-use trial::{BASE, PLAIN_READ, Row, image_of_text, packet, word};
+use trial::{BASE, PLAIN_READ, Row, SpareBank, image_of_text, packet, word};
 
 /// What a packet is, the packet, the place of its bytes or why it stops, and the reply that is due.
 const ADMISSIONS: &str = "\
@@ -49,12 +50,12 @@ fn admission(rt: &impl Abort, alloc: Global, reply: &mut ReplyBuf, line: &str) -
         }
         Err((stop, back)) => (word(alloc, Some(stop))?, back),
     };
-    assert_eq!(rt; found.as_str(), row.part()?, "the place of {shows}");
     let came = packet(alloc, sent)?;
-    assert_eq!(rt; back.bytes(), came.bytes(), "the bytes of {shows}");
-    assert_eq!(rt; back.end(), came.end(), "the end of {shows}");
+    let place = row.part()?;
     let want = decode(alloc, row.part()?)?;
-    assert_eq!(rt; reply.bytes(), want.as_slice(), "the reply to {shows}");
+    let is = (found.as_str(), back.bytes(), back.end(), reply.bytes());
+    let wanted = (place, came.bytes(), came.end(), want.as_slice());
+    same(rt, shows, is, wanted);
     Ok(())
 }
 
@@ -99,6 +100,7 @@ fn two_verdicts(
     let (_cells, mut seats) = Cells::new(alloc, &program.sizes(), 1)?;
     let seat = seats.pop().ok_or("no seat")?;
     let mut bearing = Bearing::new(port, windows(), seat);
+    let mut spare = SpareBank::new(alloc)?;
     let mut reply = ReplyBuf::new();
     for generation in [0, 7] {
         let sent = packet(alloc, PLAIN_READ)?;
@@ -108,9 +110,9 @@ fn two_verdicts(
         let judged = judge_by(&mut bearing, program, generation, admitted);
         let found = (judged.verdict(), judged.port(), judged.generation());
         let transaction = judged.command().transaction();
-        let status = judged.answer_error(&mut reply);
-        assert_eq!(rt; found, (want, port, generation), "the verdict of {shows}");
-        assert_eq!(rt; (transaction, status), (1, Status::GeneralError));
+        let status = spare.end(judged, &mut reply);
+        let wanted = ((want, port, generation), 1, Status::GeneralError);
+        same(rt, shows, (found, transaction, status), wanted);
     }
     Ok(())
 }
@@ -141,9 +143,14 @@ fn bearings_keep_port_and_windows(rt: HostRuntime) -> Result<(), Fail> {
         let seat = seats.pop().ok_or("no seat")?;
         let bearing = Bearing::new(port, windows(), seat);
         let windows = bearing.windows();
-        assert_eq!(rt; (bearing.port(), windows.node_address()), (port, 0xFE));
         let banks = (windows.bank(0), windows.bank(1));
-        assert_eq!(rt; banks, (Some((BASE, 65_536)), None));
+        let found = (bearing.port(), windows.node_address(), banks);
+        same(
+            &rt,
+            "a bearing",
+            found,
+            (port, 0xFE, (Some((BASE, 65_536)), None)),
+        );
     }
     Ok(())
 }

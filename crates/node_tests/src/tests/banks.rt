@@ -1,5 +1,6 @@
 //! `bank`: outside rows, and memory that is refused.
 
+use crate::tests::checks::{check, same};
 use bank::{Applied, Bank, BankFault, Journal, Judged, Share};
 use rmap::{Command, ReplyBuf, Status, Windows, header_fault};
 use std::alloc::Global;
@@ -32,7 +33,7 @@ pub fn applied(
     }
     let judged = Judged::new(packet, &windows, share.port(), 7, verdict);
     if !bank.fits(share, &judged) {
-        judged.answer_error(reply);
+        judged.answer_error(bank, share, reply);
         return Ok(None);
     }
     Ok(Some(bank.apply(share, judged, reply)))
@@ -60,23 +61,21 @@ pub fn fresh(
 fn plain_write_then_read(rt: HostRuntime) -> Result<(), Fail> {
     let alloc = rt.alloc();
     let (mut bank, mut shares) = fresh(alloc, 65_536, 4, 2)?;
-    assert_eq!(rt; shares.len(), 2);
+    same(&rt, "how many shares", shares.len(), 2);
     let share = shares.first_mut().ok_or("no share")?;
     let mut reply = ReplyBuf::new();
     let done = applied(alloc, &mut bank, share, PLAIN_WRITE, 0, &mut reply)?;
-    assert_eq!(rt; done, success(0));
-    assert_eq!(rt;
-        reply.bytes(),
-        [0x67, 0x01, 0x2C, 0x00, 0xFE, 0x00, 0x00, 0xED].as_slice()
-    );
+    same(&rt, "the write", done, success(0));
+    let wanted = [0x67, 0x01, 0x2C, 0x00, 0xFE, 0x00, 0x00, 0xED].as_slice();
+    same(&rt, "its reply", reply.bytes(), wanted);
     let second = (bank.memory(BASE + 1), bank.base(BASE + 1));
-    assert_eq!(rt; second, (Some(0x23), Some(0)));
-    assert_eq!(rt; bank.memory(BASE - 1), None);
+    same(&rt, "the second byte", second, (Some(0x23), Some(0)));
+    same(&rt, "the byte before", bank.memory(BASE - 1), None);
     let done = applied(alloc, &mut bank, share, PLAIN_READ, 0, &mut reply)?;
-    assert_eq!(rt; done, success(1));
+    same(&rt, "the read", done, success(1));
     let ends = (reply.bytes().len(), reply.bytes().last());
-    assert_eq!(rt; ends, (29, Some(&0x56)));
-    assert_eq!(rt; bank.entries().len(), 2);
+    same(&rt, "its reply", ends, (29, Some(&0x56)));
+    same(&rt, "how many entries", bank.entries().len(), 2);
     Ok(())
 }
 
@@ -84,7 +83,7 @@ fn plain_write_then_read(rt: HostRuntime) -> Result<(), Fail> {
 fn read_modify_write_and_one_address(rt: HostRuntime) -> Result<(), Fail> {
     let alloc = rt.alloc();
     let (mut bank, mut shares) = fresh(alloc, 65_536, 4, 1)?;
-    assert_eq!(rt; shares.len(), 1);
+    same(&rt, "how many shares", shares.len(), 1);
     let share = shares.first_mut().ok_or("no share")?;
     let mut reply = ReplyBuf::new();
     for (number, line, first) in [
@@ -93,9 +92,14 @@ fn read_modify_write_and_one_address(rt: HostRuntime) -> Result<(), Fail> {
         (2, WRITE_TO_ONE_ADDRESS, 0x22),
     ] {
         let done = applied(alloc, &mut bank, share, line, 0, &mut reply)?;
-        assert_eq!(rt; (done, bank.memory(BASE)), (success(number), Some(first)));
+        same(
+            &rt,
+            line,
+            (done, bank.memory(BASE)),
+            (success(number), Some(first)),
+        );
     }
-    assert_eq!(rt; bank.memory(BASE + 1), Some(0x23));
+    same(&rt, "the second byte", bank.memory(BASE + 1), Some(0x23));
     Ok(())
 }
 
@@ -103,7 +107,7 @@ fn read_modify_write_and_one_address(rt: HostRuntime) -> Result<(), Fail> {
 fn refused_commands_leave_memory_and_an_entry(rt: HostRuntime) -> Result<(), Fail> {
     let alloc = rt.alloc();
     let (mut bank, mut shares) = fresh(alloc, 65_536, 2, 1)?;
-    assert_eq!(rt; shares.len(), 1);
+    same(&rt, "how many shares", shares.len(), 1);
     let share = shares.first_mut().ok_or("no share")?;
     let mut reply = ReplyBuf::new();
     for (verdict, status, number) in [
@@ -114,9 +118,10 @@ fn refused_commands_leave_memory_and_an_entry(rt: HostRuntime) -> Result<(), Fai
     ] {
         let done = applied(alloc, &mut bank, share, PLAIN_WRITE, verdict, &mut reply)?;
         let wanted = Some(Applied { status, number });
-        assert_eq!(rt; (done, bank.memory(BASE)), (wanted, Some(0)));
+        let found = (verdict, done, bank.memory(BASE));
+        same(&rt, "a verdict", found, (verdict, wanted, Some(0)));
     }
-    assert_eq!(rt; bank.entries().len(), 2);
+    same(&rt, "how many entries", bank.entries().len(), 2);
     Ok(())
 }
 
@@ -124,10 +129,8 @@ fn refused_commands_leave_memory_and_an_entry(rt: HostRuntime) -> Result<(), Fai
 fn sizes_outside_their_limits(rt: HostRuntime) -> Result<(), Fail> {
     let alloc = rt.alloc();
     for room in [0, 65_537] {
-        match Journal::new(alloc, room) {
-            Ok(_) => assert!(rt; false),
-            Err(fault) => assert_eq!(rt; fault.code(), 2),
-        }
+        let code = Journal::new(alloc, room).err().map(|fault| fault.code());
+        same(&rt, "a room", (room, code), (room, Some(2)));
     }
     for (base, size, ports) in [
         (0, 0, 1),
@@ -137,10 +140,9 @@ fn sizes_outside_their_limits(rt: HostRuntime) -> Result<(), Fail> {
         (0, 1, 33),
     ] {
         let journal = Journal::new(alloc, 1)?;
-        match Bank::new(alloc, base, size, journal, ports) {
-            Ok(_) => assert!(rt; false),
-            Err(fault) => assert_eq!(rt; fault, BankFault::Size),
-        }
+        let fault = Bank::new(alloc, base, size, journal, ports).err();
+        let wanted = (base, size, ports, Some(BankFault::Size));
+        same(&rt, "a bank", (base, size, ports, fault), wanted);
     }
     Ok(())
 }
@@ -154,6 +156,10 @@ fn made(alloc: Global) -> Result<usize, BankFault> {
 #[test]
 fn memory_refused_while_made(rt: HostRuntime) {
     let first = made(rt.alloc());
-    assert!(rt; first == Ok(4) || first == Err(BankFault::Memory));
-    assert!(rt; made(rt.alloc()) == Ok(4) || first == Ok(4));
+    let is_told = first == Ok(4) || first == Err(BankFault::Memory);
+    check(
+        &rt,
+        "the first bank",
+        is_told && (made(rt.alloc()) == Ok(4) || first == Ok(4)),
+    );
 }

@@ -2,6 +2,7 @@
 
 ghost use Rattle.std.specs.Prelude.{◌≡◌};
 
+use crate::tests::checks::same;
 use bank::Applied;
 use publish::{Opened, Room};
 use rmap::{ReplyBuf, Status};
@@ -64,9 +65,9 @@ fn one_entry<J: Room, R: Wait + Abort>(rt: &R, alloc: Global, opened: Opened) ->
             packet(alloc, line)?,
             &mut reply,
         )?;
-        assert_eq!(rt; what, Served::Done(Applied { status, number }), "at {line}");
-        assert_eq!(rt; reply.bytes().len(), length, "at {line}");
-        assert_eq!(rt; recorded(&banks)?, (1, 1), "at {line}");
+        let found = (what, reply.bytes().len(), recorded(&banks)?);
+        let done = Served::Done(Applied { status, number });
+        same(rt, line, found, (done, length, (1, 1)));
     }
     Ok(())
 }

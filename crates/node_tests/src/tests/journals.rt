@@ -1,6 +1,7 @@
 //! `bank`: journals that turn over, and their replay.
 
 use super::banks::{WRITE_TO_ONE_ADDRESS, applied, fresh};
+use crate::tests::checks::same;
 use bank::{Bank, Entry, Journal, Share, extents_stay, parts_replay, replay};
 use hex::{decode, encode_upper};
 use rmap::ReplyBuf;
@@ -95,12 +96,17 @@ fn replay_row(rt: &impl Abort, alloc: Global, line: &str) -> Result<(), Fail> {
         applied(alloc, &mut bank, share, line_of(word)?, verdict, &mut reply)?.ok_or("no entry")?;
     }
     let found = statuses(alloc, bank.entries())?;
-    assert_eq!(rt; found.as_str(), row.part()?, "the statuses of {shows}");
+    let wanted = row.part()?;
     let base = u32::from_str_radix(row.part()?, 16)?;
     let mut memory = decode(alloc, row.part()?)?;
     replay_on(rt, bank.entries(), base, &mut memory);
     let want = decode(alloc, row.part()?)?;
-    assert_eq!(rt; memory.as_slice(), want.as_slice(), "the replay of {shows}");
+    same(
+        rt,
+        shows,
+        (found.as_str(), memory.as_slice()),
+        (wanted, want.as_slice()),
+    );
     Ok(())
 }
 
@@ -217,13 +223,13 @@ impl Turning {
         let now = self.bytes(alloc, false)?;
         let mut from_base = self.bytes(alloc, true)?;
         replay_on(rt, self.bank.entries(), BASE, &mut from_base);
-        assert_eq!(rt; from_base.as_slice(), now.as_slice());
         let mut from_zeros = vec![in alloc; 0; SIZE as usize]?;
         for journal in &self.journals {
             replay_on(rt, journal.entries(), BASE, &mut from_zeros);
         }
         replay_on(rt, self.bank.entries(), BASE, &mut from_zeros);
-        assert_eq!(rt; from_zeros.as_slice(), now.as_slice());
+        let replays = (from_base.as_slice(), from_zeros.as_slice());
+        same(rt, "the replays", replays, (now.as_slice(), now.as_slice()));
         Ok(())
     }
 }
@@ -246,20 +252,32 @@ fn turn(
         let mut row = Row::of(line);
         let step = row.part()?;
         let left = turning.step(alloc, step)?;
-        assert_eq!(rt; left.as_str(), row.part()?, "at {step}");
+        same(rt, step, left.as_str(), row.part()?);
         turning.compare_replays(rt, alloc)?;
     }
     Ok(turning)
+}
+
+/// The port's count at the bank, where the bank has the port.
+fn count(bank: &Bank, port: u8) -> Option<u64> {
+    if port >= bank.ports() {
+        return None;
+    }
+    Some(bank.count(port))
 }
 
 #[test]
 fn rotation_of_a_full_journal(rt: HostRuntime) -> Result<(), Fail> {
     let turning = turn(&rt, rt.alloc(), 1, 1, ROOM_FOR_ONE)?;
     let bank = &turning.bank;
-    assert_eq!(rt; bank.ports(), 1);
-    assert_eq!(rt; bank.count(0), 2);
+    same(
+        &rt,
+        "the counts",
+        (count(bank, 0), count(bank, 1)),
+        (Some(2), None),
+    );
     let second = (bank.memory(BASE + 1), bank.base(BASE + 1));
-    assert_eq!(rt; second, (Some(0x23), Some(0x23)));
+    same(&rt, "the second byte", second, (Some(0x23), Some(0x23)));
     Ok(())
 }
 
@@ -267,30 +285,34 @@ fn rotation_of_a_full_journal(rt: HostRuntime) -> Result<(), Fail> {
 fn rotation_keeps_counts_of_ports(rt: HostRuntime) -> Result<(), Fail> {
     let turning = turn(&rt, rt.alloc(), 4, 2, TWO_PORTS)?;
     let bank = &turning.bank;
-    assert_eq!(rt; bank.ports(), 2);
-    assert_eq!(rt; bank.count(0), 3);
-    assert_eq!(rt; bank.count(1), 2);
+    let counts = (count(bank, 0), count(bank, 1), count(bank, 2));
+    same(&rt, "the counts", counts, (Some(3), Some(2), None));
     let mut numbers = Vec::new(rt.alloc());
     for entry in bank.entries() {
         numbers.push((entry.port(), entry.number()))?;
     }
-    assert_eq!(rt; numbers.as_slice(), [(1, 1), (0, 2)].as_slice());
+    same(
+        &rt,
+        "the entries",
+        numbers.as_slice(),
+        [(1, 1), (0, 2)].as_slice(),
+    );
     Ok(())
 }
 
 #[test]
 fn journals_replay_one_after_another(rt: HostRuntime) -> Result<(), Fail> {
     let turning = turn(&rt, rt.alloc(), 4, 1, THREE_JOURNALS)?;
-    assert_eq!(rt; turning.bank.memory(BASE), Some(0x22));
-    assert_eq!(rt; turning.bank.memory(BASE + 1), Some(0x22));
+    let bytes = (turning.bank.memory(BASE), turning.bank.memory(BASE + 1));
+    same(&rt, "the first bytes", bytes, (Some(0x22), Some(0x22)));
     Ok(())
 }
 
 #[test]
 fn rotation_of_empty_journals(rt: HostRuntime) -> Result<(), Fail> {
     let turning = turn(&rt, rt.alloc(), 2, 1, AT_ONCE)?;
-    assert!(rt; turning.bank.entries().is_empty());
-    assert_eq!(rt; turning.bank.memory(BASE + 1), Some(0x23));
+    let left = (turning.bank.entries().len(), turning.bank.memory(BASE + 1));
+    same(&rt, "what is left", left, (0, Some(0x23)));
     Ok(())
 }
 
@@ -299,10 +321,10 @@ fn banks_refuse_a_journal_with_entries(rt: HostRuntime) -> Result<(), Fail> {
     let alloc = rt.alloc();
     let mut turning = turn(&rt, alloc, 1, 1, "0 write|67012C00FE0000ED 0")?;
     let used = turning.bank.rotate(Journal::new(alloc, 1)?);
-    match Bank::new(alloc, BASE, SIZE, used, 1) {
-        Ok(_) => assert!(rt; false),
-        Err(fault) => assert_eq!(rt; fault.code(), 2),
-    }
+    let code = Bank::new(alloc, BASE, SIZE, used, 1)
+        .err()
+        .map(|fault| fault.code());
+    same(&rt, "a used journal", code, Some(2));
     Ok(())
 }
 

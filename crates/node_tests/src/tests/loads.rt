@@ -2,6 +2,7 @@
 
 ghost use Rattle.std.specs.Prelude.{◌≡◌};
 
+use crate::tests::checks::check;
 use publish::{Opened, Publisher, Room};
 use rmap::{ReplyBuf, Status};
 use std::alloc::Global;
@@ -96,6 +97,7 @@ fn is_first_refused(loads: &(Loaded, Loaded)) -> bool {
 #[test]
 fn load_refused_for_memory(rt: HostRuntime) -> Result<(), Fail> {
     let loads = two_loads::<Brand, _>(&rt, rt.alloc(), Opened::new())?;
-    assert!(rt; are_published(&loads) || is_first_refused(&loads));
+    let are_told = are_published(&loads) || is_first_refused(&loads);
+    check(&rt, "two loads", are_told);
     Ok(())
 }

@@ -16,7 +16,7 @@ use std::process::Abort;
 use std::sync::Wait;
 use std::test::Fail;
 use target::{BankConfig, Node, NodeConfig, NodeFault, Pass, Step, finish, judge, load, stage};
-use trial::{BASE, PLAIN_READ, PLAIN_WRITE, Random, bank, packet, program};
+use trial::{BASE, PLAIN_READ, PLAIN_WRITE, Random, SpareBank, bank, packet, program};
 
 /// A node of two ports and two banks, the second of 300 bytes from the address 0x1000 on, and its passes. That
 /// program judges at first.
@@ -125,6 +125,7 @@ fn finished<J: Room, R: Wait + Drop>(
     rt: &impl Wait,
     node: &Node<J, R>,
     pass: &mut Pass<J>,
+    spare: &mut SpareBank,
     packet: Packet,
     reply: &mut ReplyBuf,
 ) -> Result<(bool, Applied), Fail> {
@@ -137,7 +138,7 @@ fn finished<J: Room, R: Wait + Drop>(
             Ok((fits, finish(pass, bank, judged, reply)))
         }
         _ => {
-            judged.answer_error(reply);
+            spare.end(judged, reply);
             Err("no bank".into())
         }
     }
@@ -156,11 +157,12 @@ fn one_writes_and_one_reads<J: Room, R: Wait + Abort>(
     requires { opened ≡ J.book }
 {
     let (node, mut passes) = shared::<J, _>(rt, alloc, opened)?;
+    let mut spare = SpareBank::new(alloc)?;
     let mut reply = ReplyBuf::new();
     for (port, line) in [(0, PLAIN_WRITE), (1, PLAIN_READ)] {
         let pass = passes.get_mut(port).ok_or("no pass")?;
         let sent = packet(alloc, line)?;
-        let (fits, applied) = finished(rt, &node, pass, sent, &mut reply)?;
+        let (fits, applied) = finished(rt, &node, pass, &mut spare, sent, &mut reply)?;
         assert!(rt; fits);
         assert_eq!(rt;
             (applied.status, applied.number),
@@ -184,6 +186,7 @@ fn windowed<J: Room, R: Wait + Drop>(
     pass: &mut Pass<J>,
     line: &str,
 ) -> Result<Status, Fail> {
+    let mut spare = SpareBank::new(alloc)?;
     let mut reply = ReplyBuf::new();
     let judged = judged_at(pass, packet(alloc, line)?, &mut reply)?;
     match judged.place() {
@@ -194,7 +197,7 @@ fn windowed<J: Room, R: Wait + Drop>(
             Ok(load(alloc, pass, publisher, judged, &mut reply))
         }
         Place::Bank(_) => {
-            judged.answer_error(&mut reply);
+            spare.end(judged, &mut reply);
             Err("a bank".into())
         }
     }
@@ -218,13 +221,14 @@ fn load_under_the_lock<J: Room, R: Wait + Abort>(
     assert_eq!(rt; windowed(rt, alloc, &node, first, STAGE)?, Status::Success);
     assert_eq!(rt; windowed(rt, alloc, &node, first, LOAD)?, Status::Success);
     assert_eq!(rt; first.staging().load_result(), [0, 0, 0, 0, 0, 0, 0, 1]);
+    let mut spare = SpareBank::new(alloc)?;
     let mut reply = ReplyBuf::new();
     for port in [0, 1] {
         let pass = passes.get_mut(port).ok_or("no pass")?;
         for (line, generation) in [(PLAIN_READ, 0), (PLAIN_WRITE, 1)] {
             let judged = judged_at(pass, packet(alloc, line)?, &mut reply)?;
             let found = (judged.generation(), judged.verdict());
-            judged.answer_error(&mut reply);
+            spare.end(judged, &mut reply);
             assert_eq!(rt; found, (generation, 0), "at port {port}");
         }
     }
@@ -267,12 +271,13 @@ fn generated_commands<J: Room, R: Wait + Abort>(
 {
     let (node, mut passes) = shared::<J, _>(rt, alloc, opened)?;
     let mut random = Random::new(23);
+    let mut spare = SpareBank::new(alloc)?;
     let mut reply = ReplyBuf::new();
     for round in 0..1000 {
         let port = random.below(2) as usize;
         let pass = passes.get_mut(port).ok_or("no pass")?;
         let sent = generated(alloc, &mut random)?;
-        let (fits, applied) = finished(rt, &node, pass, sent, &mut reply)?;
+        let (fits, applied) = finished(rt, &node, pass, &mut spare, sent, &mut reply)?;
         assert!(rt; fits, "in round {round}");
         assert_eq!(rt; applied.status, Status::Success, "in round {round}");
         assert!(rt; applied.number.is_some());

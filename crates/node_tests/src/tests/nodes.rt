@@ -2,6 +2,7 @@
 
 ghost use Rattle.std.specs.Prelude.{◌≡◌};
 
+use crate::tests::checks::{check, same};
 use bank::Applied;
 use basm::assemble;
 use bver::{Accepted, MapSizes, verify};
@@ -98,8 +99,8 @@ fn packets_and_what_becomes_of_them(rt: HostRuntime) -> Result<(), Fail> {
         ),
     ] {
         let found = served_afresh(&rt, alloc, verdict, line, &mut reply)?;
-        assert_eq!(rt; found, what, "at {line}");
-        assert_eq!(rt; reply.bytes(), packet(alloc, answer)?.bytes(), "at {line}");
+        let wanted = packet(alloc, answer)?;
+        same(&rt, line, (found, reply.bytes()), (what, wanted.bytes()));
     }
     Ok(())
 }
@@ -169,14 +170,28 @@ fn numbers_of_three_ports<J: Room, R: Wait + Abort>(
             status: Status::Success,
             number: Some(number),
         };
-        assert_eq!(rt; what, Served::Done(counted), "port {port} at bank {k}");
+        same(
+            rt,
+            "a read",
+            (port, k, what),
+            (port, k, Served::Done(counted)),
+        );
     }
     let first = [(0, 0), (0, 1), (1, 0), (2, 0), (1, 1), (0, 2)];
     let second = [(2, 0), (2, 1), (1, 0), (2, 2)];
     let third = [(0, 0), (1, 0)];
-    assert_eq!(rt; entries(alloc, &banks, 0)?.as_slice(), first.as_slice());
-    assert_eq!(rt; entries(alloc, &banks, 1)?.as_slice(), second.as_slice());
-    assert_eq!(rt; entries(alloc, &banks, 2)?.as_slice(), third.as_slice());
+    for (k, wanted) in [
+        (0, first.as_slice()),
+        (1, second.as_slice()),
+        (2, third.as_slice()),
+    ] {
+        same(
+            rt,
+            "a bank",
+            (k, entries(alloc, &banks, k)?.as_slice()),
+            (k, wanted),
+        );
+    }
     Ok(())
 }
 
@@ -196,10 +211,9 @@ fn nodes_outside_their_limits(rt: HostRuntime) -> Result<(), Fail> {
         (1, wide.as_slice(), 3),
     ] {
         let factory = program(alloc, 0)?;
-        match made::<Brand, _>(&rt, alloc, Opened::new(), ports, banks, factory) {
-            Ok(_) => assert!(rt; false),
-            Err(fault) => assert_eq!(rt; fault.code(), code),
-        }
+        let fault = made::<Brand, _>(&rt, alloc, Opened::new(), ports, banks, factory).err();
+        let found = fault.map(|fault| fault.code());
+        same(&rt, "a node", (ports, found), (ports, Some(code)));
     }
     Ok(())
 }
@@ -236,6 +250,7 @@ fn made_small(rt: &impl Wait, alloc: Global) -> Option<Result<(usize, usize), No
 fn memory_refused_while_made(rt: HostRuntime) {
     let first = made_small(&rt, rt.alloc());
     let full = Some(Ok((1, 2)));
-    assert!(rt; first == full || first == Some(Err(NodeFault::Memory)) || first.is_none());
-    assert!(rt; first == full || made_small(&rt, rt.alloc()) == full);
+    let is_told = first == full || first == Some(Err(NodeFault::Memory)) || first.is_none();
+    let is_made = first == full || made_small(&rt, rt.alloc()) == full;
+    check(&rt, "a small node", is_told && is_made);
 }

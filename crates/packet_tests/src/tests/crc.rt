@@ -1,5 +1,6 @@
 //! `rcrc`: the values that others compute.
 
+use crate::tests::checks::same;
 use hex::decode;
 use rcrc::{crc, crc_more, remainder_is_unique};
 use std::alloc::Global;
@@ -107,7 +108,7 @@ fn with_coefficient(remainder: u16, coefficient: u16) -> u16 {
 fn agrees_with_two_libraries(rt: HostRuntime) -> Result<(), Fail> {
     for line in VECTORS.lines() {
         let (bytes, want) = vector(rt.alloc(), line)?;
-        assert_eq!(rt; crc(&bytes), want, "{line}");
+        same(&rt, line, crc(&bytes), want);
     }
     Ok(())
 }
@@ -116,11 +117,16 @@ fn agrees_with_two_libraries(rt: HostRuntime) -> Result<(), Fail> {
 fn agrees_with_long_division(rt: HostRuntime) -> Result<(), Fail> {
     for byte in 0..=255u8 {
         let bytes = [byte, 0xFE, byte, 0x01];
-        assert_eq!(rt; crc(&bytes), slow_crc(&bytes), "the CRC of {bytes:?}");
+        same(
+            &rt,
+            "a byte among others",
+            (byte, crc(&bytes)),
+            (byte, slow_crc(&bytes)),
+        );
     }
     for line in VECTORS.lines() {
         let (bytes, _) = vector(rt.alloc(), line)?;
-        assert_eq!(rt; crc(&bytes), slow_crc(&bytes), "{line}");
+        same(&rt, line, crc(&bytes), slow_crc(&bytes));
     }
     Ok(())
 }
@@ -128,7 +134,7 @@ fn agrees_with_long_division(rt: HostRuntime) -> Result<(), Fail> {
 #[test]
 fn header_of_a_command(rt: HostRuntime) -> Result<(), Fail> {
     let header = decode(rt.alloc(), "FE016C0067000000A0000000000010")?;
-    assert_eq!(rt; crc(&header), 0x9F);
+    same(&rt, "header of a command", crc(&header), 0x9F);
     Ok(())
 }
 
@@ -136,8 +142,18 @@ fn header_of_a_command(rt: HostRuntime) -> Result<(), Fail> {
 fn goes_on_from_an_earlier_crc(rt: HostRuntime) {
     let bytes = b"SpaceWire";
     let (front, back) = bytes.split_at(5);
-    assert_eq!(rt; crc_more(crc(front), back), crc(bytes));
-    assert_eq!(rt; crc_more(crc(bytes), &[crc(bytes)]), 0);
+    same(
+        &rt,
+        "goes on from an earlier crc",
+        crc_more(crc(front), back),
+        crc(bytes),
+    );
+    same(
+        &rt,
+        "goes on from an earlier crc",
+        crc_more(crc(bytes), &[crc(bytes)]),
+        0,
+    );
 }
 
 #[test]

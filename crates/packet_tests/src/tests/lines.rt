@@ -1,5 +1,6 @@
 //! `spw`: lines as people write them, printed faults, and that reading succeeds.
 
+use crate::tests::checks::same;
 use hex::decode;
 use spw::{End, LineFault, MAX_PACKET, Packet, line_is_unambiguous, read_line};
 use std::alloc::{AllocError, Global};
@@ -56,11 +57,11 @@ fn lines_are_read(rt: HostRuntime) -> Result<(), Fail> {
         let mut row = Row::of(row);
         let line = row.part()?;
         let (port, packet) = read_line(rt.alloc(), line)?;
-        assert_eq!(rt; port, row.part()?.parse::<u8>()?, "the port of {line:?}");
+        same(&rt, line, port, row.part()?.parse::<u8>()?);
         let bytes = decode(rt.alloc(), row.part()?)?;
-        assert_eq!(rt; packet.bytes(), bytes.as_slice(), "the bytes of {line:?}");
+        same(&rt, line, packet.bytes(), bytes.as_slice());
         let end = word(rt.alloc(), Some(packet.end()))?;
-        assert_eq!(rt; end.as_str(), row.part()?, "the marker of {line:?}");
+        same(&rt, line, end.as_str(), row.part()?);
     }
     Ok(())
 }
@@ -71,7 +72,7 @@ fn have_faults(rt: &impl Abort, alloc: Global, table: &str) -> Result<(), Fail> 
         let mut row = Row::of(row);
         let (line, fault) = (row.part()?, row.part()?);
         let found = word(alloc, read_line(alloc, line).err())?;
-        assert_eq!(rt; found.as_str(), fault, "the fault of {line:?}");
+        same(rt, line, found.as_str(), fault);
     }
     Ok(())
 }
@@ -87,8 +88,14 @@ fn first_fault_is_named(rt: HostRuntime) -> Result<(), Fail> {
 }
 
 /// A line at port 0 with so many bytes of zero, each behind what stands between them, then a word of its
-/// own, and `EOP`.
-fn long_line(alloc: Global, bytes: usize, between: &str, last: &str) -> Result<String, AllocError> {
+/// own, and the marker.
+pub fn long_line(
+    alloc: Global,
+    bytes: usize,
+    between: &str,
+    last: &str,
+    marker: &str,
+) -> Result<String, AllocError> {
     let mut line = String::from_str(alloc, "0 ")?;
     for _byte in 0..bytes {
         line.push_str(between)?;
@@ -96,7 +103,8 @@ fn long_line(alloc: Global, bytes: usize, between: &str, last: &str) -> Result<S
     }
     line.push_str(" ")?;
     line.push_str(last)?;
-    line.push_str(" EOP")?;
+    line.push_str(" ")?;
+    line.push_str(marker)?;
     Ok(line)
 }
 
@@ -106,11 +114,16 @@ fn longest_packet_is_read(rt: HostRuntime) -> Result<(), Fail> {
     let mut bytes = vec![in rt.alloc(); 0; 4199]?;
     bytes.push(0xFF)?;
     for between in ["", " ", "        "] {
-        let line = long_line(rt.alloc(), 4199, between, "FF")?;
+        let line = long_line(rt.alloc(), 4199, between, "FF", "EOP")?;
         let (port, packet) = read_line(rt.alloc(), line.as_str())?;
-        assert_eq!(rt; port, 0);
-        assert_eq!(rt; packet.end(), End::Eop);
-        assert_eq!(rt; packet.bytes(), bytes.as_slice());
+        same(&rt, "longest packet is read", port, 0);
+        same(&rt, "longest packet is read", packet.end(), End::Eop);
+        same(
+            &rt,
+            "longest packet is read",
+            packet.bytes(),
+            bytes.as_slice(),
+        );
     }
     Ok(())
 }
@@ -122,8 +135,13 @@ fn longer_packet_is_refused(rt: HostRuntime) -> Result<(), Fail> {
         (MAX_PACKET, "FF", LineFault::TooLong),
         (MAX_PACKET + 1, "F", LineFault::BadHex),
     ] {
-        let line = long_line(alloc, bytes, "", last)?;
-        assert_eq!(rt; read_line(alloc, line.as_str()).err(), Some(fault));
+        let line = long_line(alloc, bytes, "", last, "EOP")?;
+        same(
+            &rt,
+            "longer packet is refused",
+            read_line(alloc, line.as_str()).err(),
+            Some(fault),
+        );
     }
     Ok(())
 }
@@ -132,14 +150,26 @@ fn longer_packet_is_refused(rt: HostRuntime) -> Result<(), Fail> {
 fn packet_keeps_bytes_and_marker(rt: HostRuntime) -> Result<(), Fail> {
     let bytes = vec![in rt.alloc(); 1, 2, 3]?;
     let packet = Packet::new(bytes, End::Eep)?;
-    assert_eq!(rt; packet.bytes(), [1, 2, 3].as_slice());
-    assert_eq!(rt; packet.end(), End::Eep);
+    same(
+        &rt,
+        "packet keeps bytes and marker",
+        packet.bytes(),
+        [1, 2, 3].as_slice(),
+    );
+    same(&rt, "packet keeps bytes and marker", packet.end(), End::Eep);
     let longest = vec![in rt.alloc(); 0; MAX_PACKET]?;
-    assert_eq!(rt; Packet::new(longest, End::Eop)?.bytes().len(), 4200);
+    same(
+        &rt,
+        "packet keeps bytes and marker",
+        Packet::new(longest, End::Eop)?.bytes().len(),
+        4200,
+    );
     let longer = vec![in rt.alloc(); 0; MAX_PACKET + 1]?;
-    assert_eq!(rt;
+    same(
+        &rt,
+        "packet keeps bytes and marker",
         Packet::new(longer, End::Eop).err(),
-        Some(LineFault::TooLong)
+        Some(LineFault::TooLong),
     );
     Ok(())
 }
@@ -154,10 +184,20 @@ fn faults_have_numbers_and_words(rt: HostRuntime) -> Result<(), Fail> {
         (LineFault::Memory, 5, "no memory"),
     ];
     for (fault, code, words) in faults {
-        assert_eq!(rt; fault.code(), code);
-        assert_eq!(rt; format!(in rt.alloc(); "{fault}")?.as_str(), words);
+        same(&rt, "faults have numbers and words", fault.code(), code);
+        same(
+            &rt,
+            "faults have numbers and words",
+            format!(in rt.alloc(); "{fault}")?.as_str(),
+            words,
+        );
     }
-    assert_eq!(rt; LineFault::from(AllocError), LineFault::Memory);
+    same(
+        &rt,
+        "faults have numbers and words",
+        LineFault::from(AllocError),
+        LineFault::Memory,
+    );
     Ok(())
 }
 
@@ -170,7 +210,7 @@ fn laws_are_called() {
 fn read_again(rt: &impl Abort, alloc: Global, line: &str) -> Result<(u8, Packet), LineFault> {
     match read_line(alloc, line) {
         Err(fault) => {
-            assert_eq!(rt; fault, LineFault::Memory);
+            same(rt, "read again", fault, LineFault::Memory);
             read_line(alloc, line)
         }
         read => read,
@@ -182,8 +222,13 @@ fn read_again(rt: &impl Abort, alloc: Global, line: &str) -> Result<(u8, Packet)
 #[test]
 fn memory_is_refused(rt: HostRuntime) -> Result<(), Fail> {
     let (port, packet) = read_again(&rt, rt.alloc(), "3 0102 03 0405 EEP")?;
-    assert_eq!(rt; port, 3);
-    assert_eq!(rt; packet.bytes(), [1, 2, 3, 4, 5].as_slice());
-    assert_eq!(rt; packet.end(), End::Eep);
+    same(&rt, "memory is refused", port, 3);
+    same(
+        &rt,
+        "memory is refused",
+        packet.bytes(),
+        [1, 2, 3, 4, 5].as_slice(),
+    );
+    same(&rt, "memory is refused", packet.end(), End::Eep);
     Ok(())
 }

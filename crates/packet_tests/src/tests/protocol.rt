@@ -6,6 +6,7 @@
 mod exchanges;
 mod headers;
 
+use crate::tests::checks::same;
 use rmap::{
     Command, Discard, Instruction, Kind, MAX_REPLY, ReplyBuf, Status, Windows, command_is_unique,
     commands_are_laid_out, discard_is_exact, put_reply, replies_are_short,
@@ -38,7 +39,7 @@ fn packets_that_are_no_commands(rt: HostRuntime) -> Result<(), Fail> {
         let shows = row.part()?;
         let sent = packet(rt.alloc(), row.part()?)?;
         let found = word(rt.alloc(), Command::view(&sent).err())?;
-        assert_eq!(rt; found.as_str(), row.part()?, "{shows}");
+        same(&rt, shows, found.as_str(), row.part()?);
     }
     Ok(())
 }
@@ -72,17 +73,42 @@ fn fields_of_a_header(rt: HostRuntime) -> Result<(), Fail> {
     let line = "0 20014E33 0000000000000506 674455 11 89ABCDEF 123456 74 AABB EOP";
     let sent = packet(rt.alloc(), line)?;
     let command = Command::view(&sent)?;
-    assert_eq!(rt; *command.front(), [0x20, 0x01, 0x4E, 0x33]);
-    assert_eq!(rt; command.reply_path(), [0, 0, 0, 0, 0, 0, 5, 6].as_slice());
+    same(
+        &rt,
+        "fields of a header",
+        *command.front(),
+        [0x20, 0x01, 0x4E, 0x33],
+    );
+    same(
+        &rt,
+        "fields of a header",
+        command.reply_path(),
+        [0, 0, 0, 0, 0, 0, 5, 6].as_slice(),
+    );
     let tail = [
         0x67, 0x44, 0x55, 0x11, 0x89, 0xAB, 0xCD, 0xEF, 0x12, 0x34, 0x56, 0x74,
     ];
-    assert_eq!(rt; *command.tail(), tail);
-    assert_eq!(rt; command.body(), [0xAA, 0xBB].as_slice());
-    assert_eq!(rt; (command.kind(), command.end()), (Kind::Read, End::Eop));
+    same(&rt, "fields of a header", *command.tail(), tail);
+    same(
+        &rt,
+        "fields of a header",
+        command.body(),
+        [0xAA, 0xBB].as_slice(),
+    );
+    same(
+        &rt,
+        "fields of a header",
+        (command.kind(), command.end()),
+        (Kind::Read, End::Eop),
+    );
     let wanted = [0x20, 0x4E, 0x33, 0x67, 0x4455, 0x11, 0x89AB_CDEF, 0x12_3456];
-    assert_eq!(rt; numbers(&command), wanted);
-    assert_eq!(rt; options(&command), [false, false, true, true]);
+    same(&rt, "fields of a header", numbers(&command), wanted);
+    same(
+        &rt,
+        "fields of a header",
+        options(&command),
+        [false, false, true, true],
+    );
     Ok(())
 }
 
@@ -100,7 +126,12 @@ fn kinds_of_instructions(rt: HostRuntime) -> Result<(), Fail> {
             "Unused"
         };
         let found = word(rt.alloc(), Some(Instruction(instruction).kind()))?;
-        assert_eq!(rt; found.as_str(), want, "instruction {instruction}");
+        same(
+            &rt,
+            "an instruction",
+            (instruction, found.as_str()),
+            (instruction, want),
+        );
     }
     Ok(())
 }
@@ -112,21 +143,26 @@ fn longest_reply(rt: HostRuntime) -> Result<(), Fail> {
     let command = Command::view(&sent)?;
     let mut reply = ReplyBuf::new();
     put_reply(&mut reply, &command, Status::Success, &[0x5A; 4096]);
-    assert_eq!(rt; reply.bytes().len(), MAX_REPLY);
-    assert_eq!(rt; reply.bytes().last(), Some(&0x42));
+    same(&rt, "longest reply", reply.bytes().len(), MAX_REPLY);
+    same(&rt, "longest reply", reply.bytes().last(), Some(&0x42));
     reply.clear();
-    assert_eq!(rt; reply.bytes().len(), 0);
+    same(&rt, "longest reply", reply.bytes().len(), 0);
     Ok(())
 }
 
 #[test]
 fn windows_of_a_node(rt: HostRuntime) {
     let windows = Windows::new(0x42, &[(16, 32), (0xFFFF_FFFF, 1)]);
-    assert_eq!(rt; windows.node_address(), 0x42);
-    assert_eq!(rt; windows.bank(0), Some((16, 32)));
-    assert_eq!(rt; windows.bank(1), Some((0xFFFF_FFFF, 1)));
-    assert_eq!(rt; windows.bank(2), None);
-    assert_eq!(rt; windows.bank(0xFF), None);
+    same(&rt, "windows of a node", windows.node_address(), 0x42);
+    same(&rt, "windows of a node", windows.bank(0), Some((16, 32)));
+    same(
+        &rt,
+        "windows of a node",
+        windows.bank(1),
+        Some((0xFFFF_FFFF, 1)),
+    );
+    same(&rt, "windows of a node", windows.bank(2), None);
+    same(&rt, "windows of a node", windows.bank(0xFF), None);
 }
 
 /// The standard's statuses, with their numbers and texts.
@@ -156,9 +192,14 @@ const STATUSES: &[(Status, u8, &str)] = &[
 #[test]
 fn numbers_and_texts_of_statuses(rt: HostRuntime) -> Result<(), Fail> {
     for (status, code, text) in STATUSES {
-        assert_eq!(rt; status.code(), *code, "{text}");
+        same(&rt, text, status.code(), *code);
         let printed = format!(in rt.alloc(); "{status}")?;
-        assert_eq!(rt; printed.as_str(), *text);
+        same(
+            &rt,
+            "numbers and texts of statuses",
+            printed.as_str(),
+            *text,
+        );
     }
     Ok(())
 }
@@ -178,9 +219,14 @@ const REASONS: &[(Discard, u8, &str)] = &[
 #[test]
 fn numbers_and_texts_of_discards(rt: HostRuntime) -> Result<(), Fail> {
     for (reason, code, text) in REASONS {
-        assert_eq!(rt; reason.code(), *code, "{text}");
+        same(&rt, text, reason.code(), *code);
         let printed = format!(in rt.alloc(); "{reason}")?;
-        assert_eq!(rt; printed.as_str(), *text);
+        same(
+            &rt,
+            "numbers and texts of discards",
+            printed.as_str(),
+            *text,
+        );
     }
     Ok(())
 }

@@ -1,6 +1,7 @@
 //! Worked images, and the faults of an image.
 
 use super::YES;
+use crate::tests::checks::{check, same};
 use bpf::{Image, ImageFault, Loop};
 use bpf_insn::{AluOp, Callee, Comparison, Condition, Insn, Operand, Register, Width};
 use std::alloc::Global;
@@ -105,76 +106,12 @@ fn a_changed_byte_is_the_first_fault(rt: HostRuntime) {
         if let Some(byte) = bytes.get_mut(*place) {
             *byte = *value;
         }
-        assert_eq!(rt; fault(rt, &bytes), (*code, *slot), "at {place} {value}");
-    }
-}
-
-/// What each byte is replaced by.
-const REPLACEMENTS: [u8; 5] = [0x00, 0x01, 0x7f, 0x80, 0xff];
-
-/// How many of the 360 replaced bytes leave an image, and how many are each fault by its number, as an
-/// independent reader counts them.
-const REPLACED: [u16; 8] = [168, 20, 4, 6, 23, 9, 27, 103];
-
-/// The number of the fault, 0 where the bytes are an image, which is then written as the same bytes.
-fn written_back(rt: &impl Abort, alloc: Global, bytes: &[u8]) -> Result<u8, Fail> {
-    match Image::read(alloc, bytes) {
-        Ok(image) => {
-            assert!(rt; image.write()?.as_slice() == bytes);
-            Ok(0)
-        }
-        Err(fault) => Ok(fault.code()),
-    }
-}
-
-#[test]
-fn a_replaced_byte_is_written_back_or_a_fault(rt: HostRuntime) -> Result<(), Fail> {
-    let mut counts = [0u16; 8];
-    for place in 0..COUNTDOWN.len() {
-        for value in &REPLACEMENTS {
-            let mut bytes = COUNTDOWN;
-            bytes[place] = *value;
-            let code = written_back(&rt, rt.alloc(), &bytes)?;
-            if let Some(count) = counts.get_mut(usize::from(code)) {
-                *count = count.saturating_add(1);
-            }
-        }
-    }
-    assert!(rt; counts == REPLACED);
-    Ok(())
-}
-
-/// Of each beginning: the magic, the version, and then the length.
-#[test]
-fn each_beginning_is_a_fault(rt: HostRuntime) -> Result<(), Fail> {
-    for len in 0..COUNTDOWN.len() {
-        let code = if len < 4 {
-            1
-        } else if len == 4 {
-            2
-        } else {
-            3
-        };
-        assert_eq!(rt;
-            written_back(&rt, rt.alloc(), &COUNTDOWN[..len])?,
-            code,
-            "at {len}"
+        same(
+            &rt,
+            "a changed byte",
+            (*place, *value, fault(rt, &bytes)),
+            (*place, *value, (*code, *slot)),
         );
-    }
-    assert_eq!(rt; written_back(&rt, rt.alloc(), &COUNTDOWN)?, 0);
-    Ok(())
-}
-
-/// The declared size alone is tested, whatever follows it.
-#[test]
-fn a_size_out_of_range_is_a_count_fault(rt: HostRuntime) {
-    for size in &[0u16, 513, 65_535] {
-        let mut bytes = YES;
-        let [low, high] = size.to_le_bytes();
-        bytes[6] = low;
-        bytes[7] = high;
-        assert_eq!(rt; fault(rt, &bytes), (4, 0), "at {size}");
-        assert_eq!(rt; fault(rt, &bytes[..16]), (4, 0), "at {size}, and no slot");
     }
 }
 
@@ -184,39 +121,50 @@ fn bytes_after_the_end_are_a_fault(rt: HostRuntime) {
     for (to, from) in bytes.iter_mut().zip(&YES) {
         *to = *from;
     }
-    assert_eq!(rt; fault(rt, &bytes), (3, 0));
+    same(
+        &rt,
+        "bytes after the end are a fault",
+        fault(rt, &bytes),
+        (3, 0),
+    );
 }
 
 #[test]
 fn heads_must_rise(rt: HostRuntime) {
     let mut bytes = TWO_LOOPS;
-    assert_eq!(rt; fault(rt, &bytes), (0, 0));
+    same(&rt, "heads must rise", fault(rt, &bytes), (0, 0));
     bytes[24] = 1;
-    assert_eq!(rt; fault(rt, &bytes), (0, 0));
+    same(&rt, "heads must rise", fault(rt, &bytes), (0, 0));
     bytes[24] = 0;
-    assert_eq!(rt; fault(rt, &bytes), (6, 0));
+    same(&rt, "heads must rise", fault(rt, &bytes), (6, 0));
 }
 
 #[test]
 fn a_cut_pair_is_half(rt: HostRuntime) {
     let bytes = CUT_PAIR;
-    assert_eq!(rt; fault(rt, &bytes), (7, 1));
+    same(&rt, "a cut pair is half", fault(rt, &bytes), (7, 1));
 }
 
 fn tells_quota(rt: &impl Abort, image: &Image) {
-    assert_eq!(rt; image.version(), 1);
-    assert_eq!(rt; image.slots(), 9);
-    assert_eq!(rt; image.budget(), 8);
-    assert!(rt; image.loops().is_empty());
+    same(rt, "tells quota", image.version(), 1);
+    same(rt, "tells quota", image.slots(), 9);
+    same(rt, "tells quota", image.budget(), 8);
+    check(rt, "tells quota", image.loops().is_empty());
     let r1 = Register::new(1).unwrap();
-    assert!(rt; image.insn(0) == Some(Insn::LoadMap { dst: r1, index: 0 }));
-    assert!(rt; image.insn(1).is_none(), "a second slot");
-    assert!(rt;
+    check(
+        rt,
+        "tells quota",
+        image.insn(0) == Some(Insn::LoadMap { dst: r1, index: 0 }),
+    );
+    check(rt, "a second slot", image.insn(1).is_none());
+    check(
+        rt,
+        "tells quota",
         image.insn(3)
             == Some(Insn::Call {
                 callee: Callee::Helper,
-                number: 2
-            })
+                number: 2,
+            }),
     );
     let r0 = Register::new(0).unwrap();
     let src = Operand::Immediate(5);
@@ -230,7 +178,7 @@ fn tells_quota(rt: &impl Abort, image: &Image) {
         comparison,
         offset: 2,
     };
-    assert!(rt; image.insn(4) == Some(jump));
+    check(rt, "tells quota", image.insn(4) == Some(jump));
     let src = Operand::Immediate(10);
     let answer = Insn::Alu {
         op: AluOp::Mov,
@@ -238,10 +186,10 @@ fn tells_quota(rt: &impl Abort, image: &Image) {
         dst: r0,
         src,
     };
-    assert!(rt; image.insn(5) == Some(answer));
-    assert!(rt; image.insn(8) == Some(Insn::Exit));
-    assert!(rt; image.insn(9).is_none(), "past the end");
-    assert!(rt; image.insn(65_535).is_none(), "past the end");
+    check(rt, "tells quota", image.insn(5) == Some(answer));
+    check(rt, "tells quota", image.insn(8) == Some(Insn::Exit));
+    check(rt, "past the end", image.insn(9).is_none());
+    check(rt, "past the end", image.insn(65_535).is_none());
 }
 
 #[test]
@@ -255,21 +203,31 @@ fn the_quota_image_is_read_and_copied(rt: HostRuntime) -> Result<(), Fail> {
 #[test]
 fn the_loop_image_is_read(rt: HostRuntime) -> Result<(), Fail> {
     let image = Image::read(rt.alloc(), &COUNTDOWN)?;
-    assert_eq!(rt; image.slots(), 6);
-    assert_eq!(rt; image.budget(), 15);
-    assert_eq!(rt; image.loops().len(), 1);
+    same(&rt, "the loop image is read", image.slots(), 6);
+    same(&rt, "the loop image is read", image.budget(), 15);
+    same(&rt, "the loop image is read", image.loops().len(), 1);
     let copy = image.copy()?;
-    assert_eq!(rt; copy.loops().len(), 1);
-    let found = copy.loops()[0];
-    assert_eq!(rt; (found.head, found.back, found.bound), (2, 4, 4));
-    assert_eq!(rt; found.register.number(), 6);
+    same(&rt, "the loop image is read", copy.loops().len(), 1);
+    let found = *copy.loops().first().ok_or("no loop")?;
+    same(
+        &rt,
+        "the loop image is read",
+        (found.head, found.back, found.bound),
+        (2, 4, 4),
+    );
+    same(&rt, "the loop image is read", found.register.number(), 6);
     Ok(())
 }
 
 #[test]
 fn the_least_image_is_read(rt: HostRuntime) -> Result<(), Fail> {
     let image = Image::read(rt.alloc(), &YES)?;
-    assert_eq!(rt; (image.slots(), image.budget()), (2, 2));
+    same(
+        &rt,
+        "the least image is read",
+        (image.slots(), image.budget()),
+        (2, 2),
+    );
     Ok(())
 }
 
@@ -278,9 +236,19 @@ fn the_least_image_is_read(rt: HostRuntime) -> Result<(), Fail> {
 fn the_largest_image_is_read(rt: HostRuntime) -> Result<(), Fail> {
     let bytes = largest(rt.alloc())?;
     let image = Image::read(rt.alloc(), &bytes)?;
-    assert_eq!(rt; (image.slots(), image.loops().len()), (512, 8));
+    same(
+        &rt,
+        "the largest image is read",
+        (image.slots(), image.loops().len()),
+        (512, 8),
+    );
     let copy = image.copy()?;
-    assert_eq!(rt; copy.write()?.as_slice(), bytes.as_slice());
+    same(
+        &rt,
+        "the largest image is read",
+        copy.write()?.as_slice(),
+        bytes.as_slice(),
+    );
     Ok(())
 }
 
@@ -292,11 +260,19 @@ fn is_written_so(rt: HostRuntime, bytes: &[u8]) -> Result<bool, Fail> {
 
 #[test]
 fn an_image_is_written_as_it_is_read(rt: HostRuntime) -> Result<(), Fail> {
-    assert!(rt; is_written_so(rt, &QUOTA)?, "an instruction of two slots");
-    assert!(rt; is_written_so(rt, &YES)?, "no loop");
-    assert!(rt; is_written_so(rt, &COUNTDOWN)?, "one loop");
-    assert!(rt; is_written_so(rt, &TWO_LOOPS)?, "two loops");
-    assert!(rt; is_written_so(rt, &largest(rt.alloc())?)?, "eight loops");
+    check(
+        &rt,
+        "an instruction of two slots",
+        is_written_so(rt, &QUOTA)?,
+    );
+    check(&rt, "no loop", is_written_so(rt, &YES)?);
+    check(&rt, "one loop", is_written_so(rt, &COUNTDOWN)?);
+    check(&rt, "two loops", is_written_so(rt, &TWO_LOOPS)?);
+    check(
+        &rt,
+        "eight loops",
+        is_written_so(rt, &largest(rt.alloc())?)?,
+    );
     Ok(())
 }
 
@@ -315,11 +291,11 @@ fn is_made_so(rt: HostRuntime, bytes: &[u8]) -> Result<bool, Fail> {
 
 #[test]
 fn an_image_is_made_of_its_parts(rt: HostRuntime) -> Result<(), Fail> {
-    assert!(rt; is_made_so(rt, &QUOTA)?, "an instruction of two slots");
-    assert!(rt; is_made_so(rt, &YES)?, "no loop");
-    assert!(rt; is_made_so(rt, &COUNTDOWN)?, "one loop");
-    assert!(rt; is_made_so(rt, &TWO_LOOPS)?, "two loops");
-    assert!(rt; is_made_so(rt, &largest(rt.alloc())?)?, "eight loops");
+    check(&rt, "an instruction of two slots", is_made_so(rt, &QUOTA)?);
+    check(&rt, "no loop", is_made_so(rt, &YES)?);
+    check(&rt, "one loop", is_made_so(rt, &COUNTDOWN)?);
+    check(&rt, "two loops", is_made_so(rt, &TWO_LOOPS)?);
+    check(&rt, "eight loops", is_made_so(rt, &largest(rt.alloc())?)?);
     Ok(())
 }
 
@@ -336,42 +312,66 @@ const EXITS: [Insn; 513] = [Insn::Exit; 513];
 #[test]
 fn each_count_of_parts_is_tested(rt: HostRuntime) {
     let register = Register::new(0).unwrap();
-    assert_eq!(rt; parts_fault(rt, &[], &[], 1), 4, "no slot");
-    assert_eq!(rt; parts_fault(rt, &EXITS[..512], &[], 1), 0);
-    assert_eq!(rt; parts_fault(rt, &EXITS, &[], 1), 4, "too many instructions");
+    same(&rt, "no slot", parts_fault(rt, &[], &[], 1), 4);
+    same(
+        &rt,
+        "each count of parts is tested",
+        parts_fault(rt, &EXITS[..512], &[], 1),
+        0,
+    );
+    same(
+        &rt,
+        "too many instructions",
+        parts_fault(rt, &EXITS, &[], 1),
+        4,
+    );
     let pairs = [Insn::Wide {
         dst: register,
         value: 7,
     }; 257];
-    assert_eq!(rt; parts_fault(rt, &pairs[..256], &[], 1), 0);
-    assert_eq!(rt; parts_fault(rt, &pairs, &[], 1), 4, "too many slots");
+    same(
+        &rt,
+        "each count of parts is tested",
+        parts_fault(rt, &pairs[..256], &[], 1),
+        0,
+    );
+    same(&rt, "too many slots", parts_fault(rt, &pairs, &[], 1), 4);
     let loops = [Loop {
         head: 0,
         back: 1,
         bound: 1,
         register,
     }; 9];
-    assert_eq!(rt;
+    same(
+        &rt,
+        "too many loops",
         parts_fault(rt, &EXITS[..2], &loops, 0),
         4,
-        "too many loops"
     );
-    assert_eq!(rt;
+    same(
+        &rt,
+        "no budget",
         parts_fault(rt, &EXITS[..2], &loops[..8], 0),
         5,
-        "no budget"
     );
-    assert_eq!(rt;
+    same(
+        &rt,
+        "too great a budget",
         parts_fault(rt, &EXITS[..2], &loops[..8], 65_537),
         5,
-        "too great a budget"
     );
-    assert_eq!(rt;
+    same(
+        &rt,
+        "equal heads",
         parts_fault(rt, &EXITS[..2], &loops[..8], 65_536),
         6,
-        "equal heads"
     );
-    assert_eq!(rt; parts_fault(rt, &EXITS[..2], &loops[..1], 65_536), 0);
+    same(
+        &rt,
+        "each count of parts is tested",
+        parts_fault(rt, &EXITS[..2], &loops[..1], 65_536),
+        0,
+    );
 }
 
 /// The head, the back, the bound and the register of a loop of an image of two slots, and the fault.
@@ -395,10 +395,16 @@ fn each_field_of_a_loop_is_tested(rt: HostRuntime) -> Result<(), Fail> {
             bound: *bound,
             register,
         };
-        assert_eq!(rt;
-            parts_fault(rt, &EXITS[..2], &[found], 1),
-            *code,
-            "at {back} {bound} {number}"
+        same(
+            &rt,
+            "a loop",
+            (
+                *back,
+                *bound,
+                *number,
+                parts_fault(rt, &EXITS[..2], &[found], 1),
+            ),
+            (*back, *bound, *number, *code),
         );
     }
     Ok(())
@@ -406,13 +412,35 @@ fn each_field_of_a_loop_is_tested(rt: HostRuntime) -> Result<(), Fail> {
 
 #[test]
 fn a_weight_is_a_sum_of_products(rt: HostRuntime) -> Result<(), Fail> {
-    assert_eq!(rt; Image::read(rt.alloc(), &QUOTA)?.weight(), 8);
-    assert_eq!(rt; Image::read(rt.alloc(), &YES)?.weight(), 2);
-    assert_eq!(rt; Image::read(rt.alloc(), &COUNTDOWN)?.weight(), 15);
-    assert_eq!(rt; Image::read(rt.alloc(), &TWO_LOOPS)?.weight(), 4);
-    assert_eq!(rt;
+    same(
+        &rt,
+        "a weight is a sum of products",
+        Image::read(rt.alloc(), &QUOTA)?.weight(),
+        8,
+    );
+    same(
+        &rt,
+        "a weight is a sum of products",
+        Image::read(rt.alloc(), &YES)?.weight(),
+        2,
+    );
+    same(
+        &rt,
+        "a weight is a sum of products",
+        Image::read(rt.alloc(), &COUNTDOWN)?.weight(),
+        15,
+    );
+    same(
+        &rt,
+        "a weight is a sum of products",
+        Image::read(rt.alloc(), &TWO_LOOPS)?.weight(),
+        4,
+    );
+    same(
+        &rt,
+        "a weight is a sum of products",
         Image::read(rt.alloc(), &largest(rt.alloc())?)?.weight(),
-        u64::MAX
+        u64::MAX,
     );
     Ok(())
 }
@@ -428,11 +456,19 @@ fn made_twice(alloc: Global) -> Result<(Vec<u8>, Vec<u8>), ImageFault> {
 #[test]
 fn refused_memory_is_told(rt: HostRuntime) -> Result<(), Fail> {
     if let Err(fault) = made_twice(rt.alloc()) {
-        assert_eq!(rt; fault.code(), 8);
+        same(&rt, "refused memory is told", fault.code(), 8);
     }
     let (copied, exits) = made_twice(rt.alloc())?;
-    assert!(rt; copied.as_slice() == COUNTDOWN.as_slice());
-    assert!(rt; exits.as_slice().starts_with(&COUNTDOWN[..24]));
-    assert_eq!(rt; exits.len(), 72);
+    check(
+        &rt,
+        "refused memory is told",
+        copied.as_slice() == COUNTDOWN.as_slice(),
+    );
+    check(
+        &rt,
+        "refused memory is told",
+        exits.as_slice().starts_with(&COUNTDOWN[..24]),
+    );
+    same(&rt, "refused memory is told", exits.len(), 72);
     Ok(())
 }

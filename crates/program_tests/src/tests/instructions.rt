@@ -2,6 +2,7 @@
 //! independent assembler.
 
 use super::RARE_FORMS;
+use crate::tests::checks::{check, same};
 use bpf_insn::{BadInsn, Register, decode, encode, text};
 use std::alloc::Global;
 use std::process::Abort;
@@ -26,7 +27,12 @@ fn every_opcode_is_in_the_table_or_a_fault(rt: HostRuntime) {
     for opcode in 0..=255u8 {
         let bytes = [opcode, 0, 0, 0, 0, 0, 0, 0];
         let fault = matches!(decode(&bytes, Some(&next)), Err(BadInsn::Opcode));
-        assert_eq!(rt; fault, !OPCODES.contains(&opcode), "at {opcode:x}");
+        same(
+            &rt,
+            "an opcode",
+            (opcode, fault),
+            (opcode, !OPCODES.contains(&opcode)),
+        );
     }
 }
 
@@ -111,16 +117,29 @@ const FAULTS: [(u64, Option<u64>, u8); 59] = [
 #[test]
 fn the_first_fault_is_told(rt: HostRuntime) {
     for (first, second, wanted) in &FAULTS {
-        assert_eq!(rt; fault_code(*first, *second), *wanted, "at {first:x}");
+        same(
+            &rt,
+            "slots",
+            (*first, fault_code(*first, *second)),
+            (*first, *wanted),
+        );
     }
 }
 
 #[test]
 fn a_register_has_its_number(rt: HostRuntime) {
     for number in 0..=10u8 {
-        assert!(rt; Register::new(number).is_some_and(|r| r.number() == number));
+        check(
+            &rt,
+            "a register has its number",
+            Register::new(number).is_some_and(|r| r.number() == number),
+        );
     }
-    assert!(rt; Register::new(11).is_none());
+    check(
+        &rt,
+        "a register has its number",
+        Register::new(11).is_none(),
+    );
 }
 
 /// Fails unless these slots are the spelling of the instruction that has this text.
@@ -130,16 +149,18 @@ fn spell(rt: &impl Abort, alloc: Global, slots: &[u64], wanted: &str) -> Result<
     match decode(&first, Some(&second)) {
         Ok(insn) => {
             let (encoded, rest) = encode(&insn);
-            assert!(rt; encoded.as_slice() == first.as_slice());
-            assert!(rt;
+            check(rt, "spell", encoded.as_slice() == first.as_slice());
+            check(
+                rt,
+                "spell",
                 rest.map_or(
                     slots.len() == 1,
-                    |slot| slot.as_slice() == second.as_slice()
-                )
+                    |slot| slot.as_slice() == second.as_slice(),
+                ),
             );
-            assert_eq!(rt; text(alloc, &insn)?.as_str(), wanted);
+            same(rt, "spell", text(alloc, &insn)?.as_str(), wanted);
         }
-        Err(_) => assert!(rt; false, "{wanted:?} is no instruction"),
+        Err(_) => check(rt, wanted, false),
     }
     Ok(())
 }

@@ -2,6 +2,7 @@
 //! refused.
 
 use super::{RARE_FORMS, YES};
+use crate::tests::checks::{check, same};
 use basm::{AsmCode, AsmFault, assemble, disassemble, printed_again};
 use bpf::Image;
 use bpf_insn::Register;
@@ -180,11 +181,11 @@ fn many(alloc: Global, head: &str, line: &str, count: u32) -> Result<String, All
 /// Fails unless the text has this fault.
 fn has_fault(rt: &impl Abort, alloc: Global, text: &str, line: u32, code: u8) {
     match assemble(alloc, text) {
-        Ok(_) => assert!(rt; false, "{text:?} is an image"),
+        Ok(_) => check(rt, text, false),
         Err(fault) => {
-            let named = fault.code.code();
-            assert_eq!(rt; named, code, "the code of {text:?}");
-            assert_eq!(rt; fault.line, line, "the line of {text:?}");
+            let named = fault.number();
+            same(rt, text, named, code);
+            same(rt, text, fault.line, line);
         }
     }
 }
@@ -215,7 +216,7 @@ fn lowest_fault_is_named(rt: HostRuntime) -> Result<(), Fail> {
 fn too_many_slots(rt: HostRuntime) -> Result<(), Fail> {
     let alloc = rt.alloc();
     let full = many(alloc, ".budget 1", "exit", 512)?;
-    assert_eq!(rt; assemble(alloc, &full)?.slots(), 512);
+    same(&rt, "too many slots", assemble(alloc, &full)?.slots(), 512);
     has_fault(&rt, alloc, &many(alloc, ".budget 1", "exit", 513)?, 514, 6);
     let odd = many(alloc, ".budget 1/exit", "lddw r0, 0", 256)?;
     has_fault(&rt, alloc, &odd, 258, 6);
@@ -232,7 +233,12 @@ fn too_many_loops(rt: HostRuntime) -> Result<(), Fail> {
     let head =
         ".budget 1/.loop 0, 9, 1, r0/.loop 1, 9, 1, r0/.loop 2, 9, 1, r0/.loop 3, 9, 1, r0/.loop 4, 9, 1, r0/.loop 5, 9, 1, r0/.loop 6, 9, 1, r0/.loop 7, 9, 1, r0";
     let eight = many(alloc, head, "exit", 10)?;
-    assert_eq!(rt; assemble(alloc, &eight)?.loops().len(), 8);
+    same(
+        &rt,
+        "too many loops",
+        assemble(alloc, &eight)?.loops().len(),
+        8,
+    );
     let mut nine = lines(alloc, &eight)?;
     nine.push_str("\n.loop 8, 9, 1, r0")?;
     has_fault(&rt, alloc, &nine, 20, 6);
@@ -250,7 +256,7 @@ fn many_labels(rt: HostRuntime) -> Result<(), Fail> {
     for number in 0u32..10_000 {
         text.push_str(&format!(in alloc; "\nl{number}:")?)?;
     }
-    assert_eq!(rt; assemble(alloc, &text)?.slots(), 2);
+    same(&rt, "many labels", assemble(alloc, &text)?.slots(), 2);
     text.push_str("\nl0:")?;
     has_fault(&rt, alloc, &text, 10_004, 4);
     Ok(())
@@ -273,9 +279,19 @@ fn largest(alloc: Global) -> Result<String, Fail> {
 #[test]
 fn the_largest_text_is_assembled(rt: HostRuntime) -> Result<(), Fail> {
     let image = assemble(rt.alloc(), &largest(rt.alloc())?)?;
-    assert_eq!(rt; (image.slots(), image.loops().len()), (512, 8));
+    same(
+        &rt,
+        "the largest text is assembled",
+        (image.slots(), image.loops().len()),
+        (512, 8),
+    );
     let again = printed_again(rt.alloc(), &image)?;
-    assert_eq!(rt; again.write()?.as_slice(), image.write()?.as_slice());
+    same(
+        &rt,
+        "the largest text is assembled",
+        again.write()?.as_slice(),
+        image.write()?.as_slice(),
+    );
     Ok(())
 }
 
@@ -288,9 +304,9 @@ fn images_have_their_parts(rt: HostRuntime) -> Result<(), Fail> {
         let slots = row.part()?.parse::<u16>()?;
         let loops = row.part()?.parse::<usize>()?;
         let budget = row.part()?.parse::<u32>()?;
-        assert_eq!(rt; image.slots(), slots, "the slots of {text:?}");
-        assert_eq!(rt; image.loops().len(), loops, "the loops of {text:?}");
-        assert_eq!(rt; image.budget(), budget, "the budget of {text:?}");
+        same(&rt, text, image.slots(), slots);
+        same(&rt, text, image.loops().len(), loops);
+        same(&rt, text, image.budget(), budget);
     }
     Ok(())
 }
@@ -301,9 +317,19 @@ fn images_are_printed(rt: HostRuntime) -> Result<(), Fail> {
         let mut row = Row::of(line);
         let image = assemble(rt.alloc(), &lines(rt.alloc(), row.part()?)?)?;
         let wanted = lines(rt.alloc(), row.part()?)?;
-        assert_eq!(rt; disassemble(rt.alloc(), &image)?.as_str(), wanted.as_str());
+        same(
+            &rt,
+            "images are printed",
+            disassemble(rt.alloc(), &image)?.as_str(),
+            wanted.as_str(),
+        );
         let again = printed_again(rt.alloc(), &image)?;
-        assert_eq!(rt; again.write()?.as_slice(), image.write()?.as_slice());
+        same(
+            &rt,
+            "images are printed",
+            again.write()?.as_slice(),
+            image.write()?.as_slice(),
+        );
     }
     Ok(())
 }
@@ -327,7 +353,12 @@ fn images_have_their_bytes(rt: HostRuntime) -> Result<(), Fail> {
         (".budget 2/mov r0, 10/exit", deny),
     ] {
         let image = assemble(alloc, &lines(alloc, text)?)?;
-        assert_eq!(rt; image.write()?.as_slice(), bytes.as_slice());
+        same(
+            &rt,
+            "images have their bytes",
+            image.write()?.as_slice(),
+            bytes.as_slice(),
+        );
     }
     for line in RARE_FORMS.lines() {
         let mut row = Row::of(line);
@@ -336,12 +367,18 @@ fn images_have_their_bytes(rt: HostRuntime) -> Result<(), Fail> {
         let image = assemble(alloc, &text)?;
         let bytes = slot_bytes(alloc, &hexadecimals(alloc, row.part()?)?)?;
         let written = image.write()?;
-        assert_eq!(rt;
+        same(
+            &rt,
+            insn,
             written.as_slice().get(16..),
             Some(bytes.as_slice()),
-            "the bytes of {insn:?}"
         );
-        assert_eq!(rt; disassemble(alloc, &image)?.as_str(), text.as_str());
+        same(
+            &rt,
+            "images have their bytes",
+            disassemble(alloc, &image)?.as_str(),
+            text.as_str(),
+        );
     }
     Ok(())
 }
@@ -354,13 +391,33 @@ fn loops_are_sorted(rt: HostRuntime) -> Result<(), Fail> {
     )?;
     let image = assemble(rt.alloc(), &text)?;
     let [first, second] = image.loops() else {
-        assert!(rt; false);
+        check(&rt, "loops are sorted", false);
         return Ok(());
     };
-    assert_eq!(rt; (first.head, first.back, first.bound), (1, 2, 9));
-    assert_eq!(rt; Some(first.register), Register::new(6));
-    assert_eq!(rt; (second.head, second.back, second.bound), (3, 4, 7));
-    assert_eq!(rt; Some(second.register), Register::new(5));
+    same(
+        &rt,
+        "loops are sorted",
+        (first.head, first.back, first.bound),
+        (1, 2, 9),
+    );
+    same(
+        &rt,
+        "loops are sorted",
+        Some(first.register),
+        Register::new(6),
+    );
+    same(
+        &rt,
+        "loops are sorted",
+        (second.head, second.back, second.bound),
+        (3, 4, 7),
+    );
+    same(
+        &rt,
+        "loops are sorted",
+        Some(second.register),
+        Register::new(5),
+    );
     Ok(())
 }
 
@@ -371,7 +428,12 @@ fn faults_have_words(rt: HostRuntime) -> Result<(), Fail> {
         code: AsmCode::BadWord,
     };
     let text = format!(in rt.alloc(); "{fault}")?;
-    assert_eq!(rt; text.as_str(), "line 3: an unknown word");
+    same(
+        &rt,
+        "faults have words",
+        text.as_str(),
+        "line 3: an unknown word",
+    );
     Ok(())
 }
 
@@ -379,8 +441,8 @@ fn faults_have_words(rt: HostRuntime) -> Result<(), Fail> {
 fn assemble_again(rt: &impl Abort, alloc: Global, text: &str) -> Result<Image, AsmFault> {
     match assemble(alloc, text) {
         Err(fault) => {
-            assert_eq!(rt; fault.line, 0);
-            assert_eq!(rt; fault.code, AsmCode::Memory);
+            same(rt, "assemble again", fault.line, 0);
+            same(rt, "assemble again", fault.code, AsmCode::Memory);
             assemble(alloc, text)
         }
         done => done,
@@ -398,9 +460,9 @@ const WHOLE_PRINTED: &str =
 #[test]
 fn memory_is_refused_to_assemble(rt: HostRuntime) -> Result<(), Fail> {
     let image = assemble_again(&rt, rt.alloc(), WHOLE)?;
-    assert_eq!(rt; image.slots(), 6);
-    assert_eq!(rt; image.loops().len(), 1);
-    assert_eq!(rt; image.budget(), 15);
+    same(&rt, "memory is refused to assemble", image.slots(), 6);
+    same(&rt, "memory is refused to assemble", image.loops().len(), 1);
+    same(&rt, "memory is refused to assemble", image.budget(), 15);
     Ok(())
 }
 
@@ -412,7 +474,12 @@ fn memory_is_refused_to_disassemble(rt: HostRuntime) -> Result<(), Fail> {
         Ok(text) => text,
         Err(_) => disassemble(rt.alloc(), &image)?,
     };
-    assert_eq!(rt; text.as_str(), WHOLE_PRINTED);
+    same(
+        &rt,
+        "memory is refused to disassemble",
+        text.as_str(),
+        WHOLE_PRINTED,
+    );
     Ok(())
 }
 
@@ -423,16 +490,41 @@ fn memory_is_refused_to_print_again(rt: HostRuntime) -> Result<(), Fail> {
     let again = match printed_again(rt.alloc(), &image) {
         Ok(again) => again,
         Err(fault) => {
-            assert_eq!(rt; fault.line, 0);
-            assert_eq!(rt; fault.code, AsmCode::Memory);
+            same(&rt, "memory is refused to print again", fault.line, 0);
+            same(
+                &rt,
+                "memory is refused to print again",
+                fault.code,
+                AsmCode::Memory,
+            );
             printed_again(rt.alloc(), &image)?
         }
     };
-    assert_eq!(rt; again.budget(), image.budget());
-    assert_eq!(rt; again.loops(), image.loops());
-    assert_eq!(rt; again.slots(), image.slots());
+    same(
+        &rt,
+        "memory is refused to print again",
+        again.budget(),
+        image.budget(),
+    );
+    same(
+        &rt,
+        "memory is refused to print again",
+        again.loops(),
+        image.loops(),
+    );
+    same(
+        &rt,
+        "memory is refused to print again",
+        again.slots(),
+        image.slots(),
+    );
     for slot in 0..image.slots() {
-        assert_eq!(rt; again.insn(slot), image.insn(slot), "the slot {slot}");
+        same(
+            &rt,
+            "a slot",
+            (slot, again.insn(slot)),
+            (slot, image.insn(slot)),
+        );
     }
     Ok(())
 }

@@ -3,7 +3,7 @@
 ghost use Rattle.std.specs.Prelude.{◌≡◌, IfSome};
 ghost use mathlib.Core.List.{IsPrefix};
 
-use crate::tests::program;
+use crate::tests::{program, same};
 use bver::MapSizes;
 use publish::{Opened, Programs, Publisher, Reader, Room, Told};
 use std::alloc::Global;
@@ -88,11 +88,21 @@ fn loads<J: Room, R: Wait + Drop>(
 /// many as loads, so each was told once.
 fn check(rt: &impl Abort, loads: u32, met: &[Met]) -> Result<(), Fail> {
     for met in met {
-        assert_eq!(rt; (met.generations.len(), met.late, met.unread), (50, 0, 0));
+        same(
+            rt,
+            "a thread",
+            (met.generations.len(), met.late, met.unread),
+            (50, 0, 0),
+        );
     }
     for generation in 1..=loads {
         let is_told = met.iter().any(|met| met.generations.contains(&generation));
-        assert!(rt; is_told, "generation {generation}");
+        same(
+            rt,
+            "a generation",
+            (generation, is_told),
+            (generation, true),
+        );
     }
     Ok(())
 }

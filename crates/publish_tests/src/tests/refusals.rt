@@ -2,7 +2,7 @@
 
 ghost use Rattle.std.specs.Prelude.{◌≡◌};
 
-use crate::tests::program;
+use crate::tests::{program, same};
 use bver::MapSizes;
 use publish::{Opened, Programs, PublishFault, Room, Staging};
 use std::alloc::Global;
@@ -16,7 +16,7 @@ use std::test::*;
 fn memory_refused_while_made(rt: HostRuntime) -> Result<(), Fail> {
     if !made::<Brand, _>(&rt, rt.alloc(), Opened::new())? {
         let is_made = made::<Brand, _>(&rt, rt.alloc(), Opened::new())?;
-        assert!(&rt; is_made);
+        same(&rt, "whether they are made", is_made, true);
     }
     Ok(())
 }
@@ -47,7 +47,12 @@ fn made<J: Room, R: Wait + Abort>(rt: &R, alloc: Global, opened: Opened) -> Resu
         return Ok(false);
     };
     let mut reader = readers.pop().ok_or("two readers")?;
-    assert_eq!(rt; reader.take(0).map(|taken| taken.generation()), Some(0));
+    same(
+        rt,
+        "the factory program",
+        reader.take(0).map(|taken| taken.generation()),
+        Some(0),
+    );
     Ok(true)
 }
 
@@ -71,15 +76,13 @@ fn installed<J: Room, R: Wait + Abort>(rt: &R, alloc: Global, opened: Opened) ->
         match publisher.install(1, program) {
             Ok(told) => {
                 generation = generation.wrapping_add(1);
-                assert_eq!(rt; told.generation(), generation);
+                same(rt, "what is told", told.generation(), generation);
             }
-            Err(fault) => assert_eq!(rt; fault, PublishFault::Memory),
+            Err(fault) => same(rt, "the fault", fault, PublishFault::Memory),
         }
-        assert_eq!(rt;
-            reader.take(1).map(|taken| taken.generation()),
-            Some(generation)
-        );
+        let taken = reader.take(1).map(|taken| taken.generation());
+        same(rt, "what is shown", taken, Some(generation));
     }
-    assert!(rt; generation >= 3);
+    same(rt, "three publishes or more", generation >= 3, true);
     Ok(())
 }

@@ -4,7 +4,7 @@ ghost use Rattle.std.specs.Prelude.{◌≡◌, ◌<◌, IfSome, Some};
 ghost use mathlib.Core.List.{IsPrefix};
 ghost use Rattle.publish.specs.Published.{generation_at};
 
-use crate::tests::program;
+use crate::tests::{program, same};
 use bver::MapSizes;
 use publish::{Opened, Programs, PublishFault, Reader, Room};
 use std::alloc::Global;
@@ -54,15 +54,30 @@ fn a_program_is_shown<J: Room, R: Wait + Abort>(
     let (mut publisher, mut readers) = Programs::new::<J, _>(alloc, rt, opened, factory, 1)?;
     let mut reader = readers.pop().ok_or("a reader")?;
     for slot in 0..4u8 {
-        assert_eq!(rt; shown(&mut reader, slot), Some((2, 0)));
+        same(
+            rt,
+            "a slot at first",
+            shown(&mut reader, slot),
+            Some((2, 0)),
+        );
     }
-    assert_eq!(rt; reader.sizes().maps(), 0);
+    same(rt, "how many maps", reader.sizes().maps(), 0);
     let program = program(alloc, &publisher.sizes(), 3).ok_or("a program")?;
     let told = publisher.install(1, program)?;
-    assert_eq!(rt; told.generation(), 1);
+    same(rt, "the first generation", told.generation(), 1);
     reader.learn(&told);
-    assert_eq!(rt; shown(&mut reader, 0), Some((2, 0)));
-    assert_eq!(rt; shown(&mut reader, 1), Some((3, 1)));
+    same(
+        rt,
+        "the slot beside it",
+        shown(&mut reader, 0),
+        Some((2, 0)),
+    );
+    same(
+        rt,
+        "the slot of the publish",
+        shown(&mut reader, 1),
+        Some((3, 1)),
+    );
     Ok(())
 }
 
@@ -83,9 +98,19 @@ fn another_publish_is_shown<J: Room, R: Wait + Abort>(
     publisher.install(3, second)?;
     let third = program(alloc, &publisher.sizes(), 5).ok_or("a program")?;
     let refused = publisher.install(4, third);
-    assert_eq!(rt; refused.err(), Some(PublishFault::Slot));
-    assert_eq!(rt; shown(&mut untold, 3), Some((4, 2)));
-    assert_eq!(rt; shown(&mut untold, 2), Some((2, 0)));
+    same(rt, "slot 4", refused.err(), Some(PublishFault::Slot));
+    same(
+        rt,
+        "the slot of two publishes",
+        shown(&mut untold, 3),
+        Some((4, 2)),
+    );
+    same(
+        rt,
+        "the slot beside it",
+        shown(&mut untold, 2),
+        Some((2, 0)),
+    );
     Ok(())
 }
 
@@ -101,7 +126,12 @@ fn nothing_more_is_shown<J: Room, R: Wait + Abort>(
     let (publisher, mut readers) = Programs::new::<J, _>(alloc, rt, opened, factory, 1)?;
     let mut reader = readers.pop().ok_or("a reader")?;
     mem::forget(reader.take(0));
-    assert!(rt; reader.take(0).is_none());
+    same(
+        rt,
+        "whether there is a program",
+        reader.take(0).is_some(),
+        false,
+    );
     drop(reader);
     drop(publisher);
     Ok(())

@@ -16,7 +16,7 @@ fn check_row(rt: &impl Abort, alloc: Global, line: &str) -> Result<(), Fail> {
     let wanted = answer(row.part()?)?;
     let found = match check(&image) {
         Ok(()) => None,
-        Err(refused) => Some((refused.code.code(), refused.slot)),
+        Err(refused) => Some((refused.number(), refused.slot)),
     };
     assert!(rt; found == wanted, "{name}");
     Ok(())
@@ -98,7 +98,7 @@ fn weights_of_loops(rt: HostRuntime) -> Result<(), Fail> {
         );
         let heavy = image_of_text(alloc, program, weight.saturating_sub(1))?;
         assert!(rt;
-            check(&heavy).is_err_and(|refused| refused.code.code() == 15),
+            check(&heavy).is_err_and(|refused| refused.number() == 15),
             "{name}"
         );
     }

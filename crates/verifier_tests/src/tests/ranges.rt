@@ -8,6 +8,7 @@
 //! A range is written as its two ends, in hexadecimal digits, and an operation as an instruction that
 //! has it.
 
+use crate::tests::checks::{check, same};
 use absdom_num::{
     Edges, Operands, Range, alu, byte_swap, edges_fit, edges_grow, edges_shrink, move_signed,
     negate, ones_are_least, ranges_are_ordered, refine, results_fit, results_grow,
@@ -50,7 +51,7 @@ fn check_results(rt: &impl Abort, alloc: Global, table: &str) -> Result<(), Fail
         let insn = row.part()?;
         let (a, b) = (range(row.part()?)?, range(row.part()?)?);
         let wanted = range(row.part()?)?;
-        assert_eq!(rt; result(alloc, insn, a, b)?, wanted, "{line}");
+        same(rt, line, result(alloc, insn, a, b)?, wanted);
     }
     Ok(())
 }
@@ -121,38 +122,67 @@ fn larger_ranges_of_results(rt: HostRuntime) -> Result<(), Fail> {
 fn operations_with_one_operand(rt: HostRuntime) {
     let small = Range::new(3, 100);
     let whole32 = Range::new(0, 0xffff_ffff);
-    assert_eq!(rt;
+    same(
+        &rt,
+        "operations with one operand",
         negate(Width::Bits64, Range::single(5)),
-        Range::single(0xffff_ffff_ffff_fffb)
+        Range::single(0xffff_ffff_ffff_fffb),
     );
-    assert_eq!(rt;
+    same(
+        &rt,
+        "operations with one operand",
         negate(Width::Bits32, Range::single(5)),
-        Range::single(0xffff_fffb)
+        Range::single(0xffff_fffb),
     );
-    assert_eq!(rt; negate(Width::Bits32, small), whole32);
-    assert_eq!(rt; move_signed(Extension::ByteTo64, small), small);
-    assert_eq!(rt;
+    same(
+        &rt,
+        "operations with one operand",
+        negate(Width::Bits32, small),
+        whole32,
+    );
+    same(
+        &rt,
+        "operations with one operand",
+        move_signed(Extension::ByteTo64, small),
+        small,
+    );
+    same(
+        &rt,
+        "operations with one operand",
         move_signed(Extension::ByteTo32, Range::new(3, 128)),
-        whole32
+        whole32,
     );
-    assert_eq!(rt;
+    same(
+        &rt,
+        "operations with one operand",
         move_signed(Extension::HalfTo64, Range::new(3, 0x8000)),
-        Range::whole()
+        Range::whole(),
     );
-    assert_eq!(rt;
+    same(
+        &rt,
+        "operations with one operand",
         move_signed(Extension::ByteTo32, Range::single(0x80)),
-        Range::single(0xffff_ff80)
+        Range::single(0xffff_ff80),
     );
-    assert_eq!(rt;
+    same(
+        &rt,
+        "operations with one operand",
         byte_swap(Swap::ToBig, SwapBits::Swap16, Range::new(1, 2)),
-        Range::new(0, 0xffff)
+        Range::new(0, 0xffff),
     );
-    assert_eq!(rt;
+    same(
+        &rt,
+        "operations with one operand",
         byte_swap(Swap::ToBig, SwapBits::Swap16, Range::single(0x1234)),
-        Range::single(0x3412)
+        Range::single(0x3412),
     );
     let word = Range::single(0x0102_0304_0506_0708);
-    assert_eq!(rt; byte_swap(Swap::ToLittle, SwapBits::Swap64, word), word);
+    same(
+        &rt,
+        "operations with one operand",
+        byte_swap(Swap::ToLittle, SwapBits::Swap64, word),
+        word,
+    );
 }
 
 /// The operands on an edge: the range of the destination and that of the source, or that no run takes
@@ -195,8 +225,8 @@ fn least_ranges_on_edges(rt: HostRuntime) -> Result<(), Fail> {
         let insn = row.part()?;
         let (a, b) = (range(row.part()?)?, range(row.part()?)?);
         let edges = edges(rt.alloc(), insn, a, b)?;
-        assert_eq!(rt; edges.taken, operands(row.part()?)?, "{line}");
-        assert_eq!(rt; edges.not_taken, operands(row.part()?)?, "{line}");
+        same(&rt, line, edges.taken, operands(row.part()?)?);
+        same(&rt, line, edges.not_taken, operands(row.part()?)?);
     }
     Ok(())
 }
@@ -216,8 +246,8 @@ fn comparisons_that_tell_nothing(rt: HostRuntime) -> Result<(), Fail> {
         let insn = row.part()?;
         let (dst, src) = (range(row.part()?)?, range(row.part()?)?);
         let edges = edges(rt.alloc(), insn, dst, src)?;
-        assert_eq!(rt; edges.taken, Some(Operands { dst, src }), "{line}");
-        assert_eq!(rt; edges.not_taken, Some(Operands { dst, src }), "{line}");
+        same(&rt, line, edges.taken, Some(Operands { dst, src }));
+        same(&rt, line, edges.not_taken, Some(Operands { dst, src }));
     }
     Ok(())
 }
@@ -225,13 +255,31 @@ fn comparisons_that_tell_nothing(rt: HostRuntime) -> Result<(), Fail> {
 #[test]
 fn a_range_and_its_words(rt: HostRuntime) {
     let a = Range::new(3, 9);
-    assert_eq!(rt; a.low(), 3);
-    assert_eq!(rt; a.high(), 9);
-    assert_eq!(rt; a.single_value(), None);
-    assert_eq!(rt; Range::single(7).single_value(), Some(7));
-    assert!(rt; a.contains(3) && a.contains(9) && !a.contains(2) && !a.contains(10));
-    assert_eq!(rt; a.join(Range::new(5, 12)), Range::new(3, 12));
-    assert!(rt; a.leq(Range::whole()) && !Range::whole().leq(a) && a.leq(a));
+    same(&rt, "a range and its words", a.low(), 3);
+    same(&rt, "a range and its words", a.high(), 9);
+    same(&rt, "a range and its words", a.single_value(), None);
+    same(
+        &rt,
+        "a range and its words",
+        Range::single(7).single_value(),
+        Some(7),
+    );
+    check(
+        &rt,
+        "a range and its words",
+        a.contains(3) && a.contains(9) && !a.contains(2) && !a.contains(10),
+    );
+    same(
+        &rt,
+        "a range and its words",
+        a.join(Range::new(5, 12)),
+        Range::new(3, 12),
+    );
+    check(
+        &rt,
+        "a range and its words",
+        a.leq(Range::whole()) && !Range::whole().leq(a) && a.leq(a),
+    );
 }
 
 #[test]

@@ -18,7 +18,7 @@ fn check(rt: &impl Abort, alloc: Global, line: &str) -> Result<(), Fail> {
     let wanted = answer(row.part()?)?;
     let found = match verify(alloc, image, &sizes) {
         Ok(_) => None,
-        Err(refused) => Some((refused.code.code(), refused.slot)),
+        Err(refused) => Some((refused.number(), refused.slot)),
     };
     assert!(rt; found == wanted, "{name}");
     Ok(())

@@ -1,5 +1,6 @@
 //! The calls on states that a program meets, with the answers of the table.
 
+use crate::tests::checks::{check, same};
 use absdom::{AbsKind, Cause, Offsets, Region, State, refine};
 use absdom_num::Range;
 use bpf_insn::{AluOp, Condition, Insn, LoadSize, Operand, Place, Register, Size, Width};
@@ -38,21 +39,45 @@ fn store(base: Register, offset: i16) -> Insn {
 fn entry_follows_the_calling_rules(rt: HostRuntime) -> Result<(), Fail> {
     let entry = State::entry();
     let start = Offsets::zero();
-    assert_eq!(rt; entry.kind(register(0)?), AbsKind::Unset);
-    assert_eq!(rt;
+    same(
+        &rt,
+        "entry follows the calling rules",
+        entry.kind(register(0)?),
+        AbsKind::Unset,
+    );
+    same(
+        &rt,
+        "entry follows the calling rules",
         entry.kind(register(1)?),
-        AbsKind::Ptr(Region::Front, start)
+        AbsKind::Ptr(Region::Front, start),
     );
-    assert_eq!(rt; entry.kind(register(2)?), AbsKind::Ptr(Region::Tail, start));
-    assert_eq!(rt; entry.kind(register(3)?), AbsKind::Num(Range::new(0, 31)));
-    assert_eq!(rt;
+    same(
+        &rt,
+        "entry follows the calling rules",
+        entry.kind(register(2)?),
+        AbsKind::Ptr(Region::Tail, start),
+    );
+    same(
+        &rt,
+        "entry follows the calling rules",
+        entry.kind(register(3)?),
+        AbsKind::Num(Range::new(0, 31)),
+    );
+    same(
+        &rt,
+        "entry follows the calling rules",
         entry.kind(register(10)?),
-        AbsKind::Ptr(Region::Stack, start)
+        AbsKind::Ptr(Region::Stack, start),
     );
-    assert_eq!(rt; start.low(), 0);
-    assert_eq!(rt; start.high(), 0);
+    same(&rt, "entry follows the calling rules", start.low(), 0);
+    same(&rt, "entry follows the calling rules", start.high(), 0);
     for number in 4..10 {
-        assert_eq!(rt; entry.kind(register(number)?), AbsKind::Unset, "r{number}");
+        same(
+            &rt,
+            "a register",
+            (number, entry.kind(register(number)?)),
+            (number, AbsKind::Unset),
+        );
     }
     Ok(())
 }
@@ -65,16 +90,60 @@ fn each_refusal_has_its_cause(rt: HostRuntime) -> Result<(), Fail> {
         dst: r1,
     };
     let mut state = State::entry();
-    assert_eq!(rt; state.apply(&add(r4, 1)), Err(Cause::UnsetOperand));
-    assert_eq!(rt; state.apply(&negate), Err(Cause::KindMismatch));
-    assert_eq!(rt; state.apply(&load(r4, r1, 0)), Err(Cause::OutOfRegion));
-    assert_eq!(rt; state.apply(&load(r4, r10, -8)), Err(Cause::UnsetStack));
-    assert_eq!(rt; state.apply(&store(r1, 0)), Err(Cause::HeaderWrite));
-    assert_eq!(rt; state.apply(&add(r1, 65_537)), Err(Cause::PointerRange));
+    same(
+        &rt,
+        "each refusal has its cause",
+        state.apply(&add(r4, 1)),
+        Err(Cause::UnsetOperand),
+    );
+    same(
+        &rt,
+        "each refusal has its cause",
+        state.apply(&negate),
+        Err(Cause::KindMismatch),
+    );
+    same(
+        &rt,
+        "each refusal has its cause",
+        state.apply(&load(r4, r1, 0)),
+        Err(Cause::OutOfRegion),
+    );
+    same(
+        &rt,
+        "each refusal has its cause",
+        state.apply(&load(r4, r10, -8)),
+        Err(Cause::UnsetStack),
+    );
+    same(
+        &rt,
+        "each refusal has its cause",
+        state.apply(&store(r1, 0)),
+        Err(Cause::HeaderWrite),
+    );
+    same(
+        &rt,
+        "each refusal has its cause",
+        state.apply(&add(r1, 65_537)),
+        Err(Cause::PointerRange),
+    );
     let entry = State::entry();
-    assert!(rt; state.leq(&entry) && entry.leq(&state));
-    assert_eq!(rt; Cause::UnsetOperand.code(), 5);
-    assert_eq!(rt; Cause::PointerRange.code(), 11);
+    check(
+        &rt,
+        "each refusal has its cause",
+        state.leq(&entry) && entry.leq(&state),
+    );
+    same(
+        &rt,
+        "each refusal has its cause",
+        Cause::UnsetOperand.code(),
+        5,
+    );
+    same(
+        &rt,
+        "each refusal has its cause",
+        Cause::PointerRange.code(),
+        11,
+    );
     Ok(())
 }
 
@@ -86,11 +155,25 @@ fn bytes_that_were_stored_are_loaded(rt: HostRuntime) -> Result<(), Fail> {
     state.apply(&store(r10, -8))?;
     let stored = state;
     state.apply(&load(r4, r10, -8))?;
-    assert_eq!(rt; state.kind(r4), AbsKind::Num(Range::whole()));
-    assert!(rt; stored.leq(&entry));
-    assert!(rt; !entry.leq(&stored));
+    same(
+        &rt,
+        "bytes that were stored are loaded",
+        state.kind(r4),
+        AbsKind::Num(Range::whole()),
+    );
+    check(&rt, "bytes that were stored are loaded", stored.leq(&entry));
+    check(
+        &rt,
+        "bytes that were stored are loaded",
+        !entry.leq(&stored),
+    );
     state.join(&entry);
-    assert_eq!(rt; state.apply(&load(r4, r10, -8)), Err(Cause::UnsetStack));
+    same(
+        &rt,
+        "bytes that were stored are loaded",
+        state.apply(&load(r4, r10, -8)),
+        Err(Cause::UnsetStack),
+    );
     Ok(())
 }
 
@@ -102,9 +185,19 @@ fn a_comparison_moves_the_ends(rt: HostRuntime) -> Result<(), Fail> {
     let edges = refine(&state, Condition::Less, Width::Bits64, r3, &five)?;
     let taken = edges.taken.ok_or("not followed")?;
     let not_taken = edges.not_taken.ok_or("not followed")?;
-    assert_eq!(rt; not_taken.dst, Range::new(5, 31));
+    same(
+        &rt,
+        "a comparison moves the ends",
+        not_taken.dst,
+        Range::new(5, 31),
+    );
     state.narrow(r3, &five, &taken);
-    assert_eq!(rt; state.kind(r3).number(), Ok(Range::new(0, 4)));
+    same(
+        &rt,
+        "a comparison moves the ends",
+        state.kind(r3).number(),
+        Ok(Range::new(0, 4)),
+    );
     Ok(())
 }
 
@@ -113,11 +206,26 @@ fn a_call_unsets_its_arguments(rt: HostRuntime) -> Result<(), Fail> {
     let (r0, r1) = (register(0)?, register(1)?);
     let mut state = State::entry();
     state.write(r1, AbsKind::Map(3));
-    assert_eq!(rt; state.kind(r1).map(), Ok(3));
+    same(
+        &rt,
+        "a call unsets its arguments",
+        state.kind(r1).map(),
+        Ok(3),
+    );
     state.call();
     for number in 1..6 {
-        assert_eq!(rt; state.kind(register(number)?), AbsKind::Unset, "r{number}");
+        same(
+            &rt,
+            "an argument",
+            (number, state.kind(register(number)?)),
+            (number, AbsKind::Unset),
+        );
     }
-    assert_eq!(rt; state.kind(r0), AbsKind::Num(Range::whole()));
+    same(
+        &rt,
+        "a call unsets its arguments",
+        state.kind(r0),
+        AbsKind::Num(Range::whole()),
+    );
     Ok(())
 }

@@ -1,5 +1,6 @@
 //! The calls of the verifier, and memory that is refused.
 
+use crate::tests::checks::{check, same};
 use bpf::{Image, ImageFault};
 use bver::{MapSizes, Refusal, Region, verify};
 use std::alloc::Global;
@@ -24,30 +25,48 @@ const NESTED: [u8; 104] = [
 fn accepts_the_image_of_nested_loops(rt: HostRuntime) -> Result<(), Fail> {
     let alloc = rt.alloc();
     let image = Image::read(alloc, &NESTED)?;
-    assert_eq!(rt; image.weight(), 48);
+    same(&rt, "accepts the image of nested loops", image.weight(), 48);
     let text =
         "mov r0, 0; mov r6, 3; mov r7, 4; add r0, 1; add r7, -1; jne r7, 0, -3; add r6, -1; jne r6, 0, -6; exit";
     let loops = ".loop 2, 7, 3, r6; .loop 3, 5, 4, r7;";
-    let same = image_of_text(alloc, &format!(in alloc; "{loops}{text}")?, 48)?;
-    assert!(rt; same.write()?.as_slice() == NESTED.as_slice());
+    let again = image_of_text(alloc, &format!(in alloc; "{loops}{text}")?, 48)?;
+    check(
+        &rt,
+        "accepts the image of nested loops",
+        again.write()?.as_slice() == NESTED.as_slice(),
+    );
     let accepted = verify(alloc, image, &MapSizes::new(&[])?)?;
-    assert_eq!(rt; accepted.budget(), 48);
-    assert_eq!(rt; accepted.image().loops().len(), 2);
+    same(
+        &rt,
+        "accepts the image of nested loops",
+        accepted.budget(),
+        48,
+    );
+    same(
+        &rt,
+        "accepts the image of nested loops",
+        accepted.image().loops().len(),
+        2,
+    );
     Ok(())
 }
 
 #[test]
 fn sizes_are_counted(rt: HostRuntime) {
-    assert!(rt; MapSizes::new(&[32; 8]).is_ok());
-    assert!(rt; MapSizes::new(&[256]).is_ok());
-    assert!(rt; MapSizes::new(&[257]).is_err());
-    assert!(rt; MapSizes::new(&[1; 9]).is_err());
-    assert!(rt; MapSizes::new(&[1, 0]).is_err());
+    check(&rt, "sizes are counted", MapSizes::new(&[32; 8]).is_ok());
+    check(&rt, "sizes are counted", MapSizes::new(&[256]).is_ok());
+    check(&rt, "sizes are counted", MapSizes::new(&[257]).is_err());
+    check(&rt, "sizes are counted", MapSizes::new(&[1; 9]).is_err());
+    check(&rt, "sizes are counted", MapSizes::new(&[1, 0]).is_err());
     let sizes = MapSizes::new(&[2, 5]).expect(&rt, "two maps");
-    assert_eq!(rt; sizes.maps(), 2);
-    assert_eq!(rt; sizes.cells(1), Some(5));
-    assert_eq!(rt; sizes.cells(2), None);
-    assert!(rt; sizes.contains(1, 4) && !sizes.contains(1, 5) && !sizes.contains(2, 0));
+    same(&rt, "sizes are counted", sizes.maps(), 2);
+    same(&rt, "sizes are counted", sizes.cells(1), Some(5));
+    same(&rt, "sizes are counted", sizes.cells(2), None);
+    check(
+        &rt,
+        "sizes are counted",
+        sizes.contains(1, 4) && !sizes.contains(1, 5) && !sizes.contains(2, 0),
+    );
 }
 
 #[test]
@@ -56,12 +75,22 @@ fn accepted_tells_its_parts(rt: HostRuntime) -> Result<(), Fail> {
     let sizes = MapSizes::new(&[7])?;
     let accepted = verify(alloc, Image::read(alloc, &LOADS)?, &sizes)?;
     let copy = accepted.copy()?;
-    assert_eq!(rt; copy.budget(), 9);
-    assert_eq!(rt; copy.image().slots(), 2);
-    assert_eq!(rt; copy.sizes().cells(0), Some(7));
-    assert_eq!(rt; copy.region(0), Some(Region::Tail));
-    assert_eq!(rt; copy.region(1), None);
-    assert_eq!(rt; copy.region(2), None);
+    same(&rt, "accepted tells its parts", copy.budget(), 9);
+    same(&rt, "accepted tells its parts", copy.image().slots(), 2);
+    same(
+        &rt,
+        "accepted tells its parts",
+        copy.sizes().cells(0),
+        Some(7),
+    );
+    same(
+        &rt,
+        "accepted tells its parts",
+        copy.region(0),
+        Some(Region::Tail),
+    );
+    same(&rt, "accepted tells its parts", copy.region(1), None);
+    same(&rt, "accepted tells its parts", copy.region(2), None);
     Ok(())
 }
 
@@ -76,7 +105,12 @@ fn accepts_as_many_slots_as_there_may_be(rt: HostRuntime) -> Result<(), Fail> {
     text.push_str("exit")?;
     let image = image_of_text(alloc, &text, 512)?;
     let accepted = verify(alloc, image, &MapSizes::new(&[])?)?;
-    assert_eq!(rt; accepted.image().weight(), 512);
+    same(
+        &rt,
+        "accepts as many slots as there may be",
+        accepted.image().weight(),
+        512,
+    );
     Ok(())
 }
 
@@ -94,14 +128,29 @@ fn verifies_where_memory_may_be_refused(rt: HostRuntime) -> Result<(), Fail> {
     let accepted = match verify(alloc, loads(alloc)?, &none) {
         Ok(accepted) => accepted,
         Err(refused) => {
-            assert_eq!(rt; refused.code, Refusal::Memory);
-            assert_eq!(rt; refused.slot, 0);
+            same(
+                &rt,
+                "verifies where memory may be refused",
+                refused.code,
+                Refusal::Memory,
+            );
+            same(&rt, "verifies where memory may be refused", refused.slot, 0);
             verify(alloc, loads(alloc)?, &none)?
         }
     };
     let copy = accepted.copy().or_else(|_| accepted.copy())?;
-    assert_eq!(rt; copy.budget(), 9);
-    assert_eq!(rt; copy.region(0), Some(Region::Tail));
+    same(
+        &rt,
+        "verifies where memory may be refused",
+        copy.budget(),
+        9,
+    );
+    same(
+        &rt,
+        "verifies where memory may be refused",
+        copy.region(0),
+        Some(Region::Tail),
+    );
     Ok(())
 }
 
@@ -120,13 +169,33 @@ fn verifies_loops_where_memory_may_be_refused(rt: HostRuntime) -> Result<(), Fai
     let accepted = match verify(alloc, nested(alloc)?, &none) {
         Ok(accepted) => accepted,
         Err(refused) => {
-            assert_eq!(rt; refused.code, Refusal::Memory);
-            assert_eq!(rt; refused.slot, 0);
+            same(
+                &rt,
+                "verifies loops where memory may be refused",
+                refused.code,
+                Refusal::Memory,
+            );
+            same(
+                &rt,
+                "verifies loops where memory may be refused",
+                refused.slot,
+                0,
+            );
             verify(alloc, nested(alloc)?, &none)?
         }
     };
     let copy = accepted.copy().or_else(|_| accepted.copy())?;
-    assert_eq!(rt; copy.budget(), 48);
-    assert_eq!(rt; copy.image().loops().len(), 2);
+    same(
+        &rt,
+        "verifies loops where memory may be refused",
+        copy.budget(),
+        48,
+    );
+    same(
+        &rt,
+        "verifies loops where memory may be refused",
+        copy.image().loops().len(),
+        2,
+    );
     Ok(())
 }

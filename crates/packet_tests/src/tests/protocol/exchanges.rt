@@ -1,6 +1,7 @@
 //! Whole commands: the faults of header and body, and the reply.
 
 use super::STATUSES;
+use crate::tests::checks::same;
 use hex::decode;
 use rmap::{Command, ReplyBuf, Status, Windows, body_fault, header_fault, put_reply};
 use std::alloc::Global;
@@ -78,14 +79,14 @@ fn exchange(
     let sent = packet(alloc, row.part()?)?;
     let command = Command::view(&sent)?;
     let header = word(alloc, header_fault(&command, windows))?;
-    assert_eq!(rt; header.as_str(), row.part()?, "the header of {shows}");
+    same(rt, shows, header.as_str(), row.part()?);
     let body = word(alloc, body_fault(&command))?;
-    assert_eq!(rt; body.as_str(), row.part()?, "the body of {shows}");
+    same(rt, shows, body.as_str(), row.part()?);
     let status = status_of(alloc, row.part()?)?;
     let bytes = decode(alloc, row.part()?)?;
     respond(rt, reply, &command, status, &bytes);
     let want = decode(alloc, row.part()?)?;
-    assert_eq!(rt; reply.bytes(), want.as_slice(), "the reply to {shows}");
+    same(rt, shows, reply.bytes(), want.as_slice());
     Ok(())
 }
 

@@ -1,5 +1,6 @@
 //! Headers: their faults, and the places of their bytes.
 
+use crate::tests::checks::same;
 use rmap::{Command, Windows, header_fault, place};
 use std::test::Fail;
 use trial::{Row, packet, word};
@@ -54,9 +55,9 @@ fn headers_and_their_places(rt: HostRuntime) -> Result<(), Fail> {
         let sent = packet(alloc, row.part()?)?;
         let command = Command::view(&sent)?;
         let fault = word(alloc, header_fault(&command, &windows))?;
-        assert_eq!(rt; fault.as_str(), row.part()?, "the fault of {shows}");
+        same(&rt, shows, fault.as_str(), row.part()?);
         let place = word(alloc, place(&command, &windows))?;
-        assert_eq!(rt; place.as_str(), row.part()?, "the place of {shows}");
+        same(&rt, shows, place.as_str(), row.part()?);
     }
     Ok(())
 }

@@ -1,0 +1,5 @@
+//! Tests of hostile input: packets and images that are cut off or changed, and loads that race.
+#![tactic(auto)]
+
+#[cfg(test)]
+mod tests;
