@@ -1,5 +1,5 @@
 -- A port's queue: what was put is what was taken, and then what the queue holds. One pass puts, and one takes.
-use Rattle.std.specs.Prelude.{◌≡◌, ◌≤◌, ◌⊎◌, ◌^◌, ℕ, Bool, true, List, ◌++◌}
+use Rattle.std.specs.Prelude.{◌≡◌, ◌≤◌, ◌⊎◌, ◌^◌, ℕ, Bool, true, List, ◌++◌, length, min}
 use mathlib.Core.Option.{some}
 use lib.ListN.{get_elem?}
 use Rattle.crossbeam_queue.specs.Passes.{view, IsPassOf, IsSamePass, ruled_capacity}
@@ -36,9 +36,9 @@ put_of p = (view p.pass).put
 abbrev pub taken_of : ServePass → List Item
 taken_of p = (view p.pass).taken
 
--- the pass is of this port, and may put
+-- the pass is of this port, may put, and counts what it has put
 abbrev pub IsPutPassOf : Port → PutPass → Type 0
-IsPutPassOf port p = IsPassOf port.queue p.pass × ((view p.pass).puts ≡ true)
+IsPutPassOf port p = IsPassOf port.queue p.pass × ((view p.pass).puts ≡ true) × (p.puts ≡ length (put_of p))
 
 -- the pass is of this port, and may take
 abbrev pub IsServePassOf : Port → ServePass → Type 0
@@ -53,6 +53,7 @@ abbrev pub capacity_of : Port → ℕ
 capacity_of port = ruled_capacity port.queue
 
 -- at one moment of the call the queue held as many items as it has room for, the end of what was put; or 2^62 items
--- were put
-abbrev pub IsFullOf : Port → PutPass → Type 0
-IsFullOf port p = Held (capacity_of port) (λ items. IsEnd items (put_of p)) ⊎ (2 ^ 62 ≤ p.puts)
+-- were put. So that many were put
+pub record IsFullOf (port : Port) (p : PutPass) : Type 0 where
+  pub full : Held (capacity_of port) (λ items. IsEnd items (put_of p)) ⊎ (2 ^ 62 ≤ length (put_of p))
+  pub many : min (capacity_of port) (2 ^ 62) ≤ length (put_of p)
