@@ -1,3 +1,4 @@
+mod Continuing
 mod FactoryImage
 mod LinesInTurn
 mod MapLists

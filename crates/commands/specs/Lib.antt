@@ -4,6 +4,7 @@ pub mod Assembled
 pub mod CommandLine
 pub mod DisJob
 pub mod Disassembled
+pub mod Feeds
 pub mod Files
 pub mod JobNode
 pub mod JudgeJob

@@ -5,6 +5,7 @@ mod arguments;
 mod asm;
 mod dis;
 mod faults;
+mod feeds;
 mod host;
 mod jobs;
 mod judge;
