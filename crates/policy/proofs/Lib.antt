@@ -2,3 +2,10 @@ mod Outcomes
 mod Readings
 mod TextLines
 mod Numerals
+mod Finishing
+mod Headers
+mod Testing
+mod Compiling
+mod Weighing
+mod Fitting
+mod Refused

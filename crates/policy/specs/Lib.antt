@@ -2,4 +2,8 @@ pub mod Codes
 pub mod Fields
 pub mod Lines
 pub mod Meaning
+pub mod Limits
 pub mod Laws
+pub mod Compiled
+pub mod Code
+pub mod Meant

@@ -7,27 +7,10 @@ ghost use Rattle.rmap.specs.Command.{address_of as address_in};
 ghost use Rattle.rmap.specs.Instruction.{has_increment_bit, kind_of};
 ghost use Rattle.policy.specs.Meaning.{agrees, fields_of, has_kind, holds, last_address_of, lies_between};
 
+use crate::places::{ADDRESS, EXTENDED, INITIATOR, INSTRUCTION, KEY, LENGTH};
 use crate::rules::{Rule, RuleKind};
 use byteorder::{BigEndian, ByteOrder};
 use rmap::{Instruction, Kind};
-
-/// Where the instruction stands in the first four bytes of a header.
-const INSTRUCTION: usize = 2;
-
-/// Where the key stands in the first four bytes of a header.
-const KEY: usize = 3;
-
-/// Where the initiator logical address stands in the last twelve bytes of a header.
-const INITIATOR: usize = 0;
-
-/// Where the extended address stands in the last twelve bytes of a header.
-const EXTENDED: usize = 3;
-
-/// Where the address begins in the last twelve bytes of a header.
-const ADDRESS: usize = 4;
-
-/// Where the data length begins in the last twelve bytes of a header.
-const LENGTH: usize = 8;
 
 /// Whether a rule's kind agrees with what a command asks for.
 fn has_kind(wanted: RuleKind, kind: Kind) -> bool

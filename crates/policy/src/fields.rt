@@ -38,7 +38,8 @@ fn byte_of(word: &str) -> Option<u8>
 
 /// What a word says of a field of one byte: `*` for any, or two hexadecimal digits.
 pub fn field_of(word: &str) -> Option<Option<u8>>
-    ensures { MatchOption result ((field : Option ℕ) → ¬ IsField word.now field) (IsField word.now) }
+    ensures { MatchOption result ((field : Option ℕ) → ¬ IsField word.now field)
+        (IsField word.now) }
 {
     if word == "*" {
         return Some(None);
@@ -48,7 +49,8 @@ pub fn field_of(word: &str) -> Option<Option<u8>>
 
 /// The address that eight hexadecimal digits write.
 pub fn address_of(word: &str) -> Option<u32>
-    ensures { MatchOption result ((address : ℕ) → ¬ IsAddress word.now address) (IsAddress word.now) }
+    ensures { MatchOption result ((address : ℕ) → ¬ IsAddress word.now address)
+        (IsAddress word.now) }
 {
     if word.len() != 8 || word.starts_with('+') {
         return None;
@@ -91,7 +93,8 @@ fn three_parts(word: &str) -> Option<(&str, &str, &str)>
 /// The quota that a word writes: `-` for none, or `MAP:CELL:LIMIT` in decimal. A map past 255 is 255 and a cell
 /// past 65,535 is 65,535, which no node has.
 pub fn quota_of(word: &str) -> Option<Option<Quota>>
-    ensures { MatchOption result ((quota : Option Quota) → ¬ IsQuota word.now quota) (IsQuota word.now) }
+    ensures { MatchOption result ((quota : Option Quota) → ¬ IsQuota word.now quota)
+        (IsQuota word.now) }
 {
     if word == "-" {
         return Some(None);
@@ -108,7 +111,8 @@ pub fn quota_of(word: &str) -> Option<Option<Quota>>
 
 /// The verdict that a word writes.
 pub fn ruling_of(word: &str) -> Option<Ruling>
-    ensures { MatchOption result ((ruling : Ruling) → ¬ IsRuling word.now ruling) (IsRuling word.now) }
+    ensures { MatchOption result ((ruling : Ruling) → ¬ IsRuling word.now ruling)
+        (IsRuling word.now) }
 {
     match word {
         "0" => Some(Ruling::Yes),

@@ -1,9 +1,10 @@
 //! Policy tables.
 
-ghost use Rattle.std.specs.Prelude.{◌≡◌, ◌+◌, ◌≤◌, ◌++◌, length, slice_index, vec_len, IfErr, IfOk, OnErr, OnOk};
+ghost use Rattle.std.specs.Prelude.{◌≡◌, ◌+◌, ◌≤◌, ◌++◌, All, length, slice_index, vec_len, IfErr, IfOk, OnErr, OnOk};
 ghost use Rattle.std.specs.Vec.{vec_capacity};
 ghost use Rattle.machine.specs.Memory.{header};
 ghost use Rattle.spw.specs.Line.{lines_of};
+ghost use Rattle.policy.specs.Limits.{FitsFields};
 ghost use Rattle.policy.specs.Lines.{IsReadFault, IsTable};
 ghost use Rattle.policy.specs.Meaning.{decision, draw as draw_of, told_by};
 
@@ -29,7 +30,12 @@ impl Model for Table {
 
     ghost Value = { List Rule };
 
+    ghost use Rattle.std.specs.Prelude.{All};
+    ghost use Rattle.policy.specs.Limits.{FitsFields};
+
     ghost view = { λ t. t.rules.items };
+
+    ghost invariant = { λ t. All FitsFields t.rules.items };
 }
 
 /// The answer of that number, or 0 where there is none left.
@@ -107,7 +113,8 @@ impl Table {
 
     /// The rules, in order.
     pub fn rules(&self) -> &[Rule]
-        ensures { result.now ≡ self.now }
+        ensures rules { result.now ≡ self.now }
+        ensures fit { All FitsFields self.now }
     {
         self.rules.as_slice()
     }

@@ -1,0 +1,407 @@
+-- Compiled tables: a rule by its tests, the rules from the last, and what comes before them.
+use Rattle.std.specs.Prelude.{◌≢◌, pos, ◌&&◌, ◌==◌, not, bit_and, if◌then◌else◌, slice_index}
+use Rattle.std.proofs.Common.{◌≡◌, ◌<◌, ◌^◌, ◌+◌, ◌-◌, ◌%◌, ℕ, suc, Bool, true, false, List, [], ◌∷◌, ◌++◌, length, Option, Some, None, refl, sym, ap, ◌∙◌, subst, arith, append_assoc}
+use Rattle.std.specs.Prelude.{All}
+use Rattle.std.proofs.lemmas.List.Elements.{All-head, All-tail}
+use Rattle.bpf.specs.Program.{Program, insn_at, program}
+use Rattle.bpf_insn.specs.declared.insn.Insn.{Insn}
+use Rattle.bpf_insn.specs.Spelling.{slots_of}
+use Rattle.bpf_parts.specs.declared.memory.LoadSize.TheVariants.{LoadByte, LoadWord}
+use Rattle.bpf_parts.specs.declared.operation.AluOp.TheVariants.{Add, And, Mov, Rsh, Sub}
+use Rattle.bpf_parts.specs.declared.operation.Condition.TheVariants.{Equal}
+use Rattle.bpf_parts.specs.declared.operation.Operand.TheVariants.{FromRegister, Immediate}
+use Rattle.bpf_parts.specs.declared.operation.Swap.TheVariants.{ToBig}
+use Rattle.bpf_parts.specs.declared.operation.SwapBits.TheVariants.{Swap32}
+use Rattle.bpf_parts.specs.declared.operation.Width.TheVariants.{Bits64}
+use Rattle.machine.specs.declared.regions.Region.TheVariants.{Front, Tail}
+use Rattle.machine.specs.declared.values.Value.{Value}
+use Rattle.machine.specs.declared.values.Value.TheVariants.{Num, Ptr}
+use Rattle.machine.specs.Laws.{AnswersDecide, RunsFromTheFront, StepPerforms}
+use Rattle.machine.specs.Memory.{Header, IsHeader}
+use Rattle.machine.specs.Runs.{Ends, Runs}
+use Rattle.machine.specs.State.{State, entry_register, entry_state, register_after, state}
+use Rattle.machine.specs.Step.{Next, alu, loads, perform, writes}
+use Rattle.machine.specs.Words.{swapped_bytes}
+use Rattle.rmap.specs.Command.{address_of, extended_of, increments, command_kind, initiator_of, key_of, length_of}
+use Rattle.policy.specs.Code.{address_code, applied, behind_extended, behind_initiator, behind_key, behind_kind, behind_range, field_slots, field_test, kind_slots, kind_test, last_address_code, loaded, quota_slots, quota_test, range_test, rule_code, rules_code, skips_if, swapped, table_code, verdict_code}
+use Rattle.policy.specs.Codes.{ruling_code}
+use Rattle.policy.specs.Compiled.{HasMeaning}
+use Rattle.policy.specs.Laws.{DrawsAreAnswered}
+use Rattle.policy.specs.Limits.{FitsFields}
+use Rattle.policy.specs.Meant.{table_program}
+use Rattle.policy.specs.Meaning.{AreWords, agrees, decision, fields_of, has_kind, last_address_of, lies_between, ruled}
+use Rattle.policy.specs.declared.rules.Quota.{Quota}
+use Rattle.policy.specs.declared.rules.Rule.{Rule}
+use Rattle.policy.specs.declared.rules.RuleKind.{RuleKind}
+use Rattle.policy.specs.declared.rules.RuleKind.TheVariants.{Read, Write, Rmw, Any}
+use Rattle.policy.specs.declared.rules.Ruling.{Ruling}
+use Rattle.policy.specs.declared.rules.Ruling.TheVariants.{Yes, Key, No, Address}
+use Rattle.policy.proofs.Finishing.{Decision, Finishes, StandAt, branched, next, slot_after, split, stand}
+use Rattle.policy.proofs.Headers.{big_three, big_word, front_byte, front_loaded, high_first, is_increment, low_first, tail_byte, tail_loaded, word_loaded, word_swapped}
+use Rattle.policy.proofs.Testing.{EndsFrom, Setting, Stands, field_tested, in_front, in_tail, kind_tested, quota_tested, range_tested, verdict_given}
+
+-- ---- how many slots the tests have
+
+kind_after : (slot : ℕ) (kind : RuleKind) (behind : ℕ) → slot_after slot (kind_test kind behind) ≡ slot + kind_slots kind
+kind_after slot Any behind = omega arith
+kind_after slot Read behind = omega arith
+kind_after slot Write behind = omega arith
+kind_after slot Rmw behind = omega arith
+
+field_after : (slot : ℕ) (field : Option ℕ) (base offset behind : ℕ) → slot_after slot (field_test field base offset behind) ≡ slot + field_slots field
+field_after slot None base offset behind = omega arith
+field_after slot (Some wanted) base offset behind = omega arith
+
+range_after : (slot low high behind : ℕ) → slot_after slot (range_test low high behind) ≡ slot + 4
+range_after slot low high behind = omega arith
+
+quota_after : (slot : ℕ) (quota : Option Quota) (behind : ℕ) → slot_after slot (quota_test quota behind) ≡ slot + quota_slots quota
+quota_after slot None behind = omega arith
+quota_after slot (Some quota) behind = omega arith
+
+verdict_after : (slot code : ℕ) → slot_after slot (verdict_code code) ≡ slot + 2
+verdict_after slot code = omega arith
+
+-- a first part, and the rest behind it
+cut_at : (program : Program) (slot other : ℕ) (xs ys : List Insn) → slot_after slot xs ≡ other → StandAt program slot (xs ++ ys)
+    → StandAt program slot xs × StandAt program other ys
+cut_at program slot other xs ys same h =
+    let parts = split program slot xs ys h in
+    (parts.0, subst (λ (k : ℕ). StandAt program k ys) same parts.1)
+
+after_both : (slot other : ℕ) (xs ys : List Insn) → slot_after slot xs ≡ other → slot_after slot (xs ++ ys) ≡ slot_after other ys
+after_both slot other [] ys same = ap (λ (k : ℕ). slot_after k ys) same
+after_both slot other (x ∷ xs) ys same = after_both (slot + slots_of x) other xs ys same
+
+-- ---- a rule
+
+small_code : (ruling : Ruling) → ruling_code ruling < 2 ^ 64
+small_code Yes = omega arith
+small_code Key = omega arith
+small_code No = omega arith
+small_code Address = omega arith
+
+-- the conditions one behind the other are all of them
+all_five : (a b c d e : Bool) (met unmet : Decision)
+    → (if a then (if b then (if c then (if d then (if e then met else unmet) else unmet) else unmet) else unmet) else unmet) ≡ (if a && b && c && d && e then met else unmet)
+all_five true true true true true met unmet = refl
+all_five true true true true false met unmet = refl
+all_five true true true false e met unmet = refl
+all_five true true false d e met unmet = refl
+all_five true false c d e met unmet = refl
+all_five false b c d e met unmet = refl
+
+-- the tests of a rule from one of them on
+abbrev from_quota : Rule → List Insn
+from_quota rule = quota_test rule.quota 2 ++ verdict_code (ruling_code rule.ruling)
+
+abbrev from_range : Rule → List Insn
+from_range rule = range_test rule.low rule.high (behind_range rule) ++ from_quota rule
+
+abbrev from_extended : Rule → List Insn
+from_extended rule = field_test rule.extended 7 3 (behind_extended rule) ++ from_range rule
+
+abbrev from_initiator : Rule → List Insn
+from_initiator rule = field_test rule.initiator 7 0 (behind_initiator rule) ++ from_extended rule
+
+abbrev from_key : Rule → List Insn
+from_key rule = field_test rule.key 6 3 (behind_key rule) ++ from_initiator rule
+
+-- where its tests begin
+abbrev key_at : ℕ → Rule → ℕ
+key_at slot rule = slot + kind_slots rule.kind
+
+abbrev initiator_at : ℕ → Rule → ℕ
+initiator_at slot rule = key_at slot rule + field_slots rule.key
+
+abbrev extended_at : ℕ → Rule → ℕ
+extended_at slot rule = initiator_at slot rule + field_slots rule.initiator
+
+abbrev range_at : ℕ → Rule → ℕ
+range_at slot rule = extended_at slot rule + field_slots rule.extended
+
+abbrev quota_at : ℕ → Rule → ℕ
+quota_at slot rule = range_at slot rule + 4
+
+abbrev verdict_at : ℕ → Rule → ℕ
+verdict_at slot rule = quota_at slot rule + quota_slots rule.quota
+
+-- where it ends
+abbrev pub end_of : ℕ → Rule → ℕ
+end_of slot rule = verdict_at slot rule + 2
+
+-- the tests of a rule one behind the other
+behind_each_other : (a b c d e f g : List Insn) → a ++ b ++ c ++ d ++ e ++ f ++ g ≡ a ++ (b ++ (c ++ (d ++ (e ++ (f ++ g)))))
+behind_each_other a b c d e f g = simp append_assoc
+
+in_turn : (rule : Rule) → rule_code rule ≡ kind_test rule.kind (behind_kind rule) ++ from_key rule
+in_turn rule =
+    behind_each_other (kind_test rule.kind (behind_kind rule)) (field_test rule.key 6 3 (behind_key rule)) (field_test rule.initiator 7 0 (behind_initiator rule)) (field_test rule.extended 7 3 (behind_extended rule)) (range_test rule.low rule.high (behind_range rule)) (quota_test rule.quota 2) (verdict_code (ruling_code rule.ruling))
+
+rule_after : (slot : ℕ) (rule : Rule) → slot_after slot (rule_code rule) ≡ end_of slot rule
+rule_after slot rule =
+    ap (λ (insns : List Insn). slot_after slot insns) (in_turn rule)
+    ∙ after_both slot (key_at slot rule) (kind_test rule.kind (behind_kind rule)) (from_key rule) (kind_after slot rule.kind (behind_kind rule))
+    ∙ after_both (key_at slot rule) (initiator_at slot rule) (field_test rule.key 6 3 (behind_key rule)) (from_initiator rule) (field_after (key_at slot rule) rule.key 6 3 (behind_key rule))
+    ∙ after_both (initiator_at slot rule) (extended_at slot rule) (field_test rule.initiator 7 0 (behind_initiator rule)) (from_extended rule) (field_after (initiator_at slot rule) rule.initiator 7 0 (behind_initiator rule))
+    ∙ after_both (extended_at slot rule) (range_at slot rule) (field_test rule.extended 7 3 (behind_extended rule)) (from_range rule) (field_after (extended_at slot rule) rule.extended 7 3 (behind_extended rule))
+    ∙ after_both (range_at slot rule) (quota_at slot rule) (range_test rule.low rule.high (behind_range rule)) (from_quota rule) (range_after (range_at slot rule) rule.low rule.high (behind_range rule))
+    ∙ after_both (quota_at slot rule) (verdict_at slot rule) (quota_test rule.quota 2) (verdict_code (ruling_code rule.ruling)) (quota_after (quota_at slot rule) rule.quota 2)
+    ∙ verdict_after (verdict_at slot rule) (ruling_code rule.ruling)
+
+-- the tests of a rule, each where it begins
+record StandsThere (program : Program) (slot : ℕ) (rule : Rule) : Type 0 where
+  kind : StandAt program slot (kind_test rule.kind (behind_kind rule))
+  key : StandAt program (key_at slot rule) (field_test rule.key 6 3 (behind_key rule))
+  initiator : StandAt program (initiator_at slot rule) (field_test rule.initiator 7 0 (behind_initiator rule))
+  extended : StandAt program (extended_at slot rule) (field_test rule.extended 7 3 (behind_extended rule))
+  range : StandAt program (range_at slot rule) (range_test rule.low rule.high (behind_range rule))
+  quota : StandAt program (quota_at slot rule) (quota_test rule.quota 2)
+  verdict : StandAt program (verdict_at slot rule) (verdict_code (ruling_code rule.ruling))
+
+rule_stands : (program : Program) (slot : ℕ) (rule : Rule) → StandAt program slot (rule_code rule) → StandsThere program slot rule
+rule_stands program slot rule whole =
+    let code = subst (λ (insns : List Insn). StandAt program slot insns) (in_turn rule) whole in
+    let kind = cut_at program slot (key_at slot rule) (kind_test rule.kind (behind_kind rule)) (from_key rule) (kind_after slot rule.kind (behind_kind rule)) code in
+    let key = cut_at program (key_at slot rule) (initiator_at slot rule) (field_test rule.key 6 3 (behind_key rule)) (from_initiator rule) (field_after (key_at slot rule) rule.key 6 3 (behind_key rule)) kind.1 in
+    let initiator = cut_at program (initiator_at slot rule) (extended_at slot rule) (field_test rule.initiator 7 0 (behind_initiator rule)) (from_extended rule) (field_after (initiator_at slot rule) rule.initiator 7 0 (behind_initiator rule)) key.1 in
+    let extended = cut_at program (extended_at slot rule) (range_at slot rule) (field_test rule.extended 7 3 (behind_extended rule)) (from_range rule) (field_after (extended_at slot rule) rule.extended 7 3 (behind_extended rule)) initiator.1 in
+    let range = cut_at program (range_at slot rule) (quota_at slot rule) (range_test rule.low rule.high (behind_range rule)) (from_quota rule) (range_after (range_at slot rule) rule.low rule.high (behind_range rule)) extended.1 in
+    let quota = cut_at program (quota_at slot rule) (verdict_at slot rule) (quota_test rule.quota 2) (verdict_code (ruling_code rule.ruling)) (quota_after (quota_at slot rule) rule.quota 2) range.1 in
+    record { kind = kind.0; key = key.0; initiator = initiator.0; extended = extended.0; range = range.0; quota = quota.0; verdict = quota.1 }
+
+-- from a slot on, the rules decide, by all answers
+pub record RulesEnd (m : Setting) (slot : ℕ) (rules : List Rule) : Type 0 where
+  pub ends : (told : ℕ → ℕ) → AreWords told → EndsFrom m slot (decision rules m.header told)
+
+rule_decides : (m : Setting) (slot : ℕ) (rule : Rule) (rules : List Rule) → FitsFields rule → StandsThere m.program slot rule
+    → RulesEnd m (end_of slot rule) rules → RulesEnd m slot (rule ∷ rules)
+rule_decides m slot rule rules fits code others = record {
+  ends = λ told words.
+      let end : ℕ = end_of slot rule in
+      let header : Header = m.header in
+      let code_of : ℕ = ruling_code rule.ruling in
+      let later : Decision = decision rules header (λ k. told (suc k)) in
+      let unmet : Decision = decision rules header told in
+      let met : Decision = ruled rule.quota code_of told later in
+      let last : Bool = lies_between rule.low rule.high (fields_of header) in
+      let fourth : Bool = agrees rule.extended (extended_of (fields_of header)) in
+      let third : Bool = agrees rule.initiator (initiator_of (fields_of header)) in
+      let second : Bool = agrees rule.key (key_of (fields_of header)) in
+      let first : Bool = has_kind rule.kind (command_kind (fields_of header)) in
+      let key_is = in_front m 3 (key_of (fields_of header)) (front_loaded header m.is_header 3 (omega arith) refl) in
+      let initiator_is = in_tail m 0 (initiator_of (fields_of header)) (tail_loaded header m.is_header 0 (omega arith) refl) in
+      let extended_is = in_tail m 3 (extended_of (fields_of header)) (tail_loaded header m.is_header 3 (omega arith) refl) in
+      let there : EndsFrom m end unmet = others.ends told words in
+      let behind : EndsFrom m end later = others.ends (λ k. told (suc k)) (λ k. words (suc k)) in
+      let verdict : EndsFrom m (verdict_at slot rule) ([], code_of) = verdict_given m (verdict_at slot rule) code_of (small_code rule.ruling) code.verdict in
+      let quota : EndsFrom m (quota_at slot rule) met = quota_tested m (quota_at slot rule) end code_of rule.quota told later (words 0) fits.quota code.quota refl verdict behind in
+      let range : EndsFrom m (range_at slot rule) (if last then met else unmet) = range_tested m (range_at slot rule) rule.low rule.high (behind_range rule) end met unmet fits.low fits.high code.range (omega arith) quota there in
+      let with_range : Decision = if last then met else unmet in
+      let extended : EndsFrom m (extended_at slot rule) (if fourth then with_range else unmet) = field_tested m (extended_at slot rule) 7 3 (extended_of (fields_of header)) (behind_extended rule) end rule.extended with_range unmet extended_is code.extended fits.extended (omega arith) range there in
+      let with_extended : Decision = if fourth then with_range else unmet in
+      let initiator : EndsFrom m (initiator_at slot rule) (if third then with_extended else unmet) = field_tested m (initiator_at slot rule) 7 0 (initiator_of (fields_of header)) (behind_initiator rule) end rule.initiator with_extended unmet initiator_is code.initiator fits.initiator (omega arith) extended there in
+      let with_initiator : Decision = if third then with_extended else unmet in
+      let key : EndsFrom m (key_at slot rule) (if second then with_initiator else unmet) = field_tested m (key_at slot rule) 6 3 (key_of (fields_of header)) (behind_key rule) end rule.key with_initiator unmet key_is code.key fits.key (omega arith) initiator there in
+      let with_key : Decision = if second then with_initiator else unmet in
+      let kind : EndsFrom m slot (if first then with_key else unmet) = kind_tested m slot (behind_kind rule) end rule.kind with_key unmet code.kind (omega arith) key there in
+      subst (λ (d : Decision). EndsFrom m slot d) (all_five first second third fourth last met unmet) kind;
+}
+
+-- ---- the rules, from the last
+
+pub rules_decide : (m : Setting) (slot : ℕ) (rules : List Rule) → All FitsFields rules → StandAt m.program slot (rules_code rules) → RulesEnd m slot rules
+rules_decide m slot [] fits code = record { ends = λ told words. verdict_given m slot 10 (omega arith) code }
+rules_decide m slot (rule ∷ rules) fits code =
+    let parts = cut_at m.program slot (end_of slot rule) (rule_code rule) (rules_code rules) (rule_after slot rule) code in
+    rule_decides m slot rule rules (All-head FitsFields rule rules fits) (rule_stands m.program slot rule parts.0)
+    (rules_decide m (end_of slot rule) rules (All-tail FitsFields rule rules fits) parts.1)
+
+-- ---- before the rules
+
+-- no further than the first address
+plain_last : (a b : Bool) (far near : ℕ) → not a ≡ true → (if a && b then far else near) ≡ near
+plain_last true b far near h = cc
+plain_last false b far near h = refl
+
+empty_last : (a b : Bool) (far near : ℕ) → b ≡ true → (if a && not b then far else near) ≡ near
+empty_last true true far near h = refl
+empty_last true false far near h = cc
+empty_last false b far near h = refl
+
+far_last : (a b : Bool) (far near : ℕ) → not a ≡ false → b ≡ false → (if a && not b then far else near) ≡ far
+far_last true true far near h g = cc
+far_last true false far near h g = refl
+far_last false b far near h g = cc
+
+with_last : (first last : ℕ) (registers : ℕ → Value) → Stands first last registers → (other : ℕ) → last ≡ other → Stands first other registers
+with_last first last registers stands other same = subst (λ (n : ℕ). Stands first n registers) same stands
+
+kept : (first last : ℕ) (registers : ℕ → Value) (value : Value) → Stands first last registers → Stands first last (register_after registers 0 value)
+kept first last registers value h = record {
+  front = h.front;
+  tail = h.tail;
+  first_address = h.first_address;
+  last_address = h.last_address;
+}
+
+moved_last : (first last other : ℕ) (registers : ℕ → Value) → Stands first last registers → Stands first other (register_after registers 9 (Num other))
+moved_last first last other registers h = record {
+  front = h.front;
+  tail = h.tail;
+  first_address = h.first_address;
+  last_address = refl;
+}
+
+-- the address, and where it is when the rules begin
+start : (m : Setting) (port : ℕ) (d : Decision) → StandAt m.program 0 address_code
+    → ((registers : ℕ → Value) (stack : ℕ → Option ℕ) → Stands (address_of (fields_of m.header)) (address_of (fields_of m.header)) registers → Finishes m.program m.header (state 5 registers stack) d)
+    → Finishes m.program m.header (entry_state port) d
+start m port d code rest =
+    let header : Header = m.header in
+    let tail : List ℕ = header.tail in
+    let address : ℕ = address_of (fields_of header) in
+    let word : ℕ = low_first (slice_index tail 4) (slice_index tail 5) (slice_index tail 6) (slice_index tail 7) in
+    let stack : ℕ → Option ℕ = λ place. None in
+    let r0 : ℕ → Value = entry_register port in
+    let r1 : ℕ → Value = register_after r0 6 (Ptr Front (pos 0)) in
+    let r2 : ℕ → Value = register_after r1 7 (Ptr Tail (pos 0)) in
+    let r3 : ℕ → Value = register_after r2 8 (Num word) in
+    let r4 : ℕ → Value = register_after r3 8 (Num address) in
+    let r5 : ℕ → Value = register_after r4 9 (Num address) in
+    let load : perform header (state 2 r2 stack) (loaded LoadWord 8 7 4) ≡ Next (state 3 r3 stack) =
+    ap (λ (o : Option Value). writes (state 2 r2 stack) 3 8 o) (word_loaded header m.is_header 4 (omega arith) refl (state 2 r2 stack)) in
+    let big : swapped_bytes ToBig Swap32 word ≡ address =
+    word_swapped _ _ _ _ (tail_byte header m.is_header 4 (omega arith)) (tail_byte header m.is_header 5 (omega arith)) (tail_byte header m.is_header 6 (omega arith)) (tail_byte header m.is_header 7 (omega arith))
+    ∙ sym (big_word tail) in
+    let swap : perform header (state 3 r3 stack) (swapped 8) ≡ Next (state 4 r4 stack) =
+    ap (λ (k : ℕ). writes (state 3 r3 stack) 4 8 (Some (Num k))) big in
+    next m.program header (state 0 r0 stack) (state 1 r1 stack) (applied Mov 6 (FromRegister 1)) d m.performs code.0 refl
+    (next m.program header (state 1 r1 stack) (state 2 r2 stack) (applied Mov 7 (FromRegister 2)) d m.performs code.1.0 refl
+    (next m.program header (state 2 r2 stack) (state 3 r3 stack) (loaded LoadWord 8 7 4) d m.performs code.1.1.0 load
+    (next m.program header (state 3 r3 stack) (state 4 r4 stack) (swapped 8) d m.performs code.1.1.1.0 swap
+    (next m.program header (state 4 r4 stack) (state 5 r5 stack) (applied Mov 9 (FromRegister 8)) d m.performs code.1.1.1.1.0 refl
+    (rest r5 stack (record { front = refl; tail = refl; first_address = refl; last_address = refl }))))))
+
+-- the last address where there is a length
+long : (m : Setting) (registers : ℕ → Value) (stack : ℕ → Option ℕ) (address length last : ℕ) (d : Decision) → Stands address address registers
+    → registers 0 ≡ Num length → length ≢ 0 → address < 2 ^ 32 → length < 2 ^ 24 → address + length - 1 ≡ last
+    → insn_at m.program 12 ≡ Some (applied Add 9 (FromRegister 0)) → insn_at m.program 13 ≡ Some (applied Sub 9 (Immediate (pos 1)))
+    → ((after : ℕ → Value) → Stands address last after → Finishes m.program m.header (state 14 after stack) d)
+    → Finishes m.program m.header (state 12 registers stack) d
+long m registers stack address length last d stands value some address_fits length_fits is first second rest =
+    let header : Header = m.header in
+    let r1 : ℕ → Value = register_after registers 9 (Num (address + length)) in
+    let r2 : ℕ → Value = register_after r1 9 (Num last) in
+    let s : State = state 12 registers stack in
+    let t : State = state 13 r1 stack in
+    let sum : (address + length) % 2 ^ 64 ≡ address + length = omega arith in
+    let less : (address + length + (2 ^ 64 - 1)) % 2 ^ 64 ≡ last = omega (arith, is) in
+    let add : perform header s (applied Add 9 (FromRegister 0)) ≡ Next t =
+    ap (λ (v : Value). writes s 13 9 (alu Add Bits64 v (registers 0))) stands.last_address
+    ∙ ap (λ (v : Value). writes s 13 9 (alu Add Bits64 (Num address) v)) value
+    ∙ ap (λ (k : ℕ). writes s 13 9 (Some (Num k))) sum in
+    let sub : perform header t (applied Sub 9 (Immediate (pos 1))) ≡ Next (state 14 r2 stack) =
+    ap (λ (k : ℕ). writes t 14 9 (Some (Num k))) less in
+    let then_one : Stands address (address + length) r1 = moved_last address address (address + length) registers stands in
+    next m.program header s t (applied Add 9 (FromRegister 0)) d m.performs first add
+    (next m.program header t (state 14 r2 stack) (applied Sub 9 (Immediate (pos 1))) d m.performs second sub
+    (rest r2 (moved_last address (address + length) last r1 then_one)))
+
+-- the last address
+finish : (m : Setting) (registers : ℕ → Value) (stack : ℕ → Option ℕ) (d : Decision) → StandAt m.program 5 last_address_code
+    → Stands (address_of (fields_of m.header)) (address_of (fields_of m.header)) registers → EndsFrom m 14 d → Finishes m.program m.header (state 5 registers stack) d
+finish m registers stack d code stands there =
+    let header : Header = m.header in
+    let tail : List ℕ = header.tail in
+    let address : ℕ = address_of (fields_of header) in
+    let length : ℕ = length_of (fields_of header) in
+    let far : ℕ = address + length - 1 in
+    let last : ℕ = last_address_of (fields_of header) in
+    let byte : ℕ = slice_index header.front 2 in
+    let grows : Bool = increments (fields_of header) in
+    let high : ℕ = high_first (slice_index tail 8) (slice_index tail 9) (slice_index tail 10) (slice_index tail 11) in
+    let word : ℕ = low_first (slice_index tail 8) (slice_index tail 9) (slice_index tail 10) (slice_index tail 11) in
+    let b4 = tail_byte header m.is_header 4 (omega arith) in
+    let b5 = tail_byte header m.is_header 5 (omega arith) in
+    let b6 = tail_byte header m.is_header 6 (omega arith) in
+    let b7 = tail_byte header m.is_header 7 (omega arith) in
+    let b8 = tail_byte header m.is_header 8 (omega arith) in
+    let b9 = tail_byte header m.is_header 9 (omega arith) in
+    let b10 = tail_byte header m.is_header 10 (omega arith) in
+    let b11 = tail_byte header m.is_header 11 (omega arith) in
+    let r1 : ℕ → Value = register_after registers 0 (Num byte) in
+    let r2 : ℕ → Value = register_after r1 0 (Num (bit_and byte 4)) in
+    let r3 : ℕ → Value = register_after r2 0 (Num word) in
+    let r4 : ℕ → Value = register_after r3 0 (Num high) in
+    let r5 : ℕ → Value = register_after r4 0 (Num length) in
+    let stands_1 : Stands address address r1 = kept address address registers (Num byte) stands in
+    let stands_2 : Stands address address r2 = kept address address r1 (Num (bit_and byte 4)) stands_1 in
+    let stands_3 : Stands address address r3 = kept address address r2 (Num word) stands_2 in
+    let stands_4 : Stands address address r4 = kept address address r3 (Num high) stands_3 in
+    let stands_5 : Stands address address r5 = kept address address r4 (Num length) stands_4 in
+    let load : perform header (state 5 registers stack) (loaded LoadByte 0 6 2) ≡ Next (state 6 r1 stack) =
+    ap (λ (v : Value). writes (state 5 registers stack) 6 0 (loads header (state 5 registers stack) LoadByte v (pos 2))) stands.front
+    ∙ ap (λ (o : Option Value). writes (state 5 registers stack) 6 0 o) (front_loaded header m.is_header 2 (omega arith) refl (state 5 registers stack)) in
+    let load_length : perform header (state 8 r2 stack) (loaded LoadWord 0 7 8) ≡ Next (state 9 r3 stack) =
+    ap (λ (v : Value). writes (state 8 r2 stack) 9 0 (loads header (state 8 r2 stack) LoadWord v (pos 8))) stands_2.tail
+    ∙ ap (λ (o : Option Value). writes (state 8 r2 stack) 9 0 o) (word_loaded header m.is_header 8 (omega arith) refl (state 8 r2 stack)) in
+    let swap : perform header (state 9 r3 stack) (swapped 0) ≡ Next (state 10 r4 stack) =
+    ap (λ (k : ℕ). writes (state 9 r3 stack) 10 0 (Some (Num k))) (word_swapped _ _ _ _ b8 b9 b10 b11) in
+    let shift : perform header (state 10 r4 stack) (applied Rsh 0 (Immediate (pos 8))) ≡ Next (state 11 r5 stack) =
+    ap (λ (k : ℕ). writes (state 10 r4 stack) 11 0 (Some (Num k))) (big_three tail b11) in
+    let address_small : address < 2 ^ 32 = omega (arith, big_word tail, b4, b5, b6, b7) in
+    let length_small : length < 2 ^ 24 = omega (arith, big_three tail b11, b8, b9, b10, b11) in
+    let inc = is_increment byte (front_byte header m.is_header 2 (omega arith)) in
+    next m.program header (state 5 registers stack) (state 6 r1 stack) (loaded LoadByte 0 6 2) d m.performs code.0 load
+    (next m.program header (state 6 r1 stack) (state 7 r2 stack) (applied And 0 (Immediate (pos 4))) d m.performs code.1.0 refl
+    (branched m.program header 7 6 14 r2 stack (skips_if Equal 0 (Immediate (pos 0)) 6) d (bit_and byte 4 == 0) m.performs code.1.1.0 refl refl
+    (λ zero.
+    let same : address ≡ last = sym (plain_last grows (not (length == 0)) far address (sym inc ∙ zero)) in
+    there.from r2 stack (with_last address address r2 stands_2 last same))
+    (λ one.
+    next m.program header (state 8 r2 stack) (state 9 r3 stack) (loaded LoadWord 0 7 8) d m.performs code.1.1.1.0 load_length
+    (next m.program header (state 9 r3 stack) (state 10 r4 stack) (swapped 0) d m.performs code.1.1.1.1.0 swap
+    (next m.program header (state 10 r4 stack) (state 11 r5 stack) (applied Rsh 0 (Immediate (pos 8))) d m.performs code.1.1.1.1.1.0 shift
+    (branched m.program header 11 2 14 r5 stack (skips_if Equal 0 (Immediate (pos 0)) 2) d (length == 0) m.performs code.1.1.1.1.1.1.0 refl refl
+    (λ zero.
+    let same : address ≡ last = sym (empty_last grows (length == 0) far address zero) in
+    there.from r5 stack (with_last address address r5 stands_5 last same))
+    (λ some.
+    let same : far ≡ last = sym (far_last grows (length == 0) far address (sym inc ∙ one) some) in
+    let positive : length ≢ 0 = λ e. cc (some, ap (λ (k : ℕ). k == 0) e) in
+    long m r5 stack address length last d stands_5 refl positive address_small length_small same code.1.1.1.1.1.1.1.0 code.1.1.1.1.1.1.1.1.0
+    (λ after stands_6. there.from after stack stands_6))))))))
+
+-- ---- the whole
+
+whole_ends : StepPerforms → (rules : List Rule) (budget : ℕ) → All FitsFields rules → (header : Header) (port : ℕ) (told : ℕ → ℕ) → IsHeader header → AreWords told
+    → Finishes (table_program budget rules) header (entry_state port) (decision rules header told)
+whole_ends performs rules budget fits header port told is_header words =
+    let p : Program = table_program budget rules in
+    let m : Setting = record { program = p; header = header; performs = λ h s. performs p h s refl; is_header = is_header } in
+    let d : Decision = decision rules header told in
+    let code : StandAt p 0 (table_code rules) = stand p [] (table_code rules) refl in
+    let apart : StandAt p 0 (address_code ++ (last_address_code ++ rules_code rules)) = subst (λ (insns : List Insn). StandAt p 0 insns) (append_assoc address_code last_address_code (rules_code rules)) code in
+    let one = split p 0 address_code (last_address_code ++ rules_code rules) apart in
+    let two = split p 5 last_address_code (rules_code rules) one.1 in
+    let there : EndsFrom m 14 d = (rules_decide m 14 rules fits two.1).ends told words in
+    start m port d one.0 (λ registers stack stands. finish m registers stack d two.0 stands there)
+
+pub has_meaning : StepPerforms → RunsFromTheFront → AnswersDecide → DrawsAreAnswered → (rules : List Rule) (budget : ℕ) → All FitsFields rules → HasMeaning rules (table_program budget rules)
+has_meaning performs front decide draws rules budget fits =
+    let p : Program = table_program budget rules in
+    let run : (header : Header) (port : ℕ) (told : ℕ → ℕ) → IsHeader header → AreWords told
+    → (n : ℕ) × Runs p header port (decision rules header told).0 n (decision rules header told).1 =
+    λ header port told is_header words.
+    let ends : Finishes p header (entry_state port) (decision rules header told) = whole_ends performs rules budget fits header port told is_header words in
+    (ends.steps, (front p header port (decision rules header told).0 ends.steps (decision rules header told).1).1 ends.ends) in
+    record {
+      runs = λ header port told is_header small words. run header port told is_header words;
+      only = λ header port told calls n verdict is_header small words answered other.
+          let mine = run header port told is_header words in
+          let ends : Ends p header n (entry_state port) calls verdict = (front p header port calls n verdict).0 other in
+          let ours : Ends p header mine.0 (entry_state port) (decision rules header told).0 (decision rules header told).1 = (front p header port (decision rules header told).0 mine.0 (decision rules header told).1).0 mine.1 in
+          let same = decide p header (entry_state port) told n mine.0 calls (decision rules header told).0 verdict (decision rules header told).1 ends ours answered (draws rules header told) in
+          (same.1, same.2);
+    }

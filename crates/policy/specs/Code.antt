@@ -1,0 +1,166 @@
+-- The program that stands for a policy table, instruction by instruction (RFC 9669). While it runs r6 points to the
+-- first four bytes of the header and r7 to its last twelve, r8 is the first address of the command and r9 the last;
+-- r0 is what is compared.
+use Rattle.std.specs.Prelude.{ℕ, ◌+◌, pos, List, [], ◌∷◌, ◌++◌, Option, Some, None}
+use Rattle.std.specs.Int.{w32, cast_signed}
+use Rattle.bpf_parts.specs.declared.callee.Callee.TheVariants.{Helper}
+use Rattle.bpf_parts.specs.declared.memory.LoadSize.{LoadSize}
+use Rattle.bpf_parts.specs.declared.memory.LoadSize.TheVariants.{LoadByte, LoadWord}
+use Rattle.bpf_parts.specs.declared.operation.AluOp.{AluOp}
+use Rattle.bpf_parts.specs.declared.operation.AluOp.TheVariants.{Add, And, Mov, Rsh, Sub}
+use Rattle.bpf_parts.specs.declared.operation.Condition.{Condition}
+use Rattle.bpf_parts.specs.declared.operation.Condition.TheVariants.{Equal, Greater, GreaterEqual, Less, NotEqual}
+use Rattle.bpf_parts.specs.declared.operation.Operand.{Operand}
+use Rattle.bpf_parts.specs.declared.operation.Operand.TheVariants.{FromRegister, Immediate}
+use Rattle.bpf_parts.specs.declared.operation.Swap.TheVariants.{ToBig}
+use Rattle.bpf_parts.specs.declared.operation.SwapBits.TheVariants.{Swap32}
+use Rattle.bpf_parts.specs.declared.operation.Width.TheVariants.{Bits32, Bits64}
+use Rattle.bpf_insn.specs.declared.insn.Insn.{Insn}
+use Rattle.bpf_insn.specs.declared.insn.Insn.TheVariants.{Alu, ByteSwap, Load, Jump, LoadMap, Call, Exit}
+use Rattle.policy.specs.Codes.{ruling_code}
+use Rattle.policy.specs.declared.rules.Quota.{Quota}
+use Rattle.policy.specs.declared.rules.Rule.{Rule}
+use Rattle.policy.specs.declared.rules.RuleKind.{RuleKind}
+use Rattle.policy.specs.declared.rules.RuleKind.TheVariants.{Read, Write, Rmw, Any}
+
+-- ---- instructions
+
+-- a load of the header, through a register that points to a part of it (section 5.1)
+abbrev pub loaded : LoadSize → (dst base offset : ℕ) → Insn
+loaded size dst base offset = Load size dst (record { base = base; offset = pos offset })
+
+-- an operation on the whole of a register (section 4.1)
+abbrev pub applied : AluOp → (dst : ℕ) → Operand → Insn
+applied op dst src = Alu op Bits64 dst src
+
+-- a register is set to a number
+abbrev pub set_to : (dst value : ℕ) → Insn
+set_to dst value = applied Mov dst (Immediate (pos value))
+
+-- a register is set to a number of 32 bits, whose bits are the immediate's
+abbrev pub set_to_bits : (dst value : ℕ) → Insn
+set_to_bits dst value = Alu Mov Bits32 dst (Immediate (cast_signed w32 value))
+
+-- the low four bytes of a register in the other order, as a number of 32 bits (section 4.2)
+abbrev pub swapped : (dst : ℕ) → Insn
+swapped dst = ByteSwap ToBig Swap32 dst
+
+-- a jump over so many slots, where the condition holds of two words (section 4.3)
+abbrev pub skips_if : Condition → (dst : ℕ) → Operand → (skipped : ℕ) → Insn
+skips_if condition dst src skipped =
+    Jump (record { condition = condition; width = Bits64; dst = dst; src = src }) (pos skipped)
+
+-- ---- tests: each skips so many slots behind it, to the end of its rule, where it fails
+
+-- the instruction byte under a mask is that number
+abbrev pub masked_test : (mask wanted behind : ℕ) → List Insn
+masked_test mask wanted behind =
+    loaded LoadByte 0 6 2 ∷ applied And 0 (Immediate (pos mask))
+    ∷ skips_if NotEqual 0 (Immediate (pos wanted)) behind ∷ []
+
+-- the command is of the kind: packet type and command code of the instruction byte (ECSS-E-ST-50-52C, instruction
+-- field)
+abbrev pub kind_test : RuleKind → (behind : ℕ) → List Insn
+kind_test Any behind = []
+kind_test Read behind = masked_test 248 72 behind
+kind_test Write behind = masked_test 224 96 behind
+kind_test Rmw behind = masked_test 252 92 behind
+
+-- a byte of the header is that of the field
+abbrev pub field_test : Option ℕ → (base offset behind : ℕ) → List Insn
+field_test None base offset behind = []
+field_test (Some wanted) base offset behind =
+    loaded LoadByte 0 base offset ∷ skips_if NotEqual 0 (Immediate (pos wanted)) behind ∷ []
+
+-- the address is not below the range, and the last address not above it
+abbrev pub range_test : (low high behind : ℕ) → List Insn
+range_test low high behind =
+    set_to_bits 0 low ∷ skips_if Less 8 (FromRegister 0) (behind + 2)
+    ∷ set_to_bits 0 high ∷ skips_if Greater 9 (FromRegister 0) behind ∷ []
+
+-- a ticket of the quota's cell is below the limit
+abbrev pub quota_test : Option Quota → (behind : ℕ) → List Insn
+quota_test None behind = []
+quota_test (Some quota) behind =
+    LoadMap 1 (pos quota.map) ∷ set_to 2 quota.cell ∷ Call Helper (pos 2)
+    ∷ skips_if GreaterEqual 0 (Immediate (pos quota.limit)) behind ∷ []
+
+-- the end of a run with the verdict
+abbrev pub verdict_code : (code : ℕ) → List Insn
+verdict_code code = set_to 0 code ∷ Exit ∷ []
+
+-- ---- rules
+
+-- how many slots a test of the kind has
+abbrev pub kind_slots : RuleKind → ℕ
+kind_slots Any = 0
+kind_slots Read = 3
+kind_slots Write = 3
+kind_slots Rmw = 3
+
+-- how many slots a test of the field has
+abbrev pub field_slots : Option ℕ → ℕ
+field_slots None = 0
+field_slots (Some wanted) = 2
+
+-- how many slots a test of the quota has: the load of a map has two
+abbrev pub quota_slots : Option Quota → ℕ
+quota_slots None = 0
+quota_slots (Some quota) = 5
+
+-- how many slots of a rule stand behind its range
+abbrev pub behind_range : Rule → ℕ
+behind_range rule = 2 + quota_slots rule.quota
+
+-- behind its extended address
+abbrev pub behind_extended : Rule → ℕ
+behind_extended rule = behind_range rule + 4
+
+-- behind its initiator logical address
+abbrev pub behind_initiator : Rule → ℕ
+behind_initiator rule = behind_extended rule + field_slots rule.extended
+
+-- behind its key
+abbrev pub behind_key : Rule → ℕ
+behind_key rule = behind_initiator rule + field_slots rule.initiator
+
+-- behind its kind
+abbrev pub behind_kind : Rule → ℕ
+behind_kind rule = behind_key rule + field_slots rule.key
+
+-- a rule: its tests, then its verdict
+abbrev pub rule_code : Rule → List Insn
+rule_code rule =
+    kind_test rule.kind (behind_kind rule)
+    ++ field_test rule.key 6 3 (behind_key rule)
+    ++ field_test rule.initiator 7 0 (behind_initiator rule)
+    ++ field_test rule.extended 7 3 (behind_extended rule)
+    ++ range_test rule.low rule.high (behind_range rule)
+    ++ quota_test rule.quota 2
+    ++ verdict_code (ruling_code rule.ruling)
+
+-- ---- tables
+
+-- the registers that point to the header, and the first address: the address field, most significant byte first
+abbrev pub address_code : List Insn
+address_code =
+    applied Mov 6 (FromRegister 1) ∷ applied Mov 7 (FromRegister 2)
+    ∷ loaded LoadWord 8 7 4 ∷ swapped 8 ∷ applied Mov 9 (FromRegister 8) ∷ []
+
+-- the last address: with the increment bit and a data length that is not zero it is as many bytes behind the first
+-- as the length says, less one
+abbrev pub last_address_code : List Insn
+last_address_code =
+    loaded LoadByte 0 6 2 ∷ applied And 0 (Immediate (pos 4)) ∷ skips_if Equal 0 (Immediate (pos 0)) 6
+    ∷ loaded LoadWord 0 7 8 ∷ swapped 0 ∷ applied Rsh 0 (Immediate (pos 8))
+    ∷ skips_if Equal 0 (Immediate (pos 0)) 2
+    ∷ applied Add 9 (FromRegister 0) ∷ applied Sub 9 (Immediate (pos 1)) ∷ []
+
+-- the rules in order, and behind them the verdict where none matches
+abbrev pub rules_code : List Rule → List Insn
+rules_code [] = verdict_code 10
+rules_code (rule ∷ rules) = rule_code rule ++ rules_code rules
+
+-- the program of a table
+abbrev pub table_code : List Rule → List Insn
+table_code rules = address_code ++ last_address_code ++ rules_code rules

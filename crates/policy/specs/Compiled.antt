@@ -1,0 +1,72 @@
+-- What a policy table is compiled to: its first fault, or a program that has its meaning.
+use Rattle.std.specs.Prelude.{◌≡◌, ◌<◌, ℕ, Bool, ◌&&◌, nat_lt, if◌then◌else◌, List, [], ◌∷◌, length, slice_index, Option, Some, None, All}
+use Rattle.std.specs.Option.{option_or}
+use Rattle.bpf.specs.Program.{Program}
+use Rattle.bpf.specs.Weight.{weight_of}
+use Rattle.machine.specs.declared.calls.Call.{Call}
+use Rattle.machine.specs.Memory.{Header, IsHeader}
+use Rattle.machine.specs.Runs.{AreAnswered, Runs}
+use Rattle.machine.specs.Sizes.{IsInside, Maps}
+use Rattle.policy.specs.Meaning.{AreWords, decision}
+use Rattle.policy.specs.declared.faults.PolicyFault.{PolicyFault}
+use Rattle.policy.specs.declared.faults.PolicyFault.TheVariants.{TooLong, BadRange, Memory, NoCell, BadLine}
+use Rattle.policy.specs.declared.rules.Quota.{Quota}
+use Rattle.policy.specs.declared.rules.Rule.{Rule}
+
+-- ---- faults
+
+-- whether the maps have the cell of a quota
+abbrev pub has_cell : Maps → Quota → Bool
+has_cell sizes quota = nat_lt quota.map (length sizes) && nat_lt quota.cell (slice_index sizes quota.map)
+
+-- the fault of a quota: its cell is not there
+abbrev pub quota_fault : Maps → Option Quota → Option PolicyFault
+quota_fault sizes None = None
+quota_fault sizes (Some quota) = if has_cell sizes quota then None else Some NoCell
+
+-- the first fault of a rule: its range ends before it begins, or the cell of its quota is not there
+abbrev pub rule_fault : Maps → Rule → Option PolicyFault
+rule_fault sizes rule = if nat_lt rule.high rule.low then Some BadRange else quota_fault sizes rule.quota
+
+-- the first fault of rules, in their order
+abbrev pub rules_fault : Maps → List Rule → Option PolicyFault
+rules_fault sizes [] = None
+rules_fault sizes (rule ∷ rules) = option_or (rule_fault sizes rule) (rules_fault sizes rules)
+
+-- the first fault of a table: more than 12 rules, or the first of its rules'
+abbrev pub compile_fault : Maps → List Rule → Option PolicyFault
+compile_fault sizes rules = if nat_lt 12 (length rules) then Some TooLong else rules_fault sizes rules
+
+-- why a table with this first fault is not compiled: that fault, or that memory was refused where there is none
+abbrev pub IsNotCompiled : (first : Option PolicyFault) → PolicyFault → Type 0
+IsNotCompiled first TooLong = first ≡ Some TooLong
+IsNotCompiled first BadRange = first ≡ Some BadRange
+IsNotCompiled first Memory = first ≡ None
+IsNotCompiled first NoCell = first ≡ Some NoCell
+IsNotCompiled first BadLine = ⊥
+
+-- ---- meaning
+
+-- On every header and port, and for all answers of the counters, the program has a run with the table's draws and
+-- its verdict, and no other run.
+pub record HasMeaning (rules : List Rule) (program : Program) : Type 0 where
+  pub runs : (header : Header) (port : ℕ) (told : ℕ → ℕ) → IsHeader header → port < 32 → AreWords told
+      → (n : ℕ) × Runs program header port (decision rules header told).0 n (decision rules header told).1
+  pub only : (header : Header) (port : ℕ) (told : ℕ → ℕ) (calls : List Call) (n verdict : ℕ)
+      → IsHeader header → port < 32 → AreWords told
+      → AreAnswered told calls → Runs program header port calls n verdict
+      → (calls ≡ (decision rules header told).0) × (verdict ≡ (decision rules header told).1)
+
+-- every cell that the table draws from is there
+abbrev pub HasCells : Maps → List Rule → Type 0
+HasCells sizes rules =
+    (header : Header) (told : ℕ → ℕ) → All (λ c. IsInside sizes c.map c.key) (decision rules header told).0
+
+-- a program of a table: it has the table's meaning, no loop, and its weight as its budget, and the maps have the
+-- cells that are drawn from
+pub record IsCompiled (sizes : Maps) (rules : List Rule) (program : Program) : Type 0 where
+  pub faultless : compile_fault sizes rules ≡ None
+  pub meaning : HasMeaning rules program
+  pub no_loop : program.loops ≡ []
+  pub budget : program.budget ≡ weight_of program
+  pub cells : HasCells sizes rules

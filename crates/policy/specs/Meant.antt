@@ -1,0 +1,26 @@
+-- What the program of a policy table means: the law of the compiler.
+use Rattle.std.specs.Prelude.{◌≡◌, ℕ, List, [], length, All}
+use Rattle.std.specs.List.{flat_map}
+use Rattle.bpf.specs.Parts.{placed_slots}
+use Rattle.bpf.specs.Program.{Program, program}
+use Rattle.bpf_insn.specs.declared.insn.Insn.{Insn}
+use Rattle.policy.specs.Code.{table_code}
+use Rattle.policy.specs.Compiled.{HasMeaning}
+use Rattle.policy.specs.Limits.{FitsFields}
+use Rattle.policy.specs.declared.rules.Rule.{Rule}
+
+-- the program of these instructions, without a loop
+abbrev pub straight_program : (budget : ℕ) → List Insn → Program
+straight_program budget insns = program budget [] (flat_map placed_slots insns)
+
+-- a program is these instructions, without a loop, and each is performed once at most: their number is its budget
+pub record IsMadeOf (insns : List Insn) (program : Program) : Type 0 where
+  pub whole : program ≡ straight_program (length insns) insns
+
+-- the program of a table
+abbrev pub table_program : (budget : ℕ) → List Rule → Program
+table_program budget rules = straight_program budget (table_code rules)
+
+-- the program of a table has its meaning, whatever its budget
+abbrev pub CodeHasMeaning : Type 0
+CodeHasMeaning = (rules : List Rule) (budget : ℕ) → All FitsFields rules → HasMeaning rules (table_program budget rules)

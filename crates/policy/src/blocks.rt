@@ -1,0 +1,184 @@
+//! The tests of compiled tables, and what comes before and behind them. A test that fails skips so many slots that
+//! stand behind it, to the end of its rule.
+
+ghost use Rattle.std.specs.Prelude.{◌≡◌, ◌≤◌, ◌<◌, ◌++◌, OnOk};
+ghost use Rattle.policy.specs.Code.{address_code, field_slots, field_test, kind_test, last_address_code, masked_test, quota_slots, quota_test, range_test, verdict_code};
+ghost use Rattle.policy.specs.Limits.{IsLimited};
+
+use crate::insns::{apply, load, register, set, set_bits, skip_if, source, swap};
+use crate::places::{ADDRESS, INSTRUCTION, LENGTH};
+use crate::rules::{Quota, RuleKind};
+use bpf_insn::{AluOp, Callee, Condition, Insn, LoadSize, Operand};
+use std::alloc::AllocError;
+
+/// r0: what is compared, the answer of a helper, and the verdict.
+const VALUE: u8 = 0;
+
+/// r1 at entry: points to the first four bytes of the header.
+const GIVEN_FRONT: u8 = 1;
+
+/// r2 at entry: points to the last twelve bytes of the header.
+const GIVEN_TAIL: u8 = 2;
+
+/// r1 at a call: the map.
+const MAP: u8 = 1;
+
+/// r2 at a call: the cell of the map.
+const CELL: u8 = 2;
+
+/// r6: points to the first four bytes of the header. No call changes r6 to r9.
+pub const FRONT: u8 = 6;
+
+/// r7: points to the last twelve bytes of the header.
+pub const TAIL: u8 = 7;
+
+/// r8: the first address of the command.
+const FIRST: u8 = 8;
+
+/// r9: the last address of the command, which may pass the last of 32 bits.
+const LAST: u8 = 9;
+
+/// The helper that draws a ticket.
+const TICKET: i32 = 2;
+
+/// The increment bit of the instruction (ECSS-E-ST-50-52C, instruction field).
+const INCREMENT: i32 = 0b0000_0100;
+
+/// How many slots a test of the field has.
+pub fn field_slots(field: Option<u8>) -> u8
+    ensures slots { result ≡ field_slots field }
+    ensures few { result ≤ 2 }
+{
+    if field.is_some() { 2 } else { 0 }
+}
+
+/// How many slots a test of the quota has: the load of a map has two.
+pub fn quota_slots(quota: Option<Quota>) -> u8
+    ensures slots { result ≡ quota_slots quota }
+    ensures few { result ≤ 5 }
+{
+    if quota.is_some() { 5 } else { 0 }
+}
+
+/// Tests that the instruction byte under a mask is that number.
+fn push_masked(insns: &mut Vec<Insn>, mask: u8, wanted: u8, behind: u8) -> Result<(), AllocError>
+    ensures { OnOk result (insns.new.items ≡ insns.old.items ++ masked_test mask wanted behind) }
+{
+    let wanted = Operand::Immediate(i32::from(wanted));
+    insns.extend_from_slice(&[
+        load(LoadSize::LoadByte, VALUE, FRONT, INSTRUCTION),
+        apply(AluOp::And, VALUE, Operand::Immediate(i32::from(mask))),
+        skip_if(Condition::NotEqual, VALUE, wanted, behind),
+    ])
+}
+
+/// Tests that the command is of the kind, by packet type and command code.
+pub fn push_kind(insns: &mut Vec<Insn>, kind: RuleKind, behind: u8) -> Result<(), AllocError>
+    ensures { OnOk result (insns.new.items ≡ insns.old.items ++ kind_test kind behind) }
+{
+    match kind {
+        RuleKind::Any => Ok(()),
+        RuleKind::Read => push_masked(insns, 0b1111_1000, 0b0100_1000, behind),
+        RuleKind::Write => push_masked(insns, 0b1110_0000, 0b0110_0000, behind),
+        RuleKind::Rmw => push_masked(insns, 0b1111_1100, 0b0101_1100, behind),
+    }
+}
+
+/// Tests that a byte of the header is that of the field.
+pub fn push_field(
+    insns: &mut Vec<Insn>,
+    field: Option<u8>,
+    base: u8,
+    offset: usize,
+    behind: u8,
+) -> Result<(), AllocError>
+    requires base { base ≤ 10 }
+    requires inside { offset < 12 }
+    ensures { OnOk result
+        (insns.new.items ≡ insns.old.items ++ field_test field base offset behind) }
+{
+    let Some(wanted) = field else {
+        return Ok(());
+    };
+    let wanted = Operand::Immediate(i32::from(wanted));
+    insns.extend_from_slice(&[
+        load(LoadSize::LoadByte, VALUE, base, offset),
+        skip_if(Condition::NotEqual, VALUE, wanted, behind),
+    ])
+}
+
+/// Tests that the address is not below the range, and the last address not above it.
+pub fn push_range(insns: &mut Vec<Insn>, low: u32, high: u32, behind: u8) -> Result<(), AllocError>
+    requires { behind ≤ 250 }
+    ensures { OnOk result (insns.new.items ≡ insns.old.items ++ range_test low high behind) }
+{
+    insns.extend_from_slice(&[
+        set_bits(VALUE, low),
+        skip_if(Condition::Less, FIRST, source(VALUE), behind + 2),
+        set_bits(VALUE, high),
+        skip_if(Condition::Greater, LAST, source(VALUE), behind),
+    ])
+}
+
+/// Draws a ticket of the quota's cell, and tests that it is below the limit.
+pub fn push_quota(insns: &mut Vec<Insn>, quota: Option<Quota>, behind: u8) -> Result<(), AllocError>
+    requires { IsLimited quota }
+    ensures { OnOk result (insns.new.items ≡ insns.old.items ++ quota_test quota behind) }
+{
+    let Some(quota) = quota else {
+        return Ok(());
+    };
+    let map = Insn::LoadMap {
+        dst: register(MAP),
+        index: i32::from(quota.map),
+    };
+    let ticket = Insn::Call {
+        callee: Callee::Helper,
+        number: TICKET,
+    };
+    let limit = Operand::Immediate(quota.limit as i32);
+    insns.extend_from_slice(&[
+        map,
+        set(CELL, quota.cell),
+        ticket,
+        skip_if(Condition::GreaterEqual, VALUE, limit, behind),
+    ])
+}
+
+/// Ends a run with the verdict.
+pub fn push_verdict(insns: &mut Vec<Insn>, code: u8) -> Result<(), AllocError>
+    ensures { OnOk result (insns.new.items ≡ insns.old.items ++ verdict_code code) }
+{
+    insns.extend_from_slice(&[set(VALUE, u16::from(code)), Insn::Exit])
+}
+
+/// Finds the parts of the header and the first address.
+pub fn push_address(insns: &mut Vec<Insn>) -> Result<(), AllocError>
+    ensures { OnOk result (insns.new.items ≡ insns.old.items ++ address_code) }
+{
+    insns.extend_from_slice(&[
+        apply(AluOp::Mov, FRONT, source(GIVEN_FRONT)),
+        apply(AluOp::Mov, TAIL, source(GIVEN_TAIL)),
+        load(LoadSize::LoadWord, FIRST, TAIL, ADDRESS),
+        swap(FIRST),
+        apply(AluOp::Mov, LAST, source(FIRST)),
+    ])
+}
+
+/// Finds the last address, which with the increment bit and a data length other than zero is further than the
+/// first.
+pub fn push_last_address(insns: &mut Vec<Insn>) -> Result<(), AllocError>
+    ensures { OnOk result (insns.new.items ≡ insns.old.items ++ last_address_code) }
+{
+    insns.extend_from_slice(&[
+        load(LoadSize::LoadByte, VALUE, FRONT, INSTRUCTION),
+        apply(AluOp::And, VALUE, Operand::Immediate(INCREMENT)),
+        skip_if(Condition::Equal, VALUE, Operand::Immediate(0), 6),
+        load(LoadSize::LoadWord, VALUE, TAIL, LENGTH),
+        swap(VALUE),
+        apply(AluOp::Rsh, VALUE, Operand::Immediate(8)),
+        skip_if(Condition::Equal, VALUE, Operand::Immediate(0), 2),
+        apply(AluOp::Add, LAST, source(VALUE)),
+        apply(AluOp::Sub, LAST, Operand::Immediate(1)),
+    ])
+}
