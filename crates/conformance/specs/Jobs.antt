@@ -17,8 +17,9 @@ pub record AssemblesIn (before : FolderValue) (text image : List ℕ) (after : F
 -- what a job that ended with this status leaves: `asm` sets OUT alone where it was done, and nothing else
 -- changes a file
 abbrev pub Leaves : Job → (before after : FolderValue) → (status : ℕ) → Type 0
-Leaves (Assemble text image) before after zero = AssemblesIn before (string_bytes text) (string_bytes image) after
-Leaves (Assemble text image) before after (suc n) = after ≡ before
-Leaves (Disassemble image) before after status = after ≡ before
-Leaves (Verify image sizes) before after status = after ≡ before
-Leaves (Judge lines image sizes ports) before after status = after ≡ before
+Leaves (Assemble words) before after zero =
+    AssemblesIn before (string_bytes words.text) (string_bytes words.image) after
+Leaves (Assemble words) before after (suc n) = after ≡ before
+Leaves (Disassemble words) before after status = after ≡ before
+Leaves (Verify words) before after status = after ≡ before
+Leaves (Judge words) before after status = after ≡ before
