@@ -252,7 +252,7 @@ fn compare_all(rt: &impl Abort, alloc: Global, all: &[Replies]) -> Result<(), Fa
     Ok(())
 }
 
-fn four_load<J: Room, R: Threads + Wait + Abort + Sync>(
+fn four_load<J: Room + Send + Sync, R: Threads + Wait + Abort + Sync>(
     rt: &R,
     alloc: Global,
     opened: Opened,
