@@ -1,1 +1,8 @@
 mod Rules
+mod Joining
+mod Sending
+mod Places
+mod Keeping
+mod Following
+mod Serving
+mod Dealing

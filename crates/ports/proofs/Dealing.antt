@@ -1,0 +1,92 @@
+-- What became of one packet, by how far it came.
+use Rattle.std.proofs.Common.{◌≡◌, ◌⊎◌, ℕ, ◌<◌, Bool, true, false, ◌&&◌, List, [], length, Some, sym, refl, ap, ◌∙◌, subst, inl, inr, arith}
+use Rattle.spw.specs.Cargo.{Cargo}
+use Rattle.rmap.specs.declared.discard.Discard.{Discard}
+use Rattle.rmap.specs.declared.places.Place.{Place}
+use Rattle.rmap.specs.declared.places.Place.TheVariants.{Bank, Staging, LoadResult, Control}
+use Rattle.rmap.specs.declared.status.Status.{Status}
+use Rattle.rmap.specs.Command.{command_of}
+use Rattle.bank.specs.Records.{JudgedValue, fits, has_room}
+use Rattle.target.specs.Passes.{PassValue, IsPass}
+use Rattle.target.specs.declared.stop.Stop.TheVariants as stops
+use Rattle.target.specs.Steps.{IsStopped, IsUnread, IsJudgement}
+use Rattle.target.specs.Applied.{share_of}
+use Rattle.target.specs.Stagings.{IsStagingPlace}
+use Rattle.target.specs.Served.{EndsAtWindow, IsStagedAt}
+use Rattle.ports.specs.Due.{Judging, IsBanked, IsWindowed, HasFinished, HasLoadEnd, HasDealt}
+use Rattle.ports.specs.Due.Deed.{Dropped, Answered, Judged}
+use Rattle.ports.proofs.Places.{judged_bank}
+
+pub stopped : (h after : PassValue) (p : Cargo) (d : Discard) (reply : List ℕ) → IsStopped (stops.Discarded d) p h.windows reply → after ≡ h → HasDealt p h after reply true
+stopped h after p d reply is same = record {
+  deed = Dropped;
+  dealt = record { discard = d; discarded = is.0; same = same };
+  reply_is = is.1;
+  dropped_is = refl;
+}
+
+pub answered : (h after : PassValue) (p : Cargo) (status : Status) (reply : List ℕ) → IsStopped (stops.Answered status) p h.windows reply → after ≡ h → HasDealt p h after reply false
+answered h after p status reply is same = record {
+  deed = Answered reply;
+  dealt = record { answered = inl (status, is); same = same };
+  reply_is = refl;
+  dropped_is = refl;
+}
+
+pub unread : (h after : PassValue) (p : Cargo) (reply : List ℕ) → IsUnread p h.windows reply → after ≡ h → HasDealt p h after reply false
+unread h after p reply is same = record {
+  deed = Answered reply;
+  dealt = record { answered = inr is; same = same };
+  reply_is = refl;
+  dropped_is = refl;
+}
+
+-- a command that was judged in a run, and left an entry or not
+judging_of : (h between : PassValue) (p : Cargo) (j : JudgedValue) (reply : List ℕ) (entered : Bool) → IsJudgement h between p j → Judging
+judging_of h between p j reply entered is =
+    record { judged = j; program = is.program; calls = is.calls; entered = entered; reply = reply }
+
+judged_so : (h between after : PassValue) (p : Cargo) (j : JudgedValue) (reply : List ℕ) (entered : Bool) → (is : IsJudgement h between p j) → IsBanked (judging_of h between p j reply entered is) between after ⊎ IsWindowed (judging_of h between p j reply entered is) between after → HasDealt p h after reply false
+unfolding judging_of
+judged_so h between after p j reply entered is end = record {
+  deed = Judged (judging_of h between p j reply entered is);
+  dealt = record { between = between; judgement = is; program = refl; calls = refl; ended = end };
+  reply_is = refl;
+  dropped_is = refl;
+}
+
+pub banked : (h between after : PassValue) (p : Cargo) (j : JudgedValue) (k : ℕ) (reply : List ℕ) → IsJudgement h between p j → j.place ≡ Bank k → HasFinished between after j reply → HasDealt p h after reply false
+unfolding judging_of
+banked h between after p j k reply is at end =
+    let entered = fits end.before (share_of between j.place) j && has_room end.before j.port in
+    judged_so h between after p j reply entered is (inl (record { number = k; place = at; ended = end; entered = refl }))
+
+windowed : (h between after : PassValue) (p : Cargo) (j : JudgedValue) (result : Status) (reply : List ℕ) → IsJudgement h between p j → EndsAtWindow j.place between after [] [] j result reply → HasDealt p h after reply false
+unfolding judging_of
+windowed h between after p j result reply is end =
+    judged_so h between after p j reply false is (inr (record { old = []; new = []; result = result; ended = end; entered = refl }))
+
+pub staged : (h between after : PassValue) (p : Cargo) (j : JudgedValue) (place : Place) (result : Status) (reply : List ℕ) → IsJudgement h between p j → place ≡ j.place → IsStagingPlace place → IsStagedAt between after j result reply → HasDealt p h after reply false
+staged h between after p j place result reply is same at end =
+    windowed h between after p j result reply is (subst (λ x. EndsAtWindow x between after [] [] j result reply) same (elim at [
+      | inl bytes ↦ subst (λ x. EndsAtWindow x between after [] [] j result reply) (sym bytes) (end, refl)
+      | inr loaded ↦ subst (λ x. EndsAtWindow x between after [] [] j result reply) (sym loaded) (end, refl)
+    ]))
+
+pub loaded : (h between after : PassValue) (p : Cargo) (j : JudgedValue) (reply : List ℕ) → IsJudgement h between p j → j.place ≡ Control → HasLoadEnd between after j reply → HasDealt p h after reply false
+unfolding judging_of
+loaded h between after p j reply is at end =
+    judged_so h between after p j reply false is (inr (record {
+      old = end.old;
+      new = end.new;
+      result = end.result;
+      ended = subst (λ place. EndsAtWindow place between after end.old end.new j end.result reply) (sym at) end.ended;
+      entered = refl;
+    }))
+
+-- a bank that a judged command has as its place is one of the node's
+pub below : (h between : PassValue) (p : Cargo) (j : JudgedValue) (k banks : ℕ) → IsPass h → IsJudgement h between p j → j.place ≡ Bank k → length h.shares ≡ banks → k < banks
+below h between p j k banks pass is at count =
+    let inside = judged_bank h.windows (command_of p) j.place k is.judged_for.placed.lies at in
+    let shares = pass.shares in
+    omega (arith, inside, shares, count)

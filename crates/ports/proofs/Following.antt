@@ -1,0 +1,274 @@
+-- The laws of what a worker did, by induction on its packets.
+use Rattle.std.proofs.Common.{◌≡◌, ◌≢◌, ◌⊎◌, ℕ, zero, suc, ◌+◌, ◌<◌, Bool, true, false, cond, eqb, ◌&&◌, List, [], ◌∷◌, ◌++◌, Option, Some, None, length, sym, refl, ap, ◌∙◌, subst, append_assoc, arith, inl, inr}
+use Rattle.std.specs.Prelude.{filter, if◌then◌else◌}
+use Rattle.std.specs.List.{All, flat_map}
+use Rattle.std.proofs.lemmas.List.{append-nil, get_or-set_other}
+use Rattle.std.proofs.lemmas.Grind.{get_or-set_at}
+use Rattle.std.proofs.lemmas.List.Elements.{All-nil, All-cons}
+use Rattle.std.proofs.lemmas.Bool.{cases_Bool, cases_eq}
+use Rattle.std.proofs.lemmas.Bool.Decides.{nat_tests}
+use mathlib.Core.List.{IsPrefix}
+use Rattle.spw.specs.Cargo.{Cargo}
+use Rattle.rmap.specs.declared.places.Place.{Place}
+use Rattle.rmap.specs.declared.places.Place.TheVariants.{Bank, Staging, LoadResult, Control}
+use Rattle.rmap.specs.declared.status.Status.{Status}
+use Rattle.rmap.specs.Command.{command_of, command_kind}
+use Rattle.bank.specs.Records.{BankValue, ShareValue, JudgedValue, fits, has_room, next_share, first_share}
+use Rattle.publish.specs.declared.history.Publish.{Publish}
+use Rattle.publish.specs.Published.{judging_program}
+use Rattle.target.specs.Passes.{PassValue, SeatValue}
+use Rattle.target.specs.Slots.{slot_of}
+use Rattle.target.specs.Steps.{IsJudgement, IsVerdict}
+use Rattle.target.specs.Applied.{share_of, with_share}
+use Rattle.target.specs.Loaded.{EndsAs}
+use Rattle.target.specs.Served.{EndsAtWindow}
+use Rattle.ports.specs.Due.{Judging, Deed, Worked, IsBanked, IsWindowed, IsJudged, IsDealt, judgings}
+use Rattle.ports.specs.Due.Deed.{Dropped, Answered, Judged}
+use Rattle.ports.specs.Laws.{IsByPublished, calls_of, is_bank_of, is_entry_at, entries_at, number_at, SharesCount}
+use Rattle.ports.proofs.Keeping.{Keeps, keeps_same, end_keeps, prefix_same, prefix_trans}
+
+-- ---- what stays of a port, and that it saw more
+
+record Stays (h after : PassValue) : Type 0 where
+  programs : IsPrefix h.programs after.programs
+  port : after.port ≡ h.port
+  windows : after.windows ≡ h.windows
+  sizes : after.seat.sizes ≡ h.seat.sizes
+  count : length after.shares ≡ length h.shares
+
+stays_same : (h after : PassValue) → after ≡ h → Stays h after
+stays_same h after same = record {
+  programs = prefix_same h.programs after.programs (ap (λ (x : PassValue). x.programs) same);
+  port = ap (λ (x : PassValue). x.port) same;
+  windows = ap (λ (x : PassValue). x.windows) same;
+  sizes = ap (λ (x : PassValue). x.seat.sizes) same;
+  count = ap (λ (x : PassValue). length x.shares) same;
+}
+
+stays_on : (h between after : PassValue) → Stays h between → Stays between after → Stays h after
+stays_on h between after a b = record {
+  programs = prefix_trans h.programs between.programs after.programs a.programs b.programs;
+  port = b.port ∙ a.port;
+  windows = b.windows ∙ a.windows;
+  sizes = b.sizes ∙ a.sizes;
+  count = b.count ∙ a.count;
+}
+
+-- a run leaves a port what it was, but for its calls and the programs that it has seen more
+run_stays : (h between : PassValue) (p : Cargo) (j : JudgedValue) → IsJudgement h between p j → Stays h between
+run_stays h between p j is = record {
+  programs = subst (λ l. IsPrefix h.programs l) (sym (ap (λ (x : PassValue). x.programs) is.asked)) is.taken.longer;
+  port = ap (λ (x : PassValue). x.port) is.asked;
+  windows = ap (λ (x : PassValue). x.windows) is.asked;
+  sizes = ap (λ (x : PassValue). x.seat.sizes) is.asked;
+  count = ap (λ (x : PassValue). length x.shares) is.asked;
+}
+
+end_stays : (j : Judging) (between after : PassValue) → IsBanked j between after ⊎ IsWindowed j between after → Stays between after
+end_stays j between after end = let keeps = end_keeps j between after end in record {
+  programs = keeps.programs;
+  port = keeps.port;
+  windows = keeps.windows;
+  sizes = ap (λ (s : SeatValue). s.sizes) keeps.seat;
+  count = keeps.count;
+}
+
+dealt_stays : (d : Deed) (p : Cargo) (h after : PassValue) → IsDealt d p h after → Stays h after
+dealt_stays Dropped p h after is = stays_same h after is.same
+dealt_stays (Answered reply) p h after is = stays_same h after is.same
+dealt_stays (Judged j) p h after is =
+    stays_on h is.between after (run_stays h is.between p j.judged is.judgement) (end_stays j is.between after is.ended)
+
+worked_stays : (h after : PassValue) (ps : List Cargo) (ds : List Deed) → Worked h ps ds after → Stays h after
+worked_stays h after [] [] w = stays_same h after w
+worked_stays h after [] (d ∷ ds) w = absurd w
+worked_stays h after (p ∷ ps) [] w = absurd w
+worked_stays h after (p ∷ ps) (d ∷ ds) w = stays_on h w.0 after (dealt_stays d p h w.0 w.1) (worked_stays w.0 after ps ds w.2)
+
+-- ---- programs were published
+
+-- what a beginning of some publishes has, a beginning of more publishes has
+by_more : (some more : List Publish) (port port' : ℕ) (j : Judging) → IsPrefix some more → port ≡ port' → IsByPublished some port j → IsByPublished more port' j
+by_more some more port port' j longer same is = record {
+  seen = is.seen;
+  begins = prefix_trans is.seen some more is.begins longer;
+  shown = is.shown;
+  verdict = subst (λ n. IsVerdict j.program n j.calls j.judged.packet j.judged.verdict) same is.verdict;
+}
+
+-- a command that was judged is so by a program that the port has seen then
+judged_published : (j : Judging) (p : Cargo) (h after : PassValue) → IsJudged j p h after → IsByPublished after.programs h.port j
+judged_published j p h after is =
+    let run = is.judgement in let for = run.judged_for in
+    let end = end_stays j is.between after is.ended in
+    let saw : run.seen ≡ is.between.programs = sym (ap (λ (x : PassValue). x.programs) run.asked) in
+    record {
+      seen = run.seen;
+      begins = subst (λ l. IsPrefix l after.programs) (sym saw) end.programs;
+      shown = subst (λ c. judging_program run.seen (slot_of (command_kind (command_of c)) j.judged.place) ≡ Some (j.program, j.judged.generation)) (sym for.packet)
+          (subst (λ a. judging_program run.seen (slot_of (command_kind (command_of p)) j.judged.place) ≡ Some (a, j.judged.generation)) (sym is.program) run.taken.shown);
+      verdict = subst (λ c. IsVerdict j.program h.port j.calls c j.judged.verdict) (sym for.packet)
+          (subst (λ a. IsVerdict a h.port j.calls p j.judged.verdict) (sym is.program) (subst (λ l. IsVerdict run.program h.port l p j.judged.verdict) (sym is.calls) for.verdict));
+    }
+
+pub programs_were_published : (h after : PassValue) (ps : List Cargo) (ds : List Deed) → Worked h ps ds after → All (IsByPublished after.programs h.port) (judgings ds)
+programs_were_published h after [] [] w = All-nil (IsByPublished after.programs h.port)
+programs_were_published h after [] (d ∷ ds) w = absurd w
+programs_were_published h after (p ∷ ps) [] w = absurd w
+programs_were_published h after (p ∷ ps) (Dropped ∷ ds) w =
+    subst (λ n. All (IsByPublished after.programs n) (judgings ds)) (stays_same h w.0 w.1.same).port (programs_were_published w.0 after ps ds w.2)
+programs_were_published h after (p ∷ ps) (Answered reply ∷ ds) w =
+    subst (λ n. All (IsByPublished after.programs n) (judgings ds)) (stays_same h w.0 w.1.same).port (programs_were_published w.0 after ps ds w.2)
+programs_were_published h after (p ∷ ps) (Judged j ∷ ds) w =
+    let later = worked_stays w.0 after ps ds w.2 in
+    let first = by_more w.0.programs after.programs h.port h.port j later.programs refl (judged_published j p h w.0 w.1) in
+    let same = (dealt_stays (Judged j) p h w.0 w.1).port in
+    All-cons (IsByPublished after.programs h.port) j (judgings ds) first
+    (subst (λ n. All (IsByPublished after.programs n) (judgings ds)) same (programs_were_published w.0 after ps ds w.2))
+
+-- ---- each run asked once
+
+judged_asks : (j : Judging) (p : Cargo) (h after : PassValue) → IsJudged j p h after → after.seat.asked ≡ h.seat.asked ++ j.calls
+judged_asks j p h after is =
+    let end = end_keeps j is.between after is.ended in
+    ap (λ (s : SeatValue). s.asked) end.seat ∙ ap (λ (x : PassValue). x.seat.asked) is.judgement.asked ∙ ap (λ l. h.seat.asked ++ l) (sym is.calls)
+
+pub ask_once : (h after : PassValue) (ps : List Cargo) (ds : List Deed) → Worked h ps ds after → after.seat.asked ≡ h.seat.asked ++ calls_of ds
+ask_once h after [] [] w = ap (λ (x : PassValue). x.seat.asked) w ∙ sym (append-nil h.seat.asked)
+ask_once h after [] (d ∷ ds) w = absurd w
+ask_once h after (p ∷ ps) [] w = absurd w
+ask_once h after (p ∷ ps) (Dropped ∷ ds) w =
+    ask_once w.0 after ps ds w.2 ∙ ap (λ (x : PassValue). x.seat.asked ++ calls_of ds) w.1.same
+ask_once h after (p ∷ ps) (Answered reply ∷ ds) w =
+    ask_once w.0 after ps ds w.2 ∙ ap (λ (x : PassValue). x.seat.asked ++ calls_of ds) w.1.same
+ask_once h after (p ∷ ps) (Judged j ∷ ds) w =
+    ask_once w.0 after ps ds w.2 ∙ ap (λ l. l ++ calls_of ds) (judged_asks j p h w.0 w.1) ∙ append_assoc h.seat.asked j.calls (calls_of ds)
+
+-- ---- shares count entries
+
+-- what a judged command adds to the port's number at a bank
+abbrev bit : Bool → ℕ
+bit true = 1
+bit false = 0
+
+abbrev one_at : ℕ → Judging → ℕ
+one_at k j = bit (is_entry_at k j)
+
+next_number : (b : BankValue) (share : ShareValue) (j : JudgedValue) → (next_share b share j).number ≡ share.number + bit (has_room b j.port)
+next_number b share j = elim (has_room b j.port) as (λ room. (if room then record { port = share.port; number = share.number + 1 } else share).number ≡ share.number + bit room) [
+  | true ↦ refl
+  | false ↦ omega arith
+]
+
+not_at : (entered : Bool) (k n : ℕ) → k ≢ n → bit (entered && eqb n k) ≡ 0
+not_at entered k n apart = let other : eqb n k ≡ false = grind (arith, nat_tests) in
+    rw other (elim entered as (λ e. bit (e && false) ≡ 0) [ true ↦ refl | false ↦ refl ])
+
+is_at : (entered : Bool) (k n : ℕ) → k ≡ n → bit (entered && eqb n k) ≡ bit entered
+is_at entered k n same = let here : eqb n k ≡ true = grind (arith, nat_tests) in
+    rw here (elim entered as (λ e. bit (e && true) ≡ bit e) [ true ↦ refl | false ↦ refl ])
+
+-- the port's numbers where it has another share of one bank
+shared_number : (k n : ℕ) (h : PassValue) (share : ShareValue) (entered : Bool) → share.number ≡ number_at h n + bit entered → k < length h.shares → number_at (with_share h (Bank n) share) k ≡ number_at h k + bit (entered && eqb n k)
+shared_number k n h share entered is below = elim (cases_eq k n) [
+  | inl same ↦
+      let at : n < length h.shares = subst (λ i. i < length h.shares) same below in
+      let one = is_at entered k n same in
+      let read : number_at (with_share h (Bank n) share) k ≡ share.number = ap (λ (s : ShareValue). s.number) (get_or-set_at h.shares n k share (first_share h.port) same at) in
+      let old : number_at h k ≡ number_at h n = ap (number_at h) same in
+      omega (arith, one, read, old, is)
+  | inr apart ↦
+      let none = not_at entered k n apart in
+      let read : number_at (with_share h (Bank n) share) k ≡ number_at h k = ap (λ (s : ShareValue). s.number) (get_or-set_other h.shares n k share (first_share h.port) apart) in
+      omega (arith, none, read)
+]
+
+both_true : (fit room entered : Bool) → fit ≡ true → entered ≡ (fit && room) → entered ≡ room
+both_true true room entered f e = e
+both_true false room entered f e = absurd cc
+
+both_false : (fit room entered : Bool) → fit ≡ false → entered ≡ (fit && room) → entered ≡ false
+both_false true room entered f e = absurd cc
+both_false false room entered f e = e
+
+no_entry : (k : ℕ) (entered : Bool) (place : Place) → entered ≡ false → bit (entered && is_bank_of k place) ≡ 0
+no_entry k true place e = absurd cc
+no_entry k false place e = refl
+
+banked_number : (k : ℕ) (j : Judging) (h after : PassValue) → IsBanked j h after → k < length h.shares → number_at after k ≡ number_at h k + one_at k j
+banked_number k j h after is below =
+    let share = share_of h j.judged.place in let before = is.ended.before in
+    let fit = fits before share j.judged in let room = has_room before j.judged.port in
+    elim (cases_Bool fit) [
+      | inl true_fit ↦
+          let next = next_share before share j.judged in
+          let end = (is.ended.finished.applied true_fit).shares in
+          let left : j.entered ≡ room = both_true fit room j.entered true_fit is.entered in
+          let number : next.number ≡ share.number + bit j.entered = next_number before share j.judged ∙ ap (λ r. share.number + bit r) (sym left) in
+          let at : share.number ≡ number_at h is.number = ap (λ place. (share_of h place).number) is.place in
+          let there : next.number ≡ number_at h is.number + bit j.entered = number ∙ ap (λ m. m + bit j.entered) at in
+          let counted = shared_number k is.number h next j.entered there below in
+          subst (λ x. number_at x k ≡ number_at h k + one_at k j) (sym end)
+          (subst (λ place. number_at (with_share h place next) k ≡ number_at h k + bit (j.entered && is_bank_of k place)) (sym is.place) counted)
+      | inr misfit ↦
+          let same = ap (λ x. number_at x k) (is.ended.finished.refused misfit).shares in
+          let none = no_entry k j.entered j.judged.place (both_false fit room j.entered misfit is.entered) in
+          omega (arith, same, none)
+    ]
+
+load_number : (k : ℕ) (line : Option Status) (h after : PassValue) (old new : List Publish) (j : JudgedValue) (result : Status) → EndsAs line h after old new j result → number_at after k ≡ number_at h k
+load_number k (Some status) h after old new j result end = ap (λ x. number_at x k) end.1
+load_number k None h after old new j result (inl loaded) = ap (λ x. number_at x k) loaded.holder_after
+load_number k None h after old new j result (inr refused) = ap (λ x. number_at x k) refused.holder_after
+
+window_number : (k : ℕ) (place : Place) (h after : PassValue) (old new : List Publish) (j : JudgedValue) (result : Status) (reply : List ℕ) → EndsAtWindow place h after old new j result reply → number_at after k ≡ number_at h k
+window_number k (Bank n) h after old new j result reply end = absurd end
+window_number k Staging h after old new j result reply end = ap (λ x. number_at x k) end.0.rest
+window_number k LoadResult h after old new j result reply end = ap (λ x. number_at x k) end.0.rest
+window_number k Control h after old new j result reply end = load_number k _ h after old new j result end.ended
+
+end_number : (k : ℕ) (j : Judging) (h after : PassValue) → IsBanked j h after ⊎ IsWindowed j h after → k < length h.shares → number_at after k ≡ number_at h k + one_at k j
+end_number k j h after (inl banked) below = banked_number k j h after banked below
+end_number k j h after (inr is) below =
+    let same = window_number k j.judged.place h after is.old is.new j.judged is.result j.reply is.ended in
+    let none = no_entry k j.entered j.judged.place is.entered in
+    omega (arith, same, none)
+
+judged_number : (k : ℕ) (j : Judging) (p : Cargo) (h after : PassValue) → IsJudged j p h after → k < length h.shares → number_at after k ≡ number_at h k + one_at k j
+judged_number k j p h after is below =
+    let same : number_at is.between k ≡ number_at h k = ap (λ x. number_at x k) is.judgement.asked in
+    let count = (run_stays h is.between p j.judged is.judgement).count in
+    let end = end_number k j is.between after is.ended (omega (arith, count, below)) in
+    omega (arith, same, end)
+
+entries_more : (k : ℕ) (j : Judging) (js : List Judging) → length (filter (is_entry_at k) (j ∷ js)) ≡ one_at k j + length (filter (is_entry_at k) js)
+entries_more k j js = elim (is_entry_at k j) as (λ t. length (cond t (j ∷ filter (is_entry_at k) js) (filter (is_entry_at k) js)) ≡ bit t + length (filter (is_entry_at k) js)) [
+  | true ↦ omega arith
+  | false ↦ omega arith
+]
+
+numbers_count : (k : ℕ) (h after : PassValue) (ps : List Cargo) (ds : List Deed) → Worked h ps ds after → k < length h.shares → number_at after k ≡ number_at h k + entries_at k ds
+numbers_count k h after [] [] w below = let same = ap (λ x. number_at x k) w in omega (arith, same)
+numbers_count k h after [] (d ∷ ds) w below = absurd w
+numbers_count k h after (p ∷ ps) [] w below = absurd w
+numbers_count k h after (p ∷ ps) (Dropped ∷ ds) w below =
+    subst (λ x. number_at after k ≡ number_at x k + entries_at k ds) w.1.same
+    (numbers_count k w.0 after ps ds w.2 (subst (λ (x : PassValue). k < length x.shares) (sym w.1.same) below))
+numbers_count k h after (p ∷ ps) (Answered reply ∷ ds) w below =
+    subst (λ x. number_at after k ≡ number_at x k + entries_at k ds) w.1.same
+    (numbers_count k w.0 after ps ds w.2 (subst (λ (x : PassValue). k < length x.shares) (sym w.1.same) below))
+numbers_count k h after (p ∷ ps) (Judged j ∷ ds) w below =
+    let count = (dealt_stays (Judged j) p h w.0 w.1).count in
+    let rest = numbers_count k w.0 after ps ds w.2 (omega (arith, count, below)) in
+    let first = judged_number k j p h w.0 w.1 below in
+    let more = entries_more k j (judgings ds) in
+    omega (arith, rest, first, more)
+
+pub shares_count : (h after : PassValue) (ps : List Cargo) (ds : List Deed) → Worked h ps ds after → SharesCount h after ds
+shares_count h after ps ds w = let stays = worked_stays h after ps ds w in record {
+  numbers = λ k below. numbers_count k h after ps ds w below;
+  count = stays.count;
+  port = stays.port;
+  windows = stays.windows;
+  sizes = stays.sizes;
+}

@@ -1,0 +1,139 @@
+-- What became of the packets that a worker took, and the replies that are due then (ECSS-E-ST-50-52C). Banks and the
+-- publisher stand behind locks: of them it is known that some bank, or some list of publishes, was what a command met.
+use Rattle.std.specs.Prelude.{◌≡◌, ◌⊎◌, ℕ, Bool, true, false, ◌&&◌, List, [], ◌∷◌, length, map, filter, Some}
+use Rattle.machine.specs.declared.calls.Call.{Call}
+use Rattle.spw.specs.Cargo.{Cargo}
+use Rattle.rmap.specs.declared.discard.Discard.{Discard}
+use Rattle.rmap.specs.declared.places.Place.TheVariants.{Bank}
+use Rattle.rmap.specs.declared.status.Status.{Status}
+use Rattle.rmap.specs.Command.{discard_of}
+use Rattle.bver.specs.Justified.{AcceptedValue}
+use Rattle.bank.specs.declared.bank.Applied.{Applied}
+use Rattle.bank.specs.Records.{BankValue, JudgedValue, IsBank, fits, has_room}
+use Rattle.publish.specs.declared.history.Publish.{Publish}
+use Rattle.target.specs.Passes.{PassValue}
+use Rattle.target.specs.Steps.{IsStopped, IsUnread, IsJudgement}
+use Rattle.target.specs.declared.stop.Stop.TheVariants as stops
+use Rattle.target.specs.Applied.{share_of, IsFinished}
+use Rattle.target.specs.Loaded.{IsLoadEnd}
+use Rattle.target.specs.Served.{EndsAtWindow}
+
+-- a command that was judged: the program and the calls of its run, whether it left an entry in a bank's journal, and
+-- the reply that is due
+pub record Judging : Type 0 where
+  pub judged : JudgedValue
+  pub program : AcceptedValue
+  pub calls : List Call
+  pub entered : Bool
+  pub reply : List ℕ
+
+-- what became of a packet: it was no command; or no program judged it, and that reply is due; or it was judged
+pub data Deed : Type 0 where
+  Dropped : Deed
+  Answered : List ℕ → Deed
+  Judged : Judging → Deed
+
+-- the reply that is due, which is empty where none is
+abbrev pub reply_in : Deed → List ℕ
+reply_in Dropped = []
+reply_in (Answered reply) = reply
+reply_in (Judged judging) = judging.reply
+
+-- the packet was no command
+abbrev pub is_dropped : Deed → Bool
+is_dropped Dropped = true
+is_dropped (Answered reply) = false
+is_dropped (Judged judging) = false
+
+-- there is a reply
+abbrev pub is_reply : List ℕ → Bool
+is_reply [] = false
+is_reply (byte ∷ bytes) = true
+
+-- the replies of such lists of bytes, in order: none of an empty one
+abbrev pub due_of : List (List ℕ) → List (List ℕ)
+due_of replies = filter is_reply replies
+
+-- the replies that are due, in order: a command whose bit 3 is clear has none
+abbrev pub due : List Deed → List (List ℕ)
+due deeds = due_of (map reply_in deeds)
+
+-- how many packets were no command
+abbrev pub discarded : List Deed → ℕ
+discarded deeds = length (filter is_dropped deeds)
+
+-- the commands that were judged, in order
+abbrev pub judgings : List Deed → List Judging
+judgings [] = []
+judgings (Dropped ∷ deeds) = judgings deeds
+judgings (Answered reply ∷ deeds) = judgings deeds
+judgings (Judged judging ∷ deeds) = judging ∷ judgings deeds
+
+-- the packet was no command, and the port is as it was
+pub record IsDropped (p : Cargo) (h after : PassValue) : Type 0 where
+  pub discard : Discard
+  pub discarded : discard_of p.bytes ≡ Some discard
+  pub same : after ≡ h
+
+-- a check of the header answered the packet, or there was no program to judge it; the port is as it was
+pub record IsUnjudged (reply : List ℕ) (p : Cargo) (h after : PassValue) : Type 0 where
+  pub answered : ((status : Status) × IsStopped (stops.Answered status) p h.windows reply) ⊎ IsUnread p h.windows reply
+  pub same : after ≡ h
+
+-- a judged command ended at some bank
+pub record HasFinished (holder after : PassValue) (j : JudgedValue) (reply : List ℕ) : Type 0 where
+  pub before : BankValue
+  pub behind : BankValue
+  pub result : Applied
+  pub bank : IsBank before
+  pub finished : IsFinished before behind holder after j result reply
+
+-- the same, where the bank is the command's place; it left an entry where it was applied and there was room
+pub record IsBanked (judging : Judging) (holder after : PassValue) : Type 0 where
+  pub number : ℕ
+  pub place : judging.judged.place ≡ Bank number
+  pub ended : HasFinished holder after judging.judged judging.reply
+  pub entered : judging.entered ≡ (fits ended.before (share_of holder judging.judged.place) judging.judged && has_room ended.before judging.judged.port)
+
+-- a judged control write ended, where some list had been published
+pub record HasLoadEnd (holder after : PassValue) (j : JudgedValue) (reply : List ℕ) : Type 0 where
+  pub old : List Publish
+  pub new : List Publish
+  pub result : Status
+  pub ended : IsLoadEnd holder after old new j result reply
+
+-- a judged command ended in the boot window, where some list had been published
+pub record IsWindowed (judging : Judging) (holder after : PassValue) : Type 0 where
+  pub old : List Publish
+  pub new : List Publish
+  pub result : Status
+  pub ended : EndsAtWindow judging.judged.place holder after old new judging.judged result judging.reply
+  pub entered : judging.entered ≡ false
+
+-- the command of the packet was judged in one run, which left the port so, and ended at a bank or in the boot window
+pub record IsJudged (judging : Judging) (p : Cargo) (h after : PassValue) : Type 0 where
+  pub between : PassValue
+  pub judgement : IsJudgement h between p judging.judged
+  pub program : judging.program ≡ judgement.program
+  pub calls : judging.calls ≡ judgement.calls
+  pub ended : IsBanked judging between after ⊎ IsWindowed judging between after
+
+-- that became of the packet and of the port
+abbrev pub IsDealt : Deed → Cargo → (h after : PassValue) → Type 0
+IsDealt Dropped p h after = IsDropped p h after
+IsDealt (Answered reply) p h after = IsUnjudged reply p h after
+IsDealt (Judged judging) p h after = IsJudged judging p h after
+
+-- one after the other, that became of the packets and of the port
+abbrev pub Worked : PassValue → List Cargo → List Deed → PassValue → Type 0
+Worked h [] [] after = after ≡ h
+Worked h [] (d ∷ ds) after = ⊥
+Worked h (p ∷ ps) [] after = ⊥
+Worked h (p ∷ ps) (d ∷ ds) after = (between : PassValue) × IsDealt d p h between × Worked between ps ds after
+
+-- some such deed became of the packet and of the port, with that reply; the packet was no command or not
+pub record HasDealt (p : Cargo) (h after : PassValue) (reply : List ℕ) (dropped : Bool) : Type 0 where
+  pub deed : Deed
+  pub dealt : IsDealt deed p h after
+  pub reply_is : reply ≡ reply_in deed
+  pub dropped_is : dropped ≡ is_dropped deed

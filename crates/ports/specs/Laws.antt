@@ -1,0 +1,73 @@
+-- Laws of what a worker did.
+use Rattle.std.specs.Prelude.{◌≡◌, ◌<◌, ℕ, ◌+◌, ◌==◌, ◌&&◌, Bool, false, List, ◌++◌, length, filter, Some, All}
+use Rattle.std.specs.List.{flat_map}
+use mathlib.Core.List.{IsPrefix}
+use Rattle.machine.specs.declared.calls.Call.{Call}
+use Rattle.spw.specs.Cargo.{Cargo}
+use Rattle.rmap.specs.declared.places.Place.{Place}
+use Rattle.rmap.specs.declared.places.Place.TheVariants.{Bank, Staging, LoadResult, Control}
+use Rattle.rmap.specs.Command.{command_of, command_kind}
+use Rattle.publish.specs.declared.history.Publish.{Publish}
+use Rattle.publish.specs.Published.{judging_program}
+use Rattle.target.specs.Slots.{slot_of}
+use Rattle.target.specs.Passes.{PassValue}
+use Rattle.target.specs.Steps.{IsVerdict}
+use Rattle.target.specs.Applied.{share_of}
+use Rattle.ports.specs.Due.{Judging, Deed, Worked, judgings}
+
+-- the verdict on a command is that of a run, for that port and with its calls, of the program that a beginning of those
+-- publishes has in the command's slot
+pub record IsByPublished (published : List Publish) (port : ℕ) (judging : Judging) : Type 0 where
+  pub seen : List Publish
+  pub begins : IsPrefix seen published
+  pub shown : judging_program seen (slot_of (command_kind (command_of judging.judged.packet)) judging.judged.place) ≡ Some (judging.program, judging.judged.generation)
+  pub verdict : IsVerdict judging.program port judging.calls judging.judged.packet judging.judged.verdict
+
+-- each verdict is that of a run of a program that was published: one that the port has seen in the end
+abbrev pub WorkersProgramsWerePublished : Type 0
+WorkersProgramsWerePublished =
+    (h after : PassValue) (packets : List Cargo) (deeds : List Deed) → Worked h packets deeds after
+    → All (IsByPublished after.programs h.port) (judgings deeds)
+
+-- the calls of the runs, in order
+abbrev pub calls_of : List Deed → List Call
+calls_of deeds = flat_map (λ (judging : Judging). judging.calls) (judgings deeds)
+
+-- a port asked its counters what the runs of its judged commands asked, each run once and in order, and nothing else
+abbrev pub WorkersAskOnce : Type 0
+WorkersAskOnce =
+    (h after : PassValue) (packets : List Cargo) (deeds : List Deed) → Worked h packets deeds after
+    → after.seat.asked ≡ h.seat.asked ++ calls_of deeds
+
+-- the place is the bank of that number
+abbrev pub is_bank_of : ℕ → Place → Bool
+is_bank_of k (Bank number) = number == k
+is_bank_of k Staging = false
+is_bank_of k LoadResult = false
+is_bank_of k Control = false
+
+-- the command left an entry at the bank of that number
+abbrev pub is_entry_at : ℕ → Judging → Bool
+is_entry_at k judging = judging.entered && is_bank_of k judging.judged.place
+
+-- how many commands left an entry at the bank of that number
+abbrev pub entries_at : ℕ → List Deed → ℕ
+entries_at k deeds = length (filter (is_entry_at k) (judgings deeds))
+
+-- the number of the port's next command at the bank of that number
+abbrev pub number_at : PassValue → ℕ → ℕ
+number_at h k = (share_of h (Bank k)).number
+
+-- each share counts the entries that its port left at its bank, and what a port is stays
+pub record SharesCount (h after : PassValue) (deeds : List Deed) : Type 0 where
+  pub numbers : (k : ℕ) → k < length h.shares → number_at after k ≡ number_at h k + entries_at k deeds
+  pub count : length after.shares ≡ length h.shares
+  pub port : after.port ≡ h.port
+  pub windows : after.windows ≡ h.windows
+  pub sizes : after.seat.sizes ≡ h.seat.sizes
+
+-- the shares of a port grew by the entries that its commands left
+abbrev pub WorkersSharesCount : Type 0
+WorkersSharesCount =
+    (h after : PassValue) (packets : List Cargo) (deeds : List Deed) → Worked h packets deeds after
+    → SharesCount h after deeds

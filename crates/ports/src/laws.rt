@@ -1,0 +1,20 @@
+//! Laws of what workers do. Each function does no work: its contract is the law.
+
+ghost use Rattle.ports.specs.Laws.{WorkersProgramsWerePublished, WorkersAskOnce, WorkersSharesCount};
+
+/// Each verdict of a worker is that of a run of a program that was published in the slot of its command: one that the
+/// worker's pass has seen in the end.
+pub fn workers_programs_were_published()
+    ensures { WorkersProgramsWerePublished }
+{}
+
+/// The calls that a worker's pass asked its counters are those of the runs of its judged commands, each run once and in
+/// order, and no others.
+pub fn workers_ask_once()
+    ensures { WorkersAskOnce }
+{}
+
+/// Each share of a worker's pass grew by the entries that the worker's commands left at its bank.
+pub fn workers_shares_count()
+    ensures { WorkersSharesCount }
+{}

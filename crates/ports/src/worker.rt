@@ -1,0 +1,41 @@
+//! What serves a port.
+
+ghost use Rattle.std.specs.Prelude.{◌≡◌};
+ghost use Rattle.ports.specs.Worked.{report_sum};
+
+use crate::port::ServePass;
+use crate::sink::Sink;
+use publish::Room;
+use target::Pass;
+
+/// What serves a port: what the port has of its node, what takes from its queue, and where its replies go.
+#[derive(Drop)]
+pub struct Worker<J: Room, S: Sink + Drop> {
+    /// What the port has of its node.
+    pub pass: Pass<J>,
+    /// What takes from the port's queue.
+    pub serve_pass: ServePass,
+    /// Where the port's replies go.
+    pub sink: S,
+}
+
+/// What a worker has done until the end mark. Its counts stay at 2^64 - 1.
+#[derive(Clone, Copy, Debug, PartialEq, Eq)]
+pub struct Report {
+    /// How many packets were no command.
+    pub discarded: u64,
+    /// How many replies the sink did not take.
+    pub lost: u64,
+}
+
+impl Report {
+    /// This report and another as one.
+    pub(crate) fn plus(self, other: Report) -> Report
+        ensures { result ≡ report_sum self other }
+    {
+        Report {
+            discarded: self.discarded.saturating_add(other.discarded),
+            lost: self.lost.saturating_add(other.lost),
+        }
+    }
+}

@@ -1,0 +1,94 @@
+//! The loop of a worker.
+
+ghost use Rattle.std.specs.Prelude.{◌≡◌, ◌∷◌, [], length};
+ghost use Rattle.ports.specs.Queue.{IsServePassOf, IsServePassAfter};
+ghost use Rattle.ports.specs.Due.{due_of};
+ghost use Rattle.ports.specs.Worked.{HasServed, HasTaken, IsWorked};
+
+use crate::deal::deal;
+use crate::gate::Gate;
+use crate::item::Item;
+use crate::port::Port;
+use crate::sink::Sink;
+use crate::worker::{Report, Worker};
+use publish::Room;
+use rmap::ReplyBuf;
+use spw::Packet;
+use std::alloc::Global;
+use std::sync::Wait;
+use target::{Node, Pass};
+
+/// Hands a reply to the sink, where there is one. How many replies were lost: 0 or 1.
+#[tactic(auto, using(crate::proofs::Sending::lost_one))]
+fn send<S: Sink>(sink: &mut S, port: u8, reply: &[u8]) -> u64
+    ensures { HasTaken (S.sent sink.old) (S.sent sink.new) (S.failed sink.old) (S.failed sink.new)
+        (due_of (reply.now ∷ [])) result }
+{
+    if reply.is_empty() {
+        return 0;
+    }
+    match sink.send(port, reply) {
+        Ok(()) => 0,
+        Err(_fault) => 1,
+    }
+}
+
+/// Serves one packet: deals with it, and hands the reply that is due to the sink. What a report of this packet alone
+/// is. The condition is a pass with a share of each bank of the node.
+fn one_more<R: Wait, J: Room, Q: Wait + Drop, S: Sink>(
+    rt: &R,
+    alloc: Global,
+    node: &Node<J, Q>,
+    pass: &mut Pass<J>,
+    sink: &mut S,
+    packet: Packet,
+) -> Report
+    requires { length pass.old.shares ≡ node.now }
+    ensures served { HasServed S.sent S.failed pass.old pass.new sink.old sink.new
+        (packet ∷ []) result }
+    ensures banks { length pass.new.shares ≡ length pass.old.shares }
+{
+    let mut reply = ReplyBuf::new();
+    let discarded = u64::from(deal(rt, alloc, node, pass, packet, &mut reply));
+    let lost = send(sink, pass.port(), reply.bytes());
+    Report { discarded, lost }
+}
+
+/// Serves a port until the end mark: takes packet after packet, deals with each, and hands the reply that is due to the
+/// worker's sink. Round each packet it calls the gate, with the port and the number of the packet, which wraps past
+/// 2^64 - 1. It waits for packets, and for the locks of banks and of the publisher, and holds none while it calls the
+/// gate or the sink, or while a program runs. The condition is a worker of that port, whose pass has a share of each
+/// bank of the node.
+pub fn work<R: Wait, J: Room, Q: Wait + Drop, S: Sink + Drop, G: Gate>(
+    rt: &R,
+    alloc: Global,
+    node: &Node<J, Q>,
+    port: &Port,
+    worker: &mut Worker<J, S>,
+    gate: &G,
+) -> Report
+    requires served { IsServePassOf port.now worker.old.serve_pass }
+    requires banks { length worker.old.pass.shares ≡ node.now }
+    ensures served { IsServePassOf port.now worker.new.serve_pass }
+    ensures same { IsServePassAfter worker.old.serve_pass worker.new.serve_pass }
+    ensures banks { length worker.new.pass.shares ≡ node.now }
+    ensures worked { IsWorked S.sent S.failed worker.old worker.new result }
+{
+    let mut report = Report {
+        discarded: 0,
+        lost: 0,
+    };
+    let mut number: u64 = 0;
+    for _ in rt.forever() {
+        let Item::Data(packet) = port.take(rt, &mut worker.serve_pass) else {
+            return report;
+        };
+        let at = worker.pass.port();
+        gate.before(at, number);
+        let one = one_more(rt, alloc, node, &mut worker.pass, &mut worker.sink, packet);
+        report = report.plus(one);
+        gate.after(at, number);
+        number = number.wrapping_add(1);
+    }
+    unreachable!()
+}
