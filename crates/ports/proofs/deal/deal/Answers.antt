@@ -25,11 +25,7 @@ returns-in-Control-clause-dealt g c =
     loaded _ _ _ _ _ _ c.in-Judged.ensures.step.0 (sym c.place.ensures.value ∙ c.in-Control.is) c.load_locked.ensures.ended
 
 pub returns-in-Answered-clause-dealt : goal.returns-in-Answered-clause-dealt
-returns-in-Answered-clause-dealt g c =
-    let step = c.in-Answered.ensures.step in
-    answered _ _ _ _ _ step.2 step.1
+returns-in-Answered-clause-dealt g c = answered _ _ _ c.in-Answered.field-0 _ (search rules) (search rules)
 
 pub returns-in-Unread-clause-dealt : goal.returns-in-Unread-clause-dealt
-returns-in-Unread-clause-dealt g c =
-    let step = c.in-Unread.ensures.step in
-    unread _ _ _ _ step.2 step.1
+returns-in-Unread-clause-dealt g c = unread _ _ _ _ (search rules) (search rules)
