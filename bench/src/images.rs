@@ -4,7 +4,11 @@ const MOV: u8 = 0xB7;
 const MOV_REGISTER: u8 = 0xBF;
 const MOV32_REGISTER: u8 = 0xBC;
 const ADD: u8 = 0x07;
+const MOV32: u8 = 0xB4;
 const ADD_REGISTER: u8 = 0x0F;
+const SUB: u8 = 0x17;
+const AND: u8 = 0x57;
+const RSH: u8 = 0x77;
 const XOR: u8 = 0xA7;
 const LSH: u8 = 0x67;
 const BE: u8 = 0xDC;
@@ -15,6 +19,9 @@ const STXDW: u8 = 0x7B;
 const JEQ: u8 = 0x15;
 const JNE: u8 = 0x55;
 const JLT: u8 = 0xA5;
+const JGE: u8 = 0x35;
+const JLT_REGISTER: u8 = 0xAD;
+const JGT_REGISTER: u8 = 0x2D;
 const JGT32: u8 = 0x26;
 const CALL: u8 = 0x85;
 const LOAD_MAP: (u8, u8) = (0x18, 5);
@@ -207,4 +214,70 @@ pub fn fields() -> Vec<u8> {
     }
     slots.extend([insn(MOV, 0, 0, 0, 10), insn(EXIT, 0, 0, 0, 0)]);
     image(&slots)
+}
+
+/// The image of a policy table of these rules (docs/BPF.md, the program of a table), each without its last two slots.
+fn table(rules: &[Vec<Slot>], verdict: u32) -> Vec<u8> {
+    let mut slots = vec![
+        insn(MOV_REGISTER, 6, 1, 0, 0),
+        insn(MOV_REGISTER, 7, 2, 0, 0),
+        insn(LDXW, 8, 7, 4, 0),
+        insn(BE, 8, 0, 0, 32),
+        insn(MOV_REGISTER, 9, 8, 0, 0),
+        insn(LDXB, 0, 6, 2, 0),
+        insn(AND, 0, 0, 0, 4),
+        insn(JEQ, 0, 0, 6, 0),
+        insn(LDXW, 0, 7, 8, 0),
+        insn(BE, 0, 0, 0, 32),
+        insn(RSH, 0, 0, 0, 8),
+        insn(JEQ, 0, 0, 2, 0),
+        insn(ADD_REGISTER, 9, 0, 0, 0),
+        insn(SUB, 9, 0, 0, 1),
+    ];
+    for rule in rules {
+        slots.extend(rule);
+        slots.extend([insn(MOV, 0, 0, 0, verdict), insn(EXIT, 0, 0, 0, 0)]);
+    }
+    slots.extend([insn(MOV, 0, 0, 0, 10), insn(EXIT, 0, 0, 0, 0)]);
+    let maps = slots.iter().filter(|slot| slot[0] == LOAD_MAP.0).count();
+    image_with((slots.len() - maps) as u32, &[], &slots)
+}
+
+/// `read KEY 67 00 A0000000 A000FFFF`, with `behind` slots behind the range.
+fn read_rule(key: u32, behind: i16) -> Vec<Slot> {
+    vec![
+        insn(LDXB, 0, 6, 2, 0),
+        insn(AND, 0, 0, 0, 0xF8),
+        insn(JNE, 0, 0, behind + 10, 0x48),
+        insn(LDXB, 0, 6, 3, 0),
+        insn(JNE, 0, 0, behind + 8, key),
+        insn(LDXB, 0, 7, 0, 0),
+        insn(JNE, 0, 0, behind + 6, 0x67),
+        insn(LDXB, 0, 7, 3, 0),
+        insn(JNE, 0, 0, behind + 4, 0),
+        insn(MOV32, 0, 0, 0, 0xA000_0000),
+        insn(JLT_REGISTER, 8, 0, behind + 2, 0),
+        insn(MOV32, 0, 0, 0, 0xA000_FFFF),
+        insn(JGT_REGISTER, 9, 0, behind, 0),
+    ]
+}
+
+/// A policy table of twelve rules, of which the last matches the plain read: the others have another key.
+pub fn last_of_twelve() -> Vec<u8> {
+    let rules: Vec<Vec<Slot>> = (0..12).map(|k| read_rule(11 - k, 2)).collect();
+    table(&rules, 0)
+}
+
+/// The largest policy table: twelve rules with every field and a quota of the only cell.
+pub fn largest_table() -> Vec<u8> {
+    let (opcode, subtype) = LOAD_MAP;
+    let mut rule = read_rule(0, 7);
+    rule.extend([
+        insn(opcode, 1, subtype, 0, 0),
+        insn(0, 0, 0, 0, 0),
+        insn(MOV, 2, 0, 0, 0),
+        insn(CALL, 0, 0, 0, 2),
+        insn(JGE, 0, 0, 2, 5),
+    ]);
+    table(&vec![rule; 12], 0)
 }

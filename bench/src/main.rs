@@ -53,6 +53,7 @@ fn main() {
         ("verify of 512 slots", straight),
         ("verify of 512 slots with eight loops", images::looping()),
         ("verify of eight loops in one another", images::nested()),
+        ("verify of the largest policy table", images::largest_table()),
     ] {
         measure(name, "images", 200.0, || timed(|| speed::verify(&image, 200)));
     }
@@ -66,6 +67,7 @@ fn main() {
     serve("plain read, yes image", &images::yes(), &read, PACKETS);
     serve("plain read, 100 instructions", &images::fields(), &read, PACKETS);
     serve("plain read, quota image", &quota, &read, PACKETS);
+    serve("plain read, policy table of twelve rules", &images::last_of_twelve(), &read, PACKETS);
     for (name, packet, count) in [
         ("write of 16 bytes", packets::write(16), PACKETS),
         ("write of 4096 bytes", packets::write(4096), LONG_PACKETS),

@@ -4,7 +4,7 @@ use Rattle.commands.specs.JobNode.{JobNodeValue}
 use Rattle.commands.specs.Lines.{Judges, JudgesAll, ServesLine, IsBad, IsBadPacket, IsBadLine}
 use Rattle.commands.specs.Stops.{StopsBy}
 use Rattle.commands.specs.declared.faults.Fault.{Fault}
-use Rattle.commands.specs.declared.faults.Fault.TheVariants.{CannotRead, CannotWrite, NoMemory, BadText, BadImage, Unfit, BadLine}
+use Rattle.commands.specs.declared.faults.Fault.TheVariants.{CannotRead, CannotWrite, NoMemory, BadText, BadTable, BadImage, Unfit, BadLine}
 use Rattle.commands.specs.declared.stops.Halt.{Halt}
 use Rattle.commands.specs.declared.stops.Halt.TheVariants.{Ended, Unwritten}
 
@@ -45,6 +45,7 @@ stops_at lines judged rest line count a b c o p q (Ended NoMemory) are place all
   serves = bad.0;
 }
 stops_at lines judged rest line count a b c o p q (Ended (BadText fault)) are place all bad = absurd bad
+stops_at lines judged rest line count a b c o p q (Ended (BadTable fault)) are place all bad = absurd bad
 stops_at lines judged rest line count a b c o p q (Ended (BadImage fault)) are place all bad = absurd bad
 stops_at lines judged rest line count a b c o p q (Ended (Unfit refused)) are place all bad = absurd bad
 stops_at lines judged rest line count a b c o p q (Ended (BadLine number code)) are place all bad = record {

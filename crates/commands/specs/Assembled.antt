@@ -9,7 +9,7 @@ use Rattle.basm.specs.declared.faults.AsmFault.{AsmFault}
 use Rattle.commands.specs.AsmJob.{parts_line}
 use Rattle.commands.specs.Files.{Reads, Writes, HoldsNoText}
 use Rattle.commands.specs.declared.faults.Fault.{Fault}
-use Rattle.commands.specs.declared.faults.Fault.TheVariants.{CannotRead, CannotWrite, NoMemory, BadText, BadImage, Unfit, BadLine}
+use Rattle.commands.specs.declared.faults.Fault.TheVariants.{CannotRead, CannotWrite, NoMemory, BadText, BadTable, BadImage, Unfit, BadLine}
 
 module _ {S : Type 0} (reads : Reads S) where
   -- the file was read, and gave UTF-8 that is a text of the program
@@ -32,6 +32,7 @@ module _ {S : Type 0} (reads : Reads S) where
   IsNoText before name after (CannotWrite file) = ⊥
   IsNoText before name after NoMemory = ⊥
   IsNoText before name after (BadText fault) = HoldsBadText before name after fault
+  IsNoText before name after (BadTable fault) = ⊥
   IsNoText before name after (BadImage fault) = ⊥
   IsNoText before name after (Unfit refused) = ⊥
   IsNoText before name after (BadLine number code) = ⊥
@@ -56,6 +57,7 @@ module _ {S : Type 0} (reads : Reads S) (writes : Writes S) where
   IsNotAssembled before text image after (CannotWrite file) = (file.now ≡ image) × ((p : Program) × Assembled before text image p false after)
   IsNotAssembled before text image after NoMemory = (p : Program) × HoldsText reads before text p after
   IsNotAssembled before text image after (BadText fault) = HoldsBadText reads before text after fault
+  IsNotAssembled before text image after (BadTable fault) = ⊥
   IsNotAssembled before text image after (BadImage fault) = ⊥
   IsNotAssembled before text image after (Unfit refused) = ⊥
   IsNotAssembled before text image after (BadLine number code) = ⊥

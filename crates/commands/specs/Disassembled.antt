@@ -6,7 +6,7 @@ use Rattle.basm.specs.Printed.{printed_image}
 use Rattle.commands.specs.Files.{Reads, HoldsImage}
 use Rattle.commands.specs.Reading.{HoldsFault}
 use Rattle.commands.specs.declared.faults.Fault.{Fault}
-use Rattle.commands.specs.declared.faults.Fault.TheVariants.{CannotRead, CannotWrite, NoMemory, BadText, BadImage, Unfit, BadLine}
+use Rattle.commands.specs.declared.faults.Fault.TheVariants.{CannotRead, CannotWrite, NoMemory, BadText, BadTable, BadImage, Unfit, BadLine}
 
 module _ {S : Type 0} (reads : Reads S) where
   -- the text of the image in the file was printed
@@ -21,6 +21,7 @@ module _ {S : Type 0} (reads : Reads S) where
   IsNotPrinted before name after (CannotWrite file) = ⊥
   IsNotPrinted before name after NoMemory = (p : Program) × HoldsImage reads before name p after
   IsNotPrinted before name after (BadText fault) = ⊥
+  IsNotPrinted before name after (BadTable fault) = ⊥
   IsNotPrinted before name after (BadImage fault) = HoldsFault reads before name after fault
   IsNotPrinted before name after (Unfit refused) = ⊥
   IsNotPrinted before name after (BadLine number code) = ⊥

@@ -10,7 +10,7 @@ use Rattle.bpf.specs.Parts.{placed_slots}
 use Rattle.bpf.specs.Program.{Program, program}
 use Rattle.bpf.specs.declared.fault.ImageFault.TheVariants as faults
 use Rattle.commands.specs.declared.faults.Fault.{Fault}
-use Rattle.commands.specs.declared.faults.Fault.TheVariants.{CannotRead, CannotWrite, NoMemory, BadText, BadImage, Unfit, BadLine}
+use Rattle.commands.specs.declared.faults.Fault.TheVariants.{CannotRead, CannotWrite, NoMemory, BadText, BadTable, BadImage, Unfit, BadLine}
 
 -- `mov r0, 0; exit`
 abbrev pub factory_insns : List Insn
@@ -27,6 +27,7 @@ IsNoFactory (CannotRead file) = ⊥
 IsNoFactory (CannotWrite file) = ⊥
 IsNoFactory NoMemory = ⊥
 IsNoFactory (BadText fault) = ⊥
+IsNoFactory (BadTable fault) = ⊥
 IsNoFactory (BadImage fault) = fault ≡ faults.Memory
 IsNoFactory (Unfit refused) = Unit {0}
 IsNoFactory (BadLine number code) = ⊥

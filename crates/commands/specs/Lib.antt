@@ -1,6 +1,7 @@
 pub mod Arguments
 pub mod AsmJob
 pub mod Assembled
+pub mod Compiled
 pub mod CommandLine
 pub mod DisJob
 pub mod Disassembled
@@ -13,6 +14,7 @@ pub mod Judged
 pub mod Lines
 pub mod Options
 pub mod Performed
+pub mod PolicyJob
 pub mod Printed
 pub mod Reading
 pub mod Statuses

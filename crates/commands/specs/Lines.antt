@@ -14,7 +14,7 @@ use Rattle.target.specs.declared.stop.Stop.TheVariants.{Discarded, Answered}
 use Rattle.commands.specs.JobNode.{JobNodeValue, Serves}
 use Rattle.commands.specs.JudgeJob.{discard_line, reply_line}
 use Rattle.commands.specs.declared.faults.Fault.{Fault}
-use Rattle.commands.specs.declared.faults.Fault.TheVariants.{CannotRead, CannotWrite, NoMemory, BadText, BadImage, Unfit, BadLine}
+use Rattle.commands.specs.declared.faults.Fault.TheVariants.{CannotRead, CannotWrite, NoMemory, BadText, BadTable, BadImage, Unfit, BadLine}
 
 -- the line that is printed of what became of a packet, with the reply that was due
 abbrev pub served_line : (port : ℕ) → Served → (reply : List ℕ) → List ℕ
@@ -67,6 +67,7 @@ IsBadPacket line count before after old new (CannotRead file) = ⊥
 IsBadPacket line count before after old new (CannotWrite file) = ⊥
 IsBadPacket line count before after old new NoMemory = ServesLine line before after × (new ≡ old)
 IsBadPacket line count before after old new (BadText fault) = ⊥
+IsBadPacket line count before after old new (BadTable fault) = ⊥
 IsBadPacket line count before after old new (BadImage fault) = ⊥
 IsBadPacket line count before after old new (Unfit refused) = ⊥
 IsBadPacket line count before after old new (BadLine number code) =
@@ -99,6 +100,7 @@ IsBadLine lines before after old new (CannotRead file) = ⊥
 IsBadLine lines before after old new (CannotWrite file) = ⊥
 IsBadLine lines before after old new NoMemory = StopsUntold lines before after old new
 IsBadLine lines before after old new (BadText fault) = ⊥
+IsBadLine lines before after old new (BadTable fault) = ⊥
 IsBadLine lines before after old new (BadImage fault) = ⊥
 IsBadLine lines before after old new (Unfit refused) = ⊥
 IsBadLine lines before after old new (BadLine number code) = StopsAt lines before after old new number code

@@ -2,6 +2,7 @@
 use Rattle.std.specs.Prelude.{◌≡◌, ℕ, zero, suc, List, Option, string_bytes}
 use Rattle.std.specs.Io.KnownBytes.{Appends}
 use Rattle.commands.specs.Assembled.{Assembles, IsNotAssembled}
+use Rattle.commands.specs.Compiled.{CompilesTable, IsNotCompiled}
 use Rattle.commands.specs.Disassembled.{Disassembles, IsNotPrinted}
 use Rattle.commands.specs.Files.{Reads, Writes}
 use Rattle.commands.specs.Judged.{IsNotJudged, JudgesFile}
@@ -10,7 +11,7 @@ use Rattle.commands.specs.Reading.{IsNoProgram}
 use Rattle.commands.specs.Verified.{Verifies}
 use Rattle.commands.specs.declared.faults.Fault.{Fault}
 use Rattle.commands.specs.declared.jobs.Job.{Job}
-use Rattle.commands.specs.declared.jobs.Job.TheVariants.{Assemble, Disassemble, Verify, Judge}
+use Rattle.commands.specs.declared.jobs.Job.TheVariants.{Assemble, Disassemble, Verify, Judge, Policy}
 
 module _ {S : Type 0} (reads : Reads S) (writes : Writes S) where
   -- the job was done: what it read and wrote led from one state of the files to the other, and
@@ -21,6 +22,8 @@ module _ {S : Type 0} (reads : Reads S) (writes : Writes S) where
       Assembles reads writes before (string_bytes words.text) (string_bytes words.image) after old new
   IsDone (Disassemble words) before after old new = Disassembles reads before (string_bytes words.image) after old new
   IsDone (Verify words) before after old new = Verifies reads before (string_bytes words.image) words.sizes after old new
+  IsDone (Policy words) before after old new =
+      CompilesTable reads writes before (string_bytes words.table) (string_bytes words.image) words.sizes after old new
 
   -- the fault ended the job; only `judge` printed before it
   abbrev pub IsEnded : Job → (before after : S) → (old new : Option (List ℕ)) → Fault → Type 0
@@ -31,6 +34,8 @@ module _ {S : Type 0} (reads : Reads S) (writes : Writes S) where
       IsNotPrinted reads before (string_bytes words.image) after fault × (new ≡ old)
   IsEnded (Verify words) before after old new fault =
       IsNoProgram reads before (string_bytes words.image) after fault × (new ≡ old)
+  IsEnded (Policy words) before after old new fault =
+      IsNotCompiled reads writes before (string_bytes words.table) (string_bytes words.image) words.sizes after fault × (new ≡ old)
 
   -- a fault ended the job, and its line was printed after what came before
   pub record TellsFault (job : Job) (before after : S) (old new : Option (List ℕ)) : Type 0 where

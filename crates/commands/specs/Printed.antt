@@ -4,8 +4,9 @@ use Rattle.std.specs.Io.KnownBytes.{Appends}
 use Rattle.basm.specs.Codes.{asm_code}
 use Rattle.bpf.specs.Fault.{image_fault_code, image_fault_slot}
 use Rattle.bver_form.specs.Codes.{refusal_code}
+use Rattle.policy.specs.Codes.{policy_fault_code}
 use Rattle.commands.specs.declared.faults.Fault.{Fault}
-use Rattle.commands.specs.declared.faults.Fault.TheVariants.{CannotRead, CannotWrite, NoMemory, BadText, BadImage, Unfit, BadLine}
+use Rattle.commands.specs.declared.faults.Fault.TheVariants.{CannotRead, CannotWrite, NoMemory, BadText, BadTable, BadImage, Unfit, BadLine}
 
 -- the line was printed, behind what the writer holds where that is known
 abbrev pub Prints : {W : Type 0} → (contents : W → Option (List ℕ)) → (old new : W) → List ℕ → Type 0
@@ -18,6 +19,7 @@ fault_text (CannotWrite name) = codes "cannot write " ++ name.now
 fault_text NoMemory = codes "no memory"
 fault_text (BadText fault) =
     codes "asm fault " ++ decimal (asm_code fault.code) ++ codes " line " ++ decimal fault.line
+fault_text (BadTable fault) = codes "policy fault " ++ decimal (policy_fault_code fault)
 fault_text (BadImage fault) =
     codes "image fault " ++ decimal (image_fault_code fault) ++ codes " slot " ++ decimal (image_fault_slot fault)
 fault_text (Unfit refused) =

@@ -5,7 +5,7 @@ use Rattle.bpf.specs.Program.{Program}
 use Rattle.bpf.specs.Reading.{Fails, image_reading}
 use Rattle.commands.specs.Files.{Reads, HoldsImage}
 use Rattle.commands.specs.declared.faults.Fault.{Fault}
-use Rattle.commands.specs.declared.faults.Fault.TheVariants.{CannotRead, CannotWrite, NoMemory, BadText, BadImage, Unfit, BadLine}
+use Rattle.commands.specs.declared.faults.Fault.TheVariants.{CannotRead, CannotWrite, NoMemory, BadText, BadTable, BadImage, Unfit, BadLine}
 
 module _ {S : Type 0} (reads : Reads S) where
   -- the file was read, and gave bytes in which an image's fault is the first
@@ -20,6 +20,7 @@ module _ {S : Type 0} (reads : Reads S) where
   IsNoImage before name after (CannotWrite file) = ⊥
   IsNoImage before name after NoMemory = ⊥
   IsNoImage before name after (BadText fault) = ⊥
+  IsNoImage before name after (BadTable fault) = ⊥
   IsNoImage before name after (BadImage fault) = HoldsFault before name after fault
   IsNoImage before name after (Unfit refused) = ⊥
   IsNoImage before name after (BadLine number code) = ⊥
@@ -30,6 +31,7 @@ module _ {S : Type 0} (reads : Reads S) where
   IsNoProgram before name after (CannotWrite file) = ⊥
   IsNoProgram before name after NoMemory = ⊥
   IsNoProgram before name after (BadText fault) = ⊥
+  IsNoProgram before name after (BadTable fault) = ⊥
   IsNoProgram before name after (BadImage fault) = HoldsFault before name after fault
   IsNoProgram before name after (Unfit refused) = (p : Program) × HoldsImage reads before name p after
   IsNoProgram before name after (BadLine number code) = ⊥

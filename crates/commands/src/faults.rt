@@ -2,12 +2,13 @@
 
 ghost use Rattle.std.specs.Prelude.{◌≡◌, Some};
 ghost use Rattle.commands.specs.Printed.{fault_text};
-ghost use Rattle.commands.specs.declared.faults.Fault.TheVariants.{BadImage, BadLine, BadText, Unfit, NoMemory};
+ghost use Rattle.commands.specs.declared.faults.Fault.TheVariants.{BadImage, BadLine, BadTable, BadText, Unfit, NoMemory};
 ghost use Rattle.spw.specs.Fault.{line_fault_code};
 
 use basm::AsmFault;
 use bpf::ImageFault;
 use bver::Refused;
+use policy::PolicyFault;
 use spw::LineFault;
 use std::alloc::AllocError;
 use std::fmt;
@@ -24,6 +25,8 @@ pub enum Fault<'a> {
     NoMemory,
     /// A text is no image.
     BadText(AsmFault),
+    /// A policy table is bad, or memory was refused to it or to its image.
+    BadTable(PolicyFault),
     /// The bytes of a file are no image.
     BadImage(ImageFault),
     /// The verifier refuses an image.
@@ -78,6 +81,14 @@ impl From<AsmFault> for Fault<'_> {
     }
 }
 
+impl From<PolicyFault> for Fault<'_> {
+    ghost from_gives = { λ fault given. given ≡ BadTable fault };
+
+    fn from(fault: PolicyFault) -> Self {
+        Fault::BadTable(fault)
+    }
+}
+
 impl From<Refused> for Fault<'_> {
     ghost from_gives = { λ refused given. given ≡ Unfit refused };
 
@@ -115,6 +126,10 @@ impl fmt::Display for Fault<'_> {
                 let code = fault.number();
                 let line = fault.line;
                 write!(f, "asm fault {code} line {line}")
+            }
+            Fault::BadTable(fault) => {
+                let code = fault.code();
+                write!(f, "policy fault {code}")
             }
             Fault::BadImage(fault) => {
                 let code = fault.code();

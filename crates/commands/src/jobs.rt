@@ -7,6 +7,7 @@ ghost use Rattle.commands.specs.Stops.{StopsBy};
 use crate::asm::{AsmWords, assemble_file};
 use crate::dis::{DisWords, disassemble_file};
 use crate::judge::{JudgeWords, judge_file};
+use crate::policies::{PolicyWords, compile_file};
 use crate::stops::{Halt, WriteFault};
 use crate::storage::Files;
 use crate::verify::{VerifyWords, verify_file};
@@ -27,6 +28,8 @@ pub enum Job {
     Disassemble(DisWords),
     /// Verifies a BPF image, and prints whether it may judge.
     Verify(VerifyWords),
+    /// Compiles a policy table, and writes the image.
+    Policy(PolicyWords),
 }
 
 /// Does a job, up to its end or the fault that ends it, which is still to be printed.
@@ -51,6 +54,7 @@ fn attempt<'a, J: Room, R: Wait, F: Files, W: Write>(
         }
         Job::Disassemble(words) => disassemble_file(alloc, words.image.as_str(), files, out),
         Job::Verify(words) => verify_file(alloc, words.image.as_str(), words.sizes, files, out),
+        Job::Policy(words) => compile_file(alloc, words, files, out),
     }
 }
 

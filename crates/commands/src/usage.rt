@@ -12,6 +12,7 @@ use crate::asm::{asm_command, asm_job};
 use crate::dis::{dis_command, dis_job};
 use crate::jobs::Job;
 use crate::judge::{judge_command, judge_job};
+use crate::policies::{policy_command, policy_job};
 use crate::verify::{verify_command, verify_job};
 use clap::error::ErrorKind;
 use clap::{ArgMatches, Command, Error};
@@ -68,6 +69,7 @@ fn command_line<'a>(alloc: Global) -> Result<Command<'a>, AllocError>
     let dis = dis_command(alloc)?;
     let verify = verify_command(alloc)?;
     let judge = judge_command(alloc)?;
+    let policy = policy_command(alloc)?;
     let rmapctl = Command::new(alloc, "rmapctl").bin_name("rmapctl")?;
     rmapctl
         .about("An RMAP target whose commands are judged by BPF programs")
@@ -77,7 +79,8 @@ fn command_line<'a>(alloc: Global) -> Result<Command<'a>, AllocError>
         .subcommand(asm)?
         .subcommand(dis)?
         .subcommand(verify)?
-        .subcommand(judge)
+        .subcommand(judge)?
+        .subcommand(policy)
 }
 
 /// What the user is told of words that `clap` refuses.
@@ -107,8 +110,11 @@ fn job_of(alloc: Global, found: &ArgMatches) -> Result<Job, UsageFault>
     if let Some(verify) = found.subcommand_matches("verify") {
         return Ok(Job::Verify(verify_job(alloc, verify)?));
     }
-    match found.subcommand_matches("judge") {
-        Some(judge) => Ok(Job::Judge(judge_job(alloc, judge)?)),
+    if let Some(judge) = found.subcommand_matches("judge") {
+        return Ok(Job::Judge(judge_job(alloc, judge)?));
+    }
+    match found.subcommand_matches("policy") {
+        Some(policy) => Ok(Job::Policy(policy_job(alloc, policy)?)),
         None => Err(UsageFault::BadOption),
     }
 }

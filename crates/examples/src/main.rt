@@ -1,10 +1,13 @@
-//! Programs that a maker of instruments may start from, in the folder `data`. Each is assembled, verified, and
-//! judges the same packet lines, as `rmapctl` does it; what is printed comes to standard output.
+//! Programs and a policy table that a maker of instruments may start from, in the folder `data`. Each program is
+//! assembled, the table is compiled; each image is verified, and judges packet lines, as `rmapctl` does it. What is
+//! printed comes to standard output.
 #![tactic(auto)]
 
 use anyhow::{Result, anyhow};
 use bver::MapSizes;
-use commands::{AsmWords, HostFiles, Job, JudgeWords, NodeWords, VerifyWords, perform};
+use commands::{
+    AsmWords, HostFiles, Job, JudgeWords, NodeWords, PolicyWords, VerifyWords, perform,
+};
 use std::alloc::{AllocError, Global};
 use std::io::{self, Write};
 use std::rt;
@@ -33,13 +36,27 @@ fn image_of(alloc: Global, name: &str) -> Result<String, AllocError> {
     format!(in alloc; "{name}.img")
 }
 
-/// The jobs of one program: its text is assembled, its image is verified, and it judges.
-fn jobs(alloc: Global, name: &str, node: &Node<'_>) -> Result<[Job; 3]> {
+/// The job that makes the image of a program of its text.
+fn assembly(alloc: Global, name: &str) -> Result<Job> {
+    Ok(Job::Assemble(AsmWords {
+        text: format!(in alloc; "{name}.bpf")?,
+        image: image_of(alloc, name)?,
+    }))
+}
+
+/// The job that makes the image of a policy table for a node.
+fn compilation(alloc: Global, name: &str, node: &Node<'_>) -> Result<Job> {
+    Ok(Job::Policy(PolicyWords {
+        table: format!(in alloc; "{name}.policy")?,
+        image: image_of(alloc, name)?,
+        sizes: node.sizes,
+    }))
+}
+
+/// The jobs of one image: it is made, it is verified, and it judges.
+fn jobs(alloc: Global, made: Job, name: &str, node: &Node<'_>) -> Result<[Job; 3]> {
     Ok([
-        Job::Assemble(AsmWords {
-            text: format!(in alloc; "{name}.bpf")?,
-            image: image_of(alloc, name)?,
-        }),
+        made,
         Job::Verify(VerifyWords {
             image: image_of(alloc, name)?,
             sizes: node.sizes,
@@ -55,16 +72,17 @@ fn jobs(alloc: Global, name: &str, node: &Node<'_>) -> Result<[Job; 3]> {
     ])
 }
 
-/// Does the jobs of one program, below a line with its name.
+/// Does the jobs of one image, which is made by the first, below a line with its name.
 fn show<R: rt::Files + Input + Wait, W: Write>(
     rt: &R,
     alloc: Global,
+    made: Job,
     name: &str,
     node: &Node<'_>,
     out: &mut W,
 ) -> Result<()> {
     writeln!(out, "== {name}")?;
-    for job in &jobs(alloc, name, node)? {
+    for job in &jobs(alloc, made, name, node)? {
         let status = perform(rt, alloc, job, &mut HostFiles { rt }, out).map_err(|_| anyhow!(
             "cannot write"
         ))?;
@@ -83,12 +101,21 @@ fn main(rt: HostRuntime) -> Result<()> {
         ports: 1,
     };
     for name in PROGRAMS {
-        show(&rt, rt.alloc(), name, &alone, &mut out)?;
+        let text = assembly(rt.alloc(), name)?;
+        show(&rt, rt.alloc(), text, name, &alone, &mut out)?;
     }
     let pair = Node {
         lines: "two_ports.txt",
         sizes: MapSizes::new(&[32])?,
         ports: 2,
     };
-    show(&rt, rt.alloc(), "quota", &pair, &mut out)
+    let text = assembly(rt.alloc(), "quota")?;
+    show(&rt, rt.alloc(), text, "quota", &pair, &mut out)?;
+    let counting = Node {
+        lines: "packets.txt",
+        sizes: MapSizes::new(&[1])?,
+        ports: 1,
+    };
+    let table = compilation(rt.alloc(), "instrument", &counting)?;
+    show(&rt, rt.alloc(), table, "instrument", &counting, &mut out)
 }

@@ -5,3 +5,4 @@ mod asking;
 mod checks;
 mod generated;
 mod generator;
+mod tables;

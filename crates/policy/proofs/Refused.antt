@@ -8,7 +8,7 @@ use Rattle.std.proofs.lemmas.List.Elements.{All-cons, All-nil}
 use Rattle.machine.specs.declared.calls.Call.{Call}
 use Rattle.machine.specs.Sizes.{IsInside, Maps}
 use Rattle.policy.specs.Codes.{ruling_code}
-use Rattle.policy.specs.Compiled.{HasCells, IsNotCompiled, compile_fault, has_cell, quota_fault, rule_fault, rules_fault}
+use Rattle.policy.specs.Compiled.{HasCells, IsCompileFault, compile_fault, has_cell, quota_fault, rule_fault, rules_fault}
 use Rattle.policy.specs.Meaning.{decision, draw, holds, ruled}
 use Rattle.policy.specs.declared.faults.PolicyFault.{PolicyFault}
 use Rattle.policy.specs.declared.faults.PolicyFault.TheVariants.{TooLong, BadRange, Memory, NoCell, BadLine}
@@ -47,14 +47,14 @@ rules_of_table sizes (rule ∷ rules) = first_of_table (rule_fault sizes rule) (
 of_table : (sizes : Maps) (rules : List Rule) → IsOfTable (compile_fault sizes rules)
 of_table sizes rules = either_fault (nat_lt 12 (length rules)) (Some TooLong) (rules_fault sizes rules) tt (rules_of_table sizes rules)
 
-told_of : (first : Option PolicyFault) (fault : PolicyFault) → IsOfTable (Some fault) → first ≡ Some fault → IsNotCompiled first fault
+told_of : (first : Option PolicyFault) (fault : PolicyFault) → IsOfTable (Some fault) → first ≡ Some fault → IsCompileFault first fault
 told_of first TooLong of_it is = is
 told_of first BadRange of_it is = is
 told_of first Memory of_it is = absurd of_it
 told_of first NoCell of_it is = is
 told_of first BadLine of_it is = absurd of_it
 
-pub is_told : (sizes : Maps) (rules : List Rule) (fault : PolicyFault) → compile_fault sizes rules ≡ Some fault → IsNotCompiled (compile_fault sizes rules) fault
+pub is_told : (sizes : Maps) (rules : List Rule) (fault : PolicyFault) → compile_fault sizes rules ≡ Some fault → IsCompileFault (compile_fault sizes rules) fault
 is_told sizes rules fault is = told_of (compile_fault sizes rules) fault (subst (λ (f : Option PolicyFault). IsOfTable f) is (of_table sizes rules)) is
 
 -- ---- rules one by one

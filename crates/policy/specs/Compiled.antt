@@ -38,12 +38,12 @@ abbrev pub compile_fault : Maps → List Rule → Option PolicyFault
 compile_fault sizes rules = if nat_lt 12 (length rules) then Some TooLong else rules_fault sizes rules
 
 -- why a table with this first fault is not compiled: that fault, or that memory was refused where there is none
-abbrev pub IsNotCompiled : (first : Option PolicyFault) → PolicyFault → Type 0
-IsNotCompiled first TooLong = first ≡ Some TooLong
-IsNotCompiled first BadRange = first ≡ Some BadRange
-IsNotCompiled first Memory = first ≡ None
-IsNotCompiled first NoCell = first ≡ Some NoCell
-IsNotCompiled first BadLine = ⊥
+abbrev pub IsCompileFault : (first : Option PolicyFault) → PolicyFault → Type 0
+IsCompileFault first TooLong = first ≡ Some TooLong
+IsCompileFault first BadRange = first ≡ Some BadRange
+IsCompileFault first Memory = first ≡ None
+IsCompileFault first NoCell = first ≡ Some NoCell
+IsCompileFault first BadLine = ⊥
 
 -- ---- meaning
 

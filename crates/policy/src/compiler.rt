@@ -1,7 +1,7 @@
 //! From a policy table to a program.
 
 ghost use Rattle.std.specs.Prelude.{◌≡◌, ◌≤◌, length, IfErr, IfOk};
-ghost use Rattle.policy.specs.Compiled.{IsCompiled, IsNotCompiled, compile_fault, quota_fault, rule_fault, rules_fault};
+ghost use Rattle.policy.specs.Compiled.{IsCompiled, IsCompileFault, compile_fault, quota_fault, rule_fault, rules_fault};
 ghost use Rattle.policy.specs.Meant.{CodeHasMeaning, IsMadeOf};
 ghost use Rattle.policy.specs.declared.faults.PolicyFault.TheVariants.{Memory};
 
@@ -100,7 +100,7 @@ fn image_of(alloc: Global, insns: &[Insn]) -> Result<Image, PolicyFault>
 /// and memory was refused.
 pub fn compile(alloc: Global, table: &Table, sizes: &MapSizes) -> Result<Image, PolicyFault>
     ensures compiled { IfOk result (IsCompiled sizes.now table.now) }
-    ensures fault { IfErr result (IsNotCompiled (compile_fault sizes.now table.now)) }
+    ensures fault { IfErr result (IsCompileFault (compile_fault sizes.now table.now)) }
 {
     code_has_meaning();
     let rules = table.rules();

@@ -200,7 +200,7 @@ fn main(rt: HostRuntime) -> Result<()> {
         &mut out,
     )?;
     compare(
-        &policies::of_reading(alloc, &fs::read_to_string(&rt, POLICIES)?)?,
+        &fs::read_to_string(&rt, POLICIES)?,
         "tables",
         |table, row| policies::agrees(alloc, table, row),
         &mut out,

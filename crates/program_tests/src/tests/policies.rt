@@ -1,8 +1,11 @@
 //! Lines of policy tables, and what tables say without being compiled.
 
 use crate::tests::checks::same;
-use machine::Call;
-use policy::{PolicyFault, Rule, Table, decisions, headers_have_fields, table_is_unambiguous};
+use bpf::Image;
+use machine::{Call, MapSizes};
+use policy::{
+    PolicyFault, Rule, Table, compile, decisions, headers_have_fields, table_is_unambiguous,
+};
 use std::alloc::{AllocError, Global};
 use std::process::Abort;
 use std::test::Fail;
@@ -154,5 +157,32 @@ fn read_again(rt: &impl Abort, alloc: Global, text: &str) -> Result<Table, Polic
 fn memory_is_refused_to_read_a_table(rt: HostRuntime) -> Result<(), Fail> {
     let table = read_again(&rt, rt.alloc(), FIVE)?;
     same(&rt, "the rules", table.rules().len(), 5);
+    Ok(())
+}
+
+/// The image of a table, made again where memory was refused.
+fn compile_again(
+    rt: &impl Abort,
+    alloc: Global,
+    table: &Table,
+    sizes: &MapSizes,
+) -> Result<Image, PolicyFault> {
+    match compile(alloc, table, sizes) {
+        Err(fault) => {
+            same(rt, "a refusal", fault, PolicyFault::Memory);
+            compile(alloc, table, sizes)
+        }
+        made => made,
+    }
+}
+
+/// Run with each allocation refused in turn: the answer is the image or `Memory`, and a refusal does not spoil the next
+/// try. Each rule has 6 slots, a kind 3 more, a field 2 and the quota 5, and before and behind the rules there are 16.
+#[test]
+fn memory_is_refused_to_compile_a_table(rt: HostRuntime) -> Result<(), Fail> {
+    let table = read_again(&rt, rt.alloc(), FIVE)?;
+    let image = compile_again(&rt, rt.alloc(), &table, &MapSizes::new(&[1])?)?;
+    same(&rt, "the slots", image.slots(), 66);
+    same(&rt, "the budget", image.budget(), 65);
     Ok(())
 }

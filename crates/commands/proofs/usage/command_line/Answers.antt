@@ -30,5 +30,7 @@ returns c =
     ∙ ap₂ with_subcommand with_asm (ap (λ (a : App). a.top) c.in_ok-dis.ensures.shape) in
     let with_verify = c.in_ok-subcommand-3.ensures.shape c.in_ok-verify.ensures.local
     ∙ ap₂ with_subcommand with_dis (ap (λ (a : App). a.top) c.in_ok-verify.ensures.shape) in
-    IfOk-weaker c.subcommand-4.result _ _ (λ m h. h.shape c.in_ok-judge.ensures.local
-    ∙ ap₂ with_subcommand with_verify (ap (λ (a : App). a.top) c.in_ok-judge.ensures.shape)) c.subcommand-4.ensures
+    let with_judge = c.in_ok-subcommand-4.ensures.shape c.in_ok-judge.ensures.local
+    ∙ ap₂ with_subcommand with_verify (ap (λ (a : App). a.top) c.in_ok-judge.ensures.shape) in
+    IfOk-weaker c.subcommand-5.result _ _ (λ m h. h.shape c.in_ok-policy.ensures.local
+    ∙ ap₂ with_subcommand with_judge (ap (λ (a : App). a.top) c.in_ok-policy.ensures.shape)) c.subcommand-5.ensures
