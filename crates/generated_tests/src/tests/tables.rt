@@ -34,14 +34,7 @@ const INSTRUCTIONS: [u8; 9] = [0x4c, 0x48, 0x6c, 0x68, 0x5c, 0x7d, 0x58, 0x0c, 0
 const BYTES: [u8; 3] = [0x00, 0x20, 0xff];
 
 /// First addresses of headers and ends of ranges, of which some are the last of 31 and of 32 bits.
-const ADDRESSES: [u32; 6] = [
-    0,
-    0x10,
-    0x7fff_ffff,
-    0x8000_0000,
-    0xa000_0000,
-    0xffff_ffff,
-];
+const ADDRESSES: [u32; 6] = [0, 0x10, 0x7fff_ffff, 0x8000_0000, 0xa000_0000, 0xffff_ffff];
 
 /// How many bytes headers name.
 const LENGTHS: [u8; 4] = [0, 1, 2, 17];
@@ -140,7 +133,12 @@ fn draws(rt: &impl Abort, alloc: Global, random: &mut Random, seed: u64) -> Resu
     let image = compile(alloc, &table, &sizes)?;
     let refused = verify(alloc, cheaper(alloc, &image)?, &sizes).err();
     let told = refused.map(|refused| (refused.number(), refused.slot));
-    same(rt, "a budget that is too small", (seed, told), (seed, Some((15, 0))));
+    same(
+        rt,
+        "a budget that is too small",
+        (seed, told),
+        (seed, Some((15, 0))),
+    );
     let accepted = verify(alloc, image, &sizes)?;
     let mut drawn: u64 = 0;
     for _header in 0..HEADERS {
@@ -151,7 +149,9 @@ fn draws(rt: &impl Abort, alloc: Global, random: &mut Random, seed: u64) -> Resu
             let mut asked = String::new(alloc);
             let mut stack = [0xa5; 512];
             let port = random.below(32) as u8;
-            let found = turns_on(&accepted, &front, &tail, port, &mut stack, answers, &mut asked)?;
+            let found = turns_on(
+                &accepted, &front, &tail, port, &mut stack, answers, &mut asked,
+            )?;
             same(rt, "a verdict", (seed, found), (seed, Some(verdict)));
             let wanted = questions(alloc, &calls)?;
             same(rt, "the draws", asked.as_str(), wanted.as_str());
