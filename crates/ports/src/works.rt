@@ -33,8 +33,8 @@ fn send<S: Sink>(sink: &mut S, port: u8, reply: &[u8]) -> u64
     }
 }
 
-/// Serves one packet: deals with it, and hands the reply that is due to the sink. What a report of this packet alone
-/// is. The condition is a pass with a share of each bank of the node.
+/// Serves one packet: deals with it, and hands the reply that is due to the sink. The report of this packet alone.
+/// `reply` is where the reply is written. The condition is a pass with a share of each bank of the node.
 fn one_more<R: Wait, J: Room, Q: Wait + Drop, S: Sink>(
     rt: &R,
     alloc: Global,
@@ -42,14 +42,14 @@ fn one_more<R: Wait, J: Room, Q: Wait + Drop, S: Sink>(
     pass: &mut Pass<J>,
     sink: &mut S,
     packet: Packet,
+    reply: &mut ReplyBuf,
 ) -> Report
     requires { length pass.old.shares ≡ node.now }
     ensures served { HasServed S.sent S.failed pass.old pass.new sink.old sink.new
         (packet ∷ []) result }
     ensures banks { length pass.new.shares ≡ length pass.old.shares }
 {
-    let mut reply = ReplyBuf::new();
-    let discarded = u64::from(deal(rt, alloc, node, pass, packet, &mut reply));
+    let discarded = u64::from(deal(rt, alloc, node, pass, packet, reply));
     let lost = send(sink, pass.port(), reply.bytes());
     Report { discarded, lost }
 }
@@ -78,6 +78,7 @@ pub fn work<R: Wait, J: Room, Q: Wait + Drop, S: Sink + Drop, G: Gate>(
         discarded: 0,
         lost: 0,
     };
+    let mut reply = ReplyBuf::new();
     let mut number: u64 = 0;
     for _ in rt.forever() {
         let Item::Data(packet) = port.take(rt, &mut worker.serve_pass) else {
@@ -85,7 +86,8 @@ pub fn work<R: Wait, J: Room, Q: Wait + Drop, S: Sink + Drop, G: Gate>(
         };
         let at = worker.pass.port();
         gate.before(at, number);
-        let one = one_more(rt, alloc, node, &mut worker.pass, &mut worker.sink, packet);
+        let Worker { pass, sink, .. } = worker;
+        let one = one_more(rt, alloc, node, pass, sink, packet, &mut reply);
         report = report.plus(one);
         gate.after(at, number);
         number = number.wrapping_add(1);

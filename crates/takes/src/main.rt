@@ -1,12 +1,15 @@
-//! `takes`: how often a second programs are taken and published, and packets served through a pass. Without an
-//! argument it does few rounds and prints what was done; with a number of rounds it prints the rates too.
+//! `takes`: how often a second programs are taken and published, packets are served through a pass, and put into the
+//! queue of a port and taken from it. Without an argument it does few rounds and prints what was done; with a number
+//! of rounds it prints the rates too.
 #![tactic(auto)]
 
 mod packets;
+mod queues;
 
 ghost use Rattle.std.specs.Prelude.{◌≡◌, IfSome};
 
 use crate::packets::Port;
+use crate::queues::put_and_take;
 use anyhow::{Context, Result};
 use bpf::Image;
 use bver::{Accepted, MapSizes, verify};
@@ -170,6 +173,23 @@ fn measure_packets<J: Room, R: Wait + Clock + Print>(
     )
 }
 
+/// Puts packets into a port's queue and takes them, in turn.
+fn measure_queue<R: Wait + Clock + Print>(
+    rt: &R,
+    alloc: Global,
+    rounds: Option<u32>,
+) -> Result<()> {
+    let start = Instant::now(rt)?;
+    let done = put_and_take(rt, alloc, rounds.unwrap_or(FEW))?;
+    print(
+        rt,
+        "packets through a queue",
+        done,
+        &start,
+        rounds.is_some(),
+    )
+}
+
 /// The rounds that the command line asks for, if any.
 fn rounds_given<R: Env + AllocGlobal>(rt: &R) -> Result<Option<u32>> {
     match env::args(rt)?.nth(1) {
@@ -181,5 +201,6 @@ fn rounds_given<R: Env + AllocGlobal>(rt: &R) -> Result<Option<u32>> {
 fn main(rt: HostRuntime) -> Result<()> {
     let rounds = rounds_given(&rt)?;
     measure::<Brand, _>(&rt, rt.alloc(), Opened::new(), rounds)?;
-    measure_packets::<Brand, _>(&rt, rt.alloc(), Opened::new(), rounds)
+    measure_packets::<Brand, _>(&rt, rt.alloc(), Opened::new(), rounds)?;
+    measure_queue(&rt, rt.alloc(), rounds)
 }

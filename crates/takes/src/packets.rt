@@ -12,7 +12,7 @@ use std::sync::Wait;
 use target::{BankConfig, Banks, NodeConfig, Pass, Served, banks_and_passes, serve_packet};
 
 /// A read of the load result, which leaves no entry in a journal.
-const READ: [u8; 16] = [
+pub(crate) const READ: [u8; 16] = [
     0xFE, 0x01, 0x4C, 0x00, 0x67, 0x00, 0x06, 0xFF, 0x00, 0x01, 0x00, 0x00, 0x00, 0x00, 0x08, 0xA6,
 ];
 
