@@ -1,9 +1,9 @@
 -- What became of one packet, by how far it came.
-use Rattle.std.proofs.Common.{◌≡◌, ◌⊎◌, ℕ, ◌<◌, Bool, true, false, ◌&&◌, List, [], length, Some, sym, refl, ap, ◌∙◌, subst, inl, inr, arith}
+use Rattle.std.proofs.Common.{◌≡◌, ◌⊎◌, ℕ, ◌<◌, Bool, true, false, ◌&&◌, List, [], length, sym, refl, subst, inl, inr, arith}
 use Rattle.spw.specs.Cargo.{Cargo}
 use Rattle.rmap.specs.declared.discard.Discard.{Discard}
 use Rattle.rmap.specs.declared.places.Place.{Place}
-use Rattle.rmap.specs.declared.places.Place.TheVariants.{Bank, Staging, LoadResult, Control}
+use Rattle.rmap.specs.declared.places.Place.TheVariants.{Bank, Control}
 use Rattle.rmap.specs.declared.status.Status.{Status}
 use Rattle.rmap.specs.Command.{command_of}
 use Rattle.bank.specs.Records.{JudgedValue, fits, has_room}

@@ -1,15 +1,12 @@
 -- What was done with some packets and then with others was done with all of them.
-use Rattle.std.proofs.Common.{◌≡◌, ℕ, zero, suc, ◌+◌, ◌≤◌, min, Bool, true, false, cond, List, [], ◌∷◌, ◌++◌, length, sym, refl, ap, ◌∙◌, subst, append_assoc, length-append, arith, inl, inr}
+use Rattle.std.proofs.Common.{◌≡◌, ℕ, suc, ◌+◌, List, [], ◌∷◌, ◌++◌, length, sym, ap, ◌∙◌, subst, append_assoc, length-append, arith, inl, inr}
 use Rattle.std.specs.Prelude.{map, filter}
 use mathlib.Core.List.{map-append}
-use Rattle.std.proofs.lemmas.List.{append-nil}
 use Rattle.std.proofs.lemmas.List.Elements.{filter-append}
 use Rattle.spw.specs.Cargo.{Cargo}
 use Rattle.target.specs.Passes.{PassValue}
-use Rattle.ports.specs.declared.item.Item.{Item}
-use Rattle.ports.specs.declared.item.Item.TheVariants.{Data}
 use Rattle.ports.specs.declared.worker.Report.{Report}
-use Rattle.ports.specs.Due.{Deed, Worked, IsDealt, due, due_of, discarded, reply_in, is_reply, is_dropped}
+use Rattle.ports.specs.Due.{Deed, Worked, due, due_of, discarded, reply_in, is_reply, is_dropped}
 use Rattle.ports.specs.Sinks.{cut}
 use Rattle.ports.specs.Worked.{IsThinned, HasTaken, HasServed, report_sum}
 

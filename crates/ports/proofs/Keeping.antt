@@ -1,21 +1,19 @@
 -- What a packet leaves of a port.
-use Rattle.std.proofs.Common.{◌≡◌, ◌⊎◌, ℕ, ◌+◌, ◌<◌, Bool, true, false, cond, ◌&&◌, List, [], ◌∷◌, ◌++◌, length, get_or, set, Option, Some, None, sym, refl, ap, ◌∙◌, subst, append_assoc, arith, inl, inr}
-use Rattle.std.proofs.lemmas.List.{append-nil, length-set, get_or-set_same, get_or-set_other}
+use Rattle.std.proofs.Common.{◌≡◌, ◌⊎◌, ℕ, List, [], ◌++◌, length, Option, Some, None, sym, refl, ap, ◌∙◌, subst, append_assoc, inl, inr}
+use Rattle.std.proofs.lemmas.List.{append-nil, length-set}
 use Rattle.std.proofs.lemmas.Bool.{cases_Bool}
 use mathlib.Core.List.{IsPrefix}
-use Rattle.spw.specs.Cargo.{Cargo}
 use Rattle.rmap.specs.declared.places.Place.{Place}
 use Rattle.rmap.specs.declared.places.Place.TheVariants.{Bank, Staging, LoadResult, Control}
 use Rattle.rmap.specs.declared.status.Status.{Status}
 use Rattle.bank.specs.declared.bank.Applied.{Applied}
-use Rattle.bank.specs.Records.{BankValue, ShareValue, JudgedValue, fits, has_room, next_share, first_share}
+use Rattle.bank.specs.Records.{BankValue, ShareValue, JudgedValue, fits, next_share}
 use Rattle.publish.specs.declared.history.Publish.{Publish}
-use Rattle.target.specs.Passes.{PassValue, SeatValue}
+use Rattle.target.specs.Passes.{PassValue}
 use Rattle.target.specs.Applied.{share_of, with_share, IsFinished}
 use Rattle.target.specs.Loaded.{EndsAs, IsLoadEnd}
 use Rattle.target.specs.Served.{EndsAtWindow, IsStagedAt}
-use Rattle.ports.specs.Due.{Judging, Deed, IsBanked, IsWindowed, IsJudged, IsDealt}
-use Rattle.ports.specs.Due.Deed.{Dropped, Answered, Judged}
+use Rattle.ports.specs.Due.{Judging, IsBanked, IsWindowed}
 
 pub prefix_same : {A : Type 0} (xs ys : List A) → ys ≡ xs → IsPrefix xs ys
 prefix_same xs ys same = ([], append-nil xs ∙ sym same)

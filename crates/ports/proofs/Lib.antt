@@ -6,3 +6,6 @@ mod Keeping
 mod Following
 mod Serving
 mod Dealing
+mod Reports
+mod Starting
+mod Served

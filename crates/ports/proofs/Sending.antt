@@ -1,7 +1,7 @@
 -- A reply that is handed to the sink.
-use Rattle.std.proofs.Common.{◌≡◌, ℕ, suc, ◌+◌, Bool, true, false, eqb, List, [], ◌∷◌, ◌++◌, length, sym, refl, ap, ◌∙◌, arith, inl, inr}
+use Rattle.std.proofs.Common.{◌≡◌, ℕ, false, eqb, List, [], ◌∷◌, length, sym, refl, ◌∙◌, arith, inr}
 use Rattle.std.proofs.lemmas.List.{append-nil}
-use Rattle.ports.specs.Sinks.{cut, IsUnsent}
+use Rattle.ports.specs.Sinks.{IsUnsent}
 use Rattle.ports.specs.Worked.{HasTaken}
 use Rattle.ports.specs.Due.{due_of}
 

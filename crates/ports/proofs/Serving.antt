@@ -1,16 +1,15 @@
 -- What a worker has done so far, and one packet more.
-use Rattle.std.proofs.Common.{◌≡◌, ℕ, ◌+◌, ◌<◌, Bool, List, [], ◌∷◌, ◌++◌, length, sym, refl, ap, ◌∙◌, subst, append_assoc, arith}
-use Rattle.std.specs.Prelude.{map, filter}
+use Rattle.std.proofs.Common.{◌≡◌, ℕ, ◌<◌, Bool, List, [], ◌∷◌, ◌++◌, sym, refl, ap, ◌∙◌, subst, append_assoc, arith}
+use Rattle.std.specs.Prelude.{map}
 use mathlib.Core.List.{map-append}
 use mir.Val.{bool_byte}
 use Rattle.std.proofs.lemmas.List.{append-nil}
 use Rattle.spw.specs.Cargo.{Cargo}
 use Rattle.target.specs.Passes.{PassValue}
-use Rattle.ports.specs.declared.item.Item.{Item}
 use Rattle.ports.specs.declared.item.Item.TheVariants.{Data}
 use Rattle.ports.specs.declared.worker.Report.{Report}
 use Rattle.ports.specs.declared.worker.Worker.{Worker}
-use Rattle.ports.specs.Due.{Deed, HasDealt, due_of, reply_in, is_dropped, discarded}
+use Rattle.ports.specs.Due.{Deed, HasDealt, due_of, is_dropped, discarded}
 use Rattle.ports.specs.Due.Deed.{Dropped, Answered, Judged}
 use Rattle.ports.specs.Queue.{taken_of}
 use Rattle.ports.specs.Sinks.{cut}

@@ -1,6 +1,7 @@
 //! The ports of a target, as threads serve them: a [`Port`] is a queue that one producer fills ([`Port::put`], and at
 //! the end [`Port::close`]), and a [`Worker`] takes from it in order, judges each packet, and hands the replies that
-//! are due to its [`Sink`] ([`work`]). What is taken is a beginning of what was put, in order, each once.
+//! are due to its [`Sink`] ([`work`]). [`serve`] has all ports served, each in a thread of its own. What is taken is a
+//! beginning of what was put, in order, each once.
 #![tactic(auto)]
 
 mod deal;
@@ -8,7 +9,9 @@ mod gate;
 mod item;
 mod laws;
 mod port;
+mod serves;
 mod sink;
+mod starts;
 mod worker;
 mod works;
 
@@ -16,6 +19,7 @@ pub use gate::{Gate, NoGate};
 pub use item::{Item, Log};
 pub use laws::{workers_ask_once, workers_programs_were_published, workers_shares_count};
 pub use port::{Full, MAX_CAPACITY, Port, PutPass, ServePass};
+pub use serves::{ServeFault, serve};
 pub use sink::{Replies, Sink, SinkFault};
 pub use worker::{Report, Worker};
 pub use works::work;

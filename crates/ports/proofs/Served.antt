@@ -1,0 +1,85 @@
+-- Workers that came back from their threads.
+use Rattle.std.proofs.Common.{◌≡◌, ◌+◌, ◌-◌, ◌<◌, ℕ, List, ◌++◌, Option, None, Some, sym, ap, ◌∙◌, subst, ⊎_elim, arith}
+use Rattle.std.specs.Prelude.{map, length, slice_index_or}
+use Rattle.std.proofs.lemmas.Bool.{cases_lt}
+use Rattle.std.proofs.lemmas.List.{get_or-map, get_or_append_left, get_or-append-add, length-append, length-map}
+use Rattle.ports.specs.Queue.{IsServePassOf, IsServePassAfter}
+use Rattle.ports.specs.declared.port.Port.{Port}
+use Rattle.ports.specs.declared.port.ServePass.{ServePass}
+use Rattle.ports.specs.declared.starts.Ended.{Ended}
+use Rattle.ports.specs.declared.worker.Worker.{Worker}
+use Rattle.ports.specs.declared.worker.Report.{Report}
+use Rattle.ports.specs.Serves.{IsWorkerOf, AreLast, AreServed, HasReturned, IsBack, IsTotalOf, HaveServed}
+
+-- A pass that is the port's is so later.
+same_port : (port : Port) (old new : ServePass) → IsServePassOf port old → IsServePassAfter old new → IsServePassOf port new
+same_port port old new of after = ((after.0.0 ∙ of.0.0, after.0.2 ∙ of.0.1), after.1)
+
+module _ {J S : Type 0} (sent : S → List (List ℕ)) (failed : S → ℕ) (banks : ℕ) where
+  -- A worker that comes back can serve its port again.
+  still : (port : Port) (old new : Worker J S) (report : Option Report) → IsWorkerOf banks port old → IsBack sent failed old new report → IsWorkerOf banks port new
+  still port old new None of back = subst (IsWorkerOf banks port) (sym back) of
+  still port old new (Some report) of back = record {
+    pass = same_port port old.serve_pass new.serve_pass of.pass back.pass;
+    shares = back.shares ∙ of.shares;
+  }
+
+  module _ (ports : List Port) (old : List (Worker J S)) (ended : List (Ended J S)) (rest : List (Worker J S)) where
+    -- the workers that the threads gave back
+    abbrev pub returned : List (Worker J S)
+    returned = map (λ (e : Ended J S). e.worker) ended
+
+    -- each thread gave its worker back
+    abbrev pub AreBack : Type 0
+    AreBack = (k : ℕ) (end : Ended J S) (worker : Worker J S) → k < length ended → IsBack sent failed (slice_index_or old k worker) (slice_index_or ended k end).worker (slice_index_or ended k end).report
+
+    -- Where none is missing, the workers can serve their ports again: first those of the threads, then the rest.
+    pub can_serve : AreServed banks (length old) ports old → AreBack → AreLast rest old → length (returned ++ rest) ≡ length old → AreServed banks (length old) ports (returned ++ rest)
+    can_serve were each (front, old_is) long = record {
+      len = were.len;
+      each = λ k port worker below.
+          let Of : Worker J S → Type 0 = IsWorkerOf banks (slice_index_or ports k port) in
+          let here : Of (slice_index_or old k worker) = were.each k port worker below in
+          let end : Ended J S = record { worker = worker; report = None } in
+          let first : length returned ≡ length ended = length-map ended (λ (e : Ended J S). e.worker) in
+          ⊎_elim
+          (λ (low : k < length ended).
+          subst Of (sym (get_or_append_left returned rest worker k (subst (λ n. k < n) (sym first) low) ∙ get_or-map (λ (e : Ended J S). e.worker) ended k end worker low))
+          (still (slice_index_or ports k port) (slice_index_or old k worker) (slice_index_or ended k end).worker (slice_index_or ended k end).report here (each k end worker low)))
+          (λ high.
+          let i = k - length returned in
+          let place : length returned + i ≡ k = omega (arith, first, high) in
+          let before : length front ≡ length returned = omega (arith, long, length-append returned rest, length-append front rest, ap length old_is) in
+          subst Of
+          (ap (λ l. slice_index_or l k worker) old_is ∙ ap (λ n. slice_index_or (front ++ rest) n worker) (sym place ∙ ap (λ n. n + i) (sym before)) ∙ get_or-append-add front rest i worker
+          ∙ sym (get_or-append-add returned rest i worker) ∙ ap (λ n. slice_index_or (returned ++ rest) n worker) place)
+          here)
+          (cases_lt k (length ended));
+    }
+
+    -- Where each has a report, each served its port.
+    pub have_served : AreServed banks (length old) ports old → AreBack → length ended ≡ length old → (total : Report) → IsTotalOf (map (λ (e : Ended J S). e.report) ended) total
+        → HaveServed sent failed banks ports old returned total
+    have_served were each long total told =
+        let reports = told.reports in
+        let many : length reports ≡ length old = sym (length-map reports Some) ∙ ap length (sym told.all) ∙ length-map ended (λ (e : Ended J S). e.report) ∙ long in
+        let here : (k : ℕ) (w : Worker J S) (r : Report) → k < length old → HasReturned sent failed (slice_index_or old k w) (slice_index_or returned k w) (slice_index_or reports k r)
+        = λ k w r below. let end : Ended J S = record { worker = w; report = Some r } in
+        let low : k < length ended = subst (λ n. k < n) (sym long) below in
+        let report : (slice_index_or ended k end).report ≡ Some (slice_index_or reports k r)
+        = sym (get_or-map (λ (x : Ended J S). x.report) ended k end (Some r) low) ∙ ap (λ l. slice_index_or l k (Some r)) told.all
+        ∙ get_or-map Some reports k r (Some r) (subst (λ n. k < n) (sym many) below) in
+        subst (λ x. HasReturned sent failed (slice_index_or old k w) x (slice_index_or reports k r)) (sym (get_or-map (λ (x : Ended J S). x.worker) ended k end w low))
+        (subst (IsBack sent failed (slice_index_or old k w) (slice_index_or ended k end).worker) report (each k end w low)) in
+        record {
+          reports = reports;
+          told = many;
+          len = length-map ended (λ (e : Ended J S). e.worker) ∙ long;
+          each = λ k w r below. (here k w r below).worked;
+          served = record {
+            len = were.len;
+            each = λ k p w below. still (slice_index_or ports k p) (slice_index_or old k w) (slice_index_or returned k w) (Some (slice_index_or reports k total))
+                (were.each k p w below) (here k w total below);
+          };
+          sum = told.added;
+        }

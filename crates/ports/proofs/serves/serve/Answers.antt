@@ -1,0 +1,44 @@
+use Rattle.std.proofs.Common.{◌≡◌, ◌<◌, ◌++◌, ◌∙◌, ap, sym, subst}
+use Rattle.std.specs.Prelude.{length, map, slice_index_or, vec_len, IfSome}
+use Rattle.ports.specs.Serves.{AreServed, HaveServed, IsBack, IsTotalOf}
+use Rattle.ports.proofs.Served.{AreBack, can_serve, have_served}
+use Rattle.ports.proofs.serves.serve.Goals as goal
+
+-- The thread that was joined has the promise of the worker at its place.
+pub returns-in-Some-clause-served : goal.returns-in-Some-clause-served
+returns-in-Some-clause-served g c =
+    let sent = g.S.Sink.sent in let failed = g.S.Sink.failed in let banks = c.args.node.now in let ports = c.args.ports.now in
+    let old = c.args.workers.items in let ended = c.join_each.result.items in let started = c.start_each-started in
+    let served : AreServed banks (length old) ports old
+    = subst (λ n. AreServed banks n ports old) c.args.workers.ok.0 (record { len = c.requires.len; each = c.requires.each }) in
+    let back : AreBack sent failed banks ports old ended started.result.rest.items
+    = λ k end worker below.
+    let low : k < vec_len started.result.threads = subst (λ n. k < n) (sym c.join_each.result.ok.0 ∙ c.join_each.ensures.len) below in
+    let kept = (c.join_each.ensures.each k end low).1 in
+    subst (λ w. IsBack sent failed w (slice_index_or ended k end).worker (slice_index_or ended k end).report)
+    (ap (λ h. h.promise.0.value) kept.handle_is ∙ started.ensures.each k kept.handle worker low) kept.kept in
+    let told : IsTotalOf (map (λ e. e.report) ended) c.in-Some.report
+    = subst (λ o. IfSome o (IsTotalOf (map (λ e. e.report) ended))) c.in-Some.is c.gather-workers.ensures.total in
+    let long : length ended ≡ length old
+    = sym c.join_each.result.ok.0 ∙ c.join_each.ensures.len ∙ started.ensures.len c.if-started.true ∙ c.args.workers.ok.0 in
+    subst (λ new. HaveServed sent failed banks ports old new c.in-Some.report) (sym c.gather-workers.ensures.workers)
+    (have_served sent failed banks ports old ended started.result.rest.items served back long c.in-Some.report told)
+
+pub returns-in-Some-clause-back : goal.returns-in-Some-clause-back
+returns-in-Some-clause-back g c = λ _. (returns-in-Some-clause-served g c).served
+
+pub returns-clause-back : goal.returns-clause-back
+returns-clause-back g c =
+    let sent = g.S.Sink.sent in let failed = g.S.Sink.failed in let banks = c.args.node.now in let ports = c.args.ports.now in
+    let old = c.args.workers.items in let ended = c.join_each.result.items in let started = c.start_each-started in
+    let served : AreServed banks (length old) ports old
+    = subst (λ n. AreServed banks n ports old) c.args.workers.ok.0 (record { len = c.requires.len; each = c.requires.each }) in
+    let back : AreBack sent failed banks ports old ended started.result.rest.items
+    = λ k end worker below.
+    let low : k < vec_len started.result.threads = subst (λ n. k < n) (sym c.join_each.result.ok.0 ∙ c.join_each.ensures.len) below in
+    let kept = (c.join_each.ensures.each k end low).1 in
+    subst (λ w. IsBack sent failed w (slice_index_or ended k end).worker (slice_index_or ended k end).report)
+    (ap (λ h. h.promise.0.value) kept.handle_is ∙ started.ensures.each k kept.handle worker low) kept.kept in
+    let is = c.with_rest.ensures ∙ ap (λ l. l ++ started.result.rest.items) c.gather-workers.ensures.workers in
+    λ long. subst (AreServed banks (length old) ports) (sym is)
+    (can_serve sent failed banks ports old ended started.result.rest.items served back started.ensures.rest (sym (ap length is) ∙ long))

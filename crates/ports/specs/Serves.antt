@@ -1,0 +1,65 @@
+-- Workers that serve ports side by side: worker k serves port k.
+use Rattle.std.specs.Prelude.{◌≡◌, ◌<◌, ℕ, List, ◌++◌, length, map, slice_index_or, Option, Some, MatchOption}
+use Rattle.std.specs.List.{sum_by}
+use Rattle.ports.specs.Queue.{IsServePassOf, IsServePassAfter}
+use Rattle.ports.specs.Sinks.{cut}
+use Rattle.ports.specs.Worked.{report_sum, IsWorked}
+use Rattle.ports.specs.declared.port.Port.{Port}
+use Rattle.ports.specs.declared.worker.Worker.{Worker}
+use Rattle.ports.specs.declared.worker.Report.{Report}
+
+-- the worker is that of the port, at a node of so many banks: it takes from the port's queue and has a share of each bank
+pub record IsWorkerOf {J S : Type 0} (banks : ℕ) (port : Port) (worker : Worker J S) : Type 0 where
+  pub pass : IsServePassOf port worker.serve_pass
+  pub shares : length worker.pass.shares ≡ banks
+
+-- there are so many ports, and below that number each worker is that of the port at its place
+pub record AreServed {J S : Type 0} (banks n : ℕ) (ports : List Port) (workers : List (Worker J S)) : Type 0 where
+  pub len : length ports ≡ n
+  pub each : (k : ℕ) (port : Port) (worker : Worker J S) → k < n → IsWorkerOf banks (slice_index_or ports k port) (slice_index_or workers k worker)
+
+-- the worker served its port until the end mark, with that report, and can serve it again
+pub record HasReturned {J S : Type 0} (sent : S → List (List ℕ)) (failed : S → ℕ) (old new : Worker J S) (report : Report) : Type 0 where
+  pub worked : IsWorked sent failed old new report
+  pub pass : IsServePassAfter old.serve_pass new.serve_pass
+  pub shares : length new.pass.shares ≡ length old.pass.shares
+
+-- what a thread gives back of its worker: the worker as it went in, or with a report, where it served its port
+abbrev pub IsBack : {J S : Type 0} → (S → List (List ℕ)) → (S → ℕ) → Worker J S → Worker J S → Option Report → Type 0
+IsBack sent failed old new report = MatchOption report (new ≡ old) (HasReturned sent failed old new)
+
+-- the sum of reports
+abbrev pub total_of : List Report → Report
+total_of reports = record { discarded = cut (sum_by (λ (r : Report). r.discarded) reports); lost = cut (sum_by (λ (r : Report). r.lost) reports) }
+
+-- the sum of two reports that are there
+pub record IsSumOf (a b : Option Report) (sum : Report) : Type 0 where
+  pub first : Report
+  pub second : Report
+  pub a_is : a ≡ Some first
+  pub b_is : b ≡ Some second
+  pub added : sum ≡ report_sum first second
+
+-- each report is there, and that is their sum
+pub record IsTotalOf (told : List (Option Report)) (total : Report) : Type 0 where
+  pub reports : List Report
+  pub all : told ≡ map Some reports
+  pub added : total ≡ total_of reports
+
+-- each worker served its port until the end mark and stands at its place again; that report is the sum of theirs
+pub record HaveServed {J S : Type 0} (sent : S → List (List ℕ)) (failed : S → ℕ) (banks : ℕ) (ports : List Port) (old new : List (Worker J S)) (total : Report) : Type 0 where
+  pub reports : List Report
+  pub told : length reports ≡ length old
+  pub len : length new ≡ length old
+  pub each : (k : ℕ) (worker : Worker J S) (report : Report) → k < length old
+      → IsWorked sent failed (slice_index_or old k worker) (slice_index_or new k worker) (slice_index_or reports k report)
+  pub served : AreServed banks (length old) ports new
+  pub sum : total ≡ total_of reports
+
+-- what each of the first n of these is of stands at its place in the second list
+abbrev pub AreOf : {A B : Type 0} → ℕ → (A → B) → List A → List B → Type 0
+AreOf {A} {B} n of these those = (k : ℕ) (a : A) (b : B) → k < n → of (slice_index_or these k a) ≡ slice_index_or those k b
+
+-- the second list ends with the first
+abbrev pub AreLast : {X : Type 0} → List X → List X → Type 0
+AreLast {X} last all = (front : List X) × (all ≡ front ++ last)

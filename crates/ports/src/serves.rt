@@ -1,0 +1,147 @@
+//! All ports of a node at once, each in a thread of its own.
+
+ghost use Rattle.std.specs.Prelude.{◌≡◌, ◌+◌, ◌≤◌, ◌++◌, IfOk, IfSome, length, map, vec_len, vec_capacity};
+ghost use Rattle.std.specs.PromisedHandle.{KeepsEach};
+ghost use Rattle.ports.specs.Serves.{AreServed, HaveServed, IsSumOf, IsTotalOf};
+
+use crate::gate::Gate;
+use crate::port::Port;
+use crate::sink::Sink;
+use crate::starts::{Ended, start_each};
+use crate::worker::{Report, Worker};
+use publish::Room;
+use std::alloc::Global;
+use std::sync::{Mutex, Wait};
+use std::thread::{Promise, PromisedHandle, Threads};
+use target::Node;
+use thiserror::Error;
+
+/// Why ports were not served.
+#[derive(Clone, Copy, Debug, PartialEq, Eq, Error)]
+pub enum ServeFault {
+    /// A worker could not be started: memory was refused, or a thread.
+    #[error("no memory")]
+    Memory,
+}
+
+impl ServeFault {
+    /// The number of the fault: 1.
+    pub fn code(self) -> u8
+        ensures { result ≡ 1 }
+    {
+        match self {
+            ServeFault::Memory => 1,
+        }
+    }
+}
+
+/// Joins each thread, in order, into a list that has the room.
+fn join_each<R: Threads, T: Drop, P: Promise<T>>(
+    rt: &R,
+    threads: Vec<PromisedHandle<T, P>>,
+    mut all: Vec<T>,
+) -> Vec<T>
+    requires none { vec_len all ≡ 0 }
+    requires room { vec_len threads ≤ vec_capacity all }
+    ensures len { vec_len result ≡ vec_len threads }
+    ensures each { KeepsEach P.Promise (vec_len threads) threads.items result.items }
+{
+    for thread in threads {
+        let Ok(()) = all.push(thread.join(rt)) else {
+            unreachable!()
+        };
+    }
+    all
+}
+
+/// The sum of two reports, where both are there.
+fn both(total: Option<Report>, report: Option<Report>) -> Option<Report>
+    ensures { IfSome result (IsSumOf total report) }
+{
+    Some(total?.plus(report?))
+}
+
+/// The workers that came back, in order, in a list that has the room, and the sum of their reports where each served.
+fn gather<J: Room, S: Sink + Drop>(
+    ended: Vec<Ended<J, S>>,
+    mut workers: Vec<Worker<J, S>>,
+) -> (Vec<Worker<J, S>>, Option<Report>)
+    requires none { vec_len workers ≡ 0 }
+    requires room { vec_len ended ≤ vec_capacity workers }
+    ensures workers { result.0.items ≡ map (λ e. e.worker) ended.items }
+    ensures total { IfSome result.1 (IsTotalOf (map (λ e. e.report) ended.items)) }
+    ensures space { vec_capacity workers ≤ vec_capacity result.0 }
+{
+    let mut total = Some(Report {
+        discarded: 0,
+        lost: 0,
+    });
+    for one in ended {
+        total = both(total, one.report);
+        let Ok(()) = workers.push(one.worker) else {
+            unreachable!()
+        };
+    }
+    (workers, total)
+}
+
+/// The workers, and behind them the rest, for which there is room.
+fn with_rest<T: Drop>(mut workers: Vec<T>, rest: Vec<T>) -> Vec<T>
+    requires room { vec_len workers + vec_len rest ≤ vec_capacity workers }
+    ensures { result.items ≡ workers.items ++ rest.items }
+{
+    for worker in rest {
+        let Ok(()) = workers.push(worker) else {
+            unreachable!()
+        };
+    }
+    workers
+}
+
+/// Serves each port by the worker at its place, each in a thread of its own, until every worker has taken its port's
+/// end mark. No worker takes a packet before all threads were started. It waits for the threads. The conditions are
+/// one worker a port, in order, with the port's serve pass, and passes that have as many banks as the node.
+///
+/// What comes back are the workers, in order, and the sum of their reports.
+///
+/// # Errors
+///
+/// [`ServeFault::Memory`]: memory was refused, or a thread could not be made. No packet was taken, and each worker
+/// that comes back is as it went in; the worker whose thread could not be made is missing.
+pub fn serve<
+    R: Threads + Wait + Sync,
+    J: Room + Send + 'static,
+    Q: Wait + Drop + Send,
+    S: Sink + Drop + Send + 'static,
+    G: Gate + Sync,
+>(
+    rt: &R,
+    alloc: Global,
+    node: &Node<J, Q>,
+    ports: &[Port],
+    workers: Vec<Worker<J, S>>,
+    gate: &G,
+) -> (Vec<Worker<J, S>>, Result<Report, ServeFault>)
+    requires { AreServed node.now (vec_len workers) ports.now workers.items }
+    ensures served { IfOk result.1
+        (HaveServed S.sent S.failed node.now ports.now workers.items result.0.items) }
+    ensures back { length result.0.items ≡ length workers.items
+        → AreServed node.now (length workers.items) ports.now result.0.items }
+{
+    let count = workers.len();
+    let (Ok(threads), Ok(rest), Ok(ended), Ok(back)) = (
+        Vec::with_capacity(alloc, count),
+        Vec::with_capacity(alloc, count),
+        Vec::with_capacity(alloc, count),
+        Vec::with_capacity(alloc, count),
+    ) else {
+        return (workers, Err(ServeFault::Memory));
+    };
+    let word = Mutex::new(false);
+    let started = start_each(rt, alloc, &word, node, ports, workers, gate, threads, rest);
+    let (workers, total) = gather(join_each(rt, started.threads, ended), back);
+    match total {
+        Some(report) if started.all => (workers, Ok(report)),
+        _ => (with_rest(workers, started.rest), Err(ServeFault::Memory)),
+    }
+}

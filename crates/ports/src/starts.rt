@@ -1,0 +1,164 @@
+//! A thread for each worker.
+
+ghost use Rattle.std.specs.Prelude.{◌≡◌, ◌+◌, ◌<◌, ◌≤◌, true, length, slice_index_or, vec_len, vec_capacity};
+ghost use Rattle.ports.specs.Serves.{AreLast, AreServed, AreOf, IsBack, IsWorkerOf};
+
+use crate::gate::Gate;
+use crate::port::Port;
+use crate::sink::Sink;
+use crate::worker::{Report, Worker};
+use crate::works::work;
+use publish::Room;
+use std::alloc::Global;
+use std::snapshot::Snapshot;
+use std::sync::{Mutex, MutexGuard, Wait};
+use std::thread;
+use std::thread::{Promise, PromisedHandle, Threads};
+use target::Node;
+
+/// What a thread gives back: its worker, and the worker's report where it served.
+#[derive(Drop)]
+pub(crate) struct Ended<J: Room, S: Sink + Drop> {
+    pub worker: Worker<J, S>,
+    pub report: Option<Report>,
+}
+
+/// The thread of a worker.
+pub(crate) type Thread<J, S> = PromisedHandle<Ended<J, S>, Start<J, S>>;
+
+/// What a thread promises: the worker that comes back, with a report, is this one behind its end mark.
+#[derive(Drop)]
+pub(crate) struct Start<J: Room, S: Sink + Drop>(Snapshot<Worker<J, S>>);
+
+impl<J: Room, S: Sink + Drop> Promise<Ended<J, S>> for Start<J, S> {
+    ghost use Rattle.ports.specs.Serves.{IsBack};
+
+    ghost kept_by = { λ p r. IsBack S.sent S.failed p.0.value r.worker r.report };
+}
+
+/// Serves the port where the word is to go, and else hands the worker back as it came.
+fn worked_on<R: Wait, J: Room, Q: Wait + Drop, S: Sink + Drop, G: Gate>(
+    rt: &R,
+    alloc: Global,
+    word: &Mutex<bool>,
+    node: &Node<J, Q>,
+    port: &Port,
+    mut worker: Worker<J, S>,
+    gate: &G,
+) -> Ended<J, S>
+    requires { IsWorkerOf node.now port.now worker }
+    ensures { IsBack S.sent S.failed worker result.worker result.report }
+{
+    let guard = word.lock(rt);
+    let go = *guard;
+    MutexGuard::unlock(guard);
+    if !go {
+        return Ended {
+            worker,
+            report: None,
+        };
+    }
+    let report = work(rt, alloc, node, port, &mut worker, gate);
+    Ended {
+        worker,
+        report: Some(report),
+    }
+}
+
+/// The port of a worker, which stands at this place.
+fn port_of<'a, J: Room, S: Sink + Drop, Q: Wait + Drop>(
+    node: &Node<J, Q>,
+    ports: &'a [Port],
+    place: usize,
+    worker: &Worker<J, S>,
+) -> &'a Port
+    requires inside { place < length ports.now }
+    requires served { (p : Port) → IsWorkerOf node.now (slice_index_or ports.now place p) worker.now }
+    ensures { IsWorkerOf node.now result.now worker.now }
+{
+    &ports[place]
+}
+
+/// The threads that were started, in order, the workers that were not, and whether all were. A worker whose thread
+/// could not be made is in neither list.
+#[derive(Drop)]
+pub(crate) struct Started<J: Room, S: Sink + Drop> {
+    pub threads: Vec<Thread<J, S>>,
+    pub rest: Vec<Worker<J, S>>,
+    pub all: bool,
+}
+
+/// Starts a thread for each worker, as far as threads can be made. They begin to serve once all were started, and have
+/// ended when this returns.
+pub(crate) fn start_each<
+    R: Threads + Wait + Sync,
+    J: Room + Send + 'static,
+    Q: Wait + Drop + Send,
+    S: Sink + Drop + Send + 'static,
+    G: Gate + Sync,
+>(
+    rt: &R,
+    alloc: Global,
+    word: &Mutex<bool>,
+    node: &Node<J, Q>,
+    ports: &[Port],
+    workers: Vec<Worker<J, S>>,
+    gate: &G,
+    threads: Vec<Thread<J, S>>,
+    rest: Vec<Worker<J, S>>,
+) -> Started<J, S>
+    requires none { vec_len threads ≡ 0 }
+    requires room { vec_len workers ≤ vec_capacity threads }
+    requires empty { vec_len rest ≡ 0 }
+    requires space { vec_len workers ≤ vec_capacity rest }
+    requires served { AreServed node.now (vec_len workers) ports.now workers.items }
+    ensures len { result.all ≡ true → vec_len result.threads ≡ vec_len workers }
+    ensures most { vec_len result.threads + vec_len result.rest ≤ vec_len workers }
+    ensures rest { AreLast result.rest.items workers.items }
+    ensures each { AreOf (vec_len result.threads) (λ h. h.promise.0.value) result.threads.items workers.items }
+{
+    thread::scope(
+        thread::scope_env(),
+        rt,
+        |scope| -> Started<J, S>
+            requires none { vec_len threads ≡ 0 }
+            requires room { vec_len workers ≤ vec_capacity threads }
+            requires empty { vec_len rest ≡ 0 }
+            requires space { vec_len workers ≤ vec_capacity rest }
+            requires served { AreServed node.now (vec_len workers) ports.now workers.items }
+            ensures len { result.all ≡ true → vec_len result.threads ≡ vec_len workers }
+            ensures most { vec_len result.threads + vec_len result.rest ≤ vec_len workers }
+            ensures rest { AreLast result.rest.items workers.items }
+            ensures each { AreOf (vec_len result.threads) (λ h. h.promise.0.value) result.threads.items workers.items }
+        {
+            let mut threads = threads;
+            let mut rest = rest;
+            let mut all = true;
+            let mut guard = word.lock(rt);
+            for worker in workers {
+                if !all {
+                    let Ok(()) = rest.push(worker) else {
+                        unreachable!()
+                    };
+                    continue;
+                }
+                let port = port_of(node, ports, threads.len(), &worker);
+                let start = Start(Snapshot::of(&worker));
+                match scope.spawn_with(
+                    start,
+                    move || worked_on(rt, alloc, word, node, port, worker, gate),
+                ) {
+                    Ok(thread) => {
+                        let Ok(()) = threads.push(thread) else {
+                            unreachable!()
+                        };
+                    }
+                    Err(_refused) => all = false,
+                }
+            }
+            *guard = all;
+            MutexGuard::unlock(guard);
+            Started { threads, rest, all }
+        },
+    )
+}
