@@ -71,6 +71,8 @@ fn main() {
     for (name, packet, count) in [
         ("write of 16 bytes", packets::write(16), PACKETS),
         ("write of 4096 bytes", packets::write(4096), LONG_PACKETS),
+        ("write of 4096 bytes over a page's end", packets::write_over_page_end(), LONG_PACKETS),
+        ("read of 4096 bytes over a page's end", packets::read_over_page_end(), PACKETS),
         ("read-modify-write of 4 bytes", packets::modify(), PACKETS),
     ] {
         serve(name, &images::yes(), &packet, count);

@@ -1,9 +1,8 @@
 -- Lines that are judged in turn.
 use Rattle.std.proofs.Common.{◌≡◌, ◌<◌, ℕ, zero, suc, List, [], ◌∷◌, ◌++◌, length, take, drop, get_or, Option, refl, sym, ap, subst, arith, ◌∙◌}
 use Rattle.commands.specs.JobNode.{JobNodeValue}
-use Rattle.commands.specs.Lines.{Judges, JudgesAll, ServesLine, IsBad, IsBadPacket, IsBadLine}
+use Rattle.commands.specs.Lines.{Judges, JudgesAll, IsBadPacket, IsBadLine}
 use Rattle.commands.specs.Stops.{StopsBy}
-use Rattle.commands.specs.declared.faults.Fault.{Fault}
 use Rattle.commands.specs.declared.faults.Fault.TheVariants.{CannotRead, CannotWrite, NoMemory, BadText, BadTable, BadImage, Unfit, BadLine}
 use Rattle.commands.specs.declared.stops.Halt.{Halt}
 use Rattle.commands.specs.declared.stops.Halt.TheVariants.{Ended, Unwritten}
@@ -22,13 +21,6 @@ around [] n line low = absurd (omega (arith, low))
 around (first ∷ lines) zero line low = refl
 around (first ∷ lines) (suc n) line low = ap (λ (l : List (List ℕ)). first ∷ l) (around lines n line (omega (arith, low)))
 
--- a packet was served, but memory was refused to what is printed of it
-pub untold : (line : List ℕ) (count : ℕ) (a b : JobNodeValue) (o p : Option (List ℕ)) (stop : Halt)
-    → ServesLine line a b → StopsBy (λ fault. fault ≡ NoMemory) stop → StopsBy (λ fault. p ≡ o) stop → StopsBy (IsBadPacket line count a b o p) stop
-untold line count a b o p (Unwritten refused) serves none quiet = tt
-untold line count a b o p (Ended fault) serves none quiet =
-    subst (λ (f : Fault). IsBadPacket line count a b o p f) (sym none) (serves, quiet)
-
 -- a stop at a line is one of the lines
 pub stops_at : (lines judged rest : List (List ℕ)) (line : List ℕ) (count : ℕ) (a b c : JobNodeValue) (o p q : Option (List ℕ)) (stop : Halt)
     → lines ≡ judged ++ line ∷ rest → count ≡ suc (length judged) → JudgesAll judged a b o p → StopsBy (IsBadPacket line count b c p q) stop → StopsBy (IsBadLine lines a c o q) stop
@@ -40,9 +32,11 @@ stops_at lines judged rest line count a b c o p q (Ended NoMemory) are place all
   line = line;
   rest = rest;
   between = b;
+  port = bad.0;
+  served = bad.1;
   lines_are = are;
-  all = subst (λ (x : Option (List ℕ)). JudgesAll judged a b o x) (sym bad.1) all;
-  serves = bad.0;
+  all = subst (λ (x : Option (List ℕ)). JudgesAll judged a b o x) (sym bad.3) all;
+  serves = bad.2;
 }
 stops_at lines judged rest line count a b c o p q (Ended (BadText fault)) are place all bad = absurd bad
 stops_at lines judged rest line count a b c o p q (Ended (BadTable fault)) are place all bad = absurd bad
@@ -52,8 +46,9 @@ stops_at lines judged rest line count a b c o p q (Ended (BadLine number code)) 
   judged = judged;
   line = line;
   rest = rest;
+  between = b;
   lines_are = are;
   place = bad.0 ∙ place;
-  all = subst (λ (x : JobNodeValue). JudgesAll judged a x o q) (sym bad.2) (subst (λ (x : Option (List ℕ)). JudgesAll judged a b o x) (sym bad.3) all);
-  bad = subst (λ (x : JobNodeValue). IsBad line x code) (sym bad.2) bad.1;
+  all = subst (λ (x : Option (List ℕ)). JudgesAll judged a b o x) (sym bad.2) all;
+  bad = bad.1;
 }

@@ -31,7 +31,6 @@ use bver::{Accepted, MapSizes, verify};
 use clap::{ArgMatches, Command};
 use publish::{Opened, Room};
 use rmap::Discard;
-use spw::read_line;
 use std::alloc::{AllocError, Global};
 use std::io::{self, Write};
 use std::sync::Wait;
@@ -166,7 +165,7 @@ fn print_served<'a, W: Write>(
     }
 }
 
-/// Judges the packet of one line, and prints what comes of it. `number` is that of the line.
+/// Takes one line, judges the packet that it ends, and prints what comes of it. `number` is that of the line.
 fn judge_line<'a, J: Room, R: Wait + Drop, W: Write>(
     alloc: Global,
     node: &mut JobNode<J, R>,
@@ -179,11 +178,13 @@ fn judge_line<'a, J: Room, R: Wait + Drop, W: Write>(
     ensures stops { IfErr result (StopsBy (IsBadPacket line.now number node.old node.new
         (W.contents out.old) (W.contents out.new))) }
 {
-    let (port, packet) = read_line(alloc, line).map_err(|fault| Fault::bad_line(number, fault))?;
-    let served = node
-        .serve(alloc, port, packet)
-        .ok_or(Fault::no_port(number))?;
-    Ok(print_served(alloc, out, port, served, node.reply())?)
+    let came = node
+        .take_line(alloc, line)
+        .map_err(|fault| fault.at_line(number))?;
+    let Some((port, served)) = came else {
+        return Ok(());
+    };
+    print_served(alloc, out, port, served, node.reply())
 }
 
 /// Judges each line of a text in turn. Lines are separated by line feeds.

@@ -1,10 +1,11 @@
 //! The node that the jobs run.
 
-ghost use Rattle.std.specs.Prelude.{◌≡◌, ◌≢◌, ◌≤◌, ◌<◌, None, IfErr, IfOk, IfSome, length};
-ghost use Rattle.commands.specs.JobNode.{Serves, IsFresh};
+ghost use Rattle.std.specs.Prelude.{◌≡◌, ◌<◌, IfErr, IfOk, length};
+ghost use Rattle.commands.specs.JobNode.{IsFresh, RefusesLine, Serves, TakesLine};
 ghost use Rattle.commands.specs.declared.faults.Fault.TheVariants.{NoMemory};
 
 use crate::faults::Fault;
+use crate::feeds::{FeedFault, Feeds};
 use bver::Accepted;
 use publish::{Opened, Publisher, Room};
 use rmap::ReplyBuf;
@@ -24,12 +25,14 @@ const BANK: BankConfig = BankConfig {
     room: 1024,
 };
 
-/// A node of one bank and some ports, with room for one reply. Its end waits for readers.
+/// A node of one bank and some ports, each with what it holds of a packet that has not ended, and with room for
+/// one reply. Its end waits for readers.
 #[derive(Drop)]
 pub struct JobNode<J: Room, R: Wait + Drop> {
     banks: Banks,
     publisher: Publisher<J, R>,
     passes: Vec<Pass<J>>,
+    feeds: Feeds,
     reply: ReplyBuf,
 }
 
@@ -38,9 +41,9 @@ impl<J: Room, R: Wait + Drop> Model for JobNode<J, R> {
 
     ghost Value = { JobNodeValue };
 
-    ghost view = { λ b. job_node b.banks b.publisher b.passes.items b.reply };
+    ghost view = { λ b. job_node b.banks b.publisher b.passes.items b.feeds b.reply };
 
-    ghost invariant = { λ b. IsJobNode (job_node b.banks b.publisher b.passes.items b.reply) };
+    ghost invariant = { λ b. IsJobNode (job_node b.banks b.publisher b.passes.items b.feeds b.reply) };
 }
 
 impl<J: Room, R: Wait + Drop> JobNode<J, R> {
@@ -62,6 +65,7 @@ impl<J: Room, R: Wait + Drop> JobNode<J, R> {
             banks: &[BANK],
             sizes: program.sizes(),
         };
+        let feeds = Feeds::new(alloc, ports)?;
         let (banks, _cells, publisher, passes) = banks_and_passes(
             alloc, rt, opened, &config, program,
         )?;
@@ -69,26 +73,40 @@ impl<J: Room, R: Wait + Drop> JobNode<J, R> {
             banks,
             publisher,
             passes,
+            feeds,
             reply: ReplyBuf::new(),
         })
     }
 
-    /// What becomes of a packet that comes in at a port, or `None` where there is no such port. It takes memory and
-    /// may wait for readers only where it loads.
-    pub fn serve(&mut self, alloc: Global, port: u8, packet: Packet) -> Option<Served>
-        ensures served { IfSome result (λ served. Serves served port packet self.old self.new) }
-        ensures no_port { length self.old.passes ≤ port → (result ≡ None) × (self.new ≡ self.old) }
-        ensures own_port { port < length self.old.passes → result ≢ None }
+    /// What becomes of a packet that comes in at a port. It takes memory and may wait for readers only where it
+    /// loads.
+    fn serve(&mut self, alloc: Global, port: u8, packet: Packet) -> Served
+        requires { port < length self.old.passes }
+        ensures { Serves result port packet self.old self.new }
     {
         let place = usize::from(port);
-        if place >= self.passes.len() {
-            return None;
-        }
         let banks = &mut self.banks;
         let publisher = &mut self.publisher;
         let pass = &mut self.passes[place];
         let reply = &mut self.reply;
-        Some(serve_packet(alloc, banks, publisher, pass, packet, reply))
+        serve_packet(alloc, banks, publisher, pass, packet, reply)
+    }
+
+    /// Takes a line, and serves the packet that it ends: its port and what became of it, or `None` where the line
+    /// ends none. Nothing is served where the line has a fault. It may wait for readers only where it loads.
+    pub fn take_line(
+        &mut self,
+        alloc: Global,
+        line: &str,
+    ) -> Result<Option<(u8, Served)>, FeedFault>
+        ensures taken { IfOk result (λ came. TakesLine line.now came self.old self.new) }
+        ensures refused { IfErr result (λ fault. RefusesLine line.now fault self.old self.new) }
+    {
+        let Some((port, packet)) = self.feeds.take_line(alloc, line)? else {
+            return Ok(None);
+        };
+        let served = self.serve(alloc, port, packet);
+        Ok(Some((port, served)))
     }
 
     /// The reply to the last packet that was served; no bytes where none is due.

@@ -8,13 +8,16 @@
 //! is accepted. Each line of the file `calls.txt` has map sizes between the image and the answer, and the questions
 //! behind the steps. The file `packets.txt` has packet lines of two ports, and `replies.txt` has for each, in order,
 //! what is printed of it on one fresh node by the factory program. Each line of the file `policies.txt` has a policy
-//! table, whose lines are apart by ` / `, map sizes, a header, answers, the draws and the verdict, or a fault. A line that
-//! begins with `#` says where the others come from. Prints each line at which this workspace differs, and how many lines agree.
+//! table, whose lines are apart by ` / `, map sizes, a header, answers, the draws and the verdict, or a fault. Each line of
+//! the file `pieces.txt` has a number of ports, the packet lines of a file, what `judge` prints of them on a fresh node, both
+//! apart by `/`, and its exit status. A line that begins with `#` says where the others come from. Prints each line at
+//! which this workspace differs, and how many lines agree.
 #![tactic(auto)]
 
 mod calls;
 mod loops;
 mod packets;
+mod pieces;
 mod policies;
 
 use anyhow::{Context, Result};
@@ -38,6 +41,9 @@ const CALLS: &str = "calls.txt";
 
 /// The file of policy tables.
 const POLICIES: &str = "policies.txt";
+
+/// The file of files of packets in pieces.
+const PIECES: &str = "pieces.txt";
 
 /// Whether the bytes are the instruction's, all of them.
 fn is_spelling(insn: &Insn, bytes: &[u8]) -> bool {
@@ -203,6 +209,12 @@ fn main(rt: HostRuntime) -> Result<()> {
         &fs::read_to_string(&rt, POLICIES)?,
         "tables",
         |table, row| policies::agrees(alloc, table, row),
+        &mut out,
+    )?;
+    compare(
+        &fs::read_to_string(&rt, PIECES)?,
+        "files of pieces",
+        |ports, row| pieces::agrees(&rt, alloc, ports, row),
         &mut out,
     )?;
     let printed = packets::printed(&rt, rt.alloc())?;

@@ -5,6 +5,7 @@ use commands::{Job, UsageFault, WriteFault, perform, words};
 use conformance::{Folder, folder_of, judged};
 use std::alloc::Global;
 use std::io::{self, Write};
+use std::process::Abort;
 use std::sync::Wait;
 use std::test::Fail;
 use trial::{PLAIN_READ, PLAIN_REPLY};
@@ -98,27 +99,33 @@ fn tried(rt: &impl Wait, alloc: Global, lines: &str) -> Option<(String, u8)> {
 fn is_refused(printed: &str) -> bool {
     printed.ends_with("no memory\n")
         || printed.ends_with("line 1 fault 5\n")
+        || printed.ends_with("line 2 fault 5\n")
         || printed.ends_with("image fault 8 slot 0\n")
         || printed.ends_with("refused V17 slot 0\n")
         || printed.ends_with("cannot read lines\n")
 }
 
-#[test]
-fn refused_memory(rt: HostRuntime) -> Result<(), Fail> {
-    // With memory refused once, the answer is the job's, a fault of memory, or an error.
-    if let Some((printed, status)) = tried(&rt, rt.alloc(), PLAIN_READ) {
-        let (whole, wanted) = judged(&rt, rt.alloc(), PLAIN_READ)?;
+/// Judges lines whose answer is the plain reply: with memory refused once that, a fault of memory or an error, and
+/// then with ample memory that.
+fn judge_twice(rt: &(impl Wait + Abort), alloc: Global, lines: &str) -> Result<(), Fail> {
+    if let Some((printed, status)) = tried(rt, alloc, lines) {
+        let (whole, wanted) = judged(rt, alloc, lines)?;
         if status == wanted {
-            same(&rt, "the answer", printed.as_str(), whole.as_str());
+            same(rt, "the answer", printed.as_str(), whole.as_str());
         } else {
-            same(&rt, "the status of a fault", status, 1);
-            check(&rt, &printed, is_refused(printed.as_str()));
+            same(rt, "the status of a fault", status, 1);
+            check(rt, &printed, is_refused(printed.as_str()));
         }
     }
-    // With ample memory again the answer is the whole.
-    let (whole, status) = judged(&rt, rt.alloc(), PLAIN_READ)?;
+    let (whole, status) = judged(rt, alloc, lines)?;
     let printed = whole.as_str().strip_suffix('\n');
-    same(&rt, "the whole", (printed, status), (Some(PLAIN_REPLY), 0));
+    same(rt, "the whole", (printed, status), (Some(PLAIN_REPLY), 0));
+    Ok(())
+}
+
+#[test]
+fn refused_memory(rt: HostRuntime) -> Result<(), Fail> {
+    judge_twice(&rt, rt.alloc(), PLAIN_READ)?;
     let fault = UsageFault::Memory;
     let told = format!(in rt.alloc(); "{fault}")?;
     same(
@@ -128,4 +135,12 @@ fn refused_memory(rt: HostRuntime) -> Result<(), Fail> {
         ("no memory", 1),
     );
     Ok(())
+}
+
+/// The plain read in two pieces, of which the second has the marker alone.
+const PIECES: &str = "0 FE014C0067000100A0000000000010C9 PART\n0 EOP\n";
+
+#[test]
+fn refused_memory_of_pieces(rt: HostRuntime) -> Result<(), Fail> {
+    judge_twice(&rt, rt.alloc(), PIECES)
 }

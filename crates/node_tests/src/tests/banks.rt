@@ -147,9 +147,10 @@ fn sizes_outside_their_limits(rt: HostRuntime) -> Result<(), Fail> {
     Ok(())
 }
 
+/// How many shares a bank of two pages has, and its ports.
 fn made(alloc: Global) -> Result<usize, BankFault> {
     let journal = Journal::new(alloc, 3)?;
-    let (bank, shares) = Bank::new(alloc, BASE, 16, journal, 2)?;
+    let (bank, shares) = Bank::new(alloc, BASE, 5_000, journal, 2)?;
     Ok(shares.len() + usize::from(bank.ports()))
 }
 
