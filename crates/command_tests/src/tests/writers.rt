@@ -1,8 +1,9 @@
 //! Writers that fail, and memory that is refused.
 
 use crate::tests::checks::{check, same};
-use commands::{Job, UsageFault, WriteFault, perform, words};
+use commands::{Job, PolicyWords, UsageFault, WriteFault, perform, words};
 use conformance::{Folder, folder_of, judged};
+use machine::MapSizes;
 use std::alloc::Global;
 use std::io::{self, Write};
 use std::process::Abort;
@@ -143,4 +144,49 @@ const PIECES: &str = "0 FE014C0067000100A0000000000010C9 PART\n0 EOP\n";
 #[test]
 fn refused_memory_of_pieces(rt: HostRuntime) -> Result<(), Fail> {
     judge_twice(&rt, rt.alloc(), PIECES)
+}
+
+/// A table of one rule.
+const TABLE: &str = "write * * * 00000000 FFFFFFFF 0:0:5 0\n";
+
+/// What `policy` prints of the table, and the exit status; `None` where memory was refused to the job's words, to the
+/// folder or to the writer.
+fn compiled(rt: &impl Wait, alloc: Global) -> Option<(String, u8)> {
+    let job = Job::Policy(PolicyWords {
+        table: String::from_str(alloc, "table").ok()?,
+        image: String::from_str(alloc, "image").ok()?,
+        sizes: MapSizes::new(&[1]).ok()?,
+    });
+    let mut out = Vec::new(alloc);
+    let mut folder = folder_of(alloc, &[("table", TABLE.as_bytes())]).ok()?;
+    let status = perform(rt, alloc, &job, &mut folder, &mut out).ok()?;
+    Some((String::from_utf8(out).ok()?, status))
+}
+
+/// Whether `policy` that was refused memory may print this.
+fn is_refused_table(printed: &str) -> bool {
+    printed == "policy fault 3\n"
+        || printed == "no memory\n"
+        || printed == "cannot read table\n"
+        || printed == "cannot write image\n"
+}
+
+#[test]
+fn memory_refused_to_a_policy(rt: HostRuntime) -> Result<(), Fail> {
+    // With memory refused once, the answer is the job's, a fault of memory, or an error.
+    if let Some((printed, status)) = compiled(&rt, rt.alloc()) {
+        if status == 0 {
+            same(&rt, "the answer", printed.as_str(), "slots 30\n");
+        } else {
+            same(&rt, "the status of a fault", status, 1);
+            check(&rt, &printed, is_refused_table(printed.as_str()));
+        }
+    }
+    // With ample memory again the image is written.
+    let again = compiled(&rt, rt.alloc());
+    let told = again
+        .as_ref()
+        .map(|(printed, status)| (printed.as_str(), *status));
+    same(&rt, "again", told, Some(("slots 30\n", 0)));
+    Ok(())
 }
