@@ -1,4 +1,4 @@
-//! What no clause says, of banks, of what is judged, and of nodes whole and behind locks.
+//! What no clause says, of banks, of what is judged, and of whole nodes.
 
 mod admissions;
 mod banks;
@@ -6,6 +6,5 @@ mod checks;
 mod full_journals;
 mod journals;
 mod loads;
-mod locks;
 mod nodes;
 mod pages;

@@ -12,7 +12,8 @@ mod runs;
 
 pub use images::image_of_text;
 pub use nodes::{
-    BASE, PLAIN_READ, PLAIN_REPLY, PLAIN_WRITE, SpareBank, bank, node, packet, program, served,
+    BASE, LOAD, PLAIN_READ, PLAIN_REPLY, PLAIN_WRITE, STAGE, SpareBank, bank, node, packet,
+    program, served, yes,
 };
 pub use operations::{
     CONDITIONS, EXTENSIONS, LOAD_SIZES, OPERATIONS, SIZES, SWAP_BITS, SWAPS, WIDTHS,

@@ -4,6 +4,7 @@ ghost use Rattle.std.specs.Prelude.{◌≡◌};
 
 use crate::images::image_of_text;
 use bank::{Bank, Journal, Judged, Share};
+use basm::assemble;
 use bver::{Accepted, MapSizes, verify};
 use publish::{Opened, Publisher, Room};
 use rmap::{ReplyBuf, Status};
@@ -28,6 +29,13 @@ pub const PLAIN_READ: &str = "0 FE014C0067000100A0000000000010C9 EOP";
 /// The reply to the plain read of a fresh bank, as a packet line.
 pub const PLAIN_REPLY: &str = "0 67010C00FE0001000000106D0000000000000000000000000000000000 EOP";
 
+/// Stages the program that says yes, as a packet line.
+pub const STAGE: &str =
+    "0 FE016C00670010FF00000000000020B6 42504641010002000200000000000000B7000000000000009500000000000000 21 EOP";
+
+/// Loads it for writes, as a packet line.
+pub const LOAD: &str = "0 FE016C00670011FF0001000000000492 01000020 B4 EOP";
+
 /// The bank of 65,536 bytes, whose journal has room for so many entries.
 pub fn bank(room: u32) -> BankConfig {
     BankConfig {
@@ -48,6 +56,13 @@ pub fn program(alloc: Global, verdict: u8) -> Result<Accepted, Fail> {
     let text = format!(in alloc; "mov r0, {verdict}; exit")?;
     let image = image_of_text(alloc, &text, 2)?;
     Ok(verify(alloc, image, &MapSizes::new(&[])?)?)
+}
+
+/// The program that says yes; `None` where it takes no memory.
+pub fn yes(alloc: Global) -> Option<Accepted> {
+    let image = assemble(alloc, ".budget 2\nmov r0, 0\nexit").ok()?;
+    let sizes = MapSizes::new(&[]).ok()?;
+    verify(alloc, image, &sizes).ok()
 }
 
 /// The plain parts of a node of logical address 0xFE without maps: its banks, what publishes its programs, and

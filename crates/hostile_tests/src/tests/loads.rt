@@ -14,17 +14,12 @@ use std::sync::Wait;
 use std::test::Fail;
 use std::thread::{Threads, map_vec};
 use target::{Node, NodeConfig, Pass, Step, finish, judge, load, stage};
-use trial::{PLAIN_WRITE, SpareBank, bank, packet, program};
+use trial::{LOAD, PLAIN_WRITE, STAGE, SpareBank, bank, packet, program};
 
-/// Stages `mov r0, 0; exit`, as a packet line, and what is replied.
-const STAGE: &str =
-    "0 FE016C00670010FF00000000000020B6 42504641010002000200000000000000B7000000000000009500000000000000 21 EOP";
-
+/// What is replied to [`STAGE`].
 const STAGED: &[u8] = &[0x67, 0x01, 0x2C, 0x00, 0xFE, 0x00, 0x10, 0xF1];
 
-/// Loads it for writes, as a packet line, and what is replied.
-const LOAD: &str = "0 FE016C00670011FF0001000000000492 01000020 B4 EOP";
-
+/// What is replied to [`LOAD`].
 const LOADED: &[u8] = &[0x67, 0x01, 0x2C, 0x00, 0xFE, 0x00, 0x11, 0x60];
 
 /// Reads the load result, as a packet line, and the header of the reply.

@@ -11,14 +11,7 @@ use std::process::Abort;
 use std::sync::Wait;
 use std::test::Fail;
 use target::{Banks, Pass, Served};
-use trial::{bank, node, packet, program, served};
-
-/// Stages the program that says yes, as a packet line.
-pub const STAGE: &str =
-    "0 FE016C00670010FF00000000000020B6 42504641010002000200000000000000B7000000000000009500000000000000 21 EOP";
-
-/// Loads it for writes, as a packet line.
-pub const LOAD: &str = "0 FE016C00670011FF0001000000000492 01000020 B4 EOP";
+use trial::{LOAD, STAGE, bank, node, packet, program, served};
 
 /// What a load came to, with the load result.
 type Loaded = (Served, [u8; 8]);

@@ -4,8 +4,7 @@ ghost use Rattle.std.specs.Prelude.{◌≡◌};
 
 use crate::tests::checks::{check, same};
 use bank::Applied;
-use basm::assemble;
-use bver::{Accepted, MapSizes, verify};
+use bver::Accepted;
 use publish::{Opened, Room};
 use rmap::{Discard, ReplyBuf, Status};
 use spw::Packet;
@@ -15,7 +14,7 @@ use std::process::Abort;
 use std::sync::Wait;
 use std::test::Fail;
 use target::{BankConfig, Banks, NodeFault, Served, Stop};
-use trial::{PLAIN_READ, PLAIN_REPLY, bank, node, packet, program, served};
+use trial::{PLAIN_READ, PLAIN_REPLY, bank, node, packet, program, served, yes};
 
 /// What becomes of the packet of a line at port 0 of a fresh node.
 fn served_afresh(
@@ -231,13 +230,6 @@ fn made<J: Room, R: Wait>(
 {
     let (banks, _publisher, passes) = node::<J, _>(alloc, rt, opened, ports, banks, factory)?;
     Ok((banks.len(), passes.len()))
-}
-
-/// The program that says yes; `None` where it takes no memory.
-pub fn yes(alloc: Global) -> Option<Accepted> {
-    let image = assemble(alloc, ".budget 2\nmov r0, 0\nexit").ok()?;
-    let sizes = MapSizes::new(&[]).ok()?;
-    verify(alloc, image, &sizes).ok()
 }
 
 /// The same of a node of one bank and two ports; `None` where the program takes no memory.

@@ -1,4 +1,4 @@
-use Rattle.node_tests.proofs.tests.locks.fresh_banks_behind_their_locks.Given as goal
+use Rattle.node_threads.proofs.tests.locks.fresh_banks_behind_their_locks.Given as goal
 
 -- the history that was just opened
 abbrev pub ghosts-fresh_banks : goal.ghosts-fresh_banks

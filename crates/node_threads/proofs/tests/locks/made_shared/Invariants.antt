@@ -1,4 +1,4 @@
-use Rattle.node_tests.proofs.tests.locks.made_shared.Given as goal
+use Rattle.node_threads.proofs.tests.locks.made_shared.Given as goal
 
 -- the history that was just opened
 abbrev pub ghosts-counts : goal.ghosts-counts

@@ -2,8 +2,7 @@
 
 ghost use Rattle.std.specs.Prelude.{◌≡◌};
 
-use super::loads::{LOAD, STAGE};
-use super::nodes::yes;
+use crate::tests::checks::{check, same};
 use bank::{Applied, Judged};
 use bver::Accepted;
 use publish::{Opened, Room};
@@ -16,7 +15,9 @@ use std::process::Abort;
 use std::sync::Wait;
 use std::test::Fail;
 use target::{BankConfig, Node, NodeConfig, NodeFault, Pass, Step, finish, judge, load, stage};
-use trial::{BASE, PLAIN_READ, PLAIN_WRITE, Random, SpareBank, bank, packet, program};
+use trial::{
+    BASE, LOAD, PLAIN_READ, PLAIN_WRITE, Random, STAGE, SpareBank, bank, packet, program, yes,
+};
 
 /// A node of two ports and two banks, the second of 300 bytes from the address 0x1000 on, and its passes. That
 /// program judges at first.
@@ -76,8 +77,9 @@ fn counts<J: Room, R: Wait>(
 fn memory_refused_while_locks_are_made(rt: HostRuntime) {
     let first = made_shared(&rt, rt.alloc());
     let full = Some(Ok((2, 2)));
-    assert!(rt; first == full || first == Some(Err(NodeFault::Memory)) || first.is_none());
-    assert!(rt; first == full || made_shared(&rt, rt.alloc()) == full);
+    let is_told = first == full || first == Some(Err(NodeFault::Memory)) || first.is_none();
+    let is_made = first == full || made_shared(&rt, rt.alloc()) == full;
+    check(&rt, "a shared node", is_told && is_made);
 }
 
 #[test]
@@ -89,18 +91,23 @@ fn fresh_banks<J: Room, R: Wait + Abort>(rt: &R, alloc: Global, opened: Opened) 
     requires { opened ≡ J.book }
 {
     let (node, passes) = shared::<J, _>(rt, alloc, opened)?;
-    assert_eq!(rt; (node.banks(), passes.len()), (2, 2));
+    same(rt, "the node", (node.banks(), passes.len()), (2, 2));
     for (k, first, last, size) in [(0, BASE, 0xA000_FFFF, 65_536), (1, 0x1000, 0x112B, 300)] {
         if usize::from(k) >= node.banks() {
             return Err("no bank".into());
         }
         let lock = node.bank(k);
-        assert_eq!(rt; lock.number(), k);
+        same(rt, "the number", lock.number(), k);
         let bank = lock.lock(rt);
-        assert_eq!(rt; (bank.range(), bank.ports()), ((first, size), 2));
+        same(
+            rt,
+            "a bank",
+            (bank.range(), bank.ports()),
+            ((first, size), 2),
+        );
         let ends = (bank.memory(first), bank.memory(last), bank.memory(last + 1));
-        assert_eq!(rt; ends, (Some(0), Some(0), None), "at bank {k}");
-        assert_eq!(rt; bank.entries().len(), 0);
+        same(rt, "its memory", (k, ends), (k, (Some(0), Some(0), None)));
+        same(rt, "its journal", (k, bank.entries().len()), (k, 0));
     }
     Ok(())
 }
@@ -163,18 +170,17 @@ fn one_writes_and_one_reads<J: Room, R: Wait + Abort>(
         let pass = passes.get_mut(port).ok_or("no pass")?;
         let sent = packet(alloc, line)?;
         let (fits, applied) = finished(rt, &node, pass, &mut spare, sent, &mut reply)?;
-        assert!(rt; fits);
-        assert_eq!(rt;
-            (applied.status, applied.number),
-            (Status::Success, Some(0))
-        );
+        let found = (fits, applied.status, applied.number);
+        same(rt, line, found, (true, Status::Success, Some(0)));
         if node.banks() == 0 {
             return Err("no bank".into());
         }
-        assert_eq!(rt; node.bank(0).lock(rt).entries().len(), port + 1);
+        let entries = node.bank(0).lock(rt).entries().len();
+        same(rt, "the journal", entries, port + 1);
     }
-    // The data CRC of what was written.
-    assert_eq!(rt; reply.bytes().last(), Some(&0x56));
+    let data_crc_of_what_was_written = Some(0x56);
+    let last = reply.bytes().last().copied();
+    same(rt, "the reply", last, data_crc_of_what_was_written);
     Ok(())
 }
 
@@ -218,9 +224,12 @@ fn load_under_the_lock<J: Room, R: Wait + Abort>(
 {
     let (node, mut passes) = shared::<J, _>(rt, alloc, opened)?;
     let first = passes.first_mut().ok_or("no pass")?;
-    assert_eq!(rt; windowed(rt, alloc, &node, first, STAGE)?, Status::Success);
-    assert_eq!(rt; windowed(rt, alloc, &node, first, LOAD)?, Status::Success);
-    assert_eq!(rt; first.staging().load_result(), [0, 0, 0, 0, 0, 0, 0, 1]);
+    for line in [STAGE, LOAD] {
+        let status = windowed(rt, alloc, &node, first, line)?;
+        same(rt, line, status, Status::Success);
+    }
+    let told = first.staging().load_result();
+    same(rt, "the load result", told, [0, 0, 0, 0, 0, 0, 0, 1]);
     let mut spare = SpareBank::new(alloc)?;
     let mut reply = ReplyBuf::new();
     for port in [0, 1] {
@@ -229,7 +238,7 @@ fn load_under_the_lock<J: Room, R: Wait + Abort>(
             let judged = judged_at(pass, packet(alloc, line)?, &mut reply)?;
             let found = (judged.generation(), judged.verdict());
             spare.end(judged, &mut reply);
-            assert_eq!(rt; found, (generation, 0), "at port {port}");
+            same(rt, line, (port, found), (port, (generation, 0)));
         }
     }
     Ok(())
@@ -278,9 +287,13 @@ fn generated_commands<J: Room, R: Wait + Abort>(
         let pass = passes.get_mut(port).ok_or("no pass")?;
         let sent = generated(alloc, &mut random)?;
         let (fits, applied) = finished(rt, &node, pass, &mut spare, sent, &mut reply)?;
-        assert!(rt; fits, "in round {round}");
-        assert_eq!(rt; applied.status, Status::Success, "in round {round}");
-        assert!(rt; applied.number.is_some());
+        let found = (fits, applied.status, applied.number.is_some());
+        same(
+            rt,
+            "a round",
+            (round, found),
+            (round, (true, Status::Success, true)),
+        );
     }
     Ok(())
 }

@@ -1,4 +1,4 @@
-use Rattle.node_tests.proofs.tests.locks.generated_commands_fit.Given as goal
+use Rattle.node_threads.proofs.tests.locks.generated_commands_fit.Given as goal
 
 -- the history that was just opened
 abbrev pub ghosts-generated_commands : goal.ghosts-generated_commands
