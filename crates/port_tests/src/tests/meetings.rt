@@ -26,18 +26,31 @@ const MEETING: &str =
 /// How many packets each port sends.
 const PACKETS: usize = 500;
 
+/// How often the ports are served until they meet. On a machine with other work both threads may have one processor for
+/// a while, and then do not meet.
+const RUNS: u32 = 20;
+
 /// Where the workers run side by side, the two packets of some number are judged at the same time, and both programs
 /// say yes: each sees the other's ticket. Who judges one packet after the other denies the first of every two.
 #[test]
 fn two_ports_meet(rt: HostRuntime) -> Result<(), Fail> {
-    meet::<Brand, _>(&rt, rt.alloc(), Opened::new())
+    let mut met = 0;
+    for _run in 0..RUNS {
+        met = packets_that_met::<Brand, _>(&rt, rt.alloc(), Opened::new())?;
+        if met > 0 {
+            break;
+        }
+    }
+    check(&rt, "packets that met", met > 0);
+    Ok(())
 }
 
-fn meet<J: Room + Send + 'static, R: Threads + Wait + Abort + Sync>(
+/// Of how many numbers the packets of both ports were answered with success, in one run of 500 packets at each.
+fn packets_that_met<J: Room + Send + 'static, R: Threads + Wait + Abort + Sync>(
     rt: &R,
     alloc: Global,
     opened: Opened,
-) -> Result<(), Fail>
+) -> Result<usize, Fail>
     requires { opened ≡ J.book }
 {
     let factory = accepted(alloc, MEETING, 24_589, "2")?;
@@ -56,11 +69,11 @@ fn meet<J: Room + Send + 'static, R: Threads + Wait + Abort + Sync>(
         (first.len(), second.len()),
         (PACKETS, PACKETS),
     );
-    let both = first
-        .iter()
-        .zip(second)
-        .filter(|(a, b)| status_of(a) == Some(0) && status_of(b) == Some(0))
-        .count();
-    check(rt, "packets that met", both > 0);
-    Ok(())
+    Ok(
+        first
+            .iter()
+            .zip(second)
+            .filter(|(a, b)| status_of(a) == Some(0) && status_of(b) == Some(0))
+            .count(),
+    )
 }
