@@ -1,0 +1,16 @@
+pub mod Turns
+pub mod Runs
+pub mod Growth
+pub mod Keeping
+pub mod Telling
+pub mod Taking
+pub mod Beginning
+pub mod Entering
+pub mod Ending
+pub mod Publishing
+pub mod Opened
+pub mod Judging
+pub mod Headlines
+pub mod Events
+pub mod Agreements
+pub mod Histories
