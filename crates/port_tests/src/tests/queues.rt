@@ -1,0 +1,99 @@
+//! A port with room for one packet.
+
+ghost use Rattle.std.specs.Prelude.{◌≡◌};
+ghost use Rattle.ports.specs.Queue.{IsPutPassOf};
+ghost use Rattle.ports.specs.Serves.{IsWorkerOf};
+
+use super::checks::same;
+use super::desks::{node, text_of, worker};
+use super::workers::CLEAN;
+use ports::{Full, NoGate, Port, PutPass, Replies, Report, Worker, work};
+use publish::{Opened, Room};
+use spw::Packet;
+use std::alloc::Global;
+use std::marker::Brand;
+use std::process::Abort;
+use std::sync::Wait;
+use std::test::Fail;
+use std::thread::{Threads, join, yield_now};
+use target::Node;
+use trial::{PLAIN_READ, PLAIN_WRITE, bank, packet, program};
+
+/// Puts a packet and then the end mark, each as soon as there is room.
+fn put_at_last(rt: &impl Wait, port: &Port, mut pass: PutPass, packet: Packet) -> PutPass
+    requires { IsPutPassOf port.now pass }
+    ensures { IsPutPassOf port.now result }
+{
+    let mut packet = packet;
+    for _ in rt.forever() {
+        match port.put(rt, &mut pass, packet) {
+            Ok(()) => break,
+            Err((Full, back)) => packet = back,
+        }
+        yield_now();
+    }
+    for _ in rt.forever() {
+        if port.close(rt, &mut pass).is_ok() {
+            break;
+        }
+        yield_now();
+    }
+    pass
+}
+
+/// Works until the end mark.
+fn worked<J: Room, R: Wait, Q: Wait + Drop>(
+    rt: &R,
+    alloc: Global,
+    node: &Node<J, Q>,
+    port: &Port,
+    mut worker: Worker<J, Replies>,
+) -> (Worker<J, Replies>, Report)
+    requires { IsWorkerOf node.now port.now worker }
+{
+    let report = work(rt, alloc, node, port, &mut worker, &NoGate);
+    (worker, report)
+}
+
+/// A put into a full queue hands the packet back, and is taken once the worker took what was there.
+#[test]
+fn a_queue_is_full_until_a_packet_is_taken(rt: HostRuntime) -> Result<(), Fail> {
+    full_until_taken::<Brand, _>(&rt, rt.alloc(), Opened::new())
+}
+
+fn full_until_taken<J: Room + Send, R: Threads + Wait + Abort + Sync>(
+    rt: &R,
+    alloc: Global,
+    opened: Opened,
+) -> Result<(), Fail>
+    requires { opened ≡ J.book }
+{
+    let factory = program(alloc, 0)?;
+    let (node, mut passes) = node::<J, _>(rt, alloc, opened, 1, &[bank(1024)], factory)?;
+    let pass = passes.pop().ok_or("no pass")?;
+    let (port, mut put_pass, serve_pass) = Port::new(alloc, 1)?;
+    let worker = worker(&node, &port, pass, serve_pass, Replies::new(alloc))?;
+    let first = port.put(rt, &mut put_pass, packet(alloc, PLAIN_WRITE)?);
+    same(rt, "the first packet", first.is_ok(), true);
+    let sent = packet(alloc, PLAIN_READ)?;
+    let Err((Full, back)) = port.put(rt, &mut put_pass, packet(alloc, PLAIN_READ)?) else {
+        return Err("a second packet in a queue for one".into());
+    };
+    same(rt, "what came back", back.bytes(), sent.bytes());
+    let closed = port.close(rt, &mut put_pass);
+    same(rt, "the end mark in a full queue", closed, Err(Full));
+    let (node, port) = (&node, &port);
+    let (mut put_pass, (worker, report)) = join(
+        rt,
+        move || put_at_last(rt, port, put_pass, back),
+        move || worked(rt, alloc, node, port, worker),
+    );
+    same(rt, "the report", report, CLEAN);
+    let wanted = "67012C00FE0000ED\n\
+        67010C00FE0001000000106D0123456789ABCDEF101112131415161756\n";
+    let found = text_of(alloc, worker.sink.replies())?;
+    same(rt, "the replies", found.as_str(), wanted);
+    let closed = port.close(rt, &mut put_pass);
+    same(rt, "an end mark in an empty queue", closed, Ok(()));
+    Ok(())
+}
