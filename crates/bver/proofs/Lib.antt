@@ -10,4 +10,3 @@ pub mod Raising
 pub mod Safety
 pub mod Regions
 pub mod Above
-pub mod Below
