@@ -1,6 +1,6 @@
 -- What a pass knows is below what every table says under which the program is justified.
-use Rattle.std.proofs.Common.{◌≡◌, ◌≢◌, ℕ, ◌+◌, ◌<◌, ◌≤◌, ◌^◌, ℤ, pos, negsuc, Bool, true, false, List, Option, None, Some, Result, Ok, Err, ◌⊎◌, inl, inr, refl, sym, subst, ◌∙◌, arith}
-use Rattle.std.specs.Prelude.{IsTrue, IsFalse, IfSome, All, slice_index, slice_index_or}
+use Rattle.std.proofs.Common.{◌≡◌, ◌≢◌, ℕ, ◌+◌, ap, ℤ, pos, negsuc, Bool, true, false, List, Option, None, Some, Result, Ok, Err, ◌⊎◌, inl, inr, refl, sym, subst, arith}
+use Rattle.std.specs.Prelude.{IsTrue, IsFalse, if◌then◌else◌, is_some}
 use Rattle.std.proofs.lemmas.Bool.{cases_lt, false≢true}
 use Rattle.std.proofs.lemmas.List.{get_or_past}
 use Rattle.bpf.specs.declared.loops.Loop.{Loop}
@@ -9,24 +9,21 @@ use Rattle.bpf_insn.specs.declared.insn.Insn.{Insn}
 use Rattle.bpf_insn.specs.declared.insn.Insn.TheVariants.{Alu, Negate, MoveSigned, ByteSwap, Load, Store, Jump, Goto, Wide, LoadMap, LoadAddress, Call, Exit}
 use Rattle.bpf_insn.specs.Spelling.{slots_of}
 use Rattle.bpf_parts.specs.Operands.{distance_of}
-use Rattle.bpf_parts.specs.declared.operation.Width.TheVariants.{Bits64}
 use Rattle.machine.specs.Sizes.{Maps}
 use Rattle.machine.specs.Step.{insn_at}
-use Rattle.absdom_num.specs.Ranges.{IsWithin}
-use Rattle.absdom_num.specs.Tables.{whole_range}
 use Rattle.absdom.specs.declared.cause.Cause.{Cause}
 use Rattle.absdom.specs.declared.kinds.AbsKind.{AbsKind}
 use Rattle.absdom.specs.declared.kinds.AbsKind.TheVariants.{Unset, Num, Ptr, Map}
 use Rattle.absdom.specs.Kinds.{IsKindBelow}
-use Rattle.absdom.specs.State.{StateValue, IsBelow, IsWhole, IsProper, after_call, kind_at}
+use Rattle.absdom.specs.State.{StateValue, IsBelow, IsWhole, after_call, kind_at}
 use Rattle.absdom.specs.Effect.{after_insn}
 use Rattle.absdom.specs.Edges.{Edges, refined_edges}
 use Rattle.absdom.specs.Laws.{BelowIsTransitive, ApplyGrows, RefineGrows, CallGrows, IsGrown, IsEdgeBelow, AreEdgesGrown}
-use Rattle.bver_form.specs.Form.{target}
+use Rattle.bver_form.specs.Jumps.{first_slot, target}
 use Rattle.bver_form.specs.Lowered.{is_lowered}
-use Rattle.bver_form.specs.declared.refusal.Refusal.{Refusal}
-use Rattle.bver.specs.Heads.{BodyValue, Falls, IsEntryFault, IsRaised, IsRaisedKind, IsWithinBound, counts, opens, keeps, opened_kind, is_number, is_number_at}
-use Rattle.bver.specs.Visit.{IsGrown as HasGrown, IsLeast, IsLeastNext}
+use Rattle.bver.specs.Heads.{BodyValue, Falls, IsRaised, IsRaisedKind, IsWithinBound, counts, opens, keeps, opened_kind, is_number}
+use Rattle.bver.specs.Table.{TableValue, knowledge_in}
+use Rattle.bver.specs.Visit.{IsGrown as HasGrown, IsLeast, IsLeastOf}
 use Rattle.bver.specs.Justified.{AreEdgesCovered, AsksCell, IsCovered, IsCoveredIfAny, IsHead, IsNumber, IsOpen, IsPermitted, IsResultCovered, IsWrittenIn, Proceeds, knowledge_at}
 
 -- ---- what a table permits of a state, it permits of a smaller one
@@ -106,9 +103,9 @@ permitted_less applies refines calls transitive sizes table slot a b insn p q be
 
 -- ---- what is raised at a head stays below a table that stands for every pass
 
--- the registers that were lowered for the loop hold no number at its head in the table
-abbrev pub HasLowered : Program → Loop → (lowered : List Bool) (place : ℕ) → StateValue → Type 0
-HasLowered p l lowered place above =
+-- the registers that were lowered for the loop hold nothing at its head
+abbrev pub AreUnset : Program → Loop → (lowered : List Bool) (place : ℕ) → StateValue → Type 0
+AreUnset p l lowered place above =
     (register : ℕ) → register ≢ l.register → IsWrittenIn p l register → IsTrue (is_lowered lowered place register) → kind_at above register ≡ Unset
 
 open_less : (lowered : Bool) (before above : AbsKind) → IsOpen above → IsKindBelow before above → (IsTrue lowered → above ≡ Unset) → IsKindBelow (opened_kind lowered before) above
@@ -131,14 +128,14 @@ open_less false (Num a) (Num b) is_open below low = rw is_open (record { above =
 open_less false (Ptr r a) (Num b) is_open below low = absurd below
 open_less false (Map i) (Num b) is_open below low = absurd below
 
-kind_less : (p : Program) (l : Loop) (lowered : List Bool) (place register : ℕ) (before after : AbsKind) (above : StateValue) → IsHead p l above → HasLowered p l lowered place above → IsKindBelow before (kind_at above register) → IsRaisedKind p l lowered place register before after → IsKindBelow after (kind_at above register)
+kind_less : (p : Program) (l : Loop) (lowered : List Bool) (place register : ℕ) (before after : AbsKind) (above : StateValue) → IsHead p l above → AreUnset p l lowered place above → IsKindBelow before (kind_at above register) → IsRaisedKind p l lowered place register before after → IsKindBelow after (kind_at above register)
 kind_less p l lowered place register before after above head low below (counts at is) =
     rw (is, at, head.counter) (record { above = omega arith; below = omega arith })
 kind_less p l lowered place register before after above head low below (opens other written is) =
     rw is (open_less (is_lowered lowered place register) before (kind_at above register) (head.others register other written) below (low register other written))
 kind_less p l lowered place register before after above head low below (keeps other unwritten is) = rw is below
 
-pub raised_less : (p : Program) (l : Loop) (lowered : List Bool) (place : ℕ) (before after above : StateValue) → IsWhole before → IsWhole after → IsHead p l above → HasLowered p l lowered place above → IsBelow before above → IsRaised p l lowered place before after → IsBelow after above
+pub raised_less : (p : Program) (l : Loop) (lowered : List Bool) (place : ℕ) (before after above : StateValue) → IsWhole before → IsWhole after → IsHead p l above → AreUnset p l lowered place above → IsBelow before above → IsRaised p l lowered place before after → IsBelow after above
 raised_less p l lowered place before after above p_before p_after head low below raised = record {
   kinds = λ register.
       elim (cases_lt register 10) [
@@ -156,9 +153,9 @@ raised_less p l lowered place before after above p_before p_after head low below
 }
 
 -- a head that is entered outside its bound is in no such table
-pub entry_refuted : (p : Program) (l : Loop) (a above : StateValue) (refusal : Refusal) → IsHead p l above → IsBelow a above → IsEntryFault l a refusal → ⊥
-entry_refuted p l a above refusal head below fault =
-    fault.outside (subst (λ (k : AbsKind). IsKindBelow (kind_at a l.register) k) head.counter (below.kinds l.register))
+pub entry_refuted : (p : Program) (l : Loop) (a above : StateValue) → IsHead p l above → IsBelow a above → (IsWithinBound l a → ⊥) → ⊥
+entry_refuted p l a above head below outside =
+    outside (subst (λ (k : AbsKind). IsKindBelow (kind_at a l.register) k) head.counter (below.kinds l.register))
 
 -- ---- what an edge back lowers is no number in the table
 
@@ -175,29 +172,45 @@ pub falls_unset : (b : BodyValue) (head : Option StateValue) (edge above : State
 falls_unset b head edge above register other stands below falls =
     unset_above (kind_at edge register) (kind_at above register) falls.edge_number (stands.others register other falls.written) (below.kinds register)
 
--- ---- a state that goes on
+-- ---- what comes to a slot
 
-cases_same : (k next : ℕ) → k ≡ next ⊎ k ≢ next
-cases_same k next =
-    elim (cases_lt k next) [
+cases_same : (k slot : ℕ) → k ≡ slot ⊎ k ≢ slot
+cases_same k slot =
+    elim (cases_lt k slot) [
       | inl below ↦ inr (λ same. omega (arith, same, below))
-      | inr past ↦ elim (cases_lt next k) [ inl beyond ↦ inr (λ same. omega (arith, same, beyond)) | inr at ↦ inl (omega (arith, past, at)) ]
+      | inr past ↦ elim (cases_lt slot k) [ inl beyond ↦ inr (λ same. omega (arith, same, beyond)) | inr at ↦ inl (omega (arith, past, at)) ]
     ]
 
-pub least_next : (old new : ℕ → Option StateValue) (runs : Bool) (next : ℕ) (state : StateValue) → (IsFalse runs → IsLeast (old next) state (new next)) → (IsTrue runs → (k : ℕ) → new k ≡ old k) → ((k : ℕ) → k ≢ next → new k ≡ old k) → IsLeastNext old new next state
-least_next old new runs next state least same others above grown covered k = by_place (cases_same k next)
+-- a table in which one slot changed, to the least that covers a state too
+pub least_at : (old new : TableValue) (slot : ℕ) (state : StateValue) → IsLeast (knowledge_in old slot) state (knowledge_in new slot) → ((k : ℕ) → k ≢ slot → knowledge_in new k ≡ knowledge_in old k) → IsLeastOf (λ above. IsCovered state (above slot)) old new
+least_at old new slot state least others above grown covered k = by_place (cases_same k slot)
   where
-    stays : new k ≡ old k → IsCoveredIfAny (new k) (above k)
-    stays is = subst (λ (o : Option StateValue). IsCoveredIfAny o (above k)) (sym is) (grown k)
+    here : (there : Option StateValue) → IsCoveredIfAny (knowledge_in old slot) there → IsCovered state there → IsCoveredIfAny (knowledge_in new slot) there
+    here None was now = absurd now
+    here (Some b) was now = least b was now
 
-    at_next : (there : Option StateValue) → IsCoveredIfAny (old next) there → IsCovered state there → IsLeast (old next) state (new next) → IsCoveredIfAny (new next) there
-    at_next None was now is = absurd now
-    at_next (Some b) was now is = is b was now
+    by_place : k ≡ slot ⊎ k ≢ slot → IsCoveredIfAny (knowledge_in new k) (above k)
+    by_place (inl same) = subst (λ (i : ℕ). IsCoveredIfAny (knowledge_in new i) (above i)) (sym same) (here (above slot) (grown slot) covered)
+    by_place (inr other) = subst (λ (o : Option StateValue). IsCoveredIfAny o (above k)) (sym (others k other)) (grown k)
 
-    by_runs : (b : Bool) → runs ≡ b → k ≡ next → IsCoveredIfAny (new k) (above k)
-    by_runs true is here = stays (same is k)
-    by_runs false is here = subst (λ (i : ℕ). IsCoveredIfAny (new i) (above i)) (sym here) (at_next (above next) (grown next) covered (least is))
+-- a table that did not change
+pub least_same : (followed : (ℕ → Option StateValue) → Type 0) (old new : TableValue) → new ≡ old → IsLeastOf followed old new
+least_same followed old new same above grown covered = subst (λ (t : TableValue). HasGrown (knowledge_in t) above) (sym same) grown
 
-    by_place : k ≡ next ⊎ k ≢ next → IsCoveredIfAny (new k) (above k)
-    by_place (inl here) = by_runs runs refl here
-    by_place (inr other) = stays (others k other)
+-- a state that goes on: joined where the slot has an entry, else the running one
+pub least_next : (old new : TableValue) (runs : Bool) (next : ℕ) (state : StateValue) → (IsFalse runs → IsLeast (knowledge_in old next) state (knowledge_in new next)) → (IsTrue runs → new ≡ old) → ((k : ℕ) → k ≢ next → knowledge_in new k ≡ knowledge_in old k) → IsLeastOf (λ above. IsCovered state (above next)) old new
+least_next old new true next state least same others = least_same (λ above. IsCovered state (above next)) old new (same refl)
+least_next old new false next state least same others = least_at old new next state (least refl) others
+
+-- a slot to which a jump leads
+lands_at : (p : Program) (z : ℤ) (landing : ℕ) → first_slot p z ≡ Some landing → z ≡ pos landing
+lands_at p (pos k) landing is = by_begin (is_some (insn_at p k)) is
+  where
+    by_begin : (b : Bool) → (if b then Some k else None) ≡ Some landing → pos k ≡ pos landing
+    by_begin true same = let here : k ≡ landing = cc in ap (λ (i : ℕ). pos i) here
+    by_begin false same = absurd cc
+lands_at p (negsuc n) landing is = absurd cc
+
+pub least_landing : (p : Program) (z : ℤ) (landing : ℕ) (old new : TableValue) (state : StateValue) → first_slot p z ≡ Some landing → IsLeast (knowledge_in old landing) state (knowledge_in new landing) → ((k : ℕ) → k ≢ landing → knowledge_in new k ≡ knowledge_in old k) → IsLeastOf (λ above. IsCovered state (knowledge_at above z)) old new
+least_landing p z landing old new state lands least others =
+    subst (λ (y : ℤ). IsLeastOf (λ above. IsCovered state (knowledge_at above y)) old new) (sym (lands_at p z landing lands)) (least_at old new landing state least others)

@@ -10,3 +10,4 @@ pub mod Raising
 pub mod Safety
 pub mod Regions
 pub mod Above
+pub mod Below

@@ -5,5 +5,7 @@ pub mod Operations
 pub mod Resolved
 pub mod Heads
 pub mod Table
+pub mod Unjustified
 pub mod Visit
+pub mod Leading
 pub mod Laws

@@ -28,10 +28,16 @@ IsGrown old new = (slot : ℕ) → IsCoveredIfAny (old slot) (new slot)
 abbrev pub IsLeast : (old : Option StateValue) → StateValue → (new : Option StateValue) → Type 0
 IsLeast old edge new = (above : StateValue) → IsCoveredIfAny old (Some above) → IsBelow edge above → IsCoveredIfAny new (Some above)
 
--- no more is known in a table than was, and than the state that was brought to a slot: what covers both covers it
-abbrev pub IsLeastNext : (old new : ℕ → Option StateValue) (next : ℕ) → StateValue → Type 0
-IsLeastNext old new next state =
-    (above : ℕ → Option StateValue) → IsGrown old above → IsCovered state (above next) → IsGrown new above
+-- no more is known in a table than was, and than what was followed to there: what covers both covers it
+abbrev pub IsLeastOf : (followed : (ℕ → Option StateValue) → Type 0) (old new : TableValue) → Type 0
+IsLeastOf followed old new =
+    (above : ℕ → Option StateValue) → IsGrown (knowledge_in old) above → followed above → IsGrown (knowledge_in new) above
+
+-- the same, and of the running state, where one stands at the next slot
+abbrev pub IsLeastNext : (followed : (ℕ → Option StateValue) → Type 0) (old new : TableValue) (runs : Bool) (next : ℕ) → StateValue → Type 0
+IsLeastNext followed old new runs next state =
+    (above : ℕ → Option StateValue) → IsGrown (knowledge_in old) above → followed above
+    → IsGrown (knowledge_in new) above × (IsTrue runs → IsCovered state (above next))
 
 -- something is known only where an instruction begins
 abbrev pub IsPlaced : Program → (known : ℕ → Option StateValue) → Type 0
@@ -139,6 +145,10 @@ pub record AreEntered (p : Program) (known : ℕ → Option StateValue) : Type 0
   pub entered : IsEntered (known 0)
   pub placed : IsPlaced p known
   pub whole : AreWhole known
+
+-- no more is known than at entry: what covers that covers all
+abbrev pub IsLeastEntry : (known : ℕ → Option StateValue) → Type 0
+IsLeastEntry known = (above : ℕ → Option StateValue) → IsEntered (above 0) → IsGrown known above
 
 -- at each head before the slot, what is known stands for every pass
 abbrev pub AreHeadsBefore : Program → (known : ℕ → Option StateValue) → (slot : ℕ) → Type 0

@@ -203,6 +203,8 @@ impl<'a> Body<'a> {
             (IsSettled lowered.old lowered.new
             → IsCovered edge.now (knowledge_in table.now self.now.declared.head)) }
         ensures refused { IfErr result (IsClosingFault self.now.declared) }
+        ensures uncovered { IfErr result
+            (λ _. IsCovered edge.now (knowledge_in table.now self.now.declared.head) → ⊥) }
     {
         let head = self.declared.head;
         let before = lowered.count();

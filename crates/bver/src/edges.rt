@@ -1,6 +1,6 @@
 //! What an instruction does to the table: the edges that it follows, and why it is refused.
 
-ghost use Rattle.std.specs.Prelude.{◌≡◌, ◌+◌, IfErr, IfOk, IsErr, IsSome, IsTrue, MatchResult, OnOk, Ok, Some, false};
+ghost use Rattle.std.specs.Prelude.{◌≡◌, ◌+◌, ◌⊎◌, IfErr, IfOk, IsErr, IsSome, IsTrue, MatchResult, OnOk, Ok, Some, false};
 ghost use Rattle.bpf_insn.specs.Spelling.{slots_of};
 ghost use Rattle.machine.specs.Step.{insn_at, is_map};
 ghost use Rattle.absdom.specs.Effect.{after_insn};
@@ -15,7 +15,8 @@ ghost use Rattle.bver_form.specs.Lowered.{IsMore, IsSettled};
 ghost use Rattle.bver.specs.Refusals.{IsValueFault, IsValueRefusal};
 ghost use Rattle.bver.specs.Table.{knowledge_beside, knowledge_in, knowledge_next};
 ghost use Rattle.bver_form.specs.Targets.{IsPlain};
-ghost use Rattle.bver.specs.Visit.{AreFollowed, GoesOnPlain, HasNext, IsExtendedAfter, IsLeastNext, IsNext, IsTableOf, LeadsBy, knowledge_at_target};
+ghost use Rattle.bver.specs.Leading.{BranchesBelow, IsFlowFault, GivesBelow, IsUncovered, IsUncoveredIfAny, LeadsBelow, taken_state};
+ghost use Rattle.bver.specs.Visit.{AreFollowed, GoesOnPlain, HasNext, IsExtendedAfter, IsLeastNext, IsLeastOf, IsNext, IsTableOf, LeadsBy, knowledge_at_target};
 
 use crate::table::Table;
 use crate::visit::Visit;
@@ -53,9 +54,14 @@ fn jump(
     ensures covered { OnOk result
         (IsSettled lowered.old lowered.new
         → IsCovered state.now (knowledge_at_target visit.now distance (knowledge_in table.new))) }
+    ensures least { OnOk result
+        (IsLeastOf (λ above. IsCovered state.now (knowledge_at_target visit.now distance above))
+        table.old table.new) }
     ensures extended { IsExtendedAfter visit.now table.old table.new }
     ensures more { IsMore lowered.old lowered.new }
     ensures refused { IfErr result (IsValueFault visit.now.program) }
+    ensures uncovered { IfErr result
+        (λ _. IsUncovered visit.now.program visit.now.slot (knowledge_in table.old) state.now) }
 {
     order_of_states();
     match visit.landing(distance) {
@@ -91,9 +97,16 @@ fn follow_taken(
         (IsSettled lowered.old lowered.new
         → IsCoveredIfAny (edge_state state.now comparison.now.dst comparison.now.src edge.now)
         (knowledge_at_target visit.now distance (knowledge_in table.new))) }
+    ensures least { OnOk result
+        (IsLeastOf (λ above. IsCoveredIfAny
+        (edge_state state.now comparison.now.dst comparison.now.src edge.now)
+        (knowledge_at_target visit.now distance above)) table.old table.new) }
     ensures extended { IsExtendedAfter visit.now table.old table.new }
     ensures more { IsMore lowered.old lowered.new }
     ensures refused { IfErr result (IsValueFault visit.now.program) }
+    ensures uncovered { IfErr result
+        (λ _. IsUncoveredIfAny visit.now.program visit.now.slot (knowledge_in table.old)
+        (edge_state state.now comparison.now.dst comparison.now.src edge.now)) }
 {
     order_of_states();
     match edge {
@@ -112,8 +125,8 @@ fn go_on(visit: &Visit, table: &mut Table<'_>, state: &State, slots: u16) -> boo
     requires next { IsNext visit.now slots }
     ensures covered { IsCovered state.now
         (knowledge_next table.new result (visit.now.slot + slots) state.now) }
-    ensures least { IsLeastNext (knowledge_in table.old) (knowledge_in table.new)
-        (visit.now.slot + slots) state.now }
+    ensures least { IsLeastOf (λ above. IsCovered state.now (above (visit.now.slot + slots)))
+        table.old table.new }
     ensures plain { IsTrue result → IsPlain visit.now.program (visit.now.slot + slots) }
     ensures extended { IsExtendedAfter visit.now table.old table.new }
 {
@@ -135,6 +148,10 @@ fn follow_not_taken(
     ensures covered { IsCoveredIfAny
         (edge_state state.old comparison.now.dst comparison.now.src edge.now)
         (knowledge_next table.new result (visit.now.slot + 1) state.new) }
+    ensures least { IsLeastNext (λ above. IsCoveredIfAny
+        (edge_state state.old comparison.now.dst comparison.now.src edge.now)
+        (above (visit.now.slot + 1)))
+        table.old table.new result (visit.now.slot + 1) state.new }
     ensures plain { IsTrue result → IsPlain visit.now.program (visit.now.slot + 1) }
     ensures extended { IsExtendedAfter visit.now table.old table.new }
 {
@@ -168,10 +185,18 @@ fn branch(
         → AreFollowed visit.now distance
         (Ok (edge_states state.old comparison.now.dst comparison.now.src edges.now))
         table.new state.new runs) }
+    ensures least { IfOk result
+        (λ runs. IsLeastNext (λ above. BranchesBelow
+        (Ok (edge_states state.old comparison.now.dst comparison.now.src edges.now))
+        (knowledge_at_target visit.now distance above) (above (visit.now.slot + 1)))
+        table.old table.new runs (visit.now.slot + 1) state.new) }
     ensures plain { IfOk result (GoesOnPlain visit.now.program (visit.now.slot + 1)) }
     ensures extended { IsExtendedAfter visit.now table.old table.new }
     ensures more { IsMore lowered.old lowered.new }
     ensures refused { IfErr result (IsValueFault visit.now.program) }
+    ensures uncovered { IfErr result
+        (λ _. IsUncoveredIfAny visit.now.program visit.now.slot (knowledge_in table.old)
+        (edge_state state.old comparison.now.dst comparison.now.src edges.now.taken)) }
 {
     order_of_states();
     follow_taken(
@@ -207,10 +232,19 @@ fn compare(
         → AreFollowed visit.now offset
         (edges_of_comparison state.old comparison.now)
         table.new state.new runs) }
+    ensures least { IfOk result
+        (λ runs. IsLeastNext (λ above. BranchesBelow
+        (edges_of_comparison state.old comparison.now)
+        (knowledge_at_target visit.now offset above) (above (visit.now.slot + 1)))
+        table.old table.new runs (visit.now.slot + 1) state.new) }
     ensures plain { IfOk result (GoesOnPlain visit.now.program (visit.now.slot + 1)) }
     ensures extended { IsExtendedAfter visit.now table.old table.new }
     ensures more { IsMore lowered.old lowered.new }
     ensures refused { IfErr result (IsValueFault visit.now.program) }
+    ensures uncovered { IfErr result
+        (λ _. IsErr (edges_of_comparison state.old comparison.now)
+        ⊎ IsUncoveredIfAny visit.now.program visit.now.slot (knowledge_in table.old)
+        (taken_state (edges_of_comparison state.old comparison.now))) }
 {
     order_of_states();
     match refine(
@@ -248,6 +282,10 @@ fn straight(
     ensures covered { IfOk result
         (λ runs. IsResultCovered (after_insn state.old insn.now)
         (knowledge_next table.new runs (visit.now.slot + slots_of insn.now) state.new)) }
+    ensures least { IfOk result
+        (λ runs. IsLeastNext (λ above. GivesBelow (after_insn state.old insn.now)
+        (above (visit.now.slot + slots_of insn.now)))
+        table.old table.new runs (visit.now.slot + slots_of insn.now) state.new) }
     ensures refuted { IfErr result (λ _. IsErr (after_insn state.old insn.now)) }
     ensures plain { IfOk result
         (GoesOnPlain visit.now.program (visit.now.slot + slots_of insn.now)) }
@@ -352,6 +390,10 @@ fn ask(visit: &Visit, table: &mut Table<'_>, state: &mut State) -> Result<bool, 
     ensures covered { IfOk result
         (λ runs. IsCovered (after_call state.old)
         (knowledge_next table.new runs (visit.now.slot + 1) state.new)) }
+    ensures least { IfOk result
+        (λ runs. IsLeastNext (λ above. IsCovered (after_call state.old)
+        (above (visit.now.slot + 1)))
+        table.old table.new runs (visit.now.slot + 1) state.new) }
     ensures plain { IfOk result (GoesOnPlain visit.now.program (visit.now.slot + 1)) }
     ensures extended { IsExtendedAfter visit.now table.old table.new }
     ensures refused { IfErr result (IsValueFault visit.now.program) }
@@ -410,11 +452,16 @@ pub(crate) fn flow(
         → IsPermitted visit.now.sizes
         (knowledge_beside table.new runs
         (visit.now.slot + slots_of insn.now) state.new) visit.now.slot state.old insn.now) }
+    ensures least { IfOk result
+        (λ runs. IsLeastNext (λ above. LeadsBelow above visit.now.slot state.old insn.now)
+        table.old table.new runs (visit.now.slot + slots_of insn.now) state.new) }
     ensures plain { IfOk result
         (GoesOnPlain visit.now.program (visit.now.slot + slots_of insn.now)) }
     ensures extended { IsExtendedAfter visit.now table.old table.new }
     ensures more { IsMore lowered.old lowered.new }
     ensures refused { IfErr result (IsValueFault visit.now.program) }
+    ensures fault { IfErr result
+        (λ _. IsFlowFault visit.now (knowledge_in table.old) state.old insn.now) }
 {
     order_of_states();
     match insn {

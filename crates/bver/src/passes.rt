@@ -1,21 +1,24 @@
 //! The pass over a program's slots.
 
-ghost use Rattle.std.specs.Prelude.{◌≡◌, ◌<◌, IfErr, IfOk, IsSome, IsTrue, OnOk, Some, None, length, if◌then◌else◌};
+ghost use Rattle.std.specs.Prelude.{◌≡◌, ◌<◌, ℕ, IfErr, IfOk, IsSome, IsTrue, OnOk, Option, Some, None, [], length, if◌then◌else◌};
 ghost use Rattle.machine.specs.Step.{insn_at};
 ghost use Rattle.bver_form.specs.Form.{IsFormed};
 ghost use Rattle.bver.specs.Heads.{AreHeadsAt, IsRaised, IsWithinBound};
-ghost use Rattle.bver.specs.Justified.{IsJudged};
+ghost use Rattle.absdom.specs.State.{StateValue};
+ghost use Rattle.bver.specs.Justified.{IsCovered, IsCoveredIfAny, IsJudged};
+ghost use Rattle.bver.specs.Leading.{EntersOutside, EntersOutsideIfAny, IsLeastVisit, IsLeastVisitIfAny, IsRaisedAt, IsRaisedIfAny, IsVisitFaultIfAny};
 ghost use Rattle.bver_form.specs.Lowered.{IsMore, IsSettled};
 ghost use Rattle.bver.specs.Refusals.{IsValueFault};
 ghost use Rattle.bver.specs.Table.{knowledge_in};
 ghost use Rattle.bver_form.specs.Targets.{IsKept};
-ghost use Rattle.bver.specs.Visit.{AreEntered, IsExtended, IsInsnVisit, IsTableOf, IsVisit, visited_state};
+ghost use Rattle.bver.specs.Unjustified.{Justifies};
+ghost use Rattle.bver.specs.Visit.{AreEntered, IsExtended, IsInsnVisit, IsLeastEntry, IsLeastOf, IsTableOf, IsVisit, visited_state};
 
 use crate::body::Body;
 use crate::edges::{accessed_region, flow};
 use crate::table::Table;
 use crate::visit::Visit;
-use absdom::{Region, State, order_of_states};
+use absdom::{Region, State, after_call_grows, apply_grows, order_of_states, refine_grows};
 use bpf::Image;
 use bpf_insn::Insn;
 use bver_form::{Lowered, Refused};
@@ -34,6 +37,7 @@ fn raise_head(
         state.old state.new) }
     ensures bound { OnOk result (IsWithinBound body.now.declared state.old) }
     ensures refused { IfErr result (IsValueFault visit.now.program) }
+    ensures outside { IfErr result (λ _. IsWithinBound body.now.declared state.old → ⊥) }
 {
     match body.raise(lowered, state) {
         Ok(()) => Ok(()),
@@ -54,8 +58,14 @@ fn enter(
     requires inside { visit.now.slot < length visit.now.program.slots }
     ensures known { OnOk result (knowledge_in table.new visit.now.slot ≡ Some state.new) }
     ensures heads { OnOk result (AreHeadsAt visit.now.program visit.now.slot (Some state.new)) }
+    ensures raised { OnOk result
+        (IsRaisedAt visit.now.program lowered.now visit.now.slot state.old state.new) }
+    ensures least { OnOk result
+        (IsLeastOf (λ above. IsCovered state.new (above visit.now.slot)) table.old table.new) }
     ensures extended { IsExtended visit.now.slot table.old table.new }
     ensures refused { IfErr result (IsValueFault visit.now.program) }
+    ensures outside { IfErr result
+        (λ _. EntersOutside visit.now.program visit.now.slot state.old) }
 {
     order_of_states();
     table.stands_at_targets();
@@ -90,8 +100,19 @@ fn arrive(
     ensures heads { OnOk result
         (AreHeadsAt visit.now.program visit.now.slot
         (visited_state runs state.old table.new visit.now.slot)) }
+    ensures raised { OnOk result
+        (IsRaisedIfAny visit.now.program lowered.now visit.now.slot
+        (visited_state runs state.old table.old visit.now.slot)
+        (visited_state runs state.old table.new visit.now.slot)) }
+    ensures least { OnOk result
+        (IsLeastOf (λ above. IsCoveredIfAny
+        (visited_state runs state.old table.new visit.now.slot) (above visit.now.slot))
+        table.old table.new) }
     ensures extended { IsExtended visit.now.slot table.old table.new }
     ensures refused { IfErr result (IsValueFault visit.now.program) }
+    ensures outside { IfErr result
+        (λ _. EntersOutsideIfAny visit.now.program visit.now.slot
+        (visited_state runs state.old table.old visit.now.slot)) }
 {
     order_of_states();
     visit.stands_formed();
@@ -122,9 +143,15 @@ fn visit_insn(
     ensures visit { IfOk result
         (λ region. IsInsnVisit visit.now table.old table.new runs.old runs.new state.old state.new
         (IsSettled lowered.old lowered.new) region insn.now) }
+    ensures least { OnOk result
+        (IsLeastVisit visit.now lowered.old table.old table.new runs.old runs.new
+        state.old state.new insn.now) }
     ensures table { IsTableOf visit.now table.new }
     ensures more { IsMore lowered.old lowered.new }
     ensures refused { IfErr result (IsValueFault visit.now.program) }
+    ensures fault { IfErr result
+        (λ _. IsVisitFaultIfAny visit.now lowered.old (knowledge_in table.old)
+        (visited_state runs.old state.old table.old visit.now.slot) (Some insn.now)) }
 {
     order_of_states();
     visit.stands_formed();
@@ -132,6 +159,7 @@ fn visit_insn(
     if !known {
         return Ok(None);
     }
+    state.stands_whole();
     let region = accessed_region(state, insn);
     let goes_on = flow(visit, table, lowered, state, insn)?;
     *runs = goes_on;
@@ -151,9 +179,16 @@ fn visit_slot(
     ensures visit { IfOk result
         (λ region. IsVisit visit.now table.old table.new runs.old runs.new state.old state.new
         (IsSettled lowered.old lowered.new) region (insn_at visit.now.program visit.now.slot)) }
+    ensures least { OnOk result
+        (IsLeastVisitIfAny visit.now lowered.old table.old table.new runs.old runs.new
+        state.old state.new (insn_at visit.now.program visit.now.slot)) }
     ensures table { IsTableOf visit.now table.new }
     ensures more { IsMore lowered.old lowered.new }
     ensures refused { IfErr result (IsValueFault visit.now.program) }
+    ensures fault { IfErr result
+        (λ _. IsVisitFaultIfAny visit.now lowered.old (knowledge_in table.old)
+        (visited_state runs.old state.old table.old visit.now.slot)
+        (insn_at visit.now.program visit.now.slot)) }
 {
     match visit.insn() {
         Some(insn) => visit_insn(visit, table, lowered, state, runs, &insn),
@@ -177,6 +212,7 @@ pub(crate) fn pass(
     requires formed { IsFormed image.now }
     requires table { table.old.program ≡ image.now }
     requires entered { AreEntered image.now (knowledge_in table.old) }
+    requires least { IsLeastEntry (knowledge_in table.old) }
     requires regions { length regions.old.items ≡ length image.now.slots }
     ensures judged { OnOk result
         (IsSettled lowered.old lowered.new → IsJudged image.now sizes.now regions.new.items) }
@@ -184,8 +220,14 @@ pub(crate) fn pass(
     ensures regions { length regions.new.items ≡ length image.now.slots }
     ensures more { IsMore lowered.old lowered.new }
     ensures refused { IfErr result (IsValueFault image.now) }
+    ensures refuted { IfErr result
+        (λ _. image.now.loops ≡ [] → (table : ℕ → Option StateValue)
+        → Justifies image.now sizes.now table → ⊥) }
 {
     order_of_states();
+    apply_grows();
+    refine_grows();
+    after_call_grows();
     let mut state = State::entry();
     let mut runs = false;
     for slot in 0..image.slots() {

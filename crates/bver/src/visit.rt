@@ -122,6 +122,8 @@ impl<'a> Visit<'a> {
     pub(crate) fn closed(&self, head: u16) -> Option<Body<'a>>
         ensures some { IfSome result
             (λ b. (b.program ≡ self.now.program) × (b.declared.head ≡ head)) }
+        ensures back { IfSome result (λ b. b.declared.back ≡ self.now.slot) }
+        ensures declared { IfSome result (λ b. IsDeclared b.program b.declared b.place) }
         ensures none { result ≡ None → is_loop_back self.now.program self.now.slot head ≡ false }
     {
         for place in 0..self.image.loops().len() {

@@ -73,6 +73,56 @@ fn accepts_what_cannot_go_wrong(rt: HostRuntime) -> Result<(), Fail> {
     check_all(&rt, rt.alloc(), ACCEPTED)
 }
 
+/// The first fault of the form, by each of its codes. The budget is the weight, but where the name speaks of it.
+const FORMS: &str = "\
+a jump past the end|ja +5; exit|2||1 0
+a jump back|ja -1; exit|2||2 0
+a loop that steps by two|.loop 1, 2, 2, r6; mov r6, 2; add r6, -2; jne r6, 0, -2; mov r0, 0; exit|9||3 2
+the frame pointer is moved to|mov r10, 0; exit|2||10 0
+an unknown helper before the frame pointer|call 9; mov r10, 0; exit|3||13 0
+no exit|mov r0, 0|1||14 0
+a budget of one less|mov r0, 0; exit|1||15 0
+a call of the program|calllocal 1; exit|2||16 0
+";
+
+#[test]
+fn refuses_the_first_fault_of_the_form(rt: HostRuntime) -> Result<(), Fail> {
+    check_all(&rt, rt.alloc(), FORMS)
+}
+
+/// Programs that a verifier would lose which refuses more than it has to, each beside a neighbour that has to be
+/// refused.
+const NEIGHBOURS: &str = "\
+the last key of a map|ldmap r1, 0; mov r2, 2; call 1; mov r0, 0; exit|5|3|ok
+the key after it|ldmap r1, 0; mov r2, 3; call 1; mov r0, 0; exit|5|3|12 3
+the last map|ldmap r1, 1; mov r0, 0; exit|3|1 1|ok
+the map after it|ldmap r1, 2; mov r0, 0; exit|3|1 1|12 0
+an edge that no run takes|mov r1, 3; jeq r1, 3, +1; ldxb r0, [r10-1]; mov r0, 0; exit|5||ok
+a port is always below 32|mov r1, r3; jlt r1, 32, +1; ldxb r0, [r10-1]; mov r0, 0; exit|5||ok
+a port is not always below 31|mov r1, r3; jlt r1, 31, +1; ldxb r0, [r10-1]; mov r0, 0; exit|5||8 2
+lowered inside, a number again outside|.loop 3, 10, 2, r6; .loop 5, 7, 2, r7; mov r0, 0; mov r4, 1; mov r6, 2; add r0, r4; mov r7, 2; mov r4, r10; add r7, -1; jne r7, 0, -3; mov r4, 5; add r6, -1; jne r6, 0, -8; mov r0, r4; exit|27||ok
+a pointer with a range that the loop leaves|.loop 4, 8, 3, r6; mov r0, 0; mov r7, r10; sub r7, r3; mov r6, 3; jgt r3, 7, +1; mov r0, r3; stb [r7-1], 0; add r6, -1; jne r6, 0, -5; exit|20||ok
+refined in the body, not written|.loop 2, 8, 2, r6; mov r0, 0; mov r6, 2; jgt r3, 7, +4; mov r4, r2; add r4, r3; ldxb r0, [r4+0]; ja +0; add r6, -1; jne r6, 0, -7; exit|17||ok
+refined in the body by too little|.loop 2, 8, 2, r6; mov r0, 0; mov r6, 2; jgt r3, 12, +4; mov r4, r2; add r4, r3; ldxb r0, [r4+0]; ja +0; add r6, -1; jne r6, 0, -7; exit|17||7 5
+unset on one way, written before the back|.loop 2, 6, 2, r6; mov r0, 0; mov r6, 2; jne r3, 0, +1; mov r5, r10; mov r5, 1; add r6, -1; jne r6, 0, -5; mov r0, r5; exit|14||ok
+";
+
+/// The budget of each is its weight.
+#[test]
+fn accepts_what_a_neighbour_is_refused_for(rt: HostRuntime) -> Result<(), Fail> {
+    let alloc = rt.alloc();
+    check_all(&rt, alloc, NEIGHBOURS)?;
+    for line in NEIGHBOURS.lines() {
+        let mut row = Row::of(line);
+        let name = row.part()?;
+        let program = row.part()?;
+        let weight = row.part()?.parse::<u32>()?;
+        let image = image_of_text(alloc, program, weight)?;
+        assert!(rt; image.weight() == u64::from(weight), "{name}");
+    }
+    Ok(())
+}
+
 /// Programs that are refused, with code and slot.
 const REFUSED: &str = "\
 a budget of one|mov r0, 0; exit|1||15 0

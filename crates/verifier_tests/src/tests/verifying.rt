@@ -154,6 +154,37 @@ fn verifies_where_memory_may_be_refused(rt: HostRuntime) -> Result<(), Fail> {
     Ok(())
 }
 
+/// `ja -1; exit` with a budget of 2.
+const BACK: [u8; 32] = [
+    0x42, 0x50, 0x46, 0x41, 1, 0, 2, 0, 2, 0, 0, 0, 0, 0, 0, 0, 5, 0, 0xff, 0xff, 0, 0, 0, 0, 0x95,
+    0, 0, 0, 0, 0, 0, 0,
+];
+
+/// A fault of the form is told before any memory is asked for.
+#[test]
+fn form_is_refused_where_memory_may_be_refused(rt: HostRuntime) -> Result<(), Fail> {
+    let alloc = rt.alloc();
+    let image = Image::read(alloc, &BACK).or_else(|_| Image::read(alloc, &BACK))?;
+    match verify(alloc, image, &MapSizes::new(&[])?) {
+        Ok(_) => check(&rt, "form is refused where memory may be refused", false),
+        Err(refused) => {
+            same(
+                &rt,
+                "form is refused where memory may be refused",
+                refused.code,
+                Refusal::BackJump,
+            );
+            same(
+                &rt,
+                "form is refused where memory may be refused",
+                refused.slot,
+                0,
+            );
+        }
+    }
+    Ok(())
+}
+
 /// The image with loops, where the first readings may be refused memory.
 fn nested(alloc: Global) -> Result<Image, ImageFault> {
     Image::read(alloc, &NESTED)

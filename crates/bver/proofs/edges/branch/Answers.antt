@@ -1,4 +1,4 @@
-use Rattle.std.proofs.Common.{rules, ◌+◌, ◌≡◌, Option, subst, ◌∙◌}
+use Rattle.std.proofs.Common.{rules, ◌+◌, ◌≡◌, Option, subst, ◌∙◌, to_z, of_z, w32}
 use Rattle.bpf.specs.Program.{Program}
 use Rattle.absdom.specs.State.{StateValue}
 use Rattle.absdom.specs.Edges.{edge_state}
@@ -34,3 +34,9 @@ pub returns-clause-extended : goal.returns-clause-extended
 returns-clause-extended c =
     let v = c.args.visit.now in
     extended_twice c.order_of_states.ensures.transitive (v.slot + 1) c.args.table.now c.follow_taken.new.table c.follow_not_taken-runs.new.table c.follow_taken.ensures.extended c.follow_not_taken-runs.ensures.extended
+
+pub returns-clause-least : goal.returns-clause-least
+returns-clause-least c =
+    let same : to_z w32 (of_z w32 c.args.distance) ≡ c.args.distance = search rules in
+    let first = rw same at c.in_ok-follow_taken.ensures.least in
+    λ above grown followed. c.follow_not_taken-runs.ensures.least above (first above grown followed.0) followed.1

@@ -1,5 +1,4 @@
-use Rattle.std.proofs.Common.{rules, ◌+◌, ap}
-use Rattle.bver.specs.Table.{TableValue, knowledge_in}
+use Rattle.std.proofs.Common.{rules, ◌+◌}
 use Rattle.bver.proofs.Above.{least_next}
 use Rattle.bver.proofs.Visiting.{changed_at}
 use Rattle.bver.proofs.edges.go_on.Goals as goal
@@ -11,5 +10,5 @@ returns-clause-extended c =
 
 pub returns-clause-least : goal.returns-clause-least
 returns-clause-least c =
-    rw c.slot.ensures.slot at (least_next (knowledge_in c.args.table.now) (knowledge_in c.go_on.new.self) c.go_on.result (c.slot.result + c.args.slots) c.args.state.now
-    c.go_on.ensures.least (λ on k. ap (λ (t : TableValue). knowledge_in t k) (c.go_on.ensures.same on)) c.go_on.ensures.others)
+    rw c.slot.ensures.slot at (least_next c.args.table.now c.go_on.new.self c.go_on.result (c.slot.result + c.args.slots) c.args.state.now
+    c.go_on.ensures.least c.go_on.ensures.same c.go_on.ensures.others)

@@ -3,6 +3,7 @@ use Rattle.bpf.specs.Program.{Program}
 use Rattle.absdom.specs.State.{IsWhole}
 use Rattle.bver.specs.Heads.{AreHeadsAt, IsDeclared, IsRaised, IsWithinBound}
 use Rattle.bver.specs.Justified.{IsHead}
+use Rattle.bver.specs.Leading.{raises}
 use Rattle.bver.proofs.Keeping.{known_kept}
 use Rattle.bver.proofs.Raising.{raised_above, raised_head}
 use Rattle.bver.proofs.Visiting.{heads_of}
@@ -38,3 +39,15 @@ returns-in_ok-raise_head-in-Some-clause-heads c =
     let here : IsRaised v.program l c.args.lowered.now b.place c.args.state.now new = subst (λ (p : Program). IsRaised p l c.args.lowered.now b.place c.args.state.now new) same raised in
     let head : IsHead v.program l new = raised_head v.program l c.args.lowered.now b.place c.args.state.now new c.head.ensures.formed declared.limits.register new_whole here in
     subst (λ (slot : ℕ). AreHeadsAt v.program slot (Some new)) at (heads_of v.program l b.place new c.head.ensures.program there head)
+
+pub returns-in_ok-raise_head-in-Some-clause-raised : goal.returns-in_ok-raise_head-in-Some-clause-raised
+returns-in_ok-raise_head-in-Some-clause-raised c =
+    let v = c.args.visit.now in
+    let b = c.in-Some.body in
+    let new = c.raise_head.new.state in
+    let same : b.program ≡ v.program = search rules in
+    let at : b.declared.head ≡ v.slot = search rules in
+    let declared : IsDeclared b.program b.declared b.place = search rules in
+    let raised : IsRaised b.program b.declared c.args.lowered.now b.place c.args.state.now new = search rules in
+    raises b.declared b.place (subst (λ (p : Program). IsDeclared p b.declared b.place) same declared) at
+    (subst (λ (p : Program). IsRaised p b.declared c.args.lowered.now b.place c.args.state.now new) same raised)

@@ -1,8 +1,11 @@
-use Rattle.std.proofs.Common.{rules, ◌≡◌, ◌<◌, length, ◌∙◌, arith, refl}
+use Rattle.std.proofs.Common.{rules, ◌≡◌, ◌<◌, Err, length, ◌∙◌, arith, refl}
 use Rattle.std.proofs.Math.ListN.{length-set}
 use Rattle.machine.specs.Step.{insn_at}
 use Rattle.bver_form.specs.Lowered.{IsMore, IsSettled}
-use Rattle.bver.specs.Visit.{IsVisit, VisitValue}
+use Rattle.bver.specs.Leading.{IsLeastVisitIfAny, IsVisitFaultIfAny}
+use Rattle.bver.specs.Table.{knowledge_in}
+use Rattle.bver.specs.Visit.{IsVisit, VisitValue, visited_state}
+use Rattle.bver.proofs.Below.{Order, below_none, pass_below, pass_refuted}
 use Rattle.bver.proofs.Passing.{passing_none, passing_plain, passing_slot, visit_at, visit_of, visited_program}
 use Rattle.bver.proofs.Visiting.{judged}
 use Rattle.bver.proofs.passes.pass.Goals as goal
@@ -13,8 +16,13 @@ visit_slot-requires-clause-plain c =
     (passing_plain c.args.image.now c.args.sizes.now c.loop-slot.table c.loop-slot.runs c.loop-slot.state c.loop-slot.regions.items (IsSettled c.args.lowered.now c.loop-slot.lowered) c.loop-slot.slot c.slots-slot-end.ensures.program c.loop-slot.invariant.0)
 
 pub loop-slot-init : goal.loop-slot-init
-loop-slot-init c =
-    (passing_none c.order_of_states.ensures.reflexive c.args.image.now c.args.sizes.now c.args.table.now c.entry-state.result c.args.regions.now.items (IsSettled c.args.lowered.now c.args.lowered.now) c.requires.entered c.entry-state.ensures.whole, c.requires.table, omega arith, c.requires.regions)
+loop-slot-init c = (
+  passing_none c.order_of_states.ensures.reflexive c.args.image.now c.args.sizes.now c.args.table.now c.entry-state.result c.args.regions.now.items (IsSettled c.args.lowered.now c.args.lowered.now) c.requires.entered c.entry-state.ensures.whole,
+  c.requires.table,
+  omega arith,
+  c.requires.regions,
+  λ none above h. below_none c.args.image.now c.args.table.now c.entry-state.result above (c.requires.least above h.entered),
+)
 
 pub loop-slot-preserved : goal.loop-slot-preserved
 loop-slot-preserved c =
@@ -32,6 +40,8 @@ loop-slot-preserved c =
     let region = c.in_ok-region.region in
     let v : VisitValue = c.new-visit.result in
     let visit : IsVisit v old new was runs state left (IsSettled before after) region (insn_at v.program v.slot) = search rules in
+    let order : Order = record { reflexive = c.order_of_states.ensures.reflexive; transitive = c.order_of_states.ensures.transitive; applies = c.apply_grows.ensures; refines = c.refine_grows.ensures; calls = c.after_call_grows.ensures } in
+    let least : IsLeastVisitIfAny v before old new was runs state left (insn_at v.program v.slot) = search rules in
     let more : IsMore before after = search rules in
     let earlier : IsMore c.args.lowered.now before = c.loop-slot.invariant.2 in
     let own : old.program ≡ p = c.loop-slot.invariant.1 in
@@ -44,6 +54,10 @@ loop-slot-preserved c =
       visited_program v old new was runs state left (IsSettled before after) region (insn_at v.program v.slot) visit ∙ own,
       omega (arith, more, earlier),
       length-set c.loop-slot.regions.items slot region ∙ size,
+      λ none above h.
+          pass_below order v p sizes slot before old new was runs state left (IsSettled before after) region above same none c.slots-slot-end.ensures.program
+          (passing_plain p sizes old was state c.loop-slot.regions.items (IsSettled c.args.lowered.now before) slot c.slots-slot-end.ensures.program c.loop-slot.invariant.0)
+          c.loop-slot.invariant.0.state_whole c.loop-slot.invariant.0.whole h visit least (c.loop-slot.invariant.4 none above h),
     )
 
 pub returns-clause-judged : goal.returns-clause-judged
@@ -53,3 +67,22 @@ returns-clause-judged c =
     let h = c.loop-slot.invariant.0 in
     λ settled.
     judged p c.args.sizes.now h.known c.loop-slot.regions.items c.slots-slot-end.ensures.program c.requires.formed c.loop-slot.invariant.3 (rw last at h.visited) (rw last at (h.permitted settled))
+
+pub returns-in_err-region-clause-refuted : goal.returns-in_err-region-clause-refuted
+returns-in_err-region-clause-refuted c =
+    let p = c.args.image.now in
+    let sizes = c.args.sizes.now in
+    let slot = c.loop-slot.slot in
+    let old = c.loop-slot.table in
+    let was = c.loop-slot.runs in
+    let state = c.loop-slot.state in
+    let v : VisitValue = c.new-visit.result in
+    let known = knowledge_in old in
+    let order : Order = record { reflexive = c.order_of_states.ensures.reflexive; transitive = c.order_of_states.ensures.transitive; applies = c.apply_grows.ensures; refines = c.refine_grows.ensures; calls = c.after_call_grows.ensures } in
+    let fault : IsVisitFaultIfAny v c.loop-slot.lowered known (visited_state was state old v.slot) (insn_at v.program v.slot) = search rules in
+    let same = visit_of v p sizes slot c.new-visit.ensures.program c.new-visit.ensures.sizes c.new-visit.ensures.slot in
+    let told : c.from_residual.result ≡ Err c.in_err-region.field-0.0 = search rules in
+    rw told (λ none above h.
+    pass_refuted order v p sizes slot c.loop-slot.lowered old was state known above same none
+    (passing_plain p sizes old was state c.loop-slot.regions.items (IsSettled c.args.lowered.now c.loop-slot.lowered) slot c.slots-slot-end.ensures.program c.loop-slot.invariant.0)
+    c.loop-slot.invariant.0.state_whole c.loop-slot.invariant.0.whole h fault (c.loop-slot.invariant.4 none above h))

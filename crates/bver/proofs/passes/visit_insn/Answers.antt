@@ -1,11 +1,13 @@
-use Rattle.std.proofs.Common.{rules, ◌≡◌, ◌+◌, Some, IsTrue}
+use Rattle.std.proofs.Common.{rules, ◌≡◌, ◌+◌, Err, Some, IsTrue}
 use Rattle.bpf_insn.specs.Spelling.{slots_of}
-use Rattle.bver.specs.Justified.{IsPermitted, accessed_region}
+use Rattle.bver.specs.Justified.{IsCoveredIfAny, IsPermitted, accessed_region}
+use Rattle.bver.specs.Leading.{IsFlowFault, IsRaisedIfAny, LeadsBelow}
 use Rattle.bver_form.specs.Lowered.{IsSettled}
-use Rattle.bver.specs.Table.{knowledge_beside}
+use Rattle.bver.specs.Table.{knowledge_beside, knowledge_in}
 use Rattle.bver_form.specs.Targets.{IsPlain}
-use Rattle.bver.specs.Visit.{IsExtended, visited_state}
+use Rattle.bver.specs.Visit.{IsExtended, IsLeastNext, IsLeastOf, visited_state}
 use Rattle.bver.specs.Heads.{AreHeadsAt}
+use Rattle.bver.proofs.Below.{leads_fault, least_insn}
 use Rattle.bver.proofs.Passing.{insn_visit}
 use Rattle.bver.proofs.Slots.{has_next}
 use Rattle.bver.proofs.passes.visit_insn.Goals as goal
@@ -37,3 +39,36 @@ returns-clause-visit c =
     let first : IsExtended v.slot old mid = search rules in
     let second : IsExtended (v.slot + 1) mid new = search rules in
     insn_visit c.order_of_states.ensures.transitive v old mid new was runs before here left (IsSettled c.args.lowered.now c.flow.new.lowered) c.accessed_region-region.result insn known permitted accesses heads plain first second
+
+pub returns-clause-least : goal.returns-clause-least
+returns-clause-least c =
+    let v = c.args.visit.now in
+    let insn = c.args.insn.now in
+    let old = c.args.table.now in
+    let mid = c.arrive.new.table in
+    let was = c.args.runs.now in
+    let before = c.args.state.now in
+    let here = c.arrive.new.state in
+    let runs = c.in_ok-goes_on.goes_on in
+    let known : visited_state was before mid v.slot ≡ Some here = search rules in
+    let raised : IsRaisedIfAny v.program c.args.lowered.now v.slot (visited_state was before old v.slot) (visited_state was before mid v.slot) = search rules in
+    let first : IsLeastOf (λ above. IsCoveredIfAny (visited_state was before mid v.slot) (above v.slot)) old mid = search rules in
+    let second : IsLeastNext (λ above. LeadsBelow above v.slot here insn) mid c.flow.new.table runs (v.slot + slots_of insn) c.flow.new.state = search rules in
+    let extended : IsExtended (v.slot + 1) mid c.flow.new.table = search rules in
+    least_insn v c.args.lowered.now old mid c.flow.new.table was runs before here c.flow.new.state insn known raised first second extended
+
+pub returns-in_err-goes_on-clause-fault : goal.returns-in_err-goes_on-clause-fault
+returns-in_err-goes_on-clause-fault c =
+    let v = c.args.visit.now in
+    let insn = c.args.insn.now in
+    let old = c.args.table.now in
+    let mid = c.arrive.new.table in
+    let was = c.args.runs.now in
+    let before = c.args.state.now in
+    let here = c.arrive.new.state in
+    let known : visited_state was before mid v.slot ≡ Some here = search rules in
+    let raised : IsRaisedIfAny v.program c.args.lowered.now v.slot (visited_state was before old v.slot) (visited_state was before mid v.slot) = search rules in
+    let extended : IsExtended v.slot old mid = search rules in
+    let fault : IsFlowFault v (knowledge_in mid) here insn = search rules in
+    let told : c.from_residual-in_err-goes_on.result ≡ Err c.in_err-goes_on.field-0.0 = search rules in
+    rw told (leads_fault v c.args.lowered.now old mid was before here insn known c.stands_whole.ensures raised extended fault)

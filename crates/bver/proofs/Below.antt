@@ -1,0 +1,379 @@
+-- What a pass knows stays below every table that covers what comes to a slot and what its instruction leads to; so it
+-- stays below one under which the program is justified, and a refusal refutes that one.
+use Rattle.std.proofs.Common.{◌≡◌, ℕ, ◌+◌, ◌<◌, ◌≤◌, Bool, true, false, List, [], length, Option, None, Some, Result, Ok, Err, inl, inr, refl, sym, ap, subst, ◌∙◌, arith}
+use Rattle.std.specs.Prelude.{IsTrue, IsSome, IfOk, IfSome}
+use Rattle.std.proofs.lemmas.Bool.{cases_lt, false≢true}
+use Rattle.bpf.specs.declared.loops.Loop.{Loop}
+use Rattle.bpf.specs.Program.{Program, IsProgram}
+use Rattle.bpf_insn.specs.declared.insn.Insn.{Insn}
+use Rattle.bpf_insn.specs.declared.insn.Insn.TheVariants.{Alu, Negate, MoveSigned, ByteSwap, Load, Store, Jump, Goto, Wide, LoadMap, LoadAddress, Call, Exit}
+use Rattle.bpf_insn.specs.declared.flow.Flow.TheVariants.{GoesOn}
+use Rattle.bpf_insn.specs.Flow.{flow_of}
+use Rattle.bpf_insn.specs.Spelling.{slots_of}
+use Rattle.machine.specs.Sizes.{Maps}
+use Rattle.machine.specs.declared.regions.Region.{Region}
+use Rattle.machine.specs.Step.{insn_at}
+use Rattle.absdom.specs.declared.cause.Cause.{Cause}
+use Rattle.absdom.specs.Edges.{Edges}
+use Rattle.absdom.specs.Effect.{after_insn}
+use Rattle.absdom.specs.State.{StateValue, IsEntry, IsBelow, IsWhole, entry_kinds}
+use Rattle.absdom.specs.Laws.{ApplyGrows, BelowIsReflexive, BelowIsTransitive, CallGrows, RefineGrows}
+use Rattle.bver_form.specs.declared.refusal.Refused.{Refused}
+use Rattle.bver_form.specs.Jumps.{target}
+use Rattle.bver_form.specs.Targets.{IsKept, IsPlain}
+use Rattle.bver.specs.Heads.{IsDeclared, IsWithinBound}
+use Rattle.bver.specs.Justified.{AreEdgesCovered, IsCovered, IsCoveredIfAny, IsEntered, IsHead, IsJustified, IsPermitted, IsPermittedAt, IsResultCovered, edges_of_comparison, knowledge_at}
+use Rattle.bver.specs.Leading.{BranchesBelow, EntersOutsideIfAny, IsFlowFault, IsFollowedBelow, IsLeastVisit, IsLeastVisitIfAny, IsRaisedIfAny, GivesBelow, IsUncovered, IsUncoveredIfAny, IsVisitFault, IsVisitFaultIfAny, LeadsBelow, enters, jumping_state, leads, raises, refutes, returns, stays}
+use Rattle.bver.specs.Table.{TableValue, knowledge_in}
+use Rattle.bver.specs.Unjustified.{Justifies}
+use Rattle.bver.specs.Visit.{AreWhole, IsExtended, IsLeastNext, IsLeastOf, IsVisit, VisitValue, visited_state}
+use Rattle.bver.proofs.Above.{AreUnset, entry_refuted, permitted_less, raised_less}
+use Rattle.bver.proofs.Covering.{AreCovered}
+use Rattle.bver.proofs.Passing.{StandsAt}
+use Rattle.bver.proofs.Slots.{goes_further, none_between}
+
+-- ---- what is permitted leads below the table
+
+result_leads : (r : Result StateValue Cause) (there : Option StateValue) → IsResultCovered r there → GivesBelow r there
+result_leads (Err cause) there h = absurd h
+result_leads (Ok a) there h = h
+
+edges_lead : (r : Result Edges Cause) (taken next : Option StateValue) → AreEdgesCovered r taken next → BranchesBelow r taken next
+edges_lead (Err cause) taken next h = absurd h
+edges_lead (Ok edges) taken next h = h
+
+pub permitted_leads : (sizes : Maps) (table : ℕ → Option StateValue) (slot : ℕ) (a : StateValue) (insn : Insn) → IsPermitted sizes table slot a insn → LeadsBelow table slot a insn
+permitted_leads sizes table slot a insn h = by_insn insn h
+  where
+    proceeds : (insn : Insn) → IsResultCovered (after_insn a insn) (table (slot + slots_of insn)) → GivesBelow (after_insn a insn) (table (slot + slots_of insn))
+    proceeds insn h = result_leads (after_insn a insn) (table (slot + slots_of insn)) h
+
+    by_insn : (insn : Insn) → IsPermitted sizes table slot a insn → LeadsBelow table slot a insn
+    by_insn (Alu op width dst src) h = proceeds (Alu op width dst src) h
+    by_insn (Negate width dst) h = proceeds (Negate width dst) h
+    by_insn (MoveSigned extension dst src) h = proceeds (MoveSigned extension dst src) h
+    by_insn (ByteSwap swap bits dst) h = proceeds (ByteSwap swap bits dst) h
+    by_insn (Load size dst place) h = proceeds (Load size dst place) h
+    by_insn (Store size place src) h = proceeds (Store size place src) h
+    by_insn (Jump comparison offset) h = edges_lead (edges_of_comparison a comparison) (knowledge_at table (target slot offset)) (table (slot + 1)) h
+    by_insn (Goto distance) h = h
+    by_insn (Wide dst value) h = proceeds (Wide dst value) h
+    by_insn (LoadMap dst index) h = proceeds (LoadMap dst index) h.1
+    by_insn (LoadAddress dst address) h = tt
+    by_insn (Call callee number) h = h.1
+    by_insn Exit h = tt
+
+-- an instruction that goes on leads where its result goes
+pub leads_on : (above : ℕ → Option StateValue) (slot : ℕ) (a : StateValue) (insn : Insn) → flow_of insn ≡ GoesOn → LeadsBelow above slot a insn → GivesBelow (after_insn a insn) (above (slot + slots_of insn))
+leads_on above slot a (Alu op width dst src) goes h = h
+leads_on above slot a (Negate width dst) goes h = h
+leads_on above slot a (MoveSigned extension dst src) goes h = h
+leads_on above slot a (ByteSwap swap bits dst) goes h = h
+leads_on above slot a (Load size dst place) goes h = h
+leads_on above slot a (Store size place src) goes h = h
+leads_on above slot a (Jump comparison offset) goes h = absurd cc
+leads_on above slot a (Goto distance) goes h = absurd cc
+leads_on above slot a (Wide dst value) goes h = h
+leads_on above slot a (LoadMap dst index) goes h = h
+leads_on above slot a (LoadAddress dst address) goes h = absurd cc
+leads_on above slot a (Call callee number) goes h = absurd cc
+leads_on above slot a Exit goes h = absurd cc
+
+pub straight_least : (r : Result Bool Refused) (slot : ℕ) (a : StateValue) (insn : Insn) (old new : TableValue) (state : StateValue) → flow_of insn ≡ GoesOn
+    → IfOk r (λ runs. IsLeastNext (λ above. GivesBelow (after_insn a insn) (above (slot + slots_of insn))) old new runs (slot + slots_of insn) state)
+    → IfOk r (λ runs. IsLeastNext (λ above. LeadsBelow above slot a insn) old new runs (slot + slots_of insn) state)
+straight_least (Ok runs) slot a insn old new state goes least = λ above grown followed. least above grown (leads_on above slot a insn goes followed)
+straight_least (Err refused) slot a insn old new state goes least = tt
+
+-- ---- from one slot of a pass to the next
+
+-- what the table knows is covered, and so is the running state where it stands
+pub record StaysBelow (p : Program) (table : TableValue) (runs : Bool) (state : StateValue) (slot : ℕ) (above : ℕ → Option StateValue) : Type 0 where
+  pub known : AreCovered (knowledge_in table) above
+  pub running : IsTrue runs → (next : ℕ) → StandsAt p slot next → IsCovered state (above next)
+
+-- the running state stands at one slot
+one_place : (p : Program) (slot a b : ℕ) → StandsAt p slot a → StandsAt p slot b → a ≡ b
+one_place p slot a b f g =
+    elim (cases_lt a b) [
+      | inl below ↦ absurd (false≢true (subst (λ (o : Option Insn). IsSome o) (g.between a f.from below) f.begins))
+      | inr past ↦ elim (cases_lt b a) [
+        | inl beyond ↦ absurd (false≢true (subst (λ (o : Option Insn). IsSome o) (f.between b g.from beyond) g.begins))
+        | inr at ↦ omega (arith, past, at)
+      ]
+    ]
+
+-- what comes to the slot of an instruction is covered
+pub comes_below : (p : Program) (table : TableValue) (runs : Bool) (state : StateValue) (slot : ℕ) (insn : Insn) (above : ℕ → Option StateValue) → insn_at p slot ≡ Some insn → (IsTrue runs → IsKept p slot → ⊥) → StaysBelow p table runs state slot above → IsCoveredIfAny (visited_state runs state table slot) (above slot)
+comes_below p table false state slot insn above begins plain h = h.known slot
+comes_below p table true state slot insn above begins plain h =
+    h.running refl slot (record {
+      from = omega arith;
+      begins = subst (λ (o : Option Insn). IsSome o) (sym begins) refl;
+      between = λ k from below. absurd (omega (arith, from, below));
+      plain = plain refl;
+    })
+
+-- after the visit of an instruction
+pub below_next : (v : VisitValue) (lowered : List Bool) (old new : TableValue) (was runs : Bool) (before after : StateValue) (insn : Insn) (above : ℕ → Option StateValue) → IsProgram v.program → insn_at v.program v.slot ≡ Some insn → (IsTrue runs → IsPlain v.program (v.slot + slots_of insn)) → IsLeastVisit v lowered old new was runs before after insn → IsFollowedBelow above v.slot (visited_state was before new v.slot) insn → StaysBelow v.program old was before v.slot above → StaysBelow v.program new runs after (v.slot + 1) above
+below_next v lowered old new was runs before after insn above limits begins plain visit followed h = record {
+  known = (visit.least above h.known followed).0;
+  running = λ on next stands.
+      subst (λ (k : ℕ). IsCovered after (above k)) (one_place v.program (v.slot + 1) (v.slot + slots_of insn) next (here on) stands)
+      ((visit.least above h.known followed).1 on);
+}
+  where
+    here : IsTrue runs → StandsAt v.program (v.slot + 1) (v.slot + slots_of insn)
+    here on =
+        let further : v.slot < v.slot + slots_of insn = goes_further v.slot insn in
+        record {
+          from = omega (arith, further);
+          begins = (plain on).begins;
+          between = λ k from below. none_between v.program v.slot k insn limits begins from below;
+          plain = (plain on).unkept;
+        }
+
+-- after a second slot
+pub below_skip : (p : Program) (table : TableValue) (runs : Bool) (state : StateValue) (slot : ℕ) (above : ℕ → Option StateValue) → insn_at p slot ≡ None → StaysBelow p table runs state slot above → StaysBelow p table runs state (slot + 1) above
+below_skip p table runs state slot above none h = record {
+  known = h.known;
+  running = λ on next stands. h.running on next (record { from = omega (arith, stands.from); begins = stands.begins; between = between next stands; plain = stands.plain });
+}
+  where
+    between : (next : ℕ) → StandsAt p (slot + 1) next → (k : ℕ) → slot ≤ k → k < next → insn_at p k ≡ None
+    between next stands k from below =
+        elim (cases_lt slot k) [
+          | inl beyond ↦ stands.between k (omega (arith, beyond)) below
+          | inr past ↦
+              let same : slot ≡ k = omega (arith, from, past) in
+              subst (λ (i : ℕ). insn_at p i ≡ None) same none
+        ]
+
+-- before the first slot
+pub below_none : (p : Program) (table : TableValue) (state : StateValue) (above : ℕ → Option StateValue) → AreCovered (knowledge_in table) above → StaysBelow p table false state 0 above
+below_none p table state above known = record { known = known; running = λ on. absurd (false≢true on) }
+
+-- ---- the visit of an instruction: what comes to it, and what its flow does
+
+-- where nothing is known
+pub least_nothing : (v : VisitValue) (lowered : List Bool) (old new : TableValue) (was : Bool) (before after : StateValue) (insn : Insn) → visited_state was before new v.slot ≡ None
+    → IsRaisedIfAny v.program lowered v.slot (visited_state was before old v.slot) (visited_state was before new v.slot)
+    → IsLeastOf (λ above. IsCoveredIfAny (visited_state was before new v.slot) (above v.slot)) old new
+    → IsLeastVisit v lowered old new was was before after insn
+least_nothing v lowered old new true before after insn none raised least = absurd cc
+least_nothing v lowered old new false before after insn none raised least = record {
+  raised = raised;
+  least = λ above grown followed. (least above grown (subst (λ (o : Option StateValue). IsCoveredIfAny o (above v.slot)) (sym none) tt), λ on. absurd (false≢true on));
+}
+
+-- where something is
+pub least_insn : (v : VisitValue) (lowered : List Bool) (old mid new : TableValue) (was runs : Bool) (before here after : StateValue) (insn : Insn) → visited_state was before mid v.slot ≡ Some here
+    → IsRaisedIfAny v.program lowered v.slot (visited_state was before old v.slot) (visited_state was before mid v.slot)
+    → IsLeastOf (λ above. IsCoveredIfAny (visited_state was before mid v.slot) (above v.slot)) old mid
+    → IsLeastNext (λ above. LeadsBelow above v.slot here insn) mid new runs (v.slot + slots_of insn) after
+    → IsExtended (v.slot + 1) mid new
+    → IsLeastVisit v lowered old new was runs before after insn
+least_insn v lowered old mid new was runs before here after insn known raised first second extended = record {
+  raised = subst (λ (o : Option StateValue). IsRaisedIfAny v.program lowered v.slot (visited_state was before old v.slot) o) (sym same) raised;
+  least = λ above grown followed.
+      let led : IsCovered here (above v.slot) × LeadsBelow above v.slot here insn = subst (λ (o : Option StateValue). IsFollowedBelow above v.slot o insn) (same ∙ known) followed in
+      second above (first above grown (subst (λ (o : Option StateValue). IsCoveredIfAny o (above v.slot)) (sym known) led.0)) led.1;
+}
+  where
+    by_runs : (b : Bool) → visited_state b before new v.slot ≡ visited_state b before mid v.slot
+    by_runs false = extended.kept v.slot (omega arith)
+    by_runs true = refl
+
+    same : visited_state was before new v.slot ≡ visited_state was before mid v.slot
+    same = by_runs was
+
+-- what is refused with a table is with one that is the same before the slot
+fault_before : (v : VisitValue) (mid old : ℕ → Option StateValue) (a : StateValue) (insn : Insn) → ((k : ℕ) → k < v.slot → mid k ≡ old k) → IsFlowFault v mid a insn → IsFlowFault v old a insn
+fault_before v mid old a insn same (refutes refuted) = refutes refuted
+fault_before v mid old a insn same (returns uncovered) = returns (by_edge (jumping_state a insn) uncovered)
+  where
+    by_edge : (edge : Option StateValue) → IsUncoveredIfAny v.program v.slot mid edge → IsUncoveredIfAny v.program v.slot old edge
+    by_edge None u = u
+    by_edge (Some edge) u = record {
+      declared = u.declared;
+      place = u.place;
+      is = u.is;
+      back = u.back;
+      uncovered = λ covered. u.uncovered (subst (λ (o : Option StateValue). IsCovered edge o) (sym (same u.declared.head (omega (arith, u.is.limits.ordered, u.back)))) covered);
+    }
+
+pub enters_fault : (v : VisitValue) (lowered : List Bool) (known : ℕ → Option StateValue) (came : Option StateValue) (insn : Insn) → EntersOutsideIfAny v.program v.slot came → IsVisitFaultIfAny v lowered known came (Some insn)
+enters_fault v lowered known None insn fault = fault
+enters_fault v lowered known (Some a) insn fault = enters fault
+
+pub leads_fault : (v : VisitValue) (lowered : List Bool) (old mid : TableValue) (was : Bool) (before here : StateValue) (insn : Insn) → visited_state was before mid v.slot ≡ Some here → IsWhole here
+    → IsRaisedIfAny v.program lowered v.slot (visited_state was before old v.slot) (visited_state was before mid v.slot)
+    → IsExtended v.slot old mid → IsFlowFault v (knowledge_in mid) here insn
+    → IsVisitFaultIfAny v lowered (knowledge_in old) (visited_state was before old v.slot) (Some insn)
+leads_fault v lowered old mid was before here insn known whole raised extended fault =
+    by_came (visited_state was before old v.slot) (subst (λ (o : Option StateValue). IsRaisedIfAny v.program lowered v.slot (visited_state was before old v.slot) o) known raised)
+  where
+    by_came : (came : Option StateValue) → IsRaisedIfAny v.program lowered v.slot came (Some here) → IsVisitFaultIfAny v lowered (knowledge_in old) came (Some insn)
+    by_came None raised = raised
+    by_came (Some a) raised = leads here whole raised (fault_before v (knowledge_in mid) (knowledge_in old) here insn extended.kept fault)
+
+-- ---- below a table under which the program is justified
+
+-- what holds of the states of the verifier
+pub record Order : Type 0 where
+  pub reflexive : BelowIsReflexive
+  pub transitive : BelowIsTransitive
+  pub applies : ApplyGrows
+  pub refines : RefineGrows
+  pub calls : CallGrows
+
+-- what was lowered for a loop holds nothing at its head in the table
+abbrev pub HasLowered : Program → (lowered : List Bool) → (table : ℕ → Option StateValue) → Type 0
+HasLowered p lowered table = (l : Loop) (place : ℕ) → IsDeclared p l place → IfSome (table l.head) (AreUnset p l lowered place)
+
+-- what stands at the head of a loop in the table
+head_in : (p : Program) (sizes : Maps) (table : ℕ → Option StateValue) (l : Loop) (place : ℕ) → Justifies p sizes table → IsDeclared p l place → IfSome (table l.head) (IsHead p l)
+head_in p sizes table l place h declared = subst (λ (m : Loop). IfSome (table m.head) (IsHead p m)) (declared.is l) (h.heads place l declared.inside)
+
+-- what comes to a slot is covered there once it is raised
+raised_covered : (p : Program) (sizes : Maps) (table : ℕ → Option StateValue) (lowered : List Bool) (slot : ℕ) (before after : Option StateValue) → Justifies p sizes table → HasLowered p lowered table → IfSome before IsWhole → IfSome after IsWhole → IsCoveredIfAny before (table slot) → IsRaisedIfAny p lowered slot before after → IsCoveredIfAny after (table slot)
+raised_covered p sizes table lowered slot before None h low old new covered raised = tt
+raised_covered p sizes table lowered slot None (Some a) h low old new covered raised = absurd raised
+raised_covered p sizes table lowered slot (Some b) (Some a) h low old new covered (stays none same) = subst (λ (s : StateValue). IsCovered s (table slot)) (sym same) covered
+raised_covered p sizes table lowered slot (Some b) (Some a) h low old new covered (raises l place declared at raised) =
+    by_there (table slot)
+    (subst (λ (k : ℕ). IfSome (table k) (IsHead p l)) at (head_in p sizes table l place h declared))
+    (subst (λ (k : ℕ). IfSome (table k) (AreUnset p l lowered place)) at (low l place declared))
+    covered
+  where
+    by_there : (there : Option StateValue) → IfSome there (IsHead p l) → IfSome there (AreUnset p l lowered place) → IsCovered b there → IsCovered a there
+    by_there None head unset below = absurd below
+    by_there (Some d) head unset below = raised_less p l lowered place b a d old new head unset below raised
+
+-- what is known of a state that the table covers is permitted by it
+permitted_there : Order → (p : Program) (sizes : Maps) (table : ℕ → Option StateValue) (slot : ℕ) (a : StateValue) (insn : Insn) → Justifies p sizes table → insn_at p slot ≡ Some insn → IsWhole a → IsCovered a (table slot) → IsPermitted sizes table slot a insn
+permitted_there order p sizes table slot a insn h begins whole covered =
+    by_there (table slot) (h.whole slot) covered (subst (λ (o : Option Insn). IsPermittedAt sizes table slot (table slot) o) begins (h.permitted slot))
+  where
+    by_there : (there : Option StateValue) → IfSome there IsWhole → IsCovered a there → IsPermittedAt sizes table slot there (Some insn) → IsPermitted sizes table slot a insn
+    by_there None proper below permitted = absurd below
+    by_there (Some d) proper below permitted = permitted_less order.applies order.refines order.calls order.transitive sizes table slot a d insn whole proper below permitted
+
+-- what comes to a slot is whole
+pub comes_whole : (runs : Bool) (state : StateValue) (table : TableValue) (slot : ℕ) → IsWhole state → AreWhole (knowledge_in table) → IfSome (visited_state runs state table slot) IsWhole
+comes_whole false state table slot proper whole = whole slot
+comes_whole true state table slot proper whole = proper
+
+-- what is known at the slot of an instruction, where the table covers it, is followed below the table
+followed_there : Order → (p : Program) (sizes : Maps) (table : ℕ → Option StateValue) (slot : ℕ) (known : Option StateValue) (insn : Insn) → Justifies p sizes table → insn_at p slot ≡ Some insn → IfSome known IsWhole → IsCoveredIfAny known (table slot) → IsFollowedBelow table slot known insn
+followed_there order p sizes table slot None insn h begins whole covered = tt
+followed_there order p sizes table slot (Some a) insn h begins whole covered =
+    (covered, permitted_leads sizes table slot a insn (permitted_there order p sizes table slot a insn h begins whole covered))
+
+-- after the visit of a slot
+pub justified_next : Order → (v : VisitValue) (lowered : List Bool) (old new : TableValue) (was runs : Bool) (before after : StateValue) (settled : Type 0) (region : Option Region) (o : Option Insn) (above : ℕ → Option StateValue)
+    → IsProgram v.program → insn_at v.program v.slot ≡ o → (IsTrue was → IsKept v.program v.slot → ⊥)
+    → IsWhole before → AreWhole (knowledge_in old)
+    → Justifies v.program v.sizes above → HasLowered v.program lowered above
+    → IsVisit v old new was runs before after settled region o → IsLeastVisitIfAny v lowered old new was runs before after o
+    → StaysBelow v.program old was before v.slot above → StaysBelow v.program new runs after (v.slot + 1) above
+justified_next order v lowered old new was runs before after settled region None above limits none plain proper whole h low visit least below =
+    rw (visit.same_table, visit.same_runs, visit.same_state) (below_skip v.program old was before v.slot above none below)
+justified_next order v lowered old new was runs before after settled region (Some insn) above limits begins plain proper whole h low visit least below =
+    below_next v lowered old new was runs before after insn above limits begins visit.plain least
+    (followed_there order v.program v.sizes above v.slot (visited_state was before new v.slot) insn h begins here_whole
+    (raised_covered v.program v.sizes above lowered v.slot (visited_state was before old v.slot) (visited_state was before new v.slot) h low
+    (comes_whole was before old v.slot proper whole) here_whole
+    (comes_below v.program old was before v.slot insn above begins plain below) least.raised))
+    below
+  where
+    here_whole : IfSome (visited_state was before new v.slot) IsWhole
+    here_whole = comes_whole was before new v.slot proper (visit.extended.whole whole)
+
+-- what a visit is refused for, a table under which the program is justified rules out, but for an edge back that is
+-- not covered
+pub visit_refuted : Order → (v : VisitValue) (lowered : List Bool) (old : TableValue) (was : Bool) (before : StateValue) (known : ℕ → Option StateValue) (o : Option Insn) (above : ℕ → Option StateValue)
+    → insn_at v.program v.slot ≡ o → (IsTrue was → IsKept v.program v.slot → ⊥)
+    → IsWhole before → AreWhole (knowledge_in old)
+    → Justifies v.program v.sizes above → HasLowered v.program lowered above → StaysBelow v.program old was before v.slot above
+    → ((edge : StateValue) → IsUncovered v.program v.slot known edge → ⊥)
+    → IsVisitFaultIfAny v lowered known (visited_state was before old v.slot) o → ⊥
+visit_refuted order v lowered old was before known None above none plain proper whole h low below covers fault = fault
+visit_refuted order v lowered old was before known (Some insn) above begins plain proper whole h low below covers fault =
+    by_state (visited_state was before old v.slot) (comes_whole was before old v.slot proper whole) (comes_below v.program old was before v.slot insn above begins plain below) fault
+  where
+    by_edge : (edge : Option StateValue) → IsUncoveredIfAny v.program v.slot known edge → ⊥
+    by_edge None uncovered = uncovered
+    by_edge (Some edge) uncovered = covers edge uncovered
+
+    by_flow : (here : StateValue) → IsWhole here → IsCovered here (above v.slot) → IsFlowFault v known here insn → ⊥
+    by_flow here whole covered (refutes refuted) = refuted above (permitted_there order v.program v.sizes above v.slot here insn h begins whole covered)
+    by_flow here whole covered (returns uncovered) = by_edge (jumping_state here insn) uncovered
+
+    by_head : (l : Loop) (a : StateValue) (there : Option StateValue) → IfSome there (IsHead v.program l) → IsCovered a there → (IsWithinBound l a → ⊥) → ⊥
+    by_head l a None head covered outside = covered
+    by_head l a (Some d) head covered outside = entry_refuted v.program l a d head covered outside
+
+    by_fault : (a : StateValue) → IsWhole a → IsCovered a (above v.slot) → IsVisitFault v lowered known a insn → ⊥
+    by_fault a whole covered (enters f) =
+        by_head f.declared a (above v.slot) (subst (λ (k : ℕ). IfSome (above k) (IsHead v.program f.declared)) f.head (head_in v.program v.sizes above f.declared f.place h f.is)) covered f.outside
+    by_fault a whole covered (leads here here_whole raised flow) =
+        by_flow here here_whole (raised_covered v.program v.sizes above lowered v.slot (Some a) (Some here) h low whole here_whole covered raised) flow
+
+    by_state : (came : Option StateValue) → IfSome came IsWhole → IsCoveredIfAny came (above v.slot) → IsVisitFaultIfAny v lowered known came (Some insn) → ⊥
+    by_state None whole covered fault = fault
+    by_state (Some a) whole covered fault = by_fault a whole covered fault
+
+-- ---- where a program declares no loop
+
+declares_none : (p : Program) → p.loops ≡ [] → (l : Loop) (place : ℕ) → IsDeclared p l place → ⊥
+declares_none p none l place declared = omega (arith, declared.inside, ap (λ (ls : List Loop). length ls) none)
+
+pub lowers_none : (p : Program) → p.loops ≡ [] → (lowered : List Bool) (table : ℕ → Option StateValue) → HasLowered p lowered table
+lowers_none p none lowered table l place declared = absurd (declares_none p none l place declared)
+
+pub covers_none : (p : Program) → p.loops ≡ [] → (slot : ℕ) (known : ℕ → Option StateValue) (edge : StateValue) → IsUncovered p slot known edge → ⊥
+covers_none p none slot known edge uncovered = declares_none p none uncovered.declared uncovered.place uncovered.is
+
+-- ---- from the entry to the end
+
+-- what is known at entry is below what any table has there
+pub entry_below : Order → (a : StateValue) (there : Option StateValue) → IsEntry a → IsEntered there → IsCovered a there
+entry_below order a None entry entered = absurd entered.covered
+entry_below order a (Some d) entry entered = order.transitive a entered.known d (alike a entered.known entry entered.entry) entered.covered
+  where
+    alike : (a b : StateValue) → IsEntry a → IsEntry b → IsBelow a b
+    alike a b f g = record {
+      kinds = rw (f.kinds, g.kinds) (order.reflexive (record { kinds = entry_kinds; marks = [] })).kinds;
+      marks = λ place is. absurd (false≢true (sym (g.marks place) ∙ is));
+    }
+
+-- a table under which a program is justified
+pub justifies : (p : Program) (sizes : Maps) (h : IsJustified p sizes) → Justifies p sizes h.table
+justifies p sizes h = record { entered = h.entered; whole = h.whole; permitted = h.permitted; heads = h.heads }
+
+-- ---- the slots of a pass, where a program declares no loop
+
+-- after the visit of a slot
+pub pass_below : Order → (v : VisitValue) (p : Program) (sizes : Maps) (slot : ℕ) (lowered : List Bool) (old new : TableValue) (was runs : Bool) (before after : StateValue) (settled : Type 0) (region : Option Region) (above : ℕ → Option StateValue)
+    → v ≡ record { program = p; sizes = sizes; slot = slot } → p.loops ≡ [] → IsProgram p → (IsTrue was → IsKept p slot → ⊥)
+    → IsWhole before → AreWhole (knowledge_in old) → Justifies p sizes above
+    → IsVisit v old new was runs before after settled region (insn_at v.program v.slot) → IsLeastVisitIfAny v lowered old new was runs before after (insn_at v.program v.slot)
+    → StaysBelow p old was before slot above → StaysBelow p new runs after (slot + 1) above
+pass_below order v p sizes slot lowered old new was runs before after settled region above same none limits plain proper whole h visit least below =
+    let w : VisitValue = record { program = p; sizes = sizes; slot = slot } in
+    justified_next order w lowered old new was runs before after settled region (insn_at p slot) above limits refl plain proper whole h (lowers_none p none lowered above)
+    (subst (λ (u : VisitValue). IsVisit u old new was runs before after settled region (insn_at u.program u.slot)) same visit)
+    (subst (λ (u : VisitValue). IsLeastVisitIfAny u lowered old new was runs before after (insn_at u.program u.slot)) same least)
+    below
+
+-- no visit is refused
+pub pass_refuted : Order → (v : VisitValue) (p : Program) (sizes : Maps) (slot : ℕ) (lowered : List Bool) (old : TableValue) (was : Bool) (before : StateValue) (known above : ℕ → Option StateValue)
+    → v ≡ record { program = p; sizes = sizes; slot = slot } → p.loops ≡ [] → (IsTrue was → IsKept p slot → ⊥)
+    → IsWhole before → AreWhole (knowledge_in old) → Justifies p sizes above
+    → IsVisitFaultIfAny v lowered known (visited_state was before old v.slot) (insn_at v.program v.slot)
+    → StaysBelow p old was before slot above → ⊥
+pass_refuted order v p sizes slot lowered old was before known above same none plain proper whole h fault below =
+    let w : VisitValue = record { program = p; sizes = sizes; slot = slot } in
+    visit_refuted order w lowered old was before known (insn_at p slot) above refl plain proper whole h (lowers_none p none lowered above) below (covers_none p none slot known)
+    (subst (λ (u : VisitValue). IsVisitFaultIfAny u lowered known (visited_state was before old u.slot) (insn_at u.program u.slot)) same fault)

@@ -1,0 +1,18 @@
+use Rattle.std.proofs.Common.{rules, ◌≡◌}
+use Rattle.bpf_insn.specs.declared.flow.Flow.TheVariants.{GoesOn}
+use Rattle.bpf_insn.specs.Flow.{flow_of}
+use Rattle.bver.proofs.Below.{straight_least}
+use Rattle.bver.proofs.edges.flow.Goals as goal
+
+pub returns-in_ok-check_map-in-LoadMap-clause-least :
+    goal.returns-in_ok-check_map-in-LoadMap-clause-least
+returns-in_ok-check_map-in-LoadMap-clause-least c = rw c.in-LoadMap.is (rw c.in-LoadMap.is at c.straight.ensures.least)
+
+pub returns-in-Call-clause-least : goal.returns-in-Call-clause-least
+returns-in-Call-clause-least c = rw c.in-Call.is c.ask.ensures.least
+
+pub returns-in-Alu-clause-least : goal.returns-in-Alu-clause-least
+returns-in-Alu-clause-least c =
+    let goes : flow_of c.args.insn.now ≡ GoesOn = search rules in
+    let v = c.args.visit.now in
+    straight_least c.straight-in-Alu.result v.slot c.args.state.now c.args.insn.now c.args.table.now c.straight-in-Alu.new.table c.straight-in-Alu.new.state goes c.straight-in-Alu.ensures.least

@@ -1,0 +1,145 @@
+-- Where an instruction leads, with what is known at its slot, and why its visit is refused.
+use Rattle.std.specs.Prelude.{◌≡◌, ◌≢◌, ℕ, ◌+◌, Bool, List, Option, Some, None, Result, Ok, Err, All, IfSome}
+use Rattle.bpf.specs.declared.loops.Loop.{Loop}
+use Rattle.bpf.specs.Program.{Program}
+use Rattle.bpf_insn.specs.declared.insn.Insn.{Insn}
+use Rattle.bpf_insn.specs.declared.insn.Insn.TheVariants.{Alu, Negate, MoveSigned, ByteSwap, Load, Store, Jump, Goto, Wide, LoadMap, LoadAddress, Call, Exit}
+use Rattle.bpf_insn.specs.Spelling.{slots_of}
+use Rattle.bpf_parts.specs.Operands.{distance_of}
+use Rattle.absdom.specs.declared.cause.Cause.{Cause}
+use Rattle.absdom.specs.Edges.{Edges}
+use Rattle.absdom.specs.Effect.{after_insn}
+use Rattle.absdom.specs.State.{StateValue, IsWhole, after_call}
+use Rattle.bver_form.specs.Jumps.{target}
+use Rattle.bver.specs.Heads.{IsDeclared, IsRaised, IsWithinBound}
+use Rattle.bver.specs.Justified.{IsCovered, IsCoveredIfAny, edges_of_comparison, knowledge_at}
+use Rattle.bver.specs.Table.{TableValue}
+use Rattle.bver.specs.Unjustified.{IsRefuted}
+use Rattle.bver.specs.Visit.{IsLeastNext, VisitValue, visited_state}
+
+-- ---- where it leads
+
+-- what an instruction leaves, where it is not refused, is covered where it goes on
+abbrev pub GivesBelow : Result StateValue Cause → (there : Option StateValue) → Type 0
+GivesBelow (Err cause) there = Unit {0}
+GivesBelow (Ok a) there = IsCovered a there
+
+-- each edge of a comparison that a run may take, where it is not refused, is covered
+abbrev pub BranchesBelow : Result Edges Cause → (taken next : Option StateValue) → Type 0
+BranchesBelow (Err cause) taken next = Unit {0}
+BranchesBelow (Ok edges) taken next = IsCoveredIfAny edges.taken taken × IsCoveredIfAny edges.not_taken next
+
+-- an instruction that goes on to the next one leaves what is covered there, where it is not refused
+abbrev pub ProceedsBelow : (above : ℕ → Option StateValue) (slot : ℕ) → StateValue → Insn → Type 0
+ProceedsBelow above slot a insn = GivesBelow (after_insn a insn) (above (slot + slots_of insn))
+
+-- on every edge that a run may take, what an instruction leaves is covered: as if it were permitted, but where it is
+-- refused nothing is asked
+abbrev pub LeadsBelow : (above : ℕ → Option StateValue) (slot : ℕ) → StateValue → Insn → Type 0
+LeadsBelow above slot a (Alu op width dst src) = ProceedsBelow above slot a (Alu op width dst src)
+LeadsBelow above slot a (Negate width dst) = ProceedsBelow above slot a (Negate width dst)
+LeadsBelow above slot a (MoveSigned extension dst src) = ProceedsBelow above slot a (MoveSigned extension dst src)
+LeadsBelow above slot a (ByteSwap swap bits dst) = ProceedsBelow above slot a (ByteSwap swap bits dst)
+LeadsBelow above slot a (Load size dst place) = ProceedsBelow above slot a (Load size dst place)
+LeadsBelow above slot a (Store size place src) = ProceedsBelow above slot a (Store size place src)
+LeadsBelow above slot a (Jump comparison offset) =
+    BranchesBelow (edges_of_comparison a comparison) (knowledge_at above (target slot offset)) (above (slot + 1))
+LeadsBelow above slot a (Goto distance) = IsCovered a (knowledge_at above (target slot (distance_of distance)))
+LeadsBelow above slot a (Wide dst value) = ProceedsBelow above slot a (Wide dst value)
+LeadsBelow above slot a (LoadMap dst index) = ProceedsBelow above slot a (LoadMap dst index)
+LeadsBelow above slot a (LoadAddress dst address) = Unit {0}
+LeadsBelow above slot a (Call callee number) = IsCovered (after_call a) (above (slot + 1))
+LeadsBelow above slot a Exit = Unit {0}
+
+-- what is known on the edge of a comparison on which it holds, where a run may take it
+abbrev pub taken_state : Result Edges Cause → Option StateValue
+taken_state (Err cause) = None
+taken_state (Ok edges) = edges.taken
+
+-- what is known along the jump of an instruction, where a run may take it
+abbrev pub jumping_state : StateValue → Insn → Option StateValue
+jumping_state a (Alu op width dst src) = None
+jumping_state a (Negate width dst) = None
+jumping_state a (MoveSigned extension dst src) = None
+jumping_state a (ByteSwap swap bits dst) = None
+jumping_state a (Load size dst place) = None
+jumping_state a (Store size place src) = None
+jumping_state a (Jump comparison offset) = taken_state (edges_of_comparison a comparison)
+jumping_state a (Goto distance) = Some a
+jumping_state a (Wide dst value) = None
+jumping_state a (LoadMap dst index) = None
+jumping_state a (LoadAddress dst address) = None
+jumping_state a (Call callee number) = None
+jumping_state a Exit = None
+
+-- ---- why it is refused
+
+-- an edge from the slot goes back to the head of a declared loop, where it is not covered
+pub record IsUncovered (p : Program) (slot : ℕ) (known : ℕ → Option StateValue) (edge : StateValue) : Type 0 where
+  pub declared : Loop
+  pub place : ℕ
+  pub is : IsDeclared p declared place
+  pub back : declared.back ≡ slot
+  pub uncovered : IsCovered edge (known declared.head) → ⊥
+
+-- there is such an edge
+abbrev pub IsUncoveredIfAny : Program → (slot : ℕ) (known : ℕ → Option StateValue) → Option StateValue → Type 0
+IsUncoveredIfAny p slot known None = ⊥
+IsUncoveredIfAny p slot known (Some edge) = IsUncovered p slot known edge
+
+-- with what is known at its slot an instruction is refused: no table permits it, or its edge back is not covered
+pub data IsFlowFault (v : VisitValue) (known : ℕ → Option StateValue) (a : StateValue) (insn : Insn) : Type 0 where
+  refutes : IsRefuted v.sizes v.slot a insn → IsFlowFault v known a insn
+  returns : IsUncoveredIfAny v.program v.slot known (jumping_state a insn) → IsFlowFault v known a insn
+
+-- a run may come to the head of a declared loop at the slot with a counter outside its bound, or with none
+pub record EntersOutside (p : Program) (slot : ℕ) (a : StateValue) : Type 0 where
+  pub declared : Loop
+  pub place : ℕ
+  pub is : IsDeclared p declared place
+  pub head : declared.head ≡ slot
+  pub outside : IsWithinBound declared a → ⊥
+
+-- something comes there, and may come so
+abbrev pub EntersOutsideIfAny : Program → (slot : ℕ) → Option StateValue → Type 0
+EntersOutsideIfAny p slot None = ⊥
+EntersOutsideIfAny p slot (Some a) = EntersOutside p slot a
+
+-- ---- a visit
+
+-- what comes to a slot is raised at the head of a declared loop, and else stays as it is
+pub data IsRaisedAt (p : Program) (lowered : List Bool) (slot : ℕ) (before after : StateValue) : Type 0 where
+  raises : (l : Loop) (place : ℕ) → IsDeclared p l place → l.head ≡ slot → IsRaised p l lowered place before after → IsRaisedAt p lowered slot before after
+  stays : All (λ l. l.head ≢ slot) p.loops → after ≡ before → IsRaisedAt p lowered slot before after
+
+-- the same where anything comes there
+abbrev pub IsRaisedIfAny : Program → (lowered : List Bool) (slot : ℕ) → (before after : Option StateValue) → Type 0
+IsRaisedIfAny p lowered slot None None = Unit {0}
+IsRaisedIfAny p lowered slot None (Some after) = ⊥
+IsRaisedIfAny p lowered slot (Some before) None = ⊥
+IsRaisedIfAny p lowered slot (Some before) (Some after) = IsRaisedAt p lowered slot before after
+
+-- where anything is known at the slot, it is covered there, and so is what the instruction leads to
+abbrev pub IsFollowedBelow : (above : ℕ → Option StateValue) (slot : ℕ) → Option StateValue → Insn → Type 0
+IsFollowedBelow above slot known insn = IfSome known (λ a. IsCovered a (above slot) × LeadsBelow above slot a insn)
+
+-- after the visit of the instruction at the slot no more is known than what came there, raised, and what it leads to
+pub record IsLeastVisit (v : VisitValue) (lowered : List Bool) (old new : TableValue) (was runs : Bool) (before after : StateValue) (insn : Insn) : Type 0 where
+  pub raised : IsRaisedIfAny v.program lowered v.slot (visited_state was before old v.slot) (visited_state was before new v.slot)
+  pub least : IsLeastNext (λ above. IsFollowedBelow above v.slot (visited_state was before new v.slot) insn) old new runs (v.slot + slots_of insn) after
+
+-- the same at a second slot, of which nothing is to be said
+abbrev pub IsLeastVisitIfAny : (v : VisitValue) (lowered : List Bool) (old new : TableValue) (was runs : Bool) (before after : StateValue) → Option Insn → Type 0
+IsLeastVisitIfAny v lowered old new was runs before after None = Unit {0}
+IsLeastVisitIfAny v lowered old new was runs before after (Some insn) = IsLeastVisit v lowered old new was runs before after insn
+
+-- what comes to the slot is refused there: at the head of a loop, or with the instruction
+pub data IsVisitFault (v : VisitValue) (lowered : List Bool) (known : ℕ → Option StateValue) (before : StateValue) (insn : Insn) : Type 0 where
+  enters : EntersOutside v.program v.slot before → IsVisitFault v lowered known before insn
+  leads : (here : StateValue) → IsWhole here → IsRaisedAt v.program lowered v.slot before here → IsFlowFault v known here insn → IsVisitFault v lowered known before insn
+
+-- there is an instruction, and what comes there is refused
+abbrev pub IsVisitFaultIfAny : (v : VisitValue) (lowered : List Bool) (known : ℕ → Option StateValue) → Option StateValue → Option Insn → Type 0
+IsVisitFaultIfAny v lowered known before None = ⊥
+IsVisitFaultIfAny v lowered known None (Some insn) = ⊥
+IsVisitFaultIfAny v lowered known (Some before) (Some insn) = IsVisitFault v lowered known before insn

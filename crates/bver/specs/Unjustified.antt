@@ -1,0 +1,26 @@
+-- What a refusal of the verifier is worth: that there is no table under which the program is justified.
+use Rattle.std.specs.Prelude.{◌≡◌, ◌≢◌, ℕ, [], Option, All, IfSome}
+use Rattle.bpf.specs.Program.{Program}
+use Rattle.bpf_insn.specs.declared.insn.Insn.{Insn}
+use Rattle.machine.specs.Sizes.{Maps}
+use Rattle.machine.specs.Step.{insn_at}
+use Rattle.absdom.specs.State.{StateValue, IsWhole}
+use Rattle.bver_form.specs.declared.refusal.Refusal.TheVariants.{Memory}
+use Rattle.bver_form.specs.declared.refusal.Refused.{Refused}
+use Rattle.bver.specs.Justified.{IsEntered, IsHead, IsJustified, IsPermitted, IsPermittedAt}
+
+-- a program that has its form is justified by the table: it consists of whole states, covers the entry, permits the
+-- instruction at each of them, and at the head of each loop, where it has a state, stands for every pass
+pub record Justifies (p : Program) (sizes : Maps) (table : ℕ → Option StateValue) : Type 0 where
+  pub entered : IsEntered (table 0)
+  pub whole : (slot : ℕ) → IfSome (table slot) IsWhole
+  pub permitted : (slot : ℕ) → IsPermittedAt sizes table slot (table slot) (insn_at p slot)
+  pub heads : All (λ l. IfSome (table l.head) (IsHead p l)) p.loops
+
+-- no table permits the instruction with what is known at its slot
+abbrev pub IsRefuted : (sizes : Maps) (slot : ℕ) → StateValue → Insn → Type 0
+IsRefuted sizes slot a insn = (table : ℕ → Option StateValue) → IsPermitted sizes table slot a insn → ⊥
+
+-- a refusal, but for one for want of memory, tells that a program without loops is not justified
+abbrev pub TellsUnjustified : Program → Maps → Refused → Type 0
+TellsUnjustified p sizes refused = refused.code ≢ Memory → p.loops ≡ [] → IsJustified p sizes → ⊥
