@@ -1,7 +1,7 @@
 //! Marks of registers, loop by loop.
 
-ghost use Rattle.std.specs.Prelude.{◌≡◌, ◌≤◌, ◌<◌, ◌+◌, ◌*◌, ℕ, true, slice_set};
-ghost use Rattle.bver_form.specs.Lowered.{IsMore, count_of, is_lowered};
+ghost use Rattle.std.specs.Prelude.{◌≡◌, ◌≢◌, ◌≤◌, ◌<◌, ◌+◌, ◌*◌, ℕ, IsTrue, true, slice_set};
+ghost use Rattle.bver_form.specs.Lowered.{IsMore, IsSettled, count_of, is_lowered};
 
 use bpf_insn::Register;
 use std::marker::Model;
@@ -66,6 +66,12 @@ impl Lowered {
         requires register { register ≤ 9 }
         ensures lowered { self.new ≡ slice_set self.old (10 * place + register) true }
         ensures more { IsMore self.old self.new }
+        ensures marked { IsTrue (is_lowered self.new place register) }
+
+        // No other mark changes, and none does where the count stays.
+        ensures others { (k r : ℕ) → r ≤ 9 → (k ≡ place → r ≢ register)
+            → is_lowered self.new k r ≡ is_lowered self.old k r }
+        ensures settled { IsSettled self.old self.new → self.new ≡ self.old }
     {
         let place = LOWERABLE * place + usize::from(register.number());
         if !self.lowered[place] {

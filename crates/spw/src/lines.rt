@@ -11,7 +11,9 @@ use std::alloc::{AllocError, Global};
 pub const PORTS: u8 = 32;
 
 /// The words of a line: what stands between its spaces.
-fn words_of(alloc: Global, line: &str) -> Result<Vec<&str>, AllocError>
+///
+/// More spaces before, between and after the words are allowed; a tab or a carriage return is part of a word.
+pub fn words_of(alloc: Global, line: &str) -> Result<Vec<&str>, AllocError>
     ensures { IfOk result (λ words. map (λ word. word.now) words.items ≡ words_in line.now) }
 {
     line.split(' ')
@@ -20,7 +22,7 @@ fn words_of(alloc: Global, line: &str) -> Result<Vec<&str>, AllocError>
 }
 
 /// The port that a word writes: a decimal number from 0 to 31 without a sign, or `NoPort`.
-fn port_of(word: &str) -> Result<u8, LineFault>
+pub fn read_port(word: &str) -> Result<u8, LineFault>
     ensures { MatchResult result (WritesPort word.now) (IsNoPort word.now) }
 {
     if word.starts_with('+') {
@@ -47,7 +49,7 @@ fn parts_of<'w, 'a>(words: &'w [&'a str]) -> Result<Parts<'w, 'a>, LineFault>
     let [port, rest @ ..] = words else {
         return Err(LineFault::NoPort);
     };
-    let port = port_of(port)?;
+    let port = read_port(port)?;
     let [hex @ .., last] = rest else {
         return Err(LineFault::BadMarker);
     };

@@ -23,3 +23,11 @@ returns-then-not-self-place-clause-more c =
     let none : slice_index_or c.self.inside.lowered place false ≡ false = search rules in
     let same : c.args.self.now ≡ c.self.inside.lowered = search rules in
     rw same (omega (arith, count_more c.self.inside.lowered place inside none))
+
+pub returns-then-not-self-place-clause-settled : goal.returns-then-not-self-place-clause-settled
+returns-then-not-self-place-clause-settled c =
+    let place = 10 * c.args.place + c.from.result in
+    let inside : place < length c.self.inside.lowered = search rules in
+    let none : slice_index_or c.self.inside.lowered place false ≡ false = search rules in
+    let same : c.args.self.now ≡ c.self.inside.lowered = search rules in
+    rw same (λ settled. absurd (omega (arith, settled, count_more c.self.inside.lowered place inside none)))
