@@ -1,0 +1,174 @@
+-- What an event of a port does to the world, by what the world's calls say.
+use Rattle.std.proofs.Common.{◌≡◌, ◌<◌, ◌≤◌, ◌+◌, ◌%◌, ◌^◌, ℕ, List, [], length, get_or, true, false, Option, Some, None, is_none, refl, sym, ap, subst, ◌∙◌, arith}
+use Rattle.std.specs.Prelude.{slice_get, slice_set, slice_index_or}
+use Rattle.std.proofs.lemmas.Option.{slice_get_read}
+use Rattle.spw.specs.Cargo.{Cargo}
+use Rattle.rmap.specs.declared.places.Place.{Place}
+use Rattle.rmap.specs.Windows.{WindowsValue}
+use Rattle.machine.specs.Sizes.{Maps, IsInside}
+use Rattle.bank.specs.Admission.{IsPlacedBy}
+use Rattle.target.specs.declared.stop.Stop.{Stop}
+use Rattle.target.specs.Steps.{IsStopped}
+use Rattle.sched.specs.declared.event.Event.{Event}
+use Rattle.sched.specs.declared.event.Event.TheVariants.{Take, Count, Ticket}
+use Rattle.sched.specs.declared.event.Outcome.{Outcome}
+use Rattle.sched.specs.declared.event.Outcome.TheVariants.{Refused, Taken, Told}
+use Rattle.sched.specs.Begins.{IsBegun}
+use Rattle.sched.specs.History.{port_of}
+use Rattle.sched.specs.Lawful.{stop_outcome}
+use Rattle.sched.specs.Looking.{cell_asked}
+use Rattle.sched.specs.Worlds.{RunValue, PortValue, WorldValue, GoesOn, IsPortIn, IsRunUnderIfAny, IsSameRunIfAny, IsWorld, turn_in, with_word, word_at}
+use Rattle.sched.proofs.Growth.{left_all}
+use Rattle.sched.proofs.Keeping.{cells_keep, cell_there, port_keeps, same_under_if_any, world_with_port}
+use Rattle.sched.proofs.Taking.{take_refused, take_stopped, take_taken}
+use Rattle.sched.proofs.Telling.{IsTold, count_goes_on, count_refused, ticket_goes_on, ticket_refused}
+
+-- ---- a port that was read
+
+-- the old world, opened, has that port at a place that the event names
+pub record IsRead (old w : WorldValue) (place port : ℕ) (p : PortValue) : Type 0 where
+  pub is : w ≡ old
+  pub place_is : place ≡ port
+  pub below_old : port < length old.ports
+  pub read : p ≡ slice_index_or w.ports place p
+
+pub below : (old w : WorldValue) (place port : ℕ) (p : PortValue) → IsRead old w place port p → port < length w.ports
+below old w place port p is = subst (λ (v : WorldValue). port < length v.ports) (sym is.is) is.below_old
+
+pub there : (old w : WorldValue) (place port : ℕ) (p : PortValue) → IsRead old w place port p → slice_get w.ports port ≡ Some p
+there old w place port p is =
+    slice_get_read w.ports (length w.ports) port p refl (below old w place port p is) (subst (λ (k : ℕ). p ≡ get_or w.ports k p) is.place_is is.read)
+
+some-same : (x y : PortValue) → ◌≡◌ {A = Option PortValue} (Some x) (Some y) → x ≡ y
+some-same x y e = cc
+
+-- what was read twice is the same
+pub read_again : (old w : WorldValue) (place port : ℕ) (p q : PortValue) → IsRead old w place port p → IsRead old w place port q → q ≡ p
+read_again old w place port p q first second =
+    some-same q p (sym (there old w place port q second) ∙ there old w place port p first)
+
+low : (w : WorldValue) (port : ℕ) → port < length w.ports → IsWorld w → port < 32
+low w port inside is = omega (arith, inside, is.few_ports)
+
+-- ---- Take
+
+-- a packet at a port where a command is judged
+pub take_busy : (old w : WorldValue) (place port : ℕ) (packet : Cargo) (p : PortValue) → IsRead old w place port p → false ≡ is_none p.run → GoesOn (Take port packet) Refused old old
+take_busy old w place port packet p is some =
+    subst (λ (v : WorldValue). GoesOn (Take port packet) Refused v v) is.is (take_refused w port packet p (there old w place port p is) (below old w place port p is) (sym some))
+
+-- a packet at a free port that its header stops
+pub take_stops : (old w : WorldValue) (place port : ℕ) (packet : Cargo) (p : PortValue) (stop : Stop) (reply : List ℕ) (outcome : Outcome) → IsRead old w place port p → true ≡ is_none p.run
+    → IsStopped stop packet w.windows reply → outcome ≡ stop_outcome stop reply → GoesOn (Take port packet) outcome old old
+take_stops old w place port packet p stop reply outcome is none stops told =
+    subst (λ (v : WorldValue). GoesOn (Take port packet) outcome v v) is.is (take_stopped w port packet p stop reply outcome (there old w place port p is) (below old w place port p is) (sym none) stops told)
+
+-- a packet at a free port, read again to be written, whose command is judged from now on
+pub record IsBeginAt (old w : WorldValue) (place port : ℕ) (packet : Cargo) (p q r : PortValue) (run : RunValue) : Type 0 where
+  pub first : IsRead old w place port p
+  pub read : IsRead old w place port q
+  pub none : true ≡ is_none p.run
+  pub begun : IsBegun old port packet run
+  pub written : r ≡ record q { run = Some run }
+
+pub begun_world : (old w : WorldValue) (place port : ℕ) (packet : Cargo) (p q r : PortValue) (run : RunValue) → IsBeginAt old w place port packet p q r run → IsWorld w → IsWorld (record w { ports = slice_set w.ports place r })
+begun_world old w place port packet p q r run is fits =
+    let begun = subst (λ (v : WorldValue). IsBegun v port packet run) (sym is.read.is) is.begun in
+    let at = there old w place port q is.read in
+    let made = world_with_port w port q (record q { run = Some run }) at (port_keeps w.windows w.sizes w.banks port q (record q { run = Some run }) refl begun.under (fits.ports port q at)) fits in
+    subst (λ (k : ℕ). IsWorld (record w { ports = slice_set w.ports k r })) (sym is.read.place_is)
+    (subst (λ (v : PortValue). IsWorld (record w { ports = slice_set w.ports port v })) (sym is.written) made)
+
+pub begun_goes_on : (old w : WorldValue) (place port : ℕ) (packet : Cargo) (lies : Place) (p q r : PortValue) (run : RunValue) → IsBeginAt old w place port packet p q r run → IsPlacedBy w.windows packet lies
+    → GoesOn (Take port packet) (Taken run.generation) old (record w { ports = slice_set w.ports place r })
+begun_goes_on old w place port packet lies p q r run is placed =
+    let begun = subst (λ (v : WorldValue). IsBegun v port packet run) (sym is.read.is) is.begun in
+    let none = subst (λ (v : PortValue). true ≡ is_none v.run) (sym (read_again old w place port p q is.first is.read)) is.none in
+    let made = take_taken w port packet lies q run (there old w place port q is.read) (below old w place port q is.read) (sym none) placed begun in
+    subst (λ (v : WorldValue). GoesOn (Take port packet) (Taken run.generation) v (record w { ports = slice_set w.ports place r })) is.read.is
+    (subst (λ (k : ℕ). GoesOn (Take port packet) (Taken run.generation) w (record w { ports = slice_set w.ports k r })) (sym is.read.place_is)
+    (subst (λ (v : PortValue). GoesOn (Take port packet) (Taken run.generation) w (record w { ports = slice_set w.ports port v })) (sym is.written) made))
+
+-- ---- Count and Ticket
+
+-- what a helper asks of a world
+pub record IsAsked (old w : WorldValue) (place port helper map key : ℕ) (p : PortValue) : Type 0 where
+  pub read : IsRead old w place port p
+  pub asked : Some (map, key) ≡ cell_asked helper (turn_in p.run)
+  pub inside : (windows : WindowsValue) (sizes : Maps) → IsRunUnderIfAny windows sizes p.run → IsInside sizes map key
+
+asked_inside : (old w : WorldValue) (place port helper map key : ℕ) (p : PortValue) → IsAsked old w place port helper map key p → IsWorld w → IsInside w.sizes map key
+asked_inside old w place port helper map key p is fits =
+    is.inside w.windows w.sizes (fits.ports port p (there old w place port p is.read)).run
+
+-- the cell that is asked for is there
+pub asked_there : (old w : WorldValue) (place port helper map key : ℕ) (p : PortValue) → IsAsked old w place port helper map key p → IsWorld w → (map < length w.words) × (key < length (slice_index_or w.words map []))
+asked_there old w place port helper map key p is fits =
+    cell_there w.sizes w.words map key (asked_inside old w place port helper map key p is fits) fits.cells
+
+-- the port behind an answer fits still
+told_fits : (w : WorldValue) (port told : ℕ) (p q : PortValue) → slice_get w.ports port ≡ Some p → IsTold told p q → IsSameRunIfAny p.run q.run → IsWorld w → IsPortIn w.windows w.sizes w.banks port q
+told_fits w port told p q read is same fits =
+    let before = fits.ports port p read in
+    port_keeps w.windows w.sizes w.banks port p q (ap (λ (v : PortValue). v.shares) is.rest) (same_under_if_any w.windows w.sizes p.run q.run same before.run) before
+
+-- a port that was read, read again to be changed, was told that
+pub record IsToldAt (old w : WorldValue) (place port told : ℕ) (p q : PortValue) : Type 0 where
+  pub read : IsRead old w place port p
+  pub told_as : IsTold told p q
+  pub same : IsSameRunIfAny p.run q.run
+
+pub told_world : (old w : WorldValue) (place port told : ℕ) (p q : PortValue) → IsToldAt old w place port told p q → IsWorld w → IsWorld (record w { ports = slice_set w.ports place q })
+told_world old w place port told p q is fits =
+    let read = there old w place port p is.read in
+    subst (λ (k : ℕ). IsWorld (record w { ports = slice_set w.ports k q })) (sym is.read.place_is)
+    (world_with_port w port p q read (told_fits w port told p q read is.told_as is.same fits) fits)
+
+pub ticket_world : (old w : WorldValue) (place port told map key next : ℕ) (p q : PortValue) → IsToldAt old w place port told p q → map < length w.words → IsWorld w → IsWorld (record w { words = with_word w.words map key next; ports = slice_set w.ports place q })
+ticket_world old w place port told map key next p q is map_there fits =
+    let made = told_world old w place port told p q is fits in
+    record {
+      cells = cells_keep w.sizes w.words map key next map_there fits.cells;
+      slots = made.slots;
+      accepted = made.accepted;
+      few_ports = made.few_ports;
+      ports = made.ports;
+    }
+
+-- Count, where no helper asks
+pub count_none : (old w : WorldValue) (place port : ℕ) (p : PortValue) → IsRead old w place port p → None ≡ cell_asked 1 (turn_in p.run) → GoesOn (Count port) Refused old old
+count_none old w place port p is none =
+    subst (λ (v : WorldValue). GoesOn (Count port) Refused v v) is.is (count_refused w port p (there old w place port p is) (below old w place port p is) none)
+
+-- Ticket, where no helper asks
+pub ticket_none : (old w : WorldValue) (place port : ℕ) (p : PortValue) → IsRead old w place port p → None ≡ cell_asked 2 (turn_in p.run) → GoesOn (Ticket port) Refused old old
+ticket_none old w place port p is none =
+    subst (λ (v : WorldValue). GoesOn (Ticket port) Refused v v) is.is (ticket_refused w port p (there old w place port p is) (below old w place port p is) none)
+
+-- Count, where helper 1 asks
+pub count_told : (old w : WorldValue) (place port map key told : ℕ) (p q : PortValue) → IsAsked old w place port 1 map key p → told ≡ word_at w.words map key → IsToldAt old w place port told p q → IsWorld w
+    → GoesOn (Count port) (Told told) old (record w { ports = slice_set w.ports place q })
+count_told old w place port map key told p q asks word is fits =
+    let inside = below old w place port p is.read in
+    let made = count_goes_on w port map key told p q (there old w place port p is.read) inside (low w port inside fits) (asked_inside old w place port 1 map key p asks fits) word asks.asked is.told_as in
+    subst (λ (v : WorldValue). GoesOn (Count port) (Told told) v (record w { ports = slice_set w.ports place q })) is.read.is
+    (subst (λ (k : ℕ). GoesOn (Count port) (Told told) w (record w { ports = slice_set w.ports k q })) (sym is.read.place_is) made)
+
+-- Ticket, where helper 2 asks
+pub ticket_told : (old w : WorldValue) (place port map key told next : ℕ) (p q : PortValue) → IsAsked old w place port 2 map key p → told ≡ word_at w.words map key → next ≡ (told + 1) % 2 ^ 64 → IsToldAt old w place port told p q → IsWorld w
+    → GoesOn (Ticket port) (Told told) old (record w { words = with_word w.words map key next; ports = slice_set w.ports place q })
+ticket_told old w place port map key told next p q asks word counts is fits =
+    let inside = below old w place port p is.read in
+    let cell = asked_there old w place port 2 map key p asks fits in
+    let made = ticket_goes_on w port map key told next p q (there old w place port p is.read) inside (low w port inside fits) (asked_inside old w place port 2 map key p asks fits) cell.0 cell.1 word counts asks.asked is.told_as in
+    subst (λ (v : WorldValue). GoesOn (Ticket port) (Told told) v (record w { words = with_word w.words map key next; ports = slice_set w.ports place q })) is.read.is
+    (subst (λ (k : ℕ). GoesOn (Ticket port) (Told told) w (record w { words = with_word w.words map key next; ports = slice_set w.ports k q })) (sym is.read.place_is) made)
+
+-- ---- nowhere
+
+-- an event of a port that is not there is refused, and the world stays
+pub nowhere : (w : WorldValue) (event : Event) → length w.ports ≤ port_of event → GoesOn event Refused w w
+nowhere w event past n h world = record {
+  lawful = (world.lawful, record { here = λ below. absurd (omega (arith, below, past, world.world.ports_are.count)); nowhere = λ _. refl });
+  world = left_all n h event Refused w tt world.world;
+}

@@ -1,0 +1,160 @@
+-- Lawful histories: each outcome is the one that looking back from its place gives.
+use Rattle.std.specs.Prelude.{◌≡◌, ◌<◌, ◌≤◌, ◌^◌, ℕ, ◌+◌, ◌%◌, true, List, [], slice_get, Option, Some, None}
+use Rattle.spw.specs.Cargo.{Cargo}
+use Rattle.rmap.specs.declared.discard.Discard.{Discard}
+use Rattle.rmap.specs.declared.places.Place.{Place}
+use Rattle.rmap.specs.declared.places.Place.TheVariants as places
+use Rattle.rmap.specs.declared.status.Status.{Status}
+use Rattle.rmap.specs.declared.status.Status.TheVariants.{Success, GeneralError}
+use Rattle.rmap.specs.Checks.{header_line}
+use Rattle.rmap.specs.Command.{CommandValue, command_of, discard_of}
+use Rattle.rmap.specs.Reply.{reply_of}
+use Rattle.brun.specs.declared.turns.Turn.{Turn}
+use Rattle.brun.specs.declared.turns.Turn.TheVariants as turns
+use Rattle.bank.specs.Answer.{Answer, answer, judged_line}
+use Rattle.bank.specs.Effect.{memory_at}
+use Rattle.target.specs.Loads.{control_of, published_result, refused_result}
+use Rattle.target.specs.declared.stop.Stop.{Stop}
+use Rattle.target.specs.declared.stop.Stop.TheVariants.{Discarded as NoCommand, Answered as Fault}
+use Rattle.target.specs.Outcomes.{Load, IsLoad}
+use Rattle.target.specs.Outcomes as loads
+use Rattle.sched.specs.declared.event.Event.{Event}
+use Rattle.sched.specs.declared.event.Event.TheVariants.{Take, Count, Ticket, Effect, Publish}
+use Rattle.sched.specs.declared.event.Outcome.{Outcome}
+use Rattle.sched.specs.declared.event.Outcome.TheVariants.{Refused, Discarded, Answered, Taken, Told, Done}
+use Rattle.sched.specs.History.{History, Start, Then, Open, port_of, opened}
+use Rattle.sched.specs.Looking.{Node, windows_in, place_in, slot_in, staging, publishes, published, turn_of, turn_at, cell_asked, tickets, has_room, entries, memory}
+
+-- ---- Take
+
+-- what a packet comes to that its header stops, with the reply that is due then
+abbrev pub stop_outcome : Stop → (reply : List ℕ) → Outcome
+stop_outcome (NoCommand discard) reply = Discarded discard
+stop_outcome (Fault status) reply = Answered status reply
+
+-- what a command comes to: answered where a check of its header stops it, else taken, with the generation of the
+-- program that is published in its slot
+abbrev pub header_outcome : Node → History → Cargo → Option Status → Outcome
+header_outcome n h p (Some status) = Answered status (reply_of (command_of p) status [])
+header_outcome n h p None = Taken (published n h (slot_in n p)).1
+
+-- what a packet comes to: discarded where it is no command
+abbrev pub packet_outcome : Node → History → Cargo → Option Discard → Outcome
+packet_outcome n h p (Some discard) = Discarded discard
+packet_outcome n h p None = header_outcome n h p (header_line (command_of p) (windows_in n))
+
+-- a packet is taken where no command is open
+abbrev pub take_outcome : Node → History → Cargo → Option Open → Outcome
+take_outcome n h p None = packet_outcome n h p (discard_of p.bytes)
+take_outcome n h p (Some o) = Refused
+
+-- ---- Count and Ticket
+
+-- what is told of a cell, where a program asks for one: how many tickets of it were told, modulo 2^64
+abbrev pub told_on : Node → History → Option (ℕ × ℕ) → Outcome
+told_on n h None = Refused
+told_on n h (Some cell) = Told (tickets n h cell.0 cell.1 % 2 ^ 64)
+
+-- what an event of that helper comes to at a port
+abbrev pub told_outcome : Node → History → (port helper : ℕ) → Outcome
+told_outcome n h port helper = told_on n h (cell_asked helper (turn_at n h port))
+
+-- ---- Effect
+
+-- what a judged command of a port is answered at bank k: on the memory that looking back gives
+abbrev pub bank_answer : Node → History → (k port : ℕ) → CommandValue → (verdict : ℕ) → Answer
+bank_answer n h k port c verdict =
+    answer (memory n h k) (has_room (slice_get n.banks k) port (entries n h k)) c verdict
+
+-- what it is answered on the port's staging, where there is always room
+abbrev pub staging_answer : Node → History → (port : ℕ) → CommandValue → (verdict : ℕ) → Answer
+staging_answer n h port c verdict = answer (memory_at 0 (staging n h port).bytes) true c verdict
+
+-- what it is answered on the port's load result
+abbrev pub load_result_answer : Node → History → (port : ℕ) → CommandValue → (verdict : ℕ) → Answer
+load_result_answer n h port c verdict = answer (memory_at 0x10000 (staging n h port).load_result) true c verdict
+
+-- a command that ended with that answer, and no load
+abbrev pub done : Answer → Outcome
+done a = Done a.status a.reply None
+
+-- how a judged command ends by an Effect: everywhere but at a control write
+abbrev pub effect_at_place : Node → History → (port : ℕ) → CommandValue → (verdict : ℕ) → Option Place → Outcome
+effect_at_place n h port c verdict None = Refused
+effect_at_place n h port c verdict (Some (places.Bank k)) = done (bank_answer n h k port c verdict)
+effect_at_place n h port c verdict (Some places.Staging) = done (staging_answer n h port c verdict)
+effect_at_place n h port c verdict (Some places.LoadResult) = done (load_result_answer n h port c verdict)
+effect_at_place n h port c verdict (Some places.Control) = Refused
+
+-- the same where the program has its verdict
+abbrev pub effect_at_turn : Node → History → (port : ℕ) → Open → Option Turn → Outcome
+effect_at_turn n h port o None = Refused
+effect_at_turn n h port o (Some (turns.Ask helper map key)) = Refused
+effect_at_turn n h port o (Some (turns.Verdict verdict)) =
+    effect_at_place n h port (command_of o.packet) verdict (place_in n o.packet)
+
+-- the same where a command is open
+abbrev pub effect_outcome : Node → History → (port : ℕ) → Option Open → Outcome
+effect_outcome n h port None = Refused
+effect_outcome n h port (Some o) = effect_at_turn n h port o (turn_of n port o)
+
+-- ---- Publish
+
+-- a load came to this: with its success the outcome tells the next generation, else why it was refused
+abbrev pub IsLoaded : Node → History → CommandValue → Load → Outcome → Type 0
+IsLoaded n h c (loads.Published slot program) outcome =
+    outcome ≡ Done Success (reply_of c Success []) (Some (published_result (publishes n h + 1)))
+IsLoaded n h c (loads.Refused refusal) outcome =
+    outcome ≡ Done GeneralError (reply_of c GeneralError []) (Some (refused_result refusal))
+
+-- a load decides of what the port staged; the factory program is the first of those that were published
+pub record IsDecided (n : Node) (h : History) (port : ℕ) (c : CommandValue) (outcome : Outcome) : Type 0 where
+  pub load : Load
+  pub decides : IsLoad (control_of c.body) (staging n h port).bytes n.sizes (publishes n h + 1) load
+  pub told : IsLoaded n h c load outcome
+
+-- how a control write ends, by what stops it: where nothing does, a load decides
+abbrev pub IsControlled : Node → History → (port : ℕ) → CommandValue → Option Status → Outcome → Type 0
+IsControlled n h port c (Some status) outcome = outcome ≡ Done status (reply_of c status []) None
+IsControlled n h port c None outcome = IsDecided n h port c outcome
+
+-- how a judged command ends by a Publish: at a control write alone
+abbrev pub IsPublishedAt : Node → History → (port : ℕ) → CommandValue → (verdict : ℕ) → Option Place → Outcome → Type 0
+IsPublishedAt n h port c verdict None outcome = outcome ≡ Refused
+IsPublishedAt n h port c verdict (Some (places.Bank k)) outcome = outcome ≡ Refused
+IsPublishedAt n h port c verdict (Some places.Staging) outcome = outcome ≡ Refused
+IsPublishedAt n h port c verdict (Some places.LoadResult) outcome = outcome ≡ Refused
+IsPublishedAt n h port c verdict (Some places.Control) outcome =
+    IsControlled n h port c (judged_line c verdict) outcome
+
+-- the same where the program has its verdict
+abbrev pub IsPublishedBy : Node → History → (port : ℕ) → Open → Option Turn → Outcome → Type 0
+IsPublishedBy n h port o None outcome = outcome ≡ Refused
+IsPublishedBy n h port o (Some (turns.Ask helper map key)) outcome = outcome ≡ Refused
+IsPublishedBy n h port o (Some (turns.Verdict verdict)) outcome =
+    IsPublishedAt n h port (command_of o.packet) verdict (place_in n o.packet) outcome
+
+-- the same where a command is open
+abbrev pub IsPublishOutcome : Node → History → (port : ℕ) → Option Open → Outcome → Type 0
+IsPublishOutcome n h port None outcome = outcome ≡ Refused
+IsPublishOutcome n h port (Some o) outcome = IsPublishedBy n h port o (turn_of n port o) outcome
+
+-- ---- all events
+
+-- what an event comes to at a port of the node
+abbrev pub IsOutcomeAt : Node → History → Event → Outcome → Type 0
+IsOutcomeAt n h (Take port p) outcome = outcome ≡ take_outcome n h p (opened h port)
+IsOutcomeAt n h (Count port) outcome = outcome ≡ told_outcome n h port 1
+IsOutcomeAt n h (Ticket port) outcome = outcome ≡ told_outcome n h port 2
+IsOutcomeAt n h (Effect port) outcome = outcome ≡ effect_outcome n h port (opened h port)
+IsOutcomeAt n h (Publish port) outcome = IsPublishOutcome n h port (opened h port) outcome
+
+-- what an event comes to: at a port that the node does not have it is refused
+pub record IsOutcome (n : Node) (h : History) (event : Event) (outcome : Outcome) : Type 0 where
+  pub here : port_of event < n.ports → IsOutcomeAt n h event outcome
+  pub nowhere : n.ports ≤ port_of event → outcome ≡ Refused
+
+-- each outcome is the one that looking back from its place gives
+abbrev pub IsLawful : Node → History → Type 0
+IsLawful n Start = Unit {0}
+IsLawful n (Then h event outcome) = IsLawful n h × IsOutcome n h event outcome

@@ -1,0 +1,10 @@
+pub mod Codes
+pub mod History
+pub mod Turns
+pub mod Looking
+pub mod Lawful
+pub mod Worlds
+pub mod Ends
+pub mod Headline
+pub mod Agreement
+pub mod Begins

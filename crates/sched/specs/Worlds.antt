@@ -1,0 +1,358 @@
+-- What a world is, and of which history it is the world.
+use Rattle.std.specs.Prelude.{◌≡◌, ◌≢◌, ◌<◌, ◌≤◌, ◌⊎◌, ℕ, ◌%◌, ◌^◌, List, [], ◌∷◌, length, replicate, slice_get, slice_index, slice_index_or, slice_set, Option, Some, None}
+use base.Stored.{gnil}
+use Rattle.spw.specs.Cargo.{Cargo}
+use Rattle.rmap.specs.declared.places.Place.{Place}
+use Rattle.rmap.specs.declared.places.Place.TheVariants as places
+use Rattle.rmap.specs.Command.{discard_of}
+use Rattle.rmap.specs.Windows.{WindowsValue}
+use Rattle.bpf.specs.Program.{Program}
+use Rattle.machine.specs.declared.calls.Call.{Call}
+use Rattle.machine.specs.Memory.{Header}
+use Rattle.machine.specs.Sizes.{Maps, IsInside}
+use Rattle.bver_form.specs.declared.refusal.Refusal.TheVariants as refusals
+use Rattle.bver_form.specs.declared.refusal.Refused.{Refused}
+use Rattle.bver.specs.Justified.{AcceptedValue, IsJustified}
+use Rattle.bver.specs.Refusals.{IsRefusal}
+use Rattle.brun.specs.declared.frame.Frame.{Frame}
+use Rattle.brun.specs.declared.turns.Turn.{Turn}
+use Rattle.brun.specs.declared.turns.Turn.TheVariants as turns
+use Rattle.brun.specs.Pauses.{Turns, AsksWithin}
+use Rattle.bank.specs.Admission.{IsPlacedBy}
+use Rattle.bank.specs.Effect.{Memory}
+use Rattle.bank.specs.Records.{BankValue, EntryValue, ShareValue, base_of, first_share, memory_of, numbers_of}
+use Rattle.publish.specs.Staged.{Staged}
+use Rattle.target.specs.declared.config.NodeConfig.{NodeConfig}
+use Rattle.target.specs.declared.faults.NodeFault.{NodeFault}
+use Rattle.target.specs.Nodes.{first_staging}
+use Rattle.target.specs.Pairs.{IsPaired}
+use Rattle.target.specs.Passes.{PassValue}
+use Rattle.sched.specs.declared.event.Event.{Event}
+use Rattle.sched.specs.declared.event.Outcome.{Outcome}
+use Rattle.sched.specs.declared.faults.WorldFault.{WorldFault}
+use Rattle.sched.specs.declared.faults.WorldFault.TheVariants.{Memory as NoMemory, Config, Image}
+use Rattle.sched.specs.History.{History, Then, Open, opened}
+use Rattle.sched.specs.Looking.{Node, windows_in, header_in, staging, published, publishes, program_of, turn_of, tickets, room_of, entries, first_memory, memory}
+use Rattle.sched.specs.Lawful.{IsLawful}
+use Rattle.sched.specs.Turns.{answers_of}
+
+-- the node of that configuration, with that factory program
+abbrev pub node_of : NodeConfig → Program → Node
+node_of config factory = record {
+  address = config.address;
+  ports = config.ports;
+  banks = config.banks.now;
+  sizes = config.sizes;
+  factory = factory;
+}
+
+-- ---- what a world has
+
+-- a command that is judged: its packet and place, the program that judges it with its generation, and where that stands,
+-- with its registers and its stack
+pub record RunValue : Type 0 where
+  pub packet : Cargo
+  pub place : Place
+  pub program : AcceptedValue
+  pub generation : ℕ
+  pub turn : Turn
+  pub frame : Frame
+  pub stack : List ℕ
+
+-- what a port has: a share of each bank, its staging, and the command that is judged
+pub record PortValue : Type 0 where
+  pub shares : List ShareValue
+  pub staging : Staged
+  pub run : Option RunValue
+
+-- a world: the windows and the map sizes of its node, its banks, its counter words by map, the program of each slot with
+-- its generation, how many were published, and its ports
+pub record WorldValue : Type 0 where
+  pub windows : WindowsValue
+  pub sizes : Maps
+  pub banks : List BankValue
+  pub words : List (List ℕ)
+  pub programs : List (AcceptedValue × ℕ)
+  pub count : ℕ
+  pub ports : List PortValue
+
+-- a port of that number with a first share of each of so many banks: an empty staging, and no command
+abbrev pub first_port : (banks port : ℕ) → PortValue
+first_port banks port = record {
+  shares = replicate banks (first_share port);
+  staging = first_staging;
+  run = None;
+}
+
+-- the program in each of the four slots, with generation 0
+abbrev pub shown_in_all : AcceptedValue → List (AcceptedValue × ℕ)
+shown_in_all program = (program, 0) ∷ (program, 0) ∷ (program, 0) ∷ (program, 0) ∷ []
+
+-- the generation of a program that is shown
+abbrev pub generation_in : Option (AcceptedValue × ℕ) → Option ℕ
+generation_in None = None
+generation_in (Some shown) = Some shown.1
+
+-- the staging of a port
+abbrev pub staging_in : Option PortValue → Option Staged
+staging_in None = None
+staging_in (Some p) = Some p.staging
+
+-- ---- what is known of a world without a history
+
+-- a run of the program stands there, at some port and with some calls
+pub record StandsThere (program : Program) (header : Header) (turn : Turn) (frame : Frame) (stack : List ℕ) : Type 0 where
+  pub port : ℕ
+  pub low : port < 32
+  pub calls : List Call
+  pub turns : Turns program header port calls turn frame stack
+
+-- the packet is a command, its program stands where its turn says, and where it asks a helper, it is for a cell of the maps
+-- for which it was accepted
+pub record IsHeld (r : RunValue) : Type 0 where
+  pub command : discard_of r.packet.bytes ≡ None
+  pub stands : StandsThere r.program.program (header_in r.packet) r.turn r.frame r.stack
+  pub within : AsksWithin r.program.sizes r.turn
+
+-- that command is judged, by that program of that generation
+pub record IsRunWith (packet : Cargo) (place : Place) (program : AcceptedValue) (generation : ℕ) (r : RunValue) : Type 0 where
+  pub packet_is : r.packet ≡ packet
+  pub place_is : r.place ≡ place
+  pub program_is : r.program ≡ program
+  pub generation_is : r.generation ≡ generation
+
+-- the same command is judged by the same program
+abbrev pub IsSameRun : (old new : RunValue) → Type 0
+IsSameRun old new = IsRunWith old.packet old.place old.program old.generation new
+
+-- the same, or none before and none now
+abbrev pub IsSameRunIfAny : (old new : Option RunValue) → Type 0
+IsSameRunIfAny None None = Unit {0}
+IsSameRunIfAny None (Some r) = ⊥
+IsSameRunIfAny (Some old) None = ⊥
+IsSameRunIfAny (Some old) (Some new) = IsSameRun old new
+
+-- a program stands at a question
+abbrev pub IsAsk : Turn → Type 0
+IsAsk (turns.Ask helper map key) = Unit {0}
+IsAsk (turns.Verdict verdict) = ⊥
+
+-- where the command stands that is judged, if one is
+abbrev pub turn_in : Option RunValue → Option Turn
+turn_in None = None
+turn_in (Some r) = Some r.turn
+
+-- the program of the command that is judged stands at a question
+abbrev pub Asks : Option RunValue → Type 0
+Asks None = ⊥
+Asks (Some r) = IsAsk r.turn
+
+-- the verdict of a program that stands so, if it has one
+abbrev pub verdict_at : Turn → Option ℕ
+verdict_at (turns.Ask helper map key) = None
+verdict_at (turns.Verdict verdict) = Some verdict
+
+-- the verdict of a command that ends at that place by an Effect, if it has one: a control write does not
+abbrev pub effect_due_at : Place → Turn → Option ℕ
+effect_due_at (places.Bank k) turn = verdict_at turn
+effect_due_at places.Staging turn = verdict_at turn
+effect_due_at places.LoadResult turn = verdict_at turn
+effect_due_at places.Control turn = None
+
+-- the verdict of a command that ends at that place by a Publish, if it has one: a control write alone does
+abbrev pub publish_due_at : Place → Turn → Option ℕ
+publish_due_at (places.Bank k) turn = None
+publish_due_at places.Staging turn = None
+publish_due_at places.LoadResult turn = None
+publish_due_at places.Control turn = verdict_at turn
+
+-- the verdict of the command that is judged, if an Effect is due
+abbrev pub effect_due : Option RunValue → Option ℕ
+effect_due None = None
+effect_due (Some r) = effect_due_at r.place r.turn
+
+-- the same, if a Publish is due
+abbrev pub publish_due : Option RunValue → Option ℕ
+publish_due None = None
+publish_due (Some r) = publish_due_at r.place r.turn
+
+-- the bytes of the command lie where its place says under those windows, and its program is for maps of those sizes
+pub record IsRunUnder (windows : WindowsValue) (sizes : Maps) (r : RunValue) : Type 0 where
+  pub placed : IsPlacedBy windows r.packet r.place
+  pub sizes_are : r.program.sizes ≡ sizes
+
+-- the same, where a command is judged
+abbrev pub IsRunUnderIfAny : WindowsValue → Maps → Option RunValue → Type 0
+IsRunUnderIfAny windows sizes None = Unit {0}
+IsRunUnderIfAny windows sizes (Some r) = IsRunUnder windows sizes r
+
+-- the word of a cell; of one that is not there it says nothing
+abbrev pub word_at : List (List ℕ) → (map key : ℕ) → ℕ
+word_at words map key = slice_index (slice_index_or words map []) key
+
+-- the word of a key, if there are words of its map
+abbrev pub word_of : Option (List ℕ) → (key : ℕ) → Option ℕ
+word_of None key = None
+word_of (Some words) key = slice_get words key
+
+-- the word of a cell, if there is one
+abbrev pub word_in : List (List ℕ) → (map key : ℕ) → Option ℕ
+word_in words map key = word_of (slice_get words map) key
+
+-- the words with another one of a cell
+abbrev pub with_word : List (List ℕ) → (map key word : ℕ) → List (List ℕ)
+with_word words map key word = slice_set words map (slice_set (slice_index_or words map []) key word)
+
+-- each word is 0
+abbrev pub AreZeros : List (List ℕ) → Type 0
+AreZeros words = (map key : ℕ) → word_at words map key ≡ 0
+
+-- there are words of each map, one for each of its cells
+pub record AreCells (sizes : Maps) (words : List (List ℕ)) : Type 0 where
+  pub maps : length words ≡ length sizes
+  pub cells : (map : ℕ) → map < length sizes → length (slice_index_or words map []) ≡ slice_index sizes map
+
+-- what a port of a world has, as the pass of a port of a node: of the node's counters and programs it knows nothing
+abbrev pub pass_of_port : WindowsValue → Maps → (port : ℕ) → PortValue → PassValue
+pass_of_port windows sizes port p = record {
+  port = port;
+  windows = windows;
+  programs = [];
+  seat = record { sizes = sizes; home = gnil; asked = [] };
+  shares = p.shares;
+  staging = p.staging;
+}
+
+-- the port has its share of each of those banks, and the command that it judges lies under those windows, and is judged by
+-- a program for maps of those sizes
+pub record IsPortIn (windows : WindowsValue) (sizes : Maps) (banks : List BankValue) (port : ℕ) (p : PortValue) : Type 0 where
+  pub paired : IsPaired banks (pass_of_port windows sizes port p)
+  pub run : IsRunUnderIfAny windows sizes p.run
+
+-- each port is such a port
+abbrev pub ArePortsIn : WindowsValue → Maps → List BankValue → List PortValue → Type 0
+ArePortsIn windows sizes banks ports =
+    (port : ℕ) (p : PortValue) → slice_get ports port ≡ Some p → IsPortIn windows sizes banks port p
+
+-- each program was accepted for maps of those sizes
+abbrev pub AreAcceptedFor : Maps → List (AcceptedValue × ℕ) → Type 0
+AreAcceptedFor sizes programs =
+    (slot : ℕ) (shown : AcceptedValue × ℕ) → slice_get programs slot ≡ Some shown → shown.0.sizes ≡ sizes
+
+-- the parts of a world fit together, whatever happened: a word for each cell, four programs for the maps, and at most 32
+-- ports, each with its shares
+pub record IsWorld (w : WorldValue) : Type 0 where
+  pub cells : AreCells w.sizes w.words
+  pub slots : length w.programs ≡ 4
+  pub accepted : AreAcceptedFor w.sizes w.programs
+  pub few_ports : length w.ports ≤ 32
+  pub ports : ArePortsIn w.windows w.sizes w.banks w.ports
+
+-- ---- of which history it is the world
+
+-- the program is accepted for the maps of the node
+pub record IsFor (n : Node) (a : AcceptedValue) : Type 0 where
+  pub sizes : a.sizes ≡ n.sizes
+  pub justified : IsJustified a.program n.sizes
+
+-- what is judged is the open command, by the program of its Take, which stands where the answers since led
+pub record IsRunOf (n : Node) (port : ℕ) (o : Open) (r : RunValue) : Type 0 where
+  pub packet : r.packet ≡ o.packet
+  pub generation : r.generation ≡ o.generation
+  pub placed : IsPlacedBy (windows_in n) o.packet r.place
+  pub program : r.program.program ≡ program_of n o
+  pub accepted : IsFor n r.program
+  pub turn : turn_of n port o ≡ Some r.turn
+  pub calls : List Call
+  pub answered : answers_of calls ≡ o.answers
+  pub stands : Turns r.program.program (header_in o.packet) port calls r.turn r.frame r.stack
+
+-- a command is judged exactly where one is open
+abbrev pub IsJudging : Node → (port : ℕ) → Option Open → Option RunValue → Type 0
+IsJudging n port None None = Unit {0}
+IsJudging n port None (Some r) = ⊥
+IsJudging n port (Some o) None = ⊥
+IsJudging n port (Some o) (Some r) = IsRunOf n port o r
+
+-- the share is the port's, with the number of its next entry
+pub record IsShareWith (port number : ℕ) (share : ShareValue) : Type 0 where
+  pub holder : share.port ≡ port
+  pub next : share.number ≡ number
+
+-- the port has that staging, that open command, and of each bank a share with the number behind its entries there
+pub record IsPortOf (n : Node) (port : ℕ) (staged : Staged) (last : Option Open) (entries_of : ℕ → List EntryValue) (p : PortValue) : Type 0 where
+  pub staging_is : p.staging ≡ staged
+  pub judging : IsJudging n port last p.run
+  pub count : length p.shares ≡ length n.banks
+  pub shares : (k : ℕ) (share : ShareValue) → slice_get p.shares k ≡ Some share → IsShareWith port (length (numbers_of port (entries_of k))) share
+
+-- there are the ports of the node, each with what looking back gives
+pub record ArePortsOf (n : Node) (h : History) (ports : List PortValue) : Type 0 where
+  pub count : length ports ≡ n.ports
+  pub each : (port : ℕ) (p : PortValue) → slice_get ports port ≡ Some p → IsPortOf n port (staging n h port) (opened h port) (entries n h) p
+
+-- bank k has those entries and that memory, began with zeros, has the room of its configuration, and counts the entries
+-- of each port
+pub record IsBankOf (n : Node) (k : ℕ) (entries : List EntryValue) (memory : Memory) (b : BankValue) : Type 0 where
+  pub base_is : base_of b ≡ first_memory (slice_get n.banks k)
+  pub memory_is : memory_of b ≡ memory
+  pub entries_are : b.journal.entries ≡ entries
+  pub room : b.journal.room ≡ room_of (slice_get n.banks k)
+  pub ports : length b.counts ≡ n.ports
+  pub counts : (port : ℕ) → port < n.ports → slice_index b.counts port ≡ length (numbers_of port entries)
+
+-- there are the banks of the node, each with its entries and its memory
+pub record AreBanksOf (n : Node) (entries_of : ℕ → List EntryValue) (memory_in : ℕ → Memory) (banks : List BankValue) : Type 0 where
+  pub count : length banks ≡ length n.banks
+  pub each : (k : ℕ) (b : BankValue) → slice_get banks k ≡ Some b → IsBankOf n k (entries_of k) (memory_in k) b
+
+-- the word of each cell is how many tickets of it were told, modulo 2^64
+abbrev pub AreWordsOf : Maps → (tickets : ℕ → ℕ → ℕ) → List (List ℕ) → Type 0
+AreWordsOf sizes tickets words =
+    (map key : ℕ) → IsInside sizes map key → word_at words map key ≡ tickets map key % 2 ^ 64
+
+-- what is shown is that program of that generation, accepted for the maps of the node
+pub record IsShownAs (n : Node) (published : Program × ℕ) (shown : AcceptedValue × ℕ) : Type 0 where
+  pub program : shown.0.program ≡ published.0
+  pub generation : shown.1 ≡ published.1
+  pub accepted : IsFor n shown.0
+
+-- each slot shows what is published for it
+abbrev pub AreProgramsOf : Node → (published : ℕ → Program × ℕ) → List (AcceptedValue × ℕ) → Type 0
+AreProgramsOf n published programs =
+    (slot : ℕ) (shown : AcceptedValue × ℕ) → slice_get programs slot ≡ Some shown → IsShownAs n (published slot) shown
+
+-- the world is the one that looking back from the end of the history gives
+pub record IsWorldOf (n : Node) (h : History) (w : WorldValue) : Type 0 where
+  pub windows_are : w.windows ≡ windows_in n
+  pub sizes_are : w.sizes ≡ n.sizes
+  pub banks_are : AreBanksOf n (entries n h) (memory n h) w.banks
+  pub words_are : AreWordsOf n.sizes (tickets n h) w.words
+  pub programs_are : AreProgramsOf n (published n h) w.programs
+  pub count_is : w.count ≡ publishes n h
+  pub ports_are : ArePortsOf n h w.ports
+
+-- the history is lawful, and the world is its world
+pub record IsLawfulWorld (n : Node) (h : History) (w : WorldValue) : Type 0 where
+  pub lawful : IsLawful n h
+  pub world : IsWorldOf n h w
+
+-- behind every lawful history of which the old world is the world, the outcome is lawful, and the new world is that of the
+-- history with the event and its outcome
+abbrev pub GoesOn : Event → Outcome → (old new : WorldValue) → Type 0
+GoesOn event outcome old new =
+    (n : Node) (h : History) → IsLawfulWorld n h old → IsLawfulWorld n (Then h event outcome) new
+
+-- ---- faults
+
+-- the verifier refused the factory program, and not for want of memory
+pub record IsFactoryRefused (factory : Program) : Type 0 where
+  pub refused : Refused
+  pub why : IsRefusal factory refused
+  pub no_want : refused.code ≢ refusals.Memory
+
+-- why there is no world: a limit that the node passes, which comes first; else the verifier refused the factory program,
+-- or memory was wanted
+abbrev pub IsWorldFault : (limit : Option NodeFault) → (factory : Program) → WorldFault → Type 0
+IsWorldFault (Some limit) factory fault = fault ≡ Config
+IsWorldFault None factory fault = (fault ≡ NoMemory) ⊎ ((fault ≡ Image) × IsFactoryRefused factory)

@@ -1,0 +1,157 @@
+//! The event Publish: a judged control write loads what its port staged.
+
+ghost use Rattle.std.specs.Prelude.{◌≡◌, ◌<◌, length, false, IfOk, IfErr, OnErr, IsSome};
+ghost use Rattle.target.specs.Loads.{control_of, wants_memory};
+ghost use Rattle.sched.specs.Ends.{IsDecisionOf, IsLoadDecision, ShowsInSlot, count_shown, load_result_of_decision, programs_shown, status_of_decision};
+ghost use Rattle.sched.specs.Worlds.{GoesOn};
+ghost use Rattle.sched.specs.declared.event.Event.TheVariants.{Publish as PublishEvent};
+ghost use Rattle.sched.specs.declared.event.Outcome.TheVariants.{Refused as RefusedOutcome};
+
+use crate::event::Outcome;
+use crate::faults::WorldFault;
+use crate::port::Port;
+use crate::reply::{Reply, reply_room};
+use crate::shown::Shown;
+use crate::world::World;
+use bank::judged_fault;
+use bpf::image_laws;
+use machine::MapSizes;
+use publish::Staging;
+use rmap::{ReplyBuf, Status};
+use std::alloc::Global;
+use std::sync::Arc;
+use target::{LoadRefusal, load_result_of, prepare, read_control};
+
+/// What a judged control write comes to.
+#[derive(Drop)]
+pub(crate) enum Decision {
+    /// Its verdict or its body stops it, with that status.
+    Stopped(Status),
+    /// The load is refused.
+    NotLoaded(LoadRefusal),
+    /// The program is shown in that slot, with its generation.
+    Loaded(u8, Shown),
+}
+
+/// A load that is refused: for want of memory it does not come to an end.
+fn not_loaded(refusal: LoadRefusal) -> Result<Decision, WorldFault>
+    ensures refused { IfOk result (λ decision. decision ≡ Decision.NotLoaded refusal) }
+    ensures told { IfOk result (λ _. wants_memory refusal ≡ false) }
+    ensures fault { IfErr result (λ fault. fault ≡ WorldFault.Memory) }
+{
+    if refusal.wants_memory() {
+        return Err(WorldFault::Memory);
+    }
+    Ok(Decision::NotLoaded(refusal))
+}
+
+/// What becomes of a load with those control data, where so many programs were published: the image is read, verified and
+/// held, and nothing changes yet.
+fn load(
+    alloc: Global,
+    staging: &Staging,
+    body: &[u8],
+    sizes: &MapSizes,
+    count: u32,
+) -> Result<Decision, WorldFault>
+    ensures load { IfOk result
+        (IsLoadDecision (control_of body.now) staging.now.bytes sizes.now count) }
+    ensures fault { IfErr result (λ fault. fault ≡ WorldFault.Memory) }
+{
+    let (slot, accepted) = match prepare(alloc, staging, read_control(body), sizes) {
+        Ok(prepared) => prepared,
+        Err(refusal) => return not_loaded(refusal),
+    };
+    if count == u32::MAX {
+        return Ok(Decision::NotLoaded(LoadRefusal::GenerationsFull));
+    }
+    let shown = Shown {
+        program: Arc::new(alloc, accepted)?,
+        generation: count + 1,
+    };
+    Ok(Decision::Loaded(slot, shown))
+}
+
+impl Decision {
+    /// The status of the control write, and the load result, where a load was decided.
+    fn told(&self) -> (Status, Option<[u8; 8]>)
+        ensures status { result.0 ≡ status_of_decision self.now }
+        ensures loaded { result.1 ≡ load_result_of_decision self.now }
+    {
+        match self {
+            Decision::Stopped(status) => (*status, None),
+            Decision::NotLoaded(refusal) => (Status::GeneralError, Some(refusal.load_result())),
+            Decision::Loaded(_, shown) => {
+                (Status::Success, Some(load_result_of(shown.generation)))
+            }
+        }
+    }
+
+    /// Shows the program of a load that succeeded.
+    fn show(self, programs: &mut [Shown; 4], count: &mut u32)
+        requires { ShowsInSlot self }
+        ensures programs { programs.new ≡ programs_shown programs.old self }
+        ensures count { count.new ≡ count_shown count.old self }
+    {
+        match self {
+            Decision::Loaded(slot, shown) => {
+                *count = shown.generation;
+                programs[usize::from(slot)] = shown;
+            }
+            Decision::Stopped(_) | Decision::NotLoaded(_) => {}
+        }
+    }
+}
+
+impl Port {
+    /// What the judged control write of the port comes to, with that verdict, in a node with maps of those sizes, where so
+    /// many programs were published.
+    fn decide(
+        &self,
+        alloc: Global,
+        verdict: u64,
+        sizes: &MapSizes,
+        count: u32,
+    ) -> Result<Decision, WorldFault>
+        requires { IsSome self.now.run }
+        ensures decides { IfOk result
+            (IsDecisionOf self.now.run self.now.staging.bytes verdict sizes.now count) }
+        ensures fault { IfErr result (λ fault. fault ≡ WorldFault.Memory) }
+    {
+        let Some(run) = &self.run else {
+            unreachable!();
+        };
+        let command = run.command();
+        match judged_fault(&command, verdict) {
+            Some(status) => Ok(Decision::Stopped(status)),
+            None => load(alloc, &self.staging, command.body(), sizes, count),
+        }
+    }
+}
+
+impl World {
+    /// The judged control write of a port that is there loads what the port staged. `Memory` where memory was refused.
+    pub(crate) fn publish(&mut self, alloc: Global, port: u8) -> Result<Outcome, WorldFault>
+        requires { port < length self.old.ports }
+        ensures goes_on { IfOk result
+            (λ outcome. GoesOn (PublishEvent port) outcome self.old self.new) }
+        ensures fault { IfErr result (λ fault. fault ≡ WorldFault.Memory) }
+        ensures same { OnErr result (self.new ≡ self.old) }
+        ensures refused { IfOk result
+            (λ outcome. outcome ≡ RefusedOutcome → self.new ≡ self.old) }
+    {
+        image_laws();
+        let at = usize::from(port);
+        let Some(verdict) = self.ports[at].publish_due() else {
+            return Ok(Outcome::Refused);
+        };
+        let room = reply_room(alloc)?;
+        let decision = self.ports[at].decide(alloc, verdict, &self.sizes, self.count)?;
+        let told = decision.told();
+        let mut reply = ReplyBuf::new();
+        self.ports[at].end_write(&self.windows, port, verdict, told, &mut reply);
+        decision.show(&mut self.programs, &mut self.count);
+        let (status, loaded) = told;
+        Ok(Outcome::Done(status, Reply::of(room, &reply), loaded))
+    }
+}

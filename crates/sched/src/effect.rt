@@ -1,0 +1,45 @@
+//! The event Effect: a judged command takes its effect, at its bank or at its port's staging.
+
+ghost use Rattle.std.specs.Prelude.{◌≡◌, ◌<◌, length, IfOk, IfErr, OnErr};
+ghost use Rattle.sched.specs.Worlds.{GoesOn};
+ghost use Rattle.sched.specs.declared.event.Event.TheVariants.{Effect as EffectEvent};
+ghost use Rattle.sched.specs.declared.event.Outcome.TheVariants.{Refused as RefusedOutcome};
+
+use crate::event::Outcome;
+use crate::faults::WorldFault;
+use crate::reply::{Reply, reply_room};
+use crate::world::World;
+use rmap::ReplyBuf;
+use std::alloc::Global;
+use target::{paired_commands_fit, pairs_stay};
+
+impl World {
+    /// The judged command of a port that is there takes its effect, where it is no control write. `Memory` where memory
+    /// was refused.
+    pub(crate) fn effect(&mut self, alloc: Global, port: u8) -> Result<Outcome, WorldFault>
+        requires { port < length self.old.ports }
+        ensures goes_on { IfOk result
+            (λ outcome. GoesOn (EffectEvent port) outcome self.old self.new) }
+        ensures fault { IfErr result (λ fault. fault ≡ WorldFault.Memory) }
+        ensures same { OnErr result (self.new ≡ self.old) }
+        ensures refused { IfOk result
+            (λ outcome. outcome ≡ RefusedOutcome → self.new ≡ self.old) }
+    {
+        paired_commands_fit();
+        pairs_stay();
+        let at = usize::from(port);
+        let Some(verdict) = self.ports[at].effect_due() else {
+            return Ok(Outcome::Refused);
+        };
+        let room = reply_room(alloc)?;
+        let mut reply = ReplyBuf::new();
+        let status = self.ports[at].finish(
+            &self.windows,
+            &mut self.banks,
+            port,
+            verdict,
+            &mut reply,
+        );
+        Ok(Outcome::Done(status, Reply::of(room, &reply), None))
+    }
+}

@@ -1,0 +1,55 @@
+//! Events, and what they come to.
+
+ghost use Rattle.std.specs.Prelude.{◌≡◌};
+ghost use Rattle.sched.specs.History.{port_of};
+
+use crate::reply::Reply;
+use rmap::{Discard, Status};
+use spw::Packet;
+
+/// One atomic step of one port of a node.
+#[derive(Debug, Drop)]
+pub enum Event {
+    /// A packet is taken at the port.
+    Take(u8, Packet),
+    /// The port's program is told a counter.
+    Count(u8),
+    /// The port's program draws a ticket.
+    Ticket(u8),
+    /// The port's judged command takes its effect, at a bank or in the port's staging.
+    Effect(u8),
+    /// The port's judged control write loads what the port staged.
+    Publish(u8),
+}
+
+impl Event {
+    /// The port of the event.
+    pub fn port(&self) -> u8
+        ensures { result ≡ port_of self.now }
+    {
+        match self {
+            Event::Take(port, _)
+            | Event::Count(port)
+            | Event::Ticket(port)
+            | Event::Effect(port)
+            | Event::Publish(port) => *port,
+        }
+    }
+}
+
+/// What an event comes to.
+#[derive(Debug, Drop)]
+pub enum Outcome {
+    /// It is no step of this moment, or there is no such port.
+    Refused,
+    /// The packet is no command, and gets no reply.
+    Discarded(Discard),
+    /// A check of the header holds: its status, and the reply that is due.
+    Answered(Status, Reply),
+    /// The command is judged by the program of this generation.
+    Taken(u32),
+    /// The helper was told this.
+    Told(u64),
+    /// The command ended with this status and this reply; the load result, where a load was decided.
+    Done(Status, Reply, Option<[u8; 8]>),
+}

@@ -1,0 +1,57 @@
+//! Laws of histories. Each function does no work: its contract is the law.
+
+ghost use Rattle.std.specs.Prelude.{◌<◌, All};
+ghost use Rattle.machine.specs.Memory.{IsHeader};
+ghost use Rattle.brun.specs.Runs.{header};
+ghost use Rattle.sched.specs.Agreement.{PublishedAgrees};
+ghost use Rattle.sched.specs.Headline.{EveryScheduleJudgesOnce, OpenedAreTaken, OpenedBehindDone};
+ghost use Rattle.sched.specs.Turns.{TurnsArePaths};
+
+use bpf::image_laws;
+use bver::justified_programs;
+use publish::published_programs;
+
+/// A law and no work: where a safe program stands after some answers is where its paths lead.
+pub fn turns_are_paths()
+    ensures { TurnsArePaths }
+{}
+
+/// A law and no work: a byte is below 256.
+fn bytes_are_small(bytes: &[u8])
+    ensures { All (λ byte. byte < 256) bytes.now }
+{
+    let _ = bytes.len();
+}
+
+/// A law and no work: the first four and the last twelve bytes of a command's header are what a program may see.
+pub fn arrays_are_headers(front: &[u8; 4], tail: &[u8; 12])
+    ensures { IsHeader (header front.now tail.now) }
+{
+    bytes_are_small(front);
+    bytes_are_small(tail);
+}
+
+/// A law and no work: the open command of a port was taken, and behind that none of the port was taken and none done; and
+/// what is open behind one that was done was taken behind that, so no command is done twice.
+pub fn opened_are_taken()
+    ensures taken { OpenedAreTaken }
+    ensures behind { OpenedBehindDone }
+{}
+
+/// A law and no work: over every schedule each command that is done was judged once, by the program that was published
+/// when it was taken, which is safe; and outcome, memory, stagings and programs are what the definition gives for its
+/// verdict.
+pub fn every_schedule_judges_once()
+    ensures { EveryScheduleJudgesOnce }
+{
+    turns_are_paths();
+    justified_programs();
+    image_laws();
+}
+
+/// A law and no work: what is published in a slot is what judges there by the list of publishes of a running node.
+pub fn published_agrees()
+    ensures { PublishedAgrees }
+{
+    published_programs();
+}

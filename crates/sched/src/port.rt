@@ -1,0 +1,216 @@
+//! What a port has.
+
+ghost use Rattle.std.specs.Prelude.{◌≡◌, ◌<◌, ℕ, Option, None, Some, IfSome, is_none, length, true};
+ghost use Rattle.rmap.specs.Windows.{WindowsValue};
+ghost use Rattle.machine.specs.Sizes.{IsInside, Maps};
+ghost use Rattle.bank.specs.Records.{after_command, answer_of, fits, memory_of, next_share};
+ghost use Rattle.target.specs.Stagings.{IsStaged, IsStagingPlace};
+ghost use Rattle.sched.specs.Ends.{CanEnd, CanFinish, EndsAt, HasFinished, IsReplyTo, IsWriteUnder, after_write, load_result_kept, share_in, with_share_in};
+ghost use Rattle.sched.specs.History.{Open, after_answer};
+ghost use Rattle.sched.specs.Looking.{Node, cell_asked};
+ghost use Rattle.sched.specs.Worlds.{Asks, IsJudging, IsRunUnderIfAny, IsSameRunIfAny, effect_due, publish_due, turn_in};
+
+use crate::run::Run;
+use bank::{Bank, Judged, Share};
+use publish::Staging;
+use rmap::{Place, ReplyBuf, Status, Windows};
+use std::marker::Model;
+use target::{Banks, answer_staged};
+
+/// What a port has: a share of each bank, its staging, and the command that is judged.
+#[derive(Drop)]
+pub(crate) struct Port {
+    pub shares: Vec<Share>,
+    pub staging: Staging,
+    pub run: Option<Run>,
+}
+
+impl Model for Port {
+    ghost use Rattle.sched.specs.Worlds.{PortValue};
+
+    ghost Value = { PortValue };
+
+    ghost view = { λ p. record { shares = p.shares.items; staging = p.staging; run = p.run } };
+}
+
+impl Port {
+    /// A port with those shares and that staging, at which no command is judged.
+    pub fn free(shares: Vec<Share>, staging: Staging) -> Port
+        ensures { result ≡ record { shares = shares.items; staging = staging; run = None } }
+    {
+        Port {
+            shares,
+            staging,
+            run: None,
+        }
+    }
+
+    /// The staging, with the result of the last load.
+    pub fn staging(&self) -> &Staging
+        ensures { result.now ≡ self.now.staging }
+    {
+        &self.staging
+    }
+
+    /// Whether no command is judged.
+    pub fn is_free(&self) -> bool
+        ensures { result ≡ is_none self.now.run }
+    {
+        self.run.is_none()
+    }
+
+    /// Judges a command from now on.
+    pub fn begin(&mut self, run: Run)
+        ensures { self.new ≡ record self.old { run = Some run } }
+    {
+        self.run = Some(run);
+    }
+
+    /// The cell for which the program asks that helper, if it does.
+    pub fn asked(&self, helper: u8) -> Option<(u8, u16)>
+        ensures value { result ≡ cell_asked helper (turn_in self.now.run) }
+        ensures inside { (windows : WindowsValue) (sizes : Maps)
+            → IsRunUnderIfAny windows sizes self.now.run
+            → IfSome result (λ cell. IsInside sizes cell.0 cell.1) }
+        ensures asks { IfSome result (λ _. Asks self.now.run) }
+    {
+        match &self.run {
+            Some(run) => run.asked(helper),
+            None => None,
+        }
+    }
+
+    /// Answers the question at which the program stands, and goes on.
+    pub fn tell(&mut self, told: u64)
+        requires { Asks self.old.run }
+        ensures rest { self.new ≡ record self.old { run = self.new.run } }
+        ensures same { IsSameRunIfAny self.old.run self.new.run }
+        ensures run { (n : Node) (port : ℕ) (last : Option Open) → port < 32
+            → IsJudging n port last self.old.run
+            → IsJudging n port (after_answer told last) self.new.run }
+    {
+        match &mut self.run {
+            Some(run) => run.tell(told),
+            None => unreachable!(),
+        }
+    }
+
+    /// The verdict of the command, if it has one and an Effect is due: it is no control write.
+    pub fn effect_due(&self) -> Option<u64>
+        ensures { result ≡ effect_due self.now.run }
+    {
+        match &self.run {
+            Some(run) => match run.place() {
+                Place::Bank(_) | Place::Staging | Place::LoadResult => run.verdict(),
+                Place::Control => None,
+            },
+            None => None,
+        }
+    }
+
+    /// The verdict of the command, if it has one and a Publish is due: it is a control write.
+    pub fn publish_due(&self) -> Option<u64>
+        ensures { result ≡ publish_due self.now.run }
+    {
+        match &self.run {
+            Some(run) => match run.place() {
+                Place::Control => run.verdict(),
+                Place::Bank(_) | Place::Staging | Place::LoadResult => None,
+            },
+            None => None,
+        }
+    }
+
+    /// Applies a judged command to bank k, with the port's share of it, and leaves the reply. The status is that of the
+    /// reply.
+    fn apply(&mut self, bank: &mut Bank, k: u8, judged: Judged, reply: &mut ReplyBuf) -> Status
+        requires shared { k < length self.old.shares }
+        requires fits { fits bank.old (share_in self.old k judged.port) judged ≡ true }
+        ensures status { result ≡ (answer_of bank.old judged).status }
+        ensures memory { memory_of bank.new ≡ (answer_of bank.old judged).memory }
+        ensures reply { reply.new ≡ (answer_of bank.old judged).reply }
+        ensures bank { bank.new ≡ after_command bank.old (share_in self.old k judged.port) judged }
+        ensures share { self.new ≡ with_share_in self.old k
+            (next_share bank.old (share_in self.old k judged.port) judged) }
+    {
+        bank.apply(&mut self.shares[usize::from(k)], judged, reply)
+            .status
+    }
+
+    /// Answers a judged command to the staging or to the load result, and leaves the reply. The status is that of the
+    /// reply.
+    fn answer(&mut self, judged: Judged, reply: &mut ReplyBuf) -> Status
+        requires { IsStagingPlace judged.place }
+        ensures staged { IsStaged self.old.staging self.new.staging judged result reply.new }
+        ensures rest { self.new ≡ record self.old { staging = self.new.staging } }
+    {
+        answer_staged(&mut self.staging, judged, reply)
+    }
+
+    /// Ends a judged command of the port where its bytes lie, and leaves the reply. The status is that of the reply. The
+    /// condition is that it can end there, which a control write cannot.
+    fn conclude(&mut self, banks: &mut Banks, judged: Judged, reply: &mut ReplyBuf) -> Status
+        requires { CanEnd judged.place banks.old self.old judged }
+        ensures { EndsAt judged.place banks.old banks.new self.old self.new judged result reply.new }
+    {
+        match judged.place() {
+            Place::Bank(k) => self.apply(banks.bank_mut(k), k, judged, reply),
+            Place::Staging | Place::LoadResult => self.answer(judged, reply),
+            Place::Control => unreachable!(),
+        }
+    }
+
+    /// Ends the command that is judged, which has that verdict, where its bytes lie, and leaves the reply: no command is
+    /// judged then. The status is that of the reply. The windows are those under which it was taken.
+    pub fn finish(
+        &mut self,
+        windows: &Windows,
+        banks: &mut Banks,
+        port: u8,
+        verdict: u64,
+        reply: &mut ReplyBuf,
+    ) -> Status
+        requires { CanFinish windows.now banks.old port verdict self.old self.old.run }
+        ensures { HasFinished banks.old banks.new port verdict
+            self.old self.new self.old.run result reply.new }
+    {
+        match self.run.take() {
+            Some(run) => {
+                let judged = run.end(windows, port, verdict);
+                self.conclude(banks, judged, reply)
+            }
+            None => unreachable!(),
+        }
+    }
+
+    /// Ends the control write that is judged with that status, and leaves the reply: no command is judged then, and the
+    /// staging keeps the load result, where a load was decided. The windows are those under which it was taken.
+    pub fn end_write(
+        &mut self,
+        windows: &Windows,
+        port: u8,
+        verdict: u64,
+        told: (Status, Option<[u8; 8]>),
+        reply: &mut ReplyBuf,
+    )
+        requires { IsWriteUnder windows.now self.old.run }
+        ensures port { self.new ≡ after_write told.1 self.old }
+        ensures reply { IsReplyTo self.old.run told.0 reply.new }
+    {
+        let (status, loaded) = told;
+        match self.run.take() {
+            Some(run) => run.end(windows, port, verdict).end(status, reply),
+            None => unreachable!(),
+        }
+        self.keep(loaded);
+    }
+
+    /// Keeps the load result, where a load was decided.
+    fn keep(&mut self, loaded: Option<[u8; 8]>)
+        ensures { self.new ≡ record self.old { staging = load_result_kept loaded self.old.staging } }
+    {
+        if let Some(loaded) = loaded {
+            self.staging.set_load_result(loaded);
+        }
+    }
+}

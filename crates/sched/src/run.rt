@@ -1,0 +1,185 @@
+//! A command that is judged, from its Take to its end.
+
+ghost use Rattle.std.specs.Prelude.{◌≡◌, ◌<◌, ℕ, List, Some, IfSome, length};
+ghost use Rattle.std.specs.Arc.{arc_value};
+ghost use Rattle.rmap.specs.Command.{command_of, discard_of};
+ghost use Rattle.machine.specs.declared.calls.Call.{Call};
+ghost use Rattle.machine.specs.Memory.{IsHeader};
+ghost use Rattle.machine.specs.Sizes.{IsInside};
+ghost use Rattle.bank.specs.Admission.{IsPlacedBy};
+ghost use Rattle.brun.specs.Pauses.{AsksWithin, IsAt, IsPaused, Turns};
+ghost use Rattle.sched.specs.Ends.{judged_with};
+ghost use Rattle.sched.specs.History.{History, Open, taken, with_answer};
+ghost use Rattle.sched.specs.Looking.{Node, cell_asked, header_in, published, slot_in, windows_in};
+ghost use Rattle.sched.specs.Worlds.{IsAsk, IsFor, IsRunOf, IsRunWith, IsSameRun, verdict_at};
+
+use crate::laws::{arrays_are_headers, turns_are_paths};
+use bank::{Admitted, Judged};
+use brun::{Paused, Turn, advance, answer, start};
+use bver::{Accepted, justified_programs};
+use machine::STACK_SIZE;
+use rmap::{Command, Place, Windows};
+use spw::Packet;
+use std::marker::Model;
+use std::sync::Arc;
+
+/// A command that is judged: its packet and place, the program that judges it, with its generation, and where that
+/// stands. The program is held from the Take on, whatever is published since.
+#[derive(Drop)]
+pub(crate) struct Run {
+    packet: Packet,
+    place: Place,
+    program: Arc<Accepted>,
+    generation: u32,
+    turn: Turn,
+    paused: Paused,
+    stack: [u8; STACK_SIZE],
+}
+
+impl Model for Run {
+    ghost use Rattle.std.specs.Arc.{arc_value};
+    ghost use Rattle.sched.specs.Worlds.{RunValue, IsHeld};
+
+    ghost Value = { RunValue };
+
+    ghost invariant = { λ r. IsHeld (record { packet = r.packet; place = r.place; program = arc_value r.program; generation = r.generation; turn = r.turn; frame = r.paused; stack = r.stack }) };
+
+    ghost view = { λ r. record { packet = r.packet; place = r.place; program = arc_value r.program; generation = r.generation; turn = r.turn; frame = r.paused; stack = r.stack } };
+}
+
+/// A stack of zero bytes.
+fn empty_stack() -> [u8; STACK_SIZE]
+    ensures { length result ≡ STACK_SIZE }
+{
+    [0; STACK_SIZE]
+}
+
+/// Goes on with the program of a packet's command, to its next question or to its verdict.
+fn go_on(
+    program: &Accepted,
+    packet: &Packet,
+    stack: &mut [u8; STACK_SIZE],
+    paused: &mut Paused,
+) -> Turn
+    requires command { discard_of packet.now.bytes ≡ None }
+    requires paused { IsPaused program.now.program (header_in packet.now) paused.old stack.old }
+    ensures turns { (port : ℕ) (calls : List Call) → port < 32
+        → IsAt program.now.program (header_in packet.now) port calls paused.old stack.old
+        → Turns program.now.program (header_in packet.now) port calls result paused.new stack.new }
+    ensures within { AsksWithin program.now.sizes result }
+    ensures header { IsHeader (header_in packet.now) }
+{
+    let command = Command::again(packet);
+    arrays_are_headers(command.front(), command.tail());
+    advance(program, command.front(), command.tail(), stack, paused)
+}
+
+impl Run {
+    /// Begins the program on the command of a packet, at a port below 32.
+    pub fn begin(
+        packet: Packet,
+        place: Place,
+        program: Arc<Accepted>,
+        generation: u32,
+        port: u8,
+    ) -> Run
+        requires port { port < 32 }
+        requires command { discard_of packet.bytes ≡ None }
+        ensures with { IsRunWith packet place (arc_value program) generation result }
+        ensures run { (n : Node) (h : History) → IsPlacedBy (windows_in n) packet place
+            → (arc_value program).program ≡ (published n h (slot_in n packet)).0
+            → IsFor n (arc_value program) → IsRunOf n port (taken packet generation h) result }
+    {
+        turns_are_paths();
+        justified_programs();
+        let mut stack = empty_stack();
+        let mut paused = start(&program, port);
+        let turn = go_on(&program, &packet, &mut stack, &mut paused);
+        Run {
+            packet,
+            place,
+            program,
+            generation,
+            turn,
+            paused,
+            stack,
+        }
+    }
+
+    /// The verdict of the program, if it has one.
+    pub fn verdict(&self) -> Option<u64>
+        ensures { result ≡ verdict_at self.now.turn }
+    {
+        match self.turn {
+            Turn::Verdict(verdict) => Some(verdict),
+            Turn::Ask(_, _, _) => None,
+        }
+    }
+
+    /// The cell for which the program asks that helper, if it does.
+    pub fn asked(&self, helper: u8) -> Option<(u8, u16)>
+        ensures value { result ≡ cell_asked helper (Some self.now.turn) }
+        ensures inside { IfSome result (λ cell. IsInside self.now.program.sizes cell.0 cell.1) }
+        ensures asks { IfSome result (λ _. IsAsk self.now.turn) }
+    {
+        match self.turn {
+            Turn::Ask(asked, map, key) if asked == helper => Some((map, key)),
+            Turn::Ask(_, _, _) | Turn::Verdict(_) => None,
+        }
+    }
+
+    /// Answers the question at which the program stands, and goes on.
+    pub fn tell(&mut self, told: u64)
+        requires { IsAsk self.old.turn }
+        ensures same { IsSameRun self.old self.new }
+        ensures run { (n : Node) (port : ℕ) (o : Open) → port < 32
+            → IsRunOf n port o self.old → IsRunOf n port (with_answer told o) self.new }
+    {
+        turns_are_paths();
+        justified_programs();
+        answer(&mut self.paused, told);
+        self.turn = go_on(
+            &self.program,
+            &self.packet,
+            &mut self.stack,
+            &mut self.paused,
+        );
+    }
+
+    /// The command, as a view of its packet.
+    pub fn command(&self) -> Command<'_>
+        ensures { result ≡ command_of self.now.packet }
+    {
+        Command::again(&self.packet)
+    }
+
+    /// Where the command's bytes lie.
+    pub fn place(&self) -> Place
+        ensures { result ≡ self.now.place }
+    {
+        self.place
+    }
+
+    /// The generation of the program.
+    pub fn generation(&self) -> u32
+        ensures { result ≡ self.now.generation }
+    {
+        self.generation
+    }
+
+    /// Ends the run of a port with that verdict: the judged command, to be ended where its bytes lie. The windows are
+    /// those under which it was taken.
+    pub fn end(self, windows: &Windows, port: u8, verdict: u64) -> Judged
+        requires { IsPlacedBy windows.now self.packet self.place }
+        ensures { result ≡ judged_with port verdict self }
+    {
+        let Run {
+            packet,
+            place,
+            generation,
+            ..
+        } = self;
+        let admitted = Admitted::new(packet, place, windows);
+        Judged::of(admitted, port, generation, verdict)
+    }
+}

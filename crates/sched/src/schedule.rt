@@ -1,0 +1,63 @@
+//! Steps and schedules.
+
+ghost use Rattle.std.specs.Prelude.{◌≡◌, length, IfOk, IfErr, OnErr};
+ghost use Rattle.target.specs.Nodes.{limit_fault};
+ghost use Rattle.sched.specs.History.{Start, history_from};
+ghost use Rattle.sched.specs.Lawful.{IsLawful};
+ghost use Rattle.sched.specs.Worlds.{GoesOn, IsWorldFault, IsWorldOf, node_of};
+ghost use Rattle.sched.specs.declared.event.Outcome.TheVariants.{Refused as RefusedOutcome};
+
+use crate::event::{Event, Outcome};
+use crate::faults::WorldFault;
+use crate::world::World;
+use bpf::Image;
+use std::alloc::Global;
+use target::NodeConfig;
+
+/// One event: what it comes to, and the world goes on. `Memory` where memory was refused; the world is as it was then, and
+/// as it was where the event is refused.
+pub fn step(alloc: Global, world: &mut World, event: Event) -> Result<Outcome, WorldFault>
+    // Behind every lawful history of which it was the world, the outcome is lawful, and it is the world of the longer one.
+    ensures goes_on { IfOk result (λ outcome. GoesOn event outcome world.old world.new) }
+
+    ensures fault { IfErr result (λ fault. fault ≡ WorldFault.Memory) }
+    ensures same { OnErr result (world.new ≡ world.old) }
+    ensures refused { IfOk result (λ outcome. outcome ≡ RefusedOutcome → world.new ≡ world.old) }
+{
+    if event.port() >= world.ports() {
+        return Ok(Outcome::Refused);
+    }
+    match event {
+        Event::Take(port, packet) => world.take(alloc, port, packet),
+        Event::Count(port) => Ok(world.count(port)),
+        Event::Ticket(port) => Ok(world.ticket(port)),
+        Event::Effect(port) => world.effect(alloc, port),
+        Event::Publish(port) => world.publish(alloc, port),
+    }
+}
+
+/// Steps through the events, in order, from the world of a node behind no event: the world behind the last, and what each
+/// event came to. The faults are those of [`World::new`] and of [`step`].
+pub fn run_schedule(
+    alloc: Global,
+    config: &NodeConfig,
+    factory: &Image,
+    events: Vec<Event>,
+) -> Result<(World, Vec<Outcome>), WorldFault>
+    // The history is lawful, and the world is its world.
+    ensures lawful { IfOk result (λ ran. IsLawful (node_of config.now factory.now)
+        (history_from Start events.items ran.1.items)) }
+    ensures world { IfOk result (λ ran. IsWorldOf (node_of config.now factory.now)
+        (history_from Start events.items ran.1.items) ran.0) }
+
+    ensures count { IfOk result (λ ran. length ran.1.items ≡ length events.items) }
+    ensures fault { IfErr result (IsWorldFault (limit_fault config.now) factory.now) }
+{
+    let mut world = World::new(alloc, config, factory)?;
+    let mut outcomes = Vec::with_capacity(alloc, events.len())?;
+    for event in events {
+        let outcome = step(alloc, &mut world, event)?;
+        outcomes.push(outcome)?;
+    }
+    Ok((world, outcomes))
+}

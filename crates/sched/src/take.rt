@@ -1,0 +1,81 @@
+//! The event Take: a packet is discarded, answered by its header, or judged from now on.
+
+ghost use Rattle.std.specs.Prelude.{◌≡◌, ◌<◌, [], length, IfOk, IfErr, OnErr};
+ghost use Rattle.bank.specs.Admission.{IsPlacedBy};
+ghost use Rattle.sched.specs.Begins.{IsBegun};
+ghost use Rattle.sched.specs.Lawful.{stop_outcome};
+ghost use Rattle.sched.specs.Worlds.{GoesOn};
+ghost use Rattle.sched.specs.declared.event.Event.TheVariants.{Take as TakeEvent};
+ghost use Rattle.sched.specs.declared.event.Outcome.TheVariants.{Refused as RefusedOutcome};
+
+use crate::event::Outcome;
+use crate::faults::WorldFault;
+use crate::reply::{Reply, reply_room};
+use crate::run::Run;
+use crate::world::World;
+use bank::Admitted;
+use rmap::ReplyBuf;
+use spw::Packet;
+use std::alloc::{AllocError, Global};
+use std::sync::Arc;
+use target::{Stop, admit, slot};
+
+/// What a packet comes to that its header stops, with the reply that is due then.
+fn stopped(alloc: Global, stop: Stop, reply: &ReplyBuf) -> Result<Outcome, AllocError>
+    ensures { IfOk result (λ outcome. outcome ≡ stop_outcome stop reply.now) }
+{
+    match stop {
+        Stop::Discarded(discard) => Ok(Outcome::Discarded(discard)),
+        Stop::Answered(status) => {
+            let room = reply_room(alloc)?;
+            Ok(Outcome::Answered(status, Reply::of(room, reply)))
+        }
+    }
+}
+
+impl World {
+    /// Begins to judge an admitted command of a port, by the program that its slot shows now.
+    fn begin(&self, port: u8, admitted: Admitted) -> Result<Run, AllocError>
+        requires port { port < length self.now.ports }
+        requires placed { IsPlacedBy self.now.windows admitted.packet admitted.place }
+        ensures { IfOk result (IsBegun self.now port admitted.packet) }
+    {
+        let place = admitted.place();
+        let slot = slot(admitted.command().kind(), place);
+        let packet = admitted.into_packet();
+        let shown = &self.programs[usize::from(slot)];
+        let program = Arc::try_clone(&shown.program)?;
+        Ok(Run::begin(packet, place, program, shown.generation, port))
+    }
+
+    /// A packet is taken at a port that is there. `Memory` where memory was refused.
+    pub(crate) fn take(
+        &mut self,
+        alloc: Global,
+        port: u8,
+        packet: Packet,
+    ) -> Result<Outcome, WorldFault>
+        requires { port < length self.old.ports }
+        ensures goes_on { IfOk result
+            (λ outcome. GoesOn (TakeEvent port packet) outcome self.old self.new) }
+        ensures fault { IfErr result (λ fault. fault ≡ WorldFault.Memory) }
+        ensures same { OnErr result (self.new ≡ self.old) }
+        ensures refused { IfOk result
+            (λ outcome. outcome ≡ RefusedOutcome → self.new ≡ self.old) }
+    {
+        let at = usize::from(port);
+        if !self.ports[at].is_free() {
+            return Ok(Outcome::Refused);
+        }
+        let mut reply = ReplyBuf::new();
+        match admit(packet, &self.windows, &mut reply) {
+            Err((stop, _packet)) => Ok(stopped(alloc, stop, &reply)?),
+            Ok(admitted) => {
+                let run = self.begin(port, admitted)?;
+                let generation = run.generation();
+                self.ports[at].begin(run);
+                Ok(Outcome::Taken(generation))
+            }
+        }
+    }
+}

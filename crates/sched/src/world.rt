@@ -1,0 +1,161 @@
+//! The world: the state of a node as plain values.
+
+ghost use Rattle.std.specs.Prelude.{◌≡◌, ◌<◌, ◌≤◌, ℕ, length, map, replicate, option_map, slice_get, Some, None, IfOk, IfErr};
+ghost use Rattle.std.specs.Arc.{arc_value};
+ghost use Rattle.std.specs.List.{range_with_len};
+ghost use Rattle.bver.specs.Justified.{IsJustified};
+ghost use Rattle.target.specs.Nodes.{ArePortShares, limit_fault};
+ghost use Rattle.sched.specs.History.{Start};
+ghost use Rattle.sched.specs.Worlds.{IsWorldFault, IsWorldOf, first_port, generation_in, node_of, shown_in_all, staging_in, word_in};
+
+use crate::faults::WorldFault;
+use crate::port::Port;
+use crate::shown::Shown;
+use crate::words::Counters;
+use bank::Bank;
+use bpf::Image;
+use bver::{Accepted, verify};
+use machine::MapSizes;
+use publish::Staging;
+use rmap::Windows;
+use std::alloc::{AllocError, Global};
+use std::marker::Model;
+use std::sync::Arc;
+use target::{Banks, NodeConfig, PortShares, made_are_paired};
+
+/// The state of a node as plain values, between two events: its banks, its counter words, the program of each slot, and
+/// what each of its ports has. [`step`](crate::step) takes it from one event to the next.
+#[derive(Drop)]
+pub struct World {
+    pub(crate) windows: Windows,
+    pub(crate) sizes: MapSizes,
+    pub(crate) banks: Banks,
+    pub(crate) words: Counters,
+    pub(crate) programs: [Shown; 4],
+    pub(crate) count: u32,
+    pub(crate) ports: Vec<Port>,
+}
+
+impl Model for World {
+    ghost use Rattle.sched.specs.Worlds.{IsWorld, WorldValue};
+
+    ghost Value = { WorldValue };
+
+    ghost view = { λ w. record { windows = w.windows; sizes = w.sizes; banks = w.banks; words = w.words; programs = w.programs; count = w.count; ports = w.ports.items } };
+
+    ghost invariant = { λ w. IsWorld (record { windows = w.windows; sizes = w.sizes; banks = w.banks; words = w.words; programs = w.programs; count = w.count; ports = w.ports.items }) };
+}
+
+/// The factory program, accepted for maps of those sizes.
+fn accepted(alloc: Global, factory: &Image, sizes: &MapSizes) -> Result<Accepted, WorldFault>
+    ensures program { IfOk result (λ a. a.program ≡ factory.now) }
+    ensures sizes { IfOk result (λ a. a.sizes ≡ sizes.now) }
+    ensures justified { IfOk result (λ a. IsJustified a.program sizes.now) }
+    ensures fault { IfErr result (IsWorldFault None factory.now) }
+{
+    let image = factory.copy()?;
+    Ok(verify(alloc, image, sizes)?)
+}
+
+/// The program in each slot, of generation 0.
+fn in_all_slots(program: Arc<Accepted>) -> Result<[Shown; 4], AllocError>
+    ensures { IfOk result (λ shown. shown ≡ shown_in_all (arc_value program)) }
+{
+    Ok([
+        Shown::first(&program)?,
+        Shown::first(&program)?,
+        Shown::first(&program)?,
+        Shown::first(&program)?,
+    ])
+}
+
+/// The ports, each with its shares of so many banks, an empty staging and no command.
+fn free_ports(alloc: Global, mut by_port: Vec<PortShares>) -> Result<Vec<Port>, AllocError>
+    ensures { IfOk result (λ ports. (banks count : ℕ) → ArePortShares banks count by_port.items
+        → ports.items ≡ map (first_port banks) (range_with_len 0 count)) }
+{
+    let mut ports = Vec::with_capacity(alloc, by_port.len())?;
+    for port in 0..by_port.len() {
+        let shares = by_port[port].take(alloc);
+        ports.push(Port::free(shares, Staging::new(alloc)?))?;
+    }
+    Ok(ports)
+}
+
+impl World {
+    /// The world of a node behind no event: banks of zero bytes, counter words of 0, and the factory program in each slot,
+    /// with generation 0.
+    ///
+    /// # Errors
+    ///
+    /// `Config` where ports or banks are outside their limits, which is tested first; `Image` where the verifier refuses the
+    /// factory program; `Memory` where memory was refused.
+    pub fn new(alloc: Global, config: &NodeConfig, factory: &Image) -> Result<World, WorldFault>
+        ensures world { IfOk result (IsWorldOf (node_of config.now factory.now) Start) }
+        ensures limits { IfOk result (λ _. limit_fault config.now ≡ None) }
+        ensures fault { IfErr result (IsWorldFault (limit_fault config.now) factory.now) }
+    {
+        made_are_paired();
+        let (banks, by_port) = Banks::new(alloc, config)?;
+        let factory = Arc::new(alloc, accepted(alloc, factory, &config.sizes)?)?;
+        Ok(World {
+            windows: config.windows(),
+            sizes: config.sizes,
+            banks,
+            words: Counters::new(alloc, &config.sizes)?,
+            programs: in_all_slots(factory)?,
+            count: 0,
+            ports: free_ports(alloc, by_port)?,
+        })
+    }
+
+    /// How many ports there are, at most 32.
+    pub fn ports(&self) -> u8
+        ensures value { result ≡ length self.now.ports }
+        ensures few { result ≤ 32 }
+    {
+        self.ports.len() as u8
+    }
+
+    /// How many banks there are.
+    pub fn banks(&self) -> usize
+        ensures { result ≡ length self.now.banks }
+    {
+        self.banks.len()
+    }
+
+    /// The bank of that number. The condition is a number below [`World::banks`].
+    pub fn bank(&self, k: u8) -> &Bank
+        requires { k < length self.now.banks }
+        ensures { slice_get self.now.banks k ≡ Some result.now }
+    {
+        self.banks.bank(k)
+    }
+
+    /// The counter word of a cell, or `None` where the map has no such key, or there is no such map.
+    pub fn word(&self, map: u8, key: u16) -> Option<u64>
+        ensures { result ≡ word_in self.now.words map key }
+    {
+        self.words.get(map, key)
+    }
+
+    /// The generation of the program of a slot. The condition is a slot below 4.
+    pub fn generation(&self, slot: u8) -> u32
+        requires { slot < 4 }
+        ensures { Some result ≡ generation_in (slice_get self.now.programs slot) }
+    {
+        let shown = &self.programs[usize::from(slot)];
+        shown.generation
+    }
+
+    /// The staging of a port, with the result of its last load, or `None` where there is no such port.
+    pub fn staging(&self, port: u8) -> Option<&Staging>
+        ensures { option_map (λ staging. staging.now) result
+            ≡ staging_in (slice_get self.now.ports port) }
+    {
+        match self.ports.get(usize::from(port)) {
+            Some(port) => Some(port.staging()),
+            None => None,
+        }
+    }
+}
