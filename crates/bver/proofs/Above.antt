@@ -1,7 +1,7 @@
 -- What a pass knows is below what every table says under which the program is justified.
-use Rattle.std.proofs.Common.{◌≡◌, ◌≢◌, ℕ, ◌+◌, ap, ℤ, pos, negsuc, Bool, true, false, List, Option, None, Some, Result, Ok, Err, ◌⊎◌, inl, inr, refl, sym, subst, arith}
+use Rattle.std.proofs.Common.{◌≡◌, ◌≢◌, ◌≤◌, ℕ, ◌+◌, ap, ℤ, pos, negsuc, Bool, true, false, List, Option, None, Some, Result, Ok, Err, ◌⊎◌, inl, inr, refl, sym, subst, arith}
 use Rattle.std.specs.Prelude.{IsTrue, IsFalse, if◌then◌else◌, is_some}
-use Rattle.std.proofs.lemmas.Bool.{cases_lt, false≢true}
+use Rattle.std.proofs.lemmas.Bool.{cases_eq, cases_lt, false≢true}
 use Rattle.std.proofs.lemmas.List.{get_or_past}
 use Rattle.bpf.specs.declared.loops.Loop.{Loop}
 use Rattle.bpf.specs.Program.{Program}
@@ -21,10 +21,10 @@ use Rattle.absdom.specs.Edges.{Edges, refined_edges}
 use Rattle.absdom.specs.Laws.{BelowIsTransitive, ApplyGrows, RefineGrows, CallGrows, IsGrown, IsEdgeBelow, AreEdgesGrown}
 use Rattle.bver_form.specs.Jumps.{first_slot, target}
 use Rattle.bver_form.specs.Lowered.{is_lowered}
-use Rattle.bver.specs.Heads.{BodyValue, Falls, IsRaised, IsRaisedKind, IsWithinBound, counts, opens, keeps, opened_kind, is_number}
+use Rattle.bver.specs.Heads.{AreUnset, BodyValue, Falls, IsRaised, IsRaisedKind, IsWithinBound, counts, opens, keeps, opened_kind, is_number}
 use Rattle.bver.specs.Table.{TableValue, knowledge_in}
 use Rattle.bver.specs.Visit.{IsGrown as HasGrown, IsLeast, IsLeastOf}
-use Rattle.bver.specs.Justified.{AreEdgesCovered, AsksCell, IsCovered, IsCoveredIfAny, IsHead, IsNumber, IsOpen, IsPermitted, IsResultCovered, IsWrittenIn, Proceeds, knowledge_at}
+use Rattle.bver.specs.Justified.{AreEdgesCovered, AsksCell, IsCovered, IsCoveredIfAny, IsHead, IsNumber, IsOpen, IsPermitted, IsResultCovered, Proceeds, knowledge_at}
 
 -- ---- what a table permits of a state, it permits of a smaller one
 
@@ -103,11 +103,6 @@ permitted_less applies refines calls transitive sizes table slot a b insn p q be
 
 -- ---- what is raised at a head stays below a table that stands for every pass
 
--- the registers that were lowered for the loop hold nothing at its head
-abbrev pub AreUnset : Program → Loop → (lowered : List Bool) (place : ℕ) → StateValue → Type 0
-AreUnset p l lowered place above =
-    (register : ℕ) → register ≢ l.register → IsWrittenIn p l register → IsTrue (is_lowered lowered place register) → kind_at above register ≡ Unset
-
 open_less : (lowered : Bool) (before above : AbsKind) → IsOpen above → IsKindBelow before above → (IsTrue lowered → above ≡ Unset) → IsKindBelow (opened_kind lowered before) above
 open_less lowered before Unset is_open below low = by_kind lowered before
   where
@@ -128,18 +123,18 @@ open_less false (Num a) (Num b) is_open below low = rw is_open (record { above =
 open_less false (Ptr r a) (Num b) is_open below low = absurd below
 open_less false (Map i) (Num b) is_open below low = absurd below
 
-kind_less : (p : Program) (l : Loop) (lowered : List Bool) (place register : ℕ) (before after : AbsKind) (above : StateValue) → IsHead p l above → AreUnset p l lowered place above → IsKindBelow before (kind_at above register) → IsRaisedKind p l lowered place register before after → IsKindBelow after (kind_at above register)
-kind_less p l lowered place register before after above head low below (counts at is) =
+kind_less : (p : Program) (l : Loop) (lowered : List Bool) (place register : ℕ) (before after : AbsKind) (above : StateValue) → register ≤ 9 → IsHead p l above → AreUnset p l lowered place above → IsKindBelow before (kind_at above register) → IsRaisedKind p l lowered place register before after → IsKindBelow after (kind_at above register)
+kind_less p l lowered place register before after above small head low below (counts at is) =
     rw (is, at, head.counter) (record { above = omega arith; below = omega arith })
-kind_less p l lowered place register before after above head low below (opens other written is) =
-    rw is (open_less (is_lowered lowered place register) before (kind_at above register) (head.others register other written) below (low register other written))
-kind_less p l lowered place register before after above head low below (keeps other unwritten is) = rw is below
+kind_less p l lowered place register before after above small head low below (opens other written is) =
+    rw is (open_less (is_lowered lowered place register) before (kind_at above register) (head.others register other written) below (low register small other written))
+kind_less p l lowered place register before after above small head low below (keeps other unwritten is) = rw is below
 
 pub raised_less : (p : Program) (l : Loop) (lowered : List Bool) (place : ℕ) (before after above : StateValue) → IsWhole before → IsWhole after → IsHead p l above → AreUnset p l lowered place above → IsBelow before above → IsRaised p l lowered place before after → IsBelow after above
 raised_less p l lowered place before after above p_before p_after head low below raised = record {
   kinds = λ register.
       elim (cases_lt register 10) [
-        | inl small ↦ kind_less p l lowered place register (kind_at before register) (kind_at after register) above head low (below.kinds register) (raised.registers register (omega (arith, small)))
+        | inl small ↦ kind_less p l lowered place register (kind_at before register) (kind_at after register) above (omega (arith, small)) head low (below.kinds register) (raised.registers register (omega (arith, small)))
         | inr past ↦ elim (cases_lt 10 register) [
           | inl beyond ↦
               rw (get_or_past after.kinds register Unset (omega (arith, beyond, p_after.sizes.registers)))
@@ -174,16 +169,9 @@ falls_unset b head edge above register other stands below falls =
 
 -- ---- what comes to a slot
 
-cases_same : (k slot : ℕ) → k ≡ slot ⊎ k ≢ slot
-cases_same k slot =
-    elim (cases_lt k slot) [
-      | inl below ↦ inr (λ same. omega (arith, same, below))
-      | inr past ↦ elim (cases_lt slot k) [ inl beyond ↦ inr (λ same. omega (arith, same, beyond)) | inr at ↦ inl (omega (arith, past, at)) ]
-    ]
-
 -- a table in which one slot changed, to the least that covers a state too
 pub least_at : (old new : TableValue) (slot : ℕ) (state : StateValue) → IsLeast (knowledge_in old slot) state (knowledge_in new slot) → ((k : ℕ) → k ≢ slot → knowledge_in new k ≡ knowledge_in old k) → IsLeastOf (λ above. IsCovered state (above slot)) old new
-least_at old new slot state least others above grown covered k = by_place (cases_same k slot)
+least_at old new slot state least others above grown covered k = by_place (cases_eq k slot)
   where
     here : (there : Option StateValue) → IsCoveredIfAny (knowledge_in old slot) there → IsCovered state there → IsCoveredIfAny (knowledge_in new slot) there
     here None was now = absurd now

@@ -1,6 +1,6 @@
 -- What a pass knows stays below every table that covers what comes to a slot and what its instruction leads to; so it
 -- stays below one under which the program is justified, and a refusal refutes that one.
-use Rattle.std.proofs.Common.{◌≡◌, ℕ, ◌+◌, ◌<◌, ◌≤◌, Bool, true, false, List, [], length, Option, None, Some, Result, Ok, Err, inl, inr, refl, sym, ap, subst, ◌∙◌, arith}
+use Rattle.std.proofs.Common.{◌≡◌, ℕ, ◌+◌, ◌<◌, ◌≤◌, Bool, true, false, List, [], Option, None, Some, Result, Ok, Err, inl, inr, refl, sym, ap, subst, ◌∙◌, arith, ◌⊎◌}
 use Rattle.std.specs.Prelude.{IsTrue, IsSome, IfOk, IfSome}
 use Rattle.std.proofs.lemmas.Bool.{cases_lt, false≢true}
 use Rattle.bpf.specs.declared.loops.Loop.{Loop}
@@ -21,13 +21,14 @@ use Rattle.absdom.specs.Laws.{ApplyGrows, BelowIsReflexive, BelowIsTransitive, C
 use Rattle.bver_form.specs.declared.refusal.Refused.{Refused}
 use Rattle.bver_form.specs.Jumps.{target}
 use Rattle.bver_form.specs.Targets.{IsKept, IsPlain}
-use Rattle.bver.specs.Heads.{IsDeclared, IsWithinBound}
+use Rattle.bver_form.specs.Lowered.{is_lowered}
+use Rattle.bver.specs.Heads.{AreUnset, Falls, HasLowered, IsDeclared, IsWithinBound}
 use Rattle.bver.specs.Justified.{AreEdgesCovered, IsCovered, IsCoveredIfAny, IsEntered, IsHead, IsJustified, IsPermitted, IsPermittedAt, IsResultCovered, edges_of_comparison, knowledge_at}
-use Rattle.bver.specs.Leading.{BranchesBelow, EntersOutsideIfAny, IsFlowFault, IsFollowedBelow, IsLeastVisit, IsLeastVisitIfAny, IsRaisedIfAny, GivesBelow, IsUncovered, IsUncoveredIfAny, IsVisitFault, IsVisitFaultIfAny, LeadsBelow, enters, jumping_state, leads, raises, refutes, returns, stays}
+use Rattle.bver.specs.Leading.{AreLoweredBack, BranchesBelow, EntersOutsideIfAny, GivesBelow, IsFlowFault, IsFollowedBelow, IsRaisedAt, IsLeastVisit, IsLoweredBackIfAny, IsRaisedIfAny, IsUncovered, IsUncoveredIfAny, IsVisitFault, IsVisitFaultIfAny, LeadsBelow, enters, jumping_if_any, jumping_state, leads, raises, refutes, returns, stays}
 use Rattle.bver.specs.Table.{TableValue, knowledge_in}
 use Rattle.bver.specs.Unjustified.{Justifies}
-use Rattle.bver.specs.Visit.{AreWhole, IsExtended, IsLeastNext, IsLeastOf, IsVisit, VisitValue, visited_state}
-use Rattle.bver.proofs.Above.{AreUnset, entry_refuted, permitted_less, raised_less}
+use Rattle.bver.specs.Visit.{AreWhole, IsExtended, IsInsnVisit, IsLeastNext, IsLeastOf, VisitValue, visited_state}
+use Rattle.bver.proofs.Above.{entry_refuted, permitted_less, raised_less}
 use Rattle.bver.proofs.Covering.{AreCovered}
 use Rattle.bver.proofs.Passing.{StandsAt}
 use Rattle.bver.proofs.Slots.{goes_further, none_between}
@@ -115,8 +116,8 @@ comes_below p table true state slot insn above begins plain h =
     })
 
 -- after the visit of an instruction
-pub below_next : (v : VisitValue) (lowered : List Bool) (old new : TableValue) (was runs : Bool) (before after : StateValue) (insn : Insn) (above : ℕ → Option StateValue) → IsProgram v.program → insn_at v.program v.slot ≡ Some insn → (IsTrue runs → IsPlain v.program (v.slot + slots_of insn)) → IsLeastVisit v lowered old new was runs before after insn → IsFollowedBelow above v.slot (visited_state was before new v.slot) insn → StaysBelow v.program old was before v.slot above → StaysBelow v.program new runs after (v.slot + 1) above
-below_next v lowered old new was runs before after insn above limits begins plain visit followed h = record {
+pub below_next : (v : VisitValue) (lowered now : List Bool) (old new : TableValue) (was runs : Bool) (before after : StateValue) (insn : Insn) (above : ℕ → Option StateValue) → IsProgram v.program → insn_at v.program v.slot ≡ Some insn → (IsTrue runs → IsPlain v.program (v.slot + slots_of insn)) → IsLeastVisit v lowered now old new was runs before after insn → IsFollowedBelow above v.slot (visited_state was before new v.slot) insn → StaysBelow v.program old was before v.slot above → StaysBelow v.program new runs after (v.slot + 1) above
+below_next v lowered now old new was runs before after insn above limits begins plain visit followed h = record {
   known = (visit.least above h.known followed).0;
   running = λ on next stands.
       subst (λ (k : ℕ). IsCovered after (above k)) (one_place v.program (v.slot + 1) (v.slot + slots_of insn) next (here on) stands)
@@ -156,28 +157,48 @@ below_none p table state above known = record { known = known; running = λ on. 
 -- ---- the visit of an instruction: what comes to it, and what its flow does
 
 -- where nothing is known
-pub least_nothing : (v : VisitValue) (lowered : List Bool) (old new : TableValue) (was : Bool) (before after : StateValue) (insn : Insn) → visited_state was before new v.slot ≡ None
+pub least_nothing : (v : VisitValue) (lowered now : List Bool) (old new : TableValue) (was : Bool) (before after : StateValue) (insn : Insn) → visited_state was before new v.slot ≡ None → now ≡ lowered
     → IsRaisedIfAny v.program lowered v.slot (visited_state was before old v.slot) (visited_state was before new v.slot)
     → IsLeastOf (λ above. IsCoveredIfAny (visited_state was before new v.slot) (above v.slot)) old new
-    → IsLeastVisit v lowered old new was was before after insn
-least_nothing v lowered old new true before after insn none raised least = absurd cc
-least_nothing v lowered old new false before after insn none raised least = record {
+    → IsLeastVisit v lowered now old new was was before after insn
+least_nothing v lowered now old new true before after insn none unlowered raised least = absurd cc
+least_nothing v lowered now old new false before after insn none unlowered raised least = record {
   raised = raised;
   least = λ above grown followed. (least above grown (subst (λ (o : Option StateValue). IsCoveredIfAny o (above v.slot)) (sym none) tt), λ on. absurd (false≢true on));
+  marks = λ place register small. inl (ap (λ (marks : List Bool). is_lowered marks place register) unlowered);
 }
 
+-- what falls with a table falls with one that is the same before the slot
+lowered_before : (p : Program) (slot : ℕ) (mid old : ℕ → Option StateValue) (edge : Option StateValue) (lowered now : List Bool) → ((k : ℕ) → k < slot → mid k ≡ old k) → AreLoweredBack p slot mid edge lowered now → AreLoweredBack p slot old edge lowered now
+lowered_before p slot mid old edge lowered now same marks place register small = by_mark edge (marks place register small)
+  where
+    by_mark : (edge : Option StateValue) → (is_lowered now place register ≡ is_lowered lowered place register) ⊎ IsLoweredBackIfAny p slot mid edge place register → (is_lowered now place register ≡ is_lowered lowered place register) ⊎ IsLoweredBackIfAny p slot old edge place register
+    by_mark edge (inl is) = inl is
+    by_mark None (inr falls) = absurd falls
+    by_mark (Some e) (inr h) =
+        inr (record {
+          declared = h.declared;
+          is = h.is;
+          back = h.back;
+          falls = subst (λ (o : Option StateValue). Falls (record { program = p; declared = h.declared; place = place }) o e register) (same h.declared.head (omega (arith, h.is.limits.ordered, h.back))) h.falls;
+        })
+
 -- where something is
-pub least_insn : (v : VisitValue) (lowered : List Bool) (old mid new : TableValue) (was runs : Bool) (before here after : StateValue) (insn : Insn) → visited_state was before mid v.slot ≡ Some here
+pub least_insn : (v : VisitValue) (lowered now : List Bool) (old mid new : TableValue) (was runs : Bool) (before here after : StateValue) (insn : Insn) → visited_state was before mid v.slot ≡ Some here
     → IsRaisedIfAny v.program lowered v.slot (visited_state was before old v.slot) (visited_state was before mid v.slot)
     → IsLeastOf (λ above. IsCoveredIfAny (visited_state was before mid v.slot) (above v.slot)) old mid
     → IsLeastNext (λ above. LeadsBelow above v.slot here insn) mid new runs (v.slot + slots_of insn) after
-    → IsExtended (v.slot + 1) mid new
-    → IsLeastVisit v lowered old new was runs before after insn
-least_insn v lowered old mid new was runs before here after insn known raised first second extended = record {
+    → AreLoweredBack v.program v.slot (knowledge_in mid) (jumping_state here insn) lowered now
+    → IsExtended v.slot old mid → IsExtended (v.slot + 1) mid new
+    → IsLeastVisit v lowered now old new was runs before after insn
+least_insn v lowered now old mid new was runs before here after insn known raised first second marks entered extended = record {
   raised = subst (λ (o : Option StateValue). IsRaisedIfAny v.program lowered v.slot (visited_state was before old v.slot) o) (sym same) raised;
   least = λ above grown followed.
       let led : IsCovered here (above v.slot) × LeadsBelow above v.slot here insn = subst (λ (o : Option StateValue). IsFollowedBelow above v.slot o insn) (same ∙ known) followed in
       second above (first above grown (subst (λ (o : Option StateValue). IsCoveredIfAny o (above v.slot)) (sym known) led.0)) led.1;
+  marks =
+      subst (λ (o : Option StateValue). AreLoweredBack v.program v.slot (knowledge_in old) (jumping_if_any o insn) lowered now) (sym (same ∙ known))
+      (lowered_before v.program v.slot (knowledge_in mid) (knowledge_in old) (jumping_state here insn) lowered now entered.kept marks);
 }
   where
     by_runs : (b : Bool) → visited_state b before new v.slot ≡ visited_state b before mid v.slot
@@ -188,19 +209,24 @@ least_insn v lowered old mid new was runs before here after insn known raised fi
     same = by_runs was
 
 -- what is refused with a table is with one that is the same before the slot
-fault_before : (v : VisitValue) (mid old : ℕ → Option StateValue) (a : StateValue) (insn : Insn) → ((k : ℕ) → k < v.slot → mid k ≡ old k) → IsFlowFault v mid a insn → IsFlowFault v old a insn
-fault_before v mid old a insn same (refutes refuted) = refutes refuted
-fault_before v mid old a insn same (returns uncovered) = returns (by_edge (jumping_state a insn) uncovered)
+fault_before : (v : VisitValue) (lowered : List Bool) (mid old : ℕ → Option StateValue) (a : StateValue) (insn : Insn) → ((k : ℕ) → k < v.slot → mid k ≡ old k) → IsFlowFault v lowered mid a insn → IsFlowFault v lowered old a insn
+fault_before v lowered mid old a insn same (refutes refuted) = refutes refuted
+fault_before v lowered mid old a insn same (returns uncovered) = returns (by_edge (jumping_state a insn) uncovered)
   where
-    by_edge : (edge : Option StateValue) → IsUncoveredIfAny v.program v.slot mid edge → IsUncoveredIfAny v.program v.slot old edge
+    by_edge : (edge : Option StateValue) → IsUncoveredIfAny v.program v.slot lowered mid edge → IsUncoveredIfAny v.program v.slot lowered old edge
     by_edge None u = u
-    by_edge (Some edge) u = record {
-      declared = u.declared;
-      place = u.place;
-      is = u.is;
-      back = u.back;
-      uncovered = λ covered. u.uncovered (subst (λ (o : Option StateValue). IsCovered edge o) (sym (same u.declared.head (omega (arith, u.is.limits.ordered, u.back)))) covered);
-    }
+    by_edge (Some edge) u =
+        let there : mid u.declared.head ≡ old u.declared.head = same u.declared.head (omega (arith, u.is.limits.ordered, u.back)) in
+        record {
+          declared = u.declared;
+          place = u.place;
+          is = u.is;
+          back = u.back;
+          whole = u.whole;
+          uncovered = λ covered. u.uncovered (subst (λ (o : Option StateValue). IsCovered edge o) (sym there) covered);
+          fallen = λ register small falls.
+              u.fallen register small (subst (λ (o : Option StateValue). Falls (record { program = v.program; declared = u.declared; place = u.place }) o edge register) (sym there) falls);
+        }
 
 pub enters_fault : (v : VisitValue) (lowered : List Bool) (known : ℕ → Option StateValue) (came : Option StateValue) (insn : Insn) → EntersOutsideIfAny v.program v.slot came → IsVisitFaultIfAny v lowered known came (Some insn)
 enters_fault v lowered known None insn fault = fault
@@ -208,14 +234,14 @@ enters_fault v lowered known (Some a) insn fault = enters fault
 
 pub leads_fault : (v : VisitValue) (lowered : List Bool) (old mid : TableValue) (was : Bool) (before here : StateValue) (insn : Insn) → visited_state was before mid v.slot ≡ Some here → IsWhole here
     → IsRaisedIfAny v.program lowered v.slot (visited_state was before old v.slot) (visited_state was before mid v.slot)
-    → IsExtended v.slot old mid → IsFlowFault v (knowledge_in mid) here insn
+    → IsExtended v.slot old mid → IsFlowFault v lowered (knowledge_in mid) here insn
     → IsVisitFaultIfAny v lowered (knowledge_in old) (visited_state was before old v.slot) (Some insn)
 leads_fault v lowered old mid was before here insn known whole raised extended fault =
     by_came (visited_state was before old v.slot) (subst (λ (o : Option StateValue). IsRaisedIfAny v.program lowered v.slot (visited_state was before old v.slot) o) known raised)
   where
     by_came : (came : Option StateValue) → IsRaisedIfAny v.program lowered v.slot came (Some here) → IsVisitFaultIfAny v lowered (knowledge_in old) came (Some insn)
     by_came None raised = raised
-    by_came (Some a) raised = leads here whole raised (fault_before v (knowledge_in mid) (knowledge_in old) here insn extended.kept fault)
+    by_came (Some a) raised = leads here whole raised (fault_before v lowered (knowledge_in mid) (knowledge_in old) here insn extended.kept fault)
 
 -- ---- below a table under which the program is justified
 
@@ -227,12 +253,8 @@ pub record Order : Type 0 where
   pub refines : RefineGrows
   pub calls : CallGrows
 
--- what was lowered for a loop holds nothing at its head in the table
-abbrev pub HasLowered : Program → (lowered : List Bool) → (table : ℕ → Option StateValue) → Type 0
-HasLowered p lowered table = (l : Loop) (place : ℕ) → IsDeclared p l place → IfSome (table l.head) (AreUnset p l lowered place)
-
 -- what stands at the head of a loop in the table
-head_in : (p : Program) (sizes : Maps) (table : ℕ → Option StateValue) (l : Loop) (place : ℕ) → Justifies p sizes table → IsDeclared p l place → IfSome (table l.head) (IsHead p l)
+pub head_in : (p : Program) (sizes : Maps) (table : ℕ → Option StateValue) (l : Loop) (place : ℕ) → Justifies p sizes table → IsDeclared p l place → IfSome (table l.head) (IsHead p l)
 head_in p sizes table l place h declared = subst (λ (m : Loop). IfSome (table m.head) (IsHead p m)) (declared.is l) (h.heads place l declared.inside)
 
 -- what comes to a slot is covered there once it is raised
@@ -251,7 +273,7 @@ raised_covered p sizes table lowered slot (Some b) (Some a) h low old new covere
     by_there (Some d) head unset below = raised_less p l lowered place b a d old new head unset below raised
 
 -- what is known of a state that the table covers is permitted by it
-permitted_there : Order → (p : Program) (sizes : Maps) (table : ℕ → Option StateValue) (slot : ℕ) (a : StateValue) (insn : Insn) → Justifies p sizes table → insn_at p slot ≡ Some insn → IsWhole a → IsCovered a (table slot) → IsPermitted sizes table slot a insn
+pub permitted_there : Order → (p : Program) (sizes : Maps) (table : ℕ → Option StateValue) (slot : ℕ) (a : StateValue) (insn : Insn) → Justifies p sizes table → insn_at p slot ≡ Some insn → IsWhole a → IsCovered a (table slot) → IsPermitted sizes table slot a insn
 permitted_there order p sizes table slot a insn h begins whole covered =
     by_there (table slot) (h.whole slot) covered (subst (λ (o : Option Insn). IsPermittedAt sizes table slot (table slot) o) begins (h.permitted slot))
   where
@@ -270,70 +292,67 @@ followed_there order p sizes table slot None insn h begins whole covered = tt
 followed_there order p sizes table slot (Some a) insn h begins whole covered =
     (covered, permitted_leads sizes table slot a insn (permitted_there order p sizes table slot a insn h begins whole covered))
 
--- after the visit of a slot
-pub justified_next : Order → (v : VisitValue) (lowered : List Bool) (old new : TableValue) (was runs : Bool) (before after : StateValue) (settled : Type 0) (region : Option Region) (o : Option Insn) (above : ℕ → Option StateValue)
-    → IsProgram v.program → insn_at v.program v.slot ≡ o → (IsTrue was → IsKept v.program v.slot → ⊥)
+-- what comes to the slot of an instruction, raised, is covered by a table under which the program is justified
+pub here_covered : (v : VisitValue) (lowered : List Bool) (old new : TableValue) (was : Bool) (before : StateValue) (insn : Insn) (above : ℕ → Option StateValue)
+    → insn_at v.program v.slot ≡ Some insn → (IsTrue was → IsKept v.program v.slot → ⊥)
+    → IsWhole before → AreWhole (knowledge_in old) → AreWhole (knowledge_in new)
+    → Justifies v.program v.sizes above → HasLowered v.program lowered above
+    → IsRaisedIfAny v.program lowered v.slot (visited_state was before old v.slot) (visited_state was before new v.slot)
+    → StaysBelow v.program old was before v.slot above → IsCoveredIfAny (visited_state was before new v.slot) (above v.slot)
+here_covered v lowered old new was before insn above begins plain proper whole new_whole h low raised below =
+    raised_covered v.program v.sizes above lowered v.slot (visited_state was before old v.slot) (visited_state was before new v.slot) h low
+    (comes_whole was before old v.slot proper whole) (comes_whole was before new v.slot proper new_whole)
+    (comes_below v.program old was before v.slot insn above begins plain below) raised
+
+-- after the visit of an instruction
+pub justified_next : Order → (v : VisitValue) (lowered now : List Bool) (old new : TableValue) (was runs : Bool) (before after : StateValue) (settled : Type 0) (region : Option Region) (insn : Insn) (above : ℕ → Option StateValue)
+    → IsProgram v.program → insn_at v.program v.slot ≡ Some insn → (IsTrue was → IsKept v.program v.slot → ⊥)
     → IsWhole before → AreWhole (knowledge_in old)
     → Justifies v.program v.sizes above → HasLowered v.program lowered above
-    → IsVisit v old new was runs before after settled region o → IsLeastVisitIfAny v lowered old new was runs before after o
+    → IsInsnVisit v old new was runs before after settled region insn → IsLeastVisit v lowered now old new was runs before after insn
     → StaysBelow v.program old was before v.slot above → StaysBelow v.program new runs after (v.slot + 1) above
-justified_next order v lowered old new was runs before after settled region None above limits none plain proper whole h low visit least below =
-    rw (visit.same_table, visit.same_runs, visit.same_state) (below_skip v.program old was before v.slot above none below)
-justified_next order v lowered old new was runs before after settled region (Some insn) above limits begins plain proper whole h low visit least below =
-    below_next v lowered old new was runs before after insn above limits begins visit.plain least
-    (followed_there order v.program v.sizes above v.slot (visited_state was before new v.slot) insn h begins here_whole
-    (raised_covered v.program v.sizes above lowered v.slot (visited_state was before old v.slot) (visited_state was before new v.slot) h low
-    (comes_whole was before old v.slot proper whole) here_whole
-    (comes_below v.program old was before v.slot insn above begins plain below) least.raised))
+justified_next order v lowered now old new was runs before after settled region insn above limits begins plain proper whole h low visit least below =
+    below_next v lowered now old new was runs before after insn above limits begins visit.plain least
+    (followed_there order v.program v.sizes above v.slot (visited_state was before new v.slot) insn h begins (comes_whole was before new v.slot proper (visit.extended.whole whole))
+    (here_covered v lowered old new was before insn above begins plain proper whole (visit.extended.whole whole) h low least.raised below))
     below
-  where
-    here_whole : IfSome (visited_state was before new v.slot) IsWhole
-    here_whole = comes_whole was before new v.slot proper (visit.extended.whole whole)
 
--- what a visit is refused for, a table under which the program is justified rules out, but for an edge back that is
--- not covered
-pub visit_refuted : Order → (v : VisitValue) (lowered : List Bool) (old : TableValue) (was : Bool) (before : StateValue) (known : ℕ → Option StateValue) (o : Option Insn) (above : ℕ → Option StateValue)
-    → insn_at v.program v.slot ≡ o → (IsTrue was → IsKept v.program v.slot → ⊥)
+-- an edge back that is refused
+abbrev pub IsRefusedBack : (v : VisitValue) (lowered : List Bool) (known : ℕ → Option StateValue) (insn : Insn) (before here edge : StateValue) → Type 0
+IsRefusedBack v lowered known insn before here edge =
+    IsWhole before × IsWhole here × IsRaisedAt v.program lowered v.slot before here × (jumping_state here insn ≡ Some edge) × IsUncovered v.program v.slot lowered known edge
+
+-- what a visit is refused for, a table under which the program is justified rules out, but for an edge back
+pub visit_refuted : Order → (v : VisitValue) (lowered : List Bool) (old : TableValue) (was : Bool) (before : StateValue) (known : ℕ → Option StateValue) (insn : Insn) (above : ℕ → Option StateValue)
+    → insn_at v.program v.slot ≡ Some insn → (IsTrue was → IsKept v.program v.slot → ⊥)
     → IsWhole before → AreWhole (knowledge_in old)
     → Justifies v.program v.sizes above → HasLowered v.program lowered above → StaysBelow v.program old was before v.slot above
-    → ((edge : StateValue) → IsUncovered v.program v.slot known edge → ⊥)
-    → IsVisitFaultIfAny v lowered known (visited_state was before old v.slot) o → ⊥
-visit_refuted order v lowered old was before known None above none plain proper whole h low below covers fault = fault
-visit_refuted order v lowered old was before known (Some insn) above begins plain proper whole h low below covers fault =
-    by_state (visited_state was before old v.slot) (comes_whole was before old v.slot proper whole) (comes_below v.program old was before v.slot insn above begins plain below) fault
+    → ((a here edge : StateValue) → visited_state was before old v.slot ≡ Some a → IsRefusedBack v lowered known insn a here edge → ⊥)
+    → IsVisitFaultIfAny v lowered known (visited_state was before old v.slot) (Some insn) → ⊥
+visit_refuted order v lowered old was before known insn above begins plain proper whole h low below covers fault =
+    by_state (visited_state was before old v.slot) refl (comes_whole was before old v.slot proper whole) (comes_below v.program old was before v.slot insn above begins plain below) fault
   where
-    by_edge : (edge : Option StateValue) → IsUncoveredIfAny v.program v.slot known edge → ⊥
-    by_edge None uncovered = uncovered
-    by_edge (Some edge) uncovered = covers edge uncovered
-
-    by_flow : (here : StateValue) → IsWhole here → IsCovered here (above v.slot) → IsFlowFault v known here insn → ⊥
-    by_flow here whole covered (refutes refuted) = refuted above (permitted_there order v.program v.sizes above v.slot here insn h begins whole covered)
-    by_flow here whole covered (returns uncovered) = by_edge (jumping_state here insn) uncovered
+    by_flow : (a here : StateValue) → visited_state was before old v.slot ≡ Some a → IsWhole a → IsWhole here → IsRaisedAt v.program lowered v.slot a here → IsCovered here (above v.slot) → IsFlowFault v lowered known here insn → ⊥
+    by_flow a here came whole here_whole raised covered (refutes refuted) = refuted above (permitted_there order v.program v.sizes above v.slot here insn h begins here_whole covered)
+    by_flow a here came whole here_whole raised covered (returns uncovered) = by_edge (jumping_state here insn) refl uncovered
+      where
+        by_edge : (edge : Option StateValue) → jumping_state here insn ≡ edge → IsUncoveredIfAny v.program v.slot lowered known edge → ⊥
+        by_edge None is uncovered = uncovered
+        by_edge (Some edge) is uncovered = covers a here edge came (whole, here_whole, raised, is, uncovered)
 
     by_head : (l : Loop) (a : StateValue) (there : Option StateValue) → IfSome there (IsHead v.program l) → IsCovered a there → (IsWithinBound l a → ⊥) → ⊥
     by_head l a None head covered outside = covered
     by_head l a (Some d) head covered outside = entry_refuted v.program l a d head covered outside
 
-    by_fault : (a : StateValue) → IsWhole a → IsCovered a (above v.slot) → IsVisitFault v lowered known a insn → ⊥
-    by_fault a whole covered (enters f) =
+    by_fault : (a : StateValue) → visited_state was before old v.slot ≡ Some a → IsWhole a → IsCovered a (above v.slot) → IsVisitFault v lowered known a insn → ⊥
+    by_fault a came whole covered (enters f) =
         by_head f.declared a (above v.slot) (subst (λ (k : ℕ). IfSome (above k) (IsHead v.program f.declared)) f.head (head_in v.program v.sizes above f.declared f.place h f.is)) covered f.outside
-    by_fault a whole covered (leads here here_whole raised flow) =
-        by_flow here here_whole (raised_covered v.program v.sizes above lowered v.slot (Some a) (Some here) h low whole here_whole covered raised) flow
+    by_fault a came whole covered (leads here here_whole raised flow) =
+        by_flow a here came whole here_whole raised (raised_covered v.program v.sizes above lowered v.slot (Some a) (Some here) h low whole here_whole covered raised) flow
 
-    by_state : (came : Option StateValue) → IfSome came IsWhole → IsCoveredIfAny came (above v.slot) → IsVisitFaultIfAny v lowered known came (Some insn) → ⊥
-    by_state None whole covered fault = fault
-    by_state (Some a) whole covered fault = by_fault a whole covered fault
-
--- ---- where a program declares no loop
-
-declares_none : (p : Program) → p.loops ≡ [] → (l : Loop) (place : ℕ) → IsDeclared p l place → ⊥
-declares_none p none l place declared = omega (arith, declared.inside, ap (λ (ls : List Loop). length ls) none)
-
-pub lowers_none : (p : Program) → p.loops ≡ [] → (lowered : List Bool) (table : ℕ → Option StateValue) → HasLowered p lowered table
-lowers_none p none lowered table l place declared = absurd (declares_none p none l place declared)
-
-pub covers_none : (p : Program) → p.loops ≡ [] → (slot : ℕ) (known : ℕ → Option StateValue) (edge : StateValue) → IsUncovered p slot known edge → ⊥
-covers_none p none slot known edge uncovered = declares_none p none uncovered.declared uncovered.place uncovered.is
+    by_state : (came : Option StateValue) → visited_state was before old v.slot ≡ came → IfSome came IsWhole → IsCoveredIfAny came (above v.slot) → IsVisitFaultIfAny v lowered known came (Some insn) → ⊥
+    by_state None is whole covered fault = fault
+    by_state (Some a) is whole covered fault = by_fault a is whole covered fault
 
 -- ---- from the entry to the end
 
@@ -351,29 +370,3 @@ entry_below order a (Some d) entry entered = order.transitive a entered.known d 
 -- a table under which a program is justified
 pub justifies : (p : Program) (sizes : Maps) (h : IsJustified p sizes) → Justifies p sizes h.table
 justifies p sizes h = record { entered = h.entered; whole = h.whole; permitted = h.permitted; heads = h.heads }
-
--- ---- the slots of a pass, where a program declares no loop
-
--- after the visit of a slot
-pub pass_below : Order → (v : VisitValue) (p : Program) (sizes : Maps) (slot : ℕ) (lowered : List Bool) (old new : TableValue) (was runs : Bool) (before after : StateValue) (settled : Type 0) (region : Option Region) (above : ℕ → Option StateValue)
-    → v ≡ record { program = p; sizes = sizes; slot = slot } → p.loops ≡ [] → IsProgram p → (IsTrue was → IsKept p slot → ⊥)
-    → IsWhole before → AreWhole (knowledge_in old) → Justifies p sizes above
-    → IsVisit v old new was runs before after settled region (insn_at v.program v.slot) → IsLeastVisitIfAny v lowered old new was runs before after (insn_at v.program v.slot)
-    → StaysBelow p old was before slot above → StaysBelow p new runs after (slot + 1) above
-pass_below order v p sizes slot lowered old new was runs before after settled region above same none limits plain proper whole h visit least below =
-    let w : VisitValue = record { program = p; sizes = sizes; slot = slot } in
-    justified_next order w lowered old new was runs before after settled region (insn_at p slot) above limits refl plain proper whole h (lowers_none p none lowered above)
-    (subst (λ (u : VisitValue). IsVisit u old new was runs before after settled region (insn_at u.program u.slot)) same visit)
-    (subst (λ (u : VisitValue). IsLeastVisitIfAny u lowered old new was runs before after (insn_at u.program u.slot)) same least)
-    below
-
--- no visit is refused
-pub pass_refuted : Order → (v : VisitValue) (p : Program) (sizes : Maps) (slot : ℕ) (lowered : List Bool) (old : TableValue) (was : Bool) (before : StateValue) (known above : ℕ → Option StateValue)
-    → v ≡ record { program = p; sizes = sizes; slot = slot } → p.loops ≡ [] → (IsTrue was → IsKept p slot → ⊥)
-    → IsWhole before → AreWhole (knowledge_in old) → Justifies p sizes above
-    → IsVisitFaultIfAny v lowered known (visited_state was before old v.slot) (insn_at v.program v.slot)
-    → StaysBelow p old was before slot above → ⊥
-pass_refuted order v p sizes slot lowered old was before known above same none plain proper whole h fault below =
-    let w : VisitValue = record { program = p; sizes = sizes; slot = slot } in
-    visit_refuted order w lowered old was before known (insn_at p slot) above refl plain proper whole h (lowers_none p none lowered above) below (covers_none p none slot known)
-    (subst (λ (u : VisitValue). IsVisitFaultIfAny u lowered known (visited_state was before old u.slot) (insn_at u.program u.slot)) same fault)

@@ -191,10 +191,10 @@ known_begins t slot limits h some = kept_begins t.program slot limits (h.only sl
 -- ---- heads
 
 -- a back jump leads to the head
-to_head : (head back : ℕ) → head ≤ back → pos (back + 1) +ℤ negsuc (back - head) ≡ pos head
+pub to_head : (head back : ℕ) → head ≤ back → pos (back + 1) +ℤ negsuc (back - head) ≡ pos head
 to_head head back ordered = omega (arith, ints)
 
-head_kept : (p : Program) (l : Loop) → IsFormed p → IsLoopFormed p l → l.head ≤ l.back → IsKept p l.head
+pub head_kept : (p : Program) (l : Loop) → IsFormed p → IsLoopFormed p l → l.head ≤ l.back → IsKept p l.head
 head_kept p l form formed ordered =
     let jump : IsJump p l.back (negsuc (l.back - l.head)) = (form.allowed l.back (back_jump l) formed.back).jump in
     let begins : IsSome (insn_at p l.head) = subst (IsFirstSlot p) (to_head l.head l.back ordered) jump.first_slot in

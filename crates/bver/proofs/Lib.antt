@@ -7,7 +7,15 @@ pub mod Standing
 pub mod Arrivals
 pub mod Counters
 pub mod Raising
+pub mod Lowering
 pub mod Safety
 pub mod Regions
 pub mod Above
 pub mod Below
+pub mod Steps
+pub mod Rounds
+pub mod Rings
+pub mod Turns
+pub mod Circles
+pub mod Closing
+pub mod Completing

@@ -123,7 +123,7 @@ declared_at p l place limits inside is = record { inside = inside; is = is; few 
     low_loop loop = record { ordered = loop.ordered; within = omega (arith, loop.within, limits.slots.1); low = loop.low; high = loop.high; register = loop.register }
 
 -- each kind is below itself, since each state is
-kind_below-refl : BelowIsReflexive → (k : AbsKind) → IsKindBelow k k
+pub kind_below-refl : BelowIsReflexive → (k : AbsKind) → IsKindBelow k k
 kind_below-refl reflexive k = (reflexive (record { kinds = k ∷ []; marks = [] })).kinds 0
 
 -- ---- what is raised stands for every pass, and covers what was known
@@ -173,7 +173,7 @@ frame_clobbered (Calls callee number) = refl
 frame_clobbered Ends = refl
 frame_clobbered Unsupported = refl
 
-frame_kept : (p : Program) (slot : ℕ) (o : Option Insn) → insn_at p slot ≡ o → IsFormed p → IsWrittenBy o 10 → ⊥
+pub frame_kept : (p : Program) (slot : ℕ) (o : Option Insn) → insn_at p slot ≡ o → IsFormed p → IsWrittenBy o 10 → ⊥
 frame_kept p slot None is form writes = absurd writes
 frame_kept p slot (Some insn) is form writes =
     let named = frame_named (written_register insn) (form.allowed slot insn is).leaves_frame in

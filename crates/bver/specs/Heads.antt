@@ -1,5 +1,5 @@
 -- What the verifier makes of what is known at the head of a loop, so that it stands for every pass.
-use Rattle.std.specs.Prelude.{◌≡◌, ◌≢◌, ◌≤◌, ◌<◌, ℕ, Bool, true, false, if◌then◌else◌, List, length, slice_index_or, All, Option, Some, None, IsTrue, IfSome}
+use Rattle.std.specs.Prelude.{◌≡◌, ◌≢◌, ◌≤◌, ◌<◌, ◌⊎◌, ℕ, Bool, true, false, if◌then◌else◌, List, length, slice_index_or, All, Option, Some, None, IsTrue, IfSome}
 use Rattle.bpf.specs.declared.loops.Loop.{Loop}
 use Rattle.bpf.specs.Program.{Program, IsLoop}
 use Rattle.bpf_parts.specs.declared.operation.Width.TheVariants.{Bits64}
@@ -11,7 +11,7 @@ use Rattle.absdom.specs.State.{StateValue, kind_at}
 use Rattle.bver_form.specs.declared.refusal.Refusal.{Refusal}
 use Rattle.bver_form.specs.declared.refusal.Refusal.TheVariants.{LoopEntry}
 use Rattle.bver_form.specs.declared.refusal.Refused.{Refused}
-use Rattle.bver_form.specs.Lowered.{is_lowered}
+use Rattle.bver_form.specs.Lowered.{IsMore, IsSettled, is_lowered}
 use Rattle.bver.specs.Justified.{IsHead, IsWrittenIn}
 
 -- a loop that a program declares, and its place among those
@@ -56,6 +56,15 @@ pub record IsEntryFault (l : Loop) (a : StateValue) (refusal : Refusal) : Type 0
   pub code : refusal ≡ LoopEntry
   pub outside : IsWithinBound l a → ⊥
 
+-- the registers that were lowered for the loop hold nothing at its head
+abbrev pub AreUnset : Program → Loop → (lowered : List Bool) (place : ℕ) → StateValue → Type 0
+AreUnset p l lowered place a =
+    (register : ℕ) → register ≤ 9 → register ≢ l.register → IsWrittenIn p l register → IsTrue (is_lowered lowered place register) → kind_at a register ≡ Unset
+
+-- what was lowered holds nothing at the heads, where the table has a state there
+abbrev pub HasLowered : Program → (lowered : List Bool) → (table : ℕ → Option StateValue) → Type 0
+HasLowered p lowered table = (l : Loop) (place : ℕ) → IsDeclared p l place → IfSome (table l.head) (AreUnset p l lowered place)
+
 -- the kind is that of a number
 abbrev pub is_number : AbsKind → Bool
 is_number Unset = false
@@ -74,6 +83,14 @@ pub record Falls (b : BodyValue) (head : Option StateValue) (edge : StateValue) 
   pub head_number : IsTrue (is_number_at head register)
   pub edge_number : is_number (kind_at edge register) ≡ false
   pub written : IsWrittenIn b.program b.declared register
+
+-- the marks after an edge back lowered those of these registers that fall: no other changes, and none does where the
+-- count of them stays
+pub record AreLowered (b : BodyValue) (head : Option StateValue) (edge : StateValue) (among : ℕ → Type 0) (old new : List Bool) : Type 0 where
+  pub fallen : (register : ℕ) → among register → Falls b head edge register → IsTrue (is_lowered new b.place register)
+  pub only : (place register : ℕ) → register ≤ 9 → (is_lowered new place register ≡ is_lowered old place register) ⊎ ((place ≡ b.place) × among register × Falls b head edge register)
+  pub more : IsMore old new
+  pub settled : IsSettled old new → new ≡ old
 
 -- an edge back to the head is refused there, since it neither lowers a register nor is covered
 pub record IsClosingFault (l : Loop) (refused : Refused) : Type 0 where

@@ -1,5 +1,5 @@
 -- Where an instruction leads, with what is known at its slot, and why its visit is refused.
-use Rattle.std.specs.Prelude.{◌≡◌, ◌≢◌, ℕ, ◌+◌, Bool, List, Option, Some, None, Result, Ok, Err, All, IfSome}
+use Rattle.std.specs.Prelude.{◌≡◌, ◌≢◌, ℕ, ◌+◌, Bool, List, Option, Some, None, Result, Ok, Err, All, IfSome, ◌≤◌, ◌⊎◌, IsTrue}
 use Rattle.bpf.specs.declared.loops.Loop.{Loop}
 use Rattle.bpf.specs.Program.{Program}
 use Rattle.bpf_insn.specs.declared.insn.Insn.{Insn}
@@ -11,9 +11,10 @@ use Rattle.absdom.specs.Edges.{Edges}
 use Rattle.absdom.specs.Effect.{after_insn}
 use Rattle.absdom.specs.State.{StateValue, IsWhole, after_call}
 use Rattle.bver_form.specs.Jumps.{target}
-use Rattle.bver.specs.Heads.{IsDeclared, IsRaised, IsWithinBound}
+use Rattle.bver_form.specs.Lowered.{is_lowered}
+use Rattle.bver.specs.Heads.{Falls, IsDeclared, IsRaised, IsWithinBound}
 use Rattle.bver.specs.Justified.{IsCovered, IsCoveredIfAny, edges_of_comparison, knowledge_at}
-use Rattle.bver.specs.Table.{TableValue}
+use Rattle.bver.specs.Table.{TableValue, knowledge_in}
 use Rattle.bver.specs.Unjustified.{IsRefuted}
 use Rattle.bver.specs.Visit.{IsLeastNext, VisitValue, visited_state}
 
@@ -72,25 +73,54 @@ jumping_state a (LoadAddress dst address) = None
 jumping_state a (Call callee number) = None
 jumping_state a Exit = None
 
--- ---- why it is refused
+-- the same at a slot, where anything is known there
+abbrev pub jumping_if_any : Option StateValue → Insn → Option StateValue
+jumping_if_any None insn = None
+jumping_if_any (Some a) insn = jumping_state a insn
 
--- an edge from the slot goes back to the head of a declared loop, where it is not covered
-pub record IsUncovered (p : Program) (slot : ℕ) (known : ℕ → Option StateValue) (edge : StateValue) : Type 0 where
+-- ---- the edge back
+
+-- the slot is the back of the loop that is declared at the place, and the register falls on the edge from there to its
+-- head
+pub record IsLoweredBack (p : Program) (slot : ℕ) (known : ℕ → Option StateValue) (edge : StateValue) (place register : ℕ) : Type 0 where
+  pub declared : Loop
+  pub is : IsDeclared p declared place
+  pub back : declared.back ≡ slot
+  pub falls : Falls (record { program = p; declared = declared; place = place }) (known declared.head) edge register
+
+-- there is such an edge
+abbrev pub IsLoweredBackIfAny : Program → (slot : ℕ) (known : ℕ → Option StateValue) → Option StateValue → (place register : ℕ) → Type 0
+IsLoweredBackIfAny p slot known None place register = ⊥
+IsLoweredBackIfAny p slot known (Some edge) place register = IsLoweredBack p slot known edge place register
+
+-- each mark is as it was, or of a register that falls on the edge back, if there is one
+abbrev pub AreLoweredBack : Program → (slot : ℕ) (known : ℕ → Option StateValue) → Option StateValue → (old new : List Bool) → Type 0
+AreLoweredBack p slot known edge old new =
+    (place register : ℕ) → register ≤ 9
+    → (is_lowered new place register ≡ is_lowered old place register) ⊎ IsLoweredBackIfAny p slot known edge place register
+
+-- an edge from the slot goes back to the head of a declared loop, where it is not covered, and each register that falls
+-- on it was lowered before
+pub record IsUncovered (p : Program) (slot : ℕ) (lowered : List Bool) (known : ℕ → Option StateValue) (edge : StateValue) : Type 0 where
   pub declared : Loop
   pub place : ℕ
   pub is : IsDeclared p declared place
   pub back : declared.back ≡ slot
+  pub whole : IsWhole edge
   pub uncovered : IsCovered edge (known declared.head) → ⊥
+  pub fallen : (register : ℕ) → register ≤ 9 → Falls (record { program = p; declared = declared; place = place }) (known declared.head) edge register → IsTrue (is_lowered lowered place register)
 
 -- there is such an edge
-abbrev pub IsUncoveredIfAny : Program → (slot : ℕ) (known : ℕ → Option StateValue) → Option StateValue → Type 0
-IsUncoveredIfAny p slot known None = ⊥
-IsUncoveredIfAny p slot known (Some edge) = IsUncovered p slot known edge
+abbrev pub IsUncoveredIfAny : Program → (slot : ℕ) (lowered : List Bool) (known : ℕ → Option StateValue) → Option StateValue → Type 0
+IsUncoveredIfAny p slot lowered known None = ⊥
+IsUncoveredIfAny p slot lowered known (Some edge) = IsUncovered p slot lowered known edge
+
+-- ---- why it is refused
 
 -- with what is known at its slot an instruction is refused: no table permits it, or its edge back is not covered
-pub data IsFlowFault (v : VisitValue) (known : ℕ → Option StateValue) (a : StateValue) (insn : Insn) : Type 0 where
-  refutes : IsRefuted v.sizes v.slot a insn → IsFlowFault v known a insn
-  returns : IsUncoveredIfAny v.program v.slot known (jumping_state a insn) → IsFlowFault v known a insn
+pub data IsFlowFault (v : VisitValue) (lowered : List Bool) (known : ℕ → Option StateValue) (a : StateValue) (insn : Insn) : Type 0 where
+  refutes : IsRefuted v.sizes v.slot a insn → IsFlowFault v lowered known a insn
+  returns : IsUncoveredIfAny v.program v.slot lowered known (jumping_state a insn) → IsFlowFault v lowered known a insn
 
 -- a run may come to the head of a declared loop at the slot with a counter outside its bound, or with none
 pub record EntersOutside (p : Program) (slot : ℕ) (a : StateValue) : Type 0 where
@@ -123,20 +153,22 @@ IsRaisedIfAny p lowered slot (Some before) (Some after) = IsRaisedAt p lowered s
 abbrev pub IsFollowedBelow : (above : ℕ → Option StateValue) (slot : ℕ) → Option StateValue → Insn → Type 0
 IsFollowedBelow above slot known insn = IfSome known (λ a. IsCovered a (above slot) × LeadsBelow above slot a insn)
 
--- after the visit of the instruction at the slot no more is known than what came there, raised, and what it leads to
-pub record IsLeastVisit (v : VisitValue) (lowered : List Bool) (old new : TableValue) (was runs : Bool) (before after : StateValue) (insn : Insn) : Type 0 where
+-- after the visit of the instruction at the slot no more is known than what came there, raised, and what it leads to, and
+-- no more is lowered than falls on its edge back
+pub record IsLeastVisit (v : VisitValue) (lowered now : List Bool) (old new : TableValue) (was runs : Bool) (before after : StateValue) (insn : Insn) : Type 0 where
   pub raised : IsRaisedIfAny v.program lowered v.slot (visited_state was before old v.slot) (visited_state was before new v.slot)
   pub least : IsLeastNext (λ above. IsFollowedBelow above v.slot (visited_state was before new v.slot) insn) old new runs (v.slot + slots_of insn) after
+  pub marks : AreLoweredBack v.program v.slot (knowledge_in old) (jumping_if_any (visited_state was before new v.slot) insn) lowered now
 
--- the same at a second slot, of which nothing is to be said
-abbrev pub IsLeastVisitIfAny : (v : VisitValue) (lowered : List Bool) (old new : TableValue) (was runs : Bool) (before after : StateValue) → Option Insn → Type 0
-IsLeastVisitIfAny v lowered old new was runs before after None = Unit {0}
-IsLeastVisitIfAny v lowered old new was runs before after (Some insn) = IsLeastVisit v lowered old new was runs before after insn
+-- the same at a second slot, where nothing is lowered
+abbrev pub IsLeastVisitIfAny : (v : VisitValue) (lowered now : List Bool) (old new : TableValue) (was runs : Bool) (before after : StateValue) → Option Insn → Type 0
+IsLeastVisitIfAny v lowered now old new was runs before after None = now ≡ lowered
+IsLeastVisitIfAny v lowered now old new was runs before after (Some insn) = IsLeastVisit v lowered now old new was runs before after insn
 
 -- what comes to the slot is refused there: at the head of a loop, or with the instruction
 pub data IsVisitFault (v : VisitValue) (lowered : List Bool) (known : ℕ → Option StateValue) (before : StateValue) (insn : Insn) : Type 0 where
   enters : EntersOutside v.program v.slot before → IsVisitFault v lowered known before insn
-  leads : (here : StateValue) → IsWhole here → IsRaisedAt v.program lowered v.slot before here → IsFlowFault v known here insn → IsVisitFault v lowered known before insn
+  leads : (here : StateValue) → IsWhole here → IsRaisedAt v.program lowered v.slot before here → IsFlowFault v lowered known here insn → IsVisitFault v lowered known before insn
 
 -- there is an instruction, and what comes there is refused
 abbrev pub IsVisitFaultIfAny : (v : VisitValue) (lowered : List Bool) (known : ℕ → Option StateValue) → Option StateValue → Option Insn → Type 0

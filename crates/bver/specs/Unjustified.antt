@@ -1,5 +1,5 @@
 -- What a refusal of the verifier is worth: that there is no table under which the program is justified.
-use Rattle.std.specs.Prelude.{◌≡◌, ◌≢◌, ℕ, [], Option, All, IfSome}
+use Rattle.std.specs.Prelude.{◌≢◌, ℕ, Option, All, IfSome}
 use Rattle.bpf.specs.Program.{Program}
 use Rattle.bpf_insn.specs.declared.insn.Insn.{Insn}
 use Rattle.machine.specs.Sizes.{Maps}
@@ -21,6 +21,6 @@ pub record Justifies (p : Program) (sizes : Maps) (table : ℕ → Option StateV
 abbrev pub IsRefuted : (sizes : Maps) (slot : ℕ) → StateValue → Insn → Type 0
 IsRefuted sizes slot a insn = (table : ℕ → Option StateValue) → IsPermitted sizes table slot a insn → ⊥
 
--- a refusal, but for one for want of memory, tells that a program without loops is not justified
+-- a refusal, but for one for want of memory, tells that the program is not justified
 abbrev pub TellsUnjustified : Program → Maps → Refused → Type 0
-TellsUnjustified p sizes refused = refused.code ≢ Memory → p.loops ≡ [] → IsJustified p sizes → ⊥
+TellsUnjustified p sizes refused = refused.code ≢ Memory → IsJustified p sizes → ⊥

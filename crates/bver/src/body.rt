@@ -5,7 +5,7 @@ ghost use Rattle.bpf.specs.Program.{insn_at};
 ghost use Rattle.bver.specs.Justified.{IsCovered, IsWrittenBy, IsWrittenIn};
 ghost use Rattle.bver_form.specs.Lowered.{IsMore, IsSettled};
 ghost use Rattle.bver.specs.Table.{knowledge_in};
-ghost use Rattle.bver.specs.Heads.{BodyValue, Falls, IsClosingFault, IsDeclared, IsEntryFault, IsRaised, IsRaisedKind, IsWithinBound, opened_kind};
+ghost use Rattle.bver.specs.Heads.{AreLowered, BodyValue, Falls, IsClosingFault, IsDeclared, IsEntryFault, IsRaised, IsRaisedKind, IsWithinBound, opened_kind};
 
 use crate::table::{Table, is_number};
 use absdom::{AbsKind, State};
@@ -169,18 +169,27 @@ impl<'a> Body<'a> {
             && self.writes(register)
     }
 
+    /// Lowers the register if an edge back to the head lowers it.
+    fn lower_one(&self, table: &Table<'_>, edge: &State, lowered: &mut Lowered, register: Register)
+        requires inside { self.now.declared.head < length table.now.program.slots }
+        requires register { register ≤ 9 }
+        ensures { AreLowered self.now (knowledge_in table.now self.now.declared.head) edge.now
+            (λ r. r ≡ register) lowered.old lowered.new }
+    {
+        if self.falls(table, edge, register) {
+            lowered.lower(self.place, register);
+        }
+    }
+
     /// Lowers each register that an edge back to the head lowers.
     fn lower(&self, table: &Table<'_>, edge: &State, lowered: &mut Lowered)
         requires { self.now.declared.head < length table.now.program.slots }
-        ensures { IsMore lowered.old lowered.new }
+        ensures { AreLowered self.now (knowledge_in table.now self.now.declared.head) edge.now
+            (λ r. r ≤ 9) lowered.old lowered.new }
     {
         for number in 0..10 {
             match Register::new(number) {
-                Some(register) => {
-                    if self.falls(table, edge, register) {
-                        lowered.lower(self.place, register);
-                    }
-                }
+                Some(register) => self.lower_one(table, edge, lowered, register),
                 None => unreachable!(),
             }
         }
@@ -199,12 +208,15 @@ impl<'a> Body<'a> {
     ) -> Result<(), Refused>
         requires { self.now.declared.head < length table.now.program.slots }
         ensures more { IsMore lowered.old lowered.new }
+        ensures lowered { AreLowered self.now (knowledge_in table.now self.now.declared.head)
+            edge.now (λ r. r ≤ 9) lowered.old lowered.new }
         ensures covered { OnOk result
             (IsSettled lowered.old lowered.new
             → IsCovered edge.now (knowledge_in table.now self.now.declared.head)) }
         ensures refused { IfErr result (IsClosingFault self.now.declared) }
         ensures uncovered { IfErr result
             (λ _. IsCovered edge.now (knowledge_in table.now self.now.declared.head) → ⊥) }
+        ensures settled { IfErr result (λ _. lowered.new ≡ lowered.old) }
     {
         let head = self.declared.head;
         let before = lowered.count();

@@ -15,7 +15,7 @@ ghost use Rattle.bver_form.specs.Lowered.{IsMore, IsSettled};
 ghost use Rattle.bver.specs.Refusals.{IsValueFault, IsValueRefusal};
 ghost use Rattle.bver.specs.Table.{knowledge_beside, knowledge_in, knowledge_next};
 ghost use Rattle.bver_form.specs.Targets.{IsPlain};
-ghost use Rattle.bver.specs.Leading.{BranchesBelow, IsFlowFault, GivesBelow, IsUncovered, IsUncoveredIfAny, LeadsBelow, taken_state};
+ghost use Rattle.bver.specs.Leading.{AreLoweredBack, BranchesBelow, IsFlowFault, GivesBelow, IsUncovered, IsUncoveredIfAny, LeadsBelow, jumping_state, taken_state};
 ghost use Rattle.bver.specs.Visit.{AreFollowed, GoesOnPlain, HasNext, IsExtendedAfter, IsLeastNext, IsLeastOf, IsNext, IsTableOf, LeadsBy, knowledge_at_target};
 
 use crate::table::Table;
@@ -59,11 +59,16 @@ fn jump(
         table.old table.new) }
     ensures extended { IsExtendedAfter visit.now table.old table.new }
     ensures more { IsMore lowered.old lowered.new }
+    ensures lowered { OnOk result
+        (AreLoweredBack visit.now.program visit.now.slot (knowledge_in table.old)
+        (Some state.now) lowered.old lowered.new) }
     ensures refused { IfErr result (IsValueFault visit.now.program) }
     ensures uncovered { IfErr result
-        (λ _. IsUncovered visit.now.program visit.now.slot (knowledge_in table.old) state.now) }
+        (λ _. IsUncovered visit.now.program visit.now.slot lowered.old (knowledge_in table.old)
+        state.now) }
 {
     order_of_states();
+    state.stands_whole();
     match visit.landing(distance) {
         Some(landing) => {
             if landing > visit.slot() {
@@ -103,9 +108,14 @@ fn follow_taken(
         (knowledge_at_target visit.now distance above)) table.old table.new) }
     ensures extended { IsExtendedAfter visit.now table.old table.new }
     ensures more { IsMore lowered.old lowered.new }
+    ensures lowered { OnOk result
+        (AreLoweredBack visit.now.program visit.now.slot (knowledge_in table.old)
+        (edge_state state.now comparison.now.dst comparison.now.src edge.now)
+        lowered.old lowered.new) }
     ensures refused { IfErr result (IsValueFault visit.now.program) }
     ensures uncovered { IfErr result
-        (λ _. IsUncoveredIfAny visit.now.program visit.now.slot (knowledge_in table.old)
+        (λ _. IsUncoveredIfAny visit.now.program visit.now.slot lowered.old
+        (knowledge_in table.old)
         (edge_state state.now comparison.now.dst comparison.now.src edge.now)) }
 {
     order_of_states();
@@ -193,9 +203,14 @@ fn branch(
     ensures plain { IfOk result (GoesOnPlain visit.now.program (visit.now.slot + 1)) }
     ensures extended { IsExtendedAfter visit.now table.old table.new }
     ensures more { IsMore lowered.old lowered.new }
+    ensures lowered { OnOk result
+        (AreLoweredBack visit.now.program visit.now.slot (knowledge_in table.old)
+        (edge_state state.old comparison.now.dst comparison.now.src edges.now.taken)
+        lowered.old lowered.new) }
     ensures refused { IfErr result (IsValueFault visit.now.program) }
     ensures uncovered { IfErr result
-        (λ _. IsUncoveredIfAny visit.now.program visit.now.slot (knowledge_in table.old)
+        (λ _. IsUncoveredIfAny visit.now.program visit.now.slot lowered.old
+        (knowledge_in table.old)
         (edge_state state.old comparison.now.dst comparison.now.src edges.now.taken)) }
 {
     order_of_states();
@@ -240,10 +255,15 @@ fn compare(
     ensures plain { IfOk result (GoesOnPlain visit.now.program (visit.now.slot + 1)) }
     ensures extended { IsExtendedAfter visit.now table.old table.new }
     ensures more { IsMore lowered.old lowered.new }
+    ensures lowered { OnOk result
+        (AreLoweredBack visit.now.program visit.now.slot (knowledge_in table.old)
+        (taken_state (edges_of_comparison state.old comparison.now))
+        lowered.old lowered.new) }
     ensures refused { IfErr result (IsValueFault visit.now.program) }
     ensures uncovered { IfErr result
         (λ _. IsErr (edges_of_comparison state.old comparison.now)
-        ⊎ IsUncoveredIfAny visit.now.program visit.now.slot (knowledge_in table.old)
+        ⊎ IsUncoveredIfAny visit.now.program visit.now.slot lowered.old
+        (knowledge_in table.old)
         (taken_state (edges_of_comparison state.old comparison.now))) }
 {
     order_of_states();
@@ -459,9 +479,12 @@ pub(crate) fn flow(
         (GoesOnPlain visit.now.program (visit.now.slot + slots_of insn.now)) }
     ensures extended { IsExtendedAfter visit.now table.old table.new }
     ensures more { IsMore lowered.old lowered.new }
+    ensures lowered { OnOk result
+        (AreLoweredBack visit.now.program visit.now.slot (knowledge_in table.old)
+        (jumping_state state.old insn.now) lowered.old lowered.new) }
     ensures refused { IfErr result (IsValueFault visit.now.program) }
     ensures fault { IfErr result
-        (λ _. IsFlowFault visit.now (knowledge_in table.old) state.old insn.now) }
+        (λ _. IsFlowFault visit.now lowered.old (knowledge_in table.old) state.old insn.now) }
 {
     order_of_states();
     match insn {

@@ -1,9 +1,9 @@
 //! The pass over a program's slots.
 
-ghost use Rattle.std.specs.Prelude.{◌≡◌, ◌<◌, ℕ, IfErr, IfOk, IsSome, IsTrue, OnOk, Option, Some, None, [], length, if◌then◌else◌};
+ghost use Rattle.std.specs.Prelude.{◌≡◌, ◌<◌, ℕ, IfErr, IfOk, IsSome, IsTrue, OnOk, Option, Some, None, length, if◌then◌else◌};
 ghost use Rattle.machine.specs.Step.{insn_at};
 ghost use Rattle.bver_form.specs.Form.{IsFormed};
-ghost use Rattle.bver.specs.Heads.{AreHeadsAt, IsRaised, IsWithinBound};
+ghost use Rattle.bver.specs.Heads.{AreHeadsAt, HasLowered, IsRaised, IsWithinBound};
 ghost use Rattle.absdom.specs.State.{StateValue};
 ghost use Rattle.bver.specs.Justified.{IsCovered, IsCoveredIfAny, IsJudged};
 ghost use Rattle.bver.specs.Leading.{EntersOutside, EntersOutsideIfAny, IsLeastVisit, IsLeastVisitIfAny, IsRaisedAt, IsRaisedIfAny, IsVisitFaultIfAny};
@@ -18,10 +18,13 @@ use crate::body::Body;
 use crate::edges::{accessed_region, flow};
 use crate::table::Table;
 use crate::visit::Visit;
-use absdom::{Region, State, after_call_grows, apply_grows, order_of_states, refine_grows};
+use absdom::{
+    Region, State, after_call_grows, apply_grows, apply_leaves, order_of_states, refine_grows,
+    refine_shrinks,
+};
 use bpf::Image;
 use bpf_insn::Insn;
-use bver_form::{Lowered, Refused};
+use bver_form::{Lowered, Refused, loops_are_counted};
 use machine::MapSizes;
 
 /// Raises what is known at a head, where the loop is entered within its bound.
@@ -144,7 +147,7 @@ fn visit_insn(
         (λ region. IsInsnVisit visit.now table.old table.new runs.old runs.new state.old state.new
         (IsSettled lowered.old lowered.new) region insn.now) }
     ensures least { OnOk result
-        (IsLeastVisit visit.now lowered.old table.old table.new runs.old runs.new
+        (IsLeastVisit visit.now lowered.old lowered.new table.old table.new runs.old runs.new
         state.old state.new insn.now) }
     ensures table { IsTableOf visit.now table.new }
     ensures more { IsMore lowered.old lowered.new }
@@ -180,7 +183,7 @@ fn visit_slot(
         (λ region. IsVisit visit.now table.old table.new runs.old runs.new state.old state.new
         (IsSettled lowered.old lowered.new) region (insn_at visit.now.program visit.now.slot)) }
     ensures least { OnOk result
-        (IsLeastVisitIfAny visit.now lowered.old table.old table.new runs.old runs.new
+        (IsLeastVisitIfAny visit.now lowered.old lowered.new table.old table.new runs.old runs.new
         state.old state.new (insn_at visit.now.program visit.now.slot)) }
     ensures table { IsTableOf visit.now table.new }
     ensures more { IsMore lowered.old lowered.new }
@@ -220,14 +223,20 @@ pub(crate) fn pass(
     ensures regions { length regions.new.items ≡ length image.now.slots }
     ensures more { IsMore lowered.old lowered.new }
     ensures refused { IfErr result (IsValueFault image.now) }
+    ensures lowers { OnOk result
+        ((above : ℕ → Option StateValue) → Justifies image.now sizes.now above
+        → HasLowered image.now lowered.old above → HasLowered image.now lowered.new above) }
     ensures refuted { IfErr result
-        (λ _. image.now.loops ≡ [] → (table : ℕ → Option StateValue)
-        → Justifies image.now sizes.now table → ⊥) }
+        (λ _. (above : ℕ → Option StateValue) → Justifies image.now sizes.now above
+        → HasLowered image.now lowered.old above → ⊥) }
 {
     order_of_states();
     apply_grows();
     refine_grows();
     after_call_grows();
+    apply_leaves();
+    refine_shrinks();
+    loops_are_counted();
     let mut state = State::entry();
     let mut runs = false;
     for slot in 0..image.slots() {

@@ -1,11 +1,14 @@
-use Rattle.std.proofs.Common.{rules, ◌≡◌, ◌<◌, Err, length, ◌∙◌, arith, refl}
+use Rattle.std.proofs.Common.{rules, ◌≡◌, ◌<◌, ℕ, Option, length, ◌∙◌, arith, refl}
 use Rattle.std.proofs.Math.ListN.{length-set}
 use Rattle.machine.specs.Step.{insn_at}
 use Rattle.bver_form.specs.Lowered.{IsMore, IsSettled}
 use Rattle.bver.specs.Leading.{IsLeastVisitIfAny, IsVisitFaultIfAny}
+use Rattle.absdom.specs.State.{StateValue}
+use Rattle.bver.specs.Heads.{HasLowered}
 use Rattle.bver.specs.Table.{knowledge_in}
+use Rattle.bver.specs.Unjustified.{Justifies}
 use Rattle.bver.specs.Visit.{IsVisit, VisitValue, visited_state}
-use Rattle.bver.proofs.Below.{Order, below_none, pass_below, pass_refuted}
+use Rattle.bver.proofs.Completing.{Rules, complete_next, complete_none, complete_refuted, refuses_all}
 use Rattle.bver.proofs.Passing.{passing_none, passing_plain, passing_slot, visit_at, visit_of, visited_program}
 use Rattle.bver.proofs.Visiting.{judged}
 use Rattle.bver.proofs.passes.pass.Goals as goal
@@ -21,7 +24,7 @@ loop-slot-init c = (
   c.requires.table,
   omega arith,
   c.requires.regions,
-  λ none above h. below_none c.args.image.now c.args.table.now c.entry-state.result above (c.requires.least above h.entered),
+  complete_none c.args.image.now c.args.sizes.now c.args.lowered.now c.args.table.now c.entry-state.result c.requires.entered.entered c.requires.least,
 )
 
 pub loop-slot-preserved : goal.loop-slot-preserved
@@ -40,8 +43,8 @@ loop-slot-preserved c =
     let region = c.in_ok-region.region in
     let v : VisitValue = c.new-visit.result in
     let visit : IsVisit v old new was runs state left (IsSettled before after) region (insn_at v.program v.slot) = search rules in
-    let order : Order = record { reflexive = c.order_of_states.ensures.reflexive; transitive = c.order_of_states.ensures.transitive; applies = c.apply_grows.ensures; refines = c.refine_grows.ensures; calls = c.after_call_grows.ensures } in
-    let least : IsLeastVisitIfAny v before old new was runs state left (insn_at v.program v.slot) = search rules in
+    let laws : Rules = record { reflexive = c.order_of_states.ensures.reflexive; transitive = c.order_of_states.ensures.transitive; applies = c.apply_grows.ensures; refines = c.refine_grows.ensures; calls = c.after_call_grows.ensures; apply_leaves = c.apply_leaves.ensures.apply; call_leaves = c.apply_leaves.ensures.call; shrinks = c.refine_shrinks.ensures; entered = c.loops_are_counted.ensures.entered } in
+    let least : IsLeastVisitIfAny v before after old new was runs state left (insn_at v.program v.slot) = c.in_ok-region.ensures.least in
     let more : IsMore before after = search rules in
     let earlier : IsMore c.args.lowered.now before = c.loop-slot.invariant.2 in
     let own : old.program ≡ p = c.loop-slot.invariant.1 in
@@ -54,10 +57,9 @@ loop-slot-preserved c =
       visited_program v old new was runs state left (IsSettled before after) region (insn_at v.program v.slot) visit ∙ own,
       omega (arith, more, earlier),
       length-set c.loop-slot.regions.items slot region ∙ size,
-      λ none above h.
-          pass_below order v p sizes slot before old new was runs state left (IsSettled before after) region above same none c.slots-slot-end.ensures.program
+      complete_next laws v p sizes slot c.args.lowered.now before after old new was runs state left (IsSettled before after) region same c.slots-slot-end.ensures.program c.requires.formed
           (passing_plain p sizes old was state c.loop-slot.regions.items (IsSettled c.args.lowered.now before) slot c.slots-slot-end.ensures.program c.loop-slot.invariant.0)
-          c.loop-slot.invariant.0.state_whole c.loop-slot.invariant.0.whole h visit least (c.loop-slot.invariant.4 none above h),
+          c.loop-slot.invariant.0.state_whole c.loop-slot.invariant.0.whole visit least c.loop-slot.invariant.4,
     )
 
 pub returns-clause-judged : goal.returns-clause-judged
@@ -77,12 +79,14 @@ returns-in_err-region-clause-refuted c =
     let was = c.loop-slot.runs in
     let state = c.loop-slot.state in
     let v : VisitValue = c.new-visit.result in
-    let known = knowledge_in old in
-    let order : Order = record { reflexive = c.order_of_states.ensures.reflexive; transitive = c.order_of_states.ensures.transitive; applies = c.apply_grows.ensures; refines = c.refine_grows.ensures; calls = c.after_call_grows.ensures } in
-    let fault : IsVisitFaultIfAny v c.loop-slot.lowered known (visited_state was state old v.slot) (insn_at v.program v.slot) = search rules in
+    let laws : Rules = record { reflexive = c.order_of_states.ensures.reflexive; transitive = c.order_of_states.ensures.transitive; applies = c.apply_grows.ensures; refines = c.refine_grows.ensures; calls = c.after_call_grows.ensures; apply_leaves = c.apply_leaves.ensures.apply; call_leaves = c.apply_leaves.ensures.call; shrinks = c.refine_shrinks.ensures; entered = c.loops_are_counted.ensures.entered } in
+    let fault : IsVisitFaultIfAny v c.loop-slot.lowered (knowledge_in old) (visited_state was state old v.slot) (insn_at v.program v.slot) = c.in_err-region.ensures.fault in
     let same = visit_of v p sizes slot c.new-visit.ensures.program c.new-visit.ensures.sizes c.new-visit.ensures.slot in
-    let told : c.from_residual.result ≡ Err c.in_err-region.field-0.0 = search rules in
-    rw told (λ none above h.
-    pass_refuted order v p sizes slot c.loop-slot.lowered old was state known above same none
+    refuses_all c.from_residual.result ((above : ℕ → Option StateValue) → Justifies p sizes above → HasLowered p c.args.lowered.now above → ⊥)
+    (λ above justified low.
+    complete_refuted laws v p sizes slot c.args.lowered.now c.loop-slot.lowered old was state above same c.requires.formed
     (passing_plain p sizes old was state c.loop-slot.regions.items (IsSettled c.args.lowered.now c.loop-slot.lowered) slot c.slots-slot-end.ensures.program c.loop-slot.invariant.0)
-    c.loop-slot.invariant.0.state_whole c.loop-slot.invariant.0.whole h fault (c.loop-slot.invariant.4 none above h))
+    c.loop-slot.invariant.0.state_whole c.loop-slot.invariant.0.whole fault c.loop-slot.invariant.4 justified low)
+
+pub returns-clause-lowers : goal.returns-clause-lowers
+returns-clause-lowers c = λ above justified low. (c.loop-slot.invariant.4.below above justified low).1

@@ -1,7 +1,7 @@
 use Rattle.std.proofs.Common.{rules, ◌≡◌, ◌+◌, Err, Some, IsTrue}
 use Rattle.bpf_insn.specs.Spelling.{slots_of}
 use Rattle.bver.specs.Justified.{IsCoveredIfAny, IsPermitted, accessed_region}
-use Rattle.bver.specs.Leading.{IsFlowFault, IsRaisedIfAny, LeadsBelow}
+use Rattle.bver.specs.Leading.{AreLoweredBack, jumping_state, IsFlowFault, IsRaisedIfAny, LeadsBelow}
 use Rattle.bver_form.specs.Lowered.{IsSettled}
 use Rattle.bver.specs.Table.{knowledge_beside, knowledge_in}
 use Rattle.bver_form.specs.Targets.{IsPlain}
@@ -54,8 +54,10 @@ returns-clause-least c =
     let raised : IsRaisedIfAny v.program c.args.lowered.now v.slot (visited_state was before old v.slot) (visited_state was before mid v.slot) = search rules in
     let first : IsLeastOf (λ above. IsCoveredIfAny (visited_state was before mid v.slot) (above v.slot)) old mid = search rules in
     let second : IsLeastNext (λ above. LeadsBelow above v.slot here insn) mid c.flow.new.table runs (v.slot + slots_of insn) c.flow.new.state = search rules in
+    let marks : AreLoweredBack v.program v.slot (knowledge_in mid) (jumping_state here insn) c.args.lowered.now c.flow.new.lowered = search rules in
+    let entered : IsExtended v.slot old mid = search rules in
     let extended : IsExtended (v.slot + 1) mid c.flow.new.table = search rules in
-    least_insn v c.args.lowered.now old mid c.flow.new.table was runs before here c.flow.new.state insn known raised first second extended
+    least_insn v c.args.lowered.now c.flow.new.lowered old mid c.flow.new.table was runs before here c.flow.new.state insn known raised first second marks entered extended
 
 pub returns-in_err-goes_on-clause-fault : goal.returns-in_err-goes_on-clause-fault
 returns-in_err-goes_on-clause-fault c =
@@ -69,6 +71,6 @@ returns-in_err-goes_on-clause-fault c =
     let known : visited_state was before mid v.slot ≡ Some here = search rules in
     let raised : IsRaisedIfAny v.program c.args.lowered.now v.slot (visited_state was before old v.slot) (visited_state was before mid v.slot) = search rules in
     let extended : IsExtended v.slot old mid = search rules in
-    let fault : IsFlowFault v (knowledge_in mid) here insn = search rules in
+    let fault : IsFlowFault v c.args.lowered.now (knowledge_in mid) here insn = search rules in
     let told : c.from_residual-in_err-goes_on.result ≡ Err c.in_err-goes_on.field-0.0 = search rules in
     rw told (leads_fault v c.args.lowered.now old mid was before here insn known c.stands_whole.ensures raised extended fault)

@@ -1,0 +1,271 @@
+-- Slot by slot of a pass: of a table under which the program is justified, at whose heads what was lowered holds nothing,
+-- what the pass knows stays below, what it lowers holds nothing there either, and nothing is refused.
+use Rattle.std.proofs.Common.{◌≡◌, ◌≢◌, ℕ, zero, suc, ◌*◌, ◌+◌, ◌≤◌, ◌⊎◌, inl, inr, ℤ, pos, negsuc, Bool, true, false, List, [], ◌∷◌, ◌-◌, Option, None, Some, Result, Ok, Err, refl, sym, ap, subst, ◌∙◌, arith}
+use Rattle.std.specs.Prelude.{IfErr, IfSome, IsTrue, slice_index_or}
+use Rattle.std.proofs.lemmas.Bool.{false≢true}
+use Rattle.bpf.specs.declared.loops.Loop.{Loop}
+use Rattle.bpf.specs.Program.{Program, IsProgram}
+use Rattle.bpf_insn.specs.declared.insn.Insn.{Insn}
+use Rattle.bpf_parts.specs.declared.operation.Condition.TheVariants.{NotEqual}
+use Rattle.bpf_parts.specs.declared.operation.Operand.TheVariants.{Immediate}
+use Rattle.bpf_parts.specs.declared.operation.Width.TheVariants.{Bits64}
+use Rattle.machine.specs.Sizes.{Maps}
+use Rattle.machine.specs.declared.regions.Region.{Region}
+use Rattle.machine.specs.Step.{insn_at}
+use Rattle.absdom.specs.declared.cause.Cause.{Cause}
+use Rattle.absdom.specs.declared.kinds.AbsKind.TheVariants.{Unset}
+use Rattle.absdom.specs.Edges.{Edges, refined_edges}
+use Rattle.absdom.specs.State.{StateValue, IsBelow, IsWhole, kind_at}
+use Rattle.absdom.specs.Laws.{ApplyGrows, ApplyLeaves, BelowIsReflexive, BelowIsTransitive, CallGrows, CallLeaves, RefineGrows, RefineShrinks}
+use Rattle.bver_form.specs.declared.refusal.Refused.{Refused}
+use Rattle.bver_form.specs.Form.{IsFormed}
+use Rattle.bver_form.specs.Jumps.{target}
+use Rattle.bver_form.specs.Laws.{LoopsAreEntered}
+use Rattle.bver_form.specs.Loops.{back_jump}
+use Rattle.bver_form.specs.Lowered.{count_of, is_lowered}
+use Rattle.bver_form.specs.Targets.{IsKept}
+use Rattle.bver.specs.Heads.{AreUnset, Falls, HasLowered, IsDeclared}
+use Rattle.bver.specs.Justified.{AreEdgesCovered, IsCovered, IsCoveredIfAny, IsEntered, IsHead, IsPermitted, knowledge_at}
+use Rattle.bver.specs.Leading.{IsLeastVisit, AreLoweredBack, IsLeastVisitIfAny, IsLoweredBack, IsLoweredBackIfAny, IsUncovered, IsVisitFaultIfAny, jumping_if_any, jumping_state, taken_state}
+use Rattle.bver.specs.Table.{TableValue, knowledge_in}
+use Rattle.bver.specs.Unjustified.{Justifies}
+use Rattle.bver.specs.Visit.{AreWhole, IsInsnVisit, IsLeastEntry, IsVisit, VisitValue, visited_state}
+use Rattle.bver.proofs.Above.{falls_unset}
+use Rattle.bver.proofs.Below.{IsRefusedBack, Order, StaysBelow, below_none, below_skip, comes_whole, head_in, here_covered, justified_next, permitted_there, visit_refuted}
+use Rattle.bver.proofs.Circles.{IsCircle, IsTurningIfAny, circle_next, circle_none, circle_skip, comes_none, comes_round, formed_in, raised_round}
+use Rattle.bver.proofs.Closing.{back_covered}
+use Rattle.bver.proofs.Keeping.{to_head}
+use Rattle.bver.proofs.Rings.{IsBehind}
+use Rattle.bver.proofs.Rounds.{IsRound}
+use Rattle.bver.proofs.Slots.{has_next}
+use Rattle.bver.proofs.Turns.{Leaves}
+
+-- what holds of the states of the verifier, and of the loops of a program that has its form
+pub record Rules : Type 0 where
+  pub reflexive : BelowIsReflexive
+  pub transitive : BelowIsTransitive
+  pub applies : ApplyGrows
+  pub refines : RefineGrows
+  pub calls : CallGrows
+  pub apply_leaves : ApplyLeaves
+  pub call_leaves : CallLeaves
+  pub shrinks : RefineShrinks
+  pub entered : LoopsAreEntered
+
+order_of : Rules → Order
+order_of rules = record { reflexive = rules.reflexive; transitive = rules.transitive; applies = rules.applies; refines = rules.refines; calls = rules.calls }
+
+leaves_of : Rules → Leaves
+leaves_of rules = record { reflexive = rules.reflexive; transitive = rules.transitive; applies = rules.apply_leaves; calls = rules.call_leaves; shrinks = rules.shrinks }
+
+-- what a pass lowered of a loop whose back is still ahead is what it began with
+abbrev pub IsSameAhead : Program → (start lowered : List Bool) (slot : ℕ) → Type 0
+IsSameAhead p start lowered slot =
+    (l : Loop) (place : ℕ) → IsDeclared p l place → slot ≤ l.back → (register : ℕ) → register ≤ 9 → is_lowered lowered place register ≡ is_lowered start place register
+
+-- the slots before this one were visited
+pub record IsCompleting (p : Program) (sizes : Maps) (start lowered : List Bool) (table : TableValue) (runs : Bool) (state : StateValue) (slot : ℕ) : Type 0 where
+  pub same : IsSameAhead p start lowered slot
+  pub circles : (l : Loop) (place : ℕ) → IsDeclared p l place → IsCircle p l place start table runs state slot
+  pub below : (above : ℕ → Option StateValue) → Justifies p sizes above → HasLowered p start above → StaysBelow p table runs state slot above × HasLowered p lowered above
+
+-- ---- what an edge back lowers
+
+-- at a place one loop is declared
+declared_once : (p : Program) (l m : Loop) (place : ℕ) → IsDeclared p l place → IsDeclared p m place → l ≡ m
+declared_once p l m place f g = sym (f.is l) ∙ g.is l
+
+-- what is known along the jump of a permitted instruction is covered where it leads
+back_leads : (sizes : Maps) (above : ℕ → Option StateValue) (l : Loop) (a edge : StateValue) → l.head ≤ l.back → IsPermitted sizes above l.back a (back_jump l) → jumping_state a (back_jump l) ≡ Some edge → IsCovered edge (above l.head)
+back_leads sizes above l a edge ordered permitted is =
+    subst (λ (z : ℤ). IsCovered edge (knowledge_at above z)) (to_head l.head l.back ordered) (by_edges (refined_edges a NotEqual Bits64 l.register (Immediate (pos 0))) permitted is)
+  where
+    by_edges : (r : Result Edges Cause) → AreEdgesCovered r (knowledge_at above (target l.back (negsuc (l.back - l.head)))) (above (l.back + 1)) → taken_state r ≡ Some edge → IsCovered edge (knowledge_at above (target l.back (negsuc (l.back - l.head))))
+    by_edges (Err cause) covered is = absurd covered
+    by_edges (Ok edges) covered is = subst (λ (o : Option StateValue). IsCoveredIfAny o (knowledge_at above (target l.back (negsuc (l.back - l.head))))) is covered.0
+
+-- the instruction at the back of a loop is its jump back
+jumps_back : (p : Program) (l : Loop) (place slot : ℕ) (insn : Insn) → IsFormed p → IsDeclared p l place → l.back ≡ slot → insn_at p slot ≡ Some insn → insn ≡ back_jump l
+jumps_back p l place slot insn form declared back begins =
+    let is : insn_at p slot ≡ Some (back_jump l) = subst (λ (k : ℕ). insn_at p k ≡ Some (back_jump l)) back (formed_in p l place form declared).back in
+    cc
+
+-- what was lowered, and what is lowered now, holds nothing at the heads of a table under which the program is justified
+keeps_lowered : Order → (v : VisitValue) (lowered now : List Bool) (known : ℕ → Option StateValue) (here : Option StateValue) (insn : Insn) (above : ℕ → Option StateValue)
+    → IsFormed v.program → insn_at v.program v.slot ≡ Some insn → IfSome here IsWhole → IsCoveredIfAny here (above v.slot)
+    → Justifies v.program v.sizes above → HasLowered v.program lowered above
+    → AreLoweredBack v.program v.slot known (jumping_if_any here insn) lowered now → HasLowered v.program now above
+keeps_lowered order v lowered now known here insn above form begins whole covered h low marks l place declared = by_there (above l.head) refl
+  where
+    by_back : (a edge d : StateValue) (register : ℕ) → IsWhole a → IsCovered a (above v.slot) → jumping_state a insn ≡ Some edge → above l.head ≡ Some d → register ≢ l.register → IsLoweredBack v.program v.slot known edge place register → kind_at d register ≡ Unset
+    by_back a edge d register proper below is there other back =
+        let m = back.declared in
+        let one : l ≡ m = declared_once v.program l m place declared back.is in
+        let here_is : above m.head ≡ Some d = ap (λ (n : Loop). above n.head) (sym one) ∙ there in
+        let insn_is : insn ≡ back_jump m = jumps_back v.program m place v.slot insn form back.is back.back begins in
+        let permitted : IsPermitted v.sizes above v.slot a insn = permitted_there order v.program v.sizes above v.slot a insn h begins proper below in
+        let back_permitted : IsPermitted v.sizes above m.back a (back_jump m) = subst (λ (k : ℕ). IsPermitted v.sizes above k a (back_jump m)) (sym back.back) (subst (λ (i : Insn). IsPermitted v.sizes above v.slot a i) insn_is permitted) in
+        let leads : IsCovered edge (above m.head) = back_leads v.sizes above m a edge (omega (arith, back.is.limits.ordered)) back_permitted (subst (λ (i : Insn). jumping_state a i ≡ Some edge) insn_is is) in
+        falls_unset (record { program = v.program; declared = m; place = place }) (known m.head) edge d register
+        (subst (λ (n : Loop). register ≢ n.register) one other)
+        (subst (λ (o : Option StateValue). IfSome o (IsHead v.program m)) here_is (head_in v.program v.sizes above m place h back.is))
+        (subst (λ (o : Option StateValue). IsCovered edge o) here_is leads)
+        back.falls
+
+    by_edge : (a d : StateValue) (register : ℕ) → IsWhole a → IsCovered a (above v.slot) → above l.head ≡ Some d → register ≢ l.register → (edge : Option StateValue) → jumping_state a insn ≡ edge → IsLoweredBackIfAny v.program v.slot known edge place register → kind_at d register ≡ Unset
+    by_edge a d register proper below there other None is back = absurd back
+    by_edge a d register proper below there other (Some edge) is back = by_back a edge d register proper below is there other back
+
+    by_here : (d : StateValue) (register : ℕ) → above l.head ≡ Some d → register ≢ l.register → (o : Option StateValue) → IfSome o IsWhole → IsCoveredIfAny o (above v.slot) → IsLoweredBackIfAny v.program v.slot known (jumping_if_any o insn) place register → kind_at d register ≡ Unset
+    by_here d register there other None proper below back = absurd back
+    by_here d register there other (Some a) proper below back = by_edge a d register proper below there other (jumping_state a insn) refl back
+
+    held : (d : StateValue) → above l.head ≡ Some d → AreUnset v.program l now place d
+    held d is register small other written lowers = by_mark (marks place register small)
+      where
+        before : AreUnset v.program l lowered place d
+        before = subst (λ (o : Option StateValue). IfSome o (AreUnset v.program l lowered place)) is (low l place declared)
+
+        by_mark : (is_lowered now place register ≡ is_lowered lowered place register) ⊎ IsLoweredBackIfAny v.program v.slot known (jumping_if_any here insn) place register → kind_at d register ≡ Unset
+        by_mark (inl same) = before register small other written (sym same ∙ lowers)
+        by_mark (inr back) = by_here d register is other here whole covered back
+
+    by_there : (there : Option StateValue) → above l.head ≡ there → IfSome there (AreUnset v.program l now place)
+    by_there None is = tt
+    by_there (Some d) is = held d is
+
+-- ---- from one slot to the next
+
+-- after the visit of an instruction
+complete_insn : Rules → (v : VisitValue) (start lowered now : List Bool) (old new : TableValue) (was runs : Bool) (before after : StateValue) (settled : Type 0) (region : Option Region) (insn : Insn)
+    → IsProgram v.program → IsFormed v.program → insn_at v.program v.slot ≡ Some insn → (IsTrue was → IsKept v.program v.slot → ⊥)
+    → IsWhole before → AreWhole (knowledge_in old)
+    → IsInsnVisit v old new was runs before after settled region insn → IsLeastVisit v lowered now old new was runs before after insn
+    → IsCompleting v.program v.sizes start lowered old was before v.slot → IsCompleting v.program v.sizes start now new runs after (v.slot + 1)
+complete_insn rules v start lowered now old new was runs before after settled region insn limits form begins plain proper whole visit least h = record {
+  same = λ l place declared upto register small. still l place declared upto register small (least.marks place register small);
+  circles = λ l place declared.
+      circle_next (leaves_of rules) rules.entered v lowered now start old new was runs before after settled region insn l place limits form begins (has_next v insn limits form begins) plain proper whole declared
+      (λ upto. h.same l place declared upto) visit least (h.circles l place declared);
+  below = λ above justified low.
+      let was_below = h.below above justified low in (
+        justified_next (order_of rules) v lowered now old new was runs before after settled region insn above limits begins plain proper whole justified was_below.1 visit least was_below.0,
+        keeps_lowered (order_of rules) v lowered now (knowledge_in old) (visited_state was before new v.slot) insn above form begins
+            (comes_whole was before new v.slot proper new_whole)
+            (here_covered v lowered old new was before insn above begins plain proper whole new_whole justified was_below.1 least.raised was_below.0)
+            justified was_below.1 least.marks,
+      );
+}
+  where
+    new_whole : AreWhole (knowledge_in new)
+    new_whole = visit.extended.whole whole
+
+    no_back : (l : Loop) (place register : ℕ) → IsDeclared v.program l place → v.slot + 1 ≤ l.back → (edge : Option StateValue) → IsLoweredBackIfAny v.program v.slot (knowledge_in old) edge place register → ⊥
+    no_back l place register declared upto None back = back
+    no_back l place register declared upto (Some edge) back =
+        omega (arith, upto, back.back, ap (λ (n : Loop). n.back) (declared_once v.program l back.declared place declared back.is))
+
+    still : (l : Loop) (place : ℕ) → IsDeclared v.program l place → v.slot + 1 ≤ l.back → (register : ℕ) → register ≤ 9 → (is_lowered now place register ≡ is_lowered lowered place register) ⊎ IsLoweredBackIfAny v.program v.slot (knowledge_in old) (jumping_if_any (visited_state was before new v.slot) insn) place register → is_lowered now place register ≡ is_lowered start place register
+    still l place declared upto register small (inl same) = same ∙ h.same l place declared (omega (arith, upto)) register small
+    still l place declared upto register small (inr back) = absurd (no_back l place register declared upto (jumping_if_any (visited_state was before new v.slot) insn) back)
+
+-- at a second slot
+complete_skip : (p : Program) (sizes : Maps) (start lowered : List Bool) (table : TableValue) (runs : Bool) (state : StateValue) (slot : ℕ) → IsProgram p → IsFormed p → insn_at p slot ≡ None → IsCompleting p sizes start lowered table runs state slot → IsCompleting p sizes start lowered table runs state (slot + 1)
+complete_skip p sizes start lowered table runs state slot limits form none h = record {
+  same = λ l place declared upto. h.same l place declared (omega (arith, upto));
+  circles = λ l place declared. circle_skip p l place start table runs state slot limits form declared none (h.circles l place declared);
+  below = λ above justified low.
+      let was_below = h.below above justified low in
+      (below_skip p table runs state slot above none was_below.0, was_below.1);
+}
+
+-- before the first slot
+pub complete_none : (p : Program) (sizes : Maps) (start : List Bool) (table : TableValue) (state : StateValue) → IsEntered (knowledge_in table 0) → IsLeastEntry (knowledge_in table) → IsCompleting p sizes start start table false state 0
+complete_none p sizes start table state entered least = record {
+  same = λ l place declared upto register small. refl;
+  circles = λ l place declared. circle_none p l place start table state entered least;
+  below = λ above justified low. (below_none p table state above (least above justified.entered), low);
+}
+
+-- after the visit of a slot
+pub complete_next : Rules → (v : VisitValue) (p : Program) (sizes : Maps) (slot : ℕ) (start lowered now : List Bool) (old new : TableValue) (was runs : Bool) (before after : StateValue) (settled : Type 0) (region : Option Region)
+    → v ≡ record { program = p; sizes = sizes; slot = slot } → IsProgram p → IsFormed p → (IsTrue was → IsKept p slot → ⊥)
+    → IsWhole before → AreWhole (knowledge_in old)
+    → IsVisit v old new was runs before after settled region (insn_at v.program v.slot) → IsLeastVisitIfAny v lowered now old new was runs before after (insn_at v.program v.slot)
+    → IsCompleting p sizes start lowered old was before slot → IsCompleting p sizes start now new runs after (slot + 1)
+complete_next rules v p sizes slot start lowered now old new was runs before after settled region same limits form plain proper whole visit least h =
+    by_insn (insn_at p slot) refl
+    (subst (λ (u : VisitValue). IsVisit u old new was runs before after settled region (insn_at u.program u.slot)) same visit)
+    (subst (λ (u : VisitValue). IsLeastVisitIfAny u lowered now old new was runs before after (insn_at u.program u.slot)) same least)
+  where
+    by_insn : (o : Option Insn) → insn_at p slot ≡ o → IsVisit (record { program = p; sizes = sizes; slot = slot }) old new was runs before after settled region o → IsLeastVisitIfAny (record { program = p; sizes = sizes; slot = slot }) lowered now old new was runs before after o → IsCompleting p sizes start now new runs after (slot + 1)
+    by_insn None none visit least =
+        rw (visit.same_table, visit.same_runs, visit.same_state, least) (complete_skip p sizes start lowered old was before slot limits form none h)
+    by_insn (Some insn) begins visit least =
+        complete_insn rules (record { program = p; sizes = sizes; slot = slot }) start lowered now old new was runs before after settled region insn limits form begins plain proper whole visit least h
+
+-- ---- no visit is refused
+
+-- an edge back is covered, or lowers what was not lowered before
+back_refuted : Rules → (v : VisitValue) (start lowered : List Bool) (old : TableValue) (was : Bool) (before : StateValue) (insn : Insn)
+    → IsFormed v.program → insn_at v.program v.slot ≡ Some insn → (IsTrue was → IsKept v.program v.slot → ⊥) → AreWhole (knowledge_in old)
+    → IsCompleting v.program v.sizes start lowered old was before v.slot
+    → (a here edge : StateValue) → visited_state was before old v.slot ≡ Some a → IsRefusedBack v lowered (knowledge_in old) insn a here edge → ⊥
+back_refuted rules v start lowered old was before insn form begins plain whole h a here edge came refused = by_uncovered refused.4
+  where
+    by_turn : (u : IsUncovered v.program v.slot lowered (knowledge_in old) edge) → IsBehind u.declared v.slot → (o : Option StateValue) → knowledge_in old u.declared.head ≡ o → IsTurningIfAny v.program u.declared u.place start old was before v.slot o → ⊥
+    by_turn u behind None is below =
+        let none : visited_state was before old v.slot ≡ None = comes_none v.program u.declared old was before v.slot insn begins plain behind below in
+        absurd cc
+    by_turn u behind (Some d) is turning =
+        let l = u.declared in
+        let insn_is : insn ≡ back_jump l = jumps_back v.program l u.place v.slot insn form u.is u.back begins in
+        let round_came : IsRound v.program l v.slot d a = subst (λ (o : Option StateValue). IfSome o (IsRound v.program l v.slot d)) came (comes_round v.program l u.place start old was before v.slot d insn begins plain behind turning) in
+        let round_here : IsRound v.program l v.slot d here = raised_round v.program l u.place lowered v.slot d (Some a) (Some here) form u.is behind refused.0 refused.1 refused.2 round_came in
+        let d_whole : IsWhole d = subst (λ (o : Option StateValue). IfSome o IsWhole) is (whole l.head) in
+        let below : IsBelow edge d = back_covered (leaves_of rules) v.program l u.place start lowered d here edge form u.is d_whole refused.1 u.whole turning.head turning.unset
+        (h.same l u.place u.is behind.1) (subst (λ (k : ℕ). IsRound v.program l k d here) (sym u.back) round_here) (subst (λ (i : Insn). jumping_state here i ≡ Some edge) insn_is refused.3)
+        (λ register small falls. u.fallen register small (subst (λ (o : Option StateValue). Falls (record { program = v.program; declared = l; place = u.place }) o edge register) (sym is) falls)) in
+        u.uncovered (subst (λ (o : Option StateValue). IsCovered edge o) (sym is) below)
+
+    by_uncovered : IsUncovered v.program v.slot lowered (knowledge_in old) edge → ⊥
+    by_uncovered u =
+        let behind : IsBehind u.declared v.slot = (omega (arith, u.is.limits.ordered, u.back), omega (arith, u.back)) in
+        by_turn u behind (knowledge_in old u.declared.head) refl ((h.circles u.declared u.place u.is).within behind.0 behind.1)
+
+-- no visit of a slot is refused
+pub complete_refuted : Rules → (v : VisitValue) (p : Program) (sizes : Maps) (slot : ℕ) (start lowered : List Bool) (old : TableValue) (was : Bool) (before : StateValue) (above : ℕ → Option StateValue)
+    → v ≡ record { program = p; sizes = sizes; slot = slot } → IsFormed p → (IsTrue was → IsKept p slot → ⊥)
+    → IsWhole before → AreWhole (knowledge_in old)
+    → IsVisitFaultIfAny v lowered (knowledge_in old) (visited_state was before old v.slot) (insn_at v.program v.slot)
+    → IsCompleting p sizes start lowered old was before slot → Justifies p sizes above → HasLowered p start above → ⊥
+complete_refuted rules v p sizes slot start lowered old was before above same form plain proper whole fault h justified low =
+    by_insn (insn_at p slot) refl (subst (λ (u : VisitValue). IsVisitFaultIfAny u lowered (knowledge_in old) (visited_state was before old u.slot) (insn_at u.program u.slot)) same fault)
+  where
+    by_insn : (o : Option Insn) → insn_at p slot ≡ o → IsVisitFaultIfAny (record { program = p; sizes = sizes; slot = slot }) lowered (knowledge_in old) (visited_state was before old slot) o → ⊥
+    by_insn None none fault = fault
+    by_insn (Some insn) begins fault =
+        let was_below = h.below above justified low in
+        visit_refuted (order_of rules) (record { program = p; sizes = sizes; slot = slot }) lowered old was before (knowledge_in old) insn above begins plain proper whole justified was_below.1 was_below.0
+        (back_refuted rules (record { program = p; sizes = sizes; slot = slot }) start lowered old was before insn form begins plain whole h) fault
+
+-- ---- at first nothing is lowered
+
+count_nothing : (marks : List Bool) → count_of marks ≡ 0 → (k : ℕ) → slice_index_or marks k false ≡ false
+unfolding count_of
+count_nothing [] none k = refl
+count_nothing (true ∷ marks) none k = absurd (omega arith)
+count_nothing (false ∷ marks) none zero = refl
+count_nothing (false ∷ marks) none (suc k) = count_nothing marks none k
+
+pub lowers_nothing : (p : Program) (lowered : List Bool) (table : ℕ → Option StateValue) → count_of lowered ≡ 0 → HasLowered p lowered table
+lowers_nothing p lowered table none l place declared = by_there (table l.head)
+  where
+    by_there : (there : Option StateValue) → IfSome there (AreUnset p l lowered place)
+    by_there None = tt
+    by_there (Some d) = λ register small other written low. absurd (false≢true (sym (count_nothing lowered none (10 * place + register)) ∙ low))
+
+-- a refusal that is handed on refutes what it refuted
+pub refuses_all : {T : Type 0} (result : Result T Refused) (refuted : Type 0) → refuted → IfErr result (λ refused. refuted)
+refuses_all (Ok done) refuted holds = tt
+refuses_all (Err refused) refuted holds = holds
