@@ -134,7 +134,7 @@ end_of slot rule = verdict_at slot rule + 2
 behind_each_other : (a b c d e f g : List Insn) → a ++ b ++ c ++ d ++ e ++ f ++ g ≡ a ++ (b ++ (c ++ (d ++ (e ++ (f ++ g)))))
 behind_each_other a b c d e f g = simp append_assoc
 
-in_turn : (rule : Rule) → rule_code rule ≡ kind_test rule.kind (behind_kind rule) ++ from_key rule
+pub in_turn : (rule : Rule) → rule_code rule ≡ kind_test rule.kind (behind_kind rule) ++ from_key rule
 in_turn rule =
     behind_each_other (kind_test rule.kind (behind_kind rule)) (field_test rule.key 6 3 (behind_key rule)) (field_test rule.initiator 7 0 (behind_initiator rule)) (field_test rule.extended 7 3 (behind_extended rule)) (range_test rule.low rule.high (behind_range rule)) (quota_test rule.quota 2) (verdict_code (ruling_code rule.ruling))
 

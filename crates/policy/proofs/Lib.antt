@@ -9,3 +9,4 @@ mod Compiling
 mod Weighing
 mod Fitting
 mod Refused
+mod Justified

@@ -99,6 +99,16 @@ inside sizes quota is =
     let parts = and_parts (nat_lt quota.map (length sizes)) (nat_lt quota.cell (slice_index sizes quota.map)) is in
     record { map_exists = ltb-true _ _ parts.0; key_exists = ltb-true _ _ parts.1 }
 
+-- the maps have the cell of a quota without a fault
+pub quota_inside : (sizes : Maps) (quota : Quota) → quota_fault sizes (Some quota) ≡ None → IsInside sizes quota.map quota.cell
+quota_inside sizes quota none = inside sizes quota (met (has_cell sizes quota) NoCell none)
+
+-- where rules have no fault, the quota of the first and the others have none
+pub no_faults : (sizes : Maps) (rule : Rule) (rules : List Rule) → rules_fault sizes (rule ∷ rules) ≡ None → (quota_fault sizes rule.quota ≡ None) × (rules_fault sizes rules ≡ None)
+no_faults sizes rule rules none =
+    let first : rule_fault sizes rule ≡ None = none_first (rule_fault sizes rule) (rules_fault sizes rules) none in
+    (no_fault (nat_lt rule.high rule.low) BadRange (quota_fault sizes rule.quota) first, none_second (rule_fault sizes rule) (rules_fault sizes rules) none)
+
 -- one of two decisions
 either_inside : (t : Bool) (sizes : Maps) (f g : List Call × ℕ) → AreInside sizes f.0 → AreInside sizes g.0 → AreInside sizes (if t then f else g).0
 either_inside true sizes f g in_f in_g = in_f
@@ -109,7 +119,7 @@ ruled_inside sizes None code told rest none are = All-nil (λ c. IsInside sizes 
 ruled_inside sizes (Some quota) code told rest none are =
     let P : Call → Type 0 = λ c. IsInside sizes c.map c.key in
     let first : Call = draw quota (told 0) in
-    let here : P first = inside sizes quota (met (has_cell sizes quota) NoCell none) in
+    let here : P first = quota_inside sizes quota none in
     let alone : List Call × ℕ = (first ∷ [], code) in
     let more : List Call × ℕ = (first ∷ rest.0, rest.1) in
     either_inside (nat_lt (told 0) quota.limit) sizes alone more (All-cons P first [] here (All-nil P)) (All-cons P first rest.0 here are)
@@ -118,15 +128,17 @@ decision_inside : (sizes : Maps) (rules : List Rule) → rules_fault sizes rules
 decision_inside sizes [] none header told = All-nil (λ c. IsInside sizes c.map c.key)
 decision_inside sizes (rule ∷ rules) none header told =
     let later : List Call × ℕ = decision rules header (λ k. told (suc k)) in
-    let first : rule_fault sizes rule ≡ None = none_first (rule_fault sizes rule) (rules_fault sizes rules) none in
-    let rest : rules_fault sizes rules ≡ None = none_second (rule_fault sizes rule) (rules_fault sizes rules) none in
-    let quota : quota_fault sizes rule.quota ≡ None = no_fault (nat_lt rule.high rule.low) BadRange (quota_fault sizes rule.quota) first in
+    let faults = no_faults sizes rule rules none in
     either_inside (holds rule header) sizes (ruled rule.quota (ruling_code rule.ruling) told later) (decision rules header told)
-    (ruled_inside sizes rule.quota (ruling_code rule.ruling) told later quota (decision_inside sizes rules rest header (λ k. told (suc k))))
-    (decision_inside sizes rules rest header told)
+    (ruled_inside sizes rule.quota (ruling_code rule.ruling) told later faults.0 (decision_inside sizes rules faults.1 header (λ k. told (suc k))))
+    (decision_inside sizes rules faults.1 header told)
+
+-- the rules of a table without a fault have none
+pub no_rules_fault : (sizes : Maps) (rules : List Rule) → compile_fault sizes rules ≡ None → rules_fault sizes rules ≡ None
+no_rules_fault sizes rules none = no_fault (nat_lt 12 (length rules)) TooLong (rules_fault sizes rules) none
 
 pub cells : (sizes : Maps) (rules : List Rule) → compile_fault sizes rules ≡ None → HasCells sizes rules
-cells sizes rules none = decision_inside sizes rules (no_fault (nat_lt 12 (length rules)) TooLong (rules_fault sizes rules) none)
+cells sizes rules none = decision_inside sizes rules (no_rules_fault sizes rules none)
 
 not_long : (t : Bool) (rest : Option PolicyFault) → (if t then Some TooLong else rest) ≡ None → t ≡ false
 not_long true rest is = cc

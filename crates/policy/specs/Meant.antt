@@ -1,11 +1,14 @@
--- What the program of a policy table means: the law of the compiler.
-use Rattle.std.specs.Prelude.{◌≡◌, ℕ, List, [], length, All}
+-- What the program of a policy table means, and that it is justified: the laws of the compiler.
+use Rattle.std.specs.Prelude.{◌≡◌, ◌≤◌, ℕ, List, [], length, None, All}
 use Rattle.std.specs.List.{flat_map}
 use Rattle.bpf.specs.Parts.{placed_slots}
-use Rattle.bpf.specs.Program.{Program, program}
+use Rattle.bpf.specs.Program.{IsProgram, Program, program}
+use Rattle.bpf.specs.Weight.{weight_of}
 use Rattle.bpf_insn.specs.declared.insn.Insn.{Insn}
+use Rattle.machine.specs.Sizes.{Maps}
+use Rattle.bver.specs.Justified.{IsJustified}
 use Rattle.policy.specs.Code.{table_code}
-use Rattle.policy.specs.Compiled.{HasMeaning}
+use Rattle.policy.specs.Compiled.{HasMeaning, compile_fault}
 use Rattle.policy.specs.Limits.{FitsFields}
 use Rattle.policy.specs.declared.rules.Rule.{Rule}
 
@@ -24,3 +27,10 @@ table_program budget rules = straight_program budget (table_code rules)
 -- the program of a table has its meaning, whatever its budget
 abbrev pub CodeHasMeaning : Type 0
 CodeHasMeaning = (rules : List Rule) (budget : ℕ) → All FitsFields rules → HasMeaning rules (table_program budget rules)
+
+-- the program of a table without a fault is justified, within the limits of the format and of its budget
+abbrev pub CodeIsJustified : Type 0
+CodeIsJustified =
+    (sizes : Maps) (rules : List Rule) (budget : ℕ) → All FitsFields rules → compile_fault sizes rules ≡ None
+    → IsProgram (table_program budget rules) → weight_of (table_program budget rules) ≤ budget
+    → IsJustified (table_program budget rules) sizes

@@ -1,8 +1,10 @@
 //! From a policy table to a program.
 
 ghost use Rattle.std.specs.Prelude.{◌≡◌, ◌≤◌, length, IfErr, IfOk};
+ghost use Rattle.bpf.specs.Program.{IsProgram};
+ghost use Rattle.bver.specs.Justified.{IsJustified};
 ghost use Rattle.policy.specs.Compiled.{IsCompiled, IsCompileFault, compile_fault, quota_fault, rule_fault, rules_fault};
-ghost use Rattle.policy.specs.Meant.{CodeHasMeaning, IsMadeOf};
+ghost use Rattle.policy.specs.Meant.{CodeHasMeaning, CodeIsJustified, IsMadeOf};
 ghost use Rattle.policy.specs.declared.faults.PolicyFault.TheVariants.{Memory};
 
 use crate::code::table_insns;
@@ -10,6 +12,7 @@ use crate::faults::PolicyFault;
 use crate::laws::decisions;
 use crate::rules::{Quota, Rule};
 use crate::tables::Table;
+use absdom::{order_of_states, refine_shrinks};
 use bpf::{Image, ImageFault};
 use bpf_insn::Insn;
 use machine::{MapSizes, runs_from_the_front, steps_perform};
@@ -73,12 +76,21 @@ fn code_has_meaning()
     decisions();
 }
 
+/// The program of a table without a fault is justified: a state for each of its instructions permits it.
+fn code_is_justified()
+    ensures { CodeIsJustified }
+{
+    order_of_states();
+    refine_shrinks();
+}
+
 /// The image of these instructions, at most 256, without a loop. Each is performed once at most, so their number is
 /// its weight, and its budget.
 fn image_of(alloc: Global, insns: &[Insn]) -> Result<Image, PolicyFault>
     requires some { 1 ≤ length insns.now }
     requires few { length insns.now ≤ 256 }
     ensures image { IfOk result (IsMadeOf insns.now) }
+    ensures limits { IfOk result IsProgram }
     ensures fault { IfErr result (λ fault. fault ≡ Memory) }
 {
     match Image::new(alloc, insns, &[], insns.len() as u32) {
@@ -91,7 +103,8 @@ fn image_of(alloc: Global, insns: &[Insn]) -> Result<Image, PolicyFault>
 }
 
 /// The image of a table: a run of it on any header makes exactly the table's draws and gives its verdict, whatever
-/// the counters answer. It has no loop, and its budget is its weight.
+/// the counters answer. It has no loop, and its budget is its weight. A node with these maps accepts it, whatever the
+/// table.
 ///
 /// # Errors
 ///
@@ -100,9 +113,11 @@ fn image_of(alloc: Global, insns: &[Insn]) -> Result<Image, PolicyFault>
 /// and memory was refused.
 pub fn compile(alloc: Global, table: &Table, sizes: &MapSizes) -> Result<Image, PolicyFault>
     ensures compiled { IfOk result (IsCompiled sizes.now table.now) }
+    ensures justified { IfOk result (λ image. IsJustified image sizes.now) }
     ensures fault { IfErr result (IsCompileFault (compile_fault sizes.now table.now)) }
 {
     code_has_meaning();
+    code_is_justified();
     let rules = table.rules();
     if let Some(fault) = first_fault(rules, sizes) {
         return Err(fault);

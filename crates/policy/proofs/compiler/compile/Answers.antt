@@ -1,8 +1,10 @@
 use Rattle.std.specs.Prelude.{IfOk}
-use Rattle.std.proofs.Common.{◌≡◌, ◌≤◌, List, length, None, Result, Ok, Err, refl, sym, ap, ◌∙◌, subst, arith}
-use Rattle.bpf.specs.Program.{Program}
+use Rattle.std.proofs.Common.{◌≡◌, ◌≤◌, List, length, None, Result, Ok, Err, refl, sym, ap, ◌∙◌, subst, arith, le_of_eq}
+use Rattle.bpf.specs.Program.{IsProgram, Program}
+use Rattle.bpf.specs.Weight.{weight_of}
 use Rattle.bpf_insn.specs.declared.insn.Insn.{Insn}
 use Rattle.machine.specs.Sizes.{Maps}
+use Rattle.bver.specs.Justified.{IsJustified}
 use Rattle.policy.specs.Code.{table_code}
 use Rattle.policy.specs.Compiled.{HasMeaning, IsCompiled, compile_fault}
 use Rattle.policy.specs.Meant.{IsMadeOf, straight_program, table_program}
@@ -31,6 +33,14 @@ made sizes rules insns (Ok image) is same all =
     subst (λ (p : Program). IsCompiled sizes rules p) (sym whole) all
 made sizes rules insns (Err fault) is same all = is
 
+-- and justified, within the limits of the format
+made_justified : (sizes : Maps) (rules : List Rule) (insns : List Insn) (r : Result Program PolicyFault) → IfOk r (IsMadeOf insns) → IfOk r IsProgram → insns ≡ table_code rules
+    → (IsProgram (own_program rules) → IsJustified (own_program rules) sizes) → IfOk r (λ image. IsJustified image sizes)
+made_justified sizes rules insns (Ok image) is limits same all =
+    let whole : image ≡ own_program rules = is.whole ∙ ap (λ (xs : List Insn). straight_program (length xs) xs) same in
+    subst (λ (p : Program). IsJustified p sizes) (sym whole) (all (subst (λ (p : Program). IsProgram p) whole limits))
+made_justified sizes rules insns (Err fault) is limits same all = tt
+
 pub returns-in-Some-clause-fault : goal.returns-in-Some-clause-fault
 returns-in-Some-clause-fault c =
     is_told c.args.sizes.now c.args.table.now _ (ap (λ (rules : List Rule). compile_fault c.args.sizes.now rules) (sym c.rules-rules.ensures.rules) ∙ sym c.first_fault.ensures ∙ c.in-Some.is)
@@ -42,7 +52,8 @@ pub image_of-requires-clause-few : goal.image_of-requires-clause-few
 image_of-requires-clause-few c =
     let rules : List Rule = c.rules-rules.result.now in
     let short : length rules ≤ 12 = few c.args.sizes.now rules (sym c.first_fault.ensures ∙ c.in_default.is) in
-    let len : length c.as_slice-insns.result.now ≡ length (table_code rules) = ap (λ (insns : List Insn). length insns) (c.as_slice-insns.ensures.value ∙ c.in_ok-insns.ensures) in
+    let same : c.as_slice-insns.result.now ≡ table_code rules = cc (c.as_slice-insns.ensures.value, c.in_ok-insns.ensures) in
+    let len : length c.as_slice-insns.result.now ≡ length (table_code rules) = ap (λ (insns : List Insn). length insns) same in
     omega (arith, len, short, table_few rules)
 
 pub returns-clause-compiled : goal.returns-clause-compiled
@@ -51,3 +62,11 @@ returns-clause-compiled c =
     let none : compile_fault c.args.sizes.now rules ≡ None = ap (λ (rs : List Rule). compile_fault c.args.sizes.now rs) (sym c.rules-rules.ensures.rules) ∙ sym c.first_fault.ensures ∙ c.in_default.is in
     let meaning = c.code_has_meaning.ensures rules (length (table_code rules)) c.rules-rules.ensures.fit in
     made c.args.sizes.now rules _ c.image_of.result c.image_of.ensures.image (cc c.in_ok-insns.ensures) (compiled c.args.sizes.now rules none meaning)
+
+pub returns-clause-justified : goal.returns-clause-justified
+returns-clause-justified c =
+    let rules : List Rule = c.args.table.now in
+    let none : compile_fault c.args.sizes.now rules ≡ None = ap (λ (rs : List Rule). compile_fault c.args.sizes.now rs) (sym c.rules-rules.ensures.rules) ∙ sym c.first_fault.ensures ∙ c.in_default.is in
+    let light : weight_of (own_program rules) ≤ length (table_code rules) = le_of_eq (weighs (table_code rules) (length (table_code rules))) in
+    made_justified c.args.sizes.now rules _ c.image_of.result c.image_of.ensures.image c.image_of.ensures.limits (cc c.in_ok-insns.ensures)
+    (λ limits. c.code_is_justified.ensures c.args.sizes.now rules (length (table_code rules)) c.rules-rules.ensures.fit none limits light)

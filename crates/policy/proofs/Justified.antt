@@ -1,0 +1,4 @@
+pub mod Known
+pub mod Served
+pub mod Stretches
+pub mod Tables
