@@ -1,10 +1,14 @@
 -- Workers that serve ports side by side: worker k serves port k.
-use Rattle.std.specs.Prelude.{◌≡◌, ◌<◌, ℕ, List, ◌++◌, length, map, slice_index_or, Option, Some, MatchOption}
+use Rattle.std.specs.Prelude.{◌≡◌, ◌<◌, ◌≤◌, ℕ, List, ◌++◌, length, map, slice_index_or, Option, Some, MatchOption, vec_len, vec_capacity}
 use Rattle.std.specs.List.{sum_by}
 use Rattle.ports.specs.Queue.{IsServePassOf, IsServePassAfter}
 use Rattle.ports.specs.Sinks.{cut}
 use Rattle.ports.specs.Worked.{report_sum, IsWorked}
+use Rattle.std.specs.declared.thread.PromisedHandle.{PromisedHandle}
+use Rattle.std.specs.declared.vec.Vec.{Vec}
 use Rattle.ports.specs.declared.port.Port.{Port}
+use Rattle.ports.specs.declared.starts.Ended.{Ended}
+use Rattle.ports.specs.declared.starts.Start.{Start}
 use Rattle.ports.specs.declared.worker.Worker.{Worker}
 use Rattle.ports.specs.declared.worker.Report.{Report}
 
@@ -56,9 +60,15 @@ pub record HaveServed {J S : Type 0} (sent : S → List (List ℕ)) (failed : S 
   pub served : AreServed banks (length old) ports new
   pub sum : total ≡ total_of reports
 
--- what each of the first n of these is of stands at its place in the second list
-abbrev pub AreOf : {A B : Type 0} → ℕ → (A → B) → List A → List B → Type 0
-AreOf {A} {B} n of these those = (k : ℕ) (a : A) (b : B) → k < n → of (slice_index_or these k a) ≡ slice_index_or those k b
+-- the list is empty and has room for so many
+abbrev pub HasRoomFor : {X Z : Type 0} → ℕ → Vec X Z → Type 0
+HasRoomFor n list = (vec_len list ≡ 0) × (n ≤ vec_capacity list)
+
+-- each of the first n threads is that of the worker at its place
+abbrev pub AreThreadsOf : {J S : Type 0} → ℕ → List (PromisedHandle (Ended J S) (Start J S)) → List (Worker J S) → Type 0
+AreThreadsOf {J} {S} n threads workers =
+    (k : ℕ) (thread : PromisedHandle (Ended J S) (Start J S)) (worker : Worker J S) → k < n
+    → (slice_index_or threads k thread).promise.0.value ≡ slice_index_or workers k worker
 
 -- the second list ends with the first
 abbrev pub AreLast : {X : Type 0} → List X → List X → Type 0

@@ -2,7 +2,7 @@
 
 ghost use Rattle.std.specs.Prelude.{◌≡◌, ◌+◌, ◌≤◌, ◌++◌, IfOk, IfSome, length, map, vec_len, vec_capacity};
 ghost use Rattle.std.specs.PromisedHandle.{KeepsEach};
-ghost use Rattle.ports.specs.Serves.{AreServed, HaveServed, IsSumOf, IsTotalOf};
+ghost use Rattle.ports.specs.Serves.{AreServed, HasRoomFor, HaveServed, IsSumOf, IsTotalOf};
 
 use crate::gate::Gate;
 use crate::port::Port;
@@ -41,8 +41,7 @@ fn join_each<R: Threads, T: Drop, P: Promise<T>>(
     threads: Vec<PromisedHandle<T, P>>,
     mut all: Vec<T>,
 ) -> Vec<T>
-    requires none { vec_len all ≡ 0 }
-    requires room { vec_len threads ≤ vec_capacity all }
+    requires { HasRoomFor (vec_len threads) all }
     ensures len { vec_len result ≡ vec_len threads }
     ensures each { KeepsEach P.Promise (vec_len threads) threads.items result.items }
 {
@@ -66,8 +65,7 @@ fn gather<J: Room, S: Sink + Drop>(
     ended: Vec<Ended<J, S>>,
     mut workers: Vec<Worker<J, S>>,
 ) -> (Vec<Worker<J, S>>, Option<Report>)
-    requires none { vec_len workers ≡ 0 }
-    requires room { vec_len ended ≤ vec_capacity workers }
+    requires { HasRoomFor (vec_len ended) workers }
     ensures workers { result.0.items ≡ map (λ e. e.worker) ended.items }
     ensures total { IfSome result.1 (IsTotalOf (map (λ e. e.report) ended.items)) }
     ensures space { vec_capacity workers ≤ vec_capacity result.0 }
@@ -87,7 +85,7 @@ fn gather<J: Room, S: Sink + Drop>(
 
 /// The workers, and behind them the rest, for which there is room.
 fn with_rest<T: Drop>(mut workers: Vec<T>, rest: Vec<T>) -> Vec<T>
-    requires room { vec_len workers + vec_len rest ≤ vec_capacity workers }
+    requires { vec_len workers + vec_len rest ≤ vec_capacity workers }
     ensures { result.items ≡ workers.items ++ rest.items }
 {
     for worker in rest {
@@ -107,7 +105,8 @@ fn with_rest<T: Drop>(mut workers: Vec<T>, rest: Vec<T>) -> Vec<T>
 /// # Errors
 ///
 /// [`ServeFault::Memory`]: memory was refused, or a thread could not be made. No packet was taken, and each worker
-/// that comes back is as it went in; the worker whose thread could not be made is missing.
+/// that comes back is as it went in, in order; the worker whose thread could not be made is missing. Where none is,
+/// they may serve their ports again.
 pub fn serve<
     R: Threads + Wait + Sync,
     J: Room + Send + 'static,

@@ -1,7 +1,7 @@
 //! A thread for each worker.
 
-ghost use Rattle.std.specs.Prelude.{◌≡◌, ◌+◌, ◌<◌, ◌≤◌, true, length, slice_index_or, vec_len, vec_capacity};
-ghost use Rattle.ports.specs.Serves.{AreLast, AreServed, AreOf, IsBack, IsWorkerOf};
+ghost use Rattle.std.specs.Prelude.{◌≡◌, ◌+◌, ◌<◌, ◌≤◌, true, length, slice_index_or, vec_len};
+ghost use Rattle.ports.specs.Serves.{AreLast, AreServed, AreThreadsOf, HasRoomFor, IsBack, IsWorkerOf};
 
 use crate::gate::Gate;
 use crate::port::Port;
@@ -107,29 +107,25 @@ pub(crate) fn start_each<
     threads: Vec<Thread<J, S>>,
     rest: Vec<Worker<J, S>>,
 ) -> Started<J, S>
-    requires none { vec_len threads ≡ 0 }
-    requires room { vec_len workers ≤ vec_capacity threads }
-    requires empty { vec_len rest ≡ 0 }
-    requires space { vec_len workers ≤ vec_capacity rest }
+    requires threads { HasRoomFor (vec_len workers) threads }
+    requires rest { HasRoomFor (vec_len workers) rest }
     requires served { AreServed node.now (vec_len workers) ports.now workers.items }
     ensures len { result.all ≡ true → vec_len result.threads ≡ vec_len workers }
     ensures most { vec_len result.threads + vec_len result.rest ≤ vec_len workers }
     ensures rest { AreLast result.rest.items workers.items }
-    ensures each { AreOf (vec_len result.threads) (λ h. h.promise.0.value) result.threads.items workers.items }
+    ensures each { AreThreadsOf (vec_len result.threads) result.threads.items workers.items }
 {
     thread::scope(
         thread::scope_env(),
         rt,
         |scope| -> Started<J, S>
-            requires none { vec_len threads ≡ 0 }
-            requires room { vec_len workers ≤ vec_capacity threads }
-            requires empty { vec_len rest ≡ 0 }
-            requires space { vec_len workers ≤ vec_capacity rest }
+            requires threads { HasRoomFor (vec_len workers) threads }
+            requires rest { HasRoomFor (vec_len workers) rest }
             requires served { AreServed node.now (vec_len workers) ports.now workers.items }
             ensures len { result.all ≡ true → vec_len result.threads ≡ vec_len workers }
             ensures most { vec_len result.threads + vec_len result.rest ≤ vec_len workers }
             ensures rest { AreLast result.rest.items workers.items }
-            ensures each { AreOf (vec_len result.threads) (λ h. h.promise.0.value) result.threads.items workers.items }
+            ensures each { AreThreadsOf (vec_len result.threads) result.threads.items workers.items }
         {
             let mut threads = threads;
             let mut rest = rest;

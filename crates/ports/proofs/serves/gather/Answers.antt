@@ -1,5 +1,5 @@
 use Rattle.std.specs.Prelude.{◌++◌, ◌∷◌, [], IfSome, map}
-use Rattle.std.proofs.Common.{arith, sym, subst, ap, ◌∙◌}
+use Rattle.std.proofs.Common.{arith, rules, sym, subst, ap, ◌∙◌}
 use Rattle.std.proofs.lemmas.List.{map_push}
 use Rattle.ports.specs.Serves.{IsTotalOf}
 use Rattle.ports.proofs.Reports.{one_more}
@@ -11,7 +11,7 @@ loop-one-preserved g c =
     let step = c.in-Some.ensures.steps in (
       c.in-Ok.ensures.items ∙ ap (λ l. l ++ one.worker ∷ []) was.0 ∙ sym (map_push (λ e. e.worker) done one),
       subst (λ told. IfSome c.both-total.result (IsTotalOf told)) (sym (map_push (λ e. e.report) done one))
-          (one_more (map (λ e. e.report) done) one.report c.loop-one.total c.both-total.result was.1 c.both-total.ensures),
+          (one_more (map (λ e. e.report) done) one.report _ c.both-total.result was.1 (search rules)),
       omega (arith, was.2, step.1, c.in-Ok.ensures.len, c.push.ensures.capacity),
       omega (arith, was.3, c.push.ensures.capacity),
     )
