@@ -4,9 +4,10 @@ ghost use Rattle.std.specs.Prelude.{◌<◌, All};
 ghost use Rattle.machine.specs.Memory.{IsHeader};
 ghost use Rattle.brun.specs.Runs.{header};
 ghost use Rattle.sched.specs.Agreement.{PublishedAgrees};
-ghost use Rattle.sched.specs.Headline.{EveryScheduleJudgesOnce, OpenedAreTaken, OpenedBehindDone};
+ghost use Rattle.sched.specs.Headline.{BringsBytes, EveryScheduleJudgesOnce, OpenedAreTaken, OpenedBehindDone};
 ghost use Rattle.sched.specs.Turns.{TurnsArePaths};
 
+use crate::event::Event;
 use bpf::image_laws;
 use bver::justified_programs;
 use publish::published_programs;
@@ -21,6 +22,15 @@ fn bytes_are_small(bytes: &[u8])
     ensures { All (λ byte. byte < 256) bytes.now }
 {
     let _ = bytes.len();
+}
+
+/// A law and no work: the packet that an event brings has bytes alone.
+pub(crate) fn event_brings_bytes(event: &Event)
+    ensures { BringsBytes event.now }
+{
+    if let Event::Take(_, packet) = event {
+        bytes_are_small(packet.bytes());
+    }
 }
 
 /// A law and no work: the first four and the last twelve bytes of a command's header are what a program may see.

@@ -2,6 +2,7 @@
 
 ghost use Rattle.std.specs.Prelude.{◌≡◌, length, IfOk, IfErr, OnErr};
 ghost use Rattle.target.specs.Nodes.{limit_fault};
+ghost use Rattle.sched.specs.Headline.{AreJudgedOnce};
 ghost use Rattle.sched.specs.History.{Start, history_from};
 ghost use Rattle.sched.specs.Lawful.{IsLawful};
 ghost use Rattle.sched.specs.Worlds.{GoesOn, IsWorldFault, IsWorldOf, node_of};
@@ -9,6 +10,7 @@ ghost use Rattle.sched.specs.declared.event.Outcome.TheVariants.{Refused as Refu
 
 use crate::event::{Event, Outcome};
 use crate::faults::WorldFault;
+use crate::laws::{event_brings_bytes, every_schedule_judges_once};
 use crate::world::World;
 use bpf::Image;
 use std::alloc::Global;
@@ -50,12 +52,18 @@ pub fn run_schedule(
     ensures world { IfOk result (λ ran. IsWorldOf (node_of config.now factory.now)
         (history_from Start events.items ran.1.items) ran.0) }
 
+    // Each command that is done in it was judged once.
+    ensures judged { IfOk result (λ ran. AreJudgedOnce (node_of config.now factory.now)
+        (history_from Start events.items ran.1.items)) }
+
     ensures count { IfOk result (λ ran. length ran.1.items ≡ length events.items) }
     ensures fault { IfErr result (IsWorldFault (limit_fault config.now) factory.now) }
 {
+    every_schedule_judges_once();
     let mut world = World::new(alloc, config, factory)?;
     let mut outcomes = Vec::with_capacity(alloc, events.len())?;
     for event in events {
+        event_brings_bytes(&event);
         let outcome = step(alloc, &mut world, event)?;
         outcomes.push(outcome)?;
     }

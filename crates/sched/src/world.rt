@@ -5,6 +5,7 @@ ghost use Rattle.std.specs.Arc.{arc_value};
 ghost use Rattle.std.specs.List.{range_with_len};
 ghost use Rattle.bver.specs.Justified.{IsJustified};
 ghost use Rattle.target.specs.Nodes.{ArePortShares, limit_fault};
+ghost use Rattle.sched.specs.Headline.{IsNode};
 ghost use Rattle.sched.specs.History.{Start};
 ghost use Rattle.sched.specs.Worlds.{IsWorldFault, IsWorldOf, first_port, generation_in, node_of, shown_in_all, staging_in, word_in};
 
@@ -93,6 +94,7 @@ impl World {
     pub fn new(alloc: Global, config: &NodeConfig, factory: &Image) -> Result<World, WorldFault>
         ensures world { IfOk result (IsWorldOf (node_of config.now factory.now) Start) }
         ensures limits { IfOk result (λ _. limit_fault config.now ≡ None) }
+        ensures node { IfOk result (λ _. IsNode (node_of config.now factory.now)) }
         ensures fault { IfErr result (IsWorldFault (limit_fault config.now) factory.now) }
     {
         made_are_paired();
