@@ -1,5 +1,5 @@
 -- The numbers of the assembler's faults.
-use Rattle.std.specs.Prelude.{ℕ, nat_lt, if◌then◌else◌}
+use Rattle.std.specs.Prelude.{ℕ, nat_lt, if◌then◌else◌, ◌==◌, Option, Some, None}
 use Rattle.basm_lex.specs.declared.numbers.NumberFault.{NumberFault}
 use Rattle.basm_lex.specs.declared.numbers.NumberFault.TheVariants.{Form, Range}
 use Rattle.basm.specs.declared.faults.AsmCode.{AsmCode}
@@ -16,6 +16,20 @@ asm_code TooMany = 6
 asm_code BadBudget = 7
 asm_code BadLoop = 8
 asm_code Memory = 9
+
+-- the fault of a number, if it is the number of one
+abbrev pub asm_of_code : ℕ → Option AsmCode
+asm_of_code code =
+    if code == 1 then Some BadWord
+    else (if code == 2 then Some BadOperand
+    else (if code == 3 then Some BadNumber
+    else (if code == 4 then Some BadLabel
+    else (if code == 5 then Some Reach
+    else (if code == 6 then Some TooMany
+    else (if code == 7 then Some BadBudget
+    else (if code == 8 then Some BadLoop
+    else (if code == 9 then Some Memory
+    else None))))))))
 
 -- the fault of a word that is no number as it should be
 abbrev pub number_code : NumberFault → AsmCode

@@ -1,7 +1,7 @@
 //! Why a text is no image.
 
-ghost use Rattle.std.specs.Prelude.{◌≡◌, Ok, IfOk};
-ghost use Rattle.basm.specs.Codes.{asm_code, lower_code, number_code};
+ghost use Rattle.std.specs.Prelude.{◌≡◌, Ok, IfOk, Some, IfSome};
+ghost use Rattle.basm.specs.Codes.{asm_code, lower_code, number_code, asm_of_code};
 ghost use Rattle.basm.specs.Outcomes.{image_code, line_fault, out_of_memory, text_fault};
 ghost use Rattle.basm.specs.declared.faults.AsmCode.TheVariants.{Memory};
 
@@ -9,6 +9,45 @@ use basm_lex::NumberFault;
 use bpf::ImageFault;
 use std::alloc::{AllocError, AllocFailed};
 use thiserror::Error;
+
+const BAD_WORD: &str = "\
+The line begins with a word that is no instruction and no directive, or something stands behind a label.
+Compare the word with docs/BPF.md; a label stands on a line of its own.";
+
+const BAD_OPERAND: &str = "\
+The instruction wants other operands, another number of them, or registers from r0 to r10.
+Compare the line with the forms of docs/BPF.md: operands stand between commas, addresses between brackets.";
+
+const BAD_NUMBER: &str = "\
+A number does not fit its field: decimals are signed, with 32 bits and for `lddw` with 64, `0x` writes at most 8
+digits and for `lddw` 16, and an offset of memory has 16 bits.
+Write a smaller number, or load it by `lddw` first.";
+
+const BAD_LABEL: &str = "\
+The line jumps to a name that no line defines, or defines a name that another line has defined.
+Look for the name's other lines: upper and lower case differ.";
+
+const REACH: &str = "\
+The target is further away than its field tells: a jump reaches 32,768 slots back and 32,767 forward.
+Jump in two steps, or by `ja32`.";
+
+const TOO_MANY: &str = "\
+A program has 1 to 512 slots and at most 8 loops; line 0 means that there is no instruction.
+Make the program shorter, or share what branches have in common.";
+
+const BAD_BUDGET: &str = "\
+A program declares once how many steps a run may take: a line `.budget N` with N from 1 to 65,536. Line 0 means
+that there is none.
+Put `.budget 65536` first; `rmapctl verify` then prints the weight, which is the least budget.";
+
+const BAD_LOOP: &str = "\
+A line `.loop HEAD, BACK, N, rK` has two slots or names of which BACK is behind HEAD, a bound N from 1 to 4,096
+and a register from r0 to r9; no two loops have one head.
+Compare the fields with the slots of the text.";
+
+const MEMORY: &str = "\
+The process was refused memory while the text was assembled.
+Give the process more memory.";
 
 /// What is wrong with a line.
 #[derive(Clone, Copy, Debug, PartialEq, Eq, Error)]
@@ -45,7 +84,8 @@ pub enum AsmCode {
 impl AsmCode {
     /// The number of the fault: 1 to 9.
     pub fn code(self) -> u8
-        ensures { result ≡ asm_code self }
+        ensures value { result ≡ asm_code self }
+        ensures back { asm_of_code result ≡ Some self }
     {
         match self {
             AsmCode::BadWord => 1,
@@ -57,6 +97,40 @@ impl AsmCode {
             AsmCode::BadBudget => 7,
             AsmCode::BadLoop => 8,
             AsmCode::Memory => 9,
+        }
+    }
+
+    /// The fault of a number, as [`AsmCode::code`] gives it. `None` where no fault has it.
+    pub fn from_code(code: u8) -> Option<AsmCode>
+        ensures value { result ≡ asm_of_code code }
+        ensures number { IfSome result (λ fault. asm_code fault ≡ code) }
+    {
+        match code {
+            1 => Some(AsmCode::BadWord),
+            2 => Some(AsmCode::BadOperand),
+            3 => Some(AsmCode::BadNumber),
+            4 => Some(AsmCode::BadLabel),
+            5 => Some(AsmCode::Reach),
+            6 => Some(AsmCode::TooMany),
+            7 => Some(AsmCode::BadBudget),
+            8 => Some(AsmCode::BadLoop),
+            9 => Some(AsmCode::Memory),
+            _ => None,
+        }
+    }
+
+    /// What to say of the fault beside its name: when it comes, and what to do, in lines of at most 113 columns.
+    pub fn advice(self) -> &'static str {
+        match self {
+            AsmCode::BadWord => BAD_WORD,
+            AsmCode::BadOperand => BAD_OPERAND,
+            AsmCode::BadNumber => BAD_NUMBER,
+            AsmCode::BadLabel => BAD_LABEL,
+            AsmCode::Reach => REACH,
+            AsmCode::TooMany => TOO_MANY,
+            AsmCode::BadBudget => BAD_BUDGET,
+            AsmCode::BadLoop => BAD_LOOP,
+            AsmCode::Memory => MEMORY,
         }
     }
 

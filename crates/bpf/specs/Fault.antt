@@ -1,5 +1,6 @@
 -- The numbers of the faults of an image.
-use Rattle.std.specs.Prelude.{ℕ}
+use Rattle.std.specs.Prelude.{ℕ, ◌==◌, if◌then◌else◌, Option, Some, None}
+use Rattle.bpf_insn.specs.declared.decoder.BadInsn.TheVariants.{Opcode}
 use Rattle.bpf.specs.declared.fault.ImageFault.{ImageFault}
 use Rattle.bpf.specs.declared.fault.ImageFault.TheVariants.{Magic, Version, Length, Count, Budget, Loop, Insn, Memory}
 
@@ -24,3 +25,16 @@ image_fault_slot Budget = 0
 image_fault_slot Loop = 0
 image_fault_slot (Insn slot fault) = slot
 image_fault_slot Memory = 0
+
+-- a fault of a number, if it is the number of one; of the faults of instructions the first at slot 0
+abbrev pub image_fault_of_code : ℕ → Option ImageFault
+image_fault_of_code code =
+    if code == 1 then Some Magic
+    else (if code == 2 then Some Version
+    else (if code == 3 then Some Length
+    else (if code == 4 then Some Count
+    else (if code == 5 then Some Budget
+    else (if code == 6 then Some Loop
+    else (if code == 7 then Some (Insn 0 Opcode)
+    else (if code == 8 then Some Memory
+    else None)))))))

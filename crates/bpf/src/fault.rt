@@ -1,12 +1,45 @@
 //! Why bytes are no image.
 
-ghost use Rattle.std.specs.Prelude.{◌≡◌};
-ghost use Rattle.bpf.specs.Fault.{image_fault_code, image_fault_slot};
+ghost use Rattle.std.specs.Prelude.{◌≡◌, IfSome, IsSome};
+ghost use Rattle.bpf.specs.Fault.{image_fault_code, image_fault_of_code, image_fault_slot};
 ghost use Rattle.bpf.specs.declared.fault.ImageFault.TheVariants.{Memory};
 
 use bpf_insn::BadInsn;
 use std::alloc::{AllocError, AllocFailed};
 use thiserror::Error;
+
+const MAGIC: &str = "\
+The file does not begin with BPFA. Is it a text, or a table?
+`rmapctl asm FILE OUT` makes an image of a text, `rmapctl policy FILE OUT` one of a table.";
+
+const VERSION: &str = "\
+The fifth byte is the version of the format, and this target reads version 1.
+Assemble the program's text anew.";
+
+const LENGTH: &str = "\
+The header declares how many loops and slots follow, 8 bytes each, and the file has fewer bytes or more.
+Look whether the file was cut off, or something was written behind it.";
+
+const COUNT: &str = "\
+An image has at most 8 loops, 1 to 512 slots, and four zero bytes behind its budget.
+Make the program shorter, or look at bytes 5 to 15 of the file.";
+
+const BUDGET: &str = "\
+The budget is from 1 to 65,536.
+Look at the four bytes from 8 on, the least significant first.";
+
+const LOOP: &str = "\
+A loop has its head before its back, the back at a slot of the program, a bound from 1 to 4,096, a register from
+r0 to r9 and a zero byte; heads rise from loop to loop.
+Look at the 8 bytes of each loop, from byte 16 on, or assemble the program's text anew.";
+
+const INSN: &str = "\
+The 8 bytes of the slot that is told spell no instruction; `rmapctl explain insn1` to `insn4` tell the reasons.
+Assemble the program's text anew, or compare the bytes with docs/BPF.md.";
+
+const MEMORY: &str = "\
+The process was refused memory while the image was read.
+Give the process more memory.";
 
 /// Why bytes are no image: the first fault in the order of the variants, where the length is tested
 /// twice. It is `Length` as soon as there are fewer than 16 bytes after a right magic and version,
@@ -42,7 +75,8 @@ pub enum ImageFault {
 impl ImageFault {
     /// The number of the fault: 1 to 8.
     pub fn code(self) -> u8
-        ensures { result ≡ image_fault_code self }
+        ensures value { result ≡ image_fault_code self }
+        ensures known { IsSome (image_fault_of_code result) }
     {
         match self {
             ImageFault::Magic => 1,
@@ -53,6 +87,42 @@ impl ImageFault {
             ImageFault::Loop => 6,
             ImageFault::Insn { .. } => 7,
             ImageFault::Memory => 8,
+        }
+    }
+
+    /// A fault of a number, as [`ImageFault::code`] gives it. `None` where no fault has it. Number 7 is that of each fault
+    /// of an instruction; of these it is `Opcode` at slot 0.
+    pub fn from_code(code: u8) -> Option<ImageFault>
+        ensures value { result ≡ image_fault_of_code code }
+        ensures number { IfSome result (λ fault. image_fault_code fault ≡ code) }
+    {
+        match code {
+            1 => Some(ImageFault::Magic),
+            2 => Some(ImageFault::Version),
+            3 => Some(ImageFault::Length),
+            4 => Some(ImageFault::Count),
+            5 => Some(ImageFault::Budget),
+            6 => Some(ImageFault::Loop),
+            7 => Some(ImageFault::Insn {
+                slot: 0,
+                fault: BadInsn::Opcode,
+            }),
+            8 => Some(ImageFault::Memory),
+            _ => None,
+        }
+    }
+
+    /// What to say of the fault beside its name: when it comes, and what to do, in lines of at most 113 columns.
+    pub fn advice(self) -> &'static str {
+        match self {
+            ImageFault::Magic => MAGIC,
+            ImageFault::Version => VERSION,
+            ImageFault::Length => LENGTH,
+            ImageFault::Count => COUNT,
+            ImageFault::Budget => BUDGET,
+            ImageFault::Loop => LOOP,
+            ImageFault::Insn { .. } => INSN,
+            ImageFault::Memory => MEMORY,
         }
     }
 

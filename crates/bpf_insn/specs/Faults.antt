@@ -1,5 +1,5 @@
 -- Why bytes spell no instruction.
-use Rattle.std.specs.Prelude.{◌≡◌, ◌≢◌, ℕ, ◌/◌, ◌%◌, Bool, true, false, ◌&&◌, ◌||◌, not, nat_le, IsTrue, IsFalse, List, slice_index, Option, None, IsSome}
+use Rattle.std.specs.Prelude.{◌≡◌, ◌≢◌, ℕ, ◌/◌, ◌%◌, Bool, true, false, ◌&&◌, ◌||◌, not, nat_le, IsTrue, IsFalse, List, slice_index, Option, None, IsSome, ◌==◌, if◌then◌else◌, Some}
 use Rattle.bpf_parts.specs.declared.operation.Operand.{Operand}
 use Rattle.bpf_parts.specs.declared.operation.Operand.TheVariants.{FromRegister, Immediate}
 use Rattle.bpf_insn.specs.declared.insn.Insn.{Insn}
@@ -14,6 +14,15 @@ bad_insn_code faults.Opcode = 1
 bad_insn_code faults.Register = 2
 bad_insn_code faults.Unused = 3
 bad_insn_code faults.Half = 4
+
+-- the fault of a number, if it is the number of one
+abbrev pub bad_insn_of_code : ℕ → Option BadInsn
+bad_insn_of_code code =
+    if code == 1 then Some faults.Opcode
+    else (if code == 2 then Some faults.Register
+    else (if code == 3 then Some faults.Unused
+    else (if code == 4 then Some faults.Half
+    else None)))
 
 -- the first byte of an instruction (section 3.1)
 abbrev pub opcode_of : Insn → ℕ

@@ -1,9 +1,9 @@
 //! From bytes to an instruction.
 
-ghost use Rattle.std.specs.Prelude.{◌≡◌, ◌≤◌, ◌<◌, ◌^◌, Ok, IfOk, IfErr, IsTrue};
+ghost use Rattle.std.specs.Prelude.{◌≡◌, ◌≤◌, ◌<◌, ◌^◌, Ok, IfOk, IfErr, IsTrue, Some, IfSome};
 ghost use Rattle.std.specs.Option.{option_copied};
 ghost use Rattle.bpf_insn.specs.declared.insn.Insn.{Insn};
-ghost use Rattle.bpf_insn.specs.Faults.{bad_insn_code, IsFault};
+ghost use Rattle.bpf_insn.specs.Faults.{bad_insn_code, IsFault, bad_insn_of_code};
 ghost use Rattle.bpf_insn.specs.Spelling.{HasSecond, HasSlots, IsInsn, Spells};
 ghost use Rattle.bpf_parts.specs.Operands.{IsOperand};
 ghost use Rattle.bpf_insn.specs.Reading.{arithmetic_of, branch_of, byte_swap_of, call_of, constant_of, has_fields, jump_of, load_of, meant_of, move_of, names_register, negation_of, next_fields, operand_of, pair_of, reading_of, register_of, same_second, store_of, two_operands_of, wide_of};
@@ -20,6 +20,23 @@ use bpf_parts::{
     Register, Size, Swap, SwapBits, Width,
 };
 use thiserror::Error;
+
+const OPCODE: &str = "\
+No instruction of RFC 9669 has the opcode in the first byte of the slot.
+Look whether the slot before it has two slots, or the file holds something else than instructions.";
+
+const REGISTER: &str = "\
+The second byte names two registers, and there are r0 to r10 alone.
+Compare the byte with the instruction: the destination is in its low four bits, the source in its high four.";
+
+const UNUSED: &str = "\
+A field that the instruction does not use has to be zero, as the offset of `add` and the source of a move of a
+number.
+Clear the field.";
+
+const HALF: &str = "\
+`lddw`, `ldmap` and `ldimm` have two slots, and the second is missing.
+Look whether the image was cut off, or a slot taken out.";
 
 /// Why bytes spell no instruction: the first fault in this order, but for `Half`, which comes before
 /// `Unused`.
@@ -43,13 +60,38 @@ pub enum BadInsn {
 impl BadInsn {
     /// The number of the fault: 1 to 4.
     pub fn code(self) -> u8
-        ensures { result ≡ bad_insn_code self }
+        ensures value { result ≡ bad_insn_code self }
+        ensures back { bad_insn_of_code result ≡ Some self }
     {
         match self {
             BadInsn::Opcode => 1,
             BadInsn::Register => 2,
             BadInsn::Unused => 3,
             BadInsn::Half => 4,
+        }
+    }
+
+    /// The fault of a number, as [`BadInsn::code`] gives it. `None` where no fault has it.
+    pub fn from_code(code: u8) -> Option<BadInsn>
+        ensures value { result ≡ bad_insn_of_code code }
+        ensures number { IfSome result (λ fault. bad_insn_code fault ≡ code) }
+    {
+        match code {
+            1 => Some(BadInsn::Opcode),
+            2 => Some(BadInsn::Register),
+            3 => Some(BadInsn::Unused),
+            4 => Some(BadInsn::Half),
+            _ => None,
+        }
+    }
+
+    /// What to say of the fault beside its name: when it comes, and what to do, in lines of at most 113 columns.
+    pub fn advice(self) -> &'static str {
+        match self {
+            BadInsn::Opcode => OPCODE,
+            BadInsn::Register => REGISTER,
+            BadInsn::Unused => UNUSED,
+            BadInsn::Half => HALF,
         }
     }
 }

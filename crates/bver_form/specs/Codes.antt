@@ -1,5 +1,5 @@
 -- The numbers of the refusals, and which of them are for a program's form.
-use Rattle.std.specs.Prelude.{ℕ}
+use Rattle.std.specs.Prelude.{ℕ, ◌==◌, if◌then◌else◌, Option, Some, None}
 use Rattle.bver_form.specs.declared.refusal.Refusal.{Refusal}
 use Rattle.bver_form.specs.declared.refusal.Refusal.TheVariants.{Target, BackJump, LoopShape, LoopEntry, Unset, KindMismatch, OutOfRegion, UnsetStack, HeaderWrite, FrameWrite, PointerRange, MapKey, Helper, FallOff, Budget, Unsupported, Memory}
 
@@ -22,6 +22,28 @@ refusal_code FallOff = 14
 refusal_code Budget = 15
 refusal_code Unsupported = 16
 refusal_code Memory = 17
+
+-- the refusal of a number, if it is the number of one
+abbrev pub refusal_of_code : ℕ → Option Refusal
+refusal_of_code code =
+    if code == 1 then Some Target
+    else (if code == 2 then Some BackJump
+    else (if code == 3 then Some LoopShape
+    else (if code == 4 then Some LoopEntry
+    else (if code == 5 then Some Unset
+    else (if code == 6 then Some KindMismatch
+    else (if code == 7 then Some OutOfRegion
+    else (if code == 8 then Some UnsetStack
+    else (if code == 9 then Some HeaderWrite
+    else (if code == 10 then Some FrameWrite
+    else (if code == 11 then Some PointerRange
+    else (if code == 12 then Some MapKey
+    else (if code == 13 then Some Helper
+    else (if code == 14 then Some FallOff
+    else (if code == 15 then Some Budget
+    else (if code == 16 then Some Unsupported
+    else (if code == 17 then Some Memory
+    else None))))))))))))))))
 
 -- the refusals for the form of a program. The others are for its values, and for want of memory
 abbrev pub IsFormCode : Refusal → Type 0

@@ -1,5 +1,5 @@
 -- The numbers that stand for the verdicts of rules (ECSS-E-ST-50-52C, error and status codes), and for faults.
-use Rattle.std.specs.Prelude.{ℕ}
+use Rattle.std.specs.Prelude.{ℕ, ◌==◌, if◌then◌else◌, Option, Some, None}
 use Rattle.policy.specs.declared.rules.Ruling.{Ruling}
 use Rattle.policy.specs.declared.rules.Ruling.TheVariants.{Yes, Key, No, Address}
 use Rattle.policy.specs.declared.faults.PolicyFault.{PolicyFault}
@@ -19,3 +19,13 @@ policy_fault_code BadRange = 2
 policy_fault_code Memory = 3
 policy_fault_code NoCell = 4
 policy_fault_code BadLine = 5
+
+-- the fault of a number, if it is the number of one
+abbrev pub policy_fault_of_code : ℕ → Option PolicyFault
+policy_fault_of_code code =
+    if code == 1 then Some TooLong
+    else (if code == 2 then Some BadRange
+    else (if code == 3 then Some Memory
+    else (if code == 4 then Some NoCell
+    else (if code == 5 then Some BadLine
+    else None))))

@@ -1,11 +1,33 @@
 //! Why a policy table is refused.
 
-ghost use Rattle.std.specs.Prelude.{◌≡◌};
-ghost use Rattle.policy.specs.Codes.{policy_fault_code};
+ghost use Rattle.std.specs.Prelude.{◌≡◌, Some, IfSome};
+ghost use Rattle.policy.specs.Codes.{policy_fault_code, policy_fault_of_code};
 ghost use Rattle.policy.specs.declared.faults.PolicyFault.TheVariants.{Memory};
 
 use std::alloc::AllocError;
 use thiserror::Error;
+
+const TOO_LONG: &str = "\
+A table has at most 12 rules: the program of more would not fit into an image.
+Join rules that differ in their range alone, or write the program by hand.";
+
+const BAD_RANGE: &str = "\
+In a rule LOW is above HIGH, so it would hold of no address.
+Put the lower address first.";
+
+const MEMORY: &str = "\
+The process was refused memory while the table was read or compiled.
+Give the process more memory.";
+
+const NO_CELL: &str = "\
+A quota `MAP:CELL:LIMIT` names a map that is not in `--maps`, which count from 0, or a cell that it does not
+have.
+Give the maps that the node has by `--maps`, and count cells from 0.";
+
+const BAD_LINE: &str = "\
+A line is `KIND KEY INITIATOR EXTENDED LOW HIGH QUOTA VERDICT`, with a space between two words, and there are no
+empty lines and no comments.
+Compare the line with the table in docs/POLICIES.md.";
 
 /// Why a policy table is refused.
 #[derive(Clone, Copy, Debug, PartialEq, Eq, Error)]
@@ -30,7 +52,8 @@ pub enum PolicyFault {
 impl PolicyFault {
     /// The number of the fault, 1 to 5 in the order of the variants.
     pub fn code(self) -> u8
-        ensures { result ≡ policy_fault_code self }
+        ensures value { result ≡ policy_fault_code self }
+        ensures back { policy_fault_of_code result ≡ Some self }
     {
         match self {
             PolicyFault::TooLong => 1,
@@ -38,6 +61,32 @@ impl PolicyFault {
             PolicyFault::Memory => 3,
             PolicyFault::NoCell => 4,
             PolicyFault::BadLine => 5,
+        }
+    }
+
+    /// The fault of a number, as [`PolicyFault::code`] gives it. `None` where no fault has it.
+    pub fn from_code(code: u8) -> Option<PolicyFault>
+        ensures value { result ≡ policy_fault_of_code code }
+        ensures number { IfSome result (λ fault. policy_fault_code fault ≡ code) }
+    {
+        match code {
+            1 => Some(PolicyFault::TooLong),
+            2 => Some(PolicyFault::BadRange),
+            3 => Some(PolicyFault::Memory),
+            4 => Some(PolicyFault::NoCell),
+            5 => Some(PolicyFault::BadLine),
+            _ => None,
+        }
+    }
+
+    /// What to say of the fault beside its name: when it comes, and what to do, in lines of at most 113 columns.
+    pub fn advice(self) -> &'static str {
+        match self {
+            PolicyFault::TooLong => TOO_LONG,
+            PolicyFault::BadRange => BAD_RANGE,
+            PolicyFault::Memory => MEMORY,
+            PolicyFault::NoCell => NO_CELL,
+            PolicyFault::BadLine => BAD_LINE,
         }
     }
 }

@@ -1,9 +1,25 @@
 //! Why a packet is no command.
 
-ghost use Rattle.std.specs.Prelude.{◌≡◌};
-ghost use Rattle.rmap.specs.Codes.{discard_code};
+ghost use Rattle.std.specs.Prelude.{◌≡◌, Some, IfSome};
+ghost use Rattle.rmap.specs.Codes.{discard_code, discard_of_code};
 
 use thiserror::Error;
+
+const SHORT: &str = "\
+The packet ends before its header does: 16 bytes without a reply address, and 4 more for each 4 bytes of one.
+Look at the two lowest bits of the instruction, which tell how long the reply address is.";
+
+const PROTOCOL: &str = "\
+The second byte is the protocol identifier, and 01 is that of RMAP. Packets of other protocols are for others.
+Put 01 behind the target's logical address.";
+
+const REPLY: &str = "\
+Bit 6 of the instruction is clear, and so the packet is a reply. Bit 7 is reserved.
+Set bit 6: a write is 60, a read 40, with the bits for verify, reply and increment added.";
+
+const HEADER_CRC: &str = "\
+The last byte of the header is its CRC, over all bytes of the header before it but the path to the target.
+Compute it anew after every change of the header.";
 
 /// Why a packet is discarded without a reply (ECSS-E-ST-50-52C, error and status codes: packets that
 /// are no RMAP command with a right header are not answered).
@@ -26,13 +42,38 @@ pub enum Discard {
 impl Discard {
     /// The number by which outputs name the reason, 1 to 4 in the order of the variants.
     pub fn code(self) -> u8
-        ensures { result ≡ discard_code self }
+        ensures value { result ≡ discard_code self }
+        ensures back { discard_of_code result ≡ Some self }
     {
         match self {
             Discard::Short => 1,
             Discard::Protocol => 2,
             Discard::Reply => 3,
             Discard::HeaderCrc => 4,
+        }
+    }
+
+    /// The reason of a number, as [`Discard::code`] gives it. `None` where no reason has it.
+    pub fn from_code(code: u8) -> Option<Discard>
+        ensures value { result ≡ discard_of_code code }
+        ensures number { IfSome result (λ reason. discard_code reason ≡ code) }
+    {
+        match code {
+            1 => Some(Discard::Short),
+            2 => Some(Discard::Protocol),
+            3 => Some(Discard::Reply),
+            4 => Some(Discard::HeaderCrc),
+            _ => None,
+        }
+    }
+
+    /// What to say of the reason beside its name: when it comes, and what to do, in lines of at most 113 columns.
+    pub fn advice(self) -> &'static str {
+        match self {
+            Discard::Short => SHORT,
+            Discard::Protocol => PROTOCOL,
+            Discard::Reply => REPLY,
+            Discard::HeaderCrc => HEADER_CRC,
         }
     }
 }

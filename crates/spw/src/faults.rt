@@ -1,12 +1,33 @@
 //! Why a packet line was refused.
 
-ghost use Rattle.std.specs.Prelude.{◌≡◌};
-ghost use Rattle.spw.specs.Fault.{line_fault_code, fault_of_hex};
+ghost use Rattle.std.specs.Prelude.{◌≡◌, Some, IfSome};
+ghost use Rattle.spw.specs.Fault.{line_fault_code, fault_of_hex, line_fault_of_code};
 ghost use Rattle.spw.specs.declared.faults.LineFault.TheVariants.{Memory};
 
 use hex::FromHexError;
 use std::alloc::AllocError;
 use thiserror::Error;
+
+const NO_PORT: &str = "\
+A line begins with the number of its port, 0 to 31 in decimal digits, without a sign.
+Put the port before the bytes, with a space behind it.";
+
+const BAD_HEX: &str = "\
+Each word between the port and the marker is an even number of hexadecimal digits, two a byte, without `0x`.
+Look for a byte that is written with one digit, or for a sign that is no digit.";
+
+const BAD_MARKER: &str = "\
+A line ends in `EOP`, `EEP` or, where the packet goes on with a later line, `PART`, in capitals. A carriage
+return belongs to the word before it, so lines that end in CR LF have no marker.
+End the line with a marker, and the lines of the file by a line feed alone.";
+
+const TOO_LONG: &str = "\
+A packet has at most 4,200 bytes, also one that comes in pieces.
+Send the data in shorter packets.";
+
+const MEMORY: &str = "\
+The process was refused memory while the line was read.
+Give the process more memory.";
 
 /// Why a packet line was refused. They are tested in the order `NoPort`, `BadMarker`, `BadHex`,
 /// `TooLong`.
@@ -32,7 +53,8 @@ pub enum LineFault {
 impl LineFault {
     /// The number of the fault, 1 to 5, as programs print it.
     pub fn code(self) -> u8
-        ensures { result ≡ line_fault_code self }
+        ensures value { result ≡ line_fault_code self }
+        ensures back { line_fault_of_code result ≡ Some self }
     {
         match self {
             LineFault::NoPort => 1,
@@ -40,6 +62,32 @@ impl LineFault {
             LineFault::BadMarker => 3,
             LineFault::TooLong => 4,
             LineFault::Memory => 5,
+        }
+    }
+
+    /// The fault of a number, as [`LineFault::code`] gives it. `None` where no fault has it.
+    pub fn from_code(code: u8) -> Option<LineFault>
+        ensures value { result ≡ line_fault_of_code code }
+        ensures number { IfSome result (λ fault. line_fault_code fault ≡ code) }
+    {
+        match code {
+            1 => Some(LineFault::NoPort),
+            2 => Some(LineFault::BadHex),
+            3 => Some(LineFault::BadMarker),
+            4 => Some(LineFault::TooLong),
+            5 => Some(LineFault::Memory),
+            _ => None,
+        }
+    }
+
+    /// What to say of the fault beside its name: when it comes, and what to do, in lines of at most 113 columns.
+    pub fn advice(self) -> &'static str {
+        match self {
+            LineFault::NoPort => NO_PORT,
+            LineFault::BadHex => BAD_HEX,
+            LineFault::BadMarker => BAD_MARKER,
+            LineFault::TooLong => TOO_LONG,
+            LineFault::Memory => MEMORY,
         }
     }
 }

@@ -8,22 +8,46 @@ use bpf::ImageFault;
 use bver::{Refusal, Refused};
 use byteorder::{BigEndian, ByteOrder};
 use publish::PublishFault;
+use thiserror::Error;
+
+const CONTROL: &str = "\
+The four bytes of control data are the slot, a zero byte, and the length of the staged image, two bytes of at
+most 16,384, the most significant first.
+Write the zero byte, and the length of the image.";
+
+const SLOT: &str = "\
+There are the slots 0 to 3: of reads, writes and read-modify-writes of banks, and of commands to the boot window.
+Name one of these in the first byte of the control data.";
+
+const MEMORY: &str = "\
+The target was refused memory while the program was published. Nothing was changed.
+Load it again; the staged bytes are still there.";
+
+const GENERATIONS_FULL: &str = "\
+4,294,967,295 programs were published, and generations have no more numbers.
+Start the node anew.";
 
 /// Why a load is refused. It is tested in the order of the variants; the last two come in publishing, for which
 /// memory is taken only while generations are not full.
-#[derive(Clone, Copy, Debug, PartialEq, Eq)]
+#[derive(Clone, Copy, Debug, PartialEq, Eq, Error)]
 pub enum LoadRefusal {
     /// The second byte of the control data is not zero, or the length is over 16,384.
+    #[error("the control data is none of a load")]
     Control,
     /// The slot is over 3.
+    #[error("no such slot")]
     Slot,
     /// The staged bytes spell no image, or memory was refused to the image.
+    #[error("{0}")]
     Image(ImageFault),
     /// The verifier refuses the program, or memory was refused to the verifier.
+    #[error("{0}")]
     Program(Refused),
     /// Memory was refused to publishing.
+    #[error("no memory")]
     Memory,
     /// 4,294,967,295 programs were published.
+    #[error("generations full")]
     GenerationsFull,
 }
 
@@ -42,6 +66,18 @@ impl LoadRefusal {
             LoadRefusal::Program(refused) => refused.number(),
             LoadRefusal::Memory => 65,
             LoadRefusal::GenerationsFull => 67,
+        }
+    }
+
+    /// What to say of the refusal beside its name: when it comes, and what to do, in lines of at most 113 columns.
+    pub fn advice(self) -> &'static str {
+        match self {
+            LoadRefusal::Control => CONTROL,
+            LoadRefusal::Slot => SLOT,
+            LoadRefusal::Image(fault) => fault.advice(),
+            LoadRefusal::Program(refused) => refused.code.advice(),
+            LoadRefusal::Memory => MEMORY,
+            LoadRefusal::GenerationsFull => GENERATIONS_FULL,
         }
     }
 
