@@ -32,6 +32,9 @@ pub record IsRead (old w : WorldValue) (place port : ℕ) (p : PortValue) : Type
   pub below_old : port < length old.ports
   pub read : p ≡ slice_index_or w.ports place p
 
+pub read_at : {old w : WorldValue} {place port : ℕ} {p : PortValue} → w ≡ old → place ≡ port → port < length old.ports → p ≡ slice_index_or w.ports place p → IsRead old w place port p
+read_at is place_is below_old read = record { is = is; place_is = place_is; below_old = below_old; read = read }
+
 pub below : (old w : WorldValue) (place port : ℕ) (p : PortValue) → IsRead old w place port p → port < length w.ports
 below old w place port p is = subst (λ (v : WorldValue). port < length v.ports) (sym is.is) is.below_old
 

@@ -5,19 +5,19 @@ use Rattle.sched.specs.declared.event.Outcome.TheVariants.{Taken}
 use Rattle.sched.specs.Begins.{IsBegun}
 use Rattle.sched.specs.Worlds.{GoesOn}
 use Rattle.sched.specs.contracts.world.World.{the_view}
-use Rattle.sched.proofs.Events.{IsRead, IsBeginAt, begun_goes_on, begun_world, take_busy, take_stops}
+use Rattle.sched.proofs.Events.{IsBeginAt, begun_goes_on, begun_world, read_at, take_busy, take_stops}
 use Rattle.sched.proofs.world.World.take.Goals as goal
 
 pub returns-then-not-is_free-clause-goes_on : goal.returns-then-not-is_free-clause-goes_on
 returns-then-not-is_free-clause-goes_on c =
     let w = the_view c.self.inside in
-    let read : IsRead c.args.self.now w c.from-at.result c.args.port c.index.result.now = record { is = c.self.view_is; place_is = c.from-at.ensures; below_old = c.requires; read = c.index.ensures } in
+    let read = read_at c.self.view_is c.from-at.ensures c.requires c.index.ensures in
     take_busy _ w _ _ _ _ read c.if-not-is_free.ensures
 
 pub returns-in_ok-stopped-in-Err-clause-goes_on : goal.returns-in_ok-stopped-in-Err-clause-goes_on
 returns-in_ok-stopped-in-Err-clause-goes_on c =
     let w = the_view c.self.inside in
-    let read : IsRead c.args.self.now w c.from-at.result c.args.port c.index.result.now = record { is = c.self.view_is; place_is = c.from-at.ensures; below_old = c.requires; read = c.index.ensures } in
+    let read = read_at c.self.view_is c.from-at.ensures c.requires c.index.ensures in
     take_stops _ w _ _ _ _ c.in-Err.stop c.admit.new.reply _ read c.if-not-is_free.ensures c.in-Err.ensures.1 c.in_ok-stopped-in-Err.ensures
 
 pub invariant_of-self : goal.invariant_of-self
@@ -25,8 +25,8 @@ invariant_of-self c =
     let w = the_view c.self.inside in
     let run = c.in_ok-run-in-Ok.run' in
     let begun = subst (λ packet. IsBegun c.args.self.now c.args.port packet run) c.in-Ok.ensures.0.packet c.in_ok-run-in-Ok.ensures in
-    let first : IsRead c.args.self.now w c.from-at.result c.args.port c.index.result.now = record { is = c.self.view_is; place_is = c.from-at.ensures; below_old = c.requires; read = c.index.ensures } in
-    let read : IsRead c.args.self.now w c.from-at.result c.args.port c.index_mut.result.now = record { is = c.self.view_is; place_is = c.from-at.ensures; below_old = c.requires; read = c.index_mut.ensures.value } in
+    let first = read_at c.self.view_is c.from-at.ensures c.requires c.index.ensures in
+    let read = read_at c.self.view_is c.from-at.ensures c.requires c.index_mut.ensures.value in
     let begins : IsBeginAt c.args.self.now w c.from-at.result c.args.port c.args.packet c.index.result.now c.index_mut.result.now c.begin-in-Ok.new.self run = record { first = first; read = read; none = c.if-not-is_free.ensures; begun = begun; written = c.begin-in-Ok.ensures } in
     begun_world _ w _ _ _ _ _ _ run begins c.self.invariant
 
@@ -35,8 +35,8 @@ returns-in_ok-run-in-Ok-clause-goes_on c =
     let w = the_view c.self.inside in
     let run = c.in_ok-run-in-Ok.run' in
     let begun = subst (λ packet. IsBegun c.args.self.now c.args.port packet run) c.in-Ok.ensures.0.packet c.in_ok-run-in-Ok.ensures in
-    let first : IsRead c.args.self.now w c.from-at.result c.args.port c.index.result.now = record { is = c.self.view_is; place_is = c.from-at.ensures; below_old = c.requires; read = c.index.ensures } in
-    let read : IsRead c.args.self.now w c.from-at.result c.args.port c.index_mut.result.now = record { is = c.self.view_is; place_is = c.from-at.ensures; below_old = c.requires; read = c.index_mut.ensures.value } in
+    let first = read_at c.self.view_is c.from-at.ensures c.requires c.index.ensures in
+    let read = read_at c.self.view_is c.from-at.ensures c.requires c.index_mut.ensures.value in
     let begins : IsBeginAt c.args.self.now w c.from-at.result c.args.port c.args.packet c.index.result.now c.index_mut.result.now c.begin-in-Ok.new.self run = record { first = first; read = read; none = c.if-not-is_free.ensures; begun = begun; written = c.begin-in-Ok.ensures } in
     let made = begun_goes_on _ w _ _ _ c.in-Ok.admitted.place _ _ _ run begins c.in-Ok.ensures.0.placed in
     subst (λ generation. GoesOn (Take c.args.port c.args.packet) (Taken generation) c.args.self.now (record w { ports = slice_set w.ports c.from-at.result c.begin-in-Ok.new.self })) (sym c.generation-generation.ensures) made
