@@ -10,7 +10,7 @@ use std::test::Fail;
 use target::NodeConfig;
 use trial::{BASE, bank, image_of_text, sizes};
 
-/// Two ports draw from one cell, in the other order.
+/// Two ports draw from one cell, in the other order; a packet is answered by its header.
 const DRAWS: &str = "\
 take 0 write|taken 0
 take 1 write|taken 0
@@ -18,6 +18,7 @@ ticket 1|told 0
 ticket 0|told 1
 effect 0|done 10 67012C0AFE0000D2
 effect 1|done 0 67012C00FE0000ED
+take 0 unused|answered 2 67011802FE0007000000004C00
 ";
 
 /// A program is published between the Take and the Effect of another port.
@@ -95,7 +96,13 @@ fn came(rt: &impl Abort, alloc: Global, world: &mut World, text: &str) -> Result
 }
 
 /// Compares the steps of a schedule.
-fn steps(rt: &impl Abort, alloc: Global, maps: &str, factory: &str, rows: &str) -> Result<(), Fail> {
+fn steps(
+    rt: &impl Abort,
+    alloc: Global,
+    maps: &str,
+    factory: &str,
+    rows: &str,
+) -> Result<(), Fail> {
     let config = NodeConfig {
         address: 0xFE,
         ports: 2,

@@ -65,7 +65,9 @@ fn seen(alloc: Global, world: &World) -> Result<String, Fail> {
     let staging = world.staging(last).ok_or("the last port")?;
     let staged = hex::encode_upper(alloc, &staging.bytes()[..4])?;
     let loaded = hex::encode_upper(alloc, &staging.load_result())?;
-    Ok(format!(in alloc; "{memory} {entries} {word} {read},{write},{change},{window} {staged} {loaded}")?)
+    Ok(format!(in alloc;
+        "{memory} {entries} {word} {read},{write},{change},{window} {staged} {loaded}"
+    )?)
 }
 
 /// The generation of each slot.
