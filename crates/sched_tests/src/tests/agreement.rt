@@ -11,7 +11,7 @@ use std::test::Fail;
 use target::{BankConfig, NodeConfig};
 use trial::{BASE, image_of_text, sizes};
 
-/// How many kinds of events there are, with the two ports.
+/// How many kinds of events there are, with the two ports: the kind of number k at port p has the number 2 k + p.
 const EVENTS: usize = 8;
 
 /// What happens at a port: a take of the plain write, or a step of what was taken.
@@ -221,8 +221,9 @@ fn list(
     Ok(())
 }
 
-/// Every list of four events, and so every shorter one, which begins some of them.
-fn lists(rt: &impl Abort, alloc: Global, program: Program) -> Result<(), Fail> {
+/// Every list of four events that begins with an event of the kind of that number, below 4, at one of the ports, and so
+/// every shorter one.
+fn lists(rt: &impl Abort, alloc: Global, program: Program, first: u8) -> Result<(), Fail> {
     let config = NodeConfig {
         address: 0xFE,
         ports: 2,
@@ -234,18 +235,51 @@ fn lists(rt: &impl Abort, alloc: Global, program: Program) -> Result<(), Fail> {
         sizes: sizes(alloc, "1")?,
     };
     let factory = image_of_text(alloc, program.text(), 16)?;
-    for number in 0..EVENTS * EVENTS * EVENTS * EVENTS {
-        list(rt, alloc, &config, program, &factory, number)?;
+    for further in 0..EVENTS * EVENTS * EVENTS {
+        for port in 0..2usize {
+            let number = further * EVENTS + usize::from(first) * 2 + port;
+            list(rt, alloc, &config, program, &factory, number)?;
+        }
     }
     Ok(())
 }
 
 #[test]
-fn quotas_look_back(rt: HostRuntime) -> Result<(), Fail> {
-    lists(&rt, rt.alloc(), Program::Quota)
+fn quotas_behind_a_take(rt: HostRuntime) -> Result<(), Fail> {
+    lists(&rt, rt.alloc(), Program::Quota, 0)
 }
 
 #[test]
-fn counts_look_back(rt: HostRuntime) -> Result<(), Fail> {
-    lists(&rt, rt.alloc(), Program::CountsThenDraws)
+fn quotas_behind_a_count(rt: HostRuntime) -> Result<(), Fail> {
+    lists(&rt, rt.alloc(), Program::Quota, 1)
+}
+
+#[test]
+fn quotas_behind_a_ticket(rt: HostRuntime) -> Result<(), Fail> {
+    lists(&rt, rt.alloc(), Program::Quota, 2)
+}
+
+#[test]
+fn quotas_behind_an_effect(rt: HostRuntime) -> Result<(), Fail> {
+    lists(&rt, rt.alloc(), Program::Quota, 3)
+}
+
+#[test]
+fn counts_behind_a_take(rt: HostRuntime) -> Result<(), Fail> {
+    lists(&rt, rt.alloc(), Program::CountsThenDraws, 0)
+}
+
+#[test]
+fn counts_behind_a_count(rt: HostRuntime) -> Result<(), Fail> {
+    lists(&rt, rt.alloc(), Program::CountsThenDraws, 1)
+}
+
+#[test]
+fn counts_behind_a_ticket(rt: HostRuntime) -> Result<(), Fail> {
+    lists(&rt, rt.alloc(), Program::CountsThenDraws, 2)
+}
+
+#[test]
+fn counts_behind_an_effect(rt: HostRuntime) -> Result<(), Fail> {
+    lists(&rt, rt.alloc(), Program::CountsThenDraws, 3)
 }
