@@ -1,6 +1,8 @@
 mod Continuing
 mod FactoryImage
+mod FirstWords
 mod LinesInTurn
 mod MapLists
 mod Matching
+mod Simulating
 mod TextLines

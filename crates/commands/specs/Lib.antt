@@ -5,6 +5,7 @@ pub mod Compiled
 pub mod CommandLine
 pub mod DisJob
 pub mod Disassembled
+pub mod EventLines
 pub mod Feeds
 pub mod Files
 pub mod JobNode
@@ -17,6 +18,8 @@ pub mod Performed
 pub mod PolicyJob
 pub mod Printed
 pub mod Reading
+pub mod SimJob
+pub mod Simulated
 pub mod Statuses
 pub mod Stops
 pub mod Verified

@@ -8,6 +8,7 @@ use crate::asm::{AsmWords, assemble_file};
 use crate::dis::{DisWords, disassemble_file};
 use crate::judge::{JudgeWords, judge_file};
 use crate::policies::{PolicyWords, compile_file};
+use crate::sim::{SimWords, sim_file};
 use crate::stops::{Halt, WriteFault};
 use crate::storage::Files;
 use crate::verify::{VerifyWords, verify_file};
@@ -22,6 +23,8 @@ use std::sync::Wait;
 pub enum Job {
     /// Judges each packet line of a file, and prints what comes of it.
     Judge(JudgeWords),
+    /// Steps through the events of a file, and prints what each comes to.
+    Simulate(SimWords),
     /// Assembles a text, and writes the image.
     Assemble(AsmWords),
     /// Prints the text of a BPF image.
@@ -49,6 +52,7 @@ fn attempt<'a, J: Room, R: Wait, F: Files, W: Write>(
 {
     match job {
         Job::Judge(words) => judge_file::<J, _, _, _>(rt, alloc, opened, words, files, out),
+        Job::Simulate(words) => sim_file(alloc, words, files, out),
         Job::Assemble(words) => {
             assemble_file(alloc, words.text.as_str(), words.image.as_str(), files, out)
         }
