@@ -7,6 +7,7 @@ use commands::{Files, UsageFault, words};
 use conformance::{Folder, perform_in};
 use std::alloc::Global;
 use std::sync::Wait;
+use std::thread::Threads;
 
 /// The files of a case, the part that is read, and what differs.
 #[derive(Drop)]
@@ -51,7 +52,7 @@ impl<'a> Bench<'a> {
     }
 
     /// Takes the next line of the case.
-    pub fn take<R: Wait>(&mut self, rt: &R, line: &'a str) -> Result<()> {
+    pub fn take<R: Threads + Wait + Sync>(&mut self, rt: &R, line: &'a str) -> Result<()> {
         if line.starts_with('#') {
             return Ok(());
         }
@@ -68,7 +69,7 @@ impl<'a> Bench<'a> {
     }
 
     /// Does the part that was read, now that it ends.
-    pub fn end<R: Wait>(&mut self, rt: &R) -> Result<()> {
+    pub fn end<R: Threads + Wait + Sync>(&mut self, rt: &R) -> Result<()> {
         let Some(part) = self.part.take() else {
             return Ok(());
         };
@@ -102,7 +103,7 @@ impl<'a> Bench<'a> {
     }
 
     /// What comes of the words, and the exit status.
-    fn done<R: Wait>(&mut self, rt: &R, line: &str) -> Result<(String, u8)> {
+    fn done<R: Threads + Wait + Sync>(&mut self, rt: &R, line: &str) -> Result<(String, u8)> {
         if let Some(name) = line.strip_prefix("hex ") {
             return Ok((self.digits(name)?, 0));
         }
@@ -118,7 +119,12 @@ impl<'a> Bench<'a> {
     }
 
     /// Does a job, and notes where it differs from what is wanted, unless an earlier one did.
-    fn do_job<R: Wait>(&mut self, rt: &R, line: &str, part: &Part<'_>) -> Result<()> {
+    fn do_job<R: Threads + Wait + Sync>(
+        &mut self,
+        rt: &R,
+        line: &str,
+        part: &Part<'_>,
+    ) -> Result<()> {
         if !part.input.is_empty() {
             self.put("-", &part.input)?;
         }

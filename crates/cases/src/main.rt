@@ -26,6 +26,7 @@ use std::alloc::Global;
 use std::io::{self, Write};
 use std::process::ExitCode;
 use std::sync::Wait;
+use std::thread::Threads;
 use std::{env, fs};
 
 /// How many cases of a file agree, and how many there are.
@@ -36,7 +37,7 @@ struct Tally {
 }
 
 /// What differs in a case of these lines, if something does. What stands before the first case is done before it.
-fn difference<'a, R: Wait>(
+fn difference<'a, R: Threads + Wait + Sync>(
     rt: &R,
     alloc: Global,
     before: &'a str,
@@ -51,7 +52,7 @@ fn difference<'a, R: Wait>(
 }
 
 /// Does the cases of a text; prints those that differ, and how many agree.
-fn compare<R: Wait, W: Write>(
+fn compare<R: Threads + Wait + Sync, W: Write>(
     rt: &R,
     alloc: Global,
     name: &str,

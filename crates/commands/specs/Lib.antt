@@ -1,4 +1,5 @@
 pub mod Arguments
+pub mod Arrivals
 pub mod AsmJob
 pub mod Assembled
 pub mod Compiled
@@ -17,7 +18,10 @@ pub mod Options
 pub mod Performed
 pub mod PolicyJob
 pub mod Printed
+pub mod Queues
 pub mod Reading
+pub mod ServeJob
+pub mod ServedFile
 pub mod SimJob
 pub mod Simulated
 pub mod Statuses

@@ -11,6 +11,7 @@ use basm::AsmFault;
 use bpf::ImageFault;
 use bver::Refused;
 use policy::PolicyFault;
+use ports::ServeFault;
 use sched::WorldFault;
 use spw::LineFault;
 use std::alloc::AllocError;
@@ -46,6 +47,9 @@ pub enum Fault<'a> {
 /// The number of the fault of a line whose port does not exist.
 const NO_SUCH_PORT: u8 = 6;
 
+/// The number of the fault of a packet line whose port has no room for its packet.
+const TOO_MANY: u8 = 7;
+
 impl Fault<'_> {
     /// The fault of the packet line of this number, by what is wrong with it.
     pub fn bad_line(number: usize, fault: LineFault) -> Self
@@ -74,6 +78,16 @@ impl Fault<'_> {
         Fault::BadLine {
             number,
             code: NO_SUCH_PORT,
+        }
+    }
+
+    /// The packet line of this number ends one packet more than its port has room for.
+    pub fn too_many(number: usize) -> Self
+        ensures { result ≡ BadLine number TOO_MANY }
+    {
+        Fault::BadLine {
+            number,
+            code: TOO_MANY,
         }
     }
 }
@@ -115,6 +129,15 @@ impl From<NodeFault> for Fault<'_> {
     ghost from_gives = { λ _ given. given ≡ NoMemory };
 
     fn from(_refused: NodeFault) -> Self {
+        Fault::NoMemory
+    }
+}
+
+/// Memory was refused, or a thread.
+impl From<ServeFault> for Fault<'_> {
+    ghost from_gives = { λ _ given. given ≡ NoMemory };
+
+    fn from(_refused: ServeFault) -> Self {
         Fault::NoMemory
     }
 }

@@ -2,6 +2,7 @@
 #![tactic(auto)]
 
 mod arguments;
+mod arrivals;
 mod asm;
 mod dis;
 mod events;
@@ -14,6 +15,9 @@ mod node;
 mod options;
 mod policies;
 mod programs;
+mod queues;
+mod replies;
+mod serve;
 mod sim;
 mod stops;
 mod storage;
@@ -27,6 +31,7 @@ pub use jobs::{Job, perform};
 pub use judge::JudgeWords;
 pub use options::NodeWords;
 pub use policies::PolicyWords;
+pub use serve::ServeWords;
 pub use sim::SimWords;
 pub use stops::WriteFault;
 pub use storage::{Cannot, Files};

@@ -16,10 +16,10 @@ use std::sync::Wait;
 use target::{BankConfig, Banks, NodeConfig, Pass, Served, banks_and_passes, serve_packet};
 
 /// The logical address of the node.
-const NODE_ADDRESS: u8 = 0xFE;
+pub const NODE_ADDRESS: u8 = 0xFE;
 
 /// The bank of the node: 65,536 bytes, and 1,024 entries of its journal.
-const BANK: BankConfig = BankConfig {
+pub const BANK: BankConfig = BankConfig {
     base: 0xA000_0000,
     size: 0x1_0000,
     room: 1024,
