@@ -6,6 +6,7 @@ use commands::{Files, Job, words};
 use conformance::{Folder, folder_of, perform_in};
 use std::alloc::Global;
 use std::sync::Wait;
+use std::thread::Threads;
 
 /// The name of the file of events.
 const EVENTS: &str = "events";
@@ -46,7 +47,7 @@ fn files_of(alloc: Global, events: &str, image: &str) -> Result<Folder> {
 }
 
 /// Whether `sim` prints of the events of the row what they come to there, and ends with status 0.
-pub fn agrees<R: Wait>(rt: &R, alloc: Global, row: &str) -> Result<bool> {
+pub fn agrees<R: Threads + Wait + Sync>(rt: &R, alloc: Global, row: &str) -> Result<bool> {
     let (maps, row) = row.split_once('\t').context("the maps")?;
     let (ports, row) = row.split_once('\t').context("the ports")?;
     let (image, row) = row.split_once('\t').context("the image")?;

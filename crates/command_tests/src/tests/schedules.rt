@@ -8,6 +8,7 @@ use std::alloc::{AllocError, Global};
 use std::process::Abort;
 use std::sync::Wait;
 use std::test::Fail;
+use std::thread::Threads;
 use trial::Random;
 
 /// A program that lets the first hundred commands pass.
@@ -101,7 +102,7 @@ fn packets(alloc: Global, random: &mut Random) -> Result<(String, String), Fail>
 
 /// The folder of both files, and of the image of the quota.
 fn folder<'a>(
-    rt: &impl Wait,
+    rt: &(impl Threads + Wait + Sync),
     alloc: Global,
     lines: &'a str,
     events: &'a str,
@@ -123,7 +124,7 @@ fn folder<'a>(
 
 /// What the job of these first words prints with these options.
 fn printed<'a>(
-    rt: &impl Wait,
+    rt: &(impl Threads + Wait + Sync),
     alloc: Global,
     folder: &mut Folder,
     first: &[&'a str],
@@ -209,7 +210,7 @@ done 0 67012C00FE00020E
 
 /// What `sim` prints of the events, and the exit status; `None` where memory was refused to the words, to the folder or to
 /// the writer.
-fn tried(rt: &impl Wait, alloc: Global) -> Option<(String, u8)> {
+fn tried(rt: &(impl Threads + Wait + Sync), alloc: Global) -> Option<(String, u8)> {
     let job = words(alloc, &["sim", "events"]).ok()?;
     let mut folder = folder_of(alloc, &[("events", EVENTS.as_bytes())]).ok()?;
     let mut out = Vec::new(alloc);
