@@ -1,4 +1,4 @@
-//! Random programs, with and without loops and questions, and one that asks as often as it may.
+//! Random programs, with and without loops and questions.
 
 mod agreement;
 mod asking;
@@ -6,4 +6,3 @@ mod checks;
 mod generated;
 mod generator;
 mod tables;
-mod waiting;
