@@ -1,5 +1,4 @@
-//! Jobs whose writer fails, jobs to which memory is refused, and schedules beside packets in order.
+//! Jobs whose writer fails, and jobs to which memory is refused.
 
 mod checks;
-mod schedules;
 mod writers;

@@ -2,10 +2,8 @@
 #![tactic(auto)]
 
 mod arguments;
-mod arrivals;
 mod asm;
 mod dis;
-mod events;
 mod faults;
 mod feeds;
 mod host;
@@ -15,10 +13,6 @@ mod node;
 mod options;
 mod policies;
 mod programs;
-mod queues;
-mod replies;
-mod serve;
-mod sim;
 mod stops;
 mod storage;
 mod usage;
@@ -31,8 +25,6 @@ pub use jobs::{Job, perform};
 pub use judge::JudgeWords;
 pub use options::NodeWords;
 pub use policies::PolicyWords;
-pub use serve::ServeWords;
-pub use sim::SimWords;
 pub use stops::WriteFault;
 pub use storage::{Cannot, Files};
 pub use usage::{UsageFault, words};

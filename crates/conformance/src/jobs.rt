@@ -7,10 +7,9 @@ use crate::folder::Folder;
 use commands::{Job, WriteFault, perform};
 use std::alloc::Global;
 use std::sync::Wait;
-use std::thread::Threads;
 
 /// Does a job over the files of a folder, and gives what it printed and the exit status.
-pub fn perform_in<R: Threads + Wait + Sync>(
+pub fn perform_in<R: Wait>(
     rt: &R,
     alloc: Global,
     job: &Job,

@@ -7,4 +7,3 @@ pub mod Laws
 pub mod Compiled
 pub mod Code
 pub mod Meant
-pub mod Matching

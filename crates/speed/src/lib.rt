@@ -5,7 +5,6 @@
 #![tactic(auto)]
 
 mod packets;
-mod schedules;
 
 use bpf::Image;
 use brun::run;

@@ -1,6 +1,0 @@
-mod Numbers
-mod Ends
-mod Beginnings
-mod Deciding
-mod Holding
-mod Counting

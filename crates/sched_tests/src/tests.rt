@@ -1,8 +1,0 @@
-//! What no clause says of schedules.
-
-mod agreement;
-mod checks;
-mod commands;
-mod memory;
-mod schedules;
-mod worlds;
