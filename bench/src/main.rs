@@ -2,6 +2,7 @@
 
 mod images;
 mod packets;
+mod schedule;
 mod speed;
 
 use std::time::{Duration, Instant};
@@ -16,6 +17,9 @@ const READ: [u8; 16] = [
 
 /// The packets of one bank: its journal holds no more.
 const PACKETS: u32 = 65_536;
+
+/// The events of one schedule: a take, a ticket and an effect in turn.
+const EVENTS: u32 = 99_999;
 
 /// The packets of one bank where they are long.
 const LONG_PACKETS: u32 = 8_192;
@@ -76,6 +80,17 @@ fn main() {
         ("read-modify-write of 4 bytes", packets::modify(), PACKETS),
     ] {
         serve(name, &images::yes(), &packet, count);
+    }
+
+    let write = packets::write(16);
+    let whole = rounds(|| timed(|| speed::schedule(&quota, &write, EVENTS)));
+    let made = rounds(|| timed(|| speed::events(&write, EVENTS)));
+    tell("schedule of the quota image", "events", f64::from(EVENTS), less(whole, made));
+    let whole = rounds(|| timed(|| schedule::steps(&quota, &write, EVENTS)));
+    let made = rounds(|| timed(|| schedule::events(&write, EVENTS)));
+    tell("the same in plain Rust", "events", f64::from(EVENTS), less(whole, made));
+    if speed::schedule(&quota, &write, EVENTS) != schedule::steps(&quota, &write, EVENTS) {
+        println!("the two schedules differ");
     }
 }
 

@@ -21,6 +21,14 @@ unsafe extern "C" {
         packet_length: usize,
         count: u32,
     ) -> u64;
+    fn speed_events(packet: *const u8, length: usize, count: u32) -> u64;
+    fn speed_schedule(
+        image: *const u8,
+        image_length: usize,
+        packet: *const u8,
+        packet_length: usize,
+        count: u32,
+    ) -> u64;
 }
 
 pub fn crc(bytes: &[u8], rounds: u32) -> u64 {
@@ -53,6 +61,24 @@ pub fn prepare(packet: &[u8], count: u32) -> u64 {
 pub fn judge(image: &[u8], packet: &[u8], count: u32) -> u64 {
     unsafe {
         speed_judge(
+            image.as_ptr(),
+            image.len(),
+            packet.as_ptr(),
+            packet.len(),
+            count,
+        )
+    }
+}
+
+/// Makes so many events.
+pub fn events(packet: &[u8], count: u32) -> u64 {
+    unsafe { speed_events(packet.as_ptr(), packet.len(), count) }
+}
+
+/// Makes a world, then so many events, and steps through each.
+pub fn schedule(image: &[u8], packet: &[u8], count: u32) -> u64 {
+    unsafe {
+        speed_schedule(
             image.as_ptr(),
             image.len(),
             packet.as_ptr(),

@@ -1,4 +1,4 @@
-//! What is done of a case: its files, and what the first job that differs printed.
+//! What is done of a case or a transcript: its files, and what its jobs print.
 
 use crate::parts::{Head, Part, head_of};
 use crate::spelling::words_of;
@@ -6,7 +6,18 @@ use anyhow::{Result, anyhow};
 use commands::{Files, UsageFault, words};
 use conformance::{Folder, perform_in};
 use std::alloc::Global;
+use std::io::Write;
 use std::sync::Wait;
+use std::thread::Threads;
+
+/// A job that was done: where it stands, what it printed, and its exit status.
+#[derive(Drop)]
+struct Done<'a> {
+    part: Part<'a>,
+    line: &'a str,
+    printed: String,
+    status: u8,
+}
 
 /// The files of a case, the part that is read, and what differs.
 #[derive(Drop)]
@@ -51,7 +62,7 @@ impl<'a> Bench<'a> {
     }
 
     /// Takes the next line of the case.
-    pub fn take<R: Wait>(&mut self, rt: &R, line: &'a str) -> Result<()> {
+    pub fn take<R: Threads + Wait + Sync>(&mut self, rt: &R, line: &'a str) -> Result<()> {
         if line.starts_with('#') {
             return Ok(());
         }
@@ -67,14 +78,80 @@ impl<'a> Bench<'a> {
         }
     }
 
-    /// Does the part that was read, now that it ends.
-    pub fn end<R: Wait>(&mut self, rt: &R) -> Result<()> {
-        let Some(part) = self.part.take() else {
+    /// Does the part that was read, now that it ends; notes a job that differs from what is wanted, unless an earlier
+    /// one did.
+    pub fn end<R: Threads + Wait + Sync>(&mut self, rt: &R) -> Result<()> {
+        match self.ended(rt)? {
+            Some(done) => self.note(&done),
+            None => Ok(()),
+        }
+    }
+
+    /// Takes the next line of a transcript and prints it, but for lines that an earlier run of a job printed. Before the
+    /// line that begins a part the part before it is done.
+    pub fn retell<R: Threads + Wait + Sync, W: Write>(
+        &mut self,
+        rt: &R,
+        line: &'a str,
+        out: &mut W,
+    ) -> Result<()> {
+        if let Some(head) = head_of(line) {
+            self.tell(rt, out)?;
+            self.part = Some(Part::new(self.alloc, head));
+            writeln!(out, "{line}")?;
+            return Ok(());
+        }
+        let Some(part) = &mut self.part else {
+            writeln!(out, "{line}")?;
             return Ok(());
         };
+        if part.is_given(line) {
+            part.take(line)?;
+            writeln!(out, "{line}")?;
+        }
+        Ok(())
+    }
+
+    /// Does the part that was read, now that it ends; prints what its job prints, and its exit status if that is not 0.
+    pub fn tell<R: Threads + Wait + Sync, W: Write>(&mut self, rt: &R, out: &mut W) -> Result<()> {
+        if let Some(
+            Done {
+                printed,
+                status,
+                ..
+            },
+        ) = self.ended(rt)?
+        {
+            write!(out, "{printed}")?;
+            if status != 0 {
+                writeln!(out, "[status {status}]")?;
+            }
+        }
+        Ok(())
+    }
+
+    /// Does the part that was read: the job that it is, if it is no file.
+    fn ended<R: Threads + Wait + Sync>(&mut self, rt: &R) -> Result<Option<Done<'a>>> {
+        let Some(part) = self.part.take() else {
+            return Ok(None);
+        };
         match part.head {
-            Head::File(name) => self.put(name, &part.lines),
-            Head::Job(line) => self.do_job(rt, line, &part),
+            Head::File(name) => {
+                self.put(name, &part.lines)?;
+                Ok(None)
+            }
+            Head::Job(line) => {
+                if !part.input.is_empty() {
+                    self.put("-", &part.input)?;
+                }
+                let (printed, status) = self.done(rt, line)?;
+                Ok(Some(Done {
+                    part,
+                    line,
+                    printed,
+                    status,
+                }))
+            }
         }
     }
 
@@ -102,7 +179,7 @@ impl<'a> Bench<'a> {
     }
 
     /// What comes of the words, and the exit status.
-    fn done<R: Wait>(&mut self, rt: &R, line: &str) -> Result<(String, u8)> {
+    fn done<R: Threads + Wait + Sync>(&mut self, rt: &R, line: &str) -> Result<(String, u8)> {
         if let Some(name) = line.strip_prefix("hex ") {
             return Ok((self.digits(name)?, 0));
         }
@@ -117,14 +194,11 @@ impl<'a> Bench<'a> {
         }
     }
 
-    /// Does a job, and notes where it differs from what is wanted, unless an earlier one did.
-    fn do_job<R: Wait>(&mut self, rt: &R, line: &str, part: &Part<'_>) -> Result<()> {
-        if !part.input.is_empty() {
-            self.put("-", &part.input)?;
-        }
-        let (printed, status) = self.done(rt, line)?;
-        if self.difference.is_none() && !(agrees(&printed, &part.lines) && status == part.status) {
-            let (wanted, wanted_status) = (part.lines.as_str(), part.status);
+    /// Notes where a job differs from what is wanted, unless an earlier one did.
+    fn note(&mut self, done: &Done<'_>) -> Result<()> {
+        let (wanted, wanted_status) = (done.part.lines.as_str(), done.part.status);
+        let (line, printed, status) = (done.line, done.printed.as_str(), done.status);
+        if self.difference.is_none() && !(agrees(printed, wanted) && status == wanted_status) {
             self.difference = Some(format!(in self.alloc;
                 "$ {line}\nwanted:\n{wanted}[{wanted_status}]\ncame:\n{printed}[{status}]"
             )?);

@@ -15,13 +15,29 @@ pub enum Head<'a> {
 
 /// The head of a part that the line begins, if it begins one.
 pub fn head_of(line: &str) -> Option<Head<'_>> {
-    if line == "$" {
+    if line == "$" || line == "$ rmapctl" {
         return Some(Head::Job(""));
     }
-    match line.strip_prefix("-- ") {
-        Some(name) => Some(Head::File(name)),
-        None => line.strip_prefix("$ ").map(|words| Head::Job(words)),
+    if let Some(name) = line.strip_prefix("-- ") {
+        return Some(Head::File(name));
     }
+    let words = line.strip_prefix("$ ")?;
+    match words.strip_prefix("cat ") {
+        Some(name) => Some(Head::File(name)),
+        None => Some(Head::Job(words.strip_prefix("rmapctl ").unwrap_or(words))),
+    }
+}
+
+/// The exit status that a line `[N]` or `[status N]` tells, if it is such a line.
+fn status_of(line: &str) -> Result<Option<u8>> {
+    let Some(status) = line
+        .strip_prefix('[')
+        .and_then(|rest| rest.strip_suffix(']'))
+    else {
+        return Ok(None);
+    };
+    let number = status.strip_prefix("status ").unwrap_or(status);
+    Ok(Some(number.parse::<u8>().context("a status")?))
 }
 
 /// A part of a case.
@@ -64,6 +80,15 @@ impl<'a> Part<'a> {
         push_line(&mut self.lines, line)
     }
 
+    /// Whether a line of the part is given: a line of a file, of standard input, or one that says something. Else it
+    /// tells what a job prints.
+    pub fn is_given(&self, line: &str) -> bool {
+        match self.head {
+            Head::File(_) => true,
+            Head::Job(_) => line.starts_with('>') || line.starts_with('#'),
+        }
+    }
+
     /// Takes the next line of the part.
     pub fn take(&mut self, line: &'a str) -> Result<()> {
         if line.is_empty() {
@@ -77,11 +102,8 @@ impl<'a> Part<'a> {
             }
             return Ok(());
         }
-        if let Some(status) = line
-            .strip_prefix('[')
-            .and_then(|rest| rest.strip_suffix(']'))
-        {
-            self.status = status.parse::<u8>().context("a status")?;
+        if let Some(status) = status_of(line)? {
+            self.status = status;
             return Ok(());
         }
         self.last = Some(line);

@@ -1,9 +1,10 @@
-//! Counter words: seats of one thread, and seats in threads.
+//! Counter words: seats of one thread, seats in threads, and memory that is refused.
 
 ghost use Rattle.std.specs.Prelude.{◌≡◌, ◌+◌, All, vec_len};
 ghost use Rattle.cells.specs.Seats.{IsSeatOf};
 
 mod places;
+mod refusals;
 mod threads;
 
 use brun::Counters;

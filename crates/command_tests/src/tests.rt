@@ -1,4 +1,5 @@
-//! Jobs whose writer fails, and jobs to which memory is refused.
+//! Jobs whose writer fails, jobs to which memory is refused, and schedules beside packets in order.
 
 mod checks;
+mod schedules;
 mod writers;

@@ -1,6 +1,17 @@
+mod Arriving
 mod Continuing
+mod Desking
+mod Ending
 mod FactoryImage
+mod Filling
+mod FirstWords
+mod HexText
 mod LinesInTurn
 mod MapLists
 mod Matching
+mod NotServed
+mod PrintedLines
+mod Rejoining
+mod Simulating
+mod Tables
 mod TextLines

@@ -10,8 +10,10 @@ use Rattle.commands.specs.DisJob.{dis_app, NamesDis}
 use Rattle.commands.specs.VerifyJob.{verify_app, NamesVerify, SpoilsVerify}
 use Rattle.commands.specs.JudgeJob.{judge_app, NamesJudge, SpoilsJudge}
 use Rattle.commands.specs.PolicyJob.{policy_app, NamesPolicy, SpoilsPolicy}
+use Rattle.commands.specs.ServeJob.{serve_app, NamesServe, SpoilsServe}
+use Rattle.commands.specs.SimJob.{sim_app, NamesSim}
 use Rattle.commands.specs.declared.jobs.Job.{Job}
-use Rattle.commands.specs.declared.jobs.Job.TheVariants.{Assemble, Disassemble, Verify, Judge, Policy}
+use Rattle.commands.specs.declared.jobs.Job.TheVariants.{Assemble, Disassemble, Verify, Judge, Policy, Serve, Simulate}
 use Rattle.commands.specs.declared.usage.UsageFault.{UsageFault}
 use Rattle.commands.specs.declared.usage.UsageFault.TheVariants.{Parse, BadOption, Memory}
 
@@ -26,8 +28,8 @@ rmapctl_shape s = record s {
 -- `rmapctl` with its subcommands
 unfoldable pub rmapctl_app : App
 rmapctl_app =
-    with_subcommand (with_subcommand (with_subcommand (with_subcommand (with_subcommand (on_top rmapctl_shape (new_app (codes "rmapctl")))
-    asm_app.top) dis_app.top) verify_app.top) judge_app.top) policy_app.top
+    with_subcommand (with_subcommand (with_subcommand (with_subcommand (with_subcommand (with_subcommand (with_subcommand (on_top rmapctl_shape (new_app (codes "rmapctl")))
+    asm_app.top) dis_app.top) verify_app.top) judge_app.top) policy_app.top) serve_app.top) sim_app.top
 
 -- the subcommand that clap finds in the words, with its matches
 abbrev pub subcommand_in : List Text → Option (Text × List Row)
@@ -41,6 +43,8 @@ Names (Some found) (Disassemble words) = (found.0 ≡ codes "dis") × NamesDis f
 Names (Some found) (Verify words) = (found.0 ≡ codes "verify") × NamesVerify found.1 words
 Names (Some found) (Judge words) = (found.0 ≡ codes "judge") × NamesJudge found.1 words
 Names (Some found) (Policy words) = (found.0 ≡ codes "policy") × NamesPolicy found.1 words
+Names (Some found) (Serve words) = (found.0 ≡ codes "serve") × NamesServe found.1 words
+Names (Some found) (Simulate words) = (found.0 ≡ codes "sim") × NamesSim found.1 words
 
 -- what the user is told of a refusal by clap of this kind
 abbrev pub TellsRefusal : ErrorKind → UsageFault → Type 0
@@ -55,6 +59,8 @@ pub record IsSpoiled (found : Text × List Row) : Type 0 where
   pub verify : found.0 ≡ codes "verify" → SpoilsVerify found.1
   pub judge : found.0 ≡ codes "judge" → SpoilsJudge found.1
   pub policy : found.0 ≡ codes "policy" → SpoilsPolicy found.1
+  pub serve : found.0 ≡ codes "serve" → SpoilsServe found.1
+  pub sim : found.0 ≡ codes "sim" → SpoilsJudge found.1
 
 -- clap found no subcommand, or one without what it needs
 abbrev pub IsIncomplete : Option (Text × List Row) → Type 0

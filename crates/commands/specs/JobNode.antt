@@ -4,9 +4,11 @@ use Rattle.std.specs.List.{range_with_len}
 use base.Stored.{Gv}
 use Rattle.bank.specs.Records.{BankValue}
 use Rattle.bver.specs.Justified.{AcceptedValue}
+use Rattle.machine.specs.Sizes.{Maps}
 use Rattle.spw.specs.Cargo.{Cargo}
 use Rattle.publish.specs.declared.history.Publish.{Publish}
 use Rattle.target.specs.declared.config.BankConfig.{BankConfig}
+use Rattle.target.specs.declared.config.NodeConfig.{NodeConfig}
 use Rattle.target.specs.declared.served.Served.{Served}
 use Rattle.target.specs.Served.{IsAnswered, parts}
 use Rattle.target.specs.Nodes.{bank_of, first_pass, first_programs}
@@ -37,6 +39,13 @@ pub record IsJobNode (s : JobNodeValue) : Type 0 where
 -- logical address FE, and one bank of 65,536 zero bytes at A0000000 with room for 1,024 entries
 abbrev pub own_bank : BankConfig
 own_bank = record { base = 2684354560; size = 65536; room = 1024 }
+
+-- the configuration of the node with so many ports, and counter maps of these sizes
+pub record IsConfig (ports : ℕ) (sizes : Maps) (config : NodeConfig) : Type 0 where
+  pub address : config.address ≡ 254
+  pub ports_are : config.ports ≡ ports
+  pub banks : config.banks.now ≡ own_bank ∷ []
+  pub sizes_are : config.sizes ≡ sizes
 
 -- what each of so many ports has of a fresh node at first, with seats at those cells
 abbrev pub first_passes : (ports : ℕ) → AcceptedValue → (home : Gv) → List PassValue

@@ -1,10 +1,12 @@
 pub mod Arguments
+pub mod Arrivals
 pub mod AsmJob
 pub mod Assembled
 pub mod Compiled
 pub mod CommandLine
 pub mod DisJob
 pub mod Disassembled
+pub mod EventLines
 pub mod Feeds
 pub mod Files
 pub mod JobNode
@@ -16,7 +18,12 @@ pub mod Options
 pub mod Performed
 pub mod PolicyJob
 pub mod Printed
+pub mod Queues
 pub mod Reading
+pub mod ServeJob
+pub mod ServedFile
+pub mod SimJob
+pub mod Simulated
 pub mod Statuses
 pub mod Stops
 pub mod Verified

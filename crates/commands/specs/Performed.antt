@@ -8,10 +8,12 @@ use Rattle.commands.specs.Files.{Reads, Writes}
 use Rattle.commands.specs.Judged.{IsNotJudged, JudgesFile}
 use Rattle.commands.specs.Printed.{fault_line}
 use Rattle.commands.specs.Reading.{IsNoProgram}
+use Rattle.commands.specs.ServedFile.{IsNotServed, ServesFile}
+use Rattle.commands.specs.Simulated.{IsNotSimulated, SimulatesFile}
 use Rattle.commands.specs.Verified.{Verifies}
 use Rattle.commands.specs.declared.faults.Fault.{Fault}
 use Rattle.commands.specs.declared.jobs.Job.{Job}
-use Rattle.commands.specs.declared.jobs.Job.TheVariants.{Assemble, Disassemble, Verify, Judge, Policy}
+use Rattle.commands.specs.declared.jobs.Job.TheVariants.{Assemble, Disassemble, Verify, Judge, Policy, Serve, Simulate}
 
 module _ {S : Type 0} (reads : Reads S) (writes : Writes S) where
   -- the job was done: what it read and wrote led from one state of the files to the other, and
@@ -24,8 +26,10 @@ module _ {S : Type 0} (reads : Reads S) (writes : Writes S) where
   IsDone (Verify words) before after old new = Verifies reads before (string_bytes words.image) words.sizes after old new
   IsDone (Policy words) before after old new =
       CompilesTable reads writes before (string_bytes words.table) (string_bytes words.image) words.sizes after old new
+  IsDone (Serve words) before after old new = ServesFile reads words before after old new
+  IsDone (Simulate words) before after old new = SimulatesFile reads words before after old new
 
-  -- the fault ended the job; only `judge` printed before it
+  -- the fault ended the job; only `judge` and `sim` printed before it
   abbrev pub IsEnded : Job → (before after : S) → (old new : Option (List ℕ)) → Fault → Type 0
   IsEnded (Judge words) before after old new fault = IsNotJudged reads words before after old new fault
   IsEnded (Assemble words) before after old new fault =
@@ -36,6 +40,8 @@ module _ {S : Type 0} (reads : Reads S) (writes : Writes S) where
       IsNoProgram reads before (string_bytes words.image) after fault × (new ≡ old)
   IsEnded (Policy words) before after old new fault =
       IsNotCompiled reads writes before (string_bytes words.table) (string_bytes words.image) words.sizes after fault × (new ≡ old)
+  IsEnded (Serve words) before after old new fault = IsNotServed reads words before after fault × (new ≡ old)
+  IsEnded (Simulate words) before after old new fault = IsNotSimulated reads words before after old new fault
 
   -- a fault ended the job, and its line was printed after what came before
   pub record TellsFault (job : Job) (before after : S) (old new : Option (List ℕ)) : Type 0 where

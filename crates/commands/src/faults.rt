@@ -4,11 +4,15 @@ ghost use Rattle.std.specs.Prelude.{◌≡◌, Some};
 ghost use Rattle.commands.specs.Printed.{fault_text};
 ghost use Rattle.commands.specs.declared.faults.Fault.TheVariants.{BadImage, BadLine, BadTable, BadText, Unfit, NoMemory};
 ghost use Rattle.spw.specs.Fault.{line_fault_code};
+ghost use Rattle.commands.specs.EventLines.{event_fault_code};
 
+use crate::events::EventFault;
 use basm::AsmFault;
 use bpf::ImageFault;
 use bver::Refused;
 use policy::PolicyFault;
+use ports::ServeFault;
+use sched::WorldFault;
 use spw::LineFault;
 use std::alloc::AllocError;
 use std::fmt;
@@ -31,7 +35,7 @@ pub enum Fault<'a> {
     BadImage(ImageFault),
     /// The verifier refuses an image.
     Unfit(Refused),
-    /// A packet line is bad.
+    /// A packet line or an event line is bad.
     BadLine {
         /// The number of the line, from 1.
         number: usize,
@@ -40,8 +44,11 @@ pub enum Fault<'a> {
     },
 }
 
-/// The number of the fault of a packet line whose port does not exist.
+/// The number of the fault of a line whose port does not exist.
 const NO_SUCH_PORT: u8 = 6;
+
+/// The number of the fault of a packet line whose port has no room for its packet.
+const TOO_MANY: u8 = 7;
 
 impl Fault<'_> {
     /// The fault of the packet line of this number, by what is wrong with it.
@@ -54,13 +61,33 @@ impl Fault<'_> {
         }
     }
 
-    /// The packet line of this number has a port that does not exist.
+    /// The fault of the event line of this number, by what is wrong with it.
+    pub fn bad_event(number: usize, fault: EventFault) -> Self
+        ensures { result ≡ BadLine number (event_fault_code fault) }
+    {
+        Fault::BadLine {
+            number,
+            code: fault.code(),
+        }
+    }
+
+    /// The line of this number has a port that does not exist.
     pub fn no_port(number: usize) -> Self
         ensures { result ≡ BadLine number NO_SUCH_PORT }
     {
         Fault::BadLine {
             number,
             code: NO_SUCH_PORT,
+        }
+    }
+
+    /// The packet line of this number ends one packet more than its port has room for.
+    pub fn too_many(number: usize) -> Self
+        ensures { result ≡ BadLine number TOO_MANY }
+    {
+        Fault::BadLine {
+            number,
+            code: TOO_MANY,
         }
     }
 }
@@ -102,6 +129,25 @@ impl From<NodeFault> for Fault<'_> {
     ghost from_gives = { λ _ given. given ≡ NoMemory };
 
     fn from(_refused: NodeFault) -> Self {
+        Fault::NoMemory
+    }
+}
+
+/// Memory was refused, or a thread.
+impl From<ServeFault> for Fault<'_> {
+    ghost from_gives = { λ _ given. given ≡ NoMemory };
+
+    fn from(_refused: ServeFault) -> Self {
+        Fault::NoMemory
+    }
+}
+
+/// Memory was refused; the other faults of a world are none of a node and a program that [`words`](crate::words) and the
+/// verifier let pass.
+impl From<WorldFault> for Fault<'_> {
+    ghost from_gives = { λ _ given. given ≡ NoMemory };
+
+    fn from(_refused: WorldFault) -> Self {
         Fault::NoMemory
     }
 }

@@ -8,6 +8,8 @@ use crate::asm::{AsmWords, assemble_file};
 use crate::dis::{DisWords, disassemble_file};
 use crate::judge::{JudgeWords, judge_file};
 use crate::policies::{PolicyWords, compile_file};
+use crate::serve::{ServeWords, serve_file};
+use crate::sim::{SimWords, sim_file};
 use crate::stops::{Halt, WriteFault};
 use crate::storage::Files;
 use crate::verify::{VerifyWords, verify_file};
@@ -16,12 +18,17 @@ use std::alloc::Global;
 use std::io::Write;
 use std::marker::Brand;
 use std::sync::Wait;
+use std::thread::Threads;
 
 /// A job, as a command line names it.
 #[derive(Debug, Drop)]
 pub enum Job {
     /// Judges each packet line of a file, and prints what comes of it.
     Judge(JudgeWords),
+    /// Serves the packet lines of a file on all ports at once, and prints the replies by port.
+    Serve(ServeWords),
+    /// Steps through the events of a file, and prints what each comes to.
+    Simulate(SimWords),
     /// Assembles a text, and writes the image.
     Assemble(AsmWords),
     /// Prints the text of a BPF image.
@@ -33,7 +40,7 @@ pub enum Job {
 }
 
 /// Does a job, up to its end or the fault that ends it, which is still to be printed.
-fn attempt<'a, J: Room, R: Wait, F: Files, W: Write>(
+fn attempt<'a, J: Room + Send + 'static, R: Threads + Wait + Sync, F: Files, W: Write>(
     rt: &R,
     alloc: Global,
     opened: Opened,
@@ -49,6 +56,8 @@ fn attempt<'a, J: Room, R: Wait, F: Files, W: Write>(
 {
     match job {
         Job::Judge(words) => judge_file::<J, _, _, _>(rt, alloc, opened, words, files, out),
+        Job::Serve(words) => serve_file::<J, _, _, _>(rt, alloc, opened, words, files, out),
+        Job::Simulate(words) => sim_file(alloc, words, files, out),
         Job::Assemble(words) => {
             assemble_file(alloc, words.text.as_str(), words.image.as_str(), files, out)
         }
@@ -59,7 +68,7 @@ fn attempt<'a, J: Room, R: Wait, F: Files, W: Write>(
 }
 
 /// Does a job, where a node that it makes has that history of programs.
-fn perform_opened<J: Room, R: Wait, F: Files, W: Write>(
+fn perform_opened<J: Room + Send + 'static, R: Threads + Wait + Sync, F: Files, W: Write>(
     rt: &R,
     alloc: Global,
     opened: Opened,
@@ -82,11 +91,11 @@ fn perform_opened<J: Room, R: Wait, F: Files, W: Write>(
 }
 
 /// Does a job over any files and any writer, and gives the exit status: 1 where an image was
-/// refused or a fault was printed, else 0. What the writer holds back is not flushed. It may wait: `judge` has a
-/// node, whose end does.
+/// refused or a fault was printed, else 0. What the writer holds back is not flushed. It may wait: `judge` and
+/// `serve` have a node, whose end does, and `serve` starts threads and waits for them.
 ///
 /// `WriteFault` where the writer failed; nothing is written after that.
-pub fn perform<R: Wait, F: Files, W: Write>(
+pub fn perform<R: Threads + Wait + Sync, F: Files, W: Write>(
     rt: &R,
     alloc: Global,
     job: &Job,

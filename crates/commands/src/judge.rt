@@ -97,7 +97,7 @@ fn factory_program<'a>(alloc: Global, sizes: MapSizes) -> Result<Accepted, Fault
 }
 
 /// The program of the image file of this name, or the factory program where there is no name.
-fn judging_program<'a, F: Files>(
+pub fn judging_program<'a, F: Files>(
     alloc: Global,
     files: &mut F,
     image: Option<&'a str>,
@@ -208,7 +208,7 @@ fn judge_lines<'a, J: Room, R: Wait + Drop, W: Write>(
 }
 
 /// A text that is not empty without the line feed that ends its last line, which it may lack.
-fn without_last_feed(text: &str) -> &str
+pub fn without_last_feed(text: &str) -> &str
     requires { text.now ≢ [] }
     ensures { pieces_of result.now ≡ lines_of text.now }
 {

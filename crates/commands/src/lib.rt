@@ -2,8 +2,10 @@
 #![tactic(auto)]
 
 mod arguments;
+mod arrivals;
 mod asm;
 mod dis;
+mod events;
 mod faults;
 mod feeds;
 mod host;
@@ -13,6 +15,10 @@ mod node;
 mod options;
 mod policies;
 mod programs;
+mod queues;
+mod replies;
+mod serve;
+mod sim;
 mod stops;
 mod storage;
 mod usage;
@@ -25,6 +31,8 @@ pub use jobs::{Job, perform};
 pub use judge::JudgeWords;
 pub use options::NodeWords;
 pub use policies::PolicyWords;
+pub use serve::ServeWords;
+pub use sim::SimWords;
 pub use stops::WriteFault;
 pub use storage::{Cannot, Files};
 pub use usage::{UsageFault, words};

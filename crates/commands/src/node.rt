@@ -1,12 +1,12 @@
 //! The node that the jobs run.
 
 ghost use Rattle.std.specs.Prelude.{◌≡◌, ◌<◌, IfErr, IfOk, length};
-ghost use Rattle.commands.specs.JobNode.{IsFresh, RefusesLine, Serves, TakesLine};
+ghost use Rattle.commands.specs.JobNode.{IsConfig, IsFresh, RefusesLine, Serves, TakesLine};
 ghost use Rattle.commands.specs.declared.faults.Fault.TheVariants.{NoMemory};
 
 use crate::faults::Fault;
 use crate::feeds::{FeedFault, Feeds};
-use bver::Accepted;
+use bver::{Accepted, MapSizes};
 use publish::{Opened, Publisher, Room};
 use rmap::ReplyBuf;
 use spw::Packet;
@@ -16,14 +16,26 @@ use std::sync::Wait;
 use target::{BankConfig, Banks, NodeConfig, Pass, Served, banks_and_passes, serve_packet};
 
 /// The logical address of the node.
-const NODE_ADDRESS: u8 = 0xFE;
+pub const NODE_ADDRESS: u8 = 0xFE;
 
 /// The bank of the node: 65,536 bytes, and 1,024 entries of its journal.
-const BANK: BankConfig = BankConfig {
+pub const BANK: BankConfig = BankConfig {
     base: 0xA000_0000,
     size: 0x1_0000,
     room: 1024,
 };
+
+/// The configuration of the node of the jobs, with so many ports and with counter maps of these sizes.
+pub fn node_config(ports: u8, sizes: MapSizes) -> NodeConfig<'static>
+    ensures { IsConfig ports sizes result }
+{
+    NodeConfig {
+        address: NODE_ADDRESS,
+        ports,
+        banks: &[BANK],
+        sizes,
+    }
+}
 
 /// A node of one bank and some ports, each with what it holds of a packet that has not ended, and with room for
 /// one reply. Its end waits for readers.
@@ -59,12 +71,7 @@ impl<J: Room, R: Wait + Drop> JobNode<J, R> {
         ensures made { IfOk result (IsFresh ports program) }
         ensures refused { IfErr result (λ fault. fault ≡ NoMemory) }
     {
-        let config = NodeConfig {
-            address: NODE_ADDRESS,
-            ports,
-            banks: &[BANK],
-            sizes: program.sizes(),
-        };
+        let config = node_config(ports, program.sizes());
         let feeds = Feeds::new(alloc, ports)?;
         let (banks, _cells, publisher, passes) = banks_and_passes(
             alloc, rt, opened, &config, program,

@@ -5,6 +5,7 @@ ghost use Rattle.commands.specs.declared.faults.Fault.TheVariants.{NoMemory};
 ghost use Rattle.commands.specs.declared.stops.Halt.TheVariants.{Ended, Unwritten};
 
 use crate::faults::Fault;
+use sched::WorldFault;
 use std::alloc::AllocError;
 use std::io;
 
@@ -32,6 +33,14 @@ impl<'a> From<Fault<'a>> for Halt<'a> {
 
     fn from(fault: Fault<'a>) -> Self {
         Halt::Ended(fault)
+    }
+}
+
+impl From<WorldFault> for Halt<'_> {
+    ghost from_gives = { λ _ stop. stop ≡ Ended NoMemory };
+
+    fn from(_refused: WorldFault) -> Self {
+        Halt::Ended(Fault::NoMemory)
     }
 }
 

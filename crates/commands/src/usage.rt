@@ -13,6 +13,8 @@ use crate::dis::{dis_command, dis_job};
 use crate::jobs::Job;
 use crate::judge::{judge_command, judge_job};
 use crate::policies::{policy_command, policy_job};
+use crate::serve::{serve_command, serve_job};
+use crate::sim::{sim_command, sim_job};
 use crate::verify::{verify_command, verify_job};
 use clap::error::ErrorKind;
 use clap::{ArgMatches, Command, Error};
@@ -70,6 +72,8 @@ fn command_line<'a>(alloc: Global) -> Result<Command<'a>, AllocError>
     let verify = verify_command(alloc)?;
     let judge = judge_command(alloc)?;
     let policy = policy_command(alloc)?;
+    let serve = serve_command(alloc)?;
+    let sim = sim_command(alloc)?;
     let rmapctl = Command::new(alloc, "rmapctl").bin_name("rmapctl")?;
     rmapctl
         .about("An RMAP target whose commands are judged by BPF programs")
@@ -80,7 +84,9 @@ fn command_line<'a>(alloc: Global) -> Result<Command<'a>, AllocError>
         .subcommand(dis)?
         .subcommand(verify)?
         .subcommand(judge)?
-        .subcommand(policy)
+        .subcommand(policy)?
+        .subcommand(serve)?
+        .subcommand(sim)
 }
 
 /// What the user is told of words that `clap` refuses.
@@ -113,8 +119,14 @@ fn job_of(alloc: Global, found: &ArgMatches) -> Result<Job, UsageFault>
     if let Some(judge) = found.subcommand_matches("judge") {
         return Ok(Job::Judge(judge_job(alloc, judge)?));
     }
-    match found.subcommand_matches("policy") {
-        Some(policy) => Ok(Job::Policy(policy_job(alloc, policy)?)),
+    if let Some(policy) = found.subcommand_matches("policy") {
+        return Ok(Job::Policy(policy_job(alloc, policy)?));
+    }
+    if let Some(serve) = found.subcommand_matches("serve") {
+        return Ok(Job::Serve(serve_job(alloc, serve)?));
+    }
+    match found.subcommand_matches("sim") {
+        Some(sim) => Ok(Job::Simulate(sim_job(alloc, sim)?)),
         None => Err(UsageFault::BadOption),
     }
 }

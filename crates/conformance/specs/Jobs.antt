@@ -3,7 +3,7 @@ use Rattle.std.specs.Prelude.{◌≡◌, ℕ, zero, suc, List, Some, string_byte
 use Rattle.bpf.specs.Program.{Program, image_bytes}
 use Rattle.basm.specs.Relation.{IsText}
 use Rattle.commands.specs.declared.jobs.Job.{Job}
-use Rattle.commands.specs.declared.jobs.Job.TheVariants.{Assemble, Disassemble, Verify, Judge, Policy}
+use Rattle.commands.specs.declared.jobs.Job.TheVariants.{Assemble, Disassemble, Verify, Judge, Policy, Serve, Simulate}
 use Rattle.machine.specs.Sizes.{Maps}
 use Rattle.policy.specs.Compiled.{IsCompiled}
 use Rattle.policy.specs.Lines.{IsTable}
@@ -40,3 +40,5 @@ Leaves (Judge words) before after status = after ≡ before
 Leaves (Policy words) before after zero =
     CompilesIn before (string_bytes words.table) (string_bytes words.image) words.sizes after
 Leaves (Policy words) before after (suc n) = after ≡ before
+Leaves (Simulate words) before after status = after ≡ before
+Leaves (Serve words) before after status = after ≡ before

@@ -7,9 +7,10 @@ use crate::folder::Folder;
 use commands::{Job, WriteFault, perform};
 use std::alloc::Global;
 use std::sync::Wait;
+use std::thread::Threads;
 
 /// Does a job over the files of a folder, and gives what it printed and the exit status.
-pub fn perform_in<R: Wait>(
+pub fn perform_in<R: Threads + Wait + Sync>(
     rt: &R,
     alloc: Global,
     job: &Job,

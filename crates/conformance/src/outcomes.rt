@@ -6,6 +6,7 @@ use commands::{Cannot, Files, words};
 use std::alloc::Global;
 use std::sync::Wait;
 use std::test::Fail;
+use std::thread::Threads;
 
 /// A folder of these files.
 pub fn folder_of(alloc: Global, files: &[(&str, &[u8])]) -> Result<Folder, Cannot> {
@@ -17,7 +18,11 @@ pub fn folder_of(alloc: Global, files: &[(&str, &[u8])]) -> Result<Folder, Canno
 }
 
 /// What `judge` prints of these lines by the factory program, and the exit status.
-pub fn judged(rt: &impl Wait, alloc: Global, lines: &str) -> Result<(String, u8), Fail> {
+pub fn judged<R: Threads + Wait + Sync>(
+    rt: &R,
+    alloc: Global,
+    lines: &str,
+) -> Result<(String, u8), Fail> {
     let job = words(alloc, &["judge", "lines"])?;
     let files = [("lines", lines.as_bytes())];
     let mut folder = folder_of(alloc, &files).map_err(|_| "no folder")?;

@@ -12,6 +12,7 @@ use std::alloc::{AllocError, Global};
 use std::io::{self, Write};
 use std::rt;
 use std::sync::Wait;
+use std::thread::Threads;
 
 /// The programs that ask no counters. NAME.bpf is the text of one.
 const PROGRAMS: [&str; 4] = [
@@ -73,7 +74,7 @@ fn jobs(alloc: Global, made: Job, name: &str, node: &Node<'_>) -> Result<[Job; 3
 }
 
 /// Does the jobs of one image, which is made by the first, below a line with its name.
-fn show<R: rt::Files + Input + Wait, W: Write>(
+fn show<R: rt::Files + Input + Threads + Wait + Sync, W: Write>(
     rt: &R,
     alloc: Global,
     made: Job,

@@ -7,3 +7,4 @@ pub mod Laws
 pub mod Compiled
 pub mod Code
 pub mod Meant
+pub mod Matching

@@ -1,8 +1,9 @@
-//! Published programs: some call of each, and readers beside loads.
+//! Published programs: some call of each, readers beside loads, and memory that is refused.
 
 ghost use Rattle.std.specs.Prelude.{◌≡◌, IfSome};
 
 mod loads;
+mod refusals;
 mod staging;
 mod takes;
 

@@ -8,6 +8,7 @@ use std::io::{BufWriter, Write};
 use std::process::ExitCode;
 use std::rt::{self, Env};
 use std::sync::Wait;
+use std::thread::Threads;
 use std::{env, io};
 
 /// What the program does where its command line has no word: it judges standard input.
@@ -17,7 +18,7 @@ const WITHOUT_WORDS: [&str; 2] = ["judge", "-"];
 const FAILED: u8 = 1;
 
 /// Does a job over this machine's files and standard output, and gives the exit status.
-fn do_job<R: rt::Files + Input + Print + Wait>(
+fn do_job<R: rt::Files + Input + Print + Threads + Wait + Sync>(
     rt: &R,
     alloc: Global,
     job: &Job,

@@ -6,6 +6,7 @@ use Rattle.rmap.specs.declared.places.Place.TheVariants as places
 use Rattle.rmap.specs.declared.status.Status.{Status}
 use Rattle.rmap.specs.Command.{CommandValue, command_of}
 use Rattle.rmap.specs.Reply.{reply_of}
+use Rattle.machine.specs.Memory.{IsHeader}
 use Rattle.machine.specs.Runs.{IsSafe}
 use Rattle.bver.specs.Justified.{IsJustified}
 use Rattle.brun.specs.declared.turns.Turn.TheVariants as turns
@@ -22,7 +23,7 @@ use Rattle.sched.specs.declared.event.Outcome.TheVariants.{Refused, Discarded, A
 use Rattle.sched.specs.History.{History, Start, Then, Open, port_of, opened}
 use Rattle.sched.specs.Lawful.{IsLawful, IsLoaded, bank_answer, staging_answer, effect_at_place}
 use Rattle.sched.specs.Looking.{Node, place_in, slot_in, header_in, staging, publishes, published, program_of, turn_of, memory}
-use Rattle.sched.specs.Turns.{HasEnded}
+use Rattle.sched.specs.Turns.{AreWords, HasEnded}
 
 -- ---- premises
 
@@ -164,9 +165,9 @@ EndsBy n h port o verdict (Publish at_port) outcome =
 
 -- A command that is done was taken once and is done once: behind its Take none of its port was taken and none done, and all
 -- that were done there before were done before that Take. It was judged by the program that was published in its slot when
--- it was taken, whose generation was told then. That program is justified, so it is safe, and its run on the answers that
--- it was told ended with the verdict, within its budget. Outcome, memories, stagings and programs are what the definition
--- gives for that verdict.
+-- it was taken, whose generation was told then. That program is justified, so it is safe; what it saw is a header, what it
+-- was told are words, and its run on them ended with the verdict, within its budget. Outcome, memories, stagings and
+-- programs are what the definition gives for that verdict.
 pub record IsJudgedOnce (n : Node) (h : History) (event : Event) (outcome : Outcome) : Type 0 where
   pub there : port_of event < n.ports
   pub taken : Open
@@ -176,6 +177,8 @@ pub record IsJudgedOnce (n : Node) (h : History) (event : Event) (outcome : Outc
   pub judged_by : published n taken.before (slot_in n taken.packet) ≡ (program_of n taken, taken.generation)
   pub justified : IsJustified (program_of n taken) n.sizes
   pub safe : IsSafe (program_of n taken) n.sizes
+  pub header : IsHeader (header_in taken.packet)
+  pub words : AreWords taken.answers
   pub verdict : ℕ
   pub stands : turn_of n (port_of event) taken ≡ Some (turns.Verdict verdict)
   pub run : HasEnded (program_of n taken) (header_in taken.packet) (port_of event) taken.answers verdict

@@ -5,6 +5,7 @@
 #![tactic(auto)]
 
 mod packets;
+mod schedules;
 
 use bpf::Image;
 use brun::run;

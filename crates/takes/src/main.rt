@@ -1,15 +1,17 @@
-//! `takes`: how often a second programs are taken and published, packets are served through a pass, and put into the
-//! queue of a port and taken from it. Without an argument it does few rounds and prints what was done; with a number
+//! `takes`: how often a second programs are taken and published, packets are served through a pass, put into the
+//! queue of a port and taken from it, and served at ports that run at once. Without an argument it does few rounds and prints what was done; with a number
 //! of rounds it prints the rates too.
 #![tactic(auto)]
 
 mod packets;
 mod queues;
+mod serves;
 
 ghost use Rattle.std.specs.Prelude.{◌≡◌, IfSome};
 
 use crate::packets::Port;
 use crate::queues::put_and_take;
+use crate::serves::serve_writes;
 use anyhow::{Context, Result};
 use bpf::Image;
 use bver::{Accepted, MapSizes, verify};
@@ -190,6 +192,64 @@ fn measure_queue<R: Wait + Clock + Print>(
     )
 }
 
+/// How often full ports are served where rates are asked for.
+const SERVES: u32 = 50;
+
+/// Serves so many full ports, which have a bank each or one for all, as often as asked, and prints how many writes were
+/// done, or how many a second.
+fn measure_ports<R: Threads + Wait + Clock + Print + Sync>(
+    rt: &R,
+    alloc: Global,
+    ports: u8,
+    has_one_bank: bool,
+    is_timed: bool,
+) -> Result<()> {
+    let mut done = 0u64;
+    let mut nanos = 1u128;
+    for _ in 0..if is_timed { SERVES } else { 1 } {
+        let factory = yes(alloc, &MapSizes::new(&[])?).context("the program")?;
+        let opened = Opened::new();
+        let (writes, took) = serve_writes::<Brand, _>(
+            rt,
+            alloc,
+            opened,
+            factory,
+            ports,
+            has_one_bank,
+        )?;
+        done = done.wrapping_add(writes);
+        nanos = nanos.wrapping_add(took);
+    }
+    let banks = if has_one_bank {
+        "one bank"
+    } else {
+        "a bank each"
+    };
+    let what = format!(in alloc; "packets served (ports {ports}, {banks})")?;
+    if is_timed {
+        let rate = u128::from(done) * 1_000_000_000 / nanos.max(1);
+        println!(rt; "{what}: {rate} a second")?;
+    } else {
+        println!(rt; "{what}: {done}")?;
+    }
+    Ok(())
+}
+
+/// Serves one, two and four ports.
+fn measure_serves<R: Threads + Wait + Clock + Print + Sync>(
+    rt: &R,
+    alloc: Global,
+    is_timed: bool,
+) -> Result<()> {
+    for ports in [1, 2, 4] {
+        measure_ports(rt, alloc, ports, false, is_timed)?;
+    }
+    for ports in [2, 4] {
+        measure_ports(rt, alloc, ports, true, is_timed)?;
+    }
+    Ok(())
+}
+
 /// The rounds that the command line asks for, if any.
 fn rounds_given<R: Env + AllocGlobal>(rt: &R) -> Result<Option<u32>> {
     match env::args(rt)?.nth(1) {
@@ -202,5 +262,6 @@ fn main(rt: HostRuntime) -> Result<()> {
     let rounds = rounds_given(&rt)?;
     measure::<Brand, _>(&rt, rt.alloc(), Opened::new(), rounds)?;
     measure_packets::<Brand, _>(&rt, rt.alloc(), Opened::new(), rounds)?;
-    measure_queue(&rt, rt.alloc(), rounds)
+    measure_queue(&rt, rt.alloc(), rounds)?;
+    measure_serves(&rt, rt.alloc(), rounds.is_some())
 }

@@ -1,5 +1,5 @@
-//! Compares instructions, whole texts, programs with loops, programs that ask counters, packets and policy tables with
-//! what independent assemblers, a verifier, an interpreter, a target and a reader of tables make of them.
+//! Compares instructions, whole texts, programs with loops, programs that ask counters, packets, policy tables and
+//! schedules with what independent assemblers, a verifier, an interpreter, a target and a reader of tables make of them.
 //!
 //! Each line of the input has the text of an instruction, a tab and its bytes in hexadecimal. Each line of the
 //! file `texts.txt` has an answer, a tab and the text of a program, whose lines are apart by `|`; the answer is
@@ -10,8 +10,10 @@
 //! what is printed of it on one fresh node by the factory program. Each line of the file `policies.txt` has a policy
 //! table, whose lines are apart by ` / `, map sizes, a header, answers, the draws and the verdict, or a fault. Each line of
 //! the file `pieces.txt` has a number of ports, the packet lines of a file, what `judge` prints of them on a fresh node, both
-//! apart by `/`, and its exit status. A line that begins with `#` says where the others come from. Prints each line at
-//! which this workspace differs, and how many lines agree.
+//! apart by `/`, and its exit status. Each line of the file `schedules.txt` has a name, map sizes, a number of ports, the
+//! text of an image, events at the ports and what each comes to; lines of the text are apart by `;`, the others by `/`, and
+//! `-` stands for no maps and for the factory image. A line that begins with `#` says where the others come from. Prints
+//! each line at which this workspace differs, and how many lines agree.
 #![tactic(auto)]
 
 mod calls;
@@ -19,6 +21,7 @@ mod loops;
 mod packets;
 mod pieces;
 mod policies;
+mod schedules;
 
 use anyhow::{Context, Result};
 use basm::{assemble, disassemble};
@@ -44,6 +47,9 @@ const POLICIES: &str = "policies.txt";
 
 /// The file of files of packets in pieces.
 const PIECES: &str = "pieces.txt";
+
+/// The file of schedules.
+const SCHEDULES: &str = "schedules.txt";
 
 /// Whether the bytes are the instruction's, all of them.
 fn is_spelling(insn: &Insn, bytes: &[u8]) -> bool {
@@ -215,6 +221,12 @@ fn main(rt: HostRuntime) -> Result<()> {
         &fs::read_to_string(&rt, PIECES)?,
         "files of pieces",
         |ports, row| pieces::agrees(&rt, alloc, ports, row),
+        &mut out,
+    )?;
+    compare(
+        &fs::read_to_string(&rt, SCHEDULES)?,
+        "schedules",
+        |_name, row| schedules::agrees(&rt, alloc, row),
         &mut out,
     )?;
     let printed = packets::printed(&rt, rt.alloc())?;

@@ -6,12 +6,16 @@ use commands::{HostFiles, Job, JudgeWords, NodeWords, perform};
 use std::alloc::Global;
 use std::rt;
 use std::sync::Wait;
+use std::thread::Threads;
 
 /// The file of packet lines.
 const PACKETS: &str = "packets.txt";
 
 /// What `judge` prints of the packet lines by the factory program, on a node of two ports without counter maps.
-pub fn printed<R: rt::Files + Input + Wait>(rt: &R, alloc: Global) -> Result<String> {
+pub fn printed<R: rt::Files + Input + Threads + Wait + Sync>(
+    rt: &R,
+    alloc: Global,
+) -> Result<String> {
     let node = NodeWords {
         image: None,
         sizes: MapSizes::new(&[])?,

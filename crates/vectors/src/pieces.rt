@@ -6,6 +6,7 @@ use commands::{Job, JudgeWords, NodeWords};
 use conformance::{folder_of, perform_in};
 use std::alloc::Global;
 use std::sync::Wait;
+use std::thread::Threads;
 
 /// The name of the file of lines.
 const LINES: &str = "lines";
@@ -23,7 +24,12 @@ fn job_of(alloc: Global, ports: u8) -> Result<Job> {
 
 /// What the job prints of the lines, a `/` behind each, and the exit status. The lines are apart by `/`, and `\t`
 /// stands for a tab in them.
-fn printed<R: Wait>(rt: &R, alloc: Global, job: &Job, lines: &str) -> Result<(String, u8)> {
+fn printed<R: Threads + Wait + Sync>(
+    rt: &R,
+    alloc: Global,
+    job: &Job,
+    lines: &str,
+) -> Result<(String, u8)> {
     let text = format!(in alloc; "{lines}/")?
         .replace(alloc, "/", "\n")?
         .replace(alloc, "\\t", "\t")?;
@@ -37,7 +43,12 @@ fn printed<R: Wait>(rt: &R, alloc: Global, job: &Job, lines: &str) -> Result<(St
 
 /// Whether `judge` answers the file of the row, on a node of so many ports, with what the row has printed, and its
 /// exit status.
-pub fn agrees<R: Wait>(rt: &R, alloc: Global, ports: &str, row: &str) -> Result<bool> {
+pub fn agrees<R: Threads + Wait + Sync>(
+    rt: &R,
+    alloc: Global,
+    ports: &str,
+    row: &str,
+) -> Result<bool> {
     let (lines, row) = row.split_once('\t').context("the lines")?;
     let (wanted, status) = row.split_once('\t').context("what is printed")?;
     let job = job_of(alloc, ports.parse::<u8>()?)?;

@@ -9,6 +9,7 @@ use std::io::{self, Write};
 use std::process::Abort;
 use std::sync::Wait;
 use std::test::Fail;
+use std::thread::Threads;
 use trial::{PLAIN_READ, PLAIN_REPLY};
 
 /// A writer that takes some writes, and then fails at each.
@@ -44,7 +45,7 @@ impl Write for Failing {
 
 /// Does the job over this folder with a writer that takes so many writes.
 fn perform_until(
-    rt: &impl Wait,
+    rt: &(impl Threads + Wait + Sync),
     alloc: Global,
     job: &Job,
     folder: &mut Folder,
@@ -87,7 +88,7 @@ fn writers_that_fail_at_each_write(rt: HostRuntime) -> Result<(), Fail> {
 
 /// What `judge` prints of these lines, and the exit status; `None` where memory was refused to the
 /// words, to the folder or to the writer.
-fn tried(rt: &impl Wait, alloc: Global, lines: &str) -> Option<(String, u8)> {
+fn tried(rt: &(impl Threads + Wait + Sync), alloc: Global, lines: &str) -> Option<(String, u8)> {
     let job = words(alloc, &["judge", "lines"]).ok()?;
     let files = [("lines", lines.as_bytes())];
     let mut out = Vec::new(alloc);
@@ -108,7 +109,11 @@ fn is_refused(printed: &str) -> bool {
 
 /// Judges lines whose answer is the plain reply: with memory refused once that, a fault of memory or an error, and
 /// then with ample memory that.
-fn judge_twice(rt: &(impl Wait + Abort), alloc: Global, lines: &str) -> Result<(), Fail> {
+fn judge_twice(
+    rt: &(impl Threads + Wait + Sync + Abort),
+    alloc: Global,
+    lines: &str,
+) -> Result<(), Fail> {
     if let Some((printed, status)) = tried(rt, alloc, lines) {
         let (whole, wanted) = judged(rt, alloc, lines)?;
         if status == wanted {
@@ -151,7 +156,7 @@ const TABLE: &str = "write * * * 00000000 FFFFFFFF 0:0:5 0\n";
 
 /// What `policy` prints of the table, and the exit status; `None` where memory was refused to the job's words, to the
 /// folder or to the writer.
-fn compiled(rt: &impl Wait, alloc: Global) -> Option<(String, u8)> {
+fn compiled(rt: &(impl Threads + Wait + Sync), alloc: Global) -> Option<(String, u8)> {
     let job = Job::Policy(PolicyWords {
         table: String::from_str(alloc, "table").ok()?,
         image: String::from_str(alloc, "image").ok()?,

@@ -32,5 +32,9 @@ returns c =
     ∙ ap₂ with_subcommand with_dis (ap (λ (a : App). a.top) c.in_ok-verify.ensures.shape) in
     let with_judge = c.in_ok-subcommand-4.ensures.shape c.in_ok-judge.ensures.local
     ∙ ap₂ with_subcommand with_verify (ap (λ (a : App). a.top) c.in_ok-judge.ensures.shape) in
-    IfOk-weaker c.subcommand-5.result _ _ (λ m h. h.shape c.in_ok-policy.ensures.local
-    ∙ ap₂ with_subcommand with_judge (ap (λ (a : App). a.top) c.in_ok-policy.ensures.shape)) c.subcommand-5.ensures
+    let with_policy = c.in_ok-subcommand-5.ensures.shape c.in_ok-policy.ensures.local
+    ∙ ap₂ with_subcommand with_judge (ap (λ (a : App). a.top) c.in_ok-policy.ensures.shape) in
+    let with_serve = c.in_ok-subcommand-6.ensures.shape c.in_ok-serve.ensures.local
+    ∙ ap₂ with_subcommand with_policy (ap (λ (a : App). a.top) c.in_ok-serve.ensures.shape) in
+    IfOk-weaker c.subcommand-7.result _ _ (λ m h. h.shape c.in_ok-sim.ensures.local
+    ∙ ap₂ with_subcommand with_serve (ap (λ (a : App). a.top) c.in_ok-sim.ensures.shape)) c.subcommand-7.ensures

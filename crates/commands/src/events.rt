@@ -1,0 +1,109 @@
+//! Event lines: text that writes one step of one port.
+
+ghost use Rattle.std.specs.Prelude.{◌≡◌, ◌∷◌, [], MatchOption, MatchResult};
+ghost use Rattle.spw.specs.Line.{words_of as words_in};
+ghost use Rattle.commands.specs.EventLines.{IsEventLine, IsNoEvent, IsNoLonePort, IsNoTake, IsTakeLine, WritesLonePort, event_fault_code};
+ghost use Rattle.spw.specs.declared.faults.LineFault.TheVariants.{Memory};
+ghost use Rattle.commands.specs.declared.events.EventFault.TheVariants.{Line};
+
+use sched::Event;
+use spw::{LineFault, read_line, read_port, words_of};
+use std::alloc::{AllocError, Global};
+
+/// The number of the fault of a line that is of no event, or has words too many.
+const UNKNOWN: u8 = 6;
+
+/// Why a line writes no event.
+#[derive(Clone, Copy, Debug, PartialEq, Eq)]
+pub enum EventFault {
+    /// The port, or the packet behind it, has this fault; or memory was refused.
+    Line(LineFault),
+    /// The first word is that of no event, there is none, or there are words too many.
+    Unknown,
+}
+
+impl EventFault {
+    /// The number of the fault: that of a packet line, or 6.
+    pub fn code(self) -> u8
+        ensures { result ≡ event_fault_code self }
+    {
+        match self {
+            EventFault::Line(fault) => fault.code(),
+            EventFault::Unknown => UNKNOWN,
+        }
+    }
+}
+
+impl From<LineFault> for EventFault {
+    ghost from_gives = { λ fault given. given ≡ Line fault };
+
+    fn from(fault: LineFault) -> Self {
+        EventFault::Line(fault)
+    }
+}
+
+impl From<AllocError> for EventFault {
+    ghost from_gives = { λ _ given. given ≡ Line Memory };
+
+    fn from(_refused: AllocError) -> Self {
+        EventFault::Line(LineFault::Memory)
+    }
+}
+
+/// The first word of a line, and the text behind it; `None` where the line has no word.
+fn first_word(line: &str) -> Option<(&str, &str)>
+    ensures { MatchOption result (words_in line.now ≡ [])
+        (λ cut. words_in line.now ≡ cut.0.now ∷ words_in cut.1.now) }
+{
+    let text = line.trim_start_matches(' ');
+    if text.is_empty() {
+        return None;
+    }
+    Some(text.split_once(' ').unwrap_or((text, "")))
+}
+
+/// The packet that is taken, by the text behind the word `take`.
+fn taken(alloc: Global, text: &str) -> Result<Event, EventFault>
+    ensures { MatchResult result (IsTakeLine text.now) (IsNoTake text.now) }
+{
+    let (port, packet) = read_line(alloc, text)?;
+    Ok(Event::Take(port, packet))
+}
+
+/// The port that the one word of a text writes.
+fn lone_port(alloc: Global, text: &str) -> Result<u8, EventFault>
+    ensures { MatchResult result (WritesLonePort text.now) (IsNoLonePort text.now) }
+{
+    let words = words_of(alloc, text)?;
+    let [port, more @ ..] = words.as_slice() else {
+        return Err(EventFault::Line(LineFault::NoPort));
+    };
+    let port = read_port(port)?;
+    if more.is_empty() {
+        Ok(port)
+    } else {
+        Err(EventFault::Unknown)
+    }
+}
+
+/// The event that a line writes: `take` and a packet line behind it, or `count`, `ticket`, `effect` or `publish` and a
+/// port behind it. Words are what stands between spaces, as in packet lines.
+///
+/// The faults are tested in this order: `Unknown` where the first word is that of no event, or there is none; the port;
+/// behind `take` the rest of the packet line, as [`read_line`] does; `Unknown` where there are words too many. `Memory`
+/// of a line comes where memory was refused.
+pub fn read_event(alloc: Global, line: &str) -> Result<Event, EventFault>
+    ensures { MatchResult result (IsEventLine line.now) (IsNoEvent line.now) }
+{
+    let Some((word, text)) = first_word(line) else {
+        return Err(EventFault::Unknown);
+    };
+    match word {
+        "take" => taken(alloc, text),
+        "count" => Ok(Event::Count(lone_port(alloc, text)?)),
+        "ticket" => Ok(Event::Ticket(lone_port(alloc, text)?)),
+        "effect" => Ok(Event::Effect(lone_port(alloc, text)?)),
+        "publish" => Ok(Event::Publish(lone_port(alloc, text)?)),
+        _ => Err(EventFault::Unknown),
+    }
+}

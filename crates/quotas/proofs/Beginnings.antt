@@ -1,0 +1,67 @@
+-- Beginnings of a history: of two of one history one begins the other, and tickets only rise.
+use Rattle.std.specs.Prelude.{◌&&◌, ◌==◌, if◌then◌else◌, ◌%◌, ◌^◌}
+use Rattle.std.proofs.Common.{◌≡◌, ◌<◌, ◌≤◌, ◌+◌, ◌⊎◌, ℕ, Bool, true, false, Option, Some, None, refl, sym, ap, ap₂, ◌∙◌, arith, inl, inr}
+use Rattle.std.proofs.lemmas.Bool.{and_from, and_parts, cases_lt, eqb-true}
+use Rattle.sched.specs.declared.event.Event.{Event}
+use Rattle.sched.specs.declared.event.Event.TheVariants.{Take, Count, Ticket, Effect, Publish}
+use Rattle.sched.specs.declared.event.Outcome.{Outcome}
+use Rattle.sched.specs.declared.event.Outcome.TheVariants.{Told}
+use Rattle.sched.specs.Headline.{Begins, whole, longer}
+use Rattle.sched.specs.History.{History, Then, port_of}
+use Rattle.sched.specs.Lawful.{IsLawful, told_on}
+use Rattle.sched.specs.Looking.{Node, cell_asked, draws, is_cell, is_told, tickets, turn_at}
+use Rattle.quotas.specs.Matches.{IsDraw}
+
+pub ordered : {a b h : History} → Begins a h → Begins b h → Begins a b ⊎ Begins b a
+ordered whole y = inr y
+ordered (longer x) whole = inl (longer x)
+ordered (longer x) (longer y) = ordered x y
+
+-- one that begins the other is it, or begins what stands before its last event
+pub same_or_shorter : {a b : History} {event other : Event} {outcome end : Outcome} → Begins (Then a event outcome) (Then b other end) → ((a ≡ b) × (event ≡ other)) ⊎ Begins (Then a event outcome) b
+same_or_shorter whole = inl (refl, refl)
+same_or_shorter (longer x) = inr x
+
+pub lawful_before : (n : Node) {a h : History} → Begins a h → IsLawful n h → IsLawful n a
+lawful_before n whole lawful = lawful
+lawful_before n (longer x) lawful = lawful_before n x lawful.0
+
+no_less : (t : Bool) (k : ℕ) → k ≤ (if t then k + 1 else k)
+no_less true k = omega arith
+no_less false k = omega arith
+
+pub tickets_rise : (n : Node) (map key : ℕ) {a h : History} → Begins a h → tickets n a map key ≤ tickets n h map key
+tickets_rise n map key whole = omega arith
+tickets_rise n map key (longer {h = h} {event = event} {outcome = outcome} x) =
+    let before = tickets_rise n map key x in
+    let last = no_less (is_told outcome && draws (turn_at n h (port_of event)) event map key) (tickets n h map key) in
+    omega (arith, before, last)
+
+pub ticket_counts : (n : Node) (h : History) (event : Event) (outcome : Outcome) (map key answer : ℕ) → IsDraw n h event outcome map key answer
+    → tickets n (Then h event outcome) map key ≡ tickets n h map key + 1
+ticket_counts n h event outcome map key answer draw =
+    let drawn = and_from (is_told outcome) (draws (turn_at n h (port_of event)) event map key) (ap is_told draw.told) draw.asked in
+    ap (λ (t : Bool). if t then tickets n h map key + 1 else tickets n h map key) drawn
+
+-- ---- what a draw is told
+
+told_there : (n : Node) (h : History) (map key : ℕ) (cell : Option (ℕ × ℕ)) → is_cell cell map key ≡ true → told_on n h cell ≡ Told (tickets n h map key % 2 ^ 64)
+told_there n h map key None is = cc
+told_there n h map key (Some cell) is =
+    let parts = and_parts (cell.0 == map) (cell.1 == key) is in
+    ap₂ (λ (m k : ℕ). Told (tickets n h m k % 2 ^ 64)) (eqb-true _ _ parts.0) (eqb-true _ _ parts.1)
+
+told-is : (a b : ℕ) → Told a ≡ Told b → a ≡ b
+told-is a b e = cc
+
+pub told_tickets : (n : Node) (h : History) (event : Event) (outcome : Outcome) (map key answer : ℕ) → IsLawful n (Then h event outcome) → IsDraw n h event outcome map key answer
+    → answer ≡ tickets n h map key % 2 ^ 64
+told_tickets n h (Take port packet) outcome map key answer lawful draw = let no_draw = draw.asked in cc
+told_tickets n h (Count port) outcome map key answer lawful draw = let no_draw = draw.asked in cc
+told_tickets n h (Effect port) outcome map key answer lawful draw = let no_draw = draw.asked in cc
+told_tickets n h (Publish port) outcome map key answer lawful draw = let no_draw = draw.asked in cc
+told_tickets n h (Ticket port) outcome map key answer lawful draw = by (cases_lt port n.ports)
+  where
+    by : (port < n.ports) ⊎ (n.ports ≤ port) → answer ≡ tickets n h map key % 2 ^ 64
+    by (inl there) = told-is _ _ (sym draw.told ∙ lawful.1.here there ∙ told_there n h map key (cell_asked 2 (turn_at n h port)) draw.asked)
+    by (inr nowhere) = let refused = lawful.1.nowhere nowhere in let told = draw.told in cc

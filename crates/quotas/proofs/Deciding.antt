@@ -1,0 +1,66 @@
+-- Decisions that end by the match of a rule with a quota: their last draw is that rule's, and was told less than its limit.
+use Rattle.std.specs.Prelude.{nat_lt, if◌then◌else◌}
+use Rattle.std.proofs.Common.{◌≡◌, ◌<◌, ℕ, suc, Bool, true, false, List, [], ◌∷◌, ◌++◌, Option, Some, None, refl, sym, ap, ◌∙◌, subst}
+use Rattle.std.proofs.lemmas.Bool.{ltb-true}
+use Rattle.machine.specs.declared.calls.Call.{Call}
+use Rattle.machine.specs.Memory.{Header}
+use Rattle.policy.specs.Codes.{ruling_code}
+use Rattle.policy.specs.Matching.{EndsByMatch, matched_by, matching_quota}
+use Rattle.policy.specs.Meaning.{decision, draw, holds, ruled}
+use Rattle.policy.specs.declared.rules.Quota.{Quota}
+use Rattle.policy.specs.declared.rules.Rule.{Rule}
+use Rattle.sched.specs.Turns.{answers_of}
+use Rattle.quotas.proofs.Ends.{answers_behind, snoc_last}
+
+-- the last of the calls is a draw of the quota that was told less than its limit
+pub record EndsInDraw (calls : List Call) (quota : Quota) : Type 0 where
+  pub before : List Call
+  pub answer : ℕ
+  pub is : calls ≡ before ++ draw quota answer ∷ []
+  pub below : answer < quota.limit
+
+some-is : (p q : Quota) → ◌≡◌ {A = Option Quota} (Some p) (Some q) → p ≡ q
+some-is p q e = cc
+
+drawn : (own : Quota) (told : ℕ) → told < own.limit → EndsInDraw (draw own told ∷ []) own
+drawn own told below = record { before = []; answer = told; is = refl; below = below }
+
+by_ticket : (own quota : Quota) (code : ℕ) (told : ℕ → ℕ) (rest : List Call × ℕ) (later : Option Quota) (t : Bool) → nat_lt (told 0) own.limit ≡ t
+    → (later ≡ Some quota → EndsInDraw rest.0 quota) → (if t then Some own else later) ≡ Some quota
+    → EndsInDraw (if◌then◌else◌ {A = List Call × ℕ} t (draw own (told 0) ∷ [], code) (draw own (told 0) ∷ rest.0, rest.1)).0 quota
+by_ticket own quota code told rest later true is others e =
+    subst (λ (q : Quota). EndsInDraw (draw own (told 0) ∷ []) q) (some-is own quota e) (drawn own (told 0) (ltb-true (told 0) own.limit is))
+by_ticket own quota code told rest later false is others e =
+    let l = others e in
+    record { before = draw own (told 0) ∷ l.before; answer = l.answer; is = ap (λ (calls : List Call). draw own (told 0) ∷ calls) l.is; below = l.below }
+
+by_quota : (own : Option Quota) (quota : Quota) (code : ℕ) (told : ℕ → ℕ) (rest : List Call × ℕ) (later : Option Quota)
+    → (later ≡ Some quota → EndsInDraw rest.0 quota) → matched_by own told later ≡ Some quota → EndsInDraw (ruled own code told rest).0 quota
+by_quota None quota code told rest later others e = cc
+by_quota (Some own) quota code told rest later others e = by_ticket own quota code told rest later (nat_lt (told 0) own.limit) refl others e
+
+by_conditions : (t : Bool) (quota : Quota) (mine other : Option Quota) (ours others : List Call × ℕ)
+    → (mine ≡ Some quota → EndsInDraw ours.0 quota) → (other ≡ Some quota → EndsInDraw others.0 quota)
+    → (if t then mine else other) ≡ Some quota → EndsInDraw (if t then ours else others).0 quota
+by_conditions true quota mine other ours others here there e = here e
+by_conditions false quota mine other ours others here there e = there e
+
+pub ends_in_draw : (rules : List Rule) (header : Header) (told : ℕ → ℕ) (quota : Quota) → matching_quota rules header told ≡ Some quota → EndsInDraw (decision rules header told).0 quota
+ends_in_draw [] header told quota e = cc
+ends_in_draw (rule ∷ rules) header told quota e =
+    let code : ℕ = ruling_code rule.ruling in
+    let further : ℕ → ℕ = λ k. told (suc k) in
+    let later : List Call × ℕ = decision rules header further in
+    by_conditions (holds rule header) quota (matched_by rule.quota told (matching_quota rules header further)) (matching_quota rules header told) (ruled rule.quota code told later) (decision rules header told)
+    (by_quota rule.quota quota code told later (matching_quota rules header further) (ends_in_draw rules header further quota))
+    (ends_in_draw rules header told quota) e
+
+-- what the last call was told is below the limit
+pub match_below : (rules : List Rule) (header : Header) (calls : List Call) (map key limit : ℕ) (before : List ℕ) (answer : ℕ) → EndsByMatch rules header calls map key limit
+    → answers_of calls ≡ before ++ answer ∷ [] → answer < limit
+match_below rules header calls map key limit before answer ends answered =
+    let l = ends_in_draw rules header ends.told ends.quota ends.matched in
+    let both : before ++ answer ∷ [] ≡ answers_of l.before ++ l.answer ∷ [] = sym answered ∙ ap answers_of (ends.draws ∙ l.is) ∙ answers_behind l.before (draw ends.quota l.answer) in
+    let same : l.answer ≡ answer = sym (snoc_last before (answers_of l.before) answer l.answer both) in
+    let small : answer < ends.quota.limit = subst (λ (k : ℕ). k < ends.quota.limit) same l.below in
+    subst (λ (k : ℕ). answer < k) ends.of_limit small

@@ -1,0 +1,59 @@
+-- The last of a list, and what stands before it.
+use Rattle.std.proofs.Common.{◌≡◌, ◌<◌, ◌^◌, ℕ, zero, suc, List, [], ◌∷◌, ◌++◌, length, refl, sym, ap, ap₂, ◌∙◌, arith, length-append}
+use Rattle.std.specs.Prelude.{All}
+use Rattle.std.proofs.lemmas.List.Elements.{All-cons, All-head, All-nil, All-tail}
+use Rattle.machine.specs.declared.calls.Call.{Call}
+use Rattle.machine.specs.Runs.{AreAnswered}
+use Rattle.policy.specs.Meaning.{told_by}
+use Rattle.sched.specs.Turns.{answers_of}
+
+pub no_end : {A : Type 0} (xs : List A) (a : A) → [] ≡ xs ++ a ∷ [] → ⊥
+no_end xs a e = omega (arith, ap length e, length-append xs (a ∷ []))
+
+last_of : {A : Type 0} → List A → A → A
+last_of [] other = other
+last_of (x ∷ xs) other = last_of xs x
+
+last_is : {A : Type 0} (xs : List A) (a other : A) → last_of (xs ++ a ∷ []) other ≡ a
+unfolding last_of
+last_is [] a other = refl
+last_is (x ∷ xs) a other = last_is xs a x
+
+pub snoc_last : {A : Type 0} (xs ys : List A) (a b : A) → xs ++ a ∷ [] ≡ ys ++ b ∷ [] → a ≡ b
+snoc_last xs ys a b e = sym (last_is xs a a) ∙ ap (λ zs. last_of zs a) e ∙ last_is ys b a
+
+tail_of : {A : Type 0} → List A → List A
+tail_of [] = []
+tail_of (x ∷ xs) = xs
+
+head_of : {A : Type 0} → List A → A → A
+head_of [] other = other
+head_of (x ∷ xs) other = x
+
+pub snoc_front : {A : Type 0} (xs ys : List A) (a b : A) → xs ++ a ∷ [] ≡ ys ++ b ∷ [] → xs ≡ ys
+unfolding tail_of head_of
+snoc_front [] [] a b e = refl
+snoc_front [] (y ∷ ys) a b e = absurd (no_end ys b (ap tail_of e))
+snoc_front (x ∷ xs) [] a b e = absurd (no_end xs a (sym (ap tail_of e)))
+snoc_front (x ∷ xs) (y ∷ ys) a b e = ap₂ (λ z zs. z ∷ zs) (ap (λ zs. head_of zs x) e) (snoc_front xs ys a b (ap tail_of e))
+
+-- ---- answers of calls
+
+pub answers_behind : (calls : List Call) (c : Call) → answers_of (calls ++ c ∷ []) ≡ answers_of calls ++ c.answer ∷ []
+answers_behind [] c = refl
+answers_behind (d ∷ calls) c = ap (λ (answers : List ℕ). d.answer ∷ answers) (answers_behind calls c)
+
+-- calls are answered by their own answers
+pub are_answered : (calls : List Call) → AreAnswered (told_by (answers_of calls)) calls
+are_answered [] = tt
+are_answered (c ∷ calls) = (refl, are_answered calls)
+
+pub told_words : (answers : List ℕ) → All (λ answer. answer < 2 ^ 64) answers → (k : ℕ) → told_by answers k < 2 ^ 64
+told_words [] words k = omega arith
+told_words (a ∷ answers) words zero = All-head (λ answer. answer < 2 ^ 64) a answers words
+told_words (a ∷ answers) words (suc k) = told_words answers (All-tail (λ answer. answer < 2 ^ 64) a answers words) k
+
+pub front_words : (xs : List ℕ) (a : ℕ) → All (λ answer. answer < 2 ^ 64) (xs ++ a ∷ []) → All (λ answer. answer < 2 ^ 64) xs
+front_words [] a words = All-nil (λ answer. answer < 2 ^ 64)
+front_words (x ∷ xs) a words =
+    All-cons (λ answer. answer < 2 ^ 64) x xs (All-head (λ answer. answer < 2 ^ 64) x (xs ++ a ∷ []) words) (front_words xs a (All-tail (λ answer. answer < 2 ^ 64) x (xs ++ a ∷ []) words))

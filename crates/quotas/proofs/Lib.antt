@@ -1,0 +1,6 @@
+mod Numbers
+mod Ends
+mod Beginnings
+mod Deciding
+mod Holding
+mod Counting

@@ -1,0 +1,85 @@
+-- Which commands the rules of a quota let pass in a history of a node.
+use Rattle.std.specs.Prelude.{◌≡◌, ◌≢◌, ◌≤◌, ◌<◌, ◌^◌, ℕ, true, List, [], ◌∷◌, ◌++◌, length, Option, Some, All}
+use Rattle.machine.specs.declared.calls.Call.{Call}
+use Rattle.policy.specs.Compiled.{HasMeaning}
+use Rattle.policy.specs.Matching.{EndsByMatch, matching_quota}
+use Rattle.policy.specs.Meaning.{told_by}
+use Rattle.policy.specs.declared.rules.Quota.{Quota}
+use Rattle.policy.specs.declared.rules.Rule.{Rule}
+use Rattle.rmap.specs.declared.status.Status.{Status}
+use Rattle.sched.specs.declared.event.Event.{Event}
+use Rattle.sched.specs.declared.event.Event.TheVariants.{Take}
+use Rattle.sched.specs.declared.event.Outcome.{Outcome}
+use Rattle.sched.specs.declared.event.Outcome.TheVariants.{Done, Taken, Told}
+use Rattle.sched.specs.Headline.{Begins, HasBytes, IsNode}
+use Rattle.sched.specs.History.{History, Then, Open, port_of, opened}
+use Rattle.sched.specs.Lawful.{IsLawful}
+use Rattle.sched.specs.Looking.{Node, draws, header_in, program_of, tickets, turn_at}
+use Rattle.sched.specs.Turns.{answers_of}
+
+-- behind the history the event draws a ticket of the cell, and is told that
+pub record IsDraw (n : Node) (h : History) (event : Event) (outcome : Outcome) (map key answer : ℕ) : Type 0 where
+  pub asked : draws (turn_at n h (port_of event)) event map key ≡ true
+  pub told : outcome ≡ Told answer
+
+-- with that answer the calls that a program made since its command was taken are a decision which ends by the match of a
+-- rule with this quota: the program has the meaning of some rules
+pub record EndsWith (n : Node) (o : Open) (map key limit answer : ℕ) : Type 0 where
+  pub rules : List Rule
+  pub meaning : HasMeaning rules (program_of n o)
+  pub calls : List Call
+  pub answered : answers_of calls ≡ o.answers ++ answer ∷ []
+  pub match : EndsByMatch rules (header_in o.packet) calls map key limit
+
+-- behind the history the event is a draw of the cell by which a rule with this quota matches: that of the command which
+-- is open at its port
+pub record IsMatchAt (n : Node) (h : History) (event : Event) (outcome : Outcome) (map key limit : ℕ) : Type 0 where
+  pub answer : ℕ
+  pub draw : IsDraw n h event outcome map key answer
+  pub command : Open
+  pub is_open : opened h (port_of event) ≡ Some command
+  pub ends : EndsWith n command map key limit answer
+
+-- the history that ends with the Take of an open command of the port
+abbrev pub from_take : (port : ℕ) → Open → History
+from_take port o = Then o.before (Take port o.packet) (Taken o.generation)
+
+-- a command of the history, by where it was taken, one of whose draws there is a match of a rule on the cell with at most
+-- that limit
+pub record IsMatched (n : Node) (h : History) (map key limit : ℕ) (take : History) : Type 0 where
+  pub before : History
+  pub event : Event
+  pub outcome : Outcome
+  pub within : Begins (Then before event outcome) h
+  pub own_limit : ℕ
+  pub small : own_limit ≤ limit
+  pub match : IsMatchAt n before event outcome map key own_limit
+  pub taken : from_take (port_of event) match.command ≡ take
+
+-- each history of a list is another one
+abbrev pub AreApart : List History → Type 0
+AreApart [] = Unit {0}
+AreApart (h ∷ hs) = All (λ other. h ≢ other) hs × AreApart hs
+
+-- some commands of the history, each once, that rules on the cell with at most that limit let pass
+pub record Matches (n : Node) (h : History) (map key limit : ℕ) (takes : List History) : Type 0 where
+  pub apart : AreApart takes
+  pub each : All (λ take. IsMatched n h map key limit take) takes
+
+-- ---- the law
+
+-- in every lawful history, while fewer than 2^64 tickets of a cell were drawn, at most as many commands match by rules on
+-- it as the greatest of their limits says, over all ports and all programs
+abbrev pub QuotasHold : Type 0
+QuotasHold =
+    (n : Node) (h : History) (map key limit : ℕ) (takes : List History) → IsLawful n h → tickets n h map key < 2 ^ 64
+    → Matches n h map key limit takes → length takes ≤ limit
+
+-- where the program of a command that is done has the meaning of rules, and their decision on its header, by what it was
+-- told, ends by the match of a rule with a quota, the command matched in the history, by that quota
+abbrev pub MatchesAreCounted : Type 0
+MatchesAreCounted =
+    (n : Node) (h : History) (event : Event) (status : Status) (reply : List ℕ) (loaded : Option (List ℕ)) (o : Open) (rules : List Rule) (quota : Quota)
+    → IsNode n → HasBytes h → IsLawful n (Then h event (Done status reply loaded)) → opened h (port_of event) ≡ Some o
+    → HasMeaning rules (program_of n o) → matching_quota rules (header_in o.packet) (told_by o.answers) ≡ Some quota
+    → IsMatched n h quota.map quota.cell quota.limit (from_take (port_of event) o)

@@ -1,0 +1,10 @@
+//! Quotas over schedules: what a limit of a policy table promises of a whole node.
+//!
+//! A rule of a policy table may draw a ticket of a counter cell, and match only where that is below its limit
+//! ([`policy::Quota`]). The law of this crate says of every lawful history of a node, over all its ports and all the
+//! programs that judge there, how many commands such rules let pass.
+#![tactic(auto)]
+
+mod laws;
+
+pub use laws::quotas_hold;

@@ -1,0 +1,8 @@
+//! What no clause says of schedules.
+
+mod agreement;
+mod checks;
+mod commands;
+mod memory;
+mod schedules;
+mod worlds;
