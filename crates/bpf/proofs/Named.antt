@@ -11,7 +11,7 @@ use Rattle.bpf.specs.declared.loops.Loop.{Loop}
 use Rattle.bpf.specs.declared.fault.ImageFault.{ImageFault}
 use Rattle.bpf.specs.declared.fault.ImageFault.TheVariants as faults
 use Rattle.bpf.specs.Program.{Program, program}
-use Rattle.bpf.specs.Reading.{◌>>=◌, Gives, IsFaultAt, begins_two, bytes_at, counts_reading, slot_result, half_at, is_budget, is_count, magic, word_at, header_reading, image_reading, are_loops, loop_in, loops_in, loops_reading, slot_in, slot_reading, slots_reading}
+use Rattle.bpf.specs.Reading.{◌>>=◌, Gives, IsFaultAt, begins_two, bytes_at, counts_reading, slot_result, half_at, is_budget, is_count, is_version, magic, word_at, header_reading, image_reading, are_loops, loop_in, loops_in, loops_reading, slot_in, slot_reading, slots_reading}
 
 -- the law of `bpf_insn` that is used: a fault that is read stands in the bytes
 abbrev pub IsExplained : Type 0
@@ -33,7 +33,7 @@ is_counted bytes = is_count (slice_index bytes 5) (half_at 6 bytes) (word_at 12 
 
 -- the header in the bytes
 abbrev header_at : List ℕ → Header
-header_at bytes = record { loops = slice_index bytes 5; slots = half_at 6 bytes; budget = word_at 8 bytes }
+header_at bytes = record { version = slice_index bytes 4; loops = slice_index bytes 5; slots = half_at 6 bytes; budget = word_at 8 bytes }
 
 declared_no_slot : (a b : Bool) (h : Header) (slot : ℕ) (fault : BadInsn) → (if a then (if b then Ok h else Err faults.Budget) else Err faults.Count) ≡ Err (faults.Insn slot fault) → ⊥
 declared_no_slot true true h slot fault e = cc
@@ -43,7 +43,7 @@ declared_no_slot false b h slot fault e = cc
 header_no_slot : (bytes : List ℕ) (slot : ℕ) (fault : BadInsn) → header_reading bytes ≡ Err (faults.Insn slot fault) → ⊥
 unfolding header_reading counts_reading
 header_no_slot bytes slot fault e =
-    by_tests (starts_with nat_eq bytes magic) (nat_lt 4 (length bytes) && slice_index bytes 4 == 1) (nat_lt (length bytes) 16) (counts_reading bytes)
+    by_tests (starts_with nat_eq bytes magic) (nat_lt 4 (length bytes) && is_version (slice_index bytes 4)) (nat_lt (length bytes) 16) (counts_reading bytes)
     (declared_no_slot (is_counted bytes) (is_budget (word_at 8 bytes)) (header_at bytes) slot fault) e
   where
     by_tests : (a b c : Bool) (r : Result Header ImageFault) → (r ≡ Err (faults.Insn slot fault) → ⊥) → (if a then (if b then (if c then Err faults.Length else r) else Err faults.Version) else Err faults.Magic) ≡ Err (faults.Insn slot fault) → ⊥
@@ -63,7 +63,7 @@ declared_loops false b g h e = cc
 header_loops : (bytes : List ℕ) (h : Header) → header_reading bytes ≡ Ok h → slice_index bytes 5 ≡ h.loops
 unfolding header_reading counts_reading
 header_loops bytes h e =
-    by_tests (starts_with nat_eq bytes magic) (nat_lt 4 (length bytes) && slice_index bytes 4 == 1) (nat_lt (length bytes) 16) (counts_reading bytes)
+    by_tests (starts_with nat_eq bytes magic) (nat_lt 4 (length bytes) && is_version (slice_index bytes 4)) (nat_lt (length bytes) 16) (counts_reading bytes)
     (declared_loops (is_counted bytes) (is_budget (word_at 8 bytes)) (header_at bytes) h) e
   where
     by_tests : (a b c : Bool) (r : Result Header ImageFault) → (r ≡ Ok h → slice_index bytes 5 ≡ h.loops) → (if a then (if b then (if c then Err faults.Length else r) else Err faults.Version) else Err faults.Magic) ≡ Ok h → slice_index bytes 5 ≡ h.loops
@@ -170,18 +170,18 @@ rest_of bytes h =
     if nat_eq (length bytes) (16 + 8 * h.loops + 8 * h.slots)
     then (loops_reading h.slots h.loops (drop 16 (take (16 + 8 * h.loops) bytes)) >>= (λ loops.
     slots_reading h.slots 0 false (drop (16 + 8 * h.loops) bytes) >>= (λ slots.
-    Ok (program h.budget loops slots))))
+    Ok (program h.version h.budget loops slots))))
     else Err faults.Length
 
 pub fault_named : IsExplained → (bytes : List ℕ) (named : ℕ) (fault : BadInsn) → ((i : ℕ) → slice_index bytes i < 256) → image_reading bytes ≡ Err (faults.Insn named fault) → IsFaultAt bytes (faults.Insn named fault)
 unfolding image_reading
 fault_named law bytes named fault bounds e = by_header (came_from (header_reading bytes) (rest_of bytes) (faults.Insn named fault) e)
   where
-    by_slots : (h : Header) (loops : List Loop) → slice_index bytes 5 ≡ h.loops → (slots_reading h.slots 0 false (drop (16 + 8 * h.loops) bytes) ≡ Err (faults.Insn named fault)) ⊎ ((slots : List (Option Insn)) × (slots_reading h.slots 0 false (drop (16 + 8 * h.loops) bytes) ≡ Ok slots) × ((let r : Result Program ImageFault = Ok (program h.budget loops slots) in r) ≡ Err (faults.Insn named fault))) → IsFaultAt bytes (faults.Insn named fault)
+    by_slots : (h : Header) (loops : List Loop) → slice_index bytes 5 ≡ h.loops → (slots_reading h.slots 0 false (drop (16 + 8 * h.loops) bytes) ≡ Err (faults.Insn named fault)) ⊎ ((slots : List (Option Insn)) × (slots_reading h.slots 0 false (drop (16 + 8 * h.loops) bytes) ≡ Ok slots) × ((let r : Result Program ImageFault = Ok (program h.version h.budget loops slots) in r) ≡ Err (faults.Insn named fault))) → IsFaultAt bytes (faults.Insn named fault)
     by_slots h loops count (inl e) = named_at law bytes h named fault bounds count (slots_fault h.slots 0 false _ named fault e)
     by_slots h loops count (inr p) = let never = p.2 in cc
 
-    by_loops : (h : Header) → slice_index bytes 5 ≡ h.loops → (loops_reading h.slots h.loops (drop 16 (take (16 + 8 * h.loops) bytes)) ≡ Err (faults.Insn named fault)) ⊎ ((loops : List Loop) × (loops_reading h.slots h.loops (drop 16 (take (16 + 8 * h.loops) bytes)) ≡ Ok loops) × ((slots_reading h.slots 0 false (drop (16 + 8 * h.loops) bytes) >>= (λ slots. Ok (program h.budget loops slots))) ≡ Err (faults.Insn named fault))) → IsFaultAt bytes (faults.Insn named fault)
+    by_loops : (h : Header) → slice_index bytes 5 ≡ h.loops → (loops_reading h.slots h.loops (drop 16 (take (16 + 8 * h.loops) bytes)) ≡ Err (faults.Insn named fault)) ⊎ ((loops : List Loop) × (loops_reading h.slots h.loops (drop 16 (take (16 + 8 * h.loops) bytes)) ≡ Ok loops) × ((slots_reading h.slots 0 false (drop (16 + 8 * h.loops) bytes) >>= (λ slots. Ok (program h.version h.budget loops slots))) ≡ Err (faults.Insn named fault))) → IsFaultAt bytes (faults.Insn named fault)
     by_loops h count (inl e) = absurd (loops_no_slot _ _ _ named fault e)
     by_loops h count (inr p) = by_slots h p.0 count (came_from (slots_reading h.slots 0 false (drop (16 + 8 * h.loops) bytes)) _ (faults.Insn named fault) p.2)
 

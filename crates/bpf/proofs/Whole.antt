@@ -21,7 +21,7 @@ abbrev pub rest_reading : List ℕ → Header → Result Program ImageFault
 rest_reading bytes h =
     loops_reading h.slots h.loops (drop 16 (take (16 + 8 * h.loops) bytes)) >>= (λ loops.
     slots_reading h.slots 0 false (drop (16 + 8 * h.loops) bytes) >>= (λ slots.
-    Ok (program h.budget loops slots)))
+    Ok (program h.version h.budget loops slots)))
 
 by_length : (b : Bool) (r : Result Program ImageFault) → b ≡ true → (if b then r else Err faults.Length) ≡ r
 by_length true r h = refl
@@ -58,22 +58,22 @@ middle_is bytes h front middle tail code cut = cut.is_middle ∙ ap (drop 16) (c
 tail_is : (bytes : List ℕ) (h : Header) (front middle tail : List ℕ) (code : ℕ) → Cut bytes h front middle tail code → tail ≡ drop (16 + 8 * h.loops) bytes
 tail_is bytes h front middle tail code cut = cut.is_tail ∙ ap (λ (k : ℕ). drop k bytes) cut.at_code
 
-parts_reading : (bytes : List ℕ) (h : Header) (front middle tail : List ℕ) (code : ℕ) → Cut bytes h front middle tail code → image_reading bytes ≡ (loops_reading h.slots h.loops middle >>= (λ loops. slots_reading h.slots 0 false tail >>= (λ slots. Ok (program h.budget loops slots))))
+parts_reading : (bytes : List ℕ) (h : Header) (front middle tail : List ℕ) (code : ℕ) → Cut bytes h front middle tail code → image_reading bytes ≡ (loops_reading h.slots h.loops middle >>= (λ loops. slots_reading h.slots 0 false tail >>= (λ slots. Ok (program h.version h.budget loops slots))))
 parts_reading bytes h front middle tail code cut =
     whole bytes h cut.header cut.len
-    ∙ ap (λ (m : List ℕ). loops_reading h.slots h.loops m >>= (λ loops. slots_reading h.slots 0 false (drop (16 + 8 * h.loops) bytes) >>= (λ slots. Ok (program h.budget loops slots)))) (sym (middle_is bytes h front middle tail code cut))
-    ∙ ap (λ (t : List ℕ). loops_reading h.slots h.loops middle >>= (λ loops. slots_reading h.slots 0 false t >>= (λ slots. Ok (program h.budget loops slots)))) (sym (tail_is bytes h front middle tail code cut))
+    ∙ ap (λ (m : List ℕ). loops_reading h.slots h.loops m >>= (λ loops. slots_reading h.slots 0 false (drop (16 + 8 * h.loops) bytes) >>= (λ slots. Ok (program h.version h.budget loops slots)))) (sym (middle_is bytes h front middle tail code cut))
+    ∙ ap (λ (t : List ℕ). loops_reading h.slots h.loops middle >>= (λ loops. slots_reading h.slots 0 false t >>= (λ slots. Ok (program h.version h.budget loops slots)))) (sym (tail_is bytes h front middle tail code cut))
 
 pub loops_fail : (bytes : List ℕ) (h : Header) (front middle tail : List ℕ) (code : ℕ) (e : ImageFault) → Cut bytes h front middle tail code → Fails e (loops_reading h.slots h.loops middle) → Fails e (image_reading bytes)
 loops_fail bytes h front middle tail code e cut fails =
-    fails_all e _ (image_reading bytes) (fails_first e (loops_reading h.slots h.loops middle) (λ loops. slots_reading h.slots 0 false tail >>= (λ slots. Ok (program h.budget loops slots))) fails) (sym (parts_reading bytes h front middle tail code cut))
+    fails_all e _ (image_reading bytes) (fails_first e (loops_reading h.slots h.loops middle) (λ loops. slots_reading h.slots 0 false tail >>= (λ slots. Ok (program h.version h.budget loops slots))) fails) (sym (parts_reading bytes h front middle tail code cut))
 
 pub slots_fail : (bytes : List ℕ) (h : Header) (front middle tail : List ℕ) (code : ℕ) (e : ImageFault) (loops : List Loop) → Cut bytes h front middle tail code → loops_reading h.slots h.loops middle ≡ Ok loops → Fails e (slots_reading h.slots 0 false tail) → Fails e (image_reading bytes)
 slots_fail bytes h front middle tail code e loops cut read fails =
-    let one : image_reading bytes ≡ (slots_reading h.slots 0 false tail >>= (λ slots. Ok (program h.budget loops slots))) = parts_reading bytes h front middle tail code cut ∙ rw read refl in
-    fails_all e _ (image_reading bytes) (fails_first e (slots_reading h.slots 0 false tail) (λ slots. Ok (program h.budget loops slots)) fails) (sym one)
+    let one : image_reading bytes ≡ (slots_reading h.slots 0 false tail >>= (λ slots. Ok (program h.version h.budget loops slots))) = parts_reading bytes h front middle tail code cut ∙ rw read refl in
+    fails_all e _ (image_reading bytes) (fails_first e (slots_reading h.slots 0 false tail) (λ slots. Ok (program h.version h.budget loops slots)) fails) (sym one)
 
-pub is_read : (bytes : List ℕ) (h : Header) (front middle tail : List ℕ) (code : ℕ) (loops : List Loop) (slots : List (Option Insn)) → Cut bytes h front middle tail code → loops_reading h.slots h.loops middle ≡ Ok loops → slots_reading h.slots 0 false tail ≡ Ok slots → image_reading bytes ≡ Ok (program h.budget loops slots)
+pub is_read : (bytes : List ℕ) (h : Header) (front middle tail : List ℕ) (code : ℕ) (loops : List Loop) (slots : List (Option Insn)) → Cut bytes h front middle tail code → loops_reading h.slots h.loops middle ≡ Ok loops → slots_reading h.slots 0 false tail ≡ Ok slots → image_reading bytes ≡ Ok (program h.version h.budget loops slots)
 is_read bytes h front middle tail code loops slots cut read code_read =
     parts_reading bytes h front middle tail code cut ∙ rw (read, code_read) refl
 
@@ -87,11 +87,11 @@ take_front : (k : ℕ) (bytes : List ℕ) → 16 ≤ k → take 16 (take k bytes
 take_front k bytes h = take_take 16 k bytes h
 
 -- the bytes are the parts'
-pub is_spelled : (bytes : List ℕ) (h : Header) (front middle tail : List ℕ) (code : ℕ) (loops : List Loop) (slots : List (Option Insn)) → Cut bytes h front middle tail code → take 16 bytes ≡ header_bytes 1 h.loops h.slots h.budget → length loops ≡ h.loops → length slots ≡ h.slots → middle ≡ flat_map loop_bytes loops → tail ≡ flat_map slot_bytes slots → bytes ≡ image_bytes (program h.budget loops slots)
+pub is_spelled : (bytes : List ℕ) (h : Header) (front middle tail : List ℕ) (code : ℕ) (loops : List Loop) (slots : List (Option Insn)) → Cut bytes h front middle tail code → take 16 bytes ≡ header_bytes h.version h.loops h.slots h.budget → length loops ≡ h.loops → length slots ≡ h.slots → middle ≡ flat_map loop_bytes loops → tail ≡ flat_map slot_bytes slots → bytes ≡ image_bytes (program h.version h.budget loops slots)
 unfolding image_bytes
 is_spelled bytes h front middle tail code loops slots cut header few many l s =
     let all : bytes ≡ front ++ tail = rw (cut.is_front, cut.is_tail) (sym (take-append-drop code bytes)) in
     let first : front ≡ take 16 front ++ middle = rw cut.is_middle (sym (take-append-drop 16 front)) in
-    let start : take 16 front ≡ header_bytes 1 h.loops h.slots h.budget =
+    let start : take 16 front ≡ header_bytes h.version h.loops h.slots h.budget =
     ap (take 16) cut.is_front ∙ take_front code bytes (omega (arith, cut.at_code)) ∙ header in
     all ∙ ap (λ (x : List ℕ). x ++ tail) first ∙ rw (start, l, s, few, many) refl

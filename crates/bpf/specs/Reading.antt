@@ -1,5 +1,5 @@
 -- How an image is read, from its first byte to its last, with the first fault that is met.
-use Rattle.std.specs.Prelude.{◌≡◌, ◌≤◌, ℕ, zero, suc, ◌+◌, ◌*◌, Bool, true, false, ◌&&◌, ◌==◌, nat_eq, nat_lt, nat_le, if◌then◌else◌, List, [], ◌∷◌, ◌++◌, length, take, drop, slice_index, Option, Some, None, is_some, Result, Ok, Err}
+use Rattle.std.specs.Prelude.{◌≡◌, ◌≤◌, ℕ, zero, suc, ◌+◌, ◌*◌, Bool, true, false, ◌&&◌, ◌||◌, ◌==◌, nat_eq, nat_lt, nat_le, if◌then◌else◌, List, [], ◌∷◌, ◌++◌, length, take, drop, slice_index, Option, Some, None, is_some, Result, Ok, Err}
 use Rattle.std.specs.List.{starts_with}
 use Rattle.bpf_insn.specs.declared.insn.Insn.{Insn}
 use Rattle.bpf_insn.specs.declared.decoder.BadInsn.{BadInsn}
@@ -10,7 +10,7 @@ use Rattle.bpf.specs.declared.header.Header.{Header}
 use Rattle.bpf.specs.declared.loops.Loop.{Loop}
 use Rattle.bpf.specs.declared.fault.ImageFault.{ImageFault}
 use Rattle.bpf.specs.declared.fault.ImageFault.TheVariants as faults
-use Rattle.bpf.specs.Program.{IsBudget, IsProgram, IsSlotCount, Program, header_bytes, image_bytes, program}
+use Rattle.bpf.specs.Program.{IsBudget, IsProgram, IsSlotCount, IsVersion, Program, header_bytes, image_bytes, program}
 
 -- the next step of a reading, unless a fault was found
 infixl 10 ◌>>=◌
@@ -47,6 +47,10 @@ word_at place bytes =
 abbrev pub magic : List ℕ
 magic = 66 ∷ 80 ∷ 70 ∷ 65 ∷ []
 
+-- whether it is a version of the format
+abbrev pub is_version : ℕ → Bool
+is_version n = n == 1 || n == 2
+
 -- whether these are counts of loops and slots, with a reserved word of zero
 abbrev pub is_count : (loops slots reserved : ℕ) → Bool
 is_count loops slots reserved = nat_le loops 8 && nat_le 1 slots && nat_le slots 512 && reserved == 0
@@ -55,32 +59,33 @@ is_count loops slots reserved = nat_le loops 8 && nat_le 1 slots && nat_le slots
 abbrev pub is_budget : ℕ → Bool
 is_budget budget = nat_le 1 budget && nat_le budget 65536
 
--- the header of these counts, this reserved word and this budget
-abbrev pub declared_header : (loops slots reserved budget : ℕ) → Result Header ImageFault
-declared_header loops slots reserved budget =
+-- the header of this version, these counts, this reserved word and this budget
+abbrev pub declared_header : (version loops slots reserved budget : ℕ) → Result Header ImageFault
+declared_header version loops slots reserved budget =
     if is_count loops slots reserved
     then (if is_budget budget
-    then Ok (record { loops = loops; slots = slots; budget = budget })
+    then Ok (record { version = version; loops = loops; slots = slots; budget = budget })
     else Err faults.Budget)
     else Err faults.Count
 
--- the counts and the budget of a header are in the limits of the format
+-- the version, the counts and the budget of a header are in the limits of the format
 abbrev pub HasLimits : Header → Type 0
-HasLimits h = (h.loops ≤ 8) × IsSlotCount h.slots × IsBudget h.budget
+HasLimits h = IsVersion h.version × (h.loops ≤ 8) × IsSlotCount h.slots × IsBudget h.budget
 
 -- the bytes of a header
 abbrev pub bytes_of_header : Header → List ℕ
-bytes_of_header h = header_bytes 1 h.loops h.slots h.budget
+bytes_of_header h = header_bytes h.version h.loops h.slots h.budget
 
--- the counts and the budget
+-- the counts and the budget, behind a version
 unfoldable pub counts_reading : List ℕ → Result Header ImageFault
-counts_reading bytes = declared_header (slice_index bytes 5) (half_at 6 bytes) (word_at 12 bytes) (word_at 8 bytes)
+counts_reading bytes =
+    declared_header (slice_index bytes 4) (slice_index bytes 5) (half_at 6 bytes) (word_at 12 bytes) (word_at 8 bytes)
 
--- the counts and the budget of an image, or the first fault of its header
+-- the version, the counts and the budget of an image, or the first fault of its header
 unfoldable pub header_reading : List ℕ → Result Header ImageFault
 header_reading bytes =
     if starts_with nat_eq bytes magic
-    then (if nat_lt 4 (length bytes) && slice_index bytes 4 == 1
+    then (if nat_lt 4 (length bytes) && is_version (slice_index bytes 4)
     then (if nat_lt (length bytes) 16 then Err faults.Length else counts_reading bytes)
     else Err faults.Version)
     else Err faults.Magic
@@ -161,7 +166,7 @@ image_reading bytes =
     if length bytes == 16 + 8 * h.loops + 8 * h.slots
     then (loops_reading h.slots h.loops (drop 16 (take (16 + 8 * h.loops) bytes)) >>= (λ loops.
     slots_reading h.slots 0 false (drop (16 + 8 * h.loops) bytes) >>= (λ slots.
-    Ok (program h.budget loops slots))))
+    Ok (program h.version h.budget loops slots))))
     else Err faults.Length)
 
 -- what spells a program is read as it, unless memory was refused

@@ -1,14 +1,14 @@
 //! The first 16 bytes of an image.
 
 ghost use Rattle.std.specs.Prelude.{◌≡◌, ◌≤◌, ◌==◌, ◌&&◌, ◌↔◌, IsTrue, nat_lt, slice_index, length, take, drop, IfOk};
-ghost use Rattle.bpf.specs.Program.{IsBudget, header_bytes};
-ghost use Rattle.bpf.specs.Reading.{HasLimits, bytes_of_header, counts_reading, declared_header, header_reading, is_budget, is_count};
+ghost use Rattle.bpf.specs.Program.{IsBudget, IsVersion, header_bytes};
+ghost use Rattle.bpf.specs.Reading.{HasLimits, bytes_of_header, counts_reading, declared_header, header_reading, is_budget, is_count, is_version};
 
 use crate::fault::ImageFault;
 
 const MAGIC: [u8; 4] = *b"BPFA";
-/// The version of the format.
-pub const VERSION: u8 = 1;
+/// The greatest version of the format.
+const MAX_VERSION: u8 = 2;
 /// The most loops of an image.
 pub const MAX_LOOPS: usize = 8;
 /// The most slots of an image.
@@ -19,16 +19,24 @@ pub const MAX_BUDGET: u32 = 65_536;
 /// What an image declares in its first 16 bytes, in the limits of the format.
 #[derive(Clone, Copy)]
 pub struct Header {
+    pub version: u8,
     pub loops: u8,
     pub slots: u16,
     pub budget: u32,
 }
 
 impl Header {
-    /// The header of these counts and this budget: a fault of the counts and the reserved word is told
-    /// before one of the budget.
-    pub fn new(loops: usize, slots: usize, reserved: u32, budget: u32) -> Result<Header, ImageFault>
-        ensures value { result ≡ declared_header loops slots reserved budget }
+    /// The header of this version, these counts and this budget: a fault of the counts and the reserved
+    /// word is told before one of the budget.
+    pub fn new(
+        version: u8,
+        loops: usize,
+        slots: usize,
+        reserved: u32,
+        budget: u32,
+    ) -> Result<Header, ImageFault>
+        requires { IsVersion version }
+        ensures value { result ≡ declared_header version loops slots reserved budget }
         ensures limits { IfOk result HasLimits }
     {
         if !is_count(loops, slots, reserved) {
@@ -38,6 +46,7 @@ impl Header {
             return Err(ImageFault::Budget);
         }
         Ok(Header {
+            version,
             loops: loops as u8,
             slots: slots as u16,
             budget,
@@ -66,24 +75,33 @@ pub fn read_header(bytes: &[u8]) -> Result<Header, ImageFault>
 }
 
 fn has_version(bytes: &[u8]) -> bool
-    ensures { result ≡ (nat_lt 4 (length bytes.now) && slice_index bytes.now 4 == 1) }
+    ensures { result ≡ (nat_lt 4 (length bytes.now) && is_version (slice_index bytes.now 4)) }
 {
-    bytes.len() > 4 && bytes[4] == VERSION
+    bytes.len() > 4 && is_version(bytes[4])
 }
 
 #[tactic(auto, unfolding(crate::specs::Reading::counts_reading))]
 fn read_counts(bytes: &[u8]) -> Result<Header, ImageFault>
-    requires { 16 ≤ length bytes.now }
+    requires length { 16 ≤ length bytes.now }
+    requires version { IsVersion (slice_index bytes.now 4) }
     ensures value { result ≡ counts_reading bytes.now }
     ensures limits { IfOk result HasLimits }
     ensures spelled { IfOk result
-        (λ h. drop 5 (take 16 bytes.now) ≡ drop 5 (bytes_of_header h)) }
+        (λ h. drop 4 (take 16 bytes.now) ≡ drop 4 (bytes_of_header h)) }
 {
     let loops = bytes[5];
     let slots = u16::from_le_bytes([bytes[6], bytes[7]]);
     let budget = u32::from_le_bytes([bytes[8], bytes[9], bytes[10], bytes[11]]);
     let reserved = u32::from_le_bytes([bytes[12], bytes[13], bytes[14], bytes[15]]);
-    Header::new(usize::from(loops), usize::from(slots), reserved, budget)
+    Header::new(bytes[4], usize::from(loops), usize::from(slots), reserved, budget)
+}
+
+/// Whether this is a version of the format: 1 or 2.
+pub fn is_version(version: u8) -> bool
+    ensures value { result ≡ is_version version }
+    ensures exact { IsTrue result ↔ IsVersion version }
+{
+    version == 1 || version == MAX_VERSION
 }
 
 /// Whether the counts and the reserved word are those of an image.
@@ -103,13 +121,13 @@ pub fn is_budget(budget: u32) -> bool
 
 /// The bytes of the header.
 pub fn header_bytes(header: &Header) -> [u8; 16]
-    ensures { result ≡ header_bytes 1 header.now.loops header.now.slots header.now.budget }
+    ensures { result ≡ header_bytes header.now.version header.now.loops header.now.slots header.now.budget }
 {
     let [m0, m1, m2, m3] = MAGIC;
     let [s0, s1] = header.slots.to_le_bytes();
     let [b0, b1, b2, b3] = header.budget.to_le_bytes();
-    let loops = header.loops;
+    let Header { version, loops, .. } = *header;
     [
-        m0, m1, m2, m3, VERSION, loops, s0, s1, b0, b1, b2, b3, 0, 0, 0, 0,
+        m0, m1, m2, m3, version, loops, s0, s1, b0, b1, b2, b3, 0, 0, 0, 0,
     ]
 }

@@ -7,7 +7,7 @@ ghost use Rattle.bpf.specs.Weight.{saturated_weight, weight_of};
 ghost use Rattle.bpf.specs.Reading.{Gives, IsFaultAt, ReadsWhatSpells, image_reading};
 
 use crate::fault::ImageFault;
-use crate::header::{Header, VERSION, header_bytes, read_header};
+use crate::header::{Header, header_bytes, read_header};
 use crate::laws::image_laws;
 use crate::loops::{Loop, read_loops, write_loops};
 use crate::parts::{header_of, place_insns};
@@ -17,9 +17,10 @@ use bpf_insn::Insn;
 use std::alloc::{AllocError, Global};
 use std::marker::Model;
 
-/// A program as it is loaded: its budget, its loops and its slots. All limits of the format hold.
+/// A program as it is loaded: its version of the format, its budget, its loops and its slots. All limits of the format hold.
 #[derive(Debug, Drop)]
 pub struct Image {
+    version: u8,
     budget: u32,
     loops: Vec<Loop>,
     slots: Vec<Option<Insn>>,
@@ -30,9 +31,9 @@ impl Model for Image {
 
     ghost Value = { Program };
 
-    ghost view = { λ i. program i.budget i.loops.items i.slots.items };
+    ghost view = { λ i. program i.version i.budget i.loops.items i.slots.items };
 
-    ghost invariant = { λ i. IsProgram (program i.budget i.loops.items i.slots.items) };
+    ghost invariant = { λ i. IsProgram (program i.version i.budget i.loops.items i.slots.items) };
 }
 
 impl Image {
@@ -71,17 +72,18 @@ impl Image {
         let (_, loop_bytes) = front.split_at(16);
         let loops = read_loops(alloc, loop_bytes, header.loops, header.slots)?;
         let slots = read_slots(alloc, slot_bytes, header.slots)?;
-        Ok(Image::of_parts(header.budget, loops, slots))
+        Ok(Image::of_parts(header.version, header.budget, loops, slots))
     }
 
-    /// The image of these instructions, which take 1 to 512 slots, of at most 8 loops by rising head,
-    /// and of a budget of 1 to 65,536.
+    /// The image of this version, 1 or 2, of these instructions, which take 1 to 512 slots, of at most 8
+    /// loops by rising head, and of a budget of 1 to 65,536.
     ///
     /// # Errors
     ///
-    /// `Count`, `Budget` or `Loop`, in this order, or `Memory`.
+    /// `Version`, `Count`, `Budget` or `Loop`, in this order, or `Memory`.
     pub fn new(
         alloc: Global,
+        version: u8,
         insns: &[Insn],
         loops: &[Loop],
         budget: u32,
@@ -89,20 +91,21 @@ impl Image {
         ensures program { IfOk result IsProgram }
 
         // The first fault, or the image, unless memory is refused.
-        ensures exact { Gives (λ image. image) result (parts_reading insns.now loops.now budget) }
+        ensures exact { Gives (λ image. image) result (parts_reading version insns.now loops.now budget) }
     {
-        let header = header_of(insns, loops, budget)?;
+        let header = header_of(version, insns, loops, budget)?;
         let loops = Vec::from_slice(alloc, loops)?;
         let slots = place_insns(alloc, insns, header.slots)?;
-        Ok(Image::of_parts(budget, loops, slots))
+        Ok(Image::of_parts(version, budget, loops, slots))
     }
 
     /// The image of these parts, which are in the limits of the format.
-    fn of_parts(budget: u32, loops: Vec<Loop>, slots: Vec<Option<Insn>>) -> Image
-        requires { IsProgram (program budget loops.items slots.items) }
-        ensures { result ≡ program budget loops.items slots.items }
+    fn of_parts(version: u8, budget: u32, loops: Vec<Loop>, slots: Vec<Option<Insn>>) -> Image
+        requires { IsProgram (program version budget loops.items slots.items) }
+        ensures { result ≡ program version budget loops.items slots.items }
     {
         Image {
+            version,
             budget,
             loops,
             slots,
@@ -115,7 +118,7 @@ impl Image {
     {
         let loops = self.loops.clone()?;
         let slots = self.slots.clone()?;
-        Ok(Image::of_parts(self.budget, loops, slots))
+        Ok(Image::of_parts(self.version, self.budget, loops, slots))
     }
 
     /// The bytes that spell the image: `read` gives an equal image from them, and from no others. Memory
@@ -127,6 +130,7 @@ impl Image {
         let len = 16 + 8 * self.loops.len() + 8 * self.slots.len();
         let mut bytes = Vec::with_capacity(*self.slots.allocator(), len)?;
         let header = Header {
+            version: self.version,
             loops: self.loops.len() as u8,
             slots: self.slots(),
             budget: self.budget(),
@@ -137,13 +141,12 @@ impl Image {
         Ok(bytes)
     }
 
-    /// The version of the format: 1.
+    /// The version of the format: 1 or 2.
     pub fn version(&self) -> u8
-        ensures { result ≡ self.now.version }
+        ensures value { result ≡ self.now.version }
+        ensures program { IsProgram self.now }
     {
-        // A proof knows the limits of an image where it reads a field.
-        let _ = &self.budget;
-        VERSION
+        self.version
     }
 
     /// How many slots the image has, 1 to 512.

@@ -1,4 +1,4 @@
-//! Images of BPF programs: a budget, loops with their bounds, and the slots of the instructions.
+//! Images of BPF programs: a version, a budget, loops with their bounds, and the slots of the instructions.
 //!
 //! An [`Image`] is read from bytes by [`Image::read`] and keeps all limits of the format. Numbers of
 //! several bytes are little-endian throughout.
@@ -15,7 +15,7 @@ mod weight;
 
 pub use bpf_insn;
 pub use fault::ImageFault;
-pub use header::{MAX_BUDGET, MAX_LOOPS, MAX_SLOTS, is_budget};
+pub use header::{MAX_BUDGET, MAX_LOOPS, MAX_SLOTS, is_budget, is_version};
 pub use image::Image;
 pub use laws::image_laws;
 pub use loops::{Loop, MAX_BOUND};

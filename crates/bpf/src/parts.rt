@@ -7,7 +7,7 @@ ghost use Rattle.bpf.specs.Program.{AreSlots};
 ghost use Rattle.bpf.specs.Parts.{header_of, placed_slots};
 
 use crate::fault::ImageFault;
-use crate::header::{Header, MAX_SLOTS};
+use crate::header::{Header, MAX_SLOTS, is_version};
 use crate::loops::{Loop, are_loops};
 use bpf_insn::Insn;
 use std::alloc::{AllocError, Global};
@@ -16,16 +16,24 @@ use std::alloc::{AllocError, Global};
 ///
 /// # Errors
 ///
-/// `Count`, `Budget` or `Loop`, the first of them.
+/// `Version`, `Count`, `Budget` or `Loop`, the first of them.
 #[tactic(auto, unfolding(crate::specs::Parts::parts_fault))]
-pub fn header_of(insns: &[Insn], loops: &[Loop], budget: u32) -> Result<Header, ImageFault>
-    ensures { result ≡ header_of insns.now loops.now budget }
+pub fn header_of(
+    version: u8,
+    insns: &[Insn],
+    loops: &[Loop],
+    budget: u32,
+) -> Result<Header, ImageFault>
+    ensures { result ≡ header_of version insns.now loops.now budget }
 {
+    if !is_version(version) {
+        return Err(ImageFault::Version);
+    }
     // Each instruction takes a slot at least, so that the sum of so many fits.
     if insns.len() > usize::from(MAX_SLOTS) {
         return Err(ImageFault::Count);
     }
-    let header = Header::new(loops.len(), count_slots(insns), 0, budget)?;
+    let header = Header::new(version, loops.len(), count_slots(insns), 0, budget)?;
     if are_loops(header.slots, loops) {
         Ok(header)
     } else {
