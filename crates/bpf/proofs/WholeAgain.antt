@@ -1,5 +1,5 @@
 -- A whole image is read as the program that it spells.
-use Rattle.std.proofs.Common.{◌≡◌, ℕ, ◌+◌, ◌*◌, ◌/◌, ◌%◌, ◌≤◌, ◌<◌, Bool, true, false, List, [], ◌++◌, Option, Ok, inl, inr, refl, sym, ap, ◌∙◌, append_assoc, arith, length, take, nat_lt, nat_le, subst, if◌then◌else◌, length-append}
+use Rattle.std.proofs.Common.{◌≡◌, ℕ, ◌+◌, ◌*◌, ◌/◌, ◌%◌, ◌≤◌, ◌<◌, Bool, true, false, List, [], ◌++◌, Option, Ok, inl, inr, refl, sym, ap, ◌∙◌, append_assoc, arith, length, take, nat_lt, nat_le, if◌then◌else◌, length-append}
 use Rattle.std.proofs.lemmas.Bool.Decides.{nat_tests}
 use Rattle.std.proofs.lemmas.Nat.{from_le_bytes-to_le_bytes_4}
 use Rattle.std.specs.List.{flat_map}

@@ -93,7 +93,13 @@ fn read_counts(bytes: &[u8]) -> Result<Header, ImageFault>
     let slots = u16::from_le_bytes([bytes[6], bytes[7]]);
     let budget = u32::from_le_bytes([bytes[8], bytes[9], bytes[10], bytes[11]]);
     let reserved = u32::from_le_bytes([bytes[12], bytes[13], bytes[14], bytes[15]]);
-    Header::new(bytes[4], usize::from(loops), usize::from(slots), reserved, budget)
+    Header::new(
+        bytes[4],
+        usize::from(loops),
+        usize::from(slots),
+        reserved,
+        budget,
+    )
 }
 
 /// Whether this is a version of the format: 1 or 2.
