@@ -1,5 +1,5 @@
 -- The states at entry and after a call.
-use Rattle.std.proofs.Common.{◌≡◌, ℕ, zero, suc, ◌+◌, ◌^◌, ◌<◌, ◌≤◌, pos, true, false, ◌==◌, refl, sym, ◌∙◌, subst, arith, List}
+use Rattle.std.proofs.Common.{◌≡◌, ℕ, zero, suc, ◌+◌, ◌*◌, ◌^◌, ◌<◌, ◌≤◌, pos, true, false, ◌==◌, refl, sym, ◌∙◌, subst, arith, List}
 use Rattle.std.proofs.lemmas.Int.{ints}
 use Rattle.std.proofs.lemmas.Bool.Decides.{nat_tests}
 use Rattle.bpf_parts.specs.declared.operation.Width.TheVariants.{Bits64}
@@ -12,6 +12,7 @@ use Rattle.absdom.specs.declared.kinds.AbsKind.TheVariants.{Unset, Num}
 use Rattle.absdom.specs.State.{StateValue, entry_kinds, kind_in, kind_at, after_call}
 use Rattle.absdom.specs.Fits.{IsAmong, FitsKind, Fits}
 use Rattle.absdom.specs.Laws.{EntryFits, CallFits}
+use Rattle.absdom.proofs.MarkSteps.{marked_bytes}
 use Rattle.absdom.proofs.FitsState.{fits_after}
 
 at_start : IsAmong (pos 0) (pos 0, pos 0)
@@ -36,6 +37,7 @@ entry_fits a port e h =
     record {
       registers = λ k. let P : List AbsKind → Type 0 = λ kinds. FitsKind (entry_register port k) (kind_in kinds k) in subst P (sym e.kinds) (entry_kind_fits port h k);
       bytes = λ p m. let no : true ≡ false = sym m ∙ e.marks p in absurd cc;
+      places = λ k m. let no : true ≡ false = sym (marked_bytes a.marks (8 * k) 8 m 0 (omega arith)) ∙ e.marks (8 * k + 0) in absurd cc;
     }
 
 -- the registers after a call, one written after another
@@ -80,4 +82,5 @@ after_call_fits s a answer h fits =
     record {
       registers = λ k. let P : Value → Type 0 = λ v. FitsKind v (kind_at (after_call a) k) in subst P (same_after_call s.registers answer k) (before.registers k);
       bytes = fits.bytes;
+      places = fits.places;
     }

@@ -1,9 +1,9 @@
 -- What loads give and stores leave fits what is known of it.
-use Rattle.std.proofs.Common.{◌≡◌, ℕ, zero, suc, ◌+◌, ◌-◌, ◌*◌, ◌^◌, ◌<◌, ◌≤◌, ℤ, pos, negsuc, ◌+ℤ◌, ◌≤ℤ◌, Bool, true, false, ◌&&◌, nat_le, if◌then◌else◌, refl, sym, subst, arith, inl, inr, Option, Some, None, Ok, Err, List, length, slice_get, All}
+use Rattle.std.proofs.Common.{◌≡◌, ℕ, zero, suc, ◌+◌, ◌-◌, ◌*◌, ◌/◌, ◌%◌, ◌^◌, ◌<◌, ◌≤◌, ℤ, pos, negsuc, ◌+ℤ◌, ◌≤ℤ◌, Bool, true, false, nat_le, if◌then◌else◌, refl, sym, ◌∙◌, ap, ap₂, subst, arith, Option, Some, None, Ok, Err, List, length, slice_get, All}
 use Rattle.std.proofs.lemmas.Int.{ints}
 use Rattle.std.proofs.Common.{[], ◌∷◌, lit<}
 use Rattle.std.proofs.Math.Nat.{pow-succ'}
-use Rattle.std.proofs.lemmas.Bool.{leb-true, leb-false, cases_lt}
+use Rattle.std.proofs.lemmas.Bool.{leb-true, leb-false}
 use Rattle.std.specs.Int.{w8, w16, w32, cast_signed}
 use Rattle.bpf_parts.specs.declared.memory.LoadSize.{LoadSize}
 use Rattle.bpf_parts.specs.declared.memory.LoadSize.TheVariants.{LoadByte, LoadHalf, LoadWord, LoadDouble, SignedByte, SignedHalf, SignedWord}
@@ -20,11 +20,17 @@ use Rattle.absdom_num.specs.Ranges.{IsIn}
 use Rattle.absdom.specs.declared.cause.Cause.TheVariants.{UnsetStack}
 use Rattle.absdom.specs.declared.kinds.AbsKind.{AbsKind}
 use Rattle.absdom.specs.declared.kinds.AbsKind.TheVariants.{Unset, Num, Ptr, Map}
-use Rattle.absdom.specs.State.{StateValue}
+use Rattle.absdom_num.specs.declared.ranges.Range.{Range}
+use Rattle.absdom.specs.State.{StateValue, range_at}
 use Rattle.absdom.specs.Marks.{mark_at, all_marked}
-use Rattle.absdom.specs.Effect.{both_places, access_places, is_set, loaded_range, read_kind, load_kind}
-use Rattle.absdom.specs.Fits.{IsAmong, FitsKind, IsByte, Fits}
+use Rattle.absdom.specs.Places.{is_place}
+use Rattle.absdom.specs.declared.spill.Spill.{Spill}
+use Rattle.absdom.specs.declared.spill.Spill.TheVariants.{Forgets, Keeps}
+use Rattle.absdom.specs.Effect.{both_places, access_places, is_set, loaded_range, read_range, read_kind, load_kind}
+use Rattle.absdom.specs.Fits.{IsAmong, FitsKind, IsByte, IsReadIn, Fits}
 use Rattle.absdom.proofs.FitsAlu.{FitsResult}
+use Rattle.absdom.proofs.MarkSteps.{marked_bytes}
+use Rattle.absdom.proofs.PlaceSteps.{place_test}
 
 -- a place between two others, with room for its bytes
 pub record IsBetween (size bytes first last place : ℕ) : Type 0 where
@@ -90,27 +96,6 @@ byte_in [] place all h = absurd (omega arith)
 byte_in (b ∷ bytes) zero all h = all 0 0 (omega arith)
 byte_in (b ∷ bytes) (suc place) all h = byte_in bytes place (λ k d l. all (suc k) d (omega arith)) (omega arith)
 
-both_left : (x y : Bool) → (x && y) ≡ true → x ≡ true
-both_left true y e = refl
-both_left false y e = e
-
-both_right : (x y : Bool) → (x && y) ≡ true → y ≡ true
-both_right true y e = e
-both_right false y e = cc
-
--- of bytes that are all marked each is
-pub marked_bytes : (marks : List Bool) (first n : ℕ) → all_marked marks first n ≡ true → (k : ℕ) → k < n → mark_at marks (first + k) ≡ true
-unfolding all_marked
-marked_bytes marks first zero e k h = absurd (omega arith)
-marked_bytes marks first (suc n) e k h =
-    elim (cases_lt k n) [
-      | inl l ↦ marked_bytes marks first n (both_left (all_marked marks first n) (mark_at marks (first + n)) e) k l
-      | inr l ↦
-          let d : k ≡ n = omega arith in
-          let P : ℕ → Type 0 = λ p. mark_at marks (first + p) ≡ true in
-          subst P (sym d) (both_right (all_marked marks first n) (mark_at marks (first + n)) e)
-    ]
-
 -- ---- loads
 
 -- a word is below 2^64
@@ -151,28 +136,85 @@ bytes_set header s a Stack bytes first last place known fits e between k h =
     let P : ℕ → Type 0 = λ p. IsByte (s.stack p) in
     subst P d (fits.bytes (first + (place + k - first)) m)
 
--- by whether all of them are set
-read_by_test : (header : Header) (s : State) (a : StateValue) (size : LoadSize) (region : Region) (first last place : ℕ) → IsHeader header → Fits s a → IsBetween (region_size region) (load_bytes size) first last place → (t : Bool) → is_set region a.marks (load_bytes size) (first, last) ≡ t → FitsResult (load_value size (little_endian (byte_of header s.stack region) (load_bytes size) place)) (if t then Ok (Num (loaded_range size)) else Err UnsetStack)
-read_by_test header s a size region first last place known fits between false e = tt
-read_by_test header s a size region first last place known fits between true e =
+-- two memories that agree on so many bytes from a place on give the same number there
+pub same_bytes : (f g : ℕ → Option ℕ) (bytes place : ℕ) → ((k : ℕ) → k < bytes → f (place + k) ≡ g (place + k)) → little_endian f bytes place ≡ little_endian g bytes place
+unfolding little_endian
+same_bytes f g zero place same = refl
+same_bytes f g (suc bytes) place same =
+    let at : place + 0 ≡ place = omega arith in
+    let first : f place ≡ g place = subst (λ (p : ℕ). f p ≡ g p) at (same 0 (omega arith)) in
+    ap₂ byte_below first (same_bytes f g bytes (suc place)
+    (λ k below. let on : place + suc k ≡ suc place + k = omega arith in subst (λ (p : ℕ). f p ≡ g p) on (same (suc k) (omega arith))))
+
+-- the number of eight bytes is the word itself
+whole_word : (o : Option ℕ) (range : Range) → IsReadIn o range → FitsResult (load_value LoadDouble o) (Ok (Num range))
+whole_word None range h = absurd h
+whole_word (Some n) range h = h
+
+-- a load of one place gives a number in the place's range
+place_read : (header : Header) (s : State) (a : StateValue) (size : LoadSize) (first last place : ℕ) → Fits s a → IsBetween 512 (load_bytes size) first last place → is_set Stack a.marks (load_bytes size) (first, last) ≡ true → (load_bytes size ≡ 8) × (first ≡ last) × (first % 8 ≡ 0) → FitsResult (load_value size (little_endian (byte_of header s.stack Stack) (load_bytes size) place)) (Ok (Num (range_at a (first / 8))))
+place_read header s a LoadByte first last place fits between e is = let no : 1 ≡ 8 = is.0 in absurd (omega arith)
+place_read header s a LoadHalf first last place fits between e is = let no : 2 ≡ 8 = is.0 in absurd (omega arith)
+place_read header s a LoadWord first last place fits between e is = let no : 4 ≡ 8 = is.0 in absurd (omega arith)
+place_read header s a SignedByte first last place fits between e is = let no : 1 ≡ 8 = is.0 in absurd (omega arith)
+place_read header s a SignedHalf first last place fits between e is = let no : 2 ≡ 8 = is.0 in absurd (omega arith)
+place_read header s a SignedWord first last place fits between e is = let no : 4 ≡ 8 = is.0 in absurd (omega arith)
+place_read header s a LoadDouble first last place fits between e is =
+    let one : first ≡ last = is.1.0 in
+    let even : first % 8 ≡ 0 = is.1.1 in
+    let count : last + 8 - first ≡ 8 = omega arith in
+    let start : first ≡ 8 * (first / 8) = omega arith in
+    let there : place ≡ 8 * (first / 8) = omega (arith, between.above, between.below) in
+    let marked : all_marked a.marks (8 * (first / 8)) 8 ≡ true = sym (ap (λ p. all_marked a.marks p 8) start) ∙ sym (ap (all_marked a.marks first) count) ∙ e in
+    let same : little_endian (byte_of header s.stack Stack) 8 place ≡ little_endian s.stack 8 (8 * (first / 8)) =
+        same_bytes (byte_of header s.stack Stack) s.stack 8 place (λ k l. refl) ∙ ap (little_endian s.stack 8) there
+    in
+    let P : Option ℕ → Type 0 = λ o. FitsResult (load_value LoadDouble o) (Ok (Num (range_at a (first / 8)))) in
+    subst P (sym same) (whole_word (little_endian s.stack 8 (8 * (first / 8))) (range_at a (first / 8)) (fits.places (first / 8) marked))
+
+-- what is in the table's range
+table_read : (header : Header) (s : State) (a : StateValue) (size : LoadSize) (region : Region) (first last place : ℕ) → IsHeader header → Fits s a → IsBetween (region_size region) (load_bytes size) first last place → is_set region a.marks (load_bytes size) (first, last) ≡ true → FitsResult (load_value size (little_endian (byte_of header s.stack region) (load_bytes size) place)) (Ok (Num (loaded_range size)))
+table_read header s a size region first last place known fits between e =
     value_fits size (little_endian (byte_of header s.stack region) (load_bytes size) place)
     (little_fits (byte_of header s.stack region) (load_bytes size) place (bytes_set header s a region (load_bytes size) first last place known fits e between))
 
-read_fits : (header : Header) (s : State) (a : StateValue) (size : LoadSize) (region : Region) (places : Option (ℕ × ℕ)) (place : Option ℕ) → IsHeader header → Fits s a → HasPlace (region_size region) (load_bytes size) places place → FitsResult (load_value size (bytes_at header s.stack region (load_bytes size) place)) (read_kind a size region places)
-read_fits header s a size region None place known fits h = tt
-read_fits header s a size region (Some places) None known fits h = absurd h
-read_fits header s a size region (Some places) (Some place) known fits h =
-    read_by_test header s a size region places.0 places.1 place known fits h (is_set region a.marks (load_bytes size) places) refl
+kept_read : (header : Header) (s : State) (a : StateValue) (size : LoadSize) (first last place : ℕ) → IsHeader header → Fits s a → IsBetween 512 (load_bytes size) first last place → is_set Stack a.marks (load_bytes size) (first, last) ≡ true → (t : Bool) → is_place (load_bytes size) (first, last) ≡ t → FitsResult (load_value size (little_endian (byte_of header s.stack Stack) (load_bytes size) place)) (Ok (Num (if t then range_at a (first / 8) else loaded_range size)))
+kept_read header s a size first last place known fits between e true is =
+    place_read header s a size first last place fits between e (place_test (load_bytes size) (first, last) is)
+kept_read header s a size first last place known fits between e false is =
+    table_read header s a size Stack first last place known fits between e
+
+range_read : (spill : Spill) (header : Header) (s : State) (a : StateValue) (size : LoadSize) (region : Region) (first last place : ℕ) → IsHeader header → Fits s a → IsBetween (region_size region) (load_bytes size) first last place → is_set region a.marks (load_bytes size) (first, last) ≡ true → FitsResult (load_value size (little_endian (byte_of header s.stack region) (load_bytes size) place)) (Ok (Num (read_range spill a size region (first, last))))
+range_read Forgets header s a size region first last place known fits between e =
+    table_read header s a size region first last place known fits between e
+range_read Keeps header s a size Front first last place known fits between e =
+    table_read header s a size Front first last place known fits between e
+range_read Keeps header s a size Tail first last place known fits between e =
+    table_read header s a size Tail first last place known fits between e
+range_read Keeps header s a size Stack first last place known fits between e =
+    kept_read header s a size first last place known fits between e (is_place (load_bytes size) (first, last)) refl
+
+-- by whether all of them are set
+read_by_test : (spill : Spill) (header : Header) (s : State) (a : StateValue) (size : LoadSize) (region : Region) (first last place : ℕ) → IsHeader header → Fits s a → IsBetween (region_size region) (load_bytes size) first last place → (t : Bool) → is_set region a.marks (load_bytes size) (first, last) ≡ t → FitsResult (load_value size (little_endian (byte_of header s.stack region) (load_bytes size) place)) (if t then Ok (Num (read_range spill a size region (first, last))) else Err UnsetStack)
+read_by_test spill header s a size region first last place known fits between false e = tt
+read_by_test spill header s a size region first last place known fits between true e =
+    range_read spill header s a size region first last place known fits between e
+
+read_fits : (spill : Spill) (header : Header) (s : State) (a : StateValue) (size : LoadSize) (region : Region) (places : Option (ℕ × ℕ)) (place : Option ℕ) → IsHeader header → Fits s a → HasPlace (region_size region) (load_bytes size) places place → FitsResult (load_value size (bytes_at header s.stack region (load_bytes size) place)) (read_kind spill a size region places)
+read_fits spill header s a size region None place known fits h = tt
+read_fits spill header s a size region (Some places) None known fits h = absurd h
+read_fits spill header s a size region (Some places) (Some place) known fits h =
+    read_by_test spill header s a size region places.0 places.1 place known fits h (is_set region a.marks (load_bytes size) places) refl
 
 -- a load through a pointer
-pub load_fits : (header : Header) (s : State) (a : StateValue) (size : LoadSize) (u : Value) (p : AbsKind) (offset : ℤ) → IsHeader header → Fits s a → FitsKind u p → FitsResult (loads header s size u offset) (load_kind a size p offset)
-load_fits header s a size u Unset offset known fits g = tt
-load_fits header s a size u (Num n) offset known fits g = tt
-load_fits header s a size u (Map i) offset known fits g = tt
-load_fits header s a size Nothing (Ptr t o) offset known fits g = absurd g
-load_fits header s a size (Number n) (Ptr t o) offset known fits g = absurd g
-load_fits header s a size (MapOf i) (Ptr t o) offset known fits g = absurd g
-load_fits header s a size (Pointer r z) (Ptr t o) offset known fits g =
-    let P : Region → Type 0 = λ x. FitsResult (loads header s size (Pointer r z) offset) (load_kind a size (Ptr x o) offset) in
+pub load_fits : (spill : Spill) (header : Header) (s : State) (a : StateValue) (size : LoadSize) (u : Value) (p : AbsKind) (offset : ℤ) → IsHeader header → Fits s a → FitsKind u p → FitsResult (loads header s size u offset) (load_kind spill a size p offset)
+load_fits spill header s a size u Unset offset known fits g = tt
+load_fits spill header s a size u (Num n) offset known fits g = tt
+load_fits spill header s a size u (Map i) offset known fits g = tt
+load_fits spill header s a size Nothing (Ptr t o) offset known fits g = absurd g
+load_fits spill header s a size (Number n) (Ptr t o) offset known fits g = absurd g
+load_fits spill header s a size (MapOf i) (Ptr t o) offset known fits g = absurd g
+load_fits spill header s a size (Pointer r z) (Ptr t o) offset known fits g =
+    let P : Region → Type 0 = λ x. FitsResult (loads header s size (Pointer r z) offset) (load_kind spill a size (Ptr x o) offset) in
     subst P g.0
-    (read_fits header s a size r (access_places r (load_bytes size) o offset) (place_of r (load_bytes size) (z +ℤ offset)) known fits (place_between r (load_bytes size) o offset z g.1))
+    (read_fits spill header s a size r (access_places r (load_bytes size) o offset) (place_of r (load_bytes size) (z +ℤ offset)) known fits (place_between r (load_bytes size) o offset z g.1))

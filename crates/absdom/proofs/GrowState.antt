@@ -1,9 +1,7 @@
 -- Larger states give larger states.
-use Rattle.std.proofs.Common.{◌≡◌, ◌≢◌, ℕ, zero, suc, ◌+◌, ◌-◌, ◌<◌, ◌≤◌, ℤ, ◌+ℤ◌, ◌≤ℤ◌, Bool, true, false, ◌==◌, if◌then◌else◌, refl, sym, ◌∙◌, subst, arith, ◌⊎◌, inl, inr, Option, Some, None, Result, Ok, Err, List, [], ◌∷◌, length, set, get_or-set_same, get_or-set_other, length-set}
+use Rattle.std.proofs.Common.{◌≡◌, ◌≢◌, ℕ, zero, suc, ◌+◌, ◌-◌, ◌*◌, ◌/◌, ◌%◌, ◌<◌, ◌≤◌, ℤ, ◌+ℤ◌, ◌≤ℤ◌, Bool, true, false, ◌==◌, if◌then◌else◌, refl, sym, ◌∙◌, subst, arith, ◌⊎◌, inl, inr, Option, Some, None, Result, Ok, Err, List, [], ◌∷◌, length, set, get_or-set_same, get_or-set_other, length-set}
 use Rattle.std.proofs.lemmas.Int.{ints}
-use Rattle.std.proofs.lemmas.Bool.{cases_lt}
 use Rattle.std.proofs.lemmas.Bool.Decides.{nat_tests}
-use Rattle.std.proofs.lemmas.List.{set_past}
 use Rattle.bpf_parts.specs.declared.operation.Width.TheVariants.{Bits64}
 use Rattle.bpf_parts.specs.declared.operation.Operand.{Operand}
 use Rattle.bpf_parts.specs.declared.operation.Operand.TheVariants.{FromRegister, Immediate}
@@ -13,6 +11,8 @@ use Rattle.machine.specs.declared.regions.Region.{Region}
 use Rattle.machine.specs.declared.regions.Region.TheVariants.{Front, Tail, Stack}
 use Rattle.bpf_parts.specs.Sizes.{size_bytes, load_bytes}
 use Rattle.machine.specs.Memory.{region_size, place_of}
+use Rattle.absdom_num.specs.declared.ranges.Range.{Range}
+use Rattle.absdom_num.specs.Ranges.{IsRange, IsWithin}
 use Rattle.absdom_num.specs.Tables.{whole_range, single_range, negated_range, extended_range, swapped_range}
 use Rattle.absdom_num.specs.Laws.{AluGrows, NegateGrows, MoveSignedGrows, ByteSwapGrows}
 use Rattle.absdom.specs.declared.cause.Cause.{Cause}
@@ -21,14 +21,17 @@ use Rattle.absdom.specs.declared.kinds.AbsKind.{AbsKind}
 use Rattle.absdom.specs.declared.kinds.AbsKind.TheVariants.{Unset, Num, Ptr, Map}
 use Rattle.absdom.specs.Offsets.{AreAmong}
 use Rattle.absdom.specs.Kinds.{number_of, IsKindBelow}
-use Rattle.absdom.specs.State.{StateValue, IsBelow, kind_in, kind_at, with_kind, with_marks, IsProper, IsWhole}
-use Rattle.absdom.specs.Marks.{mark_at, all_marked, marks_after}
-use Rattle.absdom.specs.Effect.{operand_kind, alu_kind, unary_kind, both_places, access_places, is_set, loaded_range, read_kind, load_kind, after_write_at, after_write_to, after_store, with_result, map_kind}
+use Rattle.absdom.specs.State.{StateValue, IsBelow, kind_in, kind_at, range_at, with_kind, IsProper, IsWhole}
+use Rattle.absdom.specs.Marks.{mark_at, marks_after, AreMarkedIn}
+use Rattle.absdom.specs.Places.{range_in, is_touched, is_place, AreRangesWithin}
+use Rattle.absdom.specs.declared.spill.Spill.{Spill}
+use Rattle.absdom.specs.declared.spill.Spill.TheVariants.{Forgets, Keeps}
+use Rattle.absdom.specs.Effect.{operand_kind, alu_kind, unary_kind, both_places, access_places, is_set, loaded_range, read_range, read_kind, load_kind, stored_ranges, with_stored, after_write_at, after_write_to, after_store, with_result, map_kind}
 use Rattle.absdom.specs.Laws.{ApplyGrows as StatesGrow, IsGrown, CallGrows}
 use Rattle.absdom.proofs.Order.{region_from_test, kind_below-refl}
-use Rattle.absdom.proofs.FitsMemory.{IsBetween, HasPlace, place_between, marked_bytes, word_below}
-use Rattle.absdom.proofs.FitsState.{mark_is_new}
-use Rattle.absdom.proofs.MarkSteps.{length-marked}
+use Rattle.absdom.proofs.FitsMemory.{IsBetween, HasPlace, place_between, word_below}
+use Rattle.absdom.proofs.MarkSteps.{marked_bytes, all_marked_from, mark_stays, mark_made, mark_is_new}
+use Rattle.absdom.proofs.PlaceSteps.{whole_proper, within_whole, place_test, place_if, apart, not_touching, IsFilled, filled_at, touched_at, left_at, stored_each}
 use Rattle.absdom.proofs.GrowAlu.{IsKindGrown, alu_grows, computed_alone_grows}
 
 -- ---- registers
@@ -52,7 +55,7 @@ below_by_test xs ys r k l e h g q true t =
 
 pub with_kind_grows : (a b : StateValue) (r : ℕ) (k l : AbsKind) → length a.kinds ≡ length b.kinds → IsKindBelow k l → IsBelow a b → IsBelow (with_kind a r k) (with_kind b r l)
 with_kind_grows a b r k l e h below =
-    record { kinds = λ q. below_by_test a.kinds b.kinds r k l e h below.kinds q (q == r) refl; marks = below.marks }
+    record { kinds = λ q. below_by_test a.kinds b.kinds r k l e h below.kinds q (q == r) refl; marks = below.marks; ranges = below.ranges }
 
 same_size : (a b : StateValue) → IsWhole a → IsWhole b → length a.kinds ≡ length b.kinds
 same_size a b p q = p.sizes.registers ∙ sym q.sizes.registers
@@ -86,15 +89,6 @@ places_between region bytes small large offset p h =
     (place_between region bytes large offset small.0 (record { above = h.above; below = omega (arith, ints, h.below) }))
     (place_between region bytes large offset small.1 (record { above = omega (arith, ints, h.above); below = h.below }))
 
--- all of so many are marked where each is
-all_marked_from : (marks : List Bool) (first n : ℕ) → ((k : ℕ) → k < n → mark_at marks (first + k) ≡ true) → all_marked marks first n ≡ true
-unfolding all_marked
-all_marked_from marks first zero h = refl
-all_marked_from marks first (suc n) h =
-    let rest : all_marked marks first n ≡ true = all_marked_from marks first n (λ k l. h k (omega arith)) in
-    let last : mark_at marks (first + n) ≡ true = h n (omega arith) in
-    rw (rest, last) refl
-
 still_set : (region : Region) (xs ys : List Bool) (size bytes : ℕ) (large small : ℕ × ℕ) → ((p : ℕ) → mark_at ys p ≡ true → mark_at xs p ≡ true) → AreWithin size bytes large small → is_set region ys bytes large ≡ true → is_set region xs bytes small ≡ true
 still_set Front xs ys size bytes large small m w e = refl
 still_set Tail xs ys size bytes large small m w e = refl
@@ -106,113 +100,177 @@ still_set Stack xs ys size bytes large small m w e =
     let P : ℕ → Type 0 = λ p. mark_at xs p ≡ true in
     subst P d (m (large.0 + (small.0 + k - large.0)) b))
 
-read_by_test : (a b : StateValue) (size : LoadSize) (region : Region) (large small : ℕ × ℕ) → IsBelow a b → AreWithin (region_size region) (load_bytes size) large small → (t : Bool) → is_set region b.marks (load_bytes size) large ≡ t → IsKindGrown (read_kind a size region (Some small)) (if t then Ok (Num (loaded_range size)) else Err UnsetStack)
-read_by_test a b size region large small below w false e = tt
-read_by_test a b size region large small below w true e =
+within-refl : (r : Range) → IsWithin r r
+within-refl r = record { above = omega arith; below = omega arith }
+
+-- a load of eight bytes alone is of one place
+whole_loaded : (size : LoadSize) → load_bytes size ≡ 8 → (r : Range) → IsRange r → IsWithin r (loaded_range size)
+whole_loaded LoadByte e r h = let no : 1 ≡ 8 = e in absurd (omega arith)
+whole_loaded LoadHalf e r h = let no : 2 ≡ 8 = e in absurd (omega arith)
+whole_loaded LoadWord e r h = let no : 4 ≡ 8 = e in absurd (omega arith)
+whole_loaded LoadDouble e r h = within_whole r h
+whole_loaded SignedByte e r h = let no : 1 ≡ 8 = e in absurd (omega arith)
+whole_loaded SignedHalf e r h = let no : 2 ≡ 8 = e in absurd (omega arith)
+whole_loaded SignedWord e r h = let no : 4 ≡ 8 = e in absurd (omega arith)
+
+-- by whether the accesses are of one place
+kept_grows : (a b : StateValue) (size : LoadSize) (large small : ℕ × ℕ) → IsWhole a → IsBelow a b → AreWithin 512 (load_bytes size) large small → (t u : Bool) → is_place (load_bytes size) large ≡ t → is_place (load_bytes size) small ≡ u → IsWithin (if u then range_at a (small.0 / 8) else loaded_range size) (if t then range_at b (large.0 / 8) else loaded_range size)
+kept_grows a b size large small p below w false false e f = within-refl (loaded_range size)
+kept_grows a b size large small p below w false true e f =
+    let is = place_test (load_bytes size) small f in
+    whole_loaded size is.0 (range_at a (small.0 / 8)) (p.ranges (small.0 / 8))
+kept_grows a b size large small p below w true true e f =
+    let is = place_test (load_bytes size) large e in
+    let one : large.0 ≡ large.1 = is.1.0 in
+    let same : small.0 ≡ large.0 = omega (arith, w.first.above, w.first.below) in
+    let P : ℕ → Type 0 = λ n. IsWithin (range_at a (n / 8)) (range_at b (large.0 / 8)) in
+    subst P (sym same) (below.ranges (large.0 / 8))
+kept_grows a b size large small p below w true false e f =
+    let is = place_test (load_bytes size) large e in
+    let eight : load_bytes size ≡ 8 = is.0 in
+    let one : large.0 ≡ large.1 = is.1.0 in
+    let even : large.0 % 8 ≡ 0 = is.1.1 in
+    let first : small.0 ≡ 8 * (large.0 / 8) = omega (arith, w.first.above, w.first.below) in
+    let two : small.0 ≡ small.1 = omega (arith, w.first.above, w.first.below, w.last.above, w.last.below) in
+    let yes : is_place (load_bytes size) small ≡ true = place_if (load_bytes size) small (large.0 / 8) eight two first in
+    let no : true ≡ false = sym yes ∙ f in
+    absurd cc
+
+range_grows : (spill : Spill) (a b : StateValue) (size : LoadSize) (region : Region) (large small : ℕ × ℕ) → IsWhole a → IsBelow a b → AreWithin (region_size region) (load_bytes size) large small → IsWithin (read_range spill a size region small) (read_range spill b size region large)
+range_grows Forgets a b size region large small p below w = within-refl (loaded_range size)
+range_grows Keeps a b size Front large small p below w = within-refl (loaded_range size)
+range_grows Keeps a b size Tail large small p below w = within-refl (loaded_range size)
+range_grows Keeps a b size Stack large small p below w =
+    kept_grows a b size large small p below w (is_place (load_bytes size) large) (is_place (load_bytes size) small) refl refl
+
+read_by_test : (spill : Spill) (a b : StateValue) (size : LoadSize) (region : Region) (large small : ℕ × ℕ) → IsWhole a → IsBelow a b → AreWithin (region_size region) (load_bytes size) large small → (t : Bool) → is_set region b.marks (load_bytes size) large ≡ t → IsKindGrown (read_kind spill a size region (Some small)) (if t then Ok (Num (read_range spill b size region large)) else Err UnsetStack)
+read_by_test spill a b size region large small p below w false e = tt
+read_by_test spill a b size region large small p below w true e =
     let yes : is_set region a.marks (load_bytes size) small ≡ true
     = still_set region a.marks b.marks (region_size region) (load_bytes size) large small below.marks w e in
-    let P : Bool → Type 0 = λ t. IsKindGrown (if t then Ok (Num (loaded_range size)) else Err UnsetStack) (Ok (Num (loaded_range size))) in
-    subst P (sym yes) (kind_below-refl (Num (loaded_range size)))
+    let P : Bool → Type 0 = λ t. IsKindGrown (if t then Ok (Num (read_range spill a size region small)) else Err UnsetStack) (Ok (Num (read_range spill b size region large))) in
+    subst P (sym yes) (range_grows spill a b size region large small p below w)
 
-read_grows : (a b : StateValue) (size : LoadSize) (region : Region) (large small : Option (ℕ × ℕ)) → IsBelow a b → HasPlaces (region_size region) (load_bytes size) large small → IsKindGrown (read_kind a size region small) (read_kind b size region large)
-read_grows a b size region None small below h = tt
-read_grows a b size region (Some large) None below h = absurd h
-read_grows a b size region (Some large) (Some small) below h =
-    read_by_test a b size region large small below h (is_set region b.marks (load_bytes size) large) refl
+read_grows : (spill : Spill) (a b : StateValue) (size : LoadSize) (region : Region) (large small : Option (ℕ × ℕ)) → IsWhole a → IsBelow a b → HasPlaces (region_size region) (load_bytes size) large small → IsKindGrown (read_kind spill a size region small) (read_kind spill b size region large)
+read_grows spill a b size region None small p below h = tt
+read_grows spill a b size region (Some large) None p below h = absurd h
+read_grows spill a b size region (Some large) (Some small) p below h =
+    read_by_test spill a b size region large small p below h (is_set region b.marks (load_bytes size) large) refl
 
-load_grows : (a b : StateValue) (size : LoadSize) (p q : AbsKind) (offset : ℤ) → IsBelow a b → IsProper p → IsKindBelow p q → IsKindGrown (load_kind a size p offset) (load_kind b size q offset)
-load_grows a b size p Unset offset below k h = tt
-load_grows a b size p (Num n) offset below k h = tt
-load_grows a b size p (Map i) offset below k h = tt
-load_grows a b size Unset (Ptr s x) offset below k h = absurd h
-load_grows a b size (Num n) (Ptr s x) offset below k h = absurd h
-load_grows a b size (Map i) (Ptr s x) offset below k h = absurd h
-load_grows a b size (Ptr r o) (Ptr s x) offset below k h =
-    let P : Region → Type 0 = λ t. IsKindGrown (load_kind a size (Ptr r o) offset) (load_kind b size (Ptr t x) offset) in
+load_grows : (spill : Spill) (a b : StateValue) (size : LoadSize) (p q : AbsKind) (offset : ℤ) → IsWhole a → IsBelow a b → IsProper p → IsKindBelow p q → IsKindGrown (load_kind spill a size p offset) (load_kind spill b size q offset)
+load_grows spill a b size p Unset offset whole below k h = tt
+load_grows spill a b size p (Num n) offset whole below k h = tt
+load_grows spill a b size p (Map i) offset whole below k h = tt
+load_grows spill a b size Unset (Ptr s x) offset whole below k h = absurd h
+load_grows spill a b size (Num n) (Ptr s x) offset whole below k h = absurd h
+load_grows spill a b size (Map i) (Ptr s x) offset whole below k h = absurd h
+load_grows spill a b size (Ptr r o) (Ptr s x) offset whole below k h =
+    let P : Region → Type 0 = λ t. IsKindGrown (load_kind spill a size (Ptr r o) offset) (load_kind spill b size (Ptr t x) offset) in
     subst P (region_from_test r s h.0)
-    (read_grows a b size r (access_places r (load_bytes size) x offset) (access_places r (load_bytes size) o offset) below (places_between r (load_bytes size) o x offset k h.1))
+    (read_grows spill a b size r (access_places r (load_bytes size) x offset) (access_places r (load_bytes size) o offset) whole below (places_between r (load_bytes size) o x offset k h.1))
 
--- ---- marks
-
-equal_or_not : (m n : ℕ) → (m ≡ n) ⊎ (m ≢ n)
-equal_or_not m n = grind (arith, nat_tests)
-
--- a mark stays where others are made
-pub mark_stays : (marks : List Bool) (first bytes p : ℕ) → mark_at marks p ≡ true → mark_at (marks_after marks first bytes) p ≡ true
-unfolding marks_after
-mark_stays marks first zero p e = e
-mark_stays marks first (suc bytes) p e =
-    elim (equal_or_not p (first + bytes)) [
-      | inl d ↦
-          elim (cases_lt (first + bytes) (length (marks_after marks first bytes))) [
-            | inl l ↦ rw (d, get_or-set_same (marks_after marks first bytes) (first + bytes) true false l) refl
-            | inr l ↦ rw (set_past (marks_after marks first bytes) (first + bytes) true l) (mark_stays marks first bytes p e)
-          ]
-      | inr ne ↦ rw (get_or-set_other (marks_after marks first bytes) (first + bytes) p true false ne) (mark_stays marks first bytes p e)
-    ]
-
--- a byte that was written is marked
-mark_made : (marks : List Bool) (first bytes p : ℕ) → first + bytes ≤ length marks → first ≤ p → p < first + bytes → mark_at (marks_after marks first bytes) p ≡ true
-unfolding marks_after
-mark_made marks first zero p room g h = absurd (omega arith)
-mark_made marks first (suc bytes) p room g h =
-    elim (equal_or_not p (first + bytes)) [
-      | inl d ↦
-          let l : first + bytes < length (marks_after marks first bytes) = omega (arith, length-marked marks first bytes) in
-          rw (d, get_or-set_same (marks_after marks first bytes) (first + bytes) true false l) refl
-      | inr ne ↦
-          rw (get_or-set_other (marks_after marks first bytes) (first + bytes) p true false ne)
-          (mark_made marks first bytes p (omega arith) g (omega arith))
-    ]
+-- ---- stores
 
 -- by whether the accesses have one place
-wrote_by_tests : (a b : StateValue) (bytes : ℕ) (large small : ℕ × ℕ) → length a.marks ≡ 512 → IsBelow a b → AreWithin 512 bytes large small → (t u : Bool) → (large.0 == large.1) ≡ t → (small.0 == small.1) ≡ u → IsBelow (if u then with_marks a (marks_after a.marks small.0 bytes) else a) (if t then with_marks b (marks_after b.marks large.0 bytes) else b)
-wrote_by_tests a b bytes large small size below w false false e f = below
-wrote_by_tests a b bytes large small size below w false true e f =
-    record { kinds = below.kinds; marks = λ p m. mark_stays a.marks small.0 bytes p (below.marks p m) }
-wrote_by_tests a b bytes large small size below w true false e f =
+marks_by_tests : (xs ys : List Bool) (bytes : ℕ) (large small : ℕ × ℕ) → length xs ≡ 512 → AreMarkedIn ys xs → AreWithin 512 bytes large small → (t u : Bool) → (large.0 == large.1) ≡ t → (small.0 == small.1) ≡ u → AreMarkedIn (if t then marks_after ys large.0 bytes else ys) (if u then marks_after xs small.0 bytes else xs)
+marks_by_tests xs ys bytes large small size m w false false e f = m
+marks_by_tests xs ys bytes large small size m w false true e f = λ p h. mark_stays xs small.0 bytes p (m p h)
+marks_by_tests xs ys bytes large small size m w true false e f =
     let one : large.0 ≡ large.1 = grind (arith, nat_tests) in
     let two : small.0 ≡ small.1 = omega (arith, w.first.above, w.first.below, w.last.above, w.last.below) in
     let no : small.0 ≢ small.1 = grind (arith, nat_tests) in
     absurd (no two)
-wrote_by_tests a b bytes large small size below w true true e f =
+marks_by_tests xs ys bytes large small size m w true true e f =
     let one : large.0 ≡ large.1 = grind (arith, nat_tests) in
     let same : small.0 ≡ large.0 = omega (arith, w.first.above, w.first.below) in
+    λ p h.
+    elim (mark_is_new ys large.0 bytes p h) [
+      | inl old ↦ mark_stays xs small.0 bytes p (m p old)
+      | inr new ↦ mark_made xs small.0 bytes p (omega (arith, w.first.room)) (omega (arith, new.0)) (omega (arith, new.1))
+    ]
+
+-- of two lists of one length the ranges at the place that was written, or whole in both
+within_at_place : (xs ys : List Range) (k : ℕ) (v w : Range) → length xs ≡ length ys → IsWithin v w → IsWithin (range_in (set xs k v) k) (range_in (set ys k w) k)
+within_at_place [] [] k v w e h = within-refl (whole_range Bits64)
+within_at_place [] (y ∷ ys) k v w e h = absurd (omega arith)
+within_at_place (x ∷ xs) [] k v w e h = absurd (omega arith)
+within_at_place (x ∷ xs) (y ∷ ys) zero v w e h = h
+within_at_place (x ∷ xs) (y ∷ ys) (suc k) v w e h = within_at_place xs ys k v w (omega arith) h
+
+-- a place that the larger access does not touch the smaller does not touch
+touched_less : (bytes : ℕ) (large small : ℕ × ℕ) (k : ℕ) → AreWithin 512 bytes large small → is_touched k large.0 (large.1 + bytes - 1) ≡ false → is_touched k small.0 (small.1 + bytes - 1) ≡ false
+touched_less bytes large small k w e =
+    let away : (large.1 + bytes - 1 < 8 * k) ⊎ (8 * k + 7 < large.0) = apart k large.0 (large.1 + bytes - 1) e in
+    let low : large.0 ≤ small.0 = w.first.above in
+    let high : small.1 ≤ large.1 = w.last.below in
+    not_touching k small.0 (small.1 + bytes - 1) (elim away [ inl h ↦ inl (omega arith) | inr h ↦ inr (omega arith) ])
+
+-- a place that the larger access fills the smaller fills
+filled_less : (spill : Spill) (bytes : ℕ) (large small : ℕ × ℕ) (k : ℕ) → AreWithin 512 bytes large small → IsFilled spill bytes large k → IsFilled spill bytes small k
+filled_less spill bytes large small k w h =
+    let one : large.0 ≡ large.1 = h.one in
+    let first : large.0 ≡ 8 * k = h.first in
     record {
-      kinds = below.kinds;
-      marks = λ p m.
-          elim (mark_is_new b.marks large.0 bytes p m) [
-            | inl old ↦ mark_stays a.marks small.0 bytes p (below.marks p old)
-            | inr new ↦ mark_made a.marks small.0 bytes p (omega (arith, w.first.room)) (omega (arith, new.0)) (omega (arith, new.1))
-          ];
+      keeps = h.keeps;
+      eight = h.eight;
+      one = omega (arith, w.first.above, w.first.below, w.last.above, w.last.below);
+      first = omega (arith, w.first.above, w.first.below);
     }
 
-wrote_at_grows : (a b : StateValue) (bytes : ℕ) (large small : Option (ℕ × ℕ)) → length a.marks ≡ 512 → IsBelow a b → HasPlaces 512 bytes large small → IsGrown (after_write_at a bytes small) (after_write_at b bytes large)
-wrote_at_grows a b bytes None small size below h = tt
-wrote_at_grows a b bytes (Some large) None size below h = absurd h
-wrote_at_grows a b bytes (Some large) (Some small) size below h =
-    wrote_by_tests a b bytes large small size below h (large.0 == large.1) (small.0 == small.1) refl refl
+ranges_grow : (spill : Spill) (a b : StateValue) (bytes : ℕ) (large small : ℕ × ℕ) (v w : Range) → IsWhole a → IsWhole b → IsBelow a b → IsRange v → IsWithin v w → AreWithin 512 bytes large small → AreRangesWithin (stored_ranges spill a.ranges bytes small v) (stored_ranges spill b.ranges bytes large w)
+ranges_grow spill a b bytes large small v w p q below proper h inside k = by_test (is_touched k large.0 (large.1 + bytes - 1)) refl
+  where
+    new : Range
+    new = range_in (stored_ranges spill a.ranges bytes small v) k
+    sizes : length a.ranges ≡ length b.ranges
+    sizes = p.sizes.places ∙ sym q.sizes.places
+    by_test : (t : Bool) → is_touched k large.0 (large.1 + bytes - 1) ≡ t → IsWithin new (range_in (stored_ranges spill b.ranges bytes large w) k)
+    by_test false t =
+        rw (left_at spill a.ranges bytes small v k (touched_less bytes large small k inside t), left_at spill b.ranges bytes large w k t) (below.ranges k)
+    by_test true t =
+        elim (touched_at spill b.ranges bytes large w k t) [
+          | inl fill ↦
+              rw (filled_at spill a.ranges bytes small v k (filled_less spill bytes large small k inside fill), filled_at spill b.ranges bytes large w k fill)
+              (within_at_place a.ranges b.ranges k v w sizes h)
+          | inr whole ↦
+              let P : Range → Type 0 = λ r. IsWithin new r in
+              subst P (sym whole) (within_whole new (stored_each IsRange spill a.ranges bytes small v proper whole_proper p.ranges k))
+        ]
 
-store_grows : (a b : StateValue) (bytes : ℕ) (p q p' q' : AbsKind) (offset : ℤ) → length a.marks ≡ 512 → IsBelow a b → IsProper p → IsKindBelow p p' → IsKindBelow q q' → IsGrown (after_store a bytes p offset (number_of q)) (after_store b bytes p' offset (number_of q'))
-store_grows a b bytes p q Unset q' offset size below k g h = tt
-store_grows a b bytes p q (Num n) q' offset size below k g h = tt
-store_grows a b bytes p q (Map i) q' offset size below k g h = tt
-store_grows a b bytes p q (Ptr s x) Unset offset size below k g h = tt
-store_grows a b bytes p q (Ptr s x) (Ptr t y) offset size below k g h = tt
-store_grows a b bytes p q (Ptr s x) (Map i) offset size below k g h = tt
-store_grows a b bytes p q (Ptr Front x) (Num n) offset size below k g h = tt
-store_grows a b bytes p q (Ptr Tail x) (Num n) offset size below k g h = tt
-store_grows a b bytes Unset q (Ptr Stack x) (Num n) offset size below k g h = absurd g
-store_grows a b bytes (Num m) q (Ptr Stack x) (Num n) offset size below k g h = absurd g
-store_grows a b bytes (Map i) q (Ptr Stack x) (Num n) offset size below k g h = absurd g
-store_grows a b bytes (Ptr r o) Unset (Ptr Stack x) (Num n) offset size below k g h = absurd h
-store_grows a b bytes (Ptr r o) (Ptr t y) (Ptr Stack x) (Num n) offset size below k g h = absurd h
-store_grows a b bytes (Ptr r o) (Map i) (Ptr Stack x) (Num n) offset size below k g h = absurd h
-store_grows a b bytes (Ptr r o) (Num m) (Ptr Stack x) (Num n) offset size below k g h =
+wrote_grows : (spill : Spill) (a b : StateValue) (bytes : ℕ) (large small : ℕ × ℕ) (v w : Range) → IsWhole a → IsWhole b → IsBelow a b → IsRange v → IsWithin v w → AreWithin 512 bytes large small → IsBelow (with_stored spill a bytes small v) (with_stored spill b bytes large w)
+wrote_grows spill a b bytes large small v w p q below proper h inside =
+    record {
+      kinds = below.kinds;
+      marks = marks_by_tests a.marks b.marks bytes large small p.sizes.bytes below.marks inside (large.0 == large.1) (small.0 == small.1) refl refl;
+      ranges = ranges_grow spill a b bytes large small v w p q below proper h inside;
+    }
+
+wrote_at_grows : (spill : Spill) (a b : StateValue) (bytes : ℕ) (large small : Option (ℕ × ℕ)) (v w : Range) → IsWhole a → IsWhole b → IsBelow a b → IsRange v → IsWithin v w → HasPlaces 512 bytes large small → IsGrown (after_write_at spill a bytes small v) (after_write_at spill b bytes large w)
+wrote_at_grows spill a b bytes None small v w p q below proper h inside = tt
+wrote_at_grows spill a b bytes (Some large) None v w p q below proper h inside = absurd inside
+wrote_at_grows spill a b bytes (Some large) (Some small) v w p q below proper h inside =
+    wrote_grows spill a b bytes large small v w p q below proper h inside
+
+store_grows : (spill : Spill) (a b : StateValue) (bytes : ℕ) (p q p' q' : AbsKind) (offset : ℤ) → IsWhole a → IsWhole b → IsBelow a b → IsProper p → IsProper q → IsKindBelow p p' → IsKindBelow q q' → IsGrown (after_store spill a bytes p offset (number_of q)) (after_store spill b bytes p' offset (number_of q'))
+store_grows spill a b bytes p q Unset q' offset x y below k l g h = tt
+store_grows spill a b bytes p q (Num n) q' offset x y below k l g h = tt
+store_grows spill a b bytes p q (Map i) q' offset x y below k l g h = tt
+store_grows spill a b bytes p q (Ptr s z) Unset offset x y below k l g h = tt
+store_grows spill a b bytes p q (Ptr s z) (Ptr t o) offset x y below k l g h = tt
+store_grows spill a b bytes p q (Ptr s z) (Map i) offset x y below k l g h = tt
+store_grows spill a b bytes p q (Ptr Front z) (Num n) offset x y below k l g h = tt
+store_grows spill a b bytes p q (Ptr Tail z) (Num n) offset x y below k l g h = tt
+store_grows spill a b bytes Unset q (Ptr Stack z) (Num n) offset x y below k l g h = absurd g
+store_grows spill a b bytes (Num m) q (Ptr Stack z) (Num n) offset x y below k l g h = absurd g
+store_grows spill a b bytes (Map i) q (Ptr Stack z) (Num n) offset x y below k l g h = absurd g
+store_grows spill a b bytes (Ptr r o) Unset (Ptr Stack z) (Num n) offset x y below k l g h = absurd h
+store_grows spill a b bytes (Ptr r o) (Ptr t u) (Ptr Stack z) (Num n) offset x y below k l g h = absurd h
+store_grows spill a b bytes (Ptr r o) (Map i) (Ptr Stack z) (Num n) offset x y below k l g h = absurd h
+store_grows spill a b bytes (Ptr r o) (Num m) (Ptr Stack z) (Num n) offset x y below k l g h =
     let same : Stack ≡ r = sym (region_from_test r Stack g.0) in
-    let P : Region → Type 0 = λ t. IsGrown (after_write_to a bytes t o offset) (after_write_at b bytes (access_places Stack bytes x offset)) in
+    let P : Region → Type 0 = λ t. IsGrown (after_write_to spill a bytes t o offset m) (after_write_at spill b bytes (access_places Stack bytes z offset) n) in
     subst P same
-    (wrote_at_grows a b bytes (access_places Stack bytes x offset) (access_places Stack bytes o offset) size below (places_between Stack bytes o x offset k g.1))
+    (wrote_at_grows spill a b bytes (access_places Stack bytes z offset) (access_places Stack bytes o offset) m n x y below l h (places_between Stack bytes o z offset k g.1))
 
 -- ---- instructions
 
@@ -225,32 +283,32 @@ operand_proper a (FromRegister r) p = p.kinds r
 operand_proper a (Immediate z) p = record { in_order = omega arith; words = word_below z }
 
 pub apply_grows : AluGrows → NegateGrows → MoveSignedGrows → ByteSwapGrows → StatesGrow
-apply_grows af nf mf bf a b (Alu op width dst src) p q below =
+apply_grows af nf mf bf spill a b (Alu op width dst src) p q below =
     written_grows a b dst (alu_kind op width (kind_at a dst) (operand_kind a src)) (alu_kind op width (kind_at b dst) (operand_kind b src)) p q below
     (alu_grows af op width (kind_at a dst) (operand_kind a src) (kind_at b dst) (operand_kind b src) (p.kinds dst) (operand_proper a src p) (below.kinds dst) (operand_below a b src below))
-apply_grows af nf mf bf a b (Negate width dst) p q below =
+apply_grows af nf mf bf spill a b (Negate width dst) p q below =
     written_grows a b dst (unary_kind (negated_range width) (number_of (kind_at a dst))) (unary_kind (negated_range width) (number_of (kind_at b dst))) p q below
     (computed_alone_grows (negated_range width) (nf width) (kind_at a dst) (kind_at b dst) (p.kinds dst) (below.kinds dst))
-apply_grows af nf mf bf a b (MoveSigned extension dst src) p q below =
+apply_grows af nf mf bf spill a b (MoveSigned extension dst src) p q below =
     written_grows a b dst (unary_kind (extended_range extension) (number_of (kind_at a src))) (unary_kind (extended_range extension) (number_of (kind_at b src))) p q below
     (computed_alone_grows (extended_range extension) (mf extension) (kind_at a src) (kind_at b src) (p.kinds src) (below.kinds src))
-apply_grows af nf mf bf a b (ByteSwap swap bits dst) p q below =
+apply_grows af nf mf bf spill a b (ByteSwap swap bits dst) p q below =
     written_grows a b dst (unary_kind (swapped_range swap bits) (number_of (kind_at a dst))) (unary_kind (swapped_range swap bits) (number_of (kind_at b dst))) p q below
     (computed_alone_grows (swapped_range swap bits) (bf swap bits) (kind_at a dst) (kind_at b dst) (p.kinds dst) (below.kinds dst))
-apply_grows af nf mf bf a b (Load size dst place) p q below =
-    written_grows a b dst (load_kind a size (kind_at a place.base) place.offset) (load_kind b size (kind_at b place.base) place.offset) p q below
-    (load_grows a b size (kind_at a place.base) (kind_at b place.base) place.offset below (p.kinds place.base) (below.kinds place.base))
-apply_grows af nf mf bf a b (Store size place src) p q below =
-    store_grows a b (size_bytes size) (kind_at a place.base) (operand_kind a src) (kind_at b place.base) (operand_kind b src) place.offset p.sizes.bytes below (p.kinds place.base) (below.kinds place.base) (operand_below a b src below)
-apply_grows af nf mf bf a b (Jump comparison offset) p q below = below
-apply_grows af nf mf bf a b (Goto distance) p q below = below
-apply_grows af nf mf bf a b (Wide dst value) p q below =
+apply_grows af nf mf bf spill a b (Load size dst place) p q below =
+    written_grows a b dst (load_kind spill a size (kind_at a place.base) place.offset) (load_kind spill b size (kind_at b place.base) place.offset) p q below
+    (load_grows spill a b size (kind_at a place.base) (kind_at b place.base) place.offset p below (p.kinds place.base) (below.kinds place.base))
+apply_grows af nf mf bf spill a b (Store size place src) p q below =
+    store_grows spill a b (size_bytes size) (kind_at a place.base) (operand_kind a src) (kind_at b place.base) (operand_kind b src) place.offset p q below (p.kinds place.base) (operand_proper a src p) (below.kinds place.base) (operand_below a b src below)
+apply_grows af nf mf bf spill a b (Jump comparison offset) p q below = below
+apply_grows af nf mf bf spill a b (Goto distance) p q below = below
+apply_grows af nf mf bf spill a b (Wide dst value) p q below =
     with_kind_grows a b dst (Num (single_range value)) (Num (single_range value)) (same_size a b p q) (kind_below-refl (Num (single_range value))) below
-apply_grows af nf mf bf a b (LoadMap dst index) p q below =
+apply_grows af nf mf bf spill a b (LoadMap dst index) p q below =
     with_kind_grows a b dst (map_kind index) (map_kind index) (same_size a b p q) (kind_below-refl (map_kind index)) below
-apply_grows af nf mf bf a b (LoadAddress dst address) p q below = below
-apply_grows af nf mf bf a b (Call callee number) p q below = below
-apply_grows af nf mf bf a b Exit p q below = below
+apply_grows af nf mf bf spill a b (LoadAddress dst address) p q below = below
+apply_grows af nf mf bf spill a b (Call callee number) p q below = below
+apply_grows af nf mf bf spill a b Exit p q below = below
 
 -- ---- a helper's call
 

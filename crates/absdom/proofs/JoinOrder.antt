@@ -8,7 +8,7 @@ use Rattle.absdom.specs.declared.kinds.AbsKind.{AbsKind}
 use Rattle.absdom.specs.declared.kinds.AbsKind.TheVariants.{Unset, Num, Ptr, Map}
 use Rattle.absdom.specs.Offsets.{joined_offsets, AreAmong}
 use Rattle.absdom.specs.Kinds.{same_region, joined_kinds, IsKindBelow}
-use Rattle.absdom.specs.State.{IsBelow, kind_at}
+use Rattle.absdom.specs.State.{IsBelow, kind_at, range_at}
 use Rattle.absdom.specs.Marks.{mark_at}
 use Rattle.absdom.specs.Laws.{JoinIsAbove, JoinIsLeast, JoinGrows}
 use Rattle.absdom.proofs.Order.{region_from_test, same_region-refl, below_is_transitive}
@@ -160,10 +160,12 @@ join_is_above a b joint j = (
   record {
     kinds = λ k. let P : AbsKind → Type 0 = λ x. IsKindBelow (kind_at a k) x in subst P (sym (j.kinds k)) (kind_left (kind_at a k) (kind_at b k));
     marks = λ p m. mark_left (mark_at a.marks p) (mark_at b.marks p) (mark_at joint.marks p) (j.marks p) m;
+    ranges = λ k. let P : ℕ × ℕ → Type 0 = λ x. IsWithin (range_at a k) x in subst P (sym (j.ranges k)) (range_left (range_at a k) (range_at b k));
   },
   record {
     kinds = λ k. let P : AbsKind → Type 0 = λ x. IsKindBelow (kind_at b k) x in subst P (sym (j.kinds k)) (kind_right (kind_at a k) (kind_at b k));
     marks = λ p m. mark_right (mark_at a.marks p) (mark_at b.marks p) (mark_at joint.marks p) (j.marks p) m;
+    ranges = λ k. let P : ℕ × ℕ → Type 0 = λ x. IsWithin (range_at b k) x in subst P (sym (j.ranges k)) (range_right (range_at a k) (range_at b k));
   },
 )
 
@@ -174,6 +176,9 @@ join_is_least a b joint c j g h =
           let P : AbsKind → Type 0 = λ x. IsKindBelow x (kind_at c k) in
           subst P (sym (j.kinds k)) (kind_least (kind_at a k) (kind_at b k) (kind_at c k) (g.kinds k) (h.kinds k));
       marks = λ p m. mark_both (mark_at a.marks p) (mark_at b.marks p) (mark_at joint.marks p) (j.marks p) (g.marks p m) (h.marks p m);
+      ranges = λ k.
+          let P : ℕ × ℕ → Type 0 = λ x. IsWithin x (range_at c k) in
+          subst P (sym (j.ranges k)) (range_least (range_at a k) (range_at b k) (range_at c k) (g.ranges k) (h.ranges k));
     }
 
 pub join_grows : JoinGrows

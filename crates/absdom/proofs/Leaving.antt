@@ -1,5 +1,5 @@
 -- What an instruction leaves, and that a comparison only refines.
-use Rattle.std.proofs.Common.{◌≡◌, ◌≢◌, ℕ, ◌≤◌, true, false, ◌==◌, if◌then◌else◌, ℤ, refl, ◌∙◌, ap, arith, Option, Some, None, Result, Ok, Err, List, length, length-set, get_or-set_other}
+use Rattle.std.proofs.Common.{◌≡◌, ◌≢◌, ℕ, ◌+◌, ◌-◌, ◌≤◌, true, false, ◌==◌, if◌then◌else◌, ℤ, refl, ◌∙◌, ap, arith, Option, Some, None, Result, Ok, Err, List, length, length-set, get_or-set_other}
 use Rattle.std.specs.Prelude.{◌||◌, IfSome, IfOk}
 use Rattle.std.proofs.lemmas.Bool.Decides.{nat_tests}
 use Rattle.bpf_insn.specs.Flow.{is_written}
@@ -25,13 +25,17 @@ use Rattle.absdom.specs.declared.kinds.AbsKind.{AbsKind}
 use Rattle.absdom.specs.declared.kinds.AbsKind.TheVariants.{Unset, Num, Ptr, Map}
 use Rattle.absdom.specs.Kinds.{number_of, IsKindBelow}
 use Rattle.absdom.specs.State.{StateValue, IsBelow, kind_at, with_kind, after_call}
-use Rattle.absdom.specs.Marks.{marks_after}
-use Rattle.absdom.specs.Effect.{with_bytes_set, after_write_at, after_write_to, after_store, with_result}
+use Rattle.absdom.specs.Places.{AreAllWhole}
+use Rattle.absdom.specs.declared.spill.Spill.{Spill}
+use Rattle.absdom.specs.declared.spill.Spill.TheVariants.{Forgets}
+use Rattle.absdom.specs.Effect.{with_stored, after_write_at, after_write_to, after_store, with_result}
 use Rattle.absdom.specs.Edges.{compared_range, with_source, edge_state, edge_states, unrefined_edges, is_itself, edges_of, compared_edges}
-use Rattle.absdom.specs.Laws.{IsLeftBy, ApplyLeaves, CallLeaves, AreEdgesBelow, RefineShrinks}
+use Rattle.absdom.specs.Laws.{IsLeftBy, ApplyLeaves, CallLeaves, ForgetsAll, AreEdgesBelow, RefineShrinks}
 use Rattle.absdom.proofs.Order.{below_is_reflexive}
 use Rattle.absdom.proofs.Narrowing.{write_same}
-use Rattle.absdom.proofs.GrowState.{with_kind_grows, mark_stays}
+use Rattle.absdom.proofs.GrowState.{with_kind_grows}
+use Rattle.absdom.proofs.MarkSteps.{stored_stays}
+use Rattle.absdom.proofs.PlaceSteps.{still_whole}
 
 -- ---- what an instruction leaves
 
@@ -39,7 +43,7 @@ abbrev Leaves : Insn → StateValue → Result StateValue Cause → Type 0
 Leaves insn a r = IfOk r (IsLeftBy insn a)
 
 same : (insn : Insn) (a : StateValue) → IsLeftBy insn a a
-same insn a = record { kinds = λ k h. refl; marks = λ place m. m; unstored = λ h. refl }
+same insn a = record { kinds = λ k h. refl; marks = λ place m. m; unstored = λ h. refl; ranges = λ h. refl }
 
 other_kind : (a : StateValue) (register k : ℕ) (kind : AbsKind) → (register == k) ≡ false → kind_at (with_kind a register kind) k ≡ kind_at a k
 other_kind a register k kind e =
@@ -55,7 +59,7 @@ Names insn register = (k : ℕ) → is_written insn k ≡ false → (register ==
 
 leaves_others : (insn : Insn) (a : StateValue) (register : ℕ) (kind : AbsKind) → Names insn register → IsLeftBy insn a (with_kind a register kind)
 leaves_others insn a register kind names =
-    record { kinds = λ k h. other_kind a register k kind (names k h); marks = λ place m. m; unstored = λ h. refl }
+    record { kinds = λ k h. other_kind a register k kind (names k h); marks = λ place m. m; unstored = λ h. refl; ranges = λ h. refl }
 
 leaves_written : (insn : Insn) (a : StateValue) (register : ℕ) (r : Result AbsKind Cause) → Names insn register → Leaves insn a (with_result a register r)
 leaves_written insn a register (Err cause) names = tt
@@ -63,51 +67,85 @@ leaves_written insn a register (Ok kind) names = leaves_others insn a register k
 
 -- a store
 
-leaves_wrote : (insn : Insn) (a : StateValue) (bytes : ℕ) (places : ℕ × ℕ) → is_store insn ≡ true → IsLeftBy insn a (with_bytes_set a bytes places)
-leaves_wrote insn a bytes places is =
-    elim (places.0 == places.1) as (λ t. IsLeftBy insn a (if t then record { kinds = a.kinds; marks = marks_after a.marks places.0 bytes } else a)) [
-      | true ↦
-          record {
-            kinds = λ k h. refl;
-            marks = λ place m. mark_stays a.marks places.0 bytes place m;
-            unstored = λ h. absurd (no is h);
-          }
-      | false ↦ same insn a
-    ]
+leaves_wrote : (spill : Spill) (insn : Insn) (a : StateValue) (bytes : ℕ) (places : ℕ × ℕ) (value : Range) → is_store insn ≡ true → IsLeftBy insn a (with_stored spill a bytes places value)
+leaves_wrote spill insn a bytes places value is =
+    record {
+      kinds = λ k h. refl;
+      marks = λ place m. stored_stays a.marks bytes places place m;
+      unstored = λ h. absurd (no is h);
+      ranges = λ h. absurd (no is h);
+    }
   where
     no : is_store insn ≡ true → is_store insn ≡ false → ⊥
     no e f = cc
 
-leaves_wrote_at : (insn : Insn) (a : StateValue) (bytes : ℕ) (places : Option (ℕ × ℕ)) → is_store insn ≡ true → Leaves insn a (after_write_at a bytes places)
-leaves_wrote_at insn a bytes None is = tt
-leaves_wrote_at insn a bytes (Some places) is = leaves_wrote insn a bytes places is
+leaves_wrote_at : (spill : Spill) (insn : Insn) (a : StateValue) (bytes : ℕ) (places : Option (ℕ × ℕ)) (value : Range) → is_store insn ≡ true → Leaves insn a (after_write_at spill a bytes places value)
+leaves_wrote_at spill insn a bytes None value is = tt
+leaves_wrote_at spill insn a bytes (Some places) value is = leaves_wrote spill insn a bytes places value is
 
-leaves_wrote_to : (insn : Insn) (a : StateValue) (bytes : ℕ) (region : Region) (offsets : ℤ × ℤ) (offset : ℤ) → is_store insn ≡ true → Leaves insn a (after_write_to a bytes region offsets offset)
-leaves_wrote_to insn a bytes Front offsets offset is = tt
-leaves_wrote_to insn a bytes Tail offsets offset is = tt
-leaves_wrote_to insn a bytes Stack offsets offset is = leaves_wrote_at insn a bytes _ is
+leaves_wrote_to : (spill : Spill) (insn : Insn) (a : StateValue) (bytes : ℕ) (region : Region) (offsets : ℤ × ℤ) (offset : ℤ) (value : Range) → is_store insn ≡ true → Leaves insn a (after_write_to spill a bytes region offsets offset value)
+leaves_wrote_to spill insn a bytes Front offsets offset value is = tt
+leaves_wrote_to spill insn a bytes Tail offsets offset value is = tt
+leaves_wrote_to spill insn a bytes Stack offsets offset value is = leaves_wrote_at spill insn a bytes _ value is
 
-leaves_stored : (insn : Insn) (a : StateValue) (bytes : ℕ) (base : AbsKind) (offset : ℤ) (value : Result Range Cause) → is_store insn ≡ true → Leaves insn a (after_store a bytes base offset value)
-leaves_stored insn a bytes Unset offset value is = tt
-leaves_stored insn a bytes (Num n) offset value is = tt
-leaves_stored insn a bytes (Ptr region offsets) offset (Err cause) is = tt
-leaves_stored insn a bytes (Ptr region offsets) offset (Ok value) is = leaves_wrote_to insn a bytes region offsets offset is
-leaves_stored insn a bytes (Map index) offset value is = tt
+leaves_stored : (spill : Spill) (insn : Insn) (a : StateValue) (bytes : ℕ) (base : AbsKind) (offset : ℤ) (value : Result Range Cause) → is_store insn ≡ true → Leaves insn a (after_store spill a bytes base offset value)
+leaves_stored spill insn a bytes Unset offset value is = tt
+leaves_stored spill insn a bytes (Num n) offset value is = tt
+leaves_stored spill insn a bytes (Ptr region offsets) offset (Err cause) is = tt
+leaves_stored spill insn a bytes (Ptr region offsets) offset (Ok value) is = leaves_wrote_to spill insn a bytes region offsets offset value is
+leaves_stored spill insn a bytes (Map index) offset value is = tt
 
 pub apply_leaves : ApplyLeaves
-apply_leaves a (insns.Alu op width dst src) = leaves_written (insns.Alu op width dst src) a dst _ (named dst)
-apply_leaves a (insns.Negate width dst) = leaves_written (insns.Negate width dst) a dst _ (named dst)
-apply_leaves a (insns.MoveSigned extension dst src) = leaves_written (insns.MoveSigned extension dst src) a dst _ (named dst)
-apply_leaves a (insns.ByteSwap swap bits dst) = leaves_written (insns.ByteSwap swap bits dst) a dst _ (named dst)
-apply_leaves a (insns.Load size dst place) = leaves_written (insns.Load size dst place) a dst _ (named dst)
-apply_leaves a (insns.Store size place src) = leaves_stored (insns.Store size place src) a _ _ place.offset _ refl
-apply_leaves a (insns.Jump comparison offset) = same (insns.Jump comparison offset) a
-apply_leaves a (insns.Goto distance) = same (insns.Goto distance) a
-apply_leaves a (insns.Wide dst value) = leaves_others (insns.Wide dst value) a dst _ (named dst)
-apply_leaves a (insns.LoadMap dst index) = leaves_others (insns.LoadMap dst index) a dst _ (named dst)
-apply_leaves a (insns.LoadAddress dst address) = same (insns.LoadAddress dst address) a
-apply_leaves a (insns.Call callee number) = same (insns.Call callee number) a
-apply_leaves a insns.Exit = same insns.Exit a
+apply_leaves spill a (insns.Alu op width dst src) = leaves_written (insns.Alu op width dst src) a dst _ (named dst)
+apply_leaves spill a (insns.Negate width dst) = leaves_written (insns.Negate width dst) a dst _ (named dst)
+apply_leaves spill a (insns.MoveSigned extension dst src) = leaves_written (insns.MoveSigned extension dst src) a dst _ (named dst)
+apply_leaves spill a (insns.ByteSwap swap bits dst) = leaves_written (insns.ByteSwap swap bits dst) a dst _ (named dst)
+apply_leaves spill a (insns.Load size dst place) = leaves_written (insns.Load size dst place) a dst _ (named dst)
+apply_leaves spill a (insns.Store size place src) = leaves_stored spill (insns.Store size place src) a _ _ place.offset _ refl
+apply_leaves spill a (insns.Jump comparison offset) = same (insns.Jump comparison offset) a
+apply_leaves spill a (insns.Goto distance) = same (insns.Goto distance) a
+apply_leaves spill a (insns.Wide dst value) = leaves_others (insns.Wide dst value) a dst _ (named dst)
+apply_leaves spill a (insns.LoadMap dst index) = leaves_others (insns.LoadMap dst index) a dst _ (named dst)
+apply_leaves spill a (insns.LoadAddress dst address) = same (insns.LoadAddress dst address) a
+apply_leaves spill a (insns.Call callee number) = same (insns.Call callee number) a
+apply_leaves spill a insns.Exit = same insns.Exit a
+
+-- where ranges are forgotten
+
+forgets_wrote : (a : StateValue) (bytes : ℕ) (places : Option (ℕ × ℕ)) (value : Range) → AreAllWhole a.ranges → IfOk (after_write_at Forgets a bytes places value) (λ b. AreAllWhole b.ranges)
+forgets_wrote a bytes None value h = tt
+forgets_wrote a bytes (Some places) value h = still_whole a.ranges places.0 (places.1 + bytes - 1) h
+
+forgets_wrote_to : (a : StateValue) (bytes : ℕ) (region : Region) (offsets : ℤ × ℤ) (offset : ℤ) (value : Range) → AreAllWhole a.ranges → IfOk (after_write_to Forgets a bytes region offsets offset value) (λ b. AreAllWhole b.ranges)
+forgets_wrote_to a bytes Front offsets offset value h = tt
+forgets_wrote_to a bytes Tail offsets offset value h = tt
+forgets_wrote_to a bytes Stack offsets offset value h = forgets_wrote a bytes _ value h
+
+forgets_stored : (a : StateValue) (bytes : ℕ) (base : AbsKind) (offset : ℤ) (value : Result Range Cause) → AreAllWhole a.ranges → IfOk (after_store Forgets a bytes base offset value) (λ b. AreAllWhole b.ranges)
+forgets_stored a bytes Unset offset value h = tt
+forgets_stored a bytes (Num n) offset value h = tt
+forgets_stored a bytes (Ptr region offsets) offset (Err cause) h = tt
+forgets_stored a bytes (Ptr region offsets) offset (Ok value) h = forgets_wrote_to a bytes region offsets offset value h
+forgets_stored a bytes (Map index) offset value h = tt
+
+forgets_written : (a : StateValue) (register : ℕ) (r : Result AbsKind Cause) → AreAllWhole a.ranges → IfOk (with_result a register r) (λ b. AreAllWhole b.ranges)
+forgets_written a register (Err cause) h = tt
+forgets_written a register (Ok kind) h = h
+
+pub forgets_all : ForgetsAll
+forgets_all a (insns.Alu op width dst src) h = forgets_written a dst _ h
+forgets_all a (insns.Negate width dst) h = forgets_written a dst _ h
+forgets_all a (insns.MoveSigned extension dst src) h = forgets_written a dst _ h
+forgets_all a (insns.ByteSwap swap bits dst) h = forgets_written a dst _ h
+forgets_all a (insns.Load size dst place) h = forgets_written a dst _ h
+forgets_all a (insns.Store size place src) h = forgets_stored a _ _ place.offset _ h
+forgets_all a (insns.Jump comparison offset) h = h
+forgets_all a (insns.Goto distance) h = h
+forgets_all a (insns.Wide dst value) h = h
+forgets_all a (insns.LoadMap dst index) h = h
+forgets_all a (insns.LoadAddress dst address) h = h
+forgets_all a (insns.Call callee number) h = h
+forgets_all a insns.Exit h = h
 
 -- a helper's call
 
@@ -133,7 +171,7 @@ after_kind a callee number k h =
 
 pub call_leaves : CallLeaves
 call_leaves a callee number =
-    record { kinds = λ k h. after_kind a callee number k h; marks = λ place m. m; unstored = λ h. refl }
+    record { kinds = λ k h. after_kind a callee number k h; marks = λ place m. m; unstored = λ h. refl; ranges = λ h. refl }
 
 -- ---- a comparison only refines
 
@@ -142,7 +180,7 @@ with_kind_below : (b a : StateValue) (register : ℕ) (kind : AbsKind) → lengt
 with_kind_below b a register kind e h below =
     let grown = with_kind_grows b a register kind (kind_at a register) e h below in
     let back : with_kind a register (kind_at a register) ≡ a =
-    ap (λ (kinds : List AbsKind). let c : StateValue = record { kinds = kinds; marks = a.marks } in c) (write_same a.kinds register (kind_at a register) refl)
+    ap (λ (kinds : List AbsKind). let c : StateValue = record { kinds = kinds; marks = a.marks; ranges = a.ranges } in c) (write_same a.kinds register (kind_at a register) refl)
     in
     rw back at grown
 

@@ -1,4 +1,5 @@
 pub mod MarkSteps
+pub mod PlaceSteps
 pub mod StateSteps
 pub mod Order
 pub mod FitsAlu

@@ -27,7 +27,7 @@ write_same (k ∷ kinds) (suc register) kind e = ap (λ xs. k ∷ xs) (write_sam
 
 with_same : (a : StateValue) (register : ℕ) (range : Range) → number_of (kind_at a register) ≡ Ok range → with_kind a register (Num range) ≡ a
 with_same a register range e =
-    ap (λ (kinds : List AbsKind). let b : StateValue = record { kinds = kinds; marks = a.marks } in b)
+    ap (λ (kinds : List AbsKind). let b : StateValue = record { kinds = kinds; marks = a.marks; ranges = a.ranges } in b)
     (write_same a.kinds register (Num range) (is_number (kind_at a register) range e))
 
 itself_same : (width : Width) (a : StateValue) (dst : ℕ) (src : Operand) (left right : Range) → is_itself dst src ≡ true → number_of (kind_at a dst) ≡ Ok left → compared_range width a src ≡ Ok right → with_source (with_kind a dst (Num left)) src right ≡ a

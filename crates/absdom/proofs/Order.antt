@@ -1,5 +1,5 @@
 -- The order of kinds, and of states.
-use Rattle.std.proofs.Common.{◌≡◌, ℕ, ℤ, ◌≤ℤ◌, Bool, true, false, refl, sym, ◌∙◌, ap, subst, arith}
+use Rattle.std.proofs.Common.{◌≡◌, ℕ, ◌*◌, Option, Some, None, ℤ, ◌≤ℤ◌, Bool, true, false, refl, sym, ◌∙◌, ap, subst, arith}
 use Rattle.std.proofs.lemmas.Int.{ints}
 use Rattle.machine.specs.declared.regions.Region.{Region}
 use Rattle.machine.specs.declared.regions.Region.TheVariants.{Front, Tail, Stack}
@@ -8,10 +8,14 @@ use Rattle.machine.specs.declared.values.Value.TheVariants.{Unset as Nothing, Nu
 use Rattle.absdom.specs.declared.kinds.AbsKind.{AbsKind}
 use Rattle.absdom.specs.declared.kinds.AbsKind.TheVariants.{Unset, Num, Ptr, Map}
 use Rattle.absdom.specs.Kinds.{same_region, IsKindBelow}
-use Rattle.absdom.specs.State.{kind_at}
+use Rattle.machine.specs.Memory.{little_endian}
+use Rattle.absdom_num.specs.declared.ranges.Range.{Range}
+use Rattle.absdom_num.specs.Ranges.{IsWithin}
+use Rattle.absdom.specs.State.{kind_at, range_at}
 use Rattle.absdom.specs.Marks.{mark_at}
-use Rattle.absdom.specs.Fits.{FitsKind}
+use Rattle.absdom.specs.Fits.{FitsKind, IsReadIn}
 use Rattle.absdom.specs.Laws.{BelowFits, BelowIsReflexive, BelowIsTransitive, BelowIsAntisymmetric}
+use Rattle.absdom.proofs.MarkSteps.{still_marked}
 
 pub region_from_test : (r s : Region) → same_region r s ≡ true → r ≡ s
 region_from_test Front Front e = refl
@@ -112,21 +116,30 @@ fits_above (Number n) (Map i) (Map j) h f = absurd f
 fits_above (Pointer t z) (Map i) (Map j) h f = absurd f
 fits_above (MapOf l) (Map i) (Map j) h f = f ∙ h
 
+read_above : (o : Option ℕ) (p q : Range) → IsWithin p q → IsReadIn o p → IsReadIn o q
+read_above None p q h f = absurd f
+read_above (Some n) p q h f = record { above = omega (arith, h, f); below = omega (arith, h, f); word = f.word }
+
 pub below_fits : BelowFits
 below_fits s a b h f =
     record {
       registers = λ k. fits_above (s.registers k) (kind_at a k) (kind_at b k) (h.kinds k) (f.registers k);
       bytes = λ place m. f.bytes place (h.marks place m);
+      places = λ place m.
+          read_above (little_endian s.stack 8 (8 * place)) (range_at a place) (range_at b place) (h.ranges place)
+          (f.places place (still_marked b.marks a.marks (8 * place) 8 h.marks m));
     }
 
 pub below_is_reflexive : BelowIsReflexive
-below_is_reflexive a = record { kinds = λ k. kind_below-refl (kind_at a k); marks = λ place m. m }
+below_is_reflexive a =
+    record { kinds = λ k. kind_below-refl (kind_at a k); marks = λ place m. m; ranges = λ k. record { above = omega arith; below = omega arith } }
 
 pub below_is_transitive : BelowIsTransitive
 below_is_transitive a b c g h =
     record {
       kinds = λ k. kind_below-trans (kind_at a k) (kind_at b k) (kind_at c k) (g.kinds k) (h.kinds k);
       marks = λ place m. g.marks place (h.marks place m);
+      ranges = λ k. record { above = omega (arith, g.ranges k, h.ranges k); below = omega (arith, g.ranges k, h.ranges k) };
     }
 
 -- two offsets that are in order both ways are one
@@ -168,4 +181,5 @@ below_is_antisymmetric a b g h =
     record {
       kinds = λ k. kind_antisym (kind_at a k) (kind_at b k) (g.kinds k) (h.kinds k);
       marks = λ p. mark_antisym (mark_at a.marks p) (mark_at b.marks p) (g.marks p) (h.marks p);
+      ranges = λ k. pair_same ℕ (range_at a k) (range_at b k) (omega (arith, g.ranges k, h.ranges k)) (omega (arith, g.ranges k, h.ranges k));
     }

@@ -1,6 +1,6 @@
 -- What an instruction does to what is known, or why it is refused (a choice of this project). Operands are
 -- tested first, the destination before the source, and of each whether it is set and then its kind.
-use Rattle.std.specs.Prelude.{◌≡◌, ℕ, ◌+◌, ◌-◌, ◌^◌, ◌≤◌, Bool, true, ◌||◌, ◌==◌, nat_lt, nat_le, if◌then◌else◌, ℤ, pos, negsuc, ◌+ℤ◌, ◌-ℤ◌, List, Option, Some, None, Result, Ok, Err}
+use Rattle.std.specs.Prelude.{◌≡◌, ℕ, ◌+◌, ◌-◌, ◌^◌, ◌/◌, ◌≤◌, Bool, true, ◌||◌, ◌==◌, nat_lt, nat_le, if◌then◌else◌, slice_set, ℤ, pos, negsuc, ◌+ℤ◌, ◌-ℤ◌, List, Option, Some, None, Result, Ok, Err}
 use Rattle.bpf_parts.specs.declared.operation.Width.{Width}
 use Rattle.bpf_parts.specs.declared.operation.Width.TheVariants.{Bits32, Bits64}
 use Rattle.bpf_parts.specs.declared.operation.AluOp.{AluOp}
@@ -24,8 +24,11 @@ use Rattle.absdom.specs.declared.kinds.AbsKind.{AbsKind}
 use Rattle.absdom.specs.declared.kinds.AbsKind.TheVariants.{Unset, Num, Ptr, Map}
 use Rattle.absdom.specs.Offsets.{offsets_within}
 use Rattle.absdom.specs.Kinds.{number_of}
-use Rattle.absdom.specs.State.{StateValue, kind_at, with_kind, with_marks}
+use Rattle.absdom.specs.State.{StateValue, kind_at, range_at, with_kind, with_stack}
 use Rattle.absdom.specs.Marks.{all_marked, marks_after}
+use Rattle.absdom.specs.Places.{widened, is_place}
+use Rattle.absdom.specs.declared.spill.Spill.{Spill}
+use Rattle.absdom.specs.declared.spill.Spill.TheVariants.{Forgets, Keeps}
 
 -- a register's kind, or the number of an immediate
 abbrev pub operand_kind : StateValue → Operand → AbsKind
@@ -152,46 +155,71 @@ loaded_range SignedByte = (0, 2 ^ 64 - 1)
 loaded_range SignedHalf = (0, 2 ^ 64 - 1)
 loaded_range SignedWord = (0, 2 ^ 64 - 1)
 
+-- where numbers keep their ranges, a load of one place of the stack gives the range of that place
+abbrev pub kept_range : StateValue → LoadSize → Region → ℕ × ℕ → Range
+kept_range a size Front places = loaded_range size
+kept_range a size Tail places = loaded_range size
+kept_range a size Stack places =
+    if is_place (load_bytes size) places then range_at a (places.0 / 8) else loaded_range size
+
+-- what a load of bytes that are set gives
+abbrev pub read_range : Spill → StateValue → LoadSize → Region → ℕ × ℕ → Range
+read_range Forgets a size region places = loaded_range size
+read_range Keeps a size region places = kept_range a size region places
+
 -- a load at these places
-abbrev pub read_kind : StateValue → LoadSize → Region → Option (ℕ × ℕ) → Result AbsKind Cause
-read_kind a size region None = Err OutOfRegion
-read_kind a size region (Some places) =
-    if is_set region a.marks (load_bytes size) places then Ok (Num (loaded_range size)) else Err UnsetStack
+abbrev pub read_kind : Spill → StateValue → LoadSize → Region → Option (ℕ × ℕ) → Result AbsKind Cause
+read_kind spill a size region None = Err OutOfRegion
+read_kind spill a size region (Some places) =
+    if is_set region a.marks (load_bytes size) places then Ok (Num (read_range spill a size region places)) else Err UnsetStack
 
 -- a load through a pointer
-abbrev pub load_kind : StateValue → LoadSize → (base : AbsKind) → (offset : ℤ) → Result AbsKind Cause
-load_kind a size Unset offset = Err UnsetOperand
-load_kind a size (Num n) offset = Err KindMismatch
-load_kind a size (Ptr region offsets) offset =
-    read_kind a size region (access_places region (load_bytes size) offsets offset)
-load_kind a size (Map index) offset = Err KindMismatch
+abbrev pub load_kind : Spill → StateValue → LoadSize → (base : AbsKind) → (offset : ℤ) → Result AbsKind Cause
+load_kind spill a size Unset offset = Err UnsetOperand
+load_kind spill a size (Num n) offset = Err KindMismatch
+load_kind spill a size (Ptr region offsets) offset =
+    read_kind spill a size region (access_places region (load_bytes size) offsets offset)
+load_kind spill a size (Map index) offset = Err KindMismatch
 
 -- a store of so many bytes sets them where it has one place, and no byte else
-abbrev pub with_bytes_set : StateValue → (bytes : ℕ) → ℕ × ℕ → StateValue
-with_bytes_set a bytes places = if places.0 == places.1 then with_marks a (marks_after a.marks places.0 bytes) else a
+abbrev pub stored_marks : List Bool → (bytes : ℕ) → ℕ × ℕ → List Bool
+stored_marks marks bytes places = if places.0 == places.1 then marks_after marks places.0 bytes else marks
+
+-- where numbers keep their ranges, a store to one place of the stack gives that place the range of the number that is
+-- stored; after every other store nothing is known of a place that it may touch
+abbrev pub stored_ranges : Spill → List Range → (bytes : ℕ) → ℕ × ℕ → Range → List Range
+stored_ranges Forgets ranges bytes places value = widened ranges places.0 (places.1 + bytes - 1)
+stored_ranges Keeps ranges bytes places value =
+    if is_place bytes places then slice_set ranges (places.0 / 8) value else widened ranges places.0 (places.1 + bytes - 1)
+
+-- what is known after a store of a number of that range
+abbrev pub with_stored : Spill → StateValue → (bytes : ℕ) → ℕ × ℕ → Range → StateValue
+with_stored spill a bytes places value =
+    with_stack a (stored_marks a.marks bytes places) (stored_ranges spill a.ranges bytes places value)
 
 -- a store at these places
-abbrev pub after_write_at : StateValue → (bytes : ℕ) → Option (ℕ × ℕ) → Result StateValue Cause
-after_write_at a bytes None = Err OutOfRegion
-after_write_at a bytes (Some places) = Ok (with_bytes_set a bytes places)
+abbrev pub after_write_at : Spill → StateValue → (bytes : ℕ) → Option (ℕ × ℕ) → Range → Result StateValue Cause
+after_write_at spill a bytes None value = Err OutOfRegion
+after_write_at spill a bytes (Some places) value = Ok (with_stored spill a bytes places value)
 
 -- a store to the stack at one of these offsets
-abbrev pub after_stack_write : StateValue → (bytes : ℕ) → ℤ × ℤ → (offset : ℤ) → Result StateValue Cause
-after_stack_write a bytes offsets offset = after_write_at a bytes (access_places Stack bytes offsets offset)
+abbrev pub after_stack_write : Spill → StateValue → (bytes : ℕ) → ℤ × ℤ → (offset : ℤ) → Range → Result StateValue Cause
+after_stack_write spill a bytes offsets offset value =
+    after_write_at spill a bytes (access_places Stack bytes offsets offset) value
 
 -- a store to a region: the header is read-only
-abbrev pub after_write_to : StateValue → (bytes : ℕ) → Region → ℤ × ℤ → (offset : ℤ) → Result StateValue Cause
-after_write_to a bytes Front offsets offset = Err HeaderWrite
-after_write_to a bytes Tail offsets offset = Err HeaderWrite
-after_write_to a bytes Stack offsets offset = after_stack_write a bytes offsets offset
+abbrev pub after_write_to : Spill → StateValue → (bytes : ℕ) → Region → ℤ × ℤ → (offset : ℤ) → Range → Result StateValue Cause
+after_write_to spill a bytes Front offsets offset value = Err HeaderWrite
+after_write_to spill a bytes Tail offsets offset value = Err HeaderWrite
+after_write_to spill a bytes Stack offsets offset value = after_stack_write spill a bytes offsets offset value
 
 -- a store of a number through a pointer
-abbrev pub after_store : StateValue → (bytes : ℕ) → (base : AbsKind) → (offset : ℤ) → Result Range Cause → Result StateValue Cause
-after_store a bytes Unset offset value = Err UnsetOperand
-after_store a bytes (Num n) offset value = Err KindMismatch
-after_store a bytes (Ptr region offsets) offset (Err cause) = Err cause
-after_store a bytes (Ptr region offsets) offset (Ok value) = after_write_to a bytes region offsets offset
-after_store a bytes (Map index) offset value = Err KindMismatch
+abbrev pub after_store : Spill → StateValue → (bytes : ℕ) → (base : AbsKind) → (offset : ℤ) → Result Range Cause → Result StateValue Cause
+after_store spill a bytes Unset offset value = Err UnsetOperand
+after_store spill a bytes (Num n) offset value = Err KindMismatch
+after_store spill a bytes (Ptr region offsets) offset (Err cause) = Err cause
+after_store spill a bytes (Ptr region offsets) offset (Ok value) = after_write_to spill a bytes region offsets offset value
+after_store spill a bytes (Map index) offset value = Err KindMismatch
 
 -- ---- instructions
 
@@ -206,21 +234,21 @@ map_kind (pos index) = if nat_lt index 256 then Map index else Unset
 map_kind (negsuc n) = Unset
 
 -- what an instruction does that goes on to the next one. All others leave what is known as it is.
-abbrev pub after_insn : StateValue → Insn → Result StateValue Cause
-after_insn a (Alu op width dst src) = with_result a dst (alu_kind op width (kind_at a dst) (operand_kind a src))
-after_insn a (Negate width dst) = with_result a dst (unary_kind (negated_range width) (number_of (kind_at a dst)))
-after_insn a (MoveSigned extension dst src) = with_result a dst (unary_kind (extended_range extension) (number_of (kind_at a src)))
-after_insn a (ByteSwap swap bits dst) = with_result a dst (unary_kind (swapped_range swap bits) (number_of (kind_at a dst)))
-after_insn a (Load size dst place) = with_result a dst (load_kind a size (kind_at a place.base) place.offset)
-after_insn a (Store size place src) =
-    after_store a (size_bytes size) (kind_at a place.base) place.offset (number_of (operand_kind a src))
-after_insn a (Jump comparison offset) = Ok a
-after_insn a (Goto distance) = Ok a
-after_insn a (Wide dst value) = Ok (with_kind a dst (Num (single_range value)))
-after_insn a (LoadMap dst index) = Ok (with_kind a dst (map_kind index))
-after_insn a (LoadAddress dst address) = Ok a
-after_insn a (Call callee number) = Ok a
-after_insn a Exit = Ok a
+abbrev pub after_insn : Spill → StateValue → Insn → Result StateValue Cause
+after_insn spill a (Alu op width dst src) = with_result a dst (alu_kind op width (kind_at a dst) (operand_kind a src))
+after_insn spill a (Negate width dst) = with_result a dst (unary_kind (negated_range width) (number_of (kind_at a dst)))
+after_insn spill a (MoveSigned extension dst src) = with_result a dst (unary_kind (extended_range extension) (number_of (kind_at a src)))
+after_insn spill a (ByteSwap swap bits dst) = with_result a dst (unary_kind (swapped_range swap bits) (number_of (kind_at a dst)))
+after_insn spill a (Load size dst place) = with_result a dst (load_kind spill a size (kind_at a place.base) place.offset)
+after_insn spill a (Store size place src) =
+    after_store spill a (size_bytes size) (kind_at a place.base) place.offset (number_of (operand_kind a src))
+after_insn spill a (Jump comparison offset) = Ok a
+after_insn spill a (Goto distance) = Ok a
+after_insn spill a (Wide dst value) = Ok (with_kind a dst (Num (single_range value)))
+after_insn spill a (LoadMap dst index) = Ok (with_kind a dst (map_kind index))
+after_insn spill a (LoadAddress dst address) = Ok a
+after_insn spill a (Call callee number) = Ok a
+after_insn spill a Exit = Ok a
 
 -- a change in place: the state becomes what is given, or stays what it was where it is refused
 abbrev pub Becomes : Result (Unit {0}) Cause → (old new : StateValue) → (given : Result StateValue Cause) → Type 0
@@ -228,9 +256,9 @@ Becomes (Ok done) old new given = given ≡ Ok new
 Becomes (Err cause) old new given = (given ≡ Err cause) × (new ≡ old)
 
 -- a store of so many bytes of a value through a pointer, in place
-abbrev pub Stores : Result (Unit {0}) Cause → (old new : StateValue) → (bytes : ℕ) → (base : AbsKind) → (offset : ℤ) → (value : AbsKind) → Type 0
-Stores done old new bytes base offset value = Becomes done old new (after_store old bytes base offset (number_of value))
+abbrev pub Stores : Spill → Result (Unit {0}) Cause → (old new : StateValue) → (bytes : ℕ) → (base : AbsKind) → (offset : ℤ) → (value : AbsKind) → Type 0
+Stores spill done old new bytes base offset value = Becomes done old new (after_store spill old bytes base offset (number_of value))
 
 -- an instruction in place
-abbrev pub Applies : Result (Unit {0}) Cause → (old new : StateValue) → Insn → Type 0
-Applies done old new insn = Becomes done old new (after_insn old insn)
+abbrev pub Applies : Spill → Result (Unit {0}) Cause → (old new : StateValue) → Insn → Type 0
+Applies spill done old new insn = Becomes done old new (after_insn spill old insn)

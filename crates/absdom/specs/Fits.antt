@@ -1,17 +1,19 @@
 -- Which states of the machine are as a state of the verifier says (a choice of this project).
-use Rattle.std.specs.Prelude.{◌≡◌, ◌≢◌, ℕ, ◌^◌, ◌<◌, ℤ, pos, negsuc, ◌≤ℤ◌, Bool, true, false, Option, Some, None, Result, Ok, Err}
+use Rattle.std.specs.Prelude.{◌≡◌, ◌≢◌, ℕ, ◌*◌, ◌^◌, ◌<◌, ℤ, pos, negsuc, ◌≤ℤ◌, Bool, true, false, Option, Some, None, Result, Ok, Err}
 use Rattle.bpf_insn.specs.declared.insn.Insn.{Insn}
 use Rattle.bpf_insn.specs.declared.insn.Insn.TheVariants.{Alu, Negate, MoveSigned, ByteSwap, Load, Store, Jump, Goto, Wide, LoadMap, LoadAddress, Call, Exit}
 use Rattle.machine.specs.declared.values.Value.{Value}
 use Rattle.machine.specs.declared.values.Value.TheVariants.{Unset as Nothing, Num as Number, Ptr as Pointer, Map as MapOf}
 use Rattle.machine.specs.State.{State}
 use Rattle.machine.specs.Step.{Outcome, Next, Ask, Verdict, Trap, branches}
+use Rattle.machine.specs.Memory.{little_endian}
+use Rattle.absdom_num.specs.declared.ranges.Range.{Range}
 use Rattle.absdom_num.specs.Ranges.{IsIn}
 use Rattle.absdom.specs.declared.cause.Cause.{Cause}
 use Rattle.absdom.specs.declared.kinds.AbsKind.{AbsKind}
 use Rattle.absdom.specs.declared.kinds.AbsKind.TheVariants.{Unset, Num, Ptr, Map}
-use Rattle.absdom.specs.State.{StateValue, kind_at}
-use Rattle.absdom.specs.Marks.{mark_at}
+use Rattle.absdom.specs.State.{StateValue, kind_at, range_at}
+use Rattle.absdom.specs.Marks.{mark_at, all_marked}
 use Rattle.absdom.specs.Edges.{Edges}
 
 -- an offset is one of these
@@ -41,10 +43,17 @@ abbrev pub IsByte : Option ℕ → Type 0
 IsByte None = ⊥
 IsByte (Some byte) = byte < 256
 
--- each register is of its kind, and each byte that is marked is set
+-- a number that was read lies in the range
+abbrev pub IsReadIn : Option ℕ → Range → Type 0
+IsReadIn None range = ⊥
+IsReadIn (Some n) range = IsIn n range
+
+-- each register is of its kind, each byte that is marked is set, and the number in a place whose eight bytes are all
+-- marked lies in the place's range
 pub record Fits (s : State) (a : StateValue) : Type 0 where
   pub registers : (register : ℕ) → FitsKind (s.registers register) (kind_at a register)
   pub bytes : (place : ℕ) → mark_at a.marks place ≡ true → IsByte (s.stack place)
+  pub places : (place : ℕ) → all_marked a.marks (8 * place) 8 ≡ true → IsReadIn (little_endian s.stack 8 (8 * place)) (range_at a place)
 
 -- the machine goes on at that slot, in a state that fits: it neither traps nor ends
 abbrev pub GoesOn : Outcome → (slot : ℕ) → StateValue → Type 0

@@ -15,6 +15,9 @@ use Rattle.machine.specs.Step.{perform, after_answer}
 use Rattle.machine.specs.Laws.{is_store}
 use Rattle.absdom.specs.declared.cause.Cause.{Cause}
 use Rattle.absdom.specs.Marks.{mark_at}
+use Rattle.absdom.specs.Places.{AreAllWhole}
+use Rattle.absdom.specs.declared.spill.Spill.{Spill}
+use Rattle.absdom.specs.declared.spill.Spill.TheVariants.{Forgets}
 use Rattle.absdom.specs.State.{StateValue, IsWhole, IsBelow, IsJoin, IsEntry, AreAlike, kind_at, after_call}
 use Rattle.absdom.specs.Effect.{after_insn}
 use Rattle.absdom.specs.Edges.{Edges, refined_edges}
@@ -40,7 +43,7 @@ JoinIsAbove = (a b joint : StateValue) → IsJoin a b joint → IsBelow a joint 
 abbrev pub JoinIsLeast : Type 0
 JoinIsLeast = (a b joint c : StateValue) → IsJoin a b joint → IsBelow a c → IsBelow b c → IsBelow joint c
 
--- two states that are below each other have the same kinds and marks
+-- two states that are below each other have the same kinds, marks and ranges
 abbrev pub BelowIsAntisymmetric : Type 0
 BelowIsAntisymmetric = (a b : StateValue) → IsBelow a b → IsBelow b a → AreAlike a b
 
@@ -56,8 +59,8 @@ CallFits = (s : State) (a : StateValue) (answer : ℕ) → answer < 2 ^ 64 → F
 -- from every state that fits
 abbrev pub ApplyFits : Type 0
 ApplyFits =
-    (header : Header) (s : State) (a : StateValue) (insn : Insn) → IsHeader header → GoesStraight insn → Fits s a
-    → IsSound (perform header s insn) (s.slot + slots_of insn) (after_insn a insn)
+    (spill : Spill) (header : Header) (s : State) (a : StateValue) (insn : Insn) → IsHeader header → GoesStraight insn → Fits s a
+    → IsSound (perform header s insn) (s.slot + slots_of insn) (after_insn spill a insn)
 
 -- where a comparison is not refused, every state that fits fits the edge that it takes
 abbrev pub RefineFits : Type 0
@@ -89,7 +92,8 @@ AreEdgesGrown (Ok small) (Ok large) = IsEdgeBelow small.taken large.taken × IsE
 -- of a smaller state an instruction gives a smaller one, and it is not refused where that of the larger is not
 abbrev pub ApplyGrows : Type 0
 ApplyGrows =
-    (a b : StateValue) (insn : Insn) → IsWhole a → IsWhole b → IsBelow a b → IsGrown (after_insn a insn) (after_insn b insn)
+    (spill : Spill) (a b : StateValue) (insn : Insn) → IsWhole a → IsWhole b → IsBelow a b
+    → IsGrown (after_insn spill a insn) (after_insn spill b insn)
 
 -- and a comparison: an edge that is followed from the smaller is followed from the larger
 abbrev pub RefineGrows : Type 0
@@ -110,15 +114,21 @@ JoinGrows =
 -- ---- what an instruction leaves
 
 -- an instruction leaves what is known of the registers that it does not write, and each mark; one that is no
--- store makes none
+-- store makes none, and leaves what is known of each place
 pub record IsLeftBy (insn : Insn) (before after : StateValue) : Type 0 where
   pub kinds : (k : ℕ) → is_written insn k ≡ false → kind_at after k ≡ kind_at before k
   pub marks : (place : ℕ) → mark_at before.marks place ≡ true → mark_at after.marks place ≡ true
   pub unstored : is_store insn ≡ false → after.marks ≡ before.marks
+  pub ranges : is_store insn ≡ false → after.ranges ≡ before.ranges
 
 -- an instruction that is not refused leaves what it does not write
 abbrev pub ApplyLeaves : Type 0
-ApplyLeaves = (a : StateValue) (insn : Insn) → IfOk (after_insn a insn) (IsLeftBy insn a)
+ApplyLeaves = (spill : Spill) (a : StateValue) (insn : Insn) → IfOk (after_insn spill a insn) (IsLeftBy insn a)
+
+-- where ranges are forgotten, no instruction tells anything of a place
+abbrev pub ForgetsAll : Type 0
+ForgetsAll =
+    (a : StateValue) (insn : Insn) → AreAllWhole a.ranges → IfOk (after_insn Forgets a insn) (λ b. AreAllWhole b.ranges)
 
 -- and so does a helper's call
 abbrev pub CallLeaves : Type 0

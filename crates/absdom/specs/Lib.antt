@@ -2,6 +2,8 @@ pub mod Codes
 pub mod Kinds
 pub mod State
 pub mod Marks
+pub mod Places
+pub mod Spill
 pub mod Offsets
 pub mod Effect
 pub mod Edges

@@ -1,23 +1,29 @@
--- What is known at a slot: of each register and of each byte of the stack (a choice of this project).
-use Rattle.std.specs.Prelude.{◌≡◌, ℕ, Bool, false, List, [], ◌∷◌, length, pos, slice_index_or, slice_set, ◌≤ℤ◌}
+-- What is known at a slot: of each register, and of each byte and each place of eight bytes of the stack (a choice of
+-- this project).
+use Rattle.std.specs.Prelude.{◌≡◌, ℕ, ◌*◌, Bool, false, List, [], ◌∷◌, length, pos, slice_index_or, slice_set, ◌≤ℤ◌}
 use Rattle.machine.specs.declared.regions.Region.TheVariants.{Front, Tail, Stack}
 use Rattle.bpf_parts.specs.declared.operation.Width.TheVariants.{Bits64}
+use Rattle.absdom_num.specs.declared.ranges.Range.{Range}
 use Rattle.absdom_num.specs.Ranges.{IsRange}
 use Rattle.absdom_num.specs.Tables.{whole_range}
 use Rattle.absdom.specs.declared.kinds.AbsKind.{AbsKind}
 use Rattle.absdom.specs.declared.kinds.AbsKind.TheVariants.{Unset, Num, Ptr, Map}
 use Rattle.absdom.specs.Kinds.{joined_kinds, IsKindBelow}
-use Rattle.absdom.specs.Marks.{mark_at, AreInBoth, AreMarkedIn}
+use Rattle.absdom.specs.Marks.{mark_at, all_marked, AreInBoth, AreMarkedIn}
+use Rattle.absdom.specs.Places.{range_in, AreAllWhole, AreRangesJoined, AreRangesWithin}
 
--- a kind for each register, and a mark for each byte of the stack that is known to be set
+-- a kind for each register, a mark for each byte of the stack that is known to be set, and a range for each place of
+-- eight bytes, of the number that it holds
 pub record StateValue : Type 0 where
   pub kinds : List AbsKind
   pub marks : List Bool
+  pub ranges : List Range
 
--- of eleven registers and 512 bytes
+-- of eleven registers, 512 bytes and 64 places
 pub record IsState (a : StateValue) : Type 0 where
   pub registers : length a.kinds ≡ 11
   pub bytes : length a.marks ≡ 512
+  pub places : length a.ranges ≡ 64
 
 -- the kind of a register in a list of kinds
 abbrev pub kind_in : List AbsKind → (register : ℕ) → AbsKind
@@ -27,6 +33,10 @@ kind_in kinds register = slice_index_or kinds register Unset
 abbrev pub kind_at : StateValue → (register : ℕ) → AbsKind
 kind_at a register = kind_in a.kinds register
 
+-- what is known of the number at a place
+abbrev pub range_at : StateValue → (place : ℕ) → Range
+range_at a place = range_in a.ranges place
+
 -- the ends of a range, or of offsets, stand in order
 abbrev pub IsProper : AbsKind → Type 0
 IsProper Unset = Unit {0}
@@ -34,18 +44,21 @@ IsProper (Num range) = IsRange range
 IsProper (Ptr region offsets) = offsets.0 ≤ℤ offsets.1
 IsProper (Map index) = Unit {0}
 
--- what every state is: eleven registers, each of a proper kind, and 512 bytes
+-- what every state is: eleven registers, each of a proper kind, 512 bytes, and 64 places, each with a range whose ends
+-- stand in order. Nothing is known of a place whose eight bytes are not all set.
 pub record IsWhole (a : StateValue) : Type 0 where
   pub sizes : IsState a
   pub kinds : (register : ℕ) → IsProper (kind_at a register)
+  pub ranges : (place : ℕ) → IsRange (range_at a place)
+  pub unset : (place : ℕ) → all_marked a.marks (8 * place) 8 ≡ false → range_at a place ≡ whole_range Bits64
 
 -- what is known after a register was written
 abbrev pub with_kind : StateValue → (register : ℕ) → AbsKind → StateValue
-with_kind a register kind = record { kinds = slice_set a.kinds register kind; marks = a.marks }
+with_kind a register kind = record { kinds = slice_set a.kinds register kind; marks = a.marks; ranges = a.ranges }
 
 -- what is known after bytes of the stack were written
-abbrev pub with_marks : StateValue → List Bool → StateValue
-with_marks a marks = record { kinds = a.kinds; marks = marks }
+abbrev pub with_stack : StateValue → (marks : List Bool) → (ranges : List Range) → StateValue
+with_stack a marks ranges = record { kinds = a.kinds; marks = marks; ranges = ranges }
 
 -- after a helper's call: r0 is any number, r1 to r5 are unset
 abbrev pub after_call : StateValue → StateValue
@@ -58,10 +71,11 @@ entry_kinds =
     Unset ∷ Ptr Front (pos 0, pos 0) ∷ Ptr Tail (pos 0, pos 0) ∷ Num (0, 31) ∷ Unset ∷ Unset ∷ Unset ∷ Unset ∷ Unset ∷ Unset
     ∷ Ptr Stack (pos 0, pos 0) ∷ []
 
--- what is known at entry: these kinds, and no byte is set
+-- what is known at entry: these kinds, no byte is set, and nothing is known of any place
 pub record IsEntry (a : StateValue) : Type 0 where
   pub kinds : a.kinds ≡ entry_kinds
   pub marks : (place : ℕ) → mark_at a.marks place ≡ false
+  pub ranges : AreAllWhole a.ranges
 
 -- each kind of the first list is contained in that of the second
 abbrev pub AreBelow : List AbsKind → List AbsKind → Type 0
@@ -75,13 +89,17 @@ AreJoined first second joint = (register : ℕ) → kind_in joint register ≡ j
 pub record IsBelow (a b : StateValue) : Type 0 where
   pub kinds : AreBelow a.kinds b.kinds
   pub marks : AreMarkedIn b.marks a.marks
+  pub ranges : AreRangesWithin a.ranges b.ranges
 
--- register by register the least kind above both; a byte is set where it is in both
+-- register by register the least kind above both; a byte is set where it is in both; place by place the least range
+-- that holds both
 pub record IsJoin (a b joint : StateValue) : Type 0 where
   pub kinds : AreJoined a.kinds b.kinds joint.kinds
   pub marks : AreInBoth a.marks b.marks joint.marks
+  pub ranges : AreRangesJoined a.ranges b.ranges joint.ranges
 
--- the same kind of each register, and the same mark of each byte
+-- the same kind of each register, the same mark of each byte, and the same range of each place
 pub record AreAlike (a b : StateValue) : Type 0 where
   pub kinds : (register : ℕ) → kind_at a register ≡ kind_at b register
   pub marks : (place : ℕ) → mark_at a.marks place ≡ mark_at b.marks place
+  pub ranges : (place : ℕ) → range_at a place ≡ range_at b place

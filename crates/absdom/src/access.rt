@@ -1,14 +1,16 @@
 //! Loads and stores through a pointer (RFC 9669, section 5).
 
 ghost use Rattle.std.specs.Prelude.{◌≡◌, ◌+◌, ◌-◌, ◌^◌, ◌<◌, ◌≤◌, ◌≤ℤ◌, ◌+ℤ◌, pos, negsuc, IfSome, Some};
-ghost use Rattle.bpf_parts.specs.Sizes.{size_bytes};
+ghost use Rattle.bpf_parts.specs.Sizes.{size_bytes, load_bytes};
 ghost use Rattle.machine.specs.Memory.{place_within, place_of};
 ghost use Rattle.absdom.specs.Offsets.{IsOffset};
-ghost use Rattle.absdom.specs.Effect.{access_places, is_set, loaded_range, load_kind, with_bytes_set, after_stack_write, AreInside, Becomes, Stores};
+ghost use Rattle.absdom.specs.Effect.{access_places, is_set, loaded_range, kept_range, read_range, load_kind, after_stack_write, AreInside, Becomes, Stores};
 
 use crate::cause::Cause;
 use crate::kinds::AbsKind;
 use crate::offsets::Offsets;
+use crate::places::{PLACE_BYTES, is_place};
+use crate::spill::Spill;
 use crate::state::State;
 use absdom_num::Range;
 use bpf_insn::{LoadSize, Size};
@@ -105,21 +107,65 @@ fn loaded_range(size: LoadSize) -> Range
     }
 }
 
+/// What a load gives where numbers keep their ranges: of one place of the stack its range.
+fn kept_range(
+    state: &State,
+    size: LoadSize,
+    region: Region,
+    lowest: usize,
+    highest: usize,
+) -> Range
+    requires { AreInside (load_bytes size) (lowest, highest) }
+    ensures { result ≡ kept_range state.now size region (lowest, highest) }
+{
+    match region {
+        Region::Front => loaded_range(size),
+        Region::Tail => loaded_range(size),
+        Region::Stack => {
+            if is_place(size.bytes(), lowest, highest) {
+                state.range(lowest / PLACE_BYTES)
+            } else {
+                loaded_range(size)
+            }
+        }
+    }
+}
+
+/// What a load of bytes that are set gives.
+fn read_range(
+    state: &State,
+    spill: Spill,
+    size: LoadSize,
+    region: Region,
+    lowest: usize,
+    highest: usize,
+) -> Range
+    requires { AreInside (load_bytes size) (lowest, highest) }
+    ensures { result ≡ read_range spill state.now size region (lowest, highest) }
+{
+    match spill {
+        Spill::Forgets => loaded_range(size),
+        Spill::Keeps => kept_range(state, size, region, lowest, highest),
+    }
+}
+
 /// A load from a region at one of these offsets.
 fn read(
     state: &State,
+    spill: Spill,
     size: LoadSize,
     region: Region,
     offsets: Offsets,
     offset: i16,
 ) -> Result<AbsKind, Cause>
-    ensures { result ≡ load_kind state.now size (AbsKind.Ptr region offsets) offset }
+    ensures { result ≡ load_kind spill state.now size (AbsKind.Ptr region offsets) offset }
 {
     let bytes = size.bytes();
     match access(region, bytes, offsets, offset) {
         Some((lowest, highest)) => {
             if is_set(state, region, bytes, lowest, highest) {
-                Ok(AbsKind::Num(loaded_range(size)))
+                let range = read_range(state, spill, size, region, lowest, highest);
+                Ok(AbsKind::Num(range))
             } else {
                 Err(Cause::UnsetStack)
             }
@@ -131,31 +177,38 @@ fn read(
 /// A load through a pointer.
 pub(crate) fn load(
     state: &State,
+    spill: Spill,
     size: LoadSize,
     base: &AbsKind,
     offset: i16,
 ) -> Result<AbsKind, Cause>
-    ensures { result ≡ load_kind state.now size base.now offset }
+    ensures { result ≡ load_kind spill state.now size base.now offset }
 {
     match base {
         AbsKind::Unset => Err(Cause::UnsetOperand),
         AbsKind::Num(_) => Err(Cause::KindMismatch),
-        AbsKind::Ptr(region, offsets) => read(state, size, *region, *offsets, offset),
+        AbsKind::Ptr(region, offsets) => read(state, spill, size, *region, *offsets, offset),
         AbsKind::Map(_) => Err(Cause::KindMismatch),
     }
 }
 
-/// A store to the stack at one of these offsets: it sets its bytes where there is one offset alone.
-fn write(state: &mut State, bytes: usize, offsets: Offsets, offset: i16) -> Result<(), Cause>
-    requires { bytes ≤ 8 }
+/// A store to the stack of a number of that range, at one of these offsets.
+fn write(
+    state: &mut State,
+    spill: Spill,
+    bytes: usize,
+    offsets: Offsets,
+    offset: i16,
+    value: Range,
+) -> Result<(), Cause>
+    requires some { 1 ≤ bytes }
+    requires bytes { bytes ≤ 8 }
     ensures { Becomes result state.old state.new
-        (after_stack_write state.old bytes offsets offset) }
+        (after_stack_write spill state.old bytes offsets offset value) }
 {
     match access(Region::Stack, bytes, offsets, offset) {
         Some((lowest, highest)) => {
-            if lowest == highest {
-                state.write_bytes(lowest, lowest + bytes);
-            }
+            state.store(spill, bytes, lowest, highest, value);
             Ok(())
         }
         None => Err(Cause::OutOfRegion),
@@ -165,18 +218,20 @@ fn write(state: &mut State, bytes: usize, offsets: Offsets, offset: i16) -> Resu
 /// A store through a pointer of a value that is this one.
 pub(crate) fn store(
     state: &mut State,
+    spill: Spill,
     size: Size,
     base: &AbsKind,
     offset: i16,
     value: &AbsKind,
 ) -> Result<(), Cause>
-    ensures { Stores result state.old state.new (size_bytes size) base.now offset value.now }
+    ensures { Stores spill result state.old state.new (size_bytes size) base.now offset value.now }
 {
     match base {
         AbsKind::Unset => Err(Cause::UnsetOperand),
         AbsKind::Num(_) => Err(Cause::KindMismatch),
         AbsKind::Ptr(region, offsets) => store_to(
             state,
+            spill,
             size.bytes(),
             *region,
             *offsets,
@@ -190,20 +245,22 @@ pub(crate) fn store(
 /// A store to a region: the header is read-only.
 fn store_to(
     state: &mut State,
+    spill: Spill,
     bytes: usize,
     region: Region,
     offsets: Offsets,
     offset: i16,
     value: &AbsKind,
 ) -> Result<(), Cause>
-    requires { bytes ≤ 8 }
-    ensures { Stores result state.old state.new bytes
+    requires some { 1 ≤ bytes }
+    requires bytes { bytes ≤ 8 }
+    ensures { Stores spill result state.old state.new bytes
         (AbsKind.Ptr region offsets) offset value.now }
 {
-    let _ = value.number()?;
+    let value = value.number()?;
     match region {
         Region::Front => Err(Cause::HeaderWrite),
         Region::Tail => Err(Cause::HeaderWrite),
-        Region::Stack => write(state, bytes, offsets, offset),
+        Region::Stack => write(state, spill, bytes, offsets, offset, value),
     }
 }

@@ -1,12 +1,14 @@
 //! What an instruction does to what is known.
 
 ghost use Rattle.std.specs.Prelude.{◌≡◌};
-ghost use Rattle.absdom.specs.Effect.{operand_kind, map_kind, with_result, after_insn, Applies, Becomes};
+ghost use Rattle.absdom.specs.Effect.{operand_kind, alu_kind, map_kind, with_result, after_insn, Applies, Becomes};
+ghost use Rattle.absdom.specs.State.{kind_at};
 
 use crate::access::{load, store};
 use crate::arithmetic::{alu, byte_swap, move_signed, negate};
 use crate::cause::Cause;
 use crate::kinds::AbsKind;
+use crate::spill::Spill;
 use crate::state::State;
 use absdom_num::Range;
 use bpf_insn::{AluOp, Insn, LoadSize, Operand, Place, Register, Size, Width};
@@ -47,32 +49,47 @@ fn arithmetic(
     dst: Register,
     src: &Operand,
 ) -> Result<(), Cause>
-    ensures { Applies result state.old state.new (Insn.Alu op width dst src.now) }
+    ensures { Becomes result state.old state.new
+        (with_result state.old dst
+        (alu_kind op width (kind_at state.old dst) (operand_kind state.old src.now))) }
 {
     let kind = alu(op, width, &state.kind(dst), &operand(state, src));
     write(state, dst, kind)
 }
 
 /// A load from a place into a register.
-fn fetch(state: &mut State, size: LoadSize, dst: Register, place: &Place) -> Result<(), Cause>
-    ensures { Applies result state.old state.new (Insn.Load size dst place.now) }
+fn fetch(
+    state: &mut State,
+    spill: Spill,
+    size: LoadSize,
+    dst: Register,
+    place: &Place,
+) -> Result<(), Cause>
+    ensures { Applies spill result state.old state.new (Insn.Load size dst place.now) }
 {
-    let kind = load(state, size, &state.kind(place.base), place.offset);
+    let kind = load(state, spill, size, &state.kind(place.base), place.offset);
     write(state, dst, kind)
 }
 
 /// A store of an operand to a place.
-fn put(state: &mut State, size: Size, place: &Place, src: &Operand) -> Result<(), Cause>
-    ensures { Applies result state.old state.new (Insn.Store size place.now src.now) }
+fn put(
+    state: &mut State,
+    spill: Spill,
+    size: Size,
+    place: &Place,
+    src: &Operand,
+) -> Result<(), Cause>
+    ensures { Applies spill result state.old state.new (Insn.Store size place.now src.now) }
 {
     let pointer = state.kind(place.base);
     let value = operand(state, src);
-    store(state, size, &pointer, place.offset, &value)
+    store(state, spill, size, &pointer, place.offset, &value)
 }
 
 impl State {
     /// Changes to what is known after an instruction that goes on to the next one: arithmetic, loads, stores
-    /// and two-slot loads of a constant or a map (RFC 9669, sections 4.1, 4.2, 5 and 5.4). All other
+    /// and two-slot loads of a constant or a map (RFC 9669, sections 4.1, 4.2, 5 and 5.4). Where numbers keep their
+    /// ranges on the stack, a store that fills a place and a load of it carry the range. All other
     /// instructions leave the state as it is here: of a comparison [`refine`] tells the edges, after a
     /// helper's call there is [`State::call`].
     ///
@@ -81,8 +98,8 @@ impl State {
     /// Why the instruction is refused. The state is then what it was.
     ///
     /// [`refine`]: crate::refine
-    pub fn apply(&mut self, insn: &Insn) -> Result<(), Cause>
-        ensures { Becomes result self.old self.new (after_insn self.old insn.now) }
+    pub fn apply(&mut self, spill: Spill, insn: &Insn) -> Result<(), Cause>
+        ensures { Becomes result self.old self.new (after_insn spill self.old insn.now) }
     {
         match insn {
             Insn::Alu {
@@ -107,8 +124,8 @@ impl State {
                 let kind = byte_swap(*swap, *bits, &self.kind(*dst));
                 write(self, *dst, kind)
             }
-            Insn::Load { size, dst, place } => fetch(self, *size, *dst, place),
-            Insn::Store { size, place, src } => put(self, *size, place, src),
+            Insn::Load { size, dst, place } => fetch(self, spill, *size, *dst, place),
+            Insn::Store { size, place, src } => put(self, spill, *size, place, src),
             Insn::Wide { dst, value } => {
                 write(self, *dst, Ok(AbsKind::Num(Range::single(*value))))
             }

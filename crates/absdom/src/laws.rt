@@ -1,6 +1,6 @@
 //! Laws about states. Each function does nothing: its contract is the law.
 
-ghost use Rattle.absdom.specs.Laws.{BelowFits, BelowIsReflexive, BelowIsTransitive, BelowIsAntisymmetric, EntryFits, CallFits, JoinIsAbove, JoinIsLeast, ApplyFits, RefineFits, ApplyGrows, RefineGrows, JoinGrows, CallGrows, ApplyLeaves, CallLeaves, RefineShrinks};
+ghost use Rattle.absdom.specs.Laws.{BelowFits, BelowIsReflexive, BelowIsTransitive, BelowIsAntisymmetric, EntryFits, CallFits, JoinIsAbove, JoinIsLeast, ApplyFits, RefineFits, ApplyGrows, RefineGrows, JoinGrows, CallGrows, ApplyLeaves, CallLeaves, ForgetsAll, RefineShrinks};
 
 /// A law and no work: whatever fits a state fits every state above it, and the order is one.
 pub fn order_of_states()
@@ -17,6 +17,7 @@ pub fn order_of_states()
 pub fn apply_fits()
     ensures { ApplyFits }
 {
+    machine::stored_bytes_are_read();
     absdom_num::results_fit();
 }
 
@@ -63,14 +64,19 @@ pub fn apply_grows()
 }
 
 /// A law and no work: an instruction that [`apply`] does not refuse leaves the kinds of the registers that it
-/// does not write, and clears no mark; one that is no store makes none. So does [`State::call`] for what a
-/// helper's call leaves.
+/// does not write, and clears no mark; one that is no store makes none, and leaves the range of each place. So does
+/// [`State::call`] for what a helper's call leaves.
 ///
 /// [`apply`]: crate::State::apply
 /// [`State::call`]: crate::State::call
 pub fn apply_leaves()
     ensures apply { ApplyLeaves }
     ensures call { CallLeaves }
+{}
+
+/// A law and no work: where ranges are forgotten, nothing is known of any place, if nothing was before.
+pub fn forgets_all()
+    ensures { ForgetsAll }
 {}
 
 /// A law and no work: what [`refine`] tells of an edge that is followed is below the state that was refined.

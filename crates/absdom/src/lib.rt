@@ -1,11 +1,12 @@
 //! What the verifier knows of a program's registers and stack at a slot (RFC 9669; the abstract states
 //! are a choice of this project).
 //!
-//! A [`State`] has a kind for each register and a mark for each byte of the stack that is set, and changes in
-//! place. [`State::apply`] does what an instruction does to it, or says why the instruction is refused;
-//! [`refine`] tells the ranges on the two edges of a comparison. The definitions are in `specs/`: `Kinds` has the
-//! kinds and their order, `Effect` what an instruction does to them, `Fits` which states of the machine a state
-//! stands for, and `Laws` what holds of all this.
+//! A [`State`] has a kind for each register, a mark for each byte of the stack that is set and a range for each
+//! place of eight bytes, and changes in place. [`State::apply`] does what an instruction does to it, or says why the
+//! instruction is refused; whether numbers on the stack keep their ranges is told by a [`Spill`]. [`refine`] tells
+//! the ranges on the two edges of a comparison. The definitions are in `specs/`: `Kinds` has the kinds and their
+//! order, `Places` the ranges of the stack, `Effect` what an instruction does to all that is known, `Fits` which
+//! states of the machine a state stands for, and `Laws` what holds of all this.
 #![tactic(auto)]
 
 mod access;
@@ -17,6 +18,8 @@ mod kinds;
 mod laws;
 mod marks;
 mod offsets;
+mod places;
+mod spill;
 mod state;
 
 pub use absdom_num::{Edges, Operands};
@@ -25,8 +28,9 @@ pub use edges::refine;
 pub use kinds::AbsKind;
 pub use laws::{
     after_call_fits, after_call_grows, apply_fits, apply_grows, apply_leaves, entry_fits,
-    join_is_least, order_of_states, refine_fits, refine_grows, refine_shrinks,
+    forgets_all, join_is_least, order_of_states, refine_fits, refine_grows, refine_shrinks,
 };
 pub use machine::Region;
 pub use offsets::Offsets;
+pub use spill::Spill;
 pub use state::State;

@@ -1,23 +1,35 @@
 //! What is known at a slot.
 
-ghost use Rattle.std.specs.Prelude.{◌≡◌, ◌<◌, ◌≤◌, ◌-◌, ℕ, ◌↔◌, IsTrue, false, length};
+ghost use Rattle.std.specs.Prelude.{◌≡◌, ◌+◌, ◌<◌, ◌≤◌, ◌-◌, ℕ, ◌↔◌, IsTrue, false, length};
 ghost use Rattle.absdom.specs.Kinds.{joined_kinds, IsKindBelow};
-ghost use Rattle.absdom.specs.State.{IsState, IsWhole, IsBelow, IsJoin, IsEntry, kind_at, kind_in, with_kind, with_marks, after_call, entry_kinds, AreJoined, AreBelow};
-ghost use Rattle.absdom.specs.Marks.{mark_at, all_marked, marks_after};
+ghost use Rattle.absdom.specs.State.{IsState, IsWhole, IsBelow, IsJoin, IsEntry, kind_at, kind_in, range_at, with_kind, with_stack, after_call, entry_kinds, AreJoined, AreBelow};
+ghost use Rattle.absdom.specs.Marks.{mark_at, all_marked};
+ghost use Rattle.absdom.specs.Places.{all_whole, AreAllWhole};
+ghost use Rattle.absdom.specs.Effect.{with_stored, AreInside};
 
 use crate::kinds::AbsKind;
 use crate::marks::Marks;
 use crate::offsets::Offsets;
+use crate::places::Places;
+use crate::spill::Spill;
 use absdom_num::Range;
 use bpf_insn::{REGISTERS, Register};
 use machine::Region;
 use std::marker::Model;
 
-/// What is known at a slot: the kind of each register, and which bytes of the stack are set.
+/// The kind of each register.
 #[derive(Clone, Copy, Debug)]
-pub struct State {
+struct Registers {
     kinds: [AbsKind; REGISTERS],
+}
+
+/// What is known at a slot: the kind of each register, which bytes of the stack are set, and the range of the number
+/// in each place of eight bytes. Of a place whose eight bytes are not all set nothing is known.
+#[derive(Clone, Debug, Drop)]
+pub struct State {
+    registers: Registers,
     marks: Marks,
+    places: Places,
 }
 
 impl Model for State {
@@ -27,11 +39,9 @@ impl Model for State {
 
     ghost use Rattle.absdom.specs.State.{IsWhole};
 
-    ghost view = { λ s. record { kinds = s.kinds; marks = s.marks } };
+    ghost view = { λ s. record { kinds = s.registers.kinds; marks = s.marks; ranges = s.places } };
 
-    ghost invariant = { λ s. IsWhole (record { kinds = s.kinds; marks = s.marks }) };
-
-    ghost inverse = { λ k. record { kinds = k.kinds; marks = k.marks } };
+    ghost invariant = { λ s. IsWhole (record { kinds = s.registers.kinds; marks = s.marks; ranges = s.places }) };
 }
 
 impl State {
@@ -43,60 +53,84 @@ impl State {
         ensures whole { IsWhole result }
     {
         State {
-            kinds: kinds_at_entry(),
+            registers: Registers {
+                kinds: kinds_at_entry(),
+            },
             marks: Marks::none(),
+            places: Places::new(),
         }
     }
 
-    /// A law and no work: each state has eleven registers, whose ranges and offsets have their ends in order, and
-    /// 512 marks. Any two states can be compared, so the laws on larger states hold of them.
+    /// A law and no work: each state has eleven registers, whose ranges and offsets have their ends in order,
+    /// 512 marks, and 64 places with ranges in order, which is whole where a place is not all set. Any two states can be compared, so the laws on larger states hold of them.
     pub fn stands_whole(&self)
         ensures { IsWhole self.now }
     {
-        let _ = &self.kinds;
+        let _ = &self.registers.kinds;
     }
 
     /// What is known of a register.
     pub fn kind(&self, register: Register) -> AbsKind
         ensures { result ≡ kind_at self.now register }
     {
-        self.kinds[usize::from(register.number())]
+        self.registers.kinds[usize::from(register.number())]
     }
 
     /// Writes a register.
     pub fn write(&mut self, register: Register, kind: AbsKind)
         ensures { self.new ≡ with_kind self.old register kind }
     {
-        self.kinds[usize::from(register.number())] = kind;
+        self.registers.kinds[usize::from(register.number())] = kind;
     }
 
-    /// Grows to the least state above both: register by register, and a byte is set where it is in both.
+    /// Becomes the same as the other.
+    pub fn set_to(&mut self, other: &State)
+        ensures { self.new ≡ other.now }
+    {
+        self.registers = other.registers;
+        self.marks = other.marks;
+        self.places.set_to(&other.places);
+    }
+
+    /// Forgets the range of each place of the stack. A byte that is set stays set.
+    pub fn forget_places(&mut self)
+        ensures forgotten { self.new ≡ with_stack self.old self.old.marks all_whole }
+        ensures unknown { AreAllWhole self.new.ranges }
+    {
+        self.places.forget();
+    }
+
+    /// Grows to the least state above both: register by register, place by place, and a byte is set where it is in
+    /// both.
     pub fn join(&mut self, other: &State)
         ensures joint { IsJoin self.old other.now self.new }
         ensures known { IsState self.new }
         ensures whole { IsWhole self.new }
     {
-        join_kinds(&mut self.kinds, &other.kinds);
+        join_kinds(&mut self.registers.kinds, &other.registers.kinds);
         self.marks.join(&other.marks);
+        self.places.join(&other.places);
     }
 
     /// Whether this state says all that the other says.
     pub fn leq(&self, other: &State) -> bool
         ensures { IsTrue result ↔ IsBelow self.now other.now }
     {
-        are_below(&self.kinds, &other.kinds) && self.marks.leq(&other.marks)
+        are_below(&self.registers.kinds, &other.registers.kinds)
+            && self.marks.leq(&other.marks)
+            && self.places.leq(&other.places)
     }
 
     /// Calls a helper: r0 is then any number, and r1 to r5 are unset.
     pub fn call(&mut self)
         ensures { self.new ≡ after_call self.old }
     {
-        self.kinds[0] = AbsKind::Num(Range::whole());
-        self.kinds[1] = AbsKind::Unset;
-        self.kinds[2] = AbsKind::Unset;
-        self.kinds[3] = AbsKind::Unset;
-        self.kinds[4] = AbsKind::Unset;
-        self.kinds[5] = AbsKind::Unset;
+        self.registers.kinds[0] = AbsKind::Num(Range::whole());
+        self.registers.kinds[1] = AbsKind::Unset;
+        self.registers.kinds[2] = AbsKind::Unset;
+        self.registers.kinds[3] = AbsKind::Unset;
+        self.registers.kinds[4] = AbsKind::Unset;
+        self.registers.kinds[5] = AbsKind::Unset;
     }
 
     /// Whether the bytes of the stack from place `first` to before `end` are set.
@@ -107,13 +141,32 @@ impl State {
         self.marks.are_set(first, end)
     }
 
-    /// Writes the bytes of the stack from place `first` to before `end`.
-    pub(crate) fn write_bytes(&mut self, first: usize, end: usize)
-        requires order { first ≤ end }
-        requires inside { end ≤ 512 }
-        ensures { self.new ≡ with_marks self.old (marks_after self.old.marks first (end - first)) }
+    /// The range of the number in a place of eight bytes.
+    pub(crate) fn range(&self, place: usize) -> Range
+        requires { place < 64 }
+        ensures { result ≡ range_at self.now place }
     {
-        self.marks.mark(first, end);
+        self.places.get(place)
+    }
+
+    /// Stores a number of that range in so many bytes of the stack, from `lowest` on or from any byte up to
+    /// `highest`.
+    pub(crate) fn store(
+        &mut self,
+        spill: Spill,
+        bytes: usize,
+        lowest: usize,
+        highest: usize,
+        value: Range,
+    )
+        requires bytes { 1 ≤ bytes }
+        requires inside { AreInside bytes (lowest, highest) }
+        ensures { self.new ≡ with_stored spill self.old bytes (lowest, highest) value }
+    {
+        if lowest == highest {
+            self.marks.mark(lowest, lowest + bytes);
+        }
+        self.places.store(spill, bytes, lowest, highest, value);
     }
 }
 

@@ -1,0 +1,8 @@
+-- Whether numbers on the stack keep their ranges (a choice of this project).
+use Rattle.std.specs.Prelude.{ℕ, ◌==◌, if◌then◌else◌}
+use Rattle.absdom.specs.declared.spill.Spill.{Spill}
+use Rattle.absdom.specs.declared.spill.Spill.TheVariants.{Forgets, Keeps}
+
+-- they do in version 2 of the format
+abbrev pub spill_of : (version : ℕ) → Spill
+spill_of version = if version == 2 then Keeps else Forgets
