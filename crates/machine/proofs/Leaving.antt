@@ -1,5 +1,5 @@
 -- What a step leaves as it was, and what follows a question.
-use Rattle.std.proofs.Common.{◌≡◌, ℕ, ◌+◌, refl, subst, arith, Bool, true, false, cond, eqb, ℤ, Option, Some, None}
+use Rattle.std.proofs.Common.{◌≡◌, ℕ, ◌+◌, refl, subst, arith, Bool, true, false, cond, eqb, ℤ, Option, Some, None, inl, inr}
 use Rattle.std.specs.Prelude.{◌||◌}
 use Rattle.std.proofs.lemmas.Bool.Decides.{nat_tests}
 use Rattle.bpf_parts.specs.declared.callee.Callee.{Callee}
@@ -9,41 +9,47 @@ use Rattle.bpf_insn.specs.declared.insn.Insn.TheVariants as insns
 use Rattle.bpf_insn.specs.Flow.{is_written, flow_of}
 use Rattle.machine.specs.declared.values.Value.{Value}
 use Rattle.machine.specs.declared.values.Value.TheVariants.{Num}
+use Rattle.bpf.specs.Program.{IsVersion}
 use Rattle.machine.specs.Memory.{Header}
 use Rattle.machine.specs.State.{State, state, register_after, register_after_call}
-use Rattle.machine.specs.Step.{Outcome, Next, Ask, Verdict, Trap, after_answer, writes, is_helper, perform, perform_at, knows_flow, perform_in, insn_at}
+use Rattle.machine.specs.Step.{Outcome, Next, Ask, Verdict, Trap, after_answer, writes, is_helper, has_helper, perform, perform_at, knows_flow, perform_in, insn_at}
 use Rattle.machine.specs.Laws.{StepPerforms, IsLeftBy, AreLeftBy, InstructionsLeave, StepsLeave, InstructionsGoOn, QuestionsGoOn}
 use Rattle.machine.proofs.Outcomes.{unless, where_so, lands_so, compares_so, stores_so, calls_so, exits_so}
 
--- ---- version 1
+-- ---- versions
 
 twice : (b : Bool) (o : Outcome) → cond b (cond b o Trap) Trap ≡ cond b o Trap
 twice true o = refl
 twice false o = refl
 
-known : (header : Header) (s : State) (insn : Insn) → cond (knows_flow 1 (flow_of insn)) (perform header s insn) Trap ≡ perform header s insn
-known header s (insns.Call Helper number) = twice (is_helper number) _
-known header s (insns.Call Local number) = refl
-known header s (insns.Call ByTypeId number) = refl
-known header s (insns.Alu op width dst src) = refl
-known header s (insns.Negate width dst) = refl
-known header s (insns.MoveSigned extension dst src) = refl
-known header s (insns.ByteSwap swap bits dst) = refl
-known header s (insns.Load size dst place) = refl
-known header s (insns.Store size place src) = refl
-known header s (insns.Jump comparison offset) = refl
-known header s (insns.Goto distance) = refl
-known header s (insns.Wide dst value) = refl
-known header s (insns.LoadMap dst index) = refl
-known header s (insns.LoadAddress dst address) = refl
-known header s insns.Exit = refl
+-- both versions have each helper
+has_each : (version : ℕ) → IsVersion version → (number : ℤ) → has_helper version number ≡ is_helper number
+has_each version (inl one) number = rw one refl
+has_each version (inr two) number = rw two refl
 
-in_first : (header : Header) (s : State) (insn : Option Insn) → perform_in 1 header s insn ≡ perform_at header s insn
-in_first header s None = refl
-in_first header s (Some insn) = known header s insn
+known : (version : ℕ) → IsVersion version → (header : Header) (s : State) (insn : Insn) → cond (knows_flow version (flow_of insn)) (perform header s insn) Trap ≡ perform header s insn
+known version is header s (insns.Call Helper number) = rw (has_each version is number) (twice (is_helper number) _)
+known version is header s (insns.Call Local number) = refl
+known version is header s (insns.Call ByTypeId number) = refl
+known version is header s (insns.Alu op width dst src) = refl
+known version is header s (insns.Negate width dst) = refl
+known version is header s (insns.MoveSigned extension dst src) = refl
+known version is header s (insns.ByteSwap swap bits dst) = refl
+known version is header s (insns.Load size dst place) = refl
+known version is header s (insns.Store size place src) = refl
+known version is header s (insns.Jump comparison offset) = refl
+known version is header s (insns.Goto distance) = refl
+known version is header s (insns.Wide dst value) = refl
+known version is header s (insns.LoadMap dst index) = refl
+known version is header s (insns.LoadAddress dst address) = refl
+known version is header s insns.Exit = refl
+
+in_each : (version : ℕ) → IsVersion version → (header : Header) (s : State) (insn : Option Insn) → perform_in version header s insn ≡ perform_at header s insn
+in_each version is header s None = refl
+in_each version is header s (Some insn) = known version is header s insn
 
 pub step_performs : StepPerforms
-step_performs program header s first = rw first (in_first header s (insn_at program s.slot))
+step_performs program header s is = in_each program.version is header s (insn_at program s.slot)
 
 -- ---- what is left
 

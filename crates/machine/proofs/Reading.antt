@@ -1,10 +1,10 @@
 -- Bytes that were written are read again.
-use Rattle.std.proofs.Common.{lit<, ◌≡◌, ℕ, zero, suc, ◌+◌, ◌-◌, ◌*◌, ◌/◌, ◌%◌, ◌^◌, ◌<◌, refl, sym, ap, ◌∙◌, arith, Option, Some}
+use Rattle.std.proofs.Common.{lit<, ◌≡◌, ℕ, zero, suc, ◌+◌, ◌-◌, ◌*◌, ◌/◌, ◌%◌, ◌^◌, ◌<◌, refl, sym, ap, ap₂, ◌∙◌, subst, arith, Option, Some}
 use Rattle.std.proofs.Math.Nat.{pow-suc, pow-succ', div-div-eq-div-mul, div-one, mod-one}
 use Rattle.std.proofs.Math.Arith.{mod-mul}
 use Rattle.std.proofs.lemmas.Bool.Decides.{nat_tests}
-use Rattle.machine.specs.Memory.{little_endian, byte_after}
-use Rattle.machine.specs.Laws.{BytesAreRead}
+use Rattle.machine.specs.Memory.{little_endian, byte_after, byte_below}
+use Rattle.machine.specs.Laws.{BytesAreRead, SameBytes}
 
 turned : (a b : ℕ) → a * 256 + b ≡ b + 256 * a
 turned a b = omega arith
@@ -43,3 +43,12 @@ digits_read byte (suc bytes) place n h =
 pub bytes_are_read : BytesAreRead
 bytes_are_read stack bytes start n =
     digits_read (byte_after stack bytes start n) bytes start n (λ i l. written stack bytes start n i l)
+
+pub same_bytes : SameBytes
+unfolding little_endian
+same_bytes one other zero start same = refl
+same_bytes one other (suc bytes) start same =
+    let at : start + 0 ≡ start = omega arith in
+    let first : one start ≡ other start = subst (λ (p : ℕ). one p ≡ other p) at (same 0 (omega arith)) in
+    ap₂ byte_below first (same_bytes one other bytes (suc start)
+    (λ k below. let on : start + suc k ≡ suc start + k = omega arith in subst (λ (p : ℕ). one p ≡ other p) on (same (suc k) (omega arith))))

@@ -1,7 +1,7 @@
 //! Laws of the machine: what its definition comes to. These functions do nothing; their contracts are
 //! the laws.
 
-ghost use Rattle.machine.specs.Laws.{AnswersDecide, RunsAgree, RunsFromTheFront, HaltsAgree, SizesOnlyTrap, StepPerforms, InstructionsLeave, StepsLeave, InstructionsGoOn, QuestionsGoOn, BytesAreRead, ResultsFit, NumbersFit, VerdictsFit};
+ghost use Rattle.machine.specs.Laws.{AnswersDecide, RunsAgree, RunsFromTheFront, HaltsAgree, SizesOnlyTrap, StepPerforms, InstructionsLeave, StepsLeave, InstructionsGoOn, QuestionsGoOn, BytesAreRead, SameBytes, ResultsFit, NumbersFit, VerdictsFit};
 
 /// A run has one verdict, and one number of steps, for a header, a port and a list of helper calls.
 pub fn runs_agree()
@@ -25,8 +25,8 @@ pub fn sizes_only_trap()
     ensures { SizesOnlyTrap }
 {}
 
-/// In version 1 of the format, a step is what the instruction at the state's slot does: of what version 1
-/// does not know each is a trap anyway.
+/// In each version of the format, a step is what the instruction at the state's slot does: what a version
+/// does not know is a trap anyway.
 pub fn steps_perform()
     ensures { StepPerforms }
 {}
@@ -47,6 +47,11 @@ pub fn questions_go_on()
 /// What was stored is loaded again: the low bytes of the number, little-endian (RFC 9669, section 5).
 pub fn stored_bytes_are_read()
     ensures { BytesAreRead }
+{}
+
+/// A number is read from its own bytes alone: where those are the same, it is the same.
+pub fn same_bytes()
+    ensures { SameBytes }
 {}
 
 /// Of words, each operation gives a word, and at 32 bits one whose upper half is zero.

@@ -16,7 +16,7 @@ mod words;
 pub use calls::Call;
 pub use laws::{
     halts_agree, numbers_fit, questions_go_on, results_fit, runs_agree, runs_from_the_front,
-    sizes_only_trap, steps_leave, steps_perform, stored_bytes_are_read,
+    same_bytes, sizes_only_trap, steps_leave, steps_perform, stored_bytes_are_read,
 };
 pub use memory::loaded_value;
 pub use regions::{Region, STACK_SIZE};
