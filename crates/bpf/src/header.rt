@@ -7,8 +7,6 @@ ghost use Rattle.bpf.specs.Reading.{HasLimits, bytes_of_header, counts_reading, 
 use crate::fault::ImageFault;
 
 const MAGIC: [u8; 4] = *b"BPFA";
-/// The greatest version of the format.
-const MAX_VERSION: u8 = 2;
 /// The most loops of an image.
 pub const MAX_LOOPS: usize = 8;
 /// The most slots of an image.
@@ -107,7 +105,7 @@ pub fn is_version(version: u8) -> bool
     ensures value { result ≡ is_version version }
     ensures exact { IsTrue result ↔ IsVersion version }
 {
-    version == 1 || version == MAX_VERSION
+    version == 1 || version == 2
 }
 
 /// Whether the counts and the reserved word are those of an image.

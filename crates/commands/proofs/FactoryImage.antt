@@ -8,7 +8,7 @@ use Rattle.bpf.specs.declared.fault.ImageFault.{ImageFault}
 use Rattle.bpf.specs.declared.fault.ImageFault.TheVariants as faults
 use Rattle.commands.specs.Factory.{factory, factory_insns}
 
-pub factory_reading : parts_reading factory_insns [] 2 ≡ Ok factory
+pub factory_reading : parts_reading 1 factory_insns [] 2 ≡ Ok factory
 unfolding parts_fault
 factory_reading = refl
 
@@ -18,11 +18,11 @@ outcome (Ok program) = 0
 outcome (Err fault) = 1
 
 -- the factory image has no fault
-no_fault : (fault : ImageFault) → parts_reading factory_insns [] 2 ≡ Err fault → ⊥
+no_fault : (fault : ImageFault) → parts_reading 1 factory_insns [] 2 ≡ Err fault → ⊥
 no_fault fault h = omega (arith, ap outcome (sym factory_reading ∙ h))
 
 -- memory alone can be refused to the factory image
-pub memory_alone : (fault : ImageFault) → Fails fault (parts_reading factory_insns [] 2) → fault ≡ faults.Memory
+pub memory_alone : (fault : ImageFault) → Fails fault (parts_reading 1 factory_insns [] 2) → fault ≡ faults.Memory
 memory_alone faults.Memory h = refl
 memory_alone faults.Magic h = absurd (no_fault _ h)
 memory_alone faults.Version h = absurd (no_fault _ h)

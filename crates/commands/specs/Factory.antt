@@ -19,7 +19,7 @@ factory_insns = Alu Mov Bits64 0 (Immediate (pos 0)) ∷ Exit ∷ []
 -- the program that judges where no image is named, which is yes to every command: these two
 -- instructions, no loops, and a budget for two steps
 abbrev pub factory : Program
-factory = program 2 [] (flat_map placed_slots factory_insns)
+factory = program 1 2 [] (flat_map placed_slots factory_insns)
 
 -- why there is no factory program: memory was refused to its image, or to the verifier
 abbrev pub IsNoFactory : Fault → Type 0

@@ -36,6 +36,9 @@ use std::io::{self, Write};
 use std::sync::Wait;
 use target::{Served, Stop};
 
+/// The version of the factory program's image.
+const FACTORY_VERSION: u8 = 1;
+
 /// The budget of the factory program, which has two steps.
 const FACTORY_BUDGET: u32 = 2;
 
@@ -92,7 +95,13 @@ fn factory_program<'a>(alloc: Global, sizes: MapSizes) -> Result<Accepted, Fault
     ensures safe { IfOk result (λ program. IsSafe program.program sizes) }
     ensures refused { IfErr result IsNoFactory }
 {
-    let image = Image::new(alloc, &factory_insns(), &[], FACTORY_BUDGET)?;
+    let image = Image::new(
+        alloc,
+        FACTORY_VERSION,
+        &factory_insns(),
+        &[],
+        FACTORY_BUDGET,
+    )?;
     Ok(verify(alloc, image, &sizes)?)
 }
 

@@ -1,6 +1,6 @@
 -- Compiled tables: a rule by its tests, the rules from the last, and what comes before them.
 use Rattle.std.specs.Prelude.{◌≢◌, pos, ◌&&◌, ◌==◌, not, bit_and, if◌then◌else◌, slice_index}
-use Rattle.std.proofs.Common.{◌≡◌, ◌<◌, ◌^◌, ◌+◌, ◌-◌, ◌%◌, ℕ, suc, Bool, true, false, List, [], ◌∷◌, ◌++◌, length, Option, Some, None, refl, sym, ap, ◌∙◌, subst, arith, append_assoc}
+use Rattle.std.proofs.Common.{◌≡◌, ◌<◌, ◌^◌, ◌+◌, ◌-◌, ◌%◌, ℕ, suc, Bool, true, false, List, [], ◌∷◌, ◌++◌, length, Option, Some, None, inl, refl, sym, ap, ◌∙◌, subst, arith, append_assoc}
 use Rattle.std.specs.Prelude.{All}
 use Rattle.std.proofs.lemmas.List.Elements.{All-head, All-tail}
 use Rattle.bpf.specs.Program.{Program, insn_at, program}
@@ -379,7 +379,7 @@ whole_ends : StepPerforms → (rules : List Rule) (budget : ℕ) → All FitsFie
     → Finishes (table_program budget rules) header (entry_state port) (decision rules header told)
 whole_ends performs rules budget fits header port told is_header words =
     let p : Program = table_program budget rules in
-    let m : Setting = record { program = p; header = header; performs = λ h s. performs p h s refl; is_header = is_header } in
+    let m : Setting = record { program = p; header = header; performs = λ h s. performs p h s (inl refl); is_header = is_header } in
     let d : Decision = decision rules header told in
     let code : StandAt p 0 (table_code rules) = stand p [] (table_code rules) refl in
     let apart : StandAt p 0 (address_code ++ (last_address_code ++ rules_code rules)) = subst (λ (insns : List Insn). StandAt p 0 insns) (append_assoc address_code last_address_code (rules_code rules)) code in

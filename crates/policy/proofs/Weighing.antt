@@ -101,21 +101,21 @@ weight_is (insn ∷ insns) slot =
     omega (arith, both, first, rest)
 
 -- a program without a loop weighs as many as its instructions
-pub weighs : (insns : List Insn) (budget : ℕ) → weight_of (program budget [] (flat_map placed_slots insns)) ≡ length insns
+pub weighs : (insns : List Insn) (budget : ℕ) → weight_of (program 1 budget [] (flat_map placed_slots insns)) ≡ length insns
 weighs insns budget = weight_is insns 0
 
 -- ---- parts of an image
 
-counted : (slots budget : ℕ) → is_count 0 slots 0 ≡ true → is_budget budget ≡ true → parts_fault slots [] budget ≡ None
+counted : (slots budget : ℕ) → is_count 0 slots 0 ≡ true → is_budget budget ≡ true → parts_fault 1 slots [] budget ≡ None
 unfolding parts_fault
 counted slots budget count small = rw (count, small) refl
 
 -- so many instructions are a program
-pub are_parts : (insns : List Insn) → 1 ≤ length insns → length insns ≤ 256 → parts_reading insns [] (length insns) ≡ Ok (program (length insns) [] (flat_map placed_slots insns))
+pub are_parts : (insns : List Insn) → 1 ≤ length insns → length insns ≤ 256 → parts_reading 1 insns [] (length insns) ≡ Ok (program 1 (length insns) [] (flat_map placed_slots insns))
 are_parts insns some few =
     let n : ℕ = length (flat_map placed_slots insns) in
     let up : n ≤ 512 = omega (arith, slots_few insns) in
     let down : 1 ≤ n = omega (arith, slots_many insns) in
     let count : is_count 0 n 0 ≡ true = rw (le-leb 1 n down, le-leb n 512 up) refl in
     let budget : is_budget (length insns) ≡ true = rw (le-leb 1 (length insns) some, le-leb (length insns) 65536 (omega arith)) refl in
-    ap (λ (o : Option ImageFault). unless o (program (length insns) [] (flat_map placed_slots insns))) (counted n (length insns) count budget)
+    ap (λ (o : Option ImageFault). unless o (program 1 (length insns) [] (flat_map placed_slots insns))) (counted n (length insns) count budget)

@@ -12,9 +12,9 @@ use Rattle.policy.specs.Compiled.{HasMeaning, compile_fault}
 use Rattle.policy.specs.Limits.{FitsFields}
 use Rattle.policy.specs.declared.rules.Rule.{Rule}
 
--- the program of these instructions, without a loop
+-- the program of these instructions, without a loop, in version 1 of the format
 abbrev pub straight_program : (budget : ℕ) → List Insn → Program
-straight_program budget insns = program budget [] (flat_map placed_slots insns)
+straight_program budget insns = program 1 budget [] (flat_map placed_slots insns)
 
 -- a program is these instructions, without a loop, and each is performed once at most: their number is its budget
 pub record IsMadeOf (insns : List Insn) (program : Program) : Type 0 where

@@ -21,6 +21,9 @@ use std::alloc::Global;
 /// The most rules of a table that is compiled.
 const MAX_RULES: usize = 12;
 
+/// The version of the format that a compiled image has.
+const VERSION: u8 = 1;
+
 /// The fault of a quota: the maps do not have its cell.
 fn quota_fault(quota: Option<Quota>, sizes: &MapSizes) -> Option<PolicyFault>
     ensures { result ≡ quota_fault sizes.now quota }
@@ -93,7 +96,7 @@ fn image_of(alloc: Global, insns: &[Insn]) -> Result<Image, PolicyFault>
     ensures limits { IfOk result IsProgram }
     ensures fault { IfErr result (λ fault. fault ≡ Memory) }
 {
-    match Image::new(alloc, insns, &[], insns.len() as u32) {
+    match Image::new(alloc, VERSION, insns, &[], insns.len() as u32) {
         Ok(image) => Ok(image),
         Err(fault) => match fault {
             ImageFault::Memory => Err(PolicyFault::Memory),

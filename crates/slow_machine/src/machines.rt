@@ -4,6 +4,7 @@ ghost use Rattle.std.specs.Prelude.{◌≡◌, ◌+◌, ◌^◌, ◌<◌, OnSome
 ghost use Rattle.slow_machine.specs.Bytes.{bytes_in};
 ghost use Rattle.slow_machine.specs.Effects.{registers_in};
 ghost use Rattle.slow_machine.specs.Near.{AreNear};
+ghost use Rattle.bpf.specs.Program.{IsVersion};
 ghost use Rattle.machine.specs.State.{entry_state, entry_register, register_after_call};
 ghost use Rattle.machine.specs.Step.{insn_at, after_answer};
 ghost use Rattle.slow_machine.specs.Machine.{state_of, step_of, IsTurn, IsAsk, IsRunOf, IsSameRun};
@@ -47,7 +48,7 @@ impl<'a> Model for Machine<'a> {
 fn fetch(image: &Image, slot: u32) -> Option<Insn>
     ensures value { result ≡ insn_at image.now slot }
     ensures inside { OnSome result (slot < 512) }
-    ensures version { image.now.version ≡ 1 }
+    ensures version { IsVersion image.now.version }
 {
     if slot < u32::from(image.slots()) {
         image.insn(slot as u16)

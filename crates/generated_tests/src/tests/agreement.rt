@@ -22,14 +22,14 @@ const LENGTH: u64 = 40;
 /// A random program without loops.
 fn straight(alloc: Global, random: &mut Random) -> Result<Image, Fail> {
     let insns = instructions(alloc, random, LENGTH, 100)?;
-    Ok(Image::new(alloc, &insns, &[], 65_536)?)
+    Ok(Image::new(alloc, 1, &insns, &[], 65_536)?)
 }
 
 /// A random program with up to four loops one behind the other, about half of them with another one inside.
 fn round(alloc: Global, random: &mut Random) -> Result<Image, Fail> {
     let loops = 1 + random.below(4);
     let program = program_with_loops(alloc, random, loops, 100)?;
-    Ok(Image::new(alloc, &program.insns, &program.loops, 65_536)?)
+    Ok(Image::new(alloc, 1, &program.insns, &program.loops, 65_536)?)
 }
 
 /// Whether the program was accepted; then both machines end with one verdict.

@@ -134,7 +134,7 @@ fn answers(alloc: Global, random: &mut Random) -> Result<Vec<u64>, AllocError> {
 /// the verdict.
 fn agrees(rt: &impl Abort, alloc: Global, seed: u64) -> Result<bool, Fail> {
     let mut random = Random::new(seed);
-    let image = Image::new(alloc, &instructions(alloc, &mut random)?, &[], 65_536)?;
+    let image = Image::new(alloc, 1, &instructions(alloc, &mut random)?, &[], 65_536)?;
     let sizes = MapSizes::new(&[1, 4, 32, 128])?;
     let program = verify(alloc, image.copy()?, &sizes)?;
     let port = random.below(32) as u8;

@@ -47,7 +47,7 @@ fn accepted_programs_end_with_a_verdict(rt: HostRuntime) -> Result<(), Fail> {
     for _turn in 0..600 {
         let insns = instructions(alloc, &mut random, 9, 6)?;
         let budget = (insns.len() % 65536) as u32;
-        let image = Image::new(alloc, &insns, &[], budget)?;
+        let image = Image::new(alloc, 1, &insns, &[], budget)?;
         if let Ok(accepted) = verify(alloc, image, &none) {
             check_runs(&rt, &accepted, &none);
             accepted_programs = accepted_programs.saturating_add(1);
@@ -67,9 +67,9 @@ fn accepted_programs_end_with_a_verdict(rt: HostRuntime) -> Result<(), Fail> {
 fn looped_image(alloc: Global, random: &mut Random) -> Result<Image, Fail> {
     let loops = 1 + random.below(4);
     let program = program_with_loops(alloc, random, loops, 60)?;
-    let heavy = Image::new(alloc, &program.insns, &program.loops, 65_536)?;
+    let heavy = Image::new(alloc, 1, &program.insns, &program.loops, 65_536)?;
     let weight = (heavy.weight() % 65_536) as u32;
-    Ok(Image::new(alloc, &program.insns, &program.loops, weight)?)
+    Ok(Image::new(alloc, 1, &program.insns, &program.loops, weight)?)
 }
 
 /// Of 200 programs with loops more than half are accepted, more than a quarter have nested loops and are accepted,

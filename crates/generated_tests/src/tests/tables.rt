@@ -123,7 +123,13 @@ fn cheaper(alloc: Global, image: &Image) -> Result<Image, Fail> {
             add(&mut insns, insn)?;
         }
     }
-    Ok(Image::new(alloc, &insns, &[], image.budget().saturating_sub(1))?)
+    Ok(Image::new(
+        alloc,
+        image.version(),
+        &insns,
+        &[],
+        image.budget().saturating_sub(1),
+    )?)
 }
 
 /// How often a table gave a verdict behind draws, of all its runs. Each run draws and ends as the table decides.

@@ -65,11 +65,13 @@ fn fault(rt: HostRuntime, bytes: &[u8]) -> (u8, u16) {
 }
 
 /// A place in `COUNTDOWN`, the byte that is put there, and the fault and slot that are wanted.
-const CHANGES: [(usize, u8, u8, u16); 31] = [
+const CHANGES: [(usize, u8, u8, u16); 33] = [
     (0, 0x43, 1, 0),
     (3, 0x42, 1, 0),
-    (4, 0x02, 2, 0),
+    (4, 0x02, 0, 0),
     (4, 0x00, 2, 0),
+    (4, 0x03, 2, 0),
+    (4, 0xff, 2, 0),
     (5, 0x09, 4, 0),
     (5, 0xff, 4, 0),
     (6, 0x00, 4, 0),
@@ -285,7 +287,13 @@ fn is_made_so(rt: HostRuntime, bytes: &[u8]) -> Result<bool, Fail> {
             insns.push(insn)?;
         }
     }
-    let made = Image::new(rt.alloc(), &insns, image.loops(), image.budget())?;
+    let made = Image::new(
+        rt.alloc(),
+        image.version(),
+        &insns,
+        image.loops(),
+        image.budget(),
+    )?;
     Ok(made.write()?.as_slice() == bytes)
 }
 
@@ -301,7 +309,7 @@ fn an_image_is_made_of_its_parts(rt: HostRuntime) -> Result<(), Fail> {
 
 /// The number of the fault of these parts, 0 where they make an image.
 fn parts_fault(rt: HostRuntime, insns: &[Insn], loops: &[Loop], budget: u32) -> u8 {
-    match Image::new(rt.alloc(), insns, loops, budget) {
+    match Image::new(rt.alloc(), 1, insns, loops, budget) {
         Ok(_) => 0,
         Err(fault) => fault.code(),
     }
@@ -448,7 +456,13 @@ fn a_weight_is_a_sum_of_products(rt: HostRuntime) -> Result<(), Fail> {
 /// The bytes of a copy of the image of `COUNTDOWN`, and of an image that is made of exits and its loops.
 fn made_twice(alloc: Global) -> Result<(Vec<u8>, Vec<u8>), ImageFault> {
     let image = Image::read(alloc, &COUNTDOWN)?.copy()?;
-    let exits = Image::new(alloc, &EXITS[..6], image.loops(), image.budget())?;
+    let exits = Image::new(
+        alloc,
+        image.version(),
+        &EXITS[..6],
+        image.loops(),
+        image.budget(),
+    )?;
     Ok((image.write()?, exits.write()?))
 }
 
