@@ -271,7 +271,7 @@ module _ (header : Header) (s : State) (is_header : IsHeader header) (bounded : 
   perform_fits (insns.Wide dst value) i = writes_fit (s.slot + 2) dst (Some (Num value)) i.1
   perform_fits (insns.LoadMap dst index) i = writes_fit _ dst _ (map_at_fits index)
   perform_fits (insns.LoadAddress dst address) i = tt
-  perform_fits (insns.Call callee number) i = calls_so IsBoundedAfter tt s (λ helper map key. answered_fits) callee number
+  perform_fits (insns.Call callee number) i = calls_so IsBoundedAfter tt s (λ helper map key argument. answered_fits) callee number
   perform_fits insns.Exit i = exits_fit (s.registers 0) (bounded.registers 0)
 
 -- ---- programs

@@ -1,5 +1,5 @@
 -- What a step leaves as it was, and what follows a question.
-use Rattle.std.proofs.Common.{◌≡◌, ℕ, ◌+◌, refl, subst, arith, Bool, true, false, cond, eqb, ℤ, Option, Some, None, inl, inr}
+use Rattle.std.proofs.Common.{◌≡◌, ℕ, ◌+◌, refl, subst, arith, Bool, true, false, cond, eqb, ℤ, Option, Some, None}
 use Rattle.std.specs.Prelude.{◌||◌}
 use Rattle.std.proofs.lemmas.Bool.Decides.{nat_tests}
 use Rattle.bpf_parts.specs.declared.callee.Callee.{Callee}
@@ -9,47 +9,24 @@ use Rattle.bpf_insn.specs.declared.insn.Insn.TheVariants as insns
 use Rattle.bpf_insn.specs.Flow.{is_written, flow_of}
 use Rattle.machine.specs.declared.values.Value.{Value}
 use Rattle.machine.specs.declared.values.Value.TheVariants.{Num}
-use Rattle.bpf.specs.Program.{IsVersion}
 use Rattle.machine.specs.Memory.{Header}
 use Rattle.machine.specs.State.{State, state, register_after, register_after_call}
-use Rattle.machine.specs.Step.{Outcome, Next, Ask, Verdict, Trap, after_answer, writes, is_helper, has_helper, perform, perform_at, knows_flow, perform_in, insn_at}
+use Rattle.machine.specs.Step.{Outcome, Next, Ask, Verdict, Trap, after_answer, writes, perform, perform_at, knows_flow, knows_insn, perform_in, insn_at}
 use Rattle.machine.specs.Laws.{StepPerforms, IsLeftBy, AreLeftBy, InstructionsLeave, StepsLeave, InstructionsGoOn, QuestionsGoOn}
 use Rattle.machine.proofs.Outcomes.{unless, where_so, lands_so, compares_so, stores_so, calls_so, exits_so}
 
 -- ---- versions
 
-twice : (b : Bool) (o : Outcome) → cond b (cond b o Trap) Trap ≡ cond b o Trap
-twice true o = refl
-twice false o = refl
-
--- both versions have each helper
-has_each : (version : ℕ) → IsVersion version → (number : ℤ) → has_helper version number ≡ is_helper number
-has_each version (inl one) number = rw one refl
-has_each version (inr two) number = rw two refl
-
-known : (version : ℕ) → IsVersion version → (header : Header) (s : State) (insn : Insn) → cond (knows_flow version (flow_of insn)) (perform header s insn) Trap ≡ perform header s insn
-known version is header s (insns.Call Helper number) = rw (has_each version is number) (twice (is_helper number) _)
-known version is header s (insns.Call Local number) = refl
-known version is header s (insns.Call ByTypeId number) = refl
-known version is header s (insns.Alu op width dst src) = refl
-known version is header s (insns.Negate width dst) = refl
-known version is header s (insns.MoveSigned extension dst src) = refl
-known version is header s (insns.ByteSwap swap bits dst) = refl
-known version is header s (insns.Load size dst place) = refl
-known version is header s (insns.Store size place src) = refl
-known version is header s (insns.Jump comparison offset) = refl
-known version is header s (insns.Goto distance) = refl
-known version is header s (insns.Wide dst value) = refl
-known version is header s (insns.LoadMap dst index) = refl
-known version is header s (insns.LoadAddress dst address) = refl
-known version is header s insns.Exit = refl
-
-in_each : (version : ℕ) → IsVersion version → (header : Header) (s : State) (insn : Option Insn) → perform_in version header s insn ≡ perform_at header s insn
-in_each version is header s None = refl
-in_each version is header s (Some insn) = known version is header s insn
-
 pub step_performs : StepPerforms
-step_performs program header s is = in_each program.version is header s (insn_at program s.slot)
+step_performs program header s knows = performs_at (insn_at program s.slot) knows
+  where
+    where_true : (b : Bool) (o : Outcome) → b ≡ true → cond b o Trap ≡ o
+    where_true true o h = refl
+    where_true false o h = cc
+
+    performs_at : (insn : Option Insn) → knows_insn program.version insn ≡ true → perform_in program.version header s insn ≡ perform_at header s insn
+    performs_at None knows = refl
+    performs_at (Some insn) knows = where_true (knows_flow program.version (flow_of insn)) (perform header s insn) knows
 
 -- ---- what is left
 
@@ -94,7 +71,7 @@ instructions_leave header (insns.LoadMap dst index) s = left_writes (insns.LoadM
 instructions_leave header (insns.LoadAddress dst address) s = tt
 instructions_leave header (insns.Call callee number) s =
     calls_so (AreLeftBy (insns.Call callee number) s) tt s
-    (λ helper map key answer. record { registers = λ k h. after_call_left s.registers answer k callee number h; stack = λ h. refl }) callee number
+    (λ helper map key argument answer. record { registers = λ k h. after_call_left s.registers answer k callee number h; stack = λ h. refl }) callee number
 instructions_leave header insns.Exit s = exits_so (AreLeftBy insns.Exit s) tt _ (λ verdict. tt)
 
 pub steps_leave : StepsLeave
@@ -126,7 +103,7 @@ module _ (s : State) where
   goes_on header (insns.Wide dst value) = goes_writes (s.slot + 2) dst (Some (Num value))
   goes_on header (insns.LoadMap dst index) = goes_writes _ dst _
   goes_on header (insns.LoadAddress dst address) = tt
-  goes_on header (insns.Call callee number) = calls_so (GoesOn s) tt s (λ helper map key. refl) callee number
+  goes_on header (insns.Call callee number) = calls_so (GoesOn s) tt s (λ helper map key argument. refl) callee number
   goes_on header insns.Exit = exits_so (GoesOn s) tt _ (λ verdict. tt)
 
   goes_in : (version : ℕ) (header : Header) (insn : Option Insn) → GoesOn s (perform_in version header s insn)

@@ -25,8 +25,8 @@ pub fn sizes_only_trap()
     ensures { SizesOnlyTrap }
 {}
 
-/// In each version of the format, a step is what the instruction at the state's slot does: what a version
-/// does not know is a trap anyway.
+/// The step of an instruction that the program's version knows is what the instruction does; what a version does not
+/// know is a trap.
 pub fn steps_perform()
     ensures { StepPerforms }
 {}

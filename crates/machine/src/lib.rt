@@ -6,6 +6,7 @@
 #![tactic(auto)]
 
 mod calls;
+mod kinds;
 mod laws;
 mod memory;
 mod regions;
@@ -13,7 +14,8 @@ mod sizes;
 mod values;
 mod words;
 
-pub use calls::Call;
+pub use calls::{Call, has_helper};
+pub use kinds::MapKind;
 pub use laws::{
     halts_agree, numbers_fit, questions_go_on, results_fit, runs_agree, runs_from_the_front,
     same_bytes, sizes_only_trap, steps_leave, steps_perform, stored_bytes_are_read,
