@@ -1,47 +1,61 @@
-//! The counters that a program asks.
+//! The cells that a program asks.
 
-ghost use Rattle.std.specs.Prelude.{◌≡◌, ◌++◌, ◌∷◌, [], ℕ, List};
+ghost use Rattle.std.specs.Prelude.{◌≡◌, ◌++◌, ◌∷◌, [], List};
 ghost use base.Stored.{Gv};
 ghost use Rattle.machine.specs.declared.calls.Call.{Call};
 ghost use Rattle.machine.specs.Runs.{call};
 ghost use Rattle.machine.specs.Step.{question};
-ghost use Rattle.machine.specs.Sizes.{AreSizes, IsInside};
+ghost use Rattle.machine.specs.Sizes.{AreSizes, IsInside, Maps, kind_of_map};
 
-use machine::MapSizes;
+use machine::{MapKind, MapSizes};
 
-/// The counters that a program asks by its helpers 1 and 2. Each call appends itself, with the answer that it
-/// returns, to the calls so far; nothing else is known of the answers here, since others may count too.
+/// The cells that a program asks by its helpers. Each call appends itself, with the answer that it returns, to the
+/// calls so far; nothing else is known of the answers here, since others may ask too.
 pub trait Counters {
     /// The calls so far, in order.
     ghost asked: { Self → List Call };
 
-    /// How many cells each map has, by the map's index.
-    ghost sizes: { Self → List ℕ };
+    /// How many cells each map has, and of which kind it is, by the map's index.
+    ghost sizes: { Self → Maps };
 
     /// The name of the cells that are asked. No call changes it.
     ghost home: { Self → Gv };
 
-    /// How many cells each map has. No call changes it.
+    /// How many cells each map has, and of which kind it is. No call changes it.
     fn sizes(&self) -> MapSizes
         ensures sizes { result ≡ sizes self.now }
         ensures limits { AreSizes (sizes self.now) };
 
-    /// Helper 1: how many tickets were drawn from the cell, modulo 2^64.
+    /// Helper 1: what the cell holds. In a counter map it is how many tickets were drawn from it, modulo 2^64; in a peak
+    /// map the greatest number that was shown to it.
     ///
     /// The map and the key have to be inside the sizes, which `MapSizes::contains` tests.
     fn count(&mut self, map: u8, key: u16) -> u64
         requires { IsInside (sizes self.old) map key }
-        ensures asked { asked self.new ≡ asked self.old ++ call (question 1 map key) result ∷ [] }
+        ensures asked { asked self.new ≡ asked self.old ++ call (question 1 map key 0) result ∷ [] }
         ensures sizes { sizes self.new ≡ sizes self.old }
         ensures home { home self.new ≡ home self.old };
 
     /// Helper 2: draws a ticket from the cell, and answers its number, which is how many were drawn before it,
     /// modulo 2^64.
     ///
-    /// The map and the key have to be inside the sizes, which `MapSizes::contains` tests.
+    /// The map and the key have to be inside the sizes, which `MapSizes::contains` tests, and the map has to be a
+    /// counter map, which `MapSizes::kind` tells.
     fn ticket(&mut self, map: u8, key: u16) -> u64
-        requires { IsInside (sizes self.old) map key }
-        ensures asked { asked self.new ≡ asked self.old ++ call (question 2 map key) result ∷ [] }
+        requires inside { IsInside (sizes self.old) map key }
+        requires kind { kind_of_map (sizes self.old) map ≡ MapKind.Counter }
+        ensures asked { asked self.new ≡ asked self.old ++ call (question 2 map key 0) result ∷ [] }
+        ensures sizes { sizes self.new ≡ sizes self.old }
+        ensures home { home self.new ≡ home self.old };
+
+    /// Helper 3: shows the cell a number, which raises it to the greater of both, and answers what it holds then.
+    ///
+    /// The map and the key have to be inside the sizes, which `MapSizes::contains` tests, and the map has to be a peak
+    /// map, which `MapSizes::kind` tells.
+    fn peak(&mut self, map: u8, key: u16, value: u64) -> u64
+        requires inside { IsInside (sizes self.old) map key }
+        requires kind { kind_of_map (sizes self.old) map ≡ MapKind.Peak }
+        ensures asked { asked self.new ≡ asked self.old ++ call (question 3 map key value) result ∷ [] }
         ensures sizes { sizes self.new ≡ sizes self.old }
         ensures home { home self.new ≡ home self.old };
 }
