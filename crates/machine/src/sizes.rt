@@ -125,7 +125,7 @@ impl MapSizes {
         let cells = cells_of(maps);
         let counters = MapSizes::new(&cells[..maps.len()])?;
         Ok(MapSizes {
-            count: counters.count,
+            count: counters.maps(),
             cells,
             kinds: kinds_of(maps),
         })
