@@ -15,7 +15,7 @@ use Rattle.bpf_insn.specs.declared.insn.Insn.{Insn}
 use Rattle.bver_form.specs.declared.refusal.Refusal.{Refusal}
 use Rattle.bver_form.specs.declared.refusal.Refusal.TheVariants.{BackJump, Budget, FallOff, FrameWrite, Helper, LoopShape}
 use Rattle.bver_form.specs.declared.refusal.Refused.{Refused}
-use Rattle.machine.specs.Step.{is_helper}
+use Rattle.machine.specs.Step.{has_helper}
 use Rattle.bver_form.specs.Codes.{IsFormCode}
 use Rattle.bver_form.specs.Support.{IsSupportedCall, IsSupportedFlow, call_fault, support_fault, frame_fault}
 use Rattle.bver_form.specs.Jumps.{IsAfter, IsBackToHead, IsFirstSlot, IsJump, first_slot, is_loop_back, jump_distance, insn_at, target}
@@ -28,18 +28,18 @@ use Rattle.bver_form.proofs.Left.{by_eq}
 
 -- ---- what may stand at its slot has no fault there
 
-call_none : (callee : Callee) (number : ℤ) → IsSupportedCall callee number → call_fault callee number ≡ None
-call_none callees.Helper number h = rw h refl
-call_none Local number h = absurd h
-call_none ByTypeId number h = absurd h
+call_none : (version : ℕ) (callee : Callee) (number : ℤ) → IsSupportedCall version callee number → call_fault version callee number ≡ None
+call_none version callees.Helper number h = rw h refl
+call_none version Local number h = absurd h
+call_none version ByTypeId number h = absurd h
 
-support_none : (f : Flow) → IsSupportedFlow f → support_fault f ≡ None
-support_none GoesOn h = refl
-support_none (Branches distance) h = refl
-support_none (Jumps distance) h = refl
-support_none (Calls callee number) h = call_none callee number h
-support_none Ends h = refl
-support_none Unsupported h = absurd h
+support_none : (version : ℕ) (f : Flow) → IsSupportedFlow version f → support_fault version f ≡ None
+support_none version GoesOn h = refl
+support_none version (Branches distance) h = refl
+support_none version (Jumps distance) h = refl
+support_none version (Calls callee number) h = call_none version callee number h
+support_none version Ends h = refl
+support_none version Unsupported h = absurd h
 
 frame_none : (o : Option ℕ) → IfSome o (λ register. register ≢ 10) → frame_fault o ≡ None
 frame_none None h = refl
@@ -64,7 +64,7 @@ first_none (Some x) b e f = absurd cc
 
 no_fault : (p : Program) (slot : ℕ) (insn : Insn) → IsAllowed p slot insn → insn_fault p slot insn ≡ None
 no_fault p slot insn h =
-    first_none (support_fault (flow_of insn)) (first_of (frame_fault (written_register insn)) (jump_fault p slot (jump_distance insn))) (support_none (flow_of insn) h.supported)
+    first_none (support_fault p.version (flow_of insn)) (first_of (frame_fault (written_register insn)) (jump_fault p slot (jump_distance insn))) (support_none p.version (flow_of insn) h.supported)
     (first_none (frame_fault (written_register insn)) (jump_fault p slot (jump_distance insn)) (frame_none (written_register insn) h.leaves_frame) (jump_none p slot (jump_distance insn) h.jump))
 
 allowed_or_fault : (p : Program) (slot : ℕ) (o : Option Insn) (code : Refusal) → IsAllowedAt p slot o → IsFaultAt p slot o code → ⊥
@@ -165,22 +165,22 @@ form_fault : (o : Option Refusal) (code : Refusal) → MayBeForm o → o ≡ Som
 form_fault None code h e = absurd cc
 form_fault (Some own) code h e = let same : own ≡ code = cc in subst IsFormCode same h
 
-call_form : (callee : Callee) (number : ℤ) → MayBeForm (call_fault callee number)
-call_form callees.Helper number = by_helper (is_helper number)
+call_form : (version : ℕ) (callee : Callee) (number : ℤ) → MayBeForm (call_fault version callee number)
+call_form version callees.Helper number = by_helper (has_helper version number)
   where
     by_helper : (t : Bool) → MayBeForm (if t then None else Some Helper)
     by_helper true = tt
     by_helper false = tt
-call_form Local number = tt
-call_form ByTypeId number = tt
+call_form version Local number = tt
+call_form version ByTypeId number = tt
 
-support_form : (f : Flow) → MayBeForm (support_fault f)
-support_form GoesOn = tt
-support_form (Branches distance) = tt
-support_form (Jumps distance) = tt
-support_form (Calls callee number) = call_form callee number
-support_form Ends = tt
-support_form Unsupported = tt
+support_form : (version : ℕ) (f : Flow) → MayBeForm (support_fault version f)
+support_form version GoesOn = tt
+support_form version (Branches distance) = tt
+support_form version (Jumps distance) = tt
+support_form version (Calls callee number) = call_form version callee number
+support_form version Ends = tt
+support_form version Unsupported = tt
 
 frame_form : (o : Option ℕ) → MayBeForm (frame_fault o)
 frame_form None = tt
@@ -208,7 +208,7 @@ first_form (Some code) b h g = h
 
 insn_form : (p : Program) (slot : ℕ) (insn : Insn) → MayBeForm (insn_fault p slot insn)
 insn_form p slot insn =
-    first_form (support_fault (flow_of insn)) (first_of (frame_fault (written_register insn)) (jump_fault p slot (jump_distance insn))) (support_form (flow_of insn))
+    first_form (support_fault p.version (flow_of insn)) (first_of (frame_fault (written_register insn)) (jump_fault p slot (jump_distance insn))) (support_form p.version (flow_of insn))
     (first_form (frame_fault (written_register insn)) (jump_fault p slot (jump_distance insn)) (frame_form (written_register insn)) (jump_form p slot (jump_distance insn)))
 
 insn_known : (p : Program) (slot : ℕ) (o : Option Insn) (code : Refusal) → insn_at p slot ≡ o → IsFaultAt p slot o code → IsFormCode code × (slot < length p.slots)

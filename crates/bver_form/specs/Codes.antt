@@ -1,9 +1,9 @@
 -- The numbers of the refusals, and which of them are for a program's form.
 use Rattle.std.specs.Prelude.{ℕ, ◌==◌, if◌then◌else◌, Option, Some, None}
 use Rattle.bver_form.specs.declared.refusal.Refusal.{Refusal}
-use Rattle.bver_form.specs.declared.refusal.Refusal.TheVariants.{Target, BackJump, LoopShape, LoopEntry, Unset, KindMismatch, OutOfRegion, UnsetStack, HeaderWrite, FrameWrite, PointerRange, MapKey, Helper, FallOff, Budget, Unsupported, Memory}
+use Rattle.bver_form.specs.declared.refusal.Refusal.TheVariants.{Target, BackJump, LoopShape, LoopEntry, Unset, KindMismatch, OutOfRegion, UnsetStack, HeaderWrite, FrameWrite, PointerRange, MapKey, Helper, FallOff, Budget, Unsupported, Memory, MapKind}
 
--- the number of a refusal, 1 to 17
+-- the number of a refusal, 1 to 18
 abbrev pub refusal_code : Refusal → ℕ
 refusal_code Target = 1
 refusal_code BackJump = 2
@@ -22,6 +22,7 @@ refusal_code FallOff = 14
 refusal_code Budget = 15
 refusal_code Unsupported = 16
 refusal_code Memory = 17
+refusal_code MapKind = 18
 
 -- the refusal of a number, if it is the number of one
 abbrev pub refusal_of_code : ℕ → Option Refusal
@@ -43,7 +44,8 @@ refusal_of_code code =
     else (if code == 15 then Some Budget
     else (if code == 16 then Some Unsupported
     else (if code == 17 then Some Memory
-    else None))))))))))))))))
+    else (if code == 18 then Some MapKind
+    else None)))))))))))))))))
 
 -- the refusals for the form of a program. The others are for its values, and for want of memory
 abbrev pub IsFormCode : Refusal → Type 0
@@ -64,3 +66,4 @@ IsFormCode FallOff = Unit {0}
 IsFormCode Budget = Unit {0}
 IsFormCode Unsupported = Unit {0}
 IsFormCode Memory = ⊥
+IsFormCode MapKind = ⊥

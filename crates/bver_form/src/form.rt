@@ -16,7 +16,7 @@ fn check_insn(image: &Image, slot: u16, insn: &Insn) -> Result<(), Refusal>
     ensures allowed { OnOk result (IsAllowed image.now slot insn.now) }
     ensures fault { Tells result (insn_fault image.now slot insn.now) }
 {
-    check_supported(insn)?;
+    check_supported(image.version(), insn)?;
     check_frame(insn)?;
     check_jump(image, slot, insn)
 }
@@ -47,7 +47,7 @@ fn check_slots(image: &Image) -> Result<(), Refused>
 /// # Errors
 ///
 /// The first that is met. By rising slot, for the instruction at the slot: `Unsupported`, `Helper` where a
-/// helper is called by a number other than 1 and 2, `FrameWrite`, `Target`, `BackJump`. Then `FallOff` at
+/// helper is called by a number that the version has not (1 and 2 are in both, 3 in version 2), `FrameWrite`, `Target`, `BackJump`. Then `FallOff` at
 /// the last instruction, `LoopShape` at the back of the first declared loop, by rising head, that has not
 /// its form, and `Budget` at slot 0.
 pub fn check(image: &Image) -> Result<(), Refused>

@@ -68,8 +68,10 @@ of cells.
 Give the node the map, or test r2 by `jlt` before the call.";
 
 const HELPER: &str = "\
-A program may call helper 1, which answers a cell's count, and helper 2, which draws a ticket from it.
-Call 1 or 2: r1 is the map and r2 the key, and the answer is in r0.";
+A program may call helper 1, which answers a cell's count, and helper 2, which draws a ticket from it; in version
+2 of the format also helper 3, which raises a cell to the number in r3.
+Call 1 or 2, or begin the text with `.version 2` and call 3: r1 is the map and r2 the key, and the answer is in
+r0.";
 
 const FALL_OFF: &str = "\
 A run that does not jump comes to the end of the program, and the last instruction has to end it.
@@ -88,6 +90,11 @@ Write the program without them.";
 const MEMORY: &str = "\
 The process was refused memory while the program was verified. It says nothing of the program.
 Give the process more memory, and verify the program again.";
+
+const MAP_KIND: &str = "\
+Helper 1 may be asked of every map, helper 2 of counter maps alone, and helper 3 of peak maps alone. In `--maps` a
+size with a `p` behind it is a peak map.
+Call the helper that fits the map, or give the node a map of the other kind.";
 
 /// What a program does that is not allowed.
 #[derive(Clone, Copy, Debug, PartialEq, Eq, Error)]
@@ -143,10 +150,13 @@ pub enum Refusal {
     /// Memory was refused.
     #[error("no memory")]
     Memory,
+    /// A helper is asked of a map of the other kind.
+    #[error("a helper is asked of a map of the other kind")]
+    MapKind,
 }
 
 impl Refusal {
-    /// The number by which outputs name the refusal, 1 to 17 in the order of the variants.
+    /// The number by which outputs name the refusal, 1 to 18 in the order of the variants.
     pub fn code(self) -> u8
         ensures value { result ≡ refusal_code self }
         ensures back { refusal_of_code result ≡ Some self }
@@ -169,6 +179,7 @@ impl Refusal {
             Refusal::Budget => 15,
             Refusal::Unsupported => 16,
             Refusal::Memory => 17,
+            Refusal::MapKind => 18,
         }
     }
 
@@ -195,6 +206,7 @@ impl Refusal {
             15 => Some(Refusal::Budget),
             16 => Some(Refusal::Unsupported),
             17 => Some(Refusal::Memory),
+            18 => Some(Refusal::MapKind),
             _ => None,
         }
     }
@@ -219,6 +231,7 @@ impl Refusal {
             Refusal::Budget => BUDGET,
             Refusal::Unsupported => UNSUPPORTED,
             Refusal::Memory => MEMORY,
+            Refusal::MapKind => MAP_KIND,
         }
     }
 }
@@ -233,7 +246,7 @@ pub struct Refused {
 }
 
 impl Refused {
-    /// The number by which outputs name the refusal, 1 to 17.
+    /// The number by which outputs name the refusal, 1 to 18.
     pub fn number(self) -> u8
         ensures { result ≡ refusal_code self.code }
     {
