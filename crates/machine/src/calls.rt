@@ -1,7 +1,7 @@
 //! Helper calls.
 
 ghost use Rattle.std.specs.Prelude.{◌≡◌, pos};
-ghost use Rattle.machine.specs.Step.{has_helper, last_helper};
+ghost use Rattle.machine.specs.Step.{has_helper, last_helper, takes_argument};
 
 /// A helper's call that was answered: which helper asked which map for which key, with which argument, and the answer.
 #[derive(Clone, Copy, Debug, PartialEq, Eq)]
@@ -35,4 +35,11 @@ pub fn has_helper(version: u8, number: i32) -> bool
     ensures { result ≡ has_helper version number }
 {
     1 <= number && number <= last_helper(version)
+}
+
+/// Whether the helper of that number takes an argument: `peak` alone.
+pub fn takes_argument(number: i32) -> bool
+    ensures { result ≡ takes_argument number }
+{
+    number == 3
 }

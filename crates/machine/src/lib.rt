@@ -14,7 +14,7 @@ mod sizes;
 mod values;
 mod words;
 
-pub use calls::{Call, has_helper};
+pub use calls::{Call, has_helper, takes_argument};
 pub use kinds::MapKind;
 pub use laws::{
     halts_agree, numbers_fit, questions_go_on, results_fit, runs_agree, runs_from_the_front,

@@ -27,7 +27,7 @@ use Rattle.machine.specs.Sizes.{Maps}
 use Rattle.machine.specs.State.{State, register_after, register_after_call}
 use Rattle.slow_machine.specs.Effects.{perform_with, outcome_of, registers_in}
 use Rattle.slow_machine.specs.declared.effects.Effect.{Effect}
-use Rattle.machine.specs.Step.{alu, moved_pointer, moved_value, copied_value, operand, number_result, Outcome, Next, Ask, Verdict, Trap, writes, lands, branches, compares, load_value, loads, puts, stores, map_at, is_helper, asks, calls, exits, perform, finds_maps}
+use Rattle.machine.specs.Step.{alu, moved_pointer, moved_value, copied_value, operand, number_result, Outcome, Next, Ask, Verdict, Trap, writes, lands, branches, compares, load_value, loads, puts, stores, map_at, argument_of, is_helper, asks, calls, exits, perform, finds_maps}
 use Rattle.slow_machine.specs.Machine.{IsTurn, state_with}
 use Rattle.slow_machine.specs.declared.turns.Turn.{Turn}
 use Rattle.machine.specs.Words.{holds_words}
@@ -214,17 +214,18 @@ module _ (limit : ℕ) (s : State) (all : AreAllNear limit s.registers) where
   map_at_near (pos index) = tt
   map_at_near (negsuc n) = tt
 
-  asks_near : (helper : ℤ) (map key : Value) → GoesOnNear (limit + 2 ^ 63) (asks s helper map key)
-  asks_near helper (Map map) (Num key) = tt
-  asks_near helper (Map map) Unset = tt
-  asks_near helper (Map map) (Ptr region start) = tt
-  asks_near helper (Map map) (Map index) = tt
-  asks_near helper Unset key = tt
-  asks_near helper (Num n) key = tt
-  asks_near helper (Ptr region start) key = tt
+  asks_near : (helper : ℤ) (map key : Value) (argument : Option ℕ) → GoesOnNear (limit + 2 ^ 63) (asks s helper map key argument)
+  asks_near helper (Map map) (Num key) (Some argument) = tt
+  asks_near helper (Map map) (Num key) None = tt
+  asks_near helper (Map map) Unset argument = tt
+  asks_near helper (Map map) (Ptr region start) argument = tt
+  asks_near helper (Map map) (Map index) argument = tt
+  asks_near helper Unset key argument = tt
+  asks_near helper (Num n) key argument = tt
+  asks_near helper (Ptr region start) key argument = tt
 
   calls_near : (callee : Callee) (number : ℤ) → GoesOnNear (limit + 2 ^ 63) (calls s callee number)
-  calls_near Helper number = where_so (limit + 2 ^ 63) (is_helper number) _ (asks_near number (s.registers 1) (s.registers 2))
+  calls_near Helper number = where_so (limit + 2 ^ 63) (is_helper number) _ (asks_near number (s.registers 1) (s.registers 2) (argument_of number (s.registers 3)))
   calls_near Local number = tt
   calls_near ByTypeId number = tt
 

@@ -22,20 +22,22 @@ turn_moves (Ask question on) s t h = let e = h.0 in cc
 turn_moves (Verdict verdict) s t h = let e = h.0 in cc
 turn_moves Trap s t h = let e = h.0 in cc
 
-same_question : (asked : Question) (helper map key : ℕ) → asked.helper ≡ helper → asked.map ≡ map → asked.key ≡ key → asked ≡ question helper map key
-same_question asked helper map key one two three =
-    ap (λ h. question h asked.map asked.key) one ∙ ap (λ m. question helper m asked.key) two ∙ ap (λ k. question helper map k) three
+same_question : (asked : Question) (helper map key argument : ℕ) → asked.helper ≡ helper → asked.map ≡ map → asked.key ≡ key → asked.argument ≡ argument → asked ≡ question helper map key argument
+same_question asked helper map key argument one two three four =
+    ap (λ h. question h asked.map asked.key asked.argument) one ∙ ap (λ m. question helper m asked.key asked.argument) two
+    ∙ ap (λ k. question helper map k asked.argument) three ∙ ap (λ a. question helper map key a) four
 
-turn_asks : (o : Outcome) (helper map key : ℕ) (s t : State) → IsTurn o (turns.Ask helper map key) s t → (on : ℕ → State) × (o ≡ Ask (question helper map key) on) × (t ≡ s)
-turn_asks (Next u) helper map key s t h = let e = h.0 in absurd cc
-turn_asks (Ask asked on) helper map key s t h =
+turn_asks : (o : Outcome) (helper map key argument : ℕ) (s t : State) → IsTurn o (turns.Ask helper map key argument) s t → (on : ℕ → State) × (o ≡ Ask (question helper map key argument) on) × (t ≡ s)
+turn_asks (Next u) helper map key argument s t h = let e = h.0 in absurd cc
+turn_asks (Ask asked on) helper map key argument s t h =
     let e = h.0 in
     let one : asked.helper ≡ helper = cc in
     let two : asked.map ≡ map = cc in
     let three : asked.key ≡ key = cc in
-    (on, ap (λ (q : Question). Ask q on) (same_question asked helper map key one two three), h.1)
-turn_asks (Verdict verdict) helper map key s t h = let e = h.0 in absurd cc
-turn_asks Trap helper map key s t h = let e = h.0 in absurd cc
+    let four : asked.argument ≡ argument = cc in
+    (on, ap (λ (q : Question). Ask q on) (same_question asked helper map key argument one two three four), h.1)
+turn_asks (Verdict verdict) helper map key argument s t h = let e = h.0 in absurd cc
+turn_asks Trap helper map key argument s t h = let e = h.0 in absurd cc
 
 turn_ends : (o : Outcome) (verdict : ℕ) (s t : State) → IsTurn o (turns.Verdict verdict) s t → o ≡ Verdict verdict
 turn_ends (Next u) verdict s t h = let e = h.0 in cc
@@ -74,14 +76,14 @@ pub record IsAt (program : Program) (header : Header) (sizes : Maps) (port : ℕ
   pub way : ClearPath program header sizes port calls n (state_of m)
   pub given : answers ≡ answers_of calls ++ left
 
-same_step : (sizes sizes' : List ℕ) (program program' : Program) (header header' : Header) (s s' : State) → sizes ≡ sizes' → program ≡ program' → header ≡ header' → s ≡ s' → step_with sizes program header s ≡ step_with sizes' program' header' s'
+same_step : (sizes sizes' : Maps) (program program' : Program) (header header' : Header) (s s' : State) → sizes ≡ sizes' → program ≡ program' → header ≡ header' → s ≡ s' → step_with sizes program header s ≡ step_with sizes' program' header' s'
 same_step sizes sizes' program program' header header' s s' e f g h = rw (e, f, g, h) refl
 
 -- the question stands after the turn, which leaves the state
-pub still_asks : (m after : MachineValue) (helper map key : ℕ) → IsTurn (step_of m) (turns.Ask helper map key) (state_of m) (state_of after) → IsSameRun m after → IsAsk (step_of after)
-still_asks m after helper map key turn same =
-    let told = turn_asks _ helper map key _ _ turn in
-    let again : step_of after ≡ Ask (question helper map key) told.0 = same_step _ _ _ _ _ _ (state_of after) (state_of m) same.sizes same.program same.header told.2 ∙ told.1 in
+pub still_asks : (m after : MachineValue) (helper map key argument : ℕ) → IsTurn (step_of m) (turns.Ask helper map key argument) (state_of m) (state_of after) → IsSameRun m after → IsAsk (step_of after)
+still_asks m after helper map key argument turn same =
+    let told = turn_asks _ helper map key argument _ _ turn in
+    let again : step_of after ≡ Ask (question helper map key argument) told.0 = same_step _ _ _ _ _ _ (state_of after) (state_of m) same.sizes same.program same.header told.2 ∙ told.1 in
     subst (λ (o : Outcome). IsAsk o) (sym again) tt
 
 module _ (program : Program) (header : Header) (sizes : Maps) (port : ℕ) (answers : List ℕ) where
@@ -106,11 +108,11 @@ module _ (program : Program) (header : Header) (sizes : Maps) (port : ℕ) (answ
   more_given : (calls : List Call) (c : Call) (left : List ℕ) → answers ≡ answers_of calls ++ (c.answer ∷ left) → answers ≡ answers_of (calls ++ c ∷ []) ++ left
   more_given calls c left e = e ∙ sym (ap (λ xs. xs ++ left) (map-append (λ d. d.answer) calls (c ∷ [])) ∙ append_assoc (answers_of calls) (c.answer ∷ []) left)
 
-  pub walk_asks : QuestionsGoOn → (n : ℕ) (m asked after : MachineValue) (helper map key answer : ℕ) (left : List ℕ) → IsAt program header sizes port answers n m (answer ∷ left) → IsTurn (step_of m) (turns.Ask helper map key) (state_of m) (state_of asked) → IsSameRun m asked → answer < 2 ^ 64 → state_of after ≡ after_answer (state_of asked) answer → IsSameRun asked after → IsAt program header sizes port answers (n + 1) after left
-  walk_asks goes_so n m asked after helper map key answer left at turn same small goes_on same_after =
-      let told = turn_asks _ helper map key _ _ turn in
+  pub walk_asks : QuestionsGoOn → (n : ℕ) (m asked after : MachineValue) (helper map key argument answer : ℕ) (left : List ℕ) → IsAt program header sizes port answers n m (answer ∷ left) → IsTurn (step_of m) (turns.Ask helper map key argument) (state_of m) (state_of asked) → IsSameRun m asked → answer < 2 ^ 64 → state_of after ≡ after_answer (state_of asked) answer → IsSameRun asked after → IsAt program header sizes port answers (n + 1) after left
+  walk_asks goes_so n m asked after helper map key argument answer left at turn same small goes_on same_after =
+      let told = turn_asks _ helper map key argument _ _ turn in
       let with_sizes = here n m (answer ∷ left) _ at told.1 in
-      let asked_is = question helper map key in
+      let asked_is = question helper map key argument in
       let no_trap : Ask asked_is told.0 ≡ Trap → ⊥ = λ e. cc in
       let bare = without_sizes sizes program header (state_of m) _ with_sizes no_trap in
       let on_is = goes_so program header (state_of m) asked_is told.0 bare in
@@ -148,9 +150,9 @@ module _ (program : Program) (header : Header) (sizes : Maps) (port : ℕ) (answ
   pub walk_stops : (limit : ℕ) (m : MachineValue) (left : List ℕ) → IsAt program header sizes port answers limit m left → Walk program header sizes port answers limit
   walk_stops limit m left at = record { calls = at.calls; left = left; last = state_of m; path = at.way.path; clear = at.way.clear; given = at.given }
 
-  pub walk_lacks : (n limit : ℕ) (m asked : MachineValue) (helper map key : ℕ) → IsAt program header sizes port answers n m [] → IsTurn (step_of m) (turns.Ask helper map key) (state_of m) (state_of asked) → n < limit → WalkAsks program header sizes port answers limit
-  walk_lacks n limit m asked helper map key at turn below =
-      let told = turn_asks _ helper map key _ _ turn in
+  pub walk_lacks : (n limit : ℕ) (m asked : MachineValue) (helper map key argument : ℕ) → IsAt program header sizes port answers n m [] → IsTurn (step_of m) (turns.Ask helper map key argument) (state_of m) (state_of asked) → n < limit → WalkAsks program header sizes port answers limit
+  walk_lacks n limit m asked helper map key argument at turn below =
+      let told = turn_asks _ helper map key argument _ _ turn in
       record {
         calls = at.calls;
         n = n;

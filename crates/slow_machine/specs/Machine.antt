@@ -38,7 +38,7 @@ step_of m = step_with m.sizes m.program m.header (state_of m)
 abbrev pub IsTurn : Outcome → Turn → (before after : State) → Type 0
 IsTurn (Next t) turn before after = (turn ≡ turns.Next) × (after ≡ t)
 IsTurn (Ask question on) turn before after =
-    (turn ≡ turns.Ask question.helper question.map question.key) × (after ≡ before)
+    (turn ≡ turns.Ask question.helper question.map question.key question.argument) × (after ≡ before)
 IsTurn (Verdict verdict) turn before after = (turn ≡ turns.Verdict verdict) × (after ≡ before)
 IsTurn Trap turn before after = (turn ≡ turns.Trap) × (after ≡ before)
 

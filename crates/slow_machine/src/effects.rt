@@ -1,10 +1,11 @@
 //! What each instruction does, found before it is done (RFC 9669, sections 4 and 5).
 
-ghost use Rattle.std.specs.Prelude.{◌≡◌, ◌^◌, ◌<◌, ◌≤◌, ◌<ℤ◌, pos, slice_index, slice_index_or, if◌then◌else◌, nat_lt};
+ghost use Rattle.std.specs.Prelude.{◌≡◌, ◌^◌, ◌<◌, ◌≤◌, ◌<ℤ◌, pos, slice_index, slice_index_or, if◌then◌else◌, nat_lt, Some};
 ghost use Rattle.slow_machine.specs.Bytes.{header_in};
 ghost use Rattle.slow_machine.specs.Near.{IsNear, AreNear};
-ghost use Rattle.slow_machine.specs.Effects.{state_in, outcome_in, Does, DoesWith, IsPlaced, Writes, asks_with, calls_with};
-ghost use Rattle.machine.specs.Step.{operand, lands, jumps, loads, map_at, is_map};
+ghost use Rattle.slow_machine.specs.Effects.{state_in, outcome_in, Does, DoesWith, IsPlaced, Writes, asks_of, asks_with, calls_with};
+ghost use Rattle.machine.specs.Sizes.{kind_of_map};
+ghost use Rattle.machine.specs.Step.{argument_of, operand, lands, jumps, loads, map_at, is_map, takes_kind};
 
 use crate::arithmetic::{alu, byte_swap, move_signed, negate, number};
 use crate::memory::{Memory, place_of, read};
@@ -12,7 +13,9 @@ use bpf_insn::{
     AluOp, Callee, Comparison, FRAME_POINTER, Insn, LoadSize, Operand, Place, REGISTERS, Register,
     Size, Swap, SwapBits, Width,
 };
-use machine::{MapSizes, Region, Value, holds_words, loaded_value, word};
+use machine::{
+    MapKind, MapSizes, Region, Value, holds_words, loaded_value, takes_argument, word,
+};
 
 /// What an instruction does.
 #[derive(Clone, Copy)]
@@ -31,11 +34,12 @@ pub enum Effect {
     },
     /// The next instruction is at the slot.
     Go(u32),
-    /// The helper asks the map for the key.
+    /// The helper asks the map for the key, with an argument.
     Ask {
         helper: u8,
         map: u8,
         key: u16,
+        argument: u64,
     },
     /// The program ends with a verdict.
     Verdict(u64),
@@ -234,7 +238,7 @@ fn map_at(sizes: &MapSizes, index: i32) -> Option<Value>
 
 /// The key, where the map has it.
 fn key_in(sizes: &MapSizes, map: u8, key: u64) -> Option<u16>
-    ensures { result ≡ (if nat_lt key (slice_index sizes.now map) then Some key else None) }
+    ensures { result ≡ (if nat_lt key (slice_index sizes.now.cells map) then Some key else None) }
 {
     match sizes.cells(map) {
         Some(cells) => {
@@ -248,7 +252,50 @@ fn key_in(sizes: &MapSizes, map: u8, key: u64) -> Option<u16>
     }
 }
 
-/// The question of a helper: r1 is a map, r2 a key below its size.
+/// Whether the helper may be asked of the map.
+fn takes_map(sizes: &MapSizes, helper: u8, map: u8) -> bool
+    ensures { result ≡ takes_kind (pos helper) (kind_of_map sizes.now map) }
+{
+    let kind = match sizes.kind(map) {
+        Some(kind) => kind,
+        None => MapKind::Counter,
+    };
+    kind.takes(i32::from(helper))
+}
+
+/// The argument of a helper: a number in r3, where it takes one. The others have 0.
+fn argument(frame: Frame<'_>, helper: u8) -> Option<u64>
+    ensures { result
+        ≡ argument_of (pos helper) (slice_index_or frame.entry.registers.now 3 Value.Unset) }
+{
+    if takes_argument(i32::from(helper)) {
+        number(value_at(frame, 3))
+    } else {
+        Some(0)
+    }
+}
+
+/// The question of a helper for a key that the map has.
+fn question(frame: Frame<'_>, sizes: &MapSizes, helper: u8, map: u8, key: u16) -> Effect
+    ensures outcome { outcome_in frame.entry result
+        ≡ asks_of sizes.now (state_in frame.entry) helper map key }
+    ensures placed { IsPlaced result }
+{
+    if !takes_map(sizes, helper, map) {
+        return Effect::Trap;
+    }
+    match argument(frame, helper) {
+        Some(argument) => Effect::Ask {
+            helper,
+            map,
+            key,
+            argument,
+        },
+        None => Effect::Trap,
+    }
+}
+
+/// The question of a helper: r1 is a map of which it may be asked, r2 a key below its size.
 fn ask(frame: Frame<'_>, sizes: &MapSizes, helper: u8) -> Effect
     ensures outcome { outcome_in frame.entry result
         ≡ asks_with sizes.now (state_in frame.entry) helper }
@@ -257,7 +304,7 @@ fn ask(frame: Frame<'_>, sizes: &MapSizes, helper: u8) -> Effect
     match value_at(frame, 1) {
         Value::Map(map) => match value_at(frame, 2) {
             Value::Num(key) => match key_in(sizes, map, key) {
-                Some(key) => Effect::Ask { helper, map, key },
+                Some(key) => question(frame, sizes, helper, map, key),
                 None => Effect::Trap,
             },
             Value::Unset | Value::Ptr { .. } | Value::Map(_) => Effect::Trap,
@@ -276,6 +323,7 @@ fn call(frame: Frame<'_>, sizes: &MapSizes, callee: Callee, number: i32) -> Effe
         Callee::Helper => match number {
             1 => ask(frame, sizes, 1),
             2 => ask(frame, sizes, 2),
+            3 => ask(frame, sizes, 3),
             _ => Effect::Trap,
         },
         Callee::Local | Callee::ByTypeId => Effect::Trap,

@@ -4,17 +4,17 @@ ghost use Rattle.std.specs.Prelude.{◌≡◌, ◌+◌, ◌^◌, ◌<◌, OnSome
 ghost use Rattle.slow_machine.specs.Bytes.{bytes_in};
 ghost use Rattle.slow_machine.specs.Effects.{registers_in};
 ghost use Rattle.slow_machine.specs.Near.{AreNear};
-ghost use Rattle.bpf.specs.Program.{IsVersion};
+ghost use Rattle.bpf_insn.specs.Flow.{flow_of};
 ghost use Rattle.machine.specs.State.{entry_state, entry_register, register_after_call};
-ghost use Rattle.machine.specs.Step.{insn_at, after_answer};
+ghost use Rattle.machine.specs.Step.{insn_at, after_answer, knows_flow};
 ghost use Rattle.slow_machine.specs.Machine.{state_of, step_of, IsTurn, IsAsk, IsRunOf, IsSameRun};
 
 use crate::effects::{Frame, perform};
 use crate::memory::Memory;
 use crate::turns::{Turn, apply};
 use bpf::Image;
-use bpf_insn::{FRAME_POINTER, Insn, REGISTERS};
-use machine::{MapSizes, Region, Value, steps_perform};
+use bpf_insn::{Callee, FRAME_POINTER, Flow, Insn, REGISTERS};
+use machine::{MapSizes, Region, Value, has_helper, steps_perform};
 use std::marker::Model;
 
 /// A program that is run one instruction at a time, with every value tagged by its kind and every trap
@@ -48,12 +48,21 @@ impl<'a> Model for Machine<'a> {
 fn fetch(image: &Image, slot: u32) -> Option<Insn>
     ensures value { result ≡ insn_at image.now slot }
     ensures inside { OnSome result (slot < 512) }
-    ensures version { IsVersion image.now.version }
 {
     if slot < u32::from(image.slots()) {
         image.insn(slot as u16)
     } else {
         None
+    }
+}
+
+/// Whether a version of the format knows the instruction: a helper's number is one that it has.
+fn is_known(version: u8, insn: &Insn) -> bool
+    ensures { result ≡ knows_flow version (flow_of insn.now) }
+{
+    match insn.flow() {
+        Flow::Calls(Callee::Helper, number) => has_helper(version, number),
+        _ => true,
     }
 }
 
@@ -132,6 +141,9 @@ impl<'a> Machine<'a> {
         let Some(insn) = fetch(self.image, self.slot) else {
             return Turn::Trap;
         };
+        if !is_known(self.image.version(), &insn) {
+            return Turn::Trap;
+        }
         let effect = {
             let memory = Memory {
                 front: self.front,

@@ -15,8 +15,13 @@ use machine::Value;
 pub enum Turn {
     /// The machine is at its next instruction.
     Next,
-    /// The helper of this number asks the map of this index for a key; `Machine::answer` goes on.
-    Ask { helper: u8, map: u8, key: u16 },
+    /// The helper of this number asks the map of this index for a key, with an argument; `Machine::answer` goes on.
+    Ask {
+        helper: u8,
+        map: u8,
+        key: u16,
+        argument: u64,
+    },
     /// The program ended with this verdict.
     Verdict(u64),
     /// A trap: the machine cannot go on.
@@ -70,7 +75,17 @@ pub fn apply(
             *slot = target;
             Turn::Next
         }
-        Effect::Ask { helper, map, key } => Turn::Ask { helper, map, key },
+        Effect::Ask {
+            helper,
+            map,
+            key,
+            argument,
+        } => Turn::Ask {
+            helper,
+            map,
+            key,
+            argument,
+        },
         Effect::Verdict(verdict) => Turn::Verdict(verdict),
         Effect::Trap => Turn::Trap,
     }
