@@ -13,9 +13,7 @@ use bpf_insn::{
     AluOp, Callee, Comparison, FRAME_POINTER, Insn, LoadSize, Operand, Place, REGISTERS, Register,
     Size, Swap, SwapBits, Width,
 };
-use machine::{
-    MapKind, MapSizes, Region, Value, holds_words, loaded_value, takes_argument, word,
-};
+use machine::{MapKind, MapSizes, Region, Value, holds_words, loaded_value, takes_argument, word};
 
 /// What an instruction does.
 #[derive(Clone, Copy)]
