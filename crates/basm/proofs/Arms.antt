@@ -52,7 +52,7 @@ unfolding label_of
 loop_no_label = refl
 
 -- the letter that tells the directives apart
-second : List ℕ → ℕ
+abbrev second : List ℕ → ℕ
 second [] = 0
 second (c ∷ []) = 0
 second (c ∷ d ∷ cs) = d
