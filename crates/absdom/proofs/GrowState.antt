@@ -278,7 +278,7 @@ operand_below : (a b : StateValue) (src : Operand) → IsBelow a b → IsKindBel
 operand_below a b (FromRegister r) below = below.kinds r
 operand_below a b (Immediate z) below = kind_below-refl (operand_kind a (Immediate z))
 
-operand_proper : (a : StateValue) (src : Operand) → IsWhole a → IsProper (operand_kind a src)
+pub operand_proper : (a : StateValue) (src : Operand) → IsWhole a → IsProper (operand_kind a src)
 operand_proper a (FromRegister r) p = p.kinds r
 operand_proper a (Immediate z) p = record { in_order = omega arith; words = word_below z }
 
