@@ -153,15 +153,15 @@ whole_word (Some n) range h = h
 
 -- a load of one place gives a number in the place's range
 place_read : (header : Header) (s : State) (a : StateValue) (size : LoadSize) (first last place : ℕ) → Fits s a → IsBetween 512 (load_bytes size) first last place → is_set Stack a.marks (load_bytes size) (first, last) ≡ true → (load_bytes size ≡ 8) × (first ≡ last) × (first % 8 ≡ 0) → FitsResult (load_value size (little_endian (byte_of header s.stack Stack) (load_bytes size) place)) (Ok (Num (range_at a (first / 8))))
-place_read header s a LoadByte first last place fits between e is = let no : 1 ≡ 8 = is.0 in absurd (omega arith)
-place_read header s a LoadHalf first last place fits between e is = let no : 2 ≡ 8 = is.0 in absurd (omega arith)
-place_read header s a LoadWord first last place fits between e is = let no : 4 ≡ 8 = is.0 in absurd (omega arith)
-place_read header s a SignedByte first last place fits between e is = let no : 1 ≡ 8 = is.0 in absurd (omega arith)
-place_read header s a SignedHalf first last place fits between e is = let no : 2 ≡ 8 = is.0 in absurd (omega arith)
-place_read header s a SignedWord first last place fits between e is = let no : 4 ≡ 8 = is.0 in absurd (omega arith)
+place_read header s a LoadByte first last place fits between e is = absurd (omega (arith, is.0))
+place_read header s a LoadHalf first last place fits between e is = absurd (omega (arith, is.0))
+place_read header s a LoadWord first last place fits between e is = absurd (omega (arith, is.0))
+place_read header s a SignedByte first last place fits between e is = absurd (omega (arith, is.0))
+place_read header s a SignedHalf first last place fits between e is = absurd (omega (arith, is.0))
+place_read header s a SignedWord first last place fits between e is = absurd (omega (arith, is.0))
 place_read header s a LoadDouble first last place fits between e is =
-    let one : first ≡ last = is.1.0 in
-    let even : first % 8 ≡ 0 = is.1.1 in
+    let one : first ≡ last = is.1 in
+    let even : first % 8 ≡ 0 = is.2 in
     let count : last + 8 - first ≡ 8 = omega arith in
     let start : first ≡ 8 * (first / 8) = omega arith in
     let there : place ≡ 8 * (first / 8) = omega (arith, between.above, between.below) in
