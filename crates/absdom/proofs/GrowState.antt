@@ -223,8 +223,10 @@ ranges_grow spill a b bytes large small v w p q below proper h inside k = by_tes
   where
     new : Range
     new = range_in (stored_ranges spill a.ranges bytes small v) k
+
     sizes : length a.ranges ≡ length b.ranges
     sizes = p.sizes.places ∙ sym q.sizes.places
+
     by_test : (t : Bool) → is_touched k large.0 (large.1 + bytes - 1) ≡ t → IsWithin new (range_in (stored_ranges spill b.ranges bytes large w) k)
     by_test false t =
         rw (left_at spill a.ranges bytes small v k (touched_less bytes large small k inside t), left_at spill b.ranges bytes large w k t) (below.ranges k)

@@ -172,8 +172,8 @@ forgotten-more old new first end g h =
           | inl e ↦
               let t : (nat_le first k && nat_lt k (end + 1)) ≡ true = inside_test first (end + 1) k (omega arith) (omega arith) in
               let is : range_in (set new end (whole_range Bits64)) k ≡ whole_range Bits64 =
-                  ap (range_in (set new end (whole_range Bits64))) e
-                  ∙ set_at (λ r. r ≡ whole_range Bits64) new end (whole_range Bits64) refl refl
+              ap (range_in (set new end (whole_range Bits64))) e
+              ∙ set_at (λ r. r ≡ whole_range Bits64) new end (whole_range Bits64) refl refl
               in
               is ∙ sym (ap (λ u. if u then whole_range Bits64 else range_in old k) t)
           | inr ne ↦
@@ -198,6 +198,7 @@ forgotten-all old new first last end a b c h =
       where
         beyond : last < 8 * k → (k < first / 8) ⊎ (end ≤ k)
         beyond low = elim (cases_lt k (first / 8)) [ inl l ↦ inl l | inr g ↦ inr (omega arith) ]
+
     each : (k : ℕ) → k < length new → range_in new k ≡ range_in (widened old first last) k
     each k l =
         h.each k
@@ -217,6 +218,10 @@ joined_places xs ys zs g h size joint =
       each = λ k. let P : Range → Type 0 = λ r. IsRange r in subst P (sym (joint k)) (joined_proper (range_in xs k) (range_in ys k) (g.each k) (h.each k));
     }
 
+both_set : (x y z : Bool) → z ≡ (x && y) → x ≡ true → y ≡ true → z ≡ true
+both_set true y z e g h = e ∙ h
+both_set false y z e g h = e ∙ g
+
 -- a place whose bytes are not all set in both is unknown in a join
 pub joined_unset : (xs ys zs : List Bool) (rs ss ts : List Range) → AreInBoth xs ys zs → AreRangesJoined rs ss ts → ((k : ℕ) → IsRange (range_in rs k)) → ((k : ℕ) → IsRange (range_in ss k)) → ((k : ℕ) → all_marked xs (8 * k) 8 ≡ false → range_in rs k ≡ whole_range Bits64) → ((k : ℕ) → all_marked ys (8 * k) 8 ≡ false → range_in ss k ≡ whole_range Bits64) → (k : ℕ) → all_marked zs (8 * k) 8 ≡ false → range_in ts k ≡ whole_range Bits64
 joined_unset xs ys zs rs ss ts both joint g h one two k unset =
@@ -227,13 +232,10 @@ joined_unset xs ys zs rs ss ts both joint g h one two k unset =
     by_tests true false e f = ap (λ r. joined_ranges (range_in rs k) r) (two k f) ∙ joined_whole (range_in rs k) (g k)
     by_tests true true e f =
         let yes : all_marked zs (8 * k) 8 ≡ true =
-            all_marked_from zs (8 * k) 8 (λ i l. both_set (mark_at xs (8 * k + i)) (mark_at ys (8 * k + i)) (mark_at zs (8 * k + i)) (both (8 * k + i)) (marked_bytes xs (8 * k) 8 e i l) (marked_bytes ys (8 * k) 8 f i l))
+        all_marked_from zs (8 * k) 8 (λ i l. both_set (mark_at xs (8 * k + i)) (mark_at ys (8 * k + i)) (mark_at zs (8 * k + i)) (both (8 * k + i)) (marked_bytes xs (8 * k) 8 e i l) (marked_bytes ys (8 * k) 8 f i l))
         in
         let never : true ≡ false = sym yes ∙ unset in
         absurd cc
-    both_set : (x y z : Bool) → z ≡ (x && y) → x ≡ true → y ≡ true → z ≡ true
-    both_set true y z e g h = e ∙ h
-    both_set false y z e g h = e ∙ g
 
 -- of 64 ranges each that is within holds at all places
 pub within_all : (xs ys : List Range) → length xs ≡ 64 → length ys ≡ 64 → ((k : ℕ) → k < 64 → IsWithin (range_in xs k) (range_in ys k)) → AreRangesWithin xs ys
@@ -363,10 +365,10 @@ left_at Keeps ranges bytes firsts value place t = either (is_place bytes firsts)
         let one : firsts.0 ≡ firsts.1 = is.1 in
         let even : firsts.0 % 8 ≡ 0 = is.2 in
         let ne : place ≢ firsts.0 / 8 =
-            λ same.
-            let yes : is_touched place firsts.0 (firsts.1 + bytes - 1) ≡ true = is_touching place firsts.0 (firsts.1 + bytes - 1) (omega arith) (omega arith) in
-            let no : true ≡ false = sym yes ∙ t in
-            absurd cc
+        λ same.
+        let yes : is_touched place firsts.0 (firsts.1 + bytes - 1) ≡ true = is_touching place firsts.0 (firsts.1 + bytes - 1) (omega arith) (omega arith) in
+        let no : true ≡ false = sym yes ∙ t in
+        absurd cc
         in
         set_other ranges (firsts.0 / 8) place value ne
     either false e = untouched_kept ranges firsts.0 (firsts.1 + bytes - 1) place t
@@ -401,14 +403,15 @@ stored_unset spill marks ranges bytes firsts value size inside old k unset = by_
             let yes = still_marked marks (stored_marks marks bytes firsts) (8 * k) 8 (stored_stays marks bytes firsts) e in
             let never : true ≡ false = sym yes ∙ unset in
             absurd cc
+
     by_touch : (t : Bool) → is_touched k firsts.0 (firsts.1 + bytes - 1) ≡ t → range_in (stored_ranges spill ranges bytes firsts value) k ≡ whole_range Bits64
     by_touch false t = left_at spill ranges bytes firsts value k t ∙ old k was
     by_touch true t =
         elim (touched_at spill ranges bytes firsts value k t) [
           | inl fill ↦
               let yes : all_marked (stored_marks marks bytes firsts) (8 * k) 8 ≡ true =
-                  all_marked_from (stored_marks marks bytes firsts) (8 * k) 8
-                  (λ i l. stored_made marks bytes firsts (8 * k + i) fill.one (omega (arith, inside.first, size)) (omega (arith, fill.first)) (omega (arith, fill.first, fill.eight)))
+              all_marked_from (stored_marks marks bytes firsts) (8 * k) 8
+              (λ i l. stored_made marks bytes firsts (8 * k + i) fill.one (omega (arith, inside.first, size)) (omega (arith, fill.first)) (omega (arith, fill.first, fill.eight)))
               in
               let never : true ≡ false = sym yes ∙ unset in
               absurd cc

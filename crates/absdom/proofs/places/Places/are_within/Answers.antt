@@ -11,8 +11,8 @@ returns-then-not-other c = (
 pub returns : goal.returns
 returns c = (
   λ t. within_all c.args.self.now c.args.other.now
-  (length-view c.self.inside.narrow c.self.inside.ranges c.args.self.now c.self.view_is c.self.invariant)
-  (length-view c.other.inside.narrow c.other.inside.ranges c.args.other.now c.other.view_is c.other.invariant)
-  (λ k l. c.loop-place.invariant k (omega (arith, c.loop-place-test.false))),
+      (length-view c.self.inside.narrow c.self.inside.ranges c.args.self.now c.self.view_is c.self.invariant)
+      (length-view c.other.inside.narrow c.other.inside.ranges c.args.other.now c.other.view_is c.other.invariant)
+      (λ k l. c.loop-place.invariant k (omega (arith, c.loop-place-test.false))),
   λ h. refl,
 )
