@@ -193,6 +193,21 @@ pub fn looping() -> Vec<u8> {
     image_with(65_536, &loops, &slots)
 }
 
+/// Forty joins, in that version of the format. Where it spills, a number is put on the stack before each.
+pub fn joins(version: u8, spills: bool) -> Vec<u8> {
+    let mut slots = vec![insn(MOV, 0, 0, 0, 0), insn(MOV, 4, 0, 0, 0)];
+    for place in 1..41 {
+        if spills {
+            slots.push(insn(STXDW, 10, 3, -8 * place, 0));
+        }
+        slots.extend([insn(JEQ, 3, 0, 1, 5), insn(MOV, 4, 0, 0, 1)]);
+    }
+    slots.push(insn(EXIT, 0, 0, 0, 0));
+    let mut bytes = image(&slots);
+    bytes[4] = version;
+    bytes
+}
+
 /// Fourteen rules on initiator and address, of which the last one says yes.
 pub fn fields() -> Vec<u8> {
     let mut slots = Vec::new();

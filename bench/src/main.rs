@@ -58,6 +58,9 @@ fn main() {
         ("verify of 512 slots with eight loops", images::looping()),
         ("verify of eight loops in one another", images::nested()),
         ("verify of the largest policy table", images::largest_table()),
+        ("verify of forty joins", images::joins(1, false)),
+        ("verify of forty joins in version 2", images::joins(2, false)),
+        ("verify of forty joins with a number on the stack before each", images::joins(2, true)),
     ] {
         measure(name, "images", 200.0, || timed(|| speed::verify(&image, 200)));
     }

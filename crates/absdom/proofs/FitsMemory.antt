@@ -1,5 +1,5 @@
 -- What loads give and stores leave fits what is known of it.
-use Rattle.std.proofs.Common.{◌≡◌, ℕ, zero, suc, ◌+◌, ◌-◌, ◌*◌, ◌/◌, ◌%◌, ◌^◌, ◌<◌, ◌≤◌, ℤ, pos, negsuc, ◌+ℤ◌, ◌≤ℤ◌, Bool, true, false, nat_le, if◌then◌else◌, refl, sym, ◌∙◌, ap, ap₂, subst, arith, Option, Some, None, Ok, Err, List, length, slice_get, All}
+use Rattle.std.proofs.Common.{◌≡◌, ℕ, zero, suc, ◌+◌, ◌-◌, ◌*◌, ◌/◌, ◌%◌, ◌^◌, ◌<◌, ◌≤◌, ℤ, pos, negsuc, ◌+ℤ◌, ◌≤ℤ◌, Bool, true, false, nat_le, if◌then◌else◌, refl, sym, ◌∙◌, ap, subst, arith, Option, Some, None, Ok, Err, List, length, slice_get, All}
 use Rattle.std.proofs.lemmas.Int.{ints}
 use Rattle.std.proofs.Common.{[], ◌∷◌, lit<}
 use Rattle.std.proofs.Math.Nat.{pow-succ'}
@@ -14,6 +14,7 @@ use Rattle.machine.specs.declared.values.Value.TheVariants.{Unset as Nothing, Nu
 use Rattle.machine.specs.Words.{word}
 use Rattle.bpf_parts.specs.Sizes.{load_bytes}
 use Rattle.machine.specs.Memory.{Header, IsHeader, region_size, place_within, place_of, byte_of, byte_below, little_endian, loaded_value}
+use Rattle.machine.specs.Laws.{SameBytes}
 use Rattle.machine.specs.State.{State}
 use Rattle.machine.specs.Step.{load_value, bytes_at, loads}
 use Rattle.absdom_num.specs.Ranges.{IsIn}
@@ -136,38 +137,28 @@ bytes_set header s a Stack bytes first last place known fits e between k h =
     let P : ℕ → Type 0 = λ p. IsByte (s.stack p) in
     subst P d (fits.bytes (first + (place + k - first)) m)
 
--- two memories that agree on so many bytes from a place on give the same number there
-pub same_bytes : (f g : ℕ → Option ℕ) (bytes place : ℕ) → ((k : ℕ) → k < bytes → f (place + k) ≡ g (place + k)) → little_endian f bytes place ≡ little_endian g bytes place
-unfolding little_endian
-same_bytes f g zero place same = refl
-same_bytes f g (suc bytes) place same =
-    let at : place + 0 ≡ place = omega arith in
-    let first : f place ≡ g place = subst (λ (p : ℕ). f p ≡ g p) at (same 0 (omega arith)) in
-    ap₂ byte_below first (same_bytes f g bytes (suc place)
-    (λ k below. let on : place + suc k ≡ suc place + k = omega arith in subst (λ (p : ℕ). f p ≡ g p) on (same (suc k) (omega arith))))
-
 -- the number of eight bytes is the word itself
 whole_word : (o : Option ℕ) (range : Range) → IsReadIn o range → FitsResult (load_value LoadDouble o) (Ok (Num range))
 whole_word None range h = absurd h
 whole_word (Some n) range h = h
 
 -- a load of one place gives a number in the place's range
-place_read : (header : Header) (s : State) (a : StateValue) (size : LoadSize) (first last place : ℕ) → Fits s a → IsBetween 512 (load_bytes size) first last place → is_set Stack a.marks (load_bytes size) (first, last) ≡ true → (load_bytes size ≡ 8) × (first ≡ last) × (first % 8 ≡ 0) → FitsResult (load_value size (little_endian (byte_of header s.stack Stack) (load_bytes size) place)) (Ok (Num (range_at a (first / 8))))
-place_read header s a LoadByte first last place fits between e is = let no : 1 ≡ 8 = is.0 in absurd (omega arith)
-place_read header s a LoadHalf first last place fits between e is = let no : 2 ≡ 8 = is.0 in absurd (omega arith)
-place_read header s a LoadWord first last place fits between e is = let no : 4 ≡ 8 = is.0 in absurd (omega arith)
-place_read header s a SignedByte first last place fits between e is = let no : 1 ≡ 8 = is.0 in absurd (omega arith)
-place_read header s a SignedHalf first last place fits between e is = let no : 2 ≡ 8 = is.0 in absurd (omega arith)
-place_read header s a SignedWord first last place fits between e is = let no : 4 ≡ 8 = is.0 in absurd (omega arith)
-place_read header s a LoadDouble first last place fits between e is =
-    let one : first ≡ last = is.1.0 in
-    let even : first % 8 ≡ 0 = is.1.1 in
+place_read : SameBytes → (header : Header) (s : State) (a : StateValue) (size : LoadSize) (first last place : ℕ) → Fits s a → IsBetween 512 (load_bytes size) first last place → is_set Stack a.marks (load_bytes size) (first, last) ≡ true → (load_bytes size ≡ 8) × (first ≡ last) × (first % 8 ≡ 0) → FitsResult (load_value size (little_endian (byte_of header s.stack Stack) (load_bytes size) place)) (Ok (Num (range_at a (first / 8))))
+place_read own header s a LoadByte first last place fits between e is = absurd (omega (arith, is.0))
+place_read own header s a LoadHalf first last place fits between e is = absurd (omega (arith, is.0))
+place_read own header s a LoadWord first last place fits between e is = absurd (omega (arith, is.0))
+place_read own header s a SignedByte first last place fits between e is = absurd (omega (arith, is.0))
+place_read own header s a SignedHalf first last place fits between e is = absurd (omega (arith, is.0))
+place_read own header s a SignedWord first last place fits between e is = absurd (omega (arith, is.0))
+place_read own header s a LoadDouble first last place fits between e is =
+    let one : first ≡ last = is.1 in
+    let even : first % 8 ≡ 0 = is.2 in
     let count : last + 8 - first ≡ 8 = omega arith in
     let start : first ≡ 8 * (first / 8) = omega arith in
     let there : place ≡ 8 * (first / 8) = omega (arith, between.above, between.below) in
     let marked : all_marked a.marks (8 * (first / 8)) 8 ≡ true = sym (ap (λ p. all_marked a.marks p 8) start) ∙ sym (ap (all_marked a.marks first) count) ∙ e in
     let same : little_endian (byte_of header s.stack Stack) 8 place ≡ little_endian s.stack 8 (8 * (first / 8)) =
-        same_bytes (byte_of header s.stack Stack) s.stack 8 place (λ k l. refl) ∙ ap (little_endian s.stack 8) there
+    own (byte_of header s.stack Stack) s.stack 8 place (λ k l. refl) ∙ ap (little_endian s.stack 8) there
     in
     let P : Option ℕ → Type 0 = λ o. FitsResult (load_value LoadDouble o) (Ok (Num (range_at a (first / 8)))) in
     subst P (sym same) (whole_word (little_endian s.stack 8 (8 * (first / 8))) (range_at a (first / 8)) (fits.places (first / 8) marked))
@@ -178,43 +169,43 @@ table_read header s a size region first last place known fits between e =
     value_fits size (little_endian (byte_of header s.stack region) (load_bytes size) place)
     (little_fits (byte_of header s.stack region) (load_bytes size) place (bytes_set header s a region (load_bytes size) first last place known fits e between))
 
-kept_read : (header : Header) (s : State) (a : StateValue) (size : LoadSize) (first last place : ℕ) → IsHeader header → Fits s a → IsBetween 512 (load_bytes size) first last place → is_set Stack a.marks (load_bytes size) (first, last) ≡ true → (t : Bool) → is_place (load_bytes size) (first, last) ≡ t → FitsResult (load_value size (little_endian (byte_of header s.stack Stack) (load_bytes size) place)) (Ok (Num (if t then range_at a (first / 8) else loaded_range size)))
-kept_read header s a size first last place known fits between e true is =
-    place_read header s a size first last place fits between e (place_test (load_bytes size) (first, last) is)
-kept_read header s a size first last place known fits between e false is =
+kept_read : SameBytes → (header : Header) (s : State) (a : StateValue) (size : LoadSize) (first last place : ℕ) → IsHeader header → Fits s a → IsBetween 512 (load_bytes size) first last place → is_set Stack a.marks (load_bytes size) (first, last) ≡ true → (t : Bool) → is_place (load_bytes size) (first, last) ≡ t → FitsResult (load_value size (little_endian (byte_of header s.stack Stack) (load_bytes size) place)) (Ok (Num (if t then range_at a (first / 8) else loaded_range size)))
+kept_read own header s a size first last place known fits between e true is =
+    place_read own header s a size first last place fits between e (place_test (load_bytes size) (first, last) is)
+kept_read own header s a size first last place known fits between e false is =
     table_read header s a size Stack first last place known fits between e
 
-range_read : (spill : Spill) (header : Header) (s : State) (a : StateValue) (size : LoadSize) (region : Region) (first last place : ℕ) → IsHeader header → Fits s a → IsBetween (region_size region) (load_bytes size) first last place → is_set region a.marks (load_bytes size) (first, last) ≡ true → FitsResult (load_value size (little_endian (byte_of header s.stack region) (load_bytes size) place)) (Ok (Num (read_range spill a size region (first, last))))
-range_read Forgets header s a size region first last place known fits between e =
+range_read : SameBytes → (spill : Spill) (header : Header) (s : State) (a : StateValue) (size : LoadSize) (region : Region) (first last place : ℕ) → IsHeader header → Fits s a → IsBetween (region_size region) (load_bytes size) first last place → is_set region a.marks (load_bytes size) (first, last) ≡ true → FitsResult (load_value size (little_endian (byte_of header s.stack region) (load_bytes size) place)) (Ok (Num (read_range spill a size region (first, last))))
+range_read own Forgets header s a size region first last place known fits between e =
     table_read header s a size region first last place known fits between e
-range_read Keeps header s a size Front first last place known fits between e =
+range_read own Keeps header s a size Front first last place known fits between e =
     table_read header s a size Front first last place known fits between e
-range_read Keeps header s a size Tail first last place known fits between e =
+range_read own Keeps header s a size Tail first last place known fits between e =
     table_read header s a size Tail first last place known fits between e
-range_read Keeps header s a size Stack first last place known fits between e =
-    kept_read header s a size first last place known fits between e (is_place (load_bytes size) (first, last)) refl
+range_read own Keeps header s a size Stack first last place known fits between e =
+    kept_read own header s a size first last place known fits between e (is_place (load_bytes size) (first, last)) refl
 
 -- by whether all of them are set
-read_by_test : (spill : Spill) (header : Header) (s : State) (a : StateValue) (size : LoadSize) (region : Region) (first last place : ℕ) → IsHeader header → Fits s a → IsBetween (region_size region) (load_bytes size) first last place → (t : Bool) → is_set region a.marks (load_bytes size) (first, last) ≡ t → FitsResult (load_value size (little_endian (byte_of header s.stack region) (load_bytes size) place)) (if t then Ok (Num (read_range spill a size region (first, last))) else Err UnsetStack)
-read_by_test spill header s a size region first last place known fits between false e = tt
-read_by_test spill header s a size region first last place known fits between true e =
-    range_read spill header s a size region first last place known fits between e
+read_by_test : SameBytes → (spill : Spill) (header : Header) (s : State) (a : StateValue) (size : LoadSize) (region : Region) (first last place : ℕ) → IsHeader header → Fits s a → IsBetween (region_size region) (load_bytes size) first last place → (t : Bool) → is_set region a.marks (load_bytes size) (first, last) ≡ t → FitsResult (load_value size (little_endian (byte_of header s.stack region) (load_bytes size) place)) (if t then Ok (Num (read_range spill a size region (first, last))) else Err UnsetStack)
+read_by_test own spill header s a size region first last place known fits between false e = tt
+read_by_test own spill header s a size region first last place known fits between true e =
+    range_read own spill header s a size region first last place known fits between e
 
-read_fits : (spill : Spill) (header : Header) (s : State) (a : StateValue) (size : LoadSize) (region : Region) (places : Option (ℕ × ℕ)) (place : Option ℕ) → IsHeader header → Fits s a → HasPlace (region_size region) (load_bytes size) places place → FitsResult (load_value size (bytes_at header s.stack region (load_bytes size) place)) (read_kind spill a size region places)
-read_fits spill header s a size region None place known fits h = tt
-read_fits spill header s a size region (Some places) None known fits h = absurd h
-read_fits spill header s a size region (Some places) (Some place) known fits h =
-    read_by_test spill header s a size region places.0 places.1 place known fits h (is_set region a.marks (load_bytes size) places) refl
+read_fits : SameBytes → (spill : Spill) (header : Header) (s : State) (a : StateValue) (size : LoadSize) (region : Region) (places : Option (ℕ × ℕ)) (place : Option ℕ) → IsHeader header → Fits s a → HasPlace (region_size region) (load_bytes size) places place → FitsResult (load_value size (bytes_at header s.stack region (load_bytes size) place)) (read_kind spill a size region places)
+read_fits own spill header s a size region None place known fits h = tt
+read_fits own spill header s a size region (Some places) None known fits h = absurd h
+read_fits own spill header s a size region (Some places) (Some place) known fits h =
+    read_by_test own spill header s a size region places.0 places.1 place known fits h (is_set region a.marks (load_bytes size) places) refl
 
 -- a load through a pointer
-pub load_fits : (spill : Spill) (header : Header) (s : State) (a : StateValue) (size : LoadSize) (u : Value) (p : AbsKind) (offset : ℤ) → IsHeader header → Fits s a → FitsKind u p → FitsResult (loads header s size u offset) (load_kind spill a size p offset)
-load_fits spill header s a size u Unset offset known fits g = tt
-load_fits spill header s a size u (Num n) offset known fits g = tt
-load_fits spill header s a size u (Map i) offset known fits g = tt
-load_fits spill header s a size Nothing (Ptr t o) offset known fits g = absurd g
-load_fits spill header s a size (Number n) (Ptr t o) offset known fits g = absurd g
-load_fits spill header s a size (MapOf i) (Ptr t o) offset known fits g = absurd g
-load_fits spill header s a size (Pointer r z) (Ptr t o) offset known fits g =
+pub load_fits : SameBytes → (spill : Spill) (header : Header) (s : State) (a : StateValue) (size : LoadSize) (u : Value) (p : AbsKind) (offset : ℤ) → IsHeader header → Fits s a → FitsKind u p → FitsResult (loads header s size u offset) (load_kind spill a size p offset)
+load_fits own spill header s a size u Unset offset known fits g = tt
+load_fits own spill header s a size u (Num n) offset known fits g = tt
+load_fits own spill header s a size u (Map i) offset known fits g = tt
+load_fits own spill header s a size Nothing (Ptr t o) offset known fits g = absurd g
+load_fits own spill header s a size (Number n) (Ptr t o) offset known fits g = absurd g
+load_fits own spill header s a size (MapOf i) (Ptr t o) offset known fits g = absurd g
+load_fits own spill header s a size (Pointer r z) (Ptr t o) offset known fits g =
     let P : Region → Type 0 = λ x. FitsResult (loads header s size (Pointer r z) offset) (load_kind spill a size (Ptr x o) offset) in
     subst P g.0
-    (read_fits spill header s a size r (access_places r (load_bytes size) o offset) (place_of r (load_bytes size) (z +ℤ offset)) known fits (place_between r (load_bytes size) o offset z g.1))
+    (read_fits own spill header s a size r (access_places r (load_bytes size) o offset) (place_of r (load_bytes size) (z +ℤ offset)) known fits (place_between r (load_bytes size) o offset z g.1))

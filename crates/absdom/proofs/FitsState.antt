@@ -13,7 +13,7 @@ use Rattle.machine.specs.declared.values.Value.TheVariants.{Unset as Nothing, Nu
 use Rattle.machine.specs.Words.{negation, sign_extension, swapped_bytes}
 use Rattle.bpf_parts.specs.Sizes.{size_bytes}
 use Rattle.machine.specs.Memory.{place_of, byte_after, little_endian}
-use Rattle.machine.specs.Laws.{BytesAreRead}
+use Rattle.machine.specs.Laws.{BytesAreRead, SameBytes}
 use Rattle.machine.specs.State.{State, state, register_after}
 use Rattle.machine.specs.Step.{Next, Trap, operand, alu, number_result, loads, writes, puts, stores, map_at}
 use Rattle.bpf_parts.specs.declared.operation.Width.TheVariants.{Bits64}
@@ -33,7 +33,7 @@ use Rattle.absdom.specs.Effect.{operand_kind, alu_kind, unary_kind, load_kind, a
 use Rattle.absdom.specs.Fits.{FitsKind, IsByte, IsReadIn, Fits, GoesOn, IsSound, IsIndex}
 use Rattle.absdom.specs.Laws.{ApplyFits}
 use Rattle.absdom.proofs.FitsAlu.{FitsResult, alu_fits, computed_alone_fits}
-use Rattle.absdom.proofs.FitsMemory.{IsBetween, HasPlace, place_between, IsNumber, little_fits, same_bytes, word_below, load_fits}
+use Rattle.absdom.proofs.FitsMemory.{IsBetween, HasPlace, place_between, IsNumber, little_fits, word_below, load_fits}
 use Rattle.absdom.proofs.MarkSteps.{marked_bytes, all_marked_from, mark_is_new}
 use Rattle.absdom.proofs.PlaceSteps.{set_at, apart, IsFilled, filled_at, touched_at, left_at}
 
@@ -126,19 +126,19 @@ byte_kept stack bytes start n p out =
     ap (λ t. if t then Some (n / 256 ^ (p - start) % 256) else stack p) e
 
 -- a place that was not touched holds the number that it held
-kept_number : (s : State) (a : StateValue) (bytes first last place n k : ℕ) → IsBetween 512 bytes first last place → Fits s a → is_touched k first (last + bytes - 1) ≡ false → all_marked (stored_marks a.marks bytes (first, last)) (8 * k) 8 ≡ true → IsReadIn (little_endian (byte_after s.stack bytes place n) 8 (8 * k)) (range_at a k)
-kept_number s a bytes first last place n k between fits t m =
+kept_number : SameBytes → (s : State) (a : StateValue) (bytes first last place n k : ℕ) → IsBetween 512 bytes first last place → Fits s a → is_touched k first (last + bytes - 1) ≡ false → all_marked (stored_marks a.marks bytes (first, last)) (8 * k) 8 ≡ true → IsReadIn (little_endian (byte_after s.stack bytes place n) 8 (8 * k)) (range_at a k)
+kept_number own s a bytes first last place n k between fits t m =
     let above : first ≤ place = between.above in
     let below : place ≤ last = between.below in
     let away : (last + bytes - 1 < 8 * k) ⊎ (8 * k + 7 < first) = apart k first (last + bytes - 1) t in
     let old : all_marked a.marks (8 * k) 8 ≡ true =
-        all_marked_from a.marks (8 * k) 8 (λ i l.
-        old_mark a.marks bytes (first, last) (8 * k + i) (elim away [ inl h ↦ inl (omega arith) | inr h ↦ inr (omega arith) ])
-        (marked_bytes (stored_marks a.marks bytes (first, last)) (8 * k) 8 m i l))
+    all_marked_from a.marks (8 * k) 8 (λ i l.
+    old_mark a.marks bytes (first, last) (8 * k + i) (elim away [ inl h ↦ inl (omega arith) | inr h ↦ inr (omega arith) ])
+    (marked_bytes (stored_marks a.marks bytes (first, last)) (8 * k) 8 m i l))
     in
     let same : little_endian (byte_after s.stack bytes place n) 8 (8 * k) ≡ little_endian s.stack 8 (8 * k) =
-        same_bytes (byte_after s.stack bytes place n) s.stack 8 (8 * k)
-        (λ i l. byte_kept s.stack bytes place n (8 * k + i) (elim away [ inl h ↦ inl (omega arith) | inr h ↦ inr (omega arith) ]))
+    own (byte_after s.stack bytes place n) s.stack 8 (8 * k)
+    (λ i l. byte_kept s.stack bytes place n (8 * k + i) (elim away [ inl h ↦ inl (omega arith) | inr h ↦ inr (omega arith) ]))
     in
     let P : Option ℕ → Type 0 = λ o. IsReadIn o (range_at a k) in
     subst P (sym same) (fits.places k old)
@@ -164,15 +164,16 @@ filled_number read stack ranges value n k h =
     (set_at (λ r. IsIn n r) ranges k value h (record { above = omega arith; below = omega arith; word = word }))
 
 -- the numbers in the places after a store
-stored_numbers : BytesAreRead → (spill : Spill) (s : State) (a : StateValue) (bytes first last place n : ℕ) (value : Range) → IsIn n value → IsBetween 512 bytes first last place → Fits s a → (k : ℕ) → all_marked (stored_marks a.marks bytes (first, last)) (8 * k) 8 ≡ true → IsReadIn (little_endian (byte_after s.stack bytes place n) 8 (8 * k)) (range_in (stored_ranges spill a.ranges bytes (first, last) value) k)
-stored_numbers read spill s a bytes first last place n value inside between fits k m =
+stored_numbers : BytesAreRead → SameBytes → (spill : Spill) (s : State) (a : StateValue) (bytes first last place n : ℕ) (value : Range) → IsIn n value → IsBetween 512 bytes first last place → Fits s a → (k : ℕ) → all_marked (stored_marks a.marks bytes (first, last)) (8 * k) 8 ≡ true → IsReadIn (little_endian (byte_after s.stack bytes place n) 8 (8 * k)) (range_in (stored_ranges spill a.ranges bytes (first, last) value) k)
+stored_numbers read own spill s a bytes first last place n value inside between fits k m =
     by_test (is_touched k first (last + bytes - 1)) refl
   where
     Reads : Range → Type 0
     Reads r = IsReadIn (little_endian (byte_after s.stack bytes place n) 8 (8 * k)) r
+
     by_test : (t : Bool) → is_touched k first (last + bytes - 1) ≡ t → Reads (range_in (stored_ranges spill a.ranges bytes (first, last) value) k)
     by_test false t =
-        subst Reads (sym (left_at spill a.ranges bytes (first, last) value k t)) (kept_number s a bytes first last place n k between fits t m)
+        subst Reads (sym (left_at spill a.ranges bytes (first, last) value k t)) (kept_number own s a bytes first last place n k between fits t m)
     by_test true t =
         elim (touched_at spill a.ranges bytes (first, last) value k t) [
           | inl fill ↦ filled fill
@@ -192,40 +193,40 @@ stored_numbers read spill s a bytes first last place n value inside between fits
             subst (λ (ranges : List Range). Reads (range_in ranges k)) (sym (filled_at spill a.ranges bytes (first, last) value k h)) at
 
 -- after a store at a place between the two that are known
-wrote_fits : BytesAreRead → (spill : Spill) (s : State) (a : StateValue) (bytes first last place n : ℕ) (value : Range) → IsIn n value → IsBetween 512 bytes first last place → Fits s a → Fits (state (s.slot + 1) s.registers (byte_after s.stack bytes place n)) (with_stored spill a bytes (first, last) value)
-wrote_fits read spill s a bytes first last place n value inside between fits =
+wrote_fits : BytesAreRead → SameBytes → (spill : Spill) (s : State) (a : StateValue) (bytes first last place n : ℕ) (value : Range) → IsIn n value → IsBetween 512 bytes first last place → Fits s a → Fits (state (s.slot + 1) s.registers (byte_after s.stack bytes place n)) (with_stored spill a bytes (first, last) value)
+wrote_fits read own spill s a bytes first last place n value inside between fits =
     record {
       registers = fits.registers;
       bytes = stored_set s a bytes first last place n between fits;
-      places = stored_numbers read spill s a bytes first last place n value inside between fits;
+      places = stored_numbers read own spill s a bytes first last place n value inside between fits;
     }
 
-puts_sound : BytesAreRead → (spill : Spill) (s : State) (a : StateValue) (bytes : ℕ) (places : Option (ℕ × ℕ)) (place : Option ℕ) (n : ℕ) (value : Range) → IsIn n value → HasPlace 512 bytes places place → Fits s a → IsSound (puts s bytes place (Number n)) (s.slot + 1) (after_write_at spill a bytes places value)
-puts_sound read spill s a bytes None place n value inside h fits = tt
-puts_sound read spill s a bytes (Some places) None n value inside h fits = absurd h
-puts_sound read spill s a bytes (Some places) (Some place) n value inside h fits =
-    (refl, wrote_fits read spill s a bytes places.0 places.1 place n value inside h fits)
+puts_sound : BytesAreRead → SameBytes → (spill : Spill) (s : State) (a : StateValue) (bytes : ℕ) (places : Option (ℕ × ℕ)) (place : Option ℕ) (n : ℕ) (value : Range) → IsIn n value → HasPlace 512 bytes places place → Fits s a → IsSound (puts s bytes place (Number n)) (s.slot + 1) (after_write_at spill a bytes places value)
+puts_sound read own spill s a bytes None place n value inside h fits = tt
+puts_sound read own spill s a bytes (Some places) None n value inside h fits = absurd h
+puts_sound read own spill s a bytes (Some places) (Some place) n value inside h fits =
+    (refl, wrote_fits read own spill s a bytes places.0 places.1 place n value inside h fits)
 
 -- a store of a number through a pointer
-pub store_fits : BytesAreRead → (spill : Spill) (s : State) (a : StateValue) (size : Size) (u v : Value) (p q : AbsKind) (offset : ℤ) → FitsKind u p → FitsKind v q → Fits s a → IsSound (stores s size u offset v) (s.slot + 1) (after_store spill a (size_bytes size) p offset (number_of q))
-store_fits read spill s a size u v Unset q offset g h fits = tt
-store_fits read spill s a size u v (Num b) q offset g h fits = tt
-store_fits read spill s a size u v (Map i) q offset g h fits = tt
-store_fits read spill s a size u v (Ptr t o) Unset offset g h fits = tt
-store_fits read spill s a size u v (Ptr t o) (Ptr t' o') offset g h fits = tt
-store_fits read spill s a size u v (Ptr t o) (Map i) offset g h fits = tt
-store_fits read spill s a size u v (Ptr Front o) (Num b) offset g h fits = tt
-store_fits read spill s a size u v (Ptr Tail o) (Num b) offset g h fits = tt
-store_fits read spill s a size Nothing v (Ptr Stack o) (Num b) offset g h fits = absurd g
-store_fits read spill s a size (Number n) v (Ptr Stack o) (Num b) offset g h fits = absurd g
-store_fits read spill s a size (MapOf i) v (Ptr Stack o) (Num b) offset g h fits = absurd g
-store_fits read spill s a size (Pointer r z) Nothing (Ptr Stack o) (Num b) offset g h fits = absurd h
-store_fits read spill s a size (Pointer r z) (Pointer r' z') (Ptr Stack o) (Num b) offset g h fits = absurd h
-store_fits read spill s a size (Pointer r z) (MapOf i) (Ptr Stack o) (Num b) offset g h fits = absurd h
-store_fits read spill s a size (Pointer r z) (Number n) (Ptr Stack o) (Num b) offset g h fits =
+pub store_fits : BytesAreRead → SameBytes → (spill : Spill) (s : State) (a : StateValue) (size : Size) (u v : Value) (p q : AbsKind) (offset : ℤ) → FitsKind u p → FitsKind v q → Fits s a → IsSound (stores s size u offset v) (s.slot + 1) (after_store spill a (size_bytes size) p offset (number_of q))
+store_fits read own spill s a size u v Unset q offset g h fits = tt
+store_fits read own spill s a size u v (Num b) q offset g h fits = tt
+store_fits read own spill s a size u v (Map i) q offset g h fits = tt
+store_fits read own spill s a size u v (Ptr t o) Unset offset g h fits = tt
+store_fits read own spill s a size u v (Ptr t o) (Ptr t' o') offset g h fits = tt
+store_fits read own spill s a size u v (Ptr t o) (Map i) offset g h fits = tt
+store_fits read own spill s a size u v (Ptr Front o) (Num b) offset g h fits = tt
+store_fits read own spill s a size u v (Ptr Tail o) (Num b) offset g h fits = tt
+store_fits read own spill s a size Nothing v (Ptr Stack o) (Num b) offset g h fits = absurd g
+store_fits read own spill s a size (Number n) v (Ptr Stack o) (Num b) offset g h fits = absurd g
+store_fits read own spill s a size (MapOf i) v (Ptr Stack o) (Num b) offset g h fits = absurd g
+store_fits read own spill s a size (Pointer r z) Nothing (Ptr Stack o) (Num b) offset g h fits = absurd h
+store_fits read own spill s a size (Pointer r z) (Pointer r' z') (Ptr Stack o) (Num b) offset g h fits = absurd h
+store_fits read own spill s a size (Pointer r z) (MapOf i) (Ptr Stack o) (Num b) offset g h fits = absurd h
+store_fits read own spill s a size (Pointer r z) (Number n) (Ptr Stack o) (Num b) offset g h fits =
     let P : Region → Type 0 = λ x. IsSound (stores s size (Pointer x z) offset (Number n)) (s.slot + 1) (after_write_at spill a (size_bytes size) (access_places Stack (size_bytes size) o offset) b) in
     subst P (sym g.0)
-    (puts_sound read spill s a (size_bytes size) (access_places Stack (size_bytes size) o offset) (place_of Stack (size_bytes size) (z +ℤ offset)) n b h (place_between Stack (size_bytes size) o offset z g.1) fits)
+    (puts_sound read own spill s a (size_bytes size) (access_places Stack (size_bytes size) o offset) (place_of Stack (size_bytes size) (z +ℤ offset)) n b h (place_between Stack (size_bytes size) o offset z g.1) fits)
 
 -- ---- instructions
 
@@ -239,31 +240,31 @@ map_fits (pos i) h =
     elim (nat_lt i 256) as (λ t. FitsKind (MapOf i) (if t then Map i else Unset)) [ true ↦ refl | false ↦ tt ]
 map_fits (negsuc n) h = absurd h
 
-pub apply_fits : BytesAreRead → AluFits → NegateFits → MoveSignedFits → ByteSwapFits → ApplyFits
-apply_fits read af nf mf bf spill header s a (Alu op width dst src) known straight fits =
+pub apply_fits : BytesAreRead → SameBytes → AluFits → NegateFits → MoveSignedFits → ByteSwapFits → ApplyFits
+apply_fits read own af nf mf bf spill header s a (Alu op width dst src) known straight fits =
     writes_sound s a (s.slot + 1) dst (alu op width (s.registers dst) (operand s src)) (alu_kind op width (kind_at a dst) (operand_kind a src)) straight fits
     (alu_fits af op width (s.registers dst) (operand s src) (kind_at a dst) (operand_kind a src) (fits.registers dst) (operand_fits s a src fits))
-apply_fits read af nf mf bf spill header s a (Negate width dst) known straight fits =
+apply_fits read own af nf mf bf spill header s a (Negate width dst) known straight fits =
     writes_sound s a (s.slot + 1) dst (number_result (negation width) (s.registers dst)) (unary_kind (negated_range width) (number_of (kind_at a dst))) straight fits
     (computed_alone_fits (negation width) (negated_range width) (nf width) (s.registers dst) (kind_at a dst) (fits.registers dst))
-apply_fits read af nf mf bf spill header s a (MoveSigned extension dst src) known straight fits =
+apply_fits read own af nf mf bf spill header s a (MoveSigned extension dst src) known straight fits =
     writes_sound s a (s.slot + 1) dst (number_result (sign_extension extension) (s.registers src)) (unary_kind (extended_range extension) (number_of (kind_at a src))) straight fits
     (computed_alone_fits (sign_extension extension) (extended_range extension) (mf extension) (s.registers src) (kind_at a src) (fits.registers src))
-apply_fits read af nf mf bf spill header s a (ByteSwap swap bits dst) known straight fits =
+apply_fits read own af nf mf bf spill header s a (ByteSwap swap bits dst) known straight fits =
     writes_sound s a (s.slot + 1) dst (number_result (swapped_bytes swap bits) (s.registers dst)) (unary_kind (swapped_range swap bits) (number_of (kind_at a dst))) straight fits
     (computed_alone_fits (swapped_bytes swap bits) (swapped_range swap bits) (bf swap bits) (s.registers dst) (kind_at a dst) (fits.registers dst))
-apply_fits read af nf mf bf spill header s a (Load size dst place) known straight fits =
+apply_fits read own af nf mf bf spill header s a (Load size dst place) known straight fits =
     writes_sound s a (s.slot + 1) dst (loads header s size (s.registers place.base) place.offset) (load_kind spill a size (kind_at a place.base) place.offset) straight fits
-    (load_fits spill header s a size (s.registers place.base) (kind_at a place.base) place.offset known fits (fits.registers place.base))
-apply_fits read af nf mf bf spill header s a (Store size place src) known straight fits =
-    store_fits read spill s a size (s.registers place.base) (operand s src) (kind_at a place.base) (operand_kind a src) place.offset (fits.registers place.base) (operand_fits s a src fits) fits
-apply_fits read af nf mf bf spill header s a (Jump comparison offset) known straight fits = absurd straight
-apply_fits read af nf mf bf spill header s a (Goto distance) known straight fits = absurd straight
-apply_fits read af nf mf bf spill header s a (Wide dst value) known straight fits =
+    (load_fits own spill header s a size (s.registers place.base) (kind_at a place.base) place.offset known fits (fits.registers place.base))
+apply_fits read own af nf mf bf spill header s a (Store size place src) known straight fits =
+    store_fits read own spill s a size (s.registers place.base) (operand s src) (kind_at a place.base) (operand_kind a src) place.offset (fits.registers place.base) (operand_fits s a src fits) fits
+apply_fits read own af nf mf bf spill header s a (Jump comparison offset) known straight fits = absurd straight
+apply_fits read own af nf mf bf spill header s a (Goto distance) known straight fits = absurd straight
+apply_fits read own af nf mf bf spill header s a (Wide dst value) known straight fits =
     writes_sound s a (s.slot + 2) dst (Some (Number value)) (Ok (Num (single_range value))) straight.0 fits
     (record { above = omega arith; below = omega arith; word = straight.1 })
-apply_fits read af nf mf bf spill header s a (LoadMap dst index) known straight fits =
+apply_fits read own af nf mf bf spill header s a (LoadMap dst index) known straight fits =
     writes_sound s a (s.slot + 2) dst (map_at index) (Ok (map_kind index)) straight.0 fits (map_fits index straight.1)
-apply_fits read af nf mf bf spill header s a (LoadAddress dst address) known straight fits = absurd straight
-apply_fits read af nf mf bf spill header s a (Call callee number) known straight fits = absurd straight
-apply_fits read af nf mf bf spill header s a Exit known straight fits = absurd straight
+apply_fits read own af nf mf bf spill header s a (LoadAddress dst address) known straight fits = absurd straight
+apply_fits read own af nf mf bf spill header s a (Call callee number) known straight fits = absurd straight
+apply_fits read own af nf mf bf spill header s a Exit known straight fits = absurd straight

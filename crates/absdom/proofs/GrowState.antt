@@ -6,6 +6,7 @@ use Rattle.bpf_parts.specs.declared.operation.Width.TheVariants.{Bits64}
 use Rattle.bpf_parts.specs.declared.operation.Operand.{Operand}
 use Rattle.bpf_parts.specs.declared.operation.Operand.TheVariants.{FromRegister, Immediate}
 use Rattle.bpf_parts.specs.declared.memory.LoadSize.{LoadSize}
+use Rattle.bpf_parts.specs.declared.memory.LoadSize.TheVariants.{LoadByte, LoadHalf, LoadWord, LoadDouble, SignedByte, SignedHalf, SignedWord}
 use Rattle.bpf_insn.specs.declared.insn.Insn.TheVariants.{Alu, Negate, MoveSigned, ByteSwap, Load, Store, Jump, Goto, Wide, LoadMap, LoadAddress, Call, Exit}
 use Rattle.machine.specs.declared.regions.Region.{Region}
 use Rattle.machine.specs.declared.regions.Region.TheVariants.{Front, Tail, Stack}
@@ -105,13 +106,13 @@ within-refl r = record { above = omega arith; below = omega arith }
 
 -- a load of eight bytes alone is of one place
 whole_loaded : (size : LoadSize) → load_bytes size ≡ 8 → (r : Range) → IsRange r → IsWithin r (loaded_range size)
-whole_loaded LoadByte e r h = let no : 1 ≡ 8 = e in absurd (omega arith)
-whole_loaded LoadHalf e r h = let no : 2 ≡ 8 = e in absurd (omega arith)
-whole_loaded LoadWord e r h = let no : 4 ≡ 8 = e in absurd (omega arith)
+whole_loaded LoadByte e r h = absurd (omega (arith, e))
+whole_loaded LoadHalf e r h = absurd (omega (arith, e))
+whole_loaded LoadWord e r h = absurd (omega (arith, e))
 whole_loaded LoadDouble e r h = within_whole r h
-whole_loaded SignedByte e r h = let no : 1 ≡ 8 = e in absurd (omega arith)
-whole_loaded SignedHalf e r h = let no : 2 ≡ 8 = e in absurd (omega arith)
-whole_loaded SignedWord e r h = let no : 4 ≡ 8 = e in absurd (omega arith)
+whole_loaded SignedByte e r h = absurd (omega (arith, e))
+whole_loaded SignedHalf e r h = absurd (omega (arith, e))
+whole_loaded SignedWord e r h = absurd (omega (arith, e))
 
 -- by whether the accesses are of one place
 kept_grows : (a b : StateValue) (size : LoadSize) (large small : ℕ × ℕ) → IsWhole a → IsBelow a b → AreWithin 512 (load_bytes size) large small → (t u : Bool) → is_place (load_bytes size) large ≡ t → is_place (load_bytes size) small ≡ u → IsWithin (if u then range_at a (small.0 / 8) else loaded_range size) (if t then range_at b (large.0 / 8) else loaded_range size)
@@ -121,15 +122,15 @@ kept_grows a b size large small p below w false true e f =
     whole_loaded size is.0 (range_at a (small.0 / 8)) (p.ranges (small.0 / 8))
 kept_grows a b size large small p below w true true e f =
     let is = place_test (load_bytes size) large e in
-    let one : large.0 ≡ large.1 = is.1.0 in
+    let one : large.0 ≡ large.1 = is.1 in
     let same : small.0 ≡ large.0 = omega (arith, w.first.above, w.first.below) in
     let P : ℕ → Type 0 = λ n. IsWithin (range_at a (n / 8)) (range_at b (large.0 / 8)) in
     subst P (sym same) (below.ranges (large.0 / 8))
 kept_grows a b size large small p below w true false e f =
     let is = place_test (load_bytes size) large e in
     let eight : load_bytes size ≡ 8 = is.0 in
-    let one : large.0 ≡ large.1 = is.1.0 in
-    let even : large.0 % 8 ≡ 0 = is.1.1 in
+    let one : large.0 ≡ large.1 = is.1 in
+    let even : large.0 % 8 ≡ 0 = is.2 in
     let first : small.0 ≡ 8 * (large.0 / 8) = omega (arith, w.first.above, w.first.below) in
     let two : small.0 ≡ small.1 = omega (arith, w.first.above, w.first.below, w.last.above, w.last.below) in
     let yes : is_place (load_bytes size) small ≡ true = place_if (load_bytes size) small (large.0 / 8) eight two first in
@@ -222,8 +223,10 @@ ranges_grow spill a b bytes large small v w p q below proper h inside k = by_tes
   where
     new : Range
     new = range_in (stored_ranges spill a.ranges bytes small v) k
+
     sizes : length a.ranges ≡ length b.ranges
     sizes = p.sizes.places ∙ sym q.sizes.places
+
     by_test : (t : Bool) → is_touched k large.0 (large.1 + bytes - 1) ≡ t → IsWithin new (range_in (stored_ranges spill b.ranges bytes large w) k)
     by_test false t =
         rw (left_at spill a.ranges bytes small v k (touched_less bytes large small k inside t), left_at spill b.ranges bytes large w k t) (below.ranges k)
@@ -278,7 +281,7 @@ operand_below : (a b : StateValue) (src : Operand) → IsBelow a b → IsKindBel
 operand_below a b (FromRegister r) below = below.kinds r
 operand_below a b (Immediate z) below = kind_below-refl (operand_kind a (Immediate z))
 
-operand_proper : (a : StateValue) (src : Operand) → IsWhole a → IsProper (operand_kind a src)
+pub operand_proper : (a : StateValue) (src : Operand) → IsWhole a → IsProper (operand_kind a src)
 operand_proper a (FromRegister r) p = p.kinds r
 operand_proper a (Immediate z) p = record { in_order = omega arith; words = word_below z }
 

@@ -16,7 +16,7 @@ use Rattle.machine.specs.declared.regions.Region.TheVariants.{Front, Tail, Stack
 use Rattle.machine.specs.Laws.{is_store}
 use Rattle.absdom_num.specs.declared.ranges.Range.{Range}
 use Rattle.absdom_num.specs.declared.refinement.Operands.{Operands}
-use Rattle.absdom_num.specs.Ranges.{IsWithin}
+use Rattle.absdom_num.specs.Ranges.{IsRange, IsWithin}
 use Rattle.absdom_num.specs.Tables.{whole_range}
 use Rattle.absdom_num.specs.Refinement.{refined_ranges}
 use Rattle.absdom_num.specs.Laws.{IsBelow as AreRangesBelow, RefineShrinks as RangesShrink}
@@ -24,18 +24,18 @@ use Rattle.absdom.specs.declared.cause.Cause.{Cause}
 use Rattle.absdom.specs.declared.kinds.AbsKind.{AbsKind}
 use Rattle.absdom.specs.declared.kinds.AbsKind.TheVariants.{Unset, Num, Ptr, Map}
 use Rattle.absdom.specs.Kinds.{number_of, IsKindBelow}
-use Rattle.absdom.specs.State.{StateValue, IsBelow, kind_at, with_kind, after_call}
+use Rattle.absdom.specs.State.{StateValue, IsBelow, IsProper, IsWhole, kind_at, with_kind, after_call}
 use Rattle.absdom.specs.Places.{AreAllWhole}
 use Rattle.absdom.specs.declared.spill.Spill.{Spill}
 use Rattle.absdom.specs.declared.spill.Spill.TheVariants.{Forgets}
-use Rattle.absdom.specs.Effect.{with_stored, after_write_at, after_write_to, after_store, with_result}
+use Rattle.absdom.specs.Effect.{operand_kind, with_stored, after_write_at, after_write_to, after_store, with_result}
 use Rattle.absdom.specs.Edges.{compared_range, with_source, edge_state, edge_states, unrefined_edges, is_itself, edges_of, compared_edges}
 use Rattle.absdom.specs.Laws.{IsLeftBy, ApplyLeaves, CallLeaves, ForgetsAll, AreEdgesBelow, RefineShrinks}
 use Rattle.absdom.proofs.Order.{below_is_reflexive}
 use Rattle.absdom.proofs.Narrowing.{write_same}
-use Rattle.absdom.proofs.GrowState.{with_kind_grows}
+use Rattle.absdom.proofs.GrowState.{operand_proper, with_kind_grows}
 use Rattle.absdom.proofs.MarkSteps.{stored_stays}
-use Rattle.absdom.proofs.PlaceSteps.{still_whole}
+use Rattle.absdom.proofs.PlaceSteps.{still_whole, stored_each, whole_proper}
 
 -- ---- what an instruction leaves
 
@@ -43,7 +43,7 @@ abbrev Leaves : Insn → StateValue → Result StateValue Cause → Type 0
 Leaves insn a r = IfOk r (IsLeftBy insn a)
 
 same : (insn : Insn) (a : StateValue) → IsLeftBy insn a a
-same insn a = record { kinds = λ k h. refl; marks = λ place m. m; unstored = λ h. refl; ranges = λ h. refl }
+same insn a = record { kinds = λ k h. refl; marks = λ place m. m; unstored = λ h. refl; ranges = λ h. refl; proper = λ whole. whole.ranges }
 
 other_kind : (a : StateValue) (register k : ℕ) (kind : AbsKind) → (register == k) ≡ false → kind_at (with_kind a register kind) k ≡ kind_at a k
 other_kind a register k kind e =
@@ -59,7 +59,7 @@ Names insn register = (k : ℕ) → is_written insn k ≡ false → (register ==
 
 leaves_others : (insn : Insn) (a : StateValue) (register : ℕ) (kind : AbsKind) → Names insn register → IsLeftBy insn a (with_kind a register kind)
 leaves_others insn a register kind names =
-    record { kinds = λ k h. other_kind a register k kind (names k h); marks = λ place m. m; unstored = λ h. refl; ranges = λ h. refl }
+    record { kinds = λ k h. other_kind a register k kind (names k h); marks = λ place m. m; unstored = λ h. refl; ranges = λ h. refl; proper = λ whole. whole.ranges }
 
 leaves_written : (insn : Insn) (a : StateValue) (register : ℕ) (r : Result AbsKind Cause) → Names insn register → Leaves insn a (with_result a register r)
 leaves_written insn a register (Err cause) names = tt
@@ -67,33 +67,40 @@ leaves_written insn a register (Ok kind) names = leaves_others insn a register k
 
 -- a store
 
-leaves_wrote : (spill : Spill) (insn : Insn) (a : StateValue) (bytes : ℕ) (places : ℕ × ℕ) (value : Range) → is_store insn ≡ true → IsLeftBy insn a (with_stored spill a bytes places value)
-leaves_wrote spill insn a bytes places value is =
+leaves_wrote : (spill : Spill) (insn : Insn) (a : StateValue) (bytes : ℕ) (places : ℕ × ℕ) (value : Range) → (IsWhole a → IsRange value) → is_store insn ≡ true → IsLeftBy insn a (with_stored spill a bytes places value)
+leaves_wrote spill insn a bytes places value proper is =
     record {
       kinds = λ k h. refl;
       marks = λ place m. stored_stays a.marks bytes places place m;
       unstored = λ h. absurd (no is h);
       ranges = λ h. absurd (no is h);
+      proper = λ whole. stored_each IsRange spill a.ranges bytes places value (proper whole) whole_proper whole.ranges;
     }
   where
     no : is_store insn ≡ true → is_store insn ≡ false → ⊥
     no e f = cc
 
-leaves_wrote_at : (spill : Spill) (insn : Insn) (a : StateValue) (bytes : ℕ) (places : Option (ℕ × ℕ)) (value : Range) → is_store insn ≡ true → Leaves insn a (after_write_at spill a bytes places value)
-leaves_wrote_at spill insn a bytes None value is = tt
-leaves_wrote_at spill insn a bytes (Some places) value is = leaves_wrote spill insn a bytes places value is
+leaves_wrote_at : (spill : Spill) (insn : Insn) (a : StateValue) (bytes : ℕ) (places : Option (ℕ × ℕ)) (value : Range) → (IsWhole a → IsRange value) → is_store insn ≡ true → Leaves insn a (after_write_at spill a bytes places value)
+leaves_wrote_at spill insn a bytes None value proper is = tt
+leaves_wrote_at spill insn a bytes (Some places) value proper is = leaves_wrote spill insn a bytes places value proper is
 
-leaves_wrote_to : (spill : Spill) (insn : Insn) (a : StateValue) (bytes : ℕ) (region : Region) (offsets : ℤ × ℤ) (offset : ℤ) (value : Range) → is_store insn ≡ true → Leaves insn a (after_write_to spill a bytes region offsets offset value)
-leaves_wrote_to spill insn a bytes Front offsets offset value is = tt
-leaves_wrote_to spill insn a bytes Tail offsets offset value is = tt
-leaves_wrote_to spill insn a bytes Stack offsets offset value is = leaves_wrote_at spill insn a bytes _ value is
+leaves_wrote_to : (spill : Spill) (insn : Insn) (a : StateValue) (bytes : ℕ) (region : Region) (offsets : ℤ × ℤ) (offset : ℤ) (value : Range) → (IsWhole a → IsRange value) → is_store insn ≡ true → Leaves insn a (after_write_to spill a bytes region offsets offset value)
+leaves_wrote_to spill insn a bytes Front offsets offset value proper is = tt
+leaves_wrote_to spill insn a bytes Tail offsets offset value proper is = tt
+leaves_wrote_to spill insn a bytes Stack offsets offset value proper is = leaves_wrote_at spill insn a bytes _ value proper is
 
-leaves_stored : (spill : Spill) (insn : Insn) (a : StateValue) (bytes : ℕ) (base : AbsKind) (offset : ℤ) (value : Result Range Cause) → is_store insn ≡ true → Leaves insn a (after_store spill a bytes base offset value)
-leaves_stored spill insn a bytes Unset offset value is = tt
-leaves_stored spill insn a bytes (Num n) offset value is = tt
-leaves_stored spill insn a bytes (Ptr region offsets) offset (Err cause) is = tt
-leaves_stored spill insn a bytes (Ptr region offsets) offset (Ok value) is = leaves_wrote_to spill insn a bytes region offsets offset value is
-leaves_stored spill insn a bytes (Map index) offset value is = tt
+leaves_stored : (spill : Spill) (insn : Insn) (a : StateValue) (bytes : ℕ) (base : AbsKind) (offset : ℤ) (value : Result Range Cause) → (IsWhole a → IfOk value IsRange) → is_store insn ≡ true → Leaves insn a (after_store spill a bytes base offset value)
+leaves_stored spill insn a bytes Unset offset value proper is = tt
+leaves_stored spill insn a bytes (Num n) offset value proper is = tt
+leaves_stored spill insn a bytes (Ptr region offsets) offset (Err cause) proper is = tt
+leaves_stored spill insn a bytes (Ptr region offsets) offset (Ok value) proper is = leaves_wrote_to spill insn a bytes region offsets offset value proper is
+leaves_stored spill insn a bytes (Map index) offset value proper is = tt
+
+number_proper : (k : AbsKind) → IsProper k → IfOk (number_of k) IsRange
+number_proper Unset h = tt
+number_proper (Num range) h = h
+number_proper (Ptr region offsets) h = tt
+number_proper (Map index) h = tt
 
 pub apply_leaves : ApplyLeaves
 apply_leaves spill a (insns.Alu op width dst src) = leaves_written (insns.Alu op width dst src) a dst _ (named dst)
@@ -101,7 +108,7 @@ apply_leaves spill a (insns.Negate width dst) = leaves_written (insns.Negate wid
 apply_leaves spill a (insns.MoveSigned extension dst src) = leaves_written (insns.MoveSigned extension dst src) a dst _ (named dst)
 apply_leaves spill a (insns.ByteSwap swap bits dst) = leaves_written (insns.ByteSwap swap bits dst) a dst _ (named dst)
 apply_leaves spill a (insns.Load size dst place) = leaves_written (insns.Load size dst place) a dst _ (named dst)
-apply_leaves spill a (insns.Store size place src) = leaves_stored spill (insns.Store size place src) a _ _ place.offset _ refl
+apply_leaves spill a (insns.Store size place src) = leaves_stored spill (insns.Store size place src) a _ _ place.offset _ (λ whole. number_proper (operand_kind a src) (operand_proper a src whole)) refl
 apply_leaves spill a (insns.Jump comparison offset) = same (insns.Jump comparison offset) a
 apply_leaves spill a (insns.Goto distance) = same (insns.Goto distance) a
 apply_leaves spill a (insns.Wide dst value) = leaves_others (insns.Wide dst value) a dst _ (named dst)
@@ -171,7 +178,7 @@ after_kind a callee number k h =
 
 pub call_leaves : CallLeaves
 call_leaves a callee number =
-    record { kinds = λ k h. after_kind a callee number k h; marks = λ place m. m; unstored = λ h. refl; ranges = λ h. refl }
+    record { kinds = λ k h. after_kind a callee number k h; marks = λ place m. m; unstored = λ h. refl; ranges = λ h. refl; proper = λ whole. whole.ranges }
 
 -- ---- a comparison only refines
 

@@ -133,3 +133,10 @@ length-stored_marks marks bytes firsts =
       | true ↦ length-marked marks firsts.0 bytes
       | false ↦ refl
     ]
+
+-- a byte that a store sets is marked
+pub stored_made : (marks : List Bool) (bytes : ℕ) (firsts : ℕ × ℕ) (p : ℕ) → firsts.0 ≡ firsts.1 → firsts.0 + bytes ≤ length marks → firsts.0 ≤ p → p < firsts.0 + bytes → mark_at (stored_marks marks bytes firsts) p ≡ true
+stored_made marks bytes firsts p one room g h =
+    let t : (firsts.0 == firsts.1) ≡ true = grind (arith, nat_tests) in
+    let Q : Bool → Type 0 = λ u. mark_at (if u then marks_after marks firsts.0 bytes else marks) p ≡ true in
+    subst Q (sym t) (mark_made marks firsts.0 bytes p room g h)

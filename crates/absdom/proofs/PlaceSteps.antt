@@ -1,16 +1,18 @@
 -- One place of the stack: its range after a store and in a join.
-use Rattle.std.proofs.Common.{◌≡◌, ◌≢◌, ℕ, zero, suc, ◌+◌, ◌-◌, ◌*◌, ◌/◌, ◌%◌, ◌^◌, ◌<◌, ◌≤◌, min, max, Bool, true, false, ◌&&◌, ◌==◌, nat_le, if◌then◌else◌, refl, sym, ◌∙◌, ap, subst, arith, ◌⊎◌, inl, inr, List, [], ◌∷◌, length, set, replicate, get_or-set_other, length-set}
+use Rattle.std.proofs.Common.{◌≡◌, ◌≢◌, ℕ, zero, suc, ◌+◌, ◌-◌, ◌*◌, ◌/◌, ◌%◌, ◌^◌, ◌<◌, ◌≤◌, min, max, Bool, true, false, ◌&&◌, ◌==◌, nat_le, nat_lt, if◌then◌else◌, refl, sym, ◌∙◌, ap, subst, arith, ◌⊎◌, inl, inr, List, [], ◌∷◌, length, set, replicate, get_or-set_other, length-set}
 use Rattle.std.proofs.lemmas.Bool.{cases_lt}
 use Rattle.std.proofs.lemmas.Bool.Decides.{nat_tests}
-use Rattle.std.proofs.lemmas.List.{get_or_past, get_or-replicate, length-replicate}
+use Rattle.std.proofs.lemmas.List.{ext_get_or, get_or_past, get_or-replicate, length-replicate}
 use Rattle.bpf_parts.specs.declared.operation.Width.TheVariants.{Bits64}
 use Rattle.absdom_num.specs.declared.ranges.Range.{Range}
 use Rattle.absdom_num.specs.Ranges.{IsRange, IsWithin, joined_ranges}
 use Rattle.absdom_num.specs.Tables.{whole_range}
 use Rattle.absdom.specs.declared.spill.Spill.{Spill}
 use Rattle.absdom.specs.declared.spill.Spill.TheVariants.{Forgets, Keeps}
-use Rattle.absdom.specs.Places.{all_whole, range_in, AreAllWhole, ArePlaces, is_touched, widened_from, widened, is_place}
-use Rattle.absdom.specs.Effect.{stored_ranges}
+use Rattle.absdom.specs.Marks.{mark_at, all_marked, AreInBoth}
+use Rattle.absdom.specs.Places.{all_whole, range_in, AreAllWhole, ArePlaces, is_touched, widened_from, widened, is_place, AreRangesJoined, AreRangesWithin}
+use Rattle.absdom.specs.Effect.{stored_marks, stored_ranges, AreInside}
+use Rattle.absdom.proofs.MarkSteps.{marked_bytes, all_marked_from, still_marked, stored_stays, stored_made, length-stored_marks}
 
 -- ---- the whole range
 
@@ -28,16 +30,16 @@ each_whole place =
       | inr h ↦ get_or_past (replicate 64 (whole_range Bits64)) place (whole_range Bits64) (rw (length-replicate 64 (whole_range Bits64)) h)
     ]
 
+pub length-whole : length all_whole ≡ 64
+unfolding all_whole
+length-whole = length-replicate 64 (whole_range Bits64)
+
 pub all_places : ArePlaces all_whole
 all_places =
     record {
       count = length-whole;
       each = λ place. let P : Range → Type 0 = λ r. IsRange r in subst P (sym (each_whole place)) whole_proper;
     }
-  where
-    length-whole : length all_whole ≡ 64
-    unfolding all_whole
-    length-whole = length-replicate 64 (whole_range Bits64)
 
 pair_same : (a b : ℕ × ℕ) → a.0 ≡ b.0 → a.1 ≡ b.1 → a ≡ b
 pair_same a b e f = ap (λ (x : ℕ). (x, a.1)) e ∙ ap (λ (y : ℕ). (b.0, y)) f
@@ -72,6 +74,13 @@ set_each P ranges place range h w all k =
       | inl e ↦ let Q : ℕ → Type 0 = λ q. P (range_in (set ranges place range) q) in subst Q (sym e) (set_at P ranges place range h w)
       | inr ne ↦ subst P (sym (set_other ranges place k range ne)) (all k)
     ]
+
+pub set_places : (ranges : List Range) (place : ℕ) (range : Range) → ArePlaces ranges → IsRange range → ArePlaces (set ranges place range)
+set_places ranges place range h proper =
+    record {
+      count = length-set ranges place range ∙ h.count;
+      each = set_each IsRange ranges place range proper whole_proper h.each;
+    }
 
 -- ---- places that bytes touch
 
@@ -129,9 +138,175 @@ widened_each P ranges first last w all k =
     either true = w
     either false = all k
 
+-- the ranges of the places from one on to before another were forgotten
+pub record AreForgotten (old new : List Range) (first end : ℕ) : Type 0 where
+  pub size : length new ≡ length old
+  pub each : (k : ℕ) → range_in new k ≡ (if nat_le first k && nat_lt k end then whole_range Bits64 else range_in old k)
+
+inside_test : (first end k : ℕ) → first ≤ k → k < end → (nat_le first k && nat_lt k end) ≡ true
+inside_test first end k g h = grind (arith, nat_tests)
+
+outside_test : (first end k : ℕ) → (k < first) ⊎ (end ≤ k) → (nat_le first k && nat_lt k end) ≡ false
+outside_test first end k h = grind (arith, nat_tests)
+
+pub forgotten-none : (ranges : List Range) (first : ℕ) → AreForgotten ranges ranges first first
+forgotten-none ranges first =
+    record {
+      size = refl;
+      each = λ k. sym (ap (λ t. if t then whole_range Bits64 else range_in ranges k) (none k));
+    }
+  where
+    none : (k : ℕ) → (nat_le first k && nat_lt k first) ≡ false
+    none k = grind (arith, nat_tests)
+
+pub forgotten-more : (old new : List Range) (first end : ℕ) → first ≤ end → AreForgotten old new first end → AreForgotten old (set new end (whole_range Bits64)) first (end + 1)
+forgotten-more old new first end g h =
+    record {
+      size = length-set new end (whole_range Bits64) ∙ h.size;
+      each = each;
+    }
+  where
+    each : (k : ℕ) → range_in (set new end (whole_range Bits64)) k ≡ (if nat_le first k && nat_lt k (end + 1) then whole_range Bits64 else range_in old k)
+    each k =
+        elim (equal_or_not k end) [
+          | inl e ↦
+              let t : (nat_le first k && nat_lt k (end + 1)) ≡ true = inside_test first (end + 1) k (omega arith) (omega arith) in
+              let is : range_in (set new end (whole_range Bits64)) k ≡ whole_range Bits64 =
+              ap (range_in (set new end (whole_range Bits64))) e
+              ∙ set_at (λ r. r ≡ whole_range Bits64) new end (whole_range Bits64) refl refl
+              in
+              is ∙ sym (ap (λ u. if u then whole_range Bits64 else range_in old k) t)
+          | inr ne ↦
+              let t : (nat_le first k && nat_lt k (end + 1)) ≡ (nat_le first k && nat_lt k end) = grind (arith, nat_tests) in
+              set_other new end k (whole_range Bits64) ne ∙ h.each k ∙ sym (ap (λ u. if u then whole_range Bits64 else range_in old k) t)
+        ]
+
+-- so those of the places that bytes touch
+pub forgotten-all : (old new : List Range) (first last end : ℕ) → first / 8 ≤ end → last / 8 + 1 ≤ end → end ≤ max (first / 8) (last / 8 + 1) → AreForgotten old new (first / 8) end → new ≡ widened old first last
+forgotten-all old new first last end a b c h =
+    ext_get_or (whole_range Bits64) new (widened old first last) (h.size ∙ sym (length-widened_from 0 old first last)) each
+  where
+    same : (k : ℕ) (t : Bool) → is_touched k first last ≡ t → (nat_le (first / 8) k && nat_lt k end) ≡ t
+    same k true t =
+        let near = touching k first last t in
+        let low : 8 * k ≤ last = near.0 in
+        let high : first ≤ 8 * k + 7 = near.1 in
+        inside_test (first / 8) end k (omega arith) (omega arith)
+    same k false t =
+        let away : (last < 8 * k) ⊎ (8 * k + 7 < first) = apart k first last t in
+        outside_test (first / 8) end k (elim away [ inl low ↦ beyond low | inr high ↦ inl (omega arith) ])
+      where
+        beyond : last < 8 * k → (k < first / 8) ⊎ (end ≤ k)
+        beyond low = elim (cases_lt k (first / 8)) [ inl l ↦ inl l | inr g ↦ inr (omega arith) ]
+
+    each : (k : ℕ) → k < length new → range_in new k ≡ range_in (widened old first last) k
+    each k l =
+        h.each k
+        ∙ ap (λ u. if u then whole_range Bits64 else range_in old k) (same k (is_touched k first last) refl)
+        ∙ sym (widened_at old first last k)
+
 -- nothing was known, so nothing is
 pub still_whole : (ranges : List Range) (first last : ℕ) → AreAllWhole ranges → AreAllWhole (widened ranges first last)
 still_whole ranges first last h = widened_each (λ r. r ≡ whole_range Bits64) ranges first last refl h
+
+-- ---- joins
+
+pub joined_places : (xs ys zs : List Range) → ArePlaces xs → ArePlaces ys → length zs ≡ 64 → AreRangesJoined xs ys zs → ArePlaces zs
+joined_places xs ys zs g h size joint =
+    record {
+      count = size;
+      each = λ k. let P : Range → Type 0 = λ r. IsRange r in subst P (sym (joint k)) (joined_proper (range_in xs k) (range_in ys k) (g.each k) (h.each k));
+    }
+
+both_set : (x y z : Bool) → z ≡ (x && y) → x ≡ true → y ≡ true → z ≡ true
+both_set true y z e g h = e ∙ h
+both_set false y z e g h = e ∙ g
+
+-- a place whose bytes are not all set in both is unknown in a join
+pub joined_unset : (xs ys zs : List Bool) (rs ss ts : List Range) → AreInBoth xs ys zs → AreRangesJoined rs ss ts → ((k : ℕ) → IsRange (range_in rs k)) → ((k : ℕ) → IsRange (range_in ss k)) → ((k : ℕ) → all_marked xs (8 * k) 8 ≡ false → range_in rs k ≡ whole_range Bits64) → ((k : ℕ) → all_marked ys (8 * k) 8 ≡ false → range_in ss k ≡ whole_range Bits64) → (k : ℕ) → all_marked zs (8 * k) 8 ≡ false → range_in ts k ≡ whole_range Bits64
+joined_unset xs ys zs rs ss ts both joint g h one two k unset =
+    joint k ∙ by_tests (all_marked xs (8 * k) 8) (all_marked ys (8 * k) 8) refl refl
+  where
+    by_tests : (t u : Bool) → all_marked xs (8 * k) 8 ≡ t → all_marked ys (8 * k) 8 ≡ u → joined_ranges (range_in rs k) (range_in ss k) ≡ whole_range Bits64
+    by_tests false u e f = ap (λ r. joined_ranges r (range_in ss k)) (one k e) ∙ whole_joined (range_in ss k) (h k)
+    by_tests true false e f = ap (λ r. joined_ranges (range_in rs k) r) (two k f) ∙ joined_whole (range_in rs k) (g k)
+    by_tests true true e f =
+        let yes : all_marked zs (8 * k) 8 ≡ true =
+        all_marked_from zs (8 * k) 8 (λ i l. both_set (mark_at xs (8 * k + i)) (mark_at ys (8 * k + i)) (mark_at zs (8 * k + i)) (both (8 * k + i)) (marked_bytes xs (8 * k) 8 e i l) (marked_bytes ys (8 * k) 8 f i l))
+        in
+        let never : true ≡ false = sym yes ∙ unset in
+        absurd cc
+
+-- of 64 ranges each that is within holds at all places
+pub within_all : (xs ys : List Range) → length xs ≡ 64 → length ys ≡ 64 → ((k : ℕ) → k < 64 → IsWithin (range_in xs k) (range_in ys k)) → AreRangesWithin xs ys
+within_all xs ys e f h k =
+    elim (cases_lt k 64) [
+      | inl l ↦ h k l
+      | inr g ↦
+          rw (get_or_past xs k (whole_range Bits64) (omega (arith, e)), get_or_past ys k (whole_range Bits64) (omega (arith, f)))
+          (within_whole (whole_range Bits64) whole_proper)
+    ]
+
+pub joined_all : (xs ys zs : List Range) → length xs ≡ 64 → length ys ≡ 64 → length zs ≡ 64 → ((k : ℕ) → k < 64 → range_in zs k ≡ joined_ranges (range_in xs k) (range_in ys k)) → AreRangesJoined xs ys zs
+joined_all xs ys zs e f g h k =
+    elim (cases_lt k 64) [
+      | inl l ↦ h k l
+      | inr past ↦
+          rw (get_or_past xs k (whole_range Bits64) (omega (arith, e)), get_or_past ys k (whole_range Bits64) (omega (arith, f)), get_or_past zs k (whole_range Bits64) (omega (arith, g)))
+          (sym (whole_joined (whole_range Bits64) whole_proper))
+    ]
+
+-- the ranges that a flag tells are places
+pub view_places : (narrow : Bool) (ranges : List Range) → ArePlaces ranges → ArePlaces (if narrow then ranges else all_whole)
+view_places true ranges h = h
+view_places false ranges h = all_places
+
+-- where a flag is off, nothing is known
+view_unknown : (n : Bool) (xs one : List Range) → (if n then xs else all_whole) ≡ one → n ≡ false → (k : ℕ) → range_in one k ≡ whole_range Bits64
+view_unknown true xs one e off k = cc
+view_unknown false xs one e off k = sym (ap (λ rs. range_in rs k) e) ∙ each_whole k
+
+view_proper : (n : Bool) (xs one : List Range) → (if n then xs else all_whole) ≡ one → ArePlaces xs → (k : ℕ) → IsRange (range_in one k)
+view_proper n xs one e h k = subst (λ (rs : List Range). IsRange (range_in rs k)) e ((view_places n xs h).each k)
+
+-- where the other's flag is off, nothing is known in the join
+pub joined_off : (n m : Bool) (xs ys one two : List Range) → (if n then xs else all_whole) ≡ one → (if m then ys else all_whole) ≡ two → ArePlaces xs → m ≡ false → AreRangesJoined one two all_whole
+joined_off n m xs ys one two e f h off k =
+    each_whole k
+    ∙ sym (ap (λ r. joined_ranges (range_in one k) r) (view_unknown m ys two f off k) ∙ joined_whole (range_in one k) (view_proper n xs one e h k))
+
+-- and where one's own is off
+pub joined_kept : (n m : Bool) (xs ys one two : List Range) → (if n then xs else all_whole) ≡ one → (if m then ys else all_whole) ≡ two → ArePlaces ys → n ≡ false → AreRangesJoined one two one
+joined_kept n m xs ys one two e f h off k =
+    view_unknown n xs one e off k
+    ∙ sym (ap (λ r. joined_ranges r (range_in two k)) (view_unknown n xs one e off k) ∙ whole_joined (range_in two k) (view_proper m ys two f h k))
+
+-- where the other's flag is off, each range is within
+pub within_unknown : (n m : Bool) (xs ys one two : List Range) → (if n then xs else all_whole) ≡ one → (if m then ys else all_whole) ≡ two → ArePlaces xs → m ≡ false → AreRangesWithin one two
+within_unknown n m xs ys one two e f h off k =
+    let P : Range → Type 0 = λ r. IsWithin (range_in one k) r in
+    subst P (sym (view_unknown m ys two f off k)) (within_whole (range_in one k) (view_proper n xs one e h k))
+
+pub length-view : (n : Bool) (xs one : List Range) → (if n then xs else all_whole) ≡ one → ArePlaces xs → length one ≡ 64
+length-view n xs one e h = sym (ap length e) ∙ (view_places n xs h).count
+
+-- nothing is forgotten where nothing was known
+pub widened_whole : (first last : ℕ) → widened all_whole first last ≡ all_whole
+widened_whole first last =
+    ext_get_or (whole_range Bits64) (widened all_whole first last) all_whole (length-widened_from 0 all_whole first last)
+    (λ k l. still_whole all_whole first last each_whole k ∙ sym (each_whole k))
+
+pub widened_view : (n : Bool) (xs one : List Range) (first last : ℕ) → (if n then xs else all_whole) ≡ one → n ≡ false → one ≡ widened one first last
+widened_view true xs one first last e off = cc
+widened_view false xs one first last e off =
+    sym e ∙ sym (widened_whole first last) ∙ ap (λ (rs : List Range). widened rs first last) e
+
+pub widened_places : (xs : List Range) (first last : ℕ) → ArePlaces xs → ArePlaces (widened xs first last)
+widened_places xs first last h =
+    record {
+      count = length-widened_from 0 xs first last ∙ h.count;
+      each = widened_each IsRange xs first last whole_proper h.each;
+    }
 
 -- ---- a store
 
@@ -170,8 +345,8 @@ touched_at Keeps ranges bytes firsts value place t = either (is_place bytes firs
     either true e =
         let is = place_test bytes firsts e in
         let eight : bytes ≡ 8 = is.0 in
-        let one : firsts.0 ≡ firsts.1 = is.1.0 in
-        let even : firsts.0 % 8 ≡ 0 = is.1.1 in
+        let one : firsts.0 ≡ firsts.1 = is.1 in
+        let even : firsts.0 % 8 ≡ 0 = is.2 in
         let near = touching place firsts.0 (firsts.1 + bytes - 1) t in
         let low : 8 * place ≤ firsts.1 + bytes - 1 = near.0 in
         let high : firsts.0 ≤ 8 * place + 7 = near.1 in
@@ -187,13 +362,13 @@ left_at Keeps ranges bytes firsts value place t = either (is_place bytes firsts)
     either true e =
         let is = place_test bytes firsts e in
         let eight : bytes ≡ 8 = is.0 in
-        let one : firsts.0 ≡ firsts.1 = is.1.0 in
-        let even : firsts.0 % 8 ≡ 0 = is.1.1 in
+        let one : firsts.0 ≡ firsts.1 = is.1 in
+        let even : firsts.0 % 8 ≡ 0 = is.2 in
         let ne : place ≢ firsts.0 / 8 =
-            λ same.
-            let yes : is_touched place firsts.0 (firsts.1 + bytes - 1) ≡ true = is_touching place firsts.0 (firsts.1 + bytes - 1) (omega arith) (omega arith) in
-            let no : true ≡ false = sym yes ∙ t in
-            absurd cc
+        λ same.
+        let yes : is_touched place firsts.0 (firsts.1 + bytes - 1) ≡ true = is_touching place firsts.0 (firsts.1 + bytes - 1) (omega arith) (omega arith) in
+        let no : true ≡ false = sym yes ∙ t in
+        absurd cc
         in
         set_other ranges (firsts.0 / 8) place value ne
     either false e = untouched_kept ranges firsts.0 (firsts.1 + bytes - 1) place t
@@ -214,3 +389,31 @@ length-stored Keeps ranges bytes firsts value =
       | true ↦ length-set ranges (firsts.0 / 8) value
       | false ↦ length-widened_from 0 ranges firsts.0 (firsts.1 + bytes - 1)
     ]
+
+-- a place whose bytes are not all set after a store is unknown
+pub stored_unset : (spill : Spill) (marks : List Bool) (ranges : List Range) (bytes : ℕ) (firsts : ℕ × ℕ) (value : Range) → length marks ≡ 512 → AreInside bytes firsts → ((k : ℕ) → all_marked marks (8 * k) 8 ≡ false → range_in ranges k ≡ whole_range Bits64) → (k : ℕ) → all_marked (stored_marks marks bytes firsts) (8 * k) 8 ≡ false → range_in (stored_ranges spill ranges bytes firsts value) k ≡ whole_range Bits64
+stored_unset spill marks ranges bytes firsts value size inside old k unset = by_touch (is_touched k firsts.0 (firsts.1 + bytes - 1)) refl
+  where
+    was : all_marked marks (8 * k) 8 ≡ false
+    was = before (all_marked marks (8 * k) 8) refl
+      where
+        before : (t : Bool) → all_marked marks (8 * k) 8 ≡ t → all_marked marks (8 * k) 8 ≡ false
+        before false e = e
+        before true e =
+            let yes = still_marked marks (stored_marks marks bytes firsts) (8 * k) 8 (stored_stays marks bytes firsts) e in
+            let never : true ≡ false = sym yes ∙ unset in
+            absurd cc
+
+    by_touch : (t : Bool) → is_touched k firsts.0 (firsts.1 + bytes - 1) ≡ t → range_in (stored_ranges spill ranges bytes firsts value) k ≡ whole_range Bits64
+    by_touch false t = left_at spill ranges bytes firsts value k t ∙ old k was
+    by_touch true t =
+        elim (touched_at spill ranges bytes firsts value k t) [
+          | inl fill ↦
+              let yes : all_marked (stored_marks marks bytes firsts) (8 * k) 8 ≡ true =
+              all_marked_from (stored_marks marks bytes firsts) (8 * k) 8
+              (λ i l. stored_made marks bytes firsts (8 * k + i) fill.one (omega (arith, inside.first, size)) (omega (arith, fill.first)) (omega (arith, fill.first, fill.eight)))
+              in
+              let never : true ≡ false = sym yes ∙ unset in
+              absurd cc
+          | inr whole ↦ whole
+        ]

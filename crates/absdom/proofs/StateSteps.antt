@@ -2,16 +2,21 @@
 use Rattle.std.proofs.Common.{◌≡◌, ℕ, zero, suc, Bool, true, false, ◌↔◌, IsTrue, sym, ◌∙◌, List, [], ◌∷◌, set}
 use Rattle.absdom.specs.declared.kinds.AbsKind.{AbsKind}
 use Rattle.absdom.specs.State.{StateValue, IsBelow, AreBelow, kind_in, IsProper}
-use Rattle.absdom.specs.Marks.{mark_at}
+use Rattle.absdom.specs.Marks.{AreMarkedIn}
+use Rattle.absdom.specs.Places.{AreRangesWithin}
 
--- the kinds are below, so the states are where the marks are
-pub below_by_marks : (a b : StateValue) (r : Bool) → AreBelow a.kinds b.kinds → (IsTrue r ↔ ((place : ℕ) → mark_at b.marks place ≡ true → mark_at a.marks place ≡ true)) → IsTrue r ↔ IsBelow a b
-below_by_marks a b r kinds m = (λ t. record { kinds = kinds; marks = m.0 t }, λ below. m.1 below.marks)
+-- states are below where their kinds, their marks and their ranges are
+pub below_by_ranges : (a b : StateValue) (r : Bool) → AreBelow a.kinds b.kinds → AreMarkedIn b.marks a.marks → (IsTrue r ↔ AreRangesWithin a.ranges b.ranges) → IsTrue r ↔ IsBelow a b
+below_by_ranges a b r kinds marks h =
+    (λ t. record { kinds = kinds; marks = marks; ranges = h.0 t }, λ below. h.1 below.ranges)
 
--- the kinds are not below, so the states are not
-pub not_below_by_kinds : (a b : StateValue) (r : Bool) → r ≡ false → (IsTrue r ↔ AreBelow a.kinds b.kinds) → IsTrue r ↔ IsBelow a b
-not_below_by_kinds a b r e k =
-    (λ t. let no : true ≡ false = sym t ∙ e in absurd cc, λ below. k.1 below.kinds)
+-- where the kinds are not below, the states are not
+pub not_below_by_kinds : (a b : StateValue) (r : Bool) → r ≡ false → (IsTrue r ↔ AreBelow a.kinds b.kinds) → IsTrue false ↔ IsBelow a b
+not_below_by_kinds a b r e k = (λ t. absurd cc, λ below. let never : true ≡ false = sym (k.1 below.kinds) ∙ e in absurd cc)
+
+-- and where the marks are not
+pub not_below_by_marks : (a b : StateValue) (r : Bool) → r ≡ false → (IsTrue r ↔ AreMarkedIn b.marks a.marks) → IsTrue false ↔ IsBelow a b
+not_below_by_marks a b r e m = (λ t. absurd cc, λ below. let never : true ≡ false = sym (m.1 below.marks) ∙ e in absurd cc)
 
 -- each kind is proper after a proper one was written
 pub proper_after : (kinds : List AbsKind) (written : ℕ) (kind : AbsKind) → IsProper kind → ((register : ℕ) → IsProper (kind_in kinds register)) → (register : ℕ) → IsProper (kind_in (set kinds written kind) register)

@@ -13,12 +13,13 @@ use Rattle.machine.specs.Memory.{Header, IsHeader}
 use Rattle.machine.specs.State.{State, entry_state}
 use Rattle.machine.specs.Step.{perform, after_answer}
 use Rattle.machine.specs.Laws.{is_store}
+use Rattle.absdom_num.specs.Ranges.{IsRange}
 use Rattle.absdom.specs.declared.cause.Cause.{Cause}
 use Rattle.absdom.specs.Marks.{mark_at}
 use Rattle.absdom.specs.Places.{AreAllWhole}
 use Rattle.absdom.specs.declared.spill.Spill.{Spill}
 use Rattle.absdom.specs.declared.spill.Spill.TheVariants.{Forgets}
-use Rattle.absdom.specs.State.{StateValue, IsWhole, IsBelow, IsJoin, IsEntry, AreAlike, kind_at, after_call}
+use Rattle.absdom.specs.State.{StateValue, IsWhole, IsBelow, IsJoin, IsEntry, AreAlike, kind_at, range_at, after_call}
 use Rattle.absdom.specs.Effect.{after_insn}
 use Rattle.absdom.specs.Edges.{Edges, refined_edges}
 use Rattle.absdom.specs.Fits.{Fits, IsSound, GoesStraight, TakesEdge}
@@ -114,12 +115,14 @@ JoinGrows =
 -- ---- what an instruction leaves
 
 -- an instruction leaves what is known of the registers that it does not write, and each mark; one that is no
--- store makes none, and leaves what is known of each place
+-- store makes none, and leaves what is known of each place. Of a whole state each place is left with a range whose ends
+-- stand in order.
 pub record IsLeftBy (insn : Insn) (before after : StateValue) : Type 0 where
   pub kinds : (k : ℕ) → is_written insn k ≡ false → kind_at after k ≡ kind_at before k
   pub marks : (place : ℕ) → mark_at before.marks place ≡ true → mark_at after.marks place ≡ true
   pub unstored : is_store insn ≡ false → after.marks ≡ before.marks
   pub ranges : is_store insn ≡ false → after.ranges ≡ before.ranges
+  pub proper : IsWhole before → (place : ℕ) → IsRange (range_at after place)
 
 -- an instruction that is not refused leaves what it does not write
 abbrev pub ApplyLeaves : Type 0

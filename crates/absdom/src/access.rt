@@ -108,13 +108,7 @@ fn loaded_range(size: LoadSize) -> Range
 }
 
 /// What a load gives where numbers keep their ranges: of one place of the stack its range.
-fn kept_range(
-    state: &State,
-    size: LoadSize,
-    region: Region,
-    lowest: usize,
-    highest: usize,
-) -> Range
+fn kept_range(state: &State, size: LoadSize, region: Region, lowest: usize, highest: usize) -> Range
     requires { AreInside (load_bytes size) (lowest, highest) }
     ensures { result ≡ kept_range state.now size region (lowest, highest) }
 {

@@ -18,6 +18,7 @@ pub fn apply_fits()
     ensures { ApplyFits }
 {
     machine::stored_bytes_are_read();
+    machine::same_bytes();
     absdom_num::results_fit();
 }
 

@@ -2,6 +2,7 @@
 
 ghost use Rattle.std.specs.Prelude.{◌≡◌, ℕ, ◌+◌, ◌-◌, ◌<◌, ◌≤◌, ◌↔◌, IsTrue, true, false, length, slice_set};
 ghost use Rattle.absdom.specs.Marks.{mark_at, all_marked, marks_after, AreInBoth, AreMarkedIn};
+ghost use Rattle.absdom.specs.Effect.{stored_marks, AreInside};
 
 use machine::STACK_SIZE;
 use std::marker::Model;
@@ -77,6 +78,17 @@ impl Marks {
     {
         for place in first..end {
             self.set(place);
+        }
+    }
+
+    /// Marks the bytes of a store of so many, from `lowest` on or from any byte up to `highest`: none, where it
+    /// may go to more than one place.
+    pub(crate) fn mark_stored(&mut self, bytes: usize, lowest: usize, highest: usize)
+        requires { AreInside bytes (lowest, highest) }
+        ensures { self.new ≡ stored_marks self.old bytes (lowest, highest) }
+    {
+        if lowest == highest {
+            self.mark(lowest, lowest + bytes);
         }
     }
 

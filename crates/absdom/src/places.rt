@@ -16,6 +16,7 @@ pub(crate) const PLACE_BYTES: usize = 8;
 const PLACES: usize = STACK_SIZE / PLACE_BYTES;
 
 /// Every word, 64 times.
+#[tactic(auto, unfolding(crate::specs::Places::all_whole))]
 fn whole_ranges() -> [Range; PLACES]
     ensures { result ≡ all_whole }
 {
@@ -45,6 +46,7 @@ impl Model for Places {
 
 impl Places {
     /// Nothing is known of any place.
+    #[tactic(auto, using(crate::proofs::PlaceSteps::each_whole, crate::proofs::PlaceSteps::all_places))]
     pub(crate) fn new() -> Places
         ensures whole { result ≡ all_whole }
         ensures unknown { AreAllWhole result }
@@ -69,6 +71,7 @@ impl Places {
     }
 
     /// Gives a place a range.
+    #[tactic(auto, using(crate::proofs::PlaceSteps::set_places, crate::proofs::PlaceSteps::all_places))]
     pub(crate) fn set(&mut self, place: usize, range: Range)
         requires { place < 64 }
         ensures { self.new ≡ slice_set self.old place range }
@@ -81,6 +84,7 @@ impl Places {
     }
 
     /// Forgets the range of each place that the bytes from `first` to `last` touch.
+    #[tactic(auto, using(crate::proofs::PlaceSteps::widened_places, crate::proofs::PlaceSteps::widened_view))]
     pub(crate) fn widen(&mut self, first: usize, last: usize)
         requires { last < 512 }
         ensures { self.new ≡ widened self.old first last }
@@ -123,6 +127,7 @@ impl Places {
     }
 
     /// Forgets the range of each place.
+    #[tactic(auto, using(crate::proofs::PlaceSteps::each_whole))]
     pub(crate) fn forget(&mut self)
         ensures whole { self.new ≡ all_whole }
         ensures unknown { AreAllWhole self.new }
@@ -131,21 +136,22 @@ impl Places {
     }
 
     /// Grows to the least ranges that hold both, place by place.
-    pub(crate) fn join(&mut self, other: &Places)
+    pub(crate) fn include(&mut self, other: &Places)
         ensures joint { AreRangesJoined self.old other.now self.new }
         ensures places { ArePlaces self.new }
     {
-        if self.narrow && other.narrow {
-            join_ranges(&mut self.ranges, &other.ranges);
-        } else {
+        if !other.narrow {
             self.narrow = false;
+        } else if self.narrow {
+            join_ranges(&mut self.ranges, &other.ranges);
         }
     }
 
     /// Whether each range is contained in the other's of the same place.
-    pub(crate) fn leq(&self, other: &Places) -> bool
+    pub(crate) fn are_within(&self, other: &Places) -> bool
         ensures { IsTrue result ↔ AreRangesWithin self.now other.now }
     {
+        let _ = &self.narrow;
         if !other.narrow {
             return true;
         }

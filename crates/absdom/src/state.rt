@@ -109,16 +109,20 @@ impl State {
     {
         join_kinds(&mut self.registers.kinds, &other.registers.kinds);
         self.marks.join(&other.marks);
-        self.places.join(&other.places);
+        self.places.include(&other.places);
     }
 
     /// Whether this state says all that the other says.
     pub fn leq(&self, other: &State) -> bool
         ensures { IsTrue result ↔ IsBelow self.now other.now }
     {
-        are_below(&self.registers.kinds, &other.registers.kinds)
-            && self.marks.leq(&other.marks)
-            && self.places.leq(&other.places)
+        if !are_below(&self.registers.kinds, &other.registers.kinds) {
+            return false;
+        }
+        if !self.marks.leq(&other.marks) {
+            return false;
+        }
+        self.places.are_within(&other.places)
     }
 
     /// Calls a helper: r0 is then any number, and r1 to r5 are unset.
@@ -163,9 +167,7 @@ impl State {
         requires inside { AreInside bytes (lowest, highest) }
         ensures { self.new ≡ with_stored spill self.old bytes (lowest, highest) value }
     {
-        if lowest == highest {
-            self.marks.mark(lowest, lowest + bytes);
-        }
+        self.marks.mark_stored(bytes, lowest, highest);
         self.places.store(spill, bytes, lowest, highest, value);
     }
 }

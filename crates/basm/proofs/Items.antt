@@ -12,7 +12,7 @@ use Rattle.bpf_insn.specs.Spelling.{second_immediate, slots_in as immediate_slot
 use Rattle.basm_lex.specs.Lines.{IsLabel, code_of, without_trailing_spaces, is_semicolon, is_space, operands_of, rest_of, without_leading_spaces, trimmed_text, trailing_part, word_of}
 use Rattle.basm.specs.declared.draft.Draft.{Draft}
 use Rattle.basm.specs.Draft.{AddsItem, AddsLine, ArePartsOf, SayParts, WritesLoop, slots_of_items}
-use Rattle.basm.specs.Relation.{Item, Nothing, Label, Budget, OneLoop, Code, AreLines, Four, IsLine, WritesInsn, budget_in, insn_in, loop_in, slots_in}
+use Rattle.basm.specs.Relation.{Item, Nothing, Label, Version, Budget, OneLoop, Code, AreLines, Four, IsLine, WritesInsn, budget_in, insn_in, loop_in, slots_in, version_in}
 
 pub not_nil : {X : Type 0} (c : X) (cs : List X) → c ∷ cs ≡ [] → ⊥
 not_nil c cs same = cc
@@ -58,10 +58,10 @@ no_operands line none = rw (no_word (before_first is_semicolon line) none) refl
 
 -- an item that declares nothing
 pub adds_nothing : (parts : Draft) → AddsItem Nothing parts parts
-adds_nothing parts = record { budget = sym (append-nil _); loops = sym (append-nil _); insns = sym (append-nil _); slots = omega arith }
+adds_nothing parts = record { version = sym (append-nil _); budget = sym (append-nil _); loops = sym (append-nil _); insns = sym (append-nil _); slots = omega arith }
 
 pub adds_label : (name : List ℕ) (parts : Draft) → AddsItem (Label name) parts parts
-adds_label name parts = record { budget = sym (append-nil _); loops = sym (append-nil _); insns = sym (append-nil _); slots = omega arith }
+adds_label name parts = record { version = sym (append-nil _); budget = sym (append-nil _); loops = sym (append-nil _); insns = sym (append-nil _); slots = omega arith }
 
 pub line_nothing : (names : List ℕ → Option ℕ) (line : List ℕ) (parts : Draft) → word_of line ≡ [] → AddsLine names line parts parts
 line_nothing names line parts word = record {
@@ -126,6 +126,7 @@ flat_push f (i ∷ items) item = append_assoc (f i) (flat_map f items) (f item) 
 
 pub parts_push : (items : List Item) (item : Item) (old new : Draft) → ArePartsOf items old → AddsItem item old new → ArePartsOf (items ++ item ∷ []) new
 parts_push items item old new are adds = record {
+  version = adds.version ∙ rw are.version (flat_push version_in items item);
   budget = adds.budget ∙ rw are.budget (flat_push budget_in items item);
   loops = adds.loops ∙ rw are.loops (flat_push loop_in items item);
   insns = adds.insns ∙ rw are.insns (flat_push insn_in items item);
@@ -156,6 +157,7 @@ pub slots_are : (items : List Item) → length (flat_map placed_slots (flat_map 
 slots_are [] = refl
 slots_are (Nothing ∷ items) = slots_are items ∙ omega arith
 slots_are (Label name ∷ items) = slots_are items ∙ omega arith
+slots_are (Version n ∷ items) = slots_are items ∙ omega arith
 slots_are (Budget n ∷ items) = slots_are items ∙ omega arith
 slots_are (OneLoop l ∷ items) = slots_are items ∙ omega arith
 slots_are (Code insn ∷ items) = omega (arith, length-append (placed_slots insn) (flat_map placed_slots (flat_map insn_in items)), slots_placed insn, slots_are items)

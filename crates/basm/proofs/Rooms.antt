@@ -12,12 +12,12 @@ use Rattle.std.proofs.lemmas.List.Sorted.{All-permutation, IsPermutation-sym, le
 use Rattle.std.proofs.lemmas.List.Sums.{sum_by-append, sum_by-cons}
 use Rattle.bpf.specs.declared.loops.Loop.{Loop}
 use Rattle.bpf.specs.Parts.{placed_slots}
-use Rattle.bpf.specs.Program.{AreLoops, IsLoop, IsProgram, Program}
+use Rattle.bpf.specs.Program.{AreLoops, IsLoop, IsProgram, IsVersion, Program}
 use Rattle.basm.specs.declared.draft.Draft.{Draft}
 use Rattle.basm.specs.declared.survey.Survey.{Survey}
 use Rattle.basm.specs.Names.{slot_named}
 use Rattle.basm.specs.Draft.{AddsItem, ArePartsOf, HasRoom, IsImageOf, SurveysText, has_head, slots_of_items}
-use Rattle.basm.specs.Relation.{AreLines, Budget, Code, IsLine, IsText, Item, Label, Nothing, OneLoop, budget_in, loop_in, slots_in}
+use Rattle.basm.specs.Relation.{AreLines, Budget, Code, IsLine, IsText, IsVersionOf, Item, Label, Nothing, OneLoop, Version, budget_in, loop_in, slots_in, version_in}
 use Rattle.basm.proofs.Items.{not_nil, parts_push, slots_are}
 
 -- ---- how many loops have a head
@@ -64,6 +64,12 @@ only_one : {X : Type 0} (xs : List X) (x : X) (ys : List X) (y : X) → xs ++ x 
 only_one [] x ys y same = (refl, cc)
 only_one (z ∷ xs) x ys y same = absurd (omega (arith, ap length same, length-append xs (x ∷ ys)))
 
+only_version : (xs : List ℕ) (n : ℕ) (ys : List ℕ) (version : ℕ) → IsVersionOf (xs ++ n ∷ ys) version → (xs ≡ []) × (version ≡ n)
+only_version [] n [] version says = (refl, says)
+only_version [] n (m ∷ ys) version says = absurd says
+only_version (x ∷ []) n ys version says = absurd says
+only_version (x ∷ y ∷ xs) n ys version says = absurd says
+
 none_from_list : {X : Type 0} (o : Option X) → option_to_list o ≡ [] → o ≡ None
 none_from_list None h = refl
 none_from_list (Some x) h = absurd (not_nil x [] h)
@@ -79,15 +85,20 @@ all_loops slots least (l ∷ ls) are = All-cons (IsLoop slots) l ls are.1 (all_l
 -- ---- room behind the items before
 
 room_for : (before after : List Item) (item : Item) (p : Program) (parts : Draft)
-    → flat_map budget_in (before ++ item ∷ after) ≡ p.budget ∷ [] → IsPermutation (flat_map loop_in (before ++ item ∷ after)) p.loops
+    → IsVersionOf (flat_map version_in (before ++ item ∷ after)) p.version → flat_map budget_in (before ++ item ∷ after) ≡ p.budget ∷ [] → IsPermutation (flat_map loop_in (before ++ item ∷ after)) p.loops
     → slots_of_items (before ++ item ∷ after) ≡ length p.slots → IsProgram p → ArePartsOf before parts → HasRoom (length p.slots) item parts
-room_for before after Nothing p parts budget loops slots is are = tt
-room_for before after (Label name) p parts budget loops slots is are = tt
-room_for before after (Budget n) p parts budget loops slots is are =
+room_for before after Nothing p parts version budget loops slots is are = tt
+room_for before after (Label name) p parts version budget loops slots is are = tt
+room_for before after (Version n) p parts version budget loops slots is are =
+    let P : List ℕ → Type 0 = λ declared. IsVersionOf declared p.version in
+    let cut = only_version (flat_map version_in before) n (flat_map version_in after) p.version (subst P (flat_map-append version_in before (Version n ∷ after)) version) in
+    let Q : ℕ → Type 0 = IsVersion in
+    (subst Q cut.1 is.version, none_from_list parts.version (are.version ∙ cut.0))
+room_for before after (Budget n) p parts version budget loops slots is are =
     let cut = only_one (flat_map budget_in before) n (flat_map budget_in after) p.budget (sym (flat_map-append budget_in before (Budget n ∷ after)) ∙ budget) in
     let P : ℕ → Type 0 = λ n. (1 ≤ n) × (n ≤ 65536) in
     (subst P (sym cut.1) is.budget, none_from_list parts.budget (are.budget ∙ cut.0))
-room_for before after (OneLoop l) p parts budget loops slots is are =
+room_for before after (OneLoop l) p parts version budget loops slots is are =
     let front = flat_map loop_in before in let rest = flat_map loop_in after in
     let cut : flat_map loop_in (before ++ OneLoop l ∷ after) ≡ front ++ l ∷ rest = flat_map-append loop_in before (OneLoop l ∷ after) in
     let P : List Loop → Type 0 = λ ls. IsPermutation ls p.loops in
@@ -106,7 +117,7 @@ room_for before after (OneLoop l) p parts budget loops slots is are =
       behind.0,
       behind.1,
     )
-room_for before after (Code insn) p parts budget loops slots is are =
+room_for before after (Code insn) p parts version budget loops slots is are =
     let here = are.slots in let few = is.slots in omega (arith, slots_append before (Code insn ∷ after))
 
 -- the items are cut at each of them
@@ -118,9 +129,10 @@ pub room_at : {text : List ℕ} {p : Program} (t : IsText text p) (n : ℕ) (par
 room_at {p} t n parts low are =
     let cut = cut_at t.items n low in
     let P : List Item → Type 0 = λ items. IsPermutation (flat_map loop_in items) p.loops in
+    let R : List Item → Type 0 = λ items. IsVersionOf (flat_map version_in items) p.version in
     let slots : slots_of_items t.items ≡ length p.slots = sym (ap length t.code ∙ slots_are t.items) in
     room_for (take n t.items) (drop (n + 1) t.items) (get_or t.items n Nothing) p parts
-    (ap (flat_map budget_in) (sym cut) ∙ t.budget) (subst P cut t.loops) (ap slots_of_items (sym cut) ∙ slots) t.program are
+    (subst R cut t.version) (ap (flat_map budget_in) (sym cut) ∙ t.budget) (subst P cut t.loops) (ap slots_of_items (sym cut) ∙ slots) t.program are
 
 -- ---- one line after the other
 
@@ -180,8 +192,10 @@ some_from_list (Some y) x same = cc
 pub image_of : {text : List ℕ} {p : Program} (t : IsText text p) (parts : Draft) → ArePartsOf t.items parts → IsImageOf parts p
 image_of {p} t parts are =
     let P : List Loop → Type 0 = λ ls. IsPermutation ls p.loops in
+    let Q : List ℕ → Type 0 = λ declared. IsVersionOf declared p.version in
     record {
       program = t.program;
+      version = subst Q (sym are.version) t.version;
       budget = some_from_list parts.budget p.budget (are.budget ∙ t.budget);
       loops = subst P (sym are.loops) t.loops;
       code = t.code ∙ ap (flat_map placed_slots) (sym are.insns);

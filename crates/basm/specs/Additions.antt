@@ -8,12 +8,16 @@ use Rattle.basm_lex.specs.Mnemonics.{mnemonic_word}
 use Rattle.basm.specs.declared.draft.Draft.{Draft}
 use Rattle.basm.specs.declared.faults.AsmCode.{AsmCode}
 use Rattle.basm.specs.Draft.{AddsItem, PushesInsn, UnlessMemory, WritesLoop}
-use Rattle.basm.specs.Readers.{WritesBudget}
-use Rattle.basm.specs.Relation.{Budget, Code, Item, OneLoop, WritesInsn, texts}
+use Rattle.basm.specs.Readers.{WritesBudget, WritesVersion}
+use Rattle.basm.specs.Relation.{Budget, Code, Item, OneLoop, Version, WritesInsn, texts}
 
 -- the item was added, unless memory was refused
 abbrev pub IsAdded : Item → (old new : Draft) → {X : Type 0} → Result X AsmCode → Type 0
 IsAdded item old new result = UnlessMemory result (λ _. AddsItem item old new)
+
+-- the version that the operand writes was added
+abbrev pub AddsVersion : List (Bor (List ℕ)) → (old new : Draft) → Type 0
+AddsVersion operands old new = (n : ℕ) × WritesVersion operands n × AddsItem (Version n) old new
 
 -- the budget that the operand writes was added
 abbrev pub AddsBudget : List (Bor (List ℕ)) → (old new : Draft) → Type 0

@@ -3,7 +3,7 @@ use Rattle.std.specs.Prelude.{ℕ, nat_lt, if◌then◌else◌, ◌==◌, Option
 use Rattle.basm_lex.specs.declared.numbers.NumberFault.{NumberFault}
 use Rattle.basm_lex.specs.declared.numbers.NumberFault.TheVariants.{Form, Range}
 use Rattle.basm.specs.declared.faults.AsmCode.{AsmCode}
-use Rattle.basm.specs.declared.faults.AsmCode.TheVariants.{BadWord, BadOperand, BadNumber, BadLabel, Reach, TooMany, BadBudget, BadLoop, Memory}
+use Rattle.basm.specs.declared.faults.AsmCode.TheVariants.{BadWord, BadOperand, BadNumber, BadLabel, Reach, TooMany, BadBudget, BadLoop, Memory, BadVersion}
 
 -- the number of a fault
 abbrev pub asm_code : AsmCode → ℕ
@@ -16,6 +16,7 @@ asm_code TooMany = 6
 asm_code BadBudget = 7
 asm_code BadLoop = 8
 asm_code Memory = 9
+asm_code BadVersion = 10
 
 -- the fault of a number, if it is the number of one
 abbrev pub asm_of_code : ℕ → Option AsmCode
@@ -29,7 +30,8 @@ asm_of_code code =
     else (if code == 7 then Some BadBudget
     else (if code == 8 then Some BadLoop
     else (if code == 9 then Some Memory
-    else None))))))))
+    else (if code == 10 then Some BadVersion
+    else None)))))))))
 
 -- the fault of a word that is no number as it should be
 abbrev pub number_code : NumberFault → AsmCode

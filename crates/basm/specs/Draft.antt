@@ -5,7 +5,7 @@ use Rattle.std.specs.List.{flat_map, list_any}
 use Rattle.std.specs.List.Sorted.{IsPermutation}
 use Rattle.bpf.specs.Parts.{placed_slots}
 use Rattle.bpf.specs.declared.loops.Loop.{Loop}
-use Rattle.bpf.specs.Program.{Program, IsBudget, IsLoop, IsProgram}
+use Rattle.bpf.specs.Program.{Program, IsBudget, IsLoop, IsProgram, IsVersion}
 use Rattle.bpf_insn.specs.declared.insn.Insn.{Insn}
 use Rattle.bpf_insn.specs.Spelling.{slots_of}
 use Rattle.basm_lex.specs.Numbers.{WritesNumber}
@@ -15,7 +15,7 @@ use Rattle.basm.specs.declared.faults.AsmCode.TheVariants.{Memory}
 use Rattle.basm.specs.declared.draft.Draft.{Draft}
 use Rattle.basm.specs.declared.survey.Survey.{Survey}
 use Rattle.basm.specs.Names.{slot_named}
-use Rattle.basm.specs.Relation.{Four, Item, Nothing, Label, Budget, OneLoop, Code, AreLines, IsLine, IsText, WritesEnd, budget_in, loop_in, insn_in, slots_in}
+use Rattle.basm.specs.Relation.{Four, Item, Nothing, Label, Version, Budget, OneLoop, Code, AreLines, IsLine, IsText, IsVersionOf, WritesEnd, version_in, budget_in, loop_in, insn_in, slots_in}
 
 -- the slots that the names of a text stand for, as its survey found them
 abbrev pub names_in : Survey → List ℕ → Option ℕ
@@ -34,6 +34,7 @@ pub record PushesInsn (old new : List Insn) (slot : ℕ) (insn : Insn) (after : 
 
 -- the item is added behind the others
 pub record AddsItem (item : Item) (old new : Draft) : Type 0 where
+  pub version : option_to_list new.version ≡ option_to_list old.version ++ version_in item
   pub budget : option_to_list new.budget ≡ option_to_list old.budget ++ budget_in item
   pub loops : new.loops.items ≡ old.loops.items ++ loop_in item
   pub insns : new.insns.items ≡ old.insns.items ++ insn_in item
@@ -51,6 +52,7 @@ has_head head loops = list_any (λ l. l.head == head) loops
 abbrev pub HasRoom : (slots : ℕ) → Item → Draft → Type 0
 HasRoom slots Nothing parts = Unit {0}
 HasRoom slots (Label name) parts = Unit {0}
+HasRoom slots (Version n) parts = IsVersion n × (parts.version ≡ None)
 HasRoom slots (Budget n) parts = IsBudget n × (parts.budget ≡ None)
 HasRoom slots (OneLoop l) parts =
     IsLoop slots l × (slots ≤ 512) × (has_head l.head parts.loops.items ≡ false) × (length parts.loops.items < 8)
@@ -70,6 +72,7 @@ slots_of_items (item ∷ items) = slots_in item + slots_of_items items
 
 -- the parts are those of the items
 pub record ArePartsOf (items : List Item) (parts : Draft) : Type 0 where
+  pub version : option_to_list parts.version ≡ flat_map version_in items
   pub budget : option_to_list parts.budget ≡ flat_map budget_in items
   pub loops : parts.loops.items ≡ flat_map loop_in items
   pub insns : parts.insns.items ≡ flat_map insn_in items
@@ -85,6 +88,7 @@ pub record SayParts (names : List ℕ → Option ℕ) (lines : List (List ℕ)) 
 -- the image of the parts, its loops by rising head
 pub record IsImageOf (parts : Draft) (p : Program) : Type 0 where
   pub program : IsProgram p
+  pub version : IsVersionOf (option_to_list parts.version) p.version
   pub budget : parts.budget ≡ Some p.budget
   pub loops : IsPermutation parts.loops.items p.loops
   pub code : p.slots ≡ flat_map placed_slots parts.insns.items

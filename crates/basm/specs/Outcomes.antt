@@ -4,7 +4,7 @@ use Rattle.bpf.specs.declared.fault.ImageFault.{ImageFault}
 use Rattle.bpf.specs.declared.fault.ImageFault.TheVariants as image
 use Rattle.bpf.specs.Program.{Program}
 use Rattle.basm.specs.declared.faults.AsmCode.{AsmCode}
-use Rattle.basm.specs.declared.faults.AsmCode.TheVariants.{BadWord, BadOperand, BadNumber, BadLabel, Reach, TooMany, BadBudget, BadLoop, Memory}
+use Rattle.basm.specs.declared.faults.AsmCode.TheVariants.{BadWord, BadOperand, BadNumber, BadLabel, Reach, TooMany, BadBudget, BadLoop, Memory, BadVersion}
 use Rattle.basm.specs.declared.faults.AsmFault.{AsmFault}
 
 -- a fault of the whole text
@@ -26,11 +26,12 @@ line_fault line TooMany = record { line = line; code = TooMany }
 line_fault line BadBudget = record { line = line; code = BadBudget }
 line_fault line BadLoop = record { line = line; code = BadLoop }
 line_fault line Memory = out_of_memory
+line_fault line BadVersion = record { line = line; code = BadVersion }
 
 -- what a fault of the image's parts is called here
 abbrev pub image_code : ImageFault → AsmCode
 image_code image.Magic = TooMany
-image_code image.Version = TooMany
+image_code image.Version = BadVersion
 image_code image.Length = TooMany
 image_code image.Count = TooMany
 image_code image.Budget = BadBudget

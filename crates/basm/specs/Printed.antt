@@ -1,11 +1,15 @@
 -- The text that an image is printed as.
-use Rattle.std.specs.Prelude.{ℕ, List, [], ◌++◌, Option, Some, None, codes, decimal}
+use Rattle.std.specs.Prelude.{ℕ, ◌==◌, if◌then◌else◌, List, [], ◌++◌, Option, Some, None, codes, decimal}
 use Rattle.std.specs.List.{flat_map}
 use Rattle.bpf_insn.specs.declared.insn.Insn.{Insn}
 use Rattle.bpf_insn.specs.Text.{insn_text}
 use Rattle.bpf_parts.specs.Text.{register_text}
 use Rattle.bpf.specs.declared.loops.Loop.{Loop}
 use Rattle.bpf.specs.Program.{Program}
+
+-- the line that declares a version; version 1 has none
+abbrev pub version_line : ℕ → List ℕ
+version_line version = if version == 1 then [] else codes ".version " ++ decimal version ++ codes "\n"
 
 -- the line that declares a budget
 abbrev pub budget_line : ℕ → List ℕ
@@ -21,6 +25,7 @@ abbrev pub slot_line : Option Insn → List ℕ
 slot_line None = []
 slot_line (Some insn) = insn_text insn ++ codes "\n"
 
--- the budget, the loops in their order and the instructions, each on a line of its own
+-- the version, the budget, the loops in their order and the instructions, each on a line of its own
 unfoldable pub printed_image : Program → List ℕ
-printed_image p = budget_line p.budget ++ flat_map loop_line p.loops ++ flat_map slot_line p.slots
+printed_image p =
+    version_line p.version ++ budget_line p.budget ++ flat_map loop_line p.loops ++ flat_map slot_line p.slots

@@ -50,6 +50,12 @@ abbrev pub HasFields : (subtype first second : ℤ) → Address → Type 0
 HasFields subtype first second address =
     (pos (address_subtype address) ≡ subtype) × (address_first address ≡ first) × (address_second address ≡ second)
 
+-- ---- the operand of `.version`
+
+-- the operand of `.version` writes this version
+abbrev pub WritesVersion : List (Bor (List ℕ)) → ℕ → Type 0
+WritesVersion operands version = One (texts operands) (λ a. WritesNumber a (pos version))
+
 -- ---- the operand of `.budget`
 
 -- the operand of `.budget` writes this budget

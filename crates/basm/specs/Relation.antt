@@ -1,5 +1,5 @@
 -- The text relation: when lines stand to an image.
-use Rattle.std.specs.Prelude.{◌≡◌, ◌≢◌, ◌↔◌, ◌⊎◌, ◌==◌, ℕ, ◌+◌, ℤ, pos, ◌-ℤ◌, List, [], ◌∷◌, ◌++◌, codes, Option, Some, FitsSigned}
+use Rattle.std.specs.Prelude.{◌≡◌, ◌≢◌, ◌↔◌, ◌⊎◌, ℕ, ◌+◌, ℤ, pos, ◌-ℤ◌, List, [], ◌∷◌, ◌++◌, codes, Option, Some, FitsSigned}
 use Rattle.std.specs.Int.{w16, w32}
 use Rattle.std.specs.List.{flat_map}
 use Rattle.std.specs.List.Sorted.{IsPermutation}
@@ -103,6 +103,7 @@ WritesEnd names word slot = (IsName word × (names word ≡ Some slot)) ⊎ Writ
 pub data Item : Type 0 where
   Nothing : Item
   Label : List ℕ → Item
+  Version : ℕ → Item
   Budget : ℕ → Item
   OneLoop : Loop → Item
   Code : Insn → Item
@@ -111,6 +112,7 @@ pub data Item : Type 0 where
 abbrev pub slots_in : Item → ℕ
 slots_in Nothing = 0
 slots_in (Label name) = 0
+slots_in (Version n) = 0
 slots_in (Budget n) = 0
 slots_in (OneLoop l) = 0
 slots_in (Code insn) = slots_of insn
@@ -119,6 +121,7 @@ slots_in (Code insn) = slots_of insn
 abbrev pub IsLine : (names : List ℕ → Option ℕ) (slot : ℕ) → List ℕ → Item → Type 0
 IsLine names slot line Nothing = (word_of line ≡ []) × (operands_of line ≡ [])
 IsLine names slot line (Label name) = IsLabel line name
+IsLine names slot line (Version n) = (word_of line ≡ codes ".version") × One (operands_of line) (λ a. WritesNumber a (pos n))
 IsLine names slot line (Budget n) = (word_of line ≡ codes ".budget") × One (operands_of line) (λ a. WritesNumber a (pos n))
 IsLine names slot line (OneLoop l) =
     (word_of line ≡ codes ".loop")
@@ -138,6 +141,7 @@ AreLines names slot (line ∷ lines) (item ∷ items) = IsLine names slot line i
 abbrev pub name_of : ℕ → Item → List (List ℕ × ℕ)
 name_of slot Nothing = []
 name_of slot (Label name) = (name, slot) ∷ []
+name_of slot (Version n) = []
 name_of slot (Budget n) = []
 name_of slot (OneLoop l) = []
 name_of slot (Code insn) = []
@@ -147,10 +151,26 @@ abbrev pub names_from : ℕ → List Item → List (List ℕ × ℕ)
 names_from slot [] = []
 names_from slot (item ∷ items) = name_of slot item ++ names_from (slot + slots_in item) items
 
+-- the version that a line declares, if it does
+abbrev pub version_in : Item → List ℕ
+version_in Nothing = []
+version_in (Label name) = []
+version_in (Version n) = n ∷ []
+version_in (Budget n) = []
+version_in (OneLoop l) = []
+version_in (Code insn) = []
+
+-- the version of a text that declares these versions: the only one, and 1 where there is none
+abbrev pub IsVersionOf : List ℕ → ℕ → Type 0
+IsVersionOf [] version = version ≡ 1
+IsVersionOf (n ∷ []) version = version ≡ n
+IsVersionOf (n ∷ m ∷ more) version = ⊥
+
 -- the budget that a line declares, if it does
 abbrev pub budget_in : Item → List ℕ
 budget_in Nothing = []
 budget_in (Label name) = []
+budget_in (Version n) = []
 budget_in (Budget n) = n ∷ []
 budget_in (OneLoop l) = []
 budget_in (Code insn) = []
@@ -159,6 +179,7 @@ budget_in (Code insn) = []
 abbrev pub loop_in : Item → List Loop
 loop_in Nothing = []
 loop_in (Label name) = []
+loop_in (Version n) = []
 loop_in (Budget n) = []
 loop_in (OneLoop l) = l ∷ []
 loop_in (Code insn) = []
@@ -167,6 +188,7 @@ loop_in (Code insn) = []
 abbrev pub insn_in : Item → List Insn
 insn_in Nothing = []
 insn_in (Label name) = []
+insn_in (Version n) = []
 insn_in (Budget n) = []
 insn_in (OneLoop l) = []
 insn_in (Code insn) = insn ∷ []
@@ -186,13 +208,14 @@ abbrev pub AreApart : List (List ℕ × ℕ) → Type 0
 AreApart [] = Unit {0}
 AreApart (pair ∷ pairs) = IsFree pairs pair.0 × AreApart pairs
 
--- the lines write the image: one budget, loops in any order, and the instructions in theirs
+-- the lines write the image: at most one version, one budget, loops in any order, and the instructions in theirs
 pub record IsText (text : List ℕ) (p : Program) : Type 0 where
   pub items : List Item
   pub names : List ℕ → Option ℕ
   pub lines : AreLines names 0 (pieces_of text) items
   pub defined : (name : List ℕ) (slot : ℕ) → (names name ≡ Some slot) ↔ Defines (names_from 0 items) name slot
   pub apart : AreApart (names_from 0 items)
+  pub version : IsVersionOf (flat_map version_in items) p.version
   pub budget : flat_map budget_in items ≡ p.budget ∷ []
   pub loops : IsPermutation (flat_map loop_in items) p.loops
   pub code : p.slots ≡ flat_map placed_slots (flat_map insn_in items)

@@ -1,19 +1,36 @@
-//! Directives: the budget and the loops.
+//! Directives: the version, the budget and the loops.
 
 ghost use Rattle.std.specs.Prelude.{◌≡◌, ◌≤◌, ◌<◌, ℕ, ℤ, pos, IfOk};
 ghost use Rattle.basm_lex.specs.Numbers.{WritesNumber};
-ghost use Rattle.bpf.specs.Program.{IsBudget, IsLoop};
+ghost use Rattle.bpf.specs.Program.{IsBudget, IsLoop, IsVersion};
 ghost use Rattle.basm.specs.Draft.{WritesLoop, names_in};
 ghost use Rattle.basm.specs.Names.{slot_named};
 ghost use Rattle.basm.specs.Relation.{WritesEnd, texts};
-ghost use Rattle.basm.specs.Readers.{WritesBudget};
+ghost use Rattle.basm.specs.Readers.{WritesBudget, WritesVersion};
 
 use crate::faults::{AsmCode, both};
 use crate::instructions::reg;
 use crate::names::Names;
 use crate::survey::Survey;
 use basm_lex::{NumberFault, is_name, number};
-use bpf::{Loop, MAX_SLOTS, is_budget};
+use bpf::{Loop, MAX_SLOTS, is_budget, is_version};
+
+/// The version that the operands of `.version` declare.
+pub fn read_version(operands: &[&str]) -> Result<u8, AsmCode>
+    ensures writes { IfOk result (WritesVersion operands.now) }
+    ensures exact { (n : ℕ) → IsVersion n → WritesVersion operands.now n → result ≡ Ok n }
+{
+    let [version] = operands else {
+        return Err(AsmCode::BadOperand);
+    };
+    let version = field(version, AsmCode::BadVersion)?;
+    let version = u8::try_from(version).map_err(|_| AsmCode::BadVersion)?;
+    if is_version(version) {
+        Ok(version)
+    } else {
+        Err(AsmCode::BadVersion)
+    }
+}
 
 /// The budget that the operands of `.budget` declare.
 pub fn read_budget(operands: &[&str]) -> Result<u32, AsmCode>

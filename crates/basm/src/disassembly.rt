@@ -4,7 +4,7 @@ ghost use Rattle.std.specs.Prelude.{◌≡◌, ◌++◌, IfOk, OnOk};
 ghost use Rattle.std.specs.List.{flat_map};
 ghost use Rattle.std.specs.String.{string_bytes};
 ghost use Rattle.bpf.specs.Program.{IsProgram};
-ghost use Rattle.basm.specs.Printed.{budget_line, loop_line, printed_image, slot_line};
+ghost use Rattle.basm.specs.Printed.{budget_line, loop_line, printed_image, slot_line, version_line};
 ghost use Rattle.basm.specs.Relation.{IsText};
 
 use basm_lex::printed_words;
@@ -13,8 +13,8 @@ use bpf_insn::Insn;
 use std::alloc::{AllocError, Global};
 use std::fmt::Write;
 
-/// The text of the image: its budget, its loops, and one instruction a line. `assemble` makes an equal
-/// image of it.
+/// The text of the image: its version where that is not 1, its budget, its loops, and one instruction a
+/// line. `assemble` makes an equal image of it.
 ///
 /// # Errors
 ///
@@ -35,10 +35,20 @@ fn print_image(alloc: Global, image: &Image) -> Result<String, AllocError>
     ensures program { IsProgram image.now }
 {
     let mut text = String::new(alloc);
+    print_version(&mut text, image.version())?;
     print_budget(&mut text, image.budget())?;
     print_loops(&mut text, image.loops())?;
     print_slots(&mut text, image)?;
     Ok(text)
+}
+
+fn print_version(text: &mut String, version: u8) -> Result<(), AllocError>
+    ensures { OnOk result (string_bytes text.new ≡ string_bytes text.old ++ version_line version) }
+{
+    if version == 1 {
+        return Ok(());
+    }
+    writeln!(text, ".version {version}")
 }
 
 fn print_budget(text: &mut String, budget: u32) -> Result<(), AllocError>

@@ -1,19 +1,20 @@
 //! The parts of an image, line by line.
 
 ghost use Rattle.std.specs.Prelude.{◌≡◌, ◌+◌, ◌≤◌, ◌<◌, [], ℕ, List, length, None, IfOk};
+ghost use Rattle.std.specs.Option.{option_to_list};
 ghost use Rattle.bpf.specs.declared.loops.Loop.{Loop as ALoop};
-ghost use Rattle.bpf.specs.Program.{IsBudget, Program};
+ghost use Rattle.bpf.specs.Program.{IsBudget, IsVersion, Program};
 ghost use Rattle.bpf_insn.specs.declared.insn.Insn.{Insn as AnInsn};
 ghost use Rattle.bpf_insn.specs.Spelling.{slots_of};
 ghost use Rattle.basm_lex.specs.Lines.{IsLabel};
 ghost use Rattle.basm.specs.Draft.{AddsLine, ArePartsOf, HasRoom, IsImageOf, WritesLoop, has_head, names_in};
 ghost use Rattle.basm_lex.specs.Mnemonics.{mnemonic_word};
 ghost use Rattle.basm.specs.Outcomes.{Makes};
-ghost use Rattle.basm.specs.Relation.{Budget, Code, IsLine, Item, OneLoop, WritesInsn, texts};
-ghost use Rattle.basm.specs.Readers.{WritesBudget};
-ghost use Rattle.basm.specs.Additions.{AddsBudget, AddsInsn, AddsLoop, IsAdded};
+ghost use Rattle.basm.specs.Relation.{Budget, Code, IsLine, IsVersionOf, Item, OneLoop, Version, WritesInsn, texts};
+ghost use Rattle.basm.specs.Readers.{WritesBudget, WritesVersion};
+ghost use Rattle.basm.specs.Additions.{AddsBudget, AddsInsn, AddsLoop, AddsVersion, IsAdded};
 
-use crate::directives::{read_budget, read_loop};
+use crate::directives::{read_budget, read_loop, read_version};
 use crate::faults::{AsmCode, AsmFault, both};
 use crate::instructions::add_insn;
 use crate::survey::Survey;
@@ -25,6 +26,7 @@ use std::alloc::Global;
 /// The parts of an image that the lines so far declare.
 #[derive(Drop)]
 pub struct Draft {
+    version: Option<u8>,
     budget: Option<u32>,
     /// In the order of their lines.
     loops: Vec<Loop>,
@@ -39,6 +41,7 @@ impl Draft {
         ensures { ArePartsOf [] result }
     {
         Draft {
+            version: None,
             budget: None,
             loops: Vec::new(alloc),
             insns: Vec::new(alloc),
@@ -63,9 +66,24 @@ impl Draft {
                 "" => Ok(()),
                 ".budget" => self.add_budget(operands),
                 ".loop" => self.add_loop(operands, survey),
+                ".version" => self.add_version(operands),
                 _ => read_label(line),
             },
         }
+    }
+
+    fn add_version(&mut self, operands: &[&str]) -> Result<(), AsmCode>
+        ensures adds { IfOk result (λ _. AddsVersion operands.now self.old self.new) }
+        ensures exact { (n : ℕ) → WritesVersion operands.now n
+            → IsVersion n → self.old.version ≡ None
+            → IsAdded (Version n) self.old self.new result }
+    {
+        let version = read_version(operands)?;
+        if self.version.is_some() {
+            return Err(AsmCode::BadVersion);
+        }
+        self.version = Some(version);
+        Ok(())
     }
 
     fn add_budget(&mut self, operands: &[&str]) -> Result<(), AsmCode>
@@ -131,15 +149,26 @@ impl Draft {
         Ok(())
     }
 
+    /// The version that is declared, and 1 where none is.
+    fn version(&self) -> u8
+        ensures { IsVersionOf (option_to_list self.now.version) result }
+    {
+        match self.version {
+            Some(version) => version,
+            None => 1,
+        }
+    }
+
     /// The image of these parts, its loops by rising head.
     pub fn into_image(mut self, alloc: Global) -> Result<Image, AsmFault>
         // What is made is the image of the parts, and if they have one it is made, unless memory is refused.
         ensures image { IfOk result (IsImageOf self) }
         ensures exact { (p : Program) → IsImageOf self p → Makes p result }
     {
+        let version = self.version();
         let budget = self.budget.ok_or(AsmFault::of_text(AsmCode::BadBudget))?;
         self.loops.sort_unstable_by_key(|found| found.head);
-        Ok(Image::new(alloc, &self.insns, &self.loops, budget)?)
+        Ok(Image::new(alloc, version, &self.insns, &self.loops, budget)?)
     }
 }
 

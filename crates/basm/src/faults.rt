@@ -45,6 +45,11 @@ A line `.loop HEAD, BACK, N, rK` has two slots or names of which BACK is behind 
 and a register from r0 to r9; no two loops have one head.
 Compare the fields with the slots of the text.";
 
+const BAD_VERSION: &str = "\
+A text declares at most once which version of the format its image has: a line `.version N` with N 1 or 2. Without
+it the version is 1.
+Keep one such line; version 2 is for programs that load from the stack what they have stored there.";
+
 const MEMORY: &str = "\
 The process was refused memory while the text was assembled.
 Give the process more memory.";
@@ -79,10 +84,13 @@ pub enum AsmCode {
     /// Memory was refused.
     #[error("no memory")]
     Memory,
+    /// The version is declared twice, or is none that there is.
+    #[error("the version is declared twice or is neither 1 nor 2")]
+    BadVersion,
 }
 
 impl AsmCode {
-    /// The number of the fault: 1 to 9.
+    /// The number of the fault: 1 to 10.
     pub fn code(self) -> u8
         ensures value { result ≡ asm_code self }
         ensures back { asm_of_code result ≡ Some self }
@@ -97,6 +105,7 @@ impl AsmCode {
             AsmCode::BadBudget => 7,
             AsmCode::BadLoop => 8,
             AsmCode::Memory => 9,
+            AsmCode::BadVersion => 10,
         }
     }
 
@@ -115,6 +124,7 @@ impl AsmCode {
             7 => Some(AsmCode::BadBudget),
             8 => Some(AsmCode::BadLoop),
             9 => Some(AsmCode::Memory),
+            10 => Some(AsmCode::BadVersion),
             _ => None,
         }
     }
@@ -131,6 +141,7 @@ impl AsmCode {
             AsmCode::BadBudget => BAD_BUDGET,
             AsmCode::BadLoop => BAD_LOOP,
             AsmCode::Memory => MEMORY,
+            AsmCode::BadVersion => BAD_VERSION,
         }
     }
 
@@ -221,7 +232,7 @@ impl AsmFault {
         }
     }
 
-    /// The number of what is wrong: 1 to 9.
+    /// The number of what is wrong: 1 to 10.
     pub fn number(self) -> u8
         ensures { result ≡ asm_code self.code }
     {
@@ -253,6 +264,7 @@ impl From<ImageFault> for AsmFault {
             ImageFault::Budget => AsmCode::BadBudget,
             ImageFault::Loop => AsmCode::BadLoop,
             ImageFault::Memory => AsmCode::Memory,
+            ImageFault::Version => AsmCode::BadVersion,
             _ => AsmCode::TooMany,
         })
     }

@@ -1,7 +1,7 @@
 //! The text of an image: [`assemble`] reads it, and [`disassemble`] prints it.
 //!
 //! A text is lines of ASCII; a semicolon begins a comment. A line is empty, a label (`NAME:`), a
-//! directive (`.budget N`, `.loop HEAD, BACK, N, rK`) or an instruction.
+//! directive (`.version N`, `.budget N`, `.loop HEAD, BACK, N, rK`) or an instruction.
 #![tactic(auto)]
 
 mod assembly;

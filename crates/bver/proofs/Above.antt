@@ -16,15 +16,18 @@ use Rattle.absdom.specs.declared.kinds.AbsKind.{AbsKind}
 use Rattle.absdom.specs.declared.kinds.AbsKind.TheVariants.{Unset, Num, Ptr, Map}
 use Rattle.absdom.specs.Kinds.{IsKindBelow}
 use Rattle.absdom.specs.State.{StateValue, IsBelow, IsWhole, after_call, kind_at}
+use Rattle.absdom.specs.Places.{AreAllWhole, AreRangesWithin}
 use Rattle.absdom.specs.Effect.{after_insn}
 use Rattle.absdom.specs.Edges.{Edges, refined_edges}
 use Rattle.absdom.specs.Laws.{BelowIsTransitive, ApplyGrows, RefineGrows, CallGrows, IsGrown, IsEdgeBelow, AreEdgesGrown}
+use Rattle.absdom.specs.declared.spill.Spill.{Spill}
 use Rattle.bver_form.specs.Jumps.{first_slot, target}
 use Rattle.bver_form.specs.Lowered.{is_lowered}
-use Rattle.bver.specs.Heads.{AreUnset, BodyValue, Falls, IsRaised, IsRaisedKind, IsWithinBound, counts, opens, keeps, opened_kind, is_number}
+use Rattle.bver.specs.Heads.{AreRaisedRanges, AreUnset, BodyValue, Falls, IsRaised, IsRaisedKind, IsWithinBound, counts, opens, keeps, opened_kind, is_number, retains, widens}
 use Rattle.bver.specs.Table.{TableValue, knowledge_in}
 use Rattle.bver.specs.Visit.{IsGrown as HasGrown, IsLeast, IsLeastOf}
-use Rattle.bver.specs.Justified.{AreEdgesCovered, AsksCell, IsCovered, IsCoveredIfAny, IsHead, IsNumber, IsOpen, IsPermitted, IsResultCovered, Proceeds, knowledge_at}
+use Rattle.bver.specs.Justified.{AreEdgesCovered, AsksCell, HasStore, IsCovered, IsCoveredIfAny, IsHead, IsNumber, IsOpen, IsPermitted, IsResultCovered, Proceeds, knowledge_at}
+use Rattle.bver.proofs.Rounds.{ranges_whole, words_of}
 
 -- ---- what a table permits of a state, it permits of a smaller one
 
@@ -75,13 +78,13 @@ cell_less sizes (Num a) (Map j) k l map key h = absurd map
 cell_less sizes (Ptr r a) (Map j) k l map key h = absurd map
 cell_less sizes (Map i) (Map j) k l map key h = subst (λ (n : ℕ). AsksCell sizes (Map n) k) (sym map) (key_less sizes j k l key h)
 
-pub permitted_less : ApplyGrows → RefineGrows → CallGrows → BelowIsTransitive → (sizes : Maps) (table : ℕ → Option StateValue) (slot : ℕ) (a b : StateValue) (insn : Insn) → IsWhole a → IsWhole b → IsBelow a b → IsPermitted sizes table slot b insn → IsPermitted sizes table slot a insn
-permitted_less applies refines calls transitive sizes table slot a b insn p q below h = by_insn insn h
+pub permitted_less : ApplyGrows → RefineGrows → CallGrows → BelowIsTransitive → (spill : Spill) (sizes : Maps) (table : ℕ → Option StateValue) (slot : ℕ) (a b : StateValue) (insn : Insn) → IsWhole a → IsWhole b → IsBelow a b → IsPermitted spill sizes table slot b insn → IsPermitted spill sizes table slot a insn
+permitted_less applies refines calls transitive spill sizes table slot a b insn p q below h = by_insn insn h
   where
-    proceeds : (insn : Insn) → Proceeds table slot b insn → Proceeds table slot a insn
-    proceeds insn h = result_covered_less transitive (after_insn a insn) (after_insn b insn) (table (slot + slots_of insn)) (applies a b insn p q below) h
+    proceeds : (insn : Insn) → Proceeds spill table slot b insn → Proceeds spill table slot a insn
+    proceeds insn h = result_covered_less transitive (after_insn spill a insn) (after_insn spill b insn) (table (slot + slots_of insn)) (applies spill a b insn p q below) h
 
-    by_insn : (insn : Insn) → IsPermitted sizes table slot b insn → IsPermitted sizes table slot a insn
+    by_insn : (insn : Insn) → IsPermitted spill sizes table slot b insn → IsPermitted spill sizes table slot a insn
     by_insn (Alu op width dst src) h = proceeds (Alu op width dst src) h
     by_insn (Negate width dst) h = proceeds (Negate width dst) h
     by_insn (MoveSigned extension dst src) h = proceeds (MoveSigned extension dst src) h
@@ -130,8 +133,13 @@ kind_less p l lowered place register before after above small head low below (op
     rw is (open_less (is_lowered lowered place register) before (kind_at above register) (head.others register other written) below (low register small other written))
 kind_less p l lowered place register before after above small head low below (keeps other unwritten is) = rw is below
 
-pub raised_less : (p : Program) (l : Loop) (lowered : List Bool) (place : ℕ) (before after above : StateValue) → IsWhole before → IsWhole after → IsHead p l above → AreUnset p l lowered place above → IsBelow before above → IsRaised p l lowered place before after → IsBelow after above
-raised_less p l lowered place before after above p_before p_after head low below raised = record {
+-- the ranges of places: where the loop stores the table has whole ones, and else they are kept
+ranges_below : (p : Program) (l : Loop) (before after above : StateValue) → IsWhole after → (HasStore p l → AreAllWhole above.ranges) → AreRangesWithin before.ranges above.ranges → AreRaisedRanges p l before after → AreRangesWithin after.ranges above.ranges
+ranges_below p l before after above proper wide below (widens stored is) = ranges_whole after.ranges above.ranges (words_of after proper) (wide stored)
+ranges_below p l before after above proper wide below (retains out is) = rw is below
+
+pub raised_less : (p : Program) (l : Loop) (lowered : List Bool) (place : ℕ) (before after above : StateValue) → IsWhole before → IsWhole after → IsHead p l above → (HasStore p l → AreAllWhole above.ranges) → AreUnset p l lowered place above → IsBelow before above → IsRaised p l lowered place before after → IsBelow after above
+raised_less p l lowered place before after above p_before p_after head wide low below raised = record {
   kinds = λ register.
       elim (cases_lt register 10) [
         | inl small ↦ kind_less p l lowered place register (kind_at before register) (kind_at after register) above (omega (arith, small)) head low (below.kinds register) (raised.registers register (omega (arith, small)))
@@ -145,6 +153,7 @@ raised_less p l lowered place before after above p_before p_after head low below
         ]
       ];
   marks = λ mark is. rw raised.marks (below.marks mark is);
+  ranges = ranges_below p l before after above p_after wide below.ranges raised.ranges;
 }
 
 -- a head that is entered outside its bound is in no such table

@@ -17,13 +17,16 @@ use Rattle.absdom.specs.declared.cause.Cause.{Cause}
 use Rattle.absdom.specs.Edges.{Edges}
 use Rattle.absdom.specs.Effect.{after_insn}
 use Rattle.absdom.specs.State.{StateValue, IsEntry, IsBelow, IsWhole, entry_kinds}
+use Rattle.absdom.specs.Places.{AreAllWhole}
 use Rattle.absdom.specs.Laws.{ApplyGrows, BelowIsReflexive, BelowIsTransitive, CallGrows, RefineGrows}
+use Rattle.absdom.specs.declared.spill.Spill.{Spill}
+use Rattle.absdom.specs.Spill.{spill_of}
 use Rattle.bver_form.specs.declared.refusal.Refused.{Refused}
 use Rattle.bver_form.specs.Jumps.{target}
 use Rattle.bver_form.specs.Targets.{IsKept, IsPlain}
 use Rattle.bver_form.specs.Lowered.{is_lowered}
 use Rattle.bver.specs.Heads.{AreUnset, Falls, HasLowered, IsDeclared, IsWithinBound}
-use Rattle.bver.specs.Justified.{AreEdgesCovered, IsCovered, IsCoveredIfAny, IsEntered, IsHead, IsJustified, IsPermitted, IsPermittedAt, IsResultCovered, edges_of_comparison, knowledge_at}
+use Rattle.bver.specs.Justified.{AreEdgesCovered, HasStore, IsCovered, IsCoveredIfAny, IsEntered, IsHead, IsPermitted, IsPermittedAt, IsResultCovered, edges_of_comparison, knowledge_at}
 use Rattle.bver.specs.Leading.{AreLoweredBack, BranchesBelow, EntersOutsideIfAny, GivesBelow, IsFlowFault, IsFollowedBelow, IsRaisedAt, IsLeastVisit, IsLoweredBackIfAny, IsRaisedIfAny, IsUncovered, IsUncoveredIfAny, IsVisitFault, IsVisitFaultIfAny, LeadsBelow, enters, jumping_if_any, jumping_state, leads, raises, refutes, returns, stays}
 use Rattle.bver.specs.Table.{TableValue, knowledge_in}
 use Rattle.bver.specs.Unjustified.{Justifies}
@@ -43,13 +46,13 @@ edges_lead : (r : Result Edges Cause) (taken next : Option StateValue) → AreEd
 edges_lead (Err cause) taken next h = absurd h
 edges_lead (Ok edges) taken next h = h
 
-pub permitted_leads : (sizes : Maps) (table : ℕ → Option StateValue) (slot : ℕ) (a : StateValue) (insn : Insn) → IsPermitted sizes table slot a insn → LeadsBelow table slot a insn
-permitted_leads sizes table slot a insn h = by_insn insn h
+pub permitted_leads : (spill : Spill) (sizes : Maps) (table : ℕ → Option StateValue) (slot : ℕ) (a : StateValue) (insn : Insn) → IsPermitted spill sizes table slot a insn → LeadsBelow spill table slot a insn
+permitted_leads spill sizes table slot a insn h = by_insn insn h
   where
-    proceeds : (insn : Insn) → IsResultCovered (after_insn a insn) (table (slot + slots_of insn)) → GivesBelow (after_insn a insn) (table (slot + slots_of insn))
-    proceeds insn h = result_leads (after_insn a insn) (table (slot + slots_of insn)) h
+    proceeds : (insn : Insn) → IsResultCovered (after_insn spill a insn) (table (slot + slots_of insn)) → GivesBelow (after_insn spill a insn) (table (slot + slots_of insn))
+    proceeds insn h = result_leads (after_insn spill a insn) (table (slot + slots_of insn)) h
 
-    by_insn : (insn : Insn) → IsPermitted sizes table slot a insn → LeadsBelow table slot a insn
+    by_insn : (insn : Insn) → IsPermitted spill sizes table slot a insn → LeadsBelow spill table slot a insn
     by_insn (Alu op width dst src) h = proceeds (Alu op width dst src) h
     by_insn (Negate width dst) h = proceeds (Negate width dst) h
     by_insn (MoveSigned extension dst src) h = proceeds (MoveSigned extension dst src) h
@@ -65,26 +68,26 @@ permitted_leads sizes table slot a insn h = by_insn insn h
     by_insn Exit h = tt
 
 -- an instruction that goes on leads where its result goes
-pub leads_on : (above : ℕ → Option StateValue) (slot : ℕ) (a : StateValue) (insn : Insn) → flow_of insn ≡ GoesOn → LeadsBelow above slot a insn → GivesBelow (after_insn a insn) (above (slot + slots_of insn))
-leads_on above slot a (Alu op width dst src) goes h = h
-leads_on above slot a (Negate width dst) goes h = h
-leads_on above slot a (MoveSigned extension dst src) goes h = h
-leads_on above slot a (ByteSwap swap bits dst) goes h = h
-leads_on above slot a (Load size dst place) goes h = h
-leads_on above slot a (Store size place src) goes h = h
-leads_on above slot a (Jump comparison offset) goes h = absurd cc
-leads_on above slot a (Goto distance) goes h = absurd cc
-leads_on above slot a (Wide dst value) goes h = h
-leads_on above slot a (LoadMap dst index) goes h = h
-leads_on above slot a (LoadAddress dst address) goes h = absurd cc
-leads_on above slot a (Call callee number) goes h = absurd cc
-leads_on above slot a Exit goes h = absurd cc
+pub leads_on : (spill : Spill) (above : ℕ → Option StateValue) (slot : ℕ) (a : StateValue) (insn : Insn) → flow_of insn ≡ GoesOn → LeadsBelow spill above slot a insn → GivesBelow (after_insn spill a insn) (above (slot + slots_of insn))
+leads_on spill above slot a (Alu op width dst src) goes h = h
+leads_on spill above slot a (Negate width dst) goes h = h
+leads_on spill above slot a (MoveSigned extension dst src) goes h = h
+leads_on spill above slot a (ByteSwap swap bits dst) goes h = h
+leads_on spill above slot a (Load size dst place) goes h = h
+leads_on spill above slot a (Store size place src) goes h = h
+leads_on spill above slot a (Jump comparison offset) goes h = absurd cc
+leads_on spill above slot a (Goto distance) goes h = absurd cc
+leads_on spill above slot a (Wide dst value) goes h = h
+leads_on spill above slot a (LoadMap dst index) goes h = h
+leads_on spill above slot a (LoadAddress dst address) goes h = absurd cc
+leads_on spill above slot a (Call callee number) goes h = absurd cc
+leads_on spill above slot a Exit goes h = absurd cc
 
-pub straight_least : (r : Result Bool Refused) (slot : ℕ) (a : StateValue) (insn : Insn) (old new : TableValue) (state : StateValue) → flow_of insn ≡ GoesOn
-    → IfOk r (λ runs. IsLeastNext (λ above. GivesBelow (after_insn a insn) (above (slot + slots_of insn))) old new runs (slot + slots_of insn) state)
-    → IfOk r (λ runs. IsLeastNext (λ above. LeadsBelow above slot a insn) old new runs (slot + slots_of insn) state)
-straight_least (Ok runs) slot a insn old new state goes least = λ above grown followed. least above grown (leads_on above slot a insn goes followed)
-straight_least (Err refused) slot a insn old new state goes least = tt
+pub straight_least : (spill : Spill) (r : Result Bool Refused) (slot : ℕ) (a : StateValue) (insn : Insn) (old new : TableValue) (state : StateValue) → flow_of insn ≡ GoesOn
+    → IfOk r (λ runs. IsLeastNext (λ above. GivesBelow (after_insn spill a insn) (above (slot + slots_of insn))) old new runs (slot + slots_of insn) state)
+    → IfOk r (λ runs. IsLeastNext (λ above. LeadsBelow spill above slot a insn) old new runs (slot + slots_of insn) state)
+straight_least spill (Ok runs) slot a insn old new state goes least = λ above grown followed. least above grown (leads_on spill above slot a insn goes followed)
+straight_least spill (Err refused) slot a insn old new state goes least = tt
 
 -- ---- from one slot of a pass to the next
 
@@ -116,7 +119,7 @@ comes_below p table true state slot insn above begins plain h =
     })
 
 -- after the visit of an instruction
-pub below_next : (v : VisitValue) (lowered now : List Bool) (old new : TableValue) (was runs : Bool) (before after : StateValue) (insn : Insn) (above : ℕ → Option StateValue) → IsProgram v.program → insn_at v.program v.slot ≡ Some insn → (IsTrue runs → IsPlain v.program (v.slot + slots_of insn)) → IsLeastVisit v lowered now old new was runs before after insn → IsFollowedBelow above v.slot (visited_state was before new v.slot) insn → StaysBelow v.program old was before v.slot above → StaysBelow v.program new runs after (v.slot + 1) above
+pub below_next : (v : VisitValue) (lowered now : List Bool) (old new : TableValue) (was runs : Bool) (before after : StateValue) (insn : Insn) (above : ℕ → Option StateValue) → IsProgram v.program → insn_at v.program v.slot ≡ Some insn → (IsTrue runs → IsPlain v.program (v.slot + slots_of insn)) → IsLeastVisit v lowered now old new was runs before after insn → IsFollowedBelow (spill_of v.program.version) above v.slot (visited_state was before new v.slot) insn → StaysBelow v.program old was before v.slot above → StaysBelow v.program new runs after (v.slot + 1) above
 below_next v lowered now old new was runs before after insn above limits begins plain visit followed h = record {
   known = (visit.least above h.known followed).0;
   running = λ on next stands.
@@ -187,14 +190,14 @@ lowered_before p slot mid old edge lowered now same marks place register small =
 pub least_insn : (v : VisitValue) (lowered now : List Bool) (old mid new : TableValue) (was runs : Bool) (before here after : StateValue) (insn : Insn) → visited_state was before mid v.slot ≡ Some here
     → IsRaisedIfAny v.program lowered v.slot (visited_state was before old v.slot) (visited_state was before mid v.slot)
     → IsLeastOf (λ above. IsCoveredIfAny (visited_state was before mid v.slot) (above v.slot)) old mid
-    → IsLeastNext (λ above. LeadsBelow above v.slot here insn) mid new runs (v.slot + slots_of insn) after
+    → IsLeastNext (λ above. LeadsBelow (spill_of v.program.version) above v.slot here insn) mid new runs (v.slot + slots_of insn) after
     → AreLoweredBack v.program v.slot (knowledge_in mid) (jumping_state here insn) lowered now
     → IsExtended v.slot old mid → IsExtended (v.slot + 1) mid new
     → IsLeastVisit v lowered now old new was runs before after insn
 least_insn v lowered now old mid new was runs before here after insn known raised first second marks entered extended = record {
   raised = subst (λ (o : Option StateValue). IsRaisedIfAny v.program lowered v.slot (visited_state was before old v.slot) o) (sym same) raised;
   least = λ above grown followed.
-      let led : IsCovered here (above v.slot) × LeadsBelow above v.slot here insn = subst (λ (o : Option StateValue). IsFollowedBelow above v.slot o insn) (same ∙ known) followed in
+      let led : IsCovered here (above v.slot) × LeadsBelow (spill_of v.program.version) above v.slot here insn = subst (λ (o : Option StateValue). IsFollowedBelow (spill_of v.program.version) above v.slot o insn) (same ∙ known) followed in
       second above (first above grown (subst (λ (o : Option StateValue). IsCoveredIfAny o (above v.slot)) (sym known) led.0)) led.1;
   marks =
       subst (λ (o : Option StateValue). AreLoweredBack v.program v.slot (knowledge_in old) (jumping_if_any o insn) lowered now) (sym (same ∙ known))
@@ -257,6 +260,10 @@ pub record Order : Type 0 where
 pub head_in : (p : Program) (sizes : Maps) (table : ℕ → Option StateValue) (l : Loop) (place : ℕ) → Justifies p sizes table → IsDeclared p l place → IfSome (table l.head) (IsHead p l)
 head_in p sizes table l place h declared = subst (λ (m : Loop). IfSome (table m.head) (IsHead p m)) (declared.is l) (h.heads place l declared.inside)
 
+places_in : (p : Program) (sizes : Maps) (table : ℕ → Option StateValue) (l : Loop) (place : ℕ) → Justifies p sizes table → IsDeclared p l place → IfSome (table l.head) (λ a. HasStore p l → AreAllWhole a.ranges)
+places_in p sizes table l place h declared =
+    subst (λ (m : Loop). IfSome (table m.head) (λ a. HasStore p m → AreAllWhole a.ranges)) (declared.is l) (h.places place l declared.inside)
+
 -- what comes to a slot is covered there once it is raised
 raised_covered : (p : Program) (sizes : Maps) (table : ℕ → Option StateValue) (lowered : List Bool) (slot : ℕ) (before after : Option StateValue) → Justifies p sizes table → HasLowered p lowered table → IfSome before IsWhole → IfSome after IsWhole → IsCoveredIfAny before (table slot) → IsRaisedIfAny p lowered slot before after → IsCoveredIfAny after (table slot)
 raised_covered p sizes table lowered slot before None h low old new covered raised = tt
@@ -265,21 +272,22 @@ raised_covered p sizes table lowered slot (Some b) (Some a) h low old new covere
 raised_covered p sizes table lowered slot (Some b) (Some a) h low old new covered (raises l place declared at raised) =
     by_there (table slot)
     (subst (λ (k : ℕ). IfSome (table k) (IsHead p l)) at (head_in p sizes table l place h declared))
+    (subst (λ (k : ℕ). IfSome (table k) (λ d. HasStore p l → AreAllWhole d.ranges)) at (places_in p sizes table l place h declared))
     (subst (λ (k : ℕ). IfSome (table k) (AreUnset p l lowered place)) at (low l place declared))
     covered
   where
-    by_there : (there : Option StateValue) → IfSome there (IsHead p l) → IfSome there (AreUnset p l lowered place) → IsCovered b there → IsCovered a there
-    by_there None head unset below = absurd below
-    by_there (Some d) head unset below = raised_less p l lowered place b a d old new head unset below raised
+    by_there : (there : Option StateValue) → IfSome there (IsHead p l) → IfSome there (λ d. HasStore p l → AreAllWhole d.ranges) → IfSome there (AreUnset p l lowered place) → IsCovered b there → IsCovered a there
+    by_there None head wide unset below = absurd below
+    by_there (Some d) head wide unset below = raised_less p l lowered place b a d old new head wide unset below raised
 
 -- what is known of a state that the table covers is permitted by it
-pub permitted_there : Order → (p : Program) (sizes : Maps) (table : ℕ → Option StateValue) (slot : ℕ) (a : StateValue) (insn : Insn) → Justifies p sizes table → insn_at p slot ≡ Some insn → IsWhole a → IsCovered a (table slot) → IsPermitted sizes table slot a insn
+pub permitted_there : Order → (p : Program) (sizes : Maps) (table : ℕ → Option StateValue) (slot : ℕ) (a : StateValue) (insn : Insn) → Justifies p sizes table → insn_at p slot ≡ Some insn → IsWhole a → IsCovered a (table slot) → IsPermitted (spill_of p.version) sizes table slot a insn
 permitted_there order p sizes table slot a insn h begins whole covered =
-    by_there (table slot) (h.whole slot) covered (subst (λ (o : Option Insn). IsPermittedAt sizes table slot (table slot) o) begins (h.permitted slot))
+    by_there (table slot) (h.whole slot) covered (subst (λ (o : Option Insn). IsPermittedAt (spill_of p.version) sizes table slot (table slot) o) begins (h.permitted slot))
   where
-    by_there : (there : Option StateValue) → IfSome there IsWhole → IsCovered a there → IsPermittedAt sizes table slot there (Some insn) → IsPermitted sizes table slot a insn
+    by_there : (there : Option StateValue) → IfSome there IsWhole → IsCovered a there → IsPermittedAt (spill_of p.version) sizes table slot there (Some insn) → IsPermitted (spill_of p.version) sizes table slot a insn
     by_there None proper below permitted = absurd below
-    by_there (Some d) proper below permitted = permitted_less order.applies order.refines order.calls order.transitive sizes table slot a d insn whole proper below permitted
+    by_there (Some d) proper below permitted = permitted_less order.applies order.refines order.calls order.transitive (spill_of p.version) sizes table slot a d insn whole proper below permitted
 
 -- what comes to a slot is whole
 pub comes_whole : (runs : Bool) (state : StateValue) (table : TableValue) (slot : ℕ) → IsWhole state → AreWhole (knowledge_in table) → IfSome (visited_state runs state table slot) IsWhole
@@ -287,10 +295,10 @@ comes_whole false state table slot proper whole = whole slot
 comes_whole true state table slot proper whole = proper
 
 -- what is known at the slot of an instruction, where the table covers it, is followed below the table
-followed_there : Order → (p : Program) (sizes : Maps) (table : ℕ → Option StateValue) (slot : ℕ) (known : Option StateValue) (insn : Insn) → Justifies p sizes table → insn_at p slot ≡ Some insn → IfSome known IsWhole → IsCoveredIfAny known (table slot) → IsFollowedBelow table slot known insn
+followed_there : Order → (p : Program) (sizes : Maps) (table : ℕ → Option StateValue) (slot : ℕ) (known : Option StateValue) (insn : Insn) → Justifies p sizes table → insn_at p slot ≡ Some insn → IfSome known IsWhole → IsCoveredIfAny known (table slot) → IsFollowedBelow (spill_of p.version) table slot known insn
 followed_there order p sizes table slot None insn h begins whole covered = tt
 followed_there order p sizes table slot (Some a) insn h begins whole covered =
-    (covered, permitted_leads sizes table slot a insn (permitted_there order p sizes table slot a insn h begins whole covered))
+    (covered, permitted_leads (spill_of p.version) sizes table slot a insn (permitted_there order p sizes table slot a insn h begins whole covered))
 
 -- what comes to the slot of an instruction, raised, is covered by a table under which the program is justified
 pub here_covered : (v : VisitValue) (lowered : List Bool) (old new : TableValue) (was : Bool) (before : StateValue) (insn : Insn) (above : ℕ → Option StateValue)
@@ -363,10 +371,7 @@ entry_below order a (Some d) entry entered = order.transitive a entered.known d 
   where
     alike : (a b : StateValue) → IsEntry a → IsEntry b → IsBelow a b
     alike a b f g = record {
-      kinds = rw (f.kinds, g.kinds) (order.reflexive (record { kinds = entry_kinds; marks = [] })).kinds;
+      kinds = rw (f.kinds, g.kinds) (order.reflexive (record { kinds = entry_kinds; marks = []; ranges = [] })).kinds;
       marks = λ place is. absurd (false≢true (sym (g.marks place) ∙ is));
+      ranges = λ place. rw (f.ranges place, g.ranges place) (record { above = omega arith; below = omega arith });
     }
-
--- a table under which a program is justified
-pub justifies : (p : Program) (sizes : Maps) (h : IsJustified p sizes) → Justifies p sizes h.table
-justifies p sizes h = record { entered = h.entered; whole = h.whole; permitted = h.permitted; heads = h.heads }

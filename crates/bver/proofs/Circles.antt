@@ -1,6 +1,6 @@
 -- Slot by slot of a pass: what is known in a loop behind its head says all that is known at the head of what the loop
 -- does not write.
-use Rattle.std.proofs.Common.{◌≡◌, ◌≢◌, ℕ, ◌+◌, ◌-◌, ◌<◌, ◌≤◌, ◌⊎◌, inl, inr, Bool, true, false, List, length, Option, None, Some, refl, sym, ap, subst, ◌∙◌, arith}
+use Rattle.std.proofs.Common.{◌≡◌, ◌≢◌, ℕ, ◌+◌, ◌-◌, ◌<◌, ◌≤◌, ◌⊎◌, inl, inr, Bool, true, false, List, [], length, Option, None, Some, refl, sym, ap, subst, ◌∙◌, arith}
 use Rattle.std.specs.Prelude.{IsTrue, IsSome, IfSome, slice_index_or}
 use Rattle.std.proofs.lemmas.Bool.{cases_lt, false≢true}
 use Rattle.bpf.specs.declared.loops.Loop.{Loop}
@@ -11,21 +11,24 @@ use Rattle.machine.specs.Step.{insn_at}
 use Rattle.absdom.specs.declared.kinds.AbsKind.{AbsKind}
 use Rattle.absdom.specs.declared.kinds.AbsKind.TheVariants.{Unset, Num, Ptr, Map}
 use Rattle.absdom.specs.State.{StateValue, IsBelow, IsWhole, kind_at}
+use Rattle.absdom.specs.Places.{AreAllWhole}
+use Rattle.absdom.specs.Spill.{spill_of}
 use Rattle.bver_form.specs.Form.{IsFormed}
 use Rattle.bver_form.specs.Laws.{LoopsAreEntered}
 use Rattle.bver_form.specs.Loops.{ComesIn, IsEdge, IsInside, IsLoopFormed, IsNestedOrApart, holds, step_down}
 use Rattle.bver_form.specs.Lowered.{is_lowered}
 use Rattle.bver_form.specs.Targets.{IsKept}
 use Rattle.bver.specs.Heads.{IsDeclared, IsRaised, IsRaisedKind, counts, is_number, keeps, opened_kind, opens}
-use Rattle.bver.specs.Justified.{IsCovered, IsCoveredIfAny, IsEntered, IsHead, IsWrittenIn}
+use Rattle.bver.specs.Justified.{HasStore, IsCovered, IsCoveredIfAny, IsEntered, IsHead, IsWrittenIn}
 use Rattle.bver.specs.Leading.{IsFollowedBelow, IsLeastVisit, IsRaisedIfAny, LeadsBelow, raises, stays}
 use Rattle.bver.specs.Table.{TableValue, knowledge_in}
 use Rattle.bver.specs.Visit.{AreWhole, HasNext, IsInsnVisit, IsLeastEntry, VisitValue, visited_state}
 use Rattle.bver.proofs.Below.{StaysBelow, below_next, below_none, below_skip, comes_below, comes_whole}
 use Rattle.bver.proofs.Counters.{inside_of, same_place}
 use Rattle.bver.proofs.Keeping.{head_kept, kept_begins}
-use Rattle.bver.proofs.Rings.{IsBehind, ring, ring_any, ring_behind}
-use Rattle.bver.proofs.Rounds.{IsRound, alone, below_all, below_alone, below_marked, counter_range, kind_alone, marked, marks_marked}
+use Rattle.bver.proofs.Raising.{wide_is}
+use Rattle.bver.proofs.Rings.{IsBehind, ring, ring_any, ring_behind, ring_more}
+use Rattle.bver.proofs.Rounds.{IsRound, alone, below_all, below_alone, below_marked, below_ranged, counter_range, kind_alone, marked, marks_marked, ranged, ranges_ranged, words_all, words_of, words_whole}
 use Rattle.bver.proofs.Turns.{IsAround, Leaves, leads_around, leads_counted, leads_outside, round_head, round_raised}
 
 -- nothing is known
@@ -37,6 +40,7 @@ nothing k = None
 -- in the loop behind its head what is known says no less than its head, at which nothing is kept of what was lowered
 pub record IsTurning (p : Program) (l : Loop) (place : ℕ) (start : List Bool) (table : TableValue) (runs : Bool) (state : StateValue) (slot : ℕ) (h : StateValue) : Type 0 where
   pub head : IsHead p l h
+  pub wide : HasStore p l → AreAllWhole h.ranges
   pub unset : (register : ℕ) → register ≤ 9 → register ≢ l.register → IsWrittenIn p l register → IsTrue (is_lowered start place register) → is_number (kind_at h register) ≡ false
   pub below : (around : ℕ → StateValue) → IsAround p l h around → StaysBelow p table runs state slot (ring l (λ k. Some (around k)))
 
@@ -56,11 +60,13 @@ round_of : (p : Program) (l : Loop) (slot : ℕ) (h a : StateValue) → ((around
 round_of p l slot h a below = record {
   unwritten = λ register out.
       kind_alone a register (kind_at h register)
-      (below (λ k. alone register (kind_at h register)) (λ k b round. below_alone b register (kind_at h register) (round.unwritten register out)));
+      (below (λ k. alone register (kind_at h register)) (λ k b round. below_alone b register (kind_at h register) round.words (round.unwritten register out)));
   counter =
       kind_alone a l.register (Num (counter_range l slot))
-      (below (λ k. alone l.register (Num (counter_range l k))) (λ k b round. below_alone b l.register (Num (counter_range l k)) round.counter));
-  marks = marks_marked a h.marks (below (λ k. marked h.marks) (λ k b round. below_marked b h.marks round.marks));
+      (below (λ k. alone l.register (Num (counter_range l k))) (λ k b round. below_alone b l.register (Num (counter_range l k)) round.words round.counter));
+  marks = marks_marked a h.marks (below (λ k. marked h.marks) (λ k b round. below_marked b h.marks round.words round.marks));
+  ranges = λ out. ranges_ranged a h.ranges (below (λ k. ranged h.ranges) (λ k b round. below_ranged b h.ranges (round.ranges out)));
+  words = words_all a (below (λ k. marked []) (λ k b round. below_all b round.words));
 }
 
 -- what comes to a slot behind the head
@@ -142,27 +148,30 @@ raised_unset p l place lowered register (Some b) h limits declared small other w
     let here : IsRaised p l lowered place b h = subst (λ (n : Loop). IsRaised p n lowered place b h) one.0 (subst (λ (i : ℕ). IsRaised p m lowered i b h) one.1 raised) in
     lowered_none p l lowered place register (kind_at b register) (kind_at h register) other written low (here.registers register small)
 
+-- where the loop stores nothing is known of any place of the stack where it was raised
+raised_wide : (p : Program) (l : Loop) (place : ℕ) (lowered : List Bool) (came : Option StateValue) (h : StateValue) → IsProgram p → IsDeclared p l place → IsRaisedIfAny p lowered l.head came (Some h) → HasStore p l → AreAllWhole h.ranges
+raised_wide p l place lowered None h limits declared raised stored = absurd raised
+raised_wide p l place lowered (Some b) h limits declared (stays none same) stored =
+    absurd (none place l declared.inside (ap (λ (n : Loop). n.head) (declared.is l)))
+raised_wide p l place lowered (Some b) h limits declared (raises m also inner at raised) stored =
+    let one = one_loop p m l also place limits inner declared at in
+    wide_is p m b h (subst (λ (n : Loop). HasStore p n) (sym one.0) stored) raised.ranges
+
 -- ---- from one slot to the next
 
 -- where nothing was known in the loop, what is known there may be anything
-ring_more : (p : Program) (l : Loop) (inner : ℕ → Option StateValue) (table : TableValue) (runs : Bool) (state : StateValue) (slot : ℕ) → StaysBelow p table runs state slot (ring l nothing) → StaysBelow p table runs state slot (ring l inner)
-ring_more p l inner table runs state slot below = record {
+below_more : (p : Program) (l : Loop) (inner : ℕ → Option StateValue) (table : TableValue) (runs : Bool) (state : StateValue) (slot : ℕ) → StaysBelow p table runs state slot (ring l nothing) → StaysBelow p table runs state slot (ring l inner)
+below_more p l inner table runs state slot below = record {
   known = λ k. grown k (knowledge_in table k) (below.known k);
   running = λ on next stands. covered next (below.running on next stands);
 }
   where
     covered : (k : ℕ) → IsCovered state (ring l nothing k) → IsCovered state (ring l inner k)
-    covered k was =
-        ring_any (λ o. IsCovered state o) l inner k
-        (λ behind. absurd (subst (λ (o : Option StateValue). IsCovered state o) (ring_behind l nothing k behind) was))
-        (below_all state)
+    covered k was = ring_more (λ o. IsCovered state o) l inner k (λ none. none) was
 
     grown : (k : ℕ) (o : Option StateValue) → IsCoveredIfAny o (ring l nothing k) → IsCoveredIfAny o (ring l inner k)
     grown k None was = tt
-    grown k (Some a) was =
-        ring_any (λ o. IsCovered a o) l inner k
-        (λ behind. absurd (subst (λ (o : Option StateValue). IsCovered a o) (ring_behind l nothing k behind) was))
-        (below_all a)
+    grown k (Some a) was = ring_more (λ o. IsCovered a o) l inner k (λ none. none) was
 
 -- the head of a loop is kept, so no running state stands there
 never_runs : (p : Program) (l : Loop) (place slot : ℕ) (was : Bool) → IsFormed p → IsDeclared p l place → l.head ≡ slot → (IsTrue was → IsKept p slot → ⊥) → was ≡ false
@@ -178,7 +187,7 @@ pub circle_next : Leaves → LoopsAreEntered → (v : VisitValue) (lowered now s
     → IsCircle v.program l place start old was before v.slot → IsCircle v.program l place start new runs after (v.slot + 1)
 circle_next laws entered v lowered now start old new was runs before after settled region insn l place limits form begins next plain proper whole declared same visit least circle = record {
   ahead = λ before_head. next_below (ring l nothing)
-      (any_followed (ring l nothing) (λ a is. (at_no_ring nothing a (omega (arith, before_head)), leads_outside laws v l nothing a insn form next begins comes (outside (omega (arith, before_head))))))
+      (any_followed (ring l nothing) (λ a is. (at_no_ring nothing a (whole_of a is) (omega (arith, before_head)), leads_outside laws v l nothing a insn form next begins comes (outside (omega (arith, before_head))) (whole_of a is))))
       (circle.ahead (omega (arith, before_head)));
   within = λ past upto. by_place (cases_lt l.head v.slot) past upto;
 }
@@ -202,29 +211,29 @@ circle_next laws entered v lowered now start old new was runs before after settl
         by_test false is = is
         by_test true is = absurd (omega (arith, before_head, (inside_of l v.slot is).0))
 
-    at_no_ring : (inner : ℕ → Option StateValue) (a : StateValue) → v.slot ≤ l.head → IsCovered a (ring l inner v.slot)
-    at_no_ring inner a upto = ring_any (λ o. IsCovered a o) l inner v.slot (λ behind. absurd (omega (arith, upto, behind.0))) (below_all a)
+    at_no_ring : (inner : ℕ → Option StateValue) (a : StateValue) → IsWhole a → v.slot ≤ l.head → IsCovered a (ring l inner v.slot)
+    at_no_ring inner a proper upto = ring_any (λ o. IsCovered a o) l inner v.slot (λ behind. absurd (omega (arith, upto, behind.0))) (below_all a (words_of a proper))
 
     here_whole : IfSome here IsWhole
     here_whole = comes_whole was before new v.slot proper (visit.extended.whole whole)
 
-    next_below : (above : ℕ → Option StateValue) → IsFollowedBelow above v.slot here insn → StaysBelow v.program old was before v.slot above → StaysBelow v.program new runs after (v.slot + 1) above
+    next_below : (above : ℕ → Option StateValue) → IsFollowedBelow (spill_of v.program.version) above v.slot here insn → StaysBelow v.program old was before v.slot above → StaysBelow v.program new runs after (v.slot + 1) above
     next_below above followed below = below_next v lowered now old new was runs before after insn above limits begins visit.plain least followed below
 
-    any_followed : (above : ℕ → Option StateValue) → ((a : StateValue) → here ≡ Some a → IsCovered a (above v.slot) × LeadsBelow above v.slot a insn) → IsFollowedBelow above v.slot here insn
+    any_followed : (above : ℕ → Option StateValue) → ((a : StateValue) → here ≡ Some a → IsCovered a (above v.slot) × LeadsBelow (spill_of v.program.version) above v.slot a insn) → IsFollowedBelow (spill_of v.program.version) above v.slot here insn
     any_followed above follows = by_here here refl
       where
-        by_here : (o : Option StateValue) → here ≡ o → IsFollowedBelow above v.slot o insn
+        by_here : (o : Option StateValue) → here ≡ o → IsFollowedBelow (spill_of v.program.version) above v.slot o insn
         by_here None is = tt
         by_here (Some a) is = follows a is
 
-    leads : (h a : StateValue) (around : ℕ → StateValue) → l.head ≤ v.slot → v.slot + 1 ≤ l.back → IsWhole a → IsAround v.program l h around → IsRound v.program l v.slot h a → LeadsBelow (ring l (λ k. Some (around k))) v.slot a insn
+    leads : (h a : StateValue) (around : ℕ → StateValue) → l.head ≤ v.slot → v.slot + 1 ≤ l.back → IsWhole a → IsAround v.program l h around → IsRound v.program l v.slot h a → LeadsBelow (spill_of v.program.version) (ring l (λ k. Some (around k))) v.slot a insn
     leads h a around above upto whole covers round =
         elim (cases_lt (v.slot + 1) l.back) [
-          | inl earlier ↦ leads_around laws v l h a around insn form next begins comes formed above (omega (arith, upto)) (λ last. omega (arith, last, earlier)) covers round
+          | inl earlier ↦ leads_around laws v l h a around insn form next begins comes formed above (omega (arith, upto)) (λ last. omega (arith, last, earlier)) whole covers round
           | inr past ↦
               let last : v.slot + 1 ≡ l.back = omega (arith, past, upto) in
-              subst (λ (i : Insn). LeadsBelow (ring l (λ k. Some (around k))) v.slot a i) (sym (counts_down last)) (leads_counted v l h a around declared.limits formed last whole covers round)
+              subst (λ (i : Insn). LeadsBelow (spill_of v.program.version) (ring l (λ k. Some (around k))) v.slot a i) (sym (counts_down last)) (leads_counted v l h a around declared.limits formed last whole covers round)
         ]
       where
         counts_down : v.slot + 1 ≡ l.back → insn ≡ step_down l
@@ -249,20 +258,25 @@ circle_next laws entered v lowered now start old new was runs before after settl
             none_some a same = cc
         by_known (Some h) is = record {
           head = head;
+          wide = raised_wide v.program l place lowered (visited_state was before old v.slot) h limits declared here_raised;
           unset = λ register small other written low.
               raised_unset v.program l place lowered register (visited_state was before old v.slot) h limits declared small other written (same (omega (arith, at, declared.limits.ordered)) register small ∙ low)
-              (subst (λ (k : ℕ). IsRaisedIfAny v.program lowered k (visited_state was before old v.slot) (Some h)) at
-              (subst (λ (o : Option StateValue). IsRaisedIfAny v.program lowered v.slot (visited_state was before old v.slot) o) is least.raised));
+              here_raised;
           below = λ around covers. next_below (ring l (λ k. Some (around k)))
               (any_followed (ring l (λ k. Some (around k))) (λ a found.
               let one : h ≡ a = same_some h a (sym is ∙ found) in (
-                at_no_ring (λ k. Some (around k)) a (omega (arith, at)),
+                at_no_ring (λ k. Some (around k)) a (whole_of a found) (omega (arith, at)),
                 leads h a around (omega (arith, at)) upto (whole_of a found) covers
-                    (subst (λ (b : StateValue). IsRound v.program l v.slot h b) one (subst (λ (k : ℕ). IsRound v.program l k h h) (sym at) (round_head laws.reflexive v.program l h declared.limits.ordered head))),
+                    (subst (λ (b : StateValue). IsRound v.program l v.slot h b) one (subst (λ (k : ℕ). IsRound v.program l k h h) (sym at) (round_head laws.reflexive v.program l h declared.limits.ordered (whole_of h is) head))),
               )))
-              (ring_more v.program l (λ k. Some (around k)) old was before v.slot (circle.ahead (omega (arith, at))));
+              (below_more v.program l (λ k. Some (around k)) old was before v.slot (circle.ahead (omega (arith, at))));
         }
           where
+            here_raised : IsRaisedIfAny v.program lowered l.head (visited_state was before old v.slot) (Some h)
+            here_raised =
+                subst (λ (k : ℕ). IsRaisedIfAny v.program lowered k (visited_state was before old v.slot) (Some h)) at
+                (subst (λ (o : Option StateValue). IsRaisedIfAny v.program lowered v.slot (visited_state was before old v.slot) o) is least.raised)
+
             same_some : (a b : StateValue) → Some a ≡ Some b → a ≡ b
             same_some a b is = cc
 
@@ -283,6 +297,7 @@ circle_next laws entered v lowered now start old new was runs before after settl
         never a raised = raised
     by_within past upto (Some h) turning = record {
       head = turning.head;
+      wide = turning.wide;
       unset = turning.unset;
       below = λ around covers. next_below (ring l (λ k. Some (around k)))
           (any_followed (ring l (λ k. Some (around k))) (λ a found.
@@ -331,6 +346,7 @@ circle_skip p l place start table runs state slot limits form declared none circ
     by_known None below = below_skip p table runs state slot (ring l nothing) none below
     by_known (Some h) turning = record {
       head = turning.head;
+      wide = turning.wide;
       unset = turning.unset;
       below = λ around covers. below_skip p table runs state slot (ring l (λ k. Some (around k))) none (turning.below around covers);
     }
@@ -341,7 +357,7 @@ circle_none p l place start table state entered least = record {
   ahead = λ upto. below_none p table state (ring l nothing) (least (ring l nothing) (record {
     known = entered.known;
     entry = entered.entry;
-    covered = ring_any (λ o. IsCovered entered.known o) l nothing 0 (λ behind. absurd (omega (arith, behind.0))) (below_all entered.known);
+    covered = ring_any (λ o. IsCovered entered.known o) l nothing 0 (λ behind. absurd (omega (arith, behind.0))) (below_all entered.known (words_whole entered.known.ranges entered.entry.ranges));
   }));
   within = λ past upto. absurd (omega (arith, past));
 }

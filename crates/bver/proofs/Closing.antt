@@ -11,6 +11,7 @@ use Rattle.bpf_insn.specs.Flow.{is_written}
 use Rattle.bpf_parts.specs.declared.operation.Condition.TheVariants.{NotEqual}
 use Rattle.bpf_parts.specs.declared.operation.Operand.TheVariants.{Immediate}
 use Rattle.bpf_parts.specs.declared.operation.Width.TheVariants.{Bits64}
+use Rattle.machine.specs.Laws.{is_store}
 use Rattle.machine.specs.Step.{insn_at}
 use Rattle.absdom_num.specs.declared.ranges.Range.{Range}
 use Rattle.absdom_num.specs.declared.refinement.Operands.{Operands}
@@ -22,20 +23,21 @@ use Rattle.absdom.specs.declared.kinds.AbsKind.{AbsKind}
 use Rattle.absdom.specs.declared.kinds.AbsKind.TheVariants.{Unset, Num, Ptr, Map}
 use Rattle.absdom.specs.Kinds.{IsKindBelow, number_of}
 use Rattle.absdom.specs.State.{StateValue, IsBelow, IsProper, IsWhole, kind_at, with_kind}
+use Rattle.absdom.specs.Places.{AreAllWhole}
 use Rattle.absdom.specs.Edges.{Edges, compared_edges, edge_state, refined_edges}
 use Rattle.absdom.specs.Laws.{AreEdgesBelow, RefineShrinks}
 use Rattle.bver_form.specs.Form.{IsFormed}
 use Rattle.bver_form.specs.Loops.{back_jump}
 use Rattle.bver_form.specs.Lowered.{is_lowered}
 use Rattle.bver.specs.Heads.{Falls, IsDeclared, is_number}
-use Rattle.bver.specs.Justified.{IsHead, IsWrittenBy, IsWrittenIn}
+use Rattle.bver.specs.Justified.{HasStore, IsHead, IsStoreAt, IsWrittenBy, IsWrittenIn}
 use Rattle.bver.specs.Leading.{jumping_state, taken_state}
 use Rattle.bver.proofs.Counters.{holds_at}
-use Rattle.bver.proofs.Raising.{frame_kept, unwritten}
-use Rattle.bver.proofs.Rounds.{IsRound, closes, kind_less}
+use Rattle.bver.proofs.Raising.{frame_kept, unstored, unwritten}
+use Rattle.bver.proofs.Rounds.{IsRound, closes, kind_less, ranges_less}
 use Rattle.bver.proofs.Turns.{Leaves, range_back}
 
--- ---- which registers a loop writes
+-- ---- which registers a loop writes, and whether it stores
 
 writes_at : (o : Option Insn) (register : ℕ) → IsWrittenBy o register ⊎ (IsWrittenBy o register → ⊥)
 writes_at None register = inr (λ writes. writes)
@@ -45,19 +47,34 @@ writes_at (Some insn) register = by_test (is_written insn register) refl
     by_test true is = inl is
     by_test false is = inr (λ writes. false≢true (sym is ∙ writes))
 
-written_below : (p : Program) (l : Loop) (register n : ℕ) → l.head + n ≤ l.back + 1 → IsWrittenIn p l register ⊎ ((k : ℕ) → l.head ≤ k → k < l.head + n → IsWrittenBy (insn_at p k) register → ⊥)
-written_below p l register zero inside = inr (λ k above below. absurd (omega (arith, above, below)))
-written_below p l register (suc n) inside =
-    elim (written_below p l register n (omega (arith, inside))) [
-      | inl written ↦ inl written
-      | inr none ↦ elim (writes_at (insn_at p (l.head + n)) register) [
-        | inl writes ↦ inl (record { slot = l.head + n; inside = holds_at l (l.head + n) (omega arith) (omega (arith, inside)); writes = writes })
+stores_at : (o : Option Insn) → IsStoreAt o ⊎ (IsStoreAt o → ⊥)
+stores_at None = inr (λ stores. stores)
+stores_at (Some insn) = by_test (is_store insn) refl
+  where
+    by_test : (t : Bool) → is_store insn ≡ t → IsTrue (is_store insn) ⊎ (IsTrue (is_store insn) → ⊥)
+    by_test true is = inl is
+    by_test false is = inr (λ stores. false≢true (sym is ∙ stores))
+
+-- an instruction of the loop's first ones is so
+record IsFound (Q : Option Insn → Type 0) (p : Program) (l : Loop) (n : ℕ) : Type 0 where
+  slot : ℕ
+  above : l.head ≤ slot
+  below : slot < l.head + n
+  is : Q (insn_at p slot)
+
+found_below : (Q : Option Insn → Type 0) → ((o : Option Insn) → Q o ⊎ (Q o → ⊥)) → (p : Program) (l : Loop) (n : ℕ) → IsFound Q p l n ⊎ ((k : ℕ) → l.head ≤ k → k < l.head + n → Q (insn_at p k) → ⊥)
+found_below Q decides p l zero = inr (λ k above below. absurd (omega (arith, above, below)))
+found_below Q decides p l (suc n) =
+    elim (found_below Q decides p l n) [
+      | inl found ↦ inl (record { slot = found.slot; above = found.above; below = omega (arith, found.below); is = found.is })
+      | inr none ↦ elim (decides (insn_at p (l.head + n))) [
+        | inl is ↦ inl (record { slot = l.head + n; above = omega arith; below = omega arith; is = is })
         | inr not ↦ inr (λ k above below.
             elim (cases_lt k (l.head + n)) [
               | inl earlier ↦ none k above earlier
               | inr past ↦
                   let same : l.head + n ≡ k = omega (arith, past, below) in
-                  subst (λ (i : ℕ). IsWrittenBy (insn_at p i) register → ⊥) same not
+                  subst (λ (i : ℕ). Q (insn_at p i) → ⊥) same not
             ])
       ]
     ]
@@ -65,9 +82,17 @@ written_below p l register (suc n) inside =
 -- whether a loop writes a register
 written_or_not : (p : Program) (l : Loop) → l.head < l.back → (register : ℕ) → IsWrittenIn p l register ⊎ (IsWrittenIn p l register → ⊥)
 written_or_not p l ordered register =
-    elim (written_below p l register (l.back + 1 - l.head) (omega (arith, ordered))) [
-      | inl written ↦ inl written
+    elim (found_below (λ o. IsWrittenBy o register) (λ o. writes_at o register) p l (l.back + 1 - l.head)) [
+      | inl found ↦ inl (record { slot = found.slot; inside = holds_at l found.slot found.above (omega (arith, found.below, ordered)); writes = found.is })
       | inr none ↦ inr (unwritten p l register (λ k above below. none k above (omega (arith, below, ordered))))
+    ]
+
+-- whether a loop stores
+stored_or_not : (p : Program) (l : Loop) → l.head < l.back → HasStore p l ⊎ (HasStore p l → ⊥)
+stored_or_not p l ordered =
+    elim (found_below IsStoreAt stores_at p l (l.back + 1 - l.head)) [
+      | inl found ↦ inl (record { slot = found.slot; inside = holds_at l found.slot found.above (omega (arith, found.below, ordered)); stores = found.is })
+      | inr none ↦ inr (unstored p l (λ k above below. none k above (omega (arith, below, ordered))))
     ]
 
 -- ---- the counter of the edge back
@@ -142,13 +167,13 @@ written_small p l h register form whole written number =
     ]
 
 -- an edge back on which each register that falls was lowered before is covered at the head
-pub back_covered : Leaves → (p : Program) (l : Loop) (place : ℕ) (start lowered : List Bool) (h a edge : StateValue) → IsFormed p → IsDeclared p l place → IsWhole h → IsWhole a → IsWhole edge → IsHead p l h
+pub back_covered : Leaves → (p : Program) (l : Loop) (place : ℕ) (start lowered : List Bool) (h a edge : StateValue) → IsFormed p → IsDeclared p l place → IsWhole h → IsWhole a → IsWhole edge → IsHead p l h → (HasStore p l → AreAllWhole h.ranges)
     → ((register : ℕ) → register ≤ 9 → register ≢ l.register → IsWrittenIn p l register → IsTrue (is_lowered start place register) → is_number (kind_at h register) ≡ false)
     → ((register : ℕ) → register ≤ 9 → is_lowered lowered place register ≡ is_lowered start place register)
     → IsRound p l l.back h a → jumping_state a (back_jump l) ≡ Some edge
     → ((register : ℕ) → register ≤ 9 → Falls (record { program = p; declared = l; place = place }) (Some h) edge register → IsTrue (is_lowered lowered place register))
     → IsBelow edge h
-back_covered laws p l place start lowered h a edge form declared h_whole a_whole edge_whole head unset same round is fallen =
+back_covered laws p l place start lowered h a edge form declared h_whole a_whole edge_whole head wide unset same round is fallen =
     closes p l h edge edge_whole head
     (λ register out. kind_less laws.transitive (kind_at edge register) (kind_at a register) (kind_at h register) (below.kinds register) (round.unwritten register out))
     (counter_back l a edge declared.limits a_whole (rw (range_back l) at round.counter) is)
@@ -156,6 +181,9 @@ back_covered laws p l place start lowered h a edge form declared h_whole a_whole
     numbers
     (written_or_not p l declared.limits.ordered)
     (λ register. cases_eq register l.register)
+    wide
+    (λ out. ranges_less edge.ranges a.ranges h.ranges below.ranges (round.ranges out))
+    (stored_or_not p l declared.limits.ordered)
   where
     below : IsBelow edge a
     below = back_below laws.shrinks l a edge is

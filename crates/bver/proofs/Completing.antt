@@ -17,6 +17,8 @@ use Rattle.absdom.specs.declared.kinds.AbsKind.TheVariants.{Unset}
 use Rattle.absdom.specs.Edges.{Edges, refined_edges}
 use Rattle.absdom.specs.State.{StateValue, IsBelow, IsWhole, kind_at}
 use Rattle.absdom.specs.Laws.{ApplyGrows, ApplyLeaves, BelowIsReflexive, BelowIsTransitive, CallGrows, CallLeaves, RefineGrows, RefineShrinks}
+use Rattle.absdom.specs.declared.spill.Spill.{Spill}
+use Rattle.absdom.specs.Spill.{spill_of}
 use Rattle.bver_form.specs.declared.refusal.Refused.{Refused}
 use Rattle.bver_form.specs.Form.{IsFormed}
 use Rattle.bver_form.specs.Jumps.{target}
@@ -76,8 +78,8 @@ declared_once : (p : Program) (l m : Loop) (place : ℕ) → IsDeclared p l plac
 declared_once p l m place f g = sym (f.is l) ∙ g.is l
 
 -- what is known along the jump of a permitted instruction is covered where it leads
-back_leads : (sizes : Maps) (above : ℕ → Option StateValue) (l : Loop) (a edge : StateValue) → l.head ≤ l.back → IsPermitted sizes above l.back a (back_jump l) → jumping_state a (back_jump l) ≡ Some edge → IsCovered edge (above l.head)
-back_leads sizes above l a edge ordered permitted is =
+back_leads : (spill : Spill) (sizes : Maps) (above : ℕ → Option StateValue) (l : Loop) (a edge : StateValue) → l.head ≤ l.back → IsPermitted spill sizes above l.back a (back_jump l) → jumping_state a (back_jump l) ≡ Some edge → IsCovered edge (above l.head)
+back_leads spill sizes above l a edge ordered permitted is =
     subst (λ (z : ℤ). IsCovered edge (knowledge_at above z)) (to_head l.head l.back ordered) (by_edges (refined_edges a NotEqual Bits64 l.register (Immediate (pos 0))) permitted is)
   where
     by_edges : (r : Result Edges Cause) → AreEdgesCovered r (knowledge_at above (target l.back (negsuc (l.back - l.head)))) (above (l.back + 1)) → taken_state r ≡ Some edge → IsCovered edge (knowledge_at above (target l.back (negsuc (l.back - l.head))))
@@ -103,9 +105,9 @@ keeps_lowered order v lowered now known here insn above form begins whole covere
         let one : l ≡ m = declared_once v.program l m place declared back.is in
         let here_is : above m.head ≡ Some d = ap (λ (n : Loop). above n.head) (sym one) ∙ there in
         let insn_is : insn ≡ back_jump m = jumps_back v.program m place v.slot insn form back.is back.back begins in
-        let permitted : IsPermitted v.sizes above v.slot a insn = permitted_there order v.program v.sizes above v.slot a insn h begins proper below in
-        let back_permitted : IsPermitted v.sizes above m.back a (back_jump m) = subst (λ (k : ℕ). IsPermitted v.sizes above k a (back_jump m)) (sym back.back) (subst (λ (i : Insn). IsPermitted v.sizes above v.slot a i) insn_is permitted) in
-        let leads : IsCovered edge (above m.head) = back_leads v.sizes above m a edge (omega (arith, back.is.limits.ordered)) back_permitted (subst (λ (i : Insn). jumping_state a i ≡ Some edge) insn_is is) in
+        let permitted : IsPermitted (spill_of v.program.version) v.sizes above v.slot a insn = permitted_there order v.program v.sizes above v.slot a insn h begins proper below in
+        let back_permitted : IsPermitted (spill_of v.program.version) v.sizes above m.back a (back_jump m) = subst (λ (k : ℕ). IsPermitted (spill_of v.program.version) v.sizes above k a (back_jump m)) (sym back.back) (subst (λ (i : Insn). IsPermitted (spill_of v.program.version) v.sizes above v.slot a i) insn_is permitted) in
+        let leads : IsCovered edge (above m.head) = back_leads (spill_of v.program.version) v.sizes above m a edge (omega (arith, back.is.limits.ordered)) back_permitted (subst (λ (i : Insn). jumping_state a i ≡ Some edge) insn_is is) in
         falls_unset (record { program = v.program; declared = m; place = place }) (known m.head) edge d register
         (subst (λ (n : Loop). register ≢ n.register) one other)
         (subst (λ (o : Option StateValue). IfSome o (IsHead v.program m)) here_is (head_in v.program v.sizes above m place h back.is))
@@ -223,7 +225,7 @@ back_refuted rules v start lowered old was before insn form begins plain whole h
         let round_came : IsRound v.program l v.slot d a = subst (λ (o : Option StateValue). IfSome o (IsRound v.program l v.slot d)) came (comes_round v.program l u.place start old was before v.slot d insn begins plain behind turning) in
         let round_here : IsRound v.program l v.slot d here = raised_round v.program l u.place lowered v.slot d (Some a) (Some here) form u.is behind refused.0 refused.1 refused.2 round_came in
         let d_whole : IsWhole d = subst (λ (o : Option StateValue). IfSome o IsWhole) is (whole l.head) in
-        let below : IsBelow edge d = back_covered (leaves_of rules) v.program l u.place start lowered d here edge form u.is d_whole refused.1 u.whole turning.head turning.unset
+        let below : IsBelow edge d = back_covered (leaves_of rules) v.program l u.place start lowered d here edge form u.is d_whole refused.1 u.whole turning.head turning.wide turning.unset
         (h.same l u.place u.is behind.1) (subst (λ (k : ℕ). IsRound v.program l k d here) (sym u.back) round_here) (subst (λ (i : Insn). jumping_state here i ≡ Some edge) insn_is refused.3)
         (λ register small falls. u.fallen register small (subst (λ (o : Option StateValue). Falls (record { program = v.program; declared = l; place = u.place }) o edge register) (sym is) falls)) in
         u.uncovered (subst (λ (o : Option StateValue). IsCovered edge o) (sym is) below)

@@ -19,3 +19,4 @@ pub mod Turns
 pub mod Circles
 pub mod Closing
 pub mod Completing
+pub mod Bare

@@ -12,6 +12,7 @@ use Rattle.machine.specs.declared.regions.Region.{Region}
 use Rattle.machine.specs.Step.{insn_at}
 use Rattle.absdom.specs.State.{StateValue, IsWhole}
 use Rattle.absdom.specs.Laws.{BelowIsReflexive, BelowIsTransitive}
+use Rattle.absdom.specs.Spill.{spill_of}
 use Rattle.bver.specs.Heads.{AreHeadsAt}
 use Rattle.bver.specs.Justified.{IsCoveredIfAny, IsPermitted, IsPermittedAt, region_at}
 use Rattle.bver.specs.Table.{TableValue, AreEntries, knowledge_beside, knowledge_in}
@@ -215,9 +216,9 @@ passing_next reflexive transitive p sizes old new was runs before after regions 
       inside;
   permitted = λ settles.
       permitted_next transitive p sizes h.known known slot (h.permitted (earlier settles)) grows
-      (subst (λ (o : Option StateValue). IsPermittedAt sizes known slot o (insn_at p slot)) (sym at)
-      (subst (λ (i : Option Insn). IsPermittedAt sizes known slot here i) (sym v.begins)
-      (permitted_at_more transitive sizes onward known slot here (Some insn) reaches (v.visit.permitted (now settles)))));
+      (subst (λ (o : Option StateValue). IsPermittedAt (spill_of p.version) sizes known slot o (insn_at p slot)) (sym at)
+      (subst (λ (i : Option Insn). IsPermittedAt (spill_of p.version) sizes known slot here i) (sym v.begins)
+      (permitted_at_more transitive (spill_of p.version) sizes onward known slot here (Some insn) reaches (v.visit.permitted (now settles)))));
   whole = v.visit.extended.whole h.whole;
   state_whole = v.after_whole;
   ahead = λ k past. revised_after h.known slot here onward k (omega (arith, past));
@@ -292,7 +293,7 @@ passing_skip reflexive transitive p sizes table runs state regions settled slot 
       inside;
   permitted = λ settles.
       permitted_next transitive p sizes h.known h.known slot (h.permitted settles) grows
-      (subst (λ (o : Option StateValue). IsPermittedAt sizes h.known slot o (insn_at p slot)) (sym nothing) tt);
+      (subst (λ (o : Option StateValue). IsPermittedAt (spill_of p.version) sizes h.known slot o (insn_at p slot)) (sym nothing) tt);
   whole = h.whole;
   state_whole = h.state_whole;
   ahead = λ k past. h.ahead k (omega (arith, past));
@@ -371,11 +372,11 @@ passing_slot reflexive transitive p sizes old new was runs before after regions 
 
 -- the visit of an instruction: what comes to it, and what its flow does
 pub insn_visit : BelowIsTransitive → (v : VisitValue) (old mid new : TableValue) (was runs : Bool) (before here left : StateValue) (settled : Type 0) (region : Option Region) (insn : Insn)
-    → visited_state was before mid v.slot ≡ Some here → (settled → IsPermitted v.sizes (knowledge_beside new runs (v.slot + slots_of insn) left) v.slot here insn) → region ≡ region_at (Some here) (Some insn)
+    → visited_state was before mid v.slot ≡ Some here → (settled → IsPermitted (spill_of v.program.version) v.sizes (knowledge_beside new runs (v.slot + slots_of insn) left) v.slot here insn) → region ≡ region_at (Some here) (Some insn)
     → AreHeadsAt v.program v.slot (visited_state was before mid v.slot) → (IsTrue runs → IsPlain v.program (v.slot + slots_of insn)) → IsExtended v.slot old mid → IsExtended (v.slot + 1) mid new
     → IsInsnVisit v old new was runs before left settled region insn
 insn_visit transitive v old mid new was runs before here left settled region insn known permits accesses heads plain first second = record {
-  permitted = λ settles. subst (λ (o : Option StateValue). IsPermittedAt v.sizes (knowledge_beside new runs (v.slot + slots_of insn) left) v.slot o (Some insn)) (sym there) (permits settles);
+  permitted = λ settles. subst (λ (o : Option StateValue). IsPermittedAt (spill_of v.program.version) v.sizes (knowledge_beside new runs (v.slot + slots_of insn) left) v.slot o (Some insn)) (sym there) (permits settles);
   accesses = subst (λ (o : Option StateValue). region ≡ region_at o (Some insn)) (sym there) accesses;
   heads = subst (λ (o : Option StateValue). AreHeadsAt v.program v.slot o) (sym same) heads;
   plain = plain;

@@ -1,5 +1,5 @@
 -- What is known at the head of a loop is raised, register by register.
-use Rattle.std.proofs.Common.{◌≡◌, ◌≢◌, ℕ, zero, suc, ◌+◌, ◌<◌, ◌≤◌, Bool, true, false, List, [], ◌∷◌, length, Option, None, Some, inl, inr, eqb, refl, sym, subst, ◌∙◌, arith, get_or-set_same, get_or-set_other}
+use Rattle.std.proofs.Common.{◌≡◌, ◌≢◌, ℕ, zero, suc, ◌+◌, ◌<◌, ◌≤◌, Bool, true, false, List, [], ◌∷◌, length, Option, None, Some, inl, inr, eqb, refl, sym, ap, subst, ◌∙◌, arith, get_or-set_same, get_or-set_other}
 use Rattle.std.specs.Prelude.{IfSome, ◌==◌, ◌&&◌, slice_index_or}
 use Rattle.std.specs.List.{list_any}
 use Rattle.std.proofs.lemmas.Bool.{cases_lt, false≢true}
@@ -15,28 +15,36 @@ use Rattle.absdom_num.specs.Tables.{whole_range}
 use Rattle.absdom.specs.declared.kinds.AbsKind.{AbsKind}
 use Rattle.absdom.specs.declared.kinds.AbsKind.TheVariants.{Unset, Num, Ptr, Map}
 use Rattle.absdom.specs.Kinds.{IsKindBelow}
-use Rattle.absdom.specs.State.{StateValue, IsBelow, kind_at, with_kind}
+use Rattle.absdom.specs.State.{StateValue, IsBelow, kind_at, kind_in, with_kind}
 use Rattle.absdom.specs.State.{IsWhole, IsProper}
 use Rattle.absdom.specs.Laws.{BelowIsReflexive}
+use Rattle.absdom.specs.Places.{AreAllWhole, AreRangesWithin}
 use Rattle.bver_form.specs.Form.{IsFormed}
 use Rattle.bver_form.specs.Jumps.{is_loop_back}
-use Rattle.bver.specs.Justified.{IsHead, IsOpen, IsWrittenBy, IsWrittenIn}
-use Rattle.bver.specs.Heads.{IsDeclared, IsRaised, IsRaisedKind, IsWithinBound, counts, opens, keeps, opened_kind}
+use Rattle.bver.specs.Justified.{HasStore, IsHead, IsOpen, IsStoreAt, IsWrittenBy, IsWrittenIn}
+use Rattle.bver.specs.Heads.{AreRaisedRanges, IsDeclared, IsRaised, IsRaisedKind, IsWithinBound, counts, opens, keeps, opened_kind, retains, widens}
 use Rattle.bver_form.specs.Lowered.{is_lowered}
 use Rattle.bver.proofs.Counters.{inside_of, holds_at, loop_in, from_eqb}
 
--- the registers below one were raised
+-- the registers below one were raised, and the ranges of places
 pub record IsRaising (p : Program) (l : Loop) (lowered : List Bool) (place : ℕ) (before now : StateValue) (from : ℕ) : Type 0 where
   pub done : (register : ℕ) → register < from → IsRaisedKind p l lowered place register (kind_at before register) (kind_at now register)
   pub rest : (register : ℕ) → from ≤ register → kind_at now register ≡ kind_at before register
   pub marks : now.marks ≡ before.marks
+  pub ranges : AreRaisedRanges p l before now
 
-pub raising_none : (p : Program) (l : Loop) (lowered : List Bool) (place : ℕ) (before : StateValue) → IsRaising p l lowered place before before 0
-raising_none p l lowered place before = record {
+pub raising_none : (p : Program) (l : Loop) (lowered : List Bool) (place : ℕ) (before now : StateValue) → now.kinds ≡ before.kinds → now.marks ≡ before.marks → AreRaisedRanges p l before now → IsRaising p l lowered place before now 0
+raising_none p l lowered place before now kinds marks ranges = record {
   done = λ register below. absurd (omega arith);
-  rest = λ register past. refl;
-  marks = refl;
+  rest = λ register past. ap (λ (ks : List AbsKind). kind_in ks register) kinds;
+  marks = marks;
+  ranges = ranges;
 }
+
+-- a register that is written leaves the ranges
+ranges_stay : (p : Program) (l : Loop) (before now : StateValue) (register : ℕ) (kind : AbsKind) → AreRaisedRanges p l before now → AreRaisedRanges p l before (with_kind now register kind)
+ranges_stay p l before now register kind (widens stored is) = widens stored is
+ranges_stay p l before now register kind (retains out is) = retains out is
 
 pub raising_next : (p : Program) (l : Loop) (lowered : List Bool) (place : ℕ) (before now : StateValue) (from : ℕ) (kind : AbsKind) → IsWhole now → from ≤ 9 → IsRaising p l lowered place before now from → IsRaisedKind p l lowered place from (kind_at now from) kind → IsRaising p l lowered place before (with_kind now from kind) (from + 1)
 raising_next p l lowered place before now from kind whole_range low raising raised = record {
@@ -47,6 +55,7 @@ raising_next p l lowered place before now from kind whole_range low raising rais
       ];
   rest = λ register past. get_or-set_other now.kinds from register kind Unset (beyond register past) ∙ raising.rest register (omega (arith, past));
   marks = raising.marks;
+  ranges = ranges_stay p l before now from kind raising.ranges;
 }
   where
     apart : (register : ℕ) → register < from → register ≢ from
@@ -68,6 +77,7 @@ raising_all p l lowered place before now raising = record {
   registers = λ register low. raising.done register (omega (arith, low));
   frame = raising.rest 10 (omega arith);
   marks = raising.marks;
+  ranges = raising.ranges;
 }
 
 -- a loop none of whose slots writes the register
@@ -78,6 +88,15 @@ unwritten p l register none h =
 
 pub written_at : (p : Program) (l : Loop) (register slot : ℕ) → l.head ≤ slot → slot < l.back + 1 → IsWrittenBy (insn_at p slot) register → IsWrittenIn p l register
 written_at p l register slot above below writes = record { slot = slot; inside = holds_at l slot above (omega (arith, below)); writes = writes }
+
+-- a loop none of whose slots stores
+pub unstored : (p : Program) (l : Loop) → ((k : ℕ) → l.head ≤ k → k < l.back + 1 → IsStoreAt (insn_at p k) → ⊥) → HasStore p l → ⊥
+unstored p l none h =
+    let within = inside_of l h.slot h.inside in
+    none h.slot within.0 (omega (arith, within.1)) h.stores
+
+pub stored_at : (p : Program) (l : Loop) (slot : ℕ) → l.head ≤ slot → slot < l.back + 1 → IsStoreAt (insn_at p slot) → HasStore p l
+stored_at p l slot above below stores = record { slot = slot; inside = holds_at l slot above (omega (arith, below)); stores = stores }
 
 -- an element does not depend on what stands for the others
 pub any_default : (xs : List Loop) (k : ℕ) (d e : Loop) → k < length xs → slice_index_or xs k d ≡ slice_index_or xs k e
@@ -124,7 +143,7 @@ declared_at p l place limits inside is = record { inside = inside; is = is; few 
 
 -- each kind is below itself, since each state is
 pub kind_below-refl : BelowIsReflexive → (k : AbsKind) → IsKindBelow k k
-kind_below-refl reflexive k = (reflexive (record { kinds = k ∷ []; marks = [] })).kinds 0
+kind_below-refl reflexive k = (reflexive (record { kinds = k ∷ []; marks = []; ranges = [] })).kinds 0
 
 -- ---- what is raised stands for every pass, and covers what was known
 
@@ -180,6 +199,15 @@ frame_kept p slot (Some insn) is form writes =
     let clobbered = frame_clobbered (flow_of insn) in
     false≢true (sym (rw (named, clobbered) refl) ∙ writes)
 
+-- where the loop stores, nothing is known of any place
+pub wide_is : (p : Program) (l : Loop) (before after : StateValue) → HasStore p l → AreRaisedRanges p l before after → AreAllWhole after.ranges
+wide_is p l before after stored (widens s is) = is
+wide_is p l before after stored (retains out is) = absurd (out stored)
+
+ranges_are : (p : Program) (l : Loop) (before after : StateValue) → IsWhole before → AreRaisedRanges p l before after → AreRangesWithin before.ranges after.ranges
+ranges_are p l before after proper (widens stored is) k = rw (is k) (record { above = omega arith; below = omega (arith, (proper.ranges k).words) })
+ranges_are p l before after proper (retains out is) k = rw is (record { above = omega arith; below = omega arith })
+
 pub raised_head : (p : Program) (l : Loop) (lowered : List Bool) (place : ℕ) (before after : StateValue) → IsFormed p → l.register ≤ 9 → IsWhole after → IsRaised p l lowered place before after → IsHead p l after
 raised_head p l lowered place before after form low whole_range raised = record {
   counter = counter_is p l lowered place l.register (kind_at before l.register) (kind_at after l.register) refl (raised.registers l.register low);
@@ -191,6 +219,7 @@ raised_head p l lowered place before after form low whole_range raised = record 
           | inr at ↦ absurd (frame_kept p written.slot (insn_at p written.slot) refl form (subst (λ (r : ℕ). IsWrittenBy (insn_at p written.slot) r) (omega (arith, past, at)) written.writes))
         ]
       ];
+  places = λ keeps stored. wide_is p l before after stored raised.ranges;
 }
 
 pub raised_above : BelowIsReflexive → (p : Program) (l : Loop) (lowered : List Bool) (place : ℕ) (before after : StateValue) → IsWhole before → IsWhole after → IsWithinBound l before → IsRaised p l lowered place before after → IsBelow before after
@@ -206,4 +235,5 @@ raised_above reflexive p l lowered place before after proper new_proper within r
         ]
       ];
   marks = λ mark is. rw (sym raised.marks) is;
+  ranges = ranges_are p l before after proper raised.ranges;
 }

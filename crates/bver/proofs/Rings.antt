@@ -14,6 +14,7 @@ use Rattle.absdom.specs.Edges.{Edges}
 use Rattle.absdom.specs.Effect.{after_insn}
 use Rattle.absdom.specs.State.{StateValue, IsBelow, after_call}
 use Rattle.absdom.specs.Laws.{ApplyLeaves, AreEdgesBelow, BelowIsReflexive, CallLeaves, IsLeftBy, RefineShrinks}
+use Rattle.absdom.specs.Spill.{spill_of}
 use Rattle.bver_form.specs.Form.{IsFormed}
 use Rattle.bver_form.specs.Jumps.{IsFirstSlot, IsJump, target}
 use Rattle.bver_form.specs.Loops.{GoesTo, IsEdge}
@@ -57,19 +58,29 @@ ring_any P l inner k behind other = by_tests (nat_lt l.head k) refl (nat_le k l.
     by_tests true is false also = other
     by_tests false is u also = other
 
+-- where nothing was known in the loop anything may be
+pub ring_more : (P : Option StateValue → Type 0) (l : Loop) (inner : ℕ → Option StateValue) (k : ℕ) → (P None → ⊥) → P (ring l (λ i. None) k) → P (ring l inner k)
+unfolding ring
+ring_more P l inner k none was = by_tests (nat_lt l.head k) (nat_le k l.back) was
+  where
+    by_tests : (t u : Bool) → P (if t && u then None else Some (marked [])) → P (if t && u then inner k else Some (marked []))
+    by_tests true true was = absurd (none was)
+    by_tests true false was = was
+    by_tests false u was = was
+
 -- ---- where an instruction leads
 
 -- what is known along each edge leaves what the instruction does not write, or says more
 pub leads_by : ApplyLeaves → CallLeaves → RefineShrinks → BelowIsReflexive → (v : VisitValue) (above : ℕ → Option StateValue) (a : StateValue) (insn : Insn) → IsFormed v.program → HasNext v insn → insn_at v.program v.slot ≡ Some insn
     → ((k : ℕ) (b : StateValue) → IsEdge v.program v.slot k → IsSome (insn_at v.program k) → IsLeftBy insn a b ⊎ IsBelow b a → IsCovered b (above k))
-    → LeadsBelow above v.slot a insn
+    → LeadsBelow (spill_of v.program.version) above v.slot a insn
 leads_by leaves calls shrinks reflexive v above a insn form next begins cover = by_insn insn next begins cover
   where
     Covers : Insn → Type 0
     Covers insn = (k : ℕ) (b : StateValue) → IsEdge v.program v.slot k → IsSome (insn_at v.program k) → IsLeftBy insn a b ⊎ IsBelow b a → IsCovered b (above k)
 
-    goes_on : (insn : Insn) → IsNext v (slots_of insn) → GoesTo (flow_of insn) v.slot (v.slot + slots_of insn) (v.slot + slots_of insn) → insn_at v.program v.slot ≡ Some insn → Covers insn → GivesBelow (after_insn a insn) (above (v.slot + slots_of insn))
-    goes_on insn next goes begins cover = by_result (after_insn a insn) (leaves a insn)
+    goes_on : (insn : Insn) → IsNext v (slots_of insn) → GoesTo (flow_of insn) v.slot (v.slot + slots_of insn) (v.slot + slots_of insn) → insn_at v.program v.slot ≡ Some insn → Covers insn → GivesBelow (after_insn (spill_of v.program.version) a insn) (above (v.slot + slots_of insn))
+    goes_on insn next goes begins cover = by_result (after_insn (spill_of v.program.version) a insn) (leaves (spill_of v.program.version) a insn)
       where
         by_result : (r : Result StateValue Cause) → IfOk r (IsLeftBy insn a) → GivesBelow r (above (v.slot + slots_of insn))
         by_result (Err cause) left = tt
@@ -82,7 +93,7 @@ leads_by leaves calls shrinks reflexive v above a insn form next begins cover = 
         by_target (pos k) is first = cover k b (record { insn = insn; begins = begins; goes = goes k is }) first (inr below)
         by_target (negsuc n) is first = absurd first
 
-    by_insn : (insn : Insn) → HasNext v insn → insn_at v.program v.slot ≡ Some insn → Covers insn → LeadsBelow above v.slot a insn
+    by_insn : (insn : Insn) → HasNext v insn → insn_at v.program v.slot ≡ Some insn → Covers insn → LeadsBelow (spill_of v.program.version) above v.slot a insn
     by_insn (Alu op width dst src) next begins cover = goes_on (Alu op width dst src) next refl begins cover
     by_insn (Negate width dst) next begins cover = goes_on (Negate width dst) next refl begins cover
     by_insn (MoveSigned extension dst src) next begins cover = goes_on (MoveSigned extension dst src) next refl begins cover

@@ -1,32 +1,61 @@
 -- What is known in a loop says all that its head says of what the loop does not write. So an edge back to the head
 -- that lowers nothing is covered there.
 use Rattle.std.proofs.Common.{◌≡◌, ◌≢◌, ℕ, zero, suc, ◌-◌, Bool, true, false, List, [], ◌∷◌, Option, Some, ◌⊎◌, inl, inr, refl, sym, subst, arith}
-use Rattle.std.specs.Prelude.{IsTrue, ◌==◌, if◌then◌else◌}
+use Rattle.std.specs.Prelude.{IsTrue, ◌==◌, ◌^◌, if◌then◌else◌}
 use Rattle.std.proofs.lemmas.Bool.{false≢true}
 use Rattle.bpf.specs.declared.loops.Loop.{Loop}
 use Rattle.bpf.specs.Program.{Program}
 use Rattle.bpf_insn.specs.Flow.{is_written}
 use Rattle.bpf_insn.specs.declared.insn.Insn.{Insn}
+use Rattle.machine.specs.Laws.{is_store}
 use Rattle.machine.specs.Step.{insn_at}
+use Rattle.absdom_num.specs.declared.ranges.Range.{Range}
 use Rattle.absdom.specs.declared.kinds.AbsKind.{AbsKind}
 use Rattle.absdom.specs.declared.kinds.AbsKind.TheVariants.{Unset, Num, Ptr, Map}
 use Rattle.absdom.specs.Kinds.{IsKindBelow}
 use Rattle.absdom.specs.Marks.{AreMarkedIn}
-use Rattle.absdom.specs.State.{StateValue, IsBelow, IsWhole, IsProper, kind_at, kind_in}
+use Rattle.absdom.specs.Places.{AreAllWhole, AreRangesWithin}
+use Rattle.absdom.specs.State.{StateValue, IsBelow, IsWhole, IsProper, kind_at, kind_in, range_at}
 use Rattle.absdom.specs.Laws.{BelowIsTransitive, IsLeftBy}
 use Rattle.bver_form.specs.Loops.{holds}
 use Rattle.bver.specs.Heads.{is_number}
-use Rattle.bver.specs.Justified.{IsHead, IsOpen, IsWrittenBy, IsWrittenIn}
+use Rattle.bver.specs.Justified.{HasStore, IsHead, IsOpen, IsStoreAt, IsWrittenBy, IsWrittenIn}
 
 -- the values of a loop's counter at a slot of it: at the back it was taken down already
 abbrev pub counter_range : Loop → (slot : ℕ) → ℕ × ℕ
 counter_range l slot = if slot == l.back then (0, l.bound - 1) else (1, l.bound)
+
+-- the ranges are of words
+abbrev pub AreWords : List Range → Type 0
+AreWords ranges = AreRangesWithin ranges []
 
 -- what is known at a slot of the loop says all that is known at its head, but of what the loop writes
 pub record IsRound (p : Program) (l : Loop) (slot : ℕ) (head a : StateValue) : Type 0 where
   pub unwritten : (register : ℕ) → (IsWrittenIn p l register → ⊥) → IsKindBelow (kind_at a register) (kind_at head register)
   pub counter : IsKindBelow (kind_at a l.register) (Num (counter_range l slot))
   pub marks : AreMarkedIn head.marks a.marks
+  pub ranges : (HasStore p l → ⊥) → AreRangesWithin a.ranges head.ranges
+  pub words : AreWords a.ranges
+
+-- ---- ranges of places
+
+-- those of a whole state are of words
+pub words_of : (a : StateValue) → IsWhole a → AreWords a.ranges
+words_of a whole k = record { above = omega arith; below = omega (arith, (whole.ranges k).words) }
+
+pub ranges_less : (first second third : List Range) → AreRangesWithin first second → AreRangesWithin second third → AreRangesWithin first third
+ranges_less first second third f g k =
+    record { above = omega (arith, (f k).above, (g k).above); below = omega (arith, (f k).below, (g k).below) }
+
+pub ranges_same : (ranges : List Range) → AreRangesWithin ranges ranges
+ranges_same ranges k = record { above = omega arith; below = omega arith }
+
+pub words_whole : (ranges : List Range) → AreAllWhole ranges → AreWords ranges
+words_whole ranges whole k = rw (whole k) (record { above = omega arith; below = omega arith })
+
+-- what is whole contains every range of words
+pub ranges_whole : (first second : List Range) → AreWords first → AreAllWhole second → AreRangesWithin first second
+ranges_whole first second words whole k = rw (whole k) (words k)
 
 -- ---- one register alone
 
@@ -58,11 +87,11 @@ padded_at (suc r) k = padded_at r k
 
 -- that kind of one register, and nothing else
 pub alone : ℕ → AbsKind → StateValue
-alone r k = record { kinds = padded r k; marks = [] }
+alone r k = record { kinds = padded r k; marks = []; ranges = [] }
 
-pub below_alone : (a : StateValue) (r : ℕ) (k : AbsKind) → IsKindBelow (kind_at a r) k → IsBelow a (alone r k)
+pub below_alone : (a : StateValue) (r : ℕ) (k : AbsKind) → AreWords a.ranges → IsKindBelow (kind_at a r) k → IsBelow a (alone r k)
 unfolding alone
-below_alone a r k h = record { kinds = padded_above a.kinds r k h; marks = λ place is. absurd (none is) }
+below_alone a r k words h = record { kinds = padded_above a.kinds r k h; marks = λ place is. absurd (none is); ranges = words }
   where
     none : {P : Type 0} → false ≡ true → P
     none is = cc
@@ -76,10 +105,10 @@ kind_less transitive j k l g h =
     (transitive (one j) (one k) (one l) (ones g) (ones h)).kinds 0
   where
     one : AbsKind → StateValue
-    one k = record { kinds = k ∷ []; marks = [] }
+    one k = record { kinds = k ∷ []; marks = []; ranges = [] }
 
     ones : {j k : AbsKind} → IsKindBelow j k → IsBelow (one j) (one k)
-    ones {j} {k} g = record { kinds = each; marks = λ place is. is }
+    ones {j} {k} g = record { kinds = each; marks = λ place is. is; ranges = ranges_same [] }
       where
         each : (r : ℕ) → IsKindBelow (kind_in (j ∷ []) r) (kind_in (k ∷ []) r)
         each zero = g
@@ -87,20 +116,36 @@ kind_less transitive j k l g h =
 
 -- those marks, and nothing else
 pub marked : List Bool → StateValue
-marked marks = record { kinds = []; marks = marks }
+marked marks = record { kinds = []; marks = marks; ranges = [] }
 
-pub below_marked : (a : StateValue) (marks : List Bool) → AreMarkedIn marks a.marks → IsBelow a (marked marks)
+pub below_marked : (a : StateValue) (marks : List Bool) → AreWords a.ranges → AreMarkedIn marks a.marks → IsBelow a (marked marks)
 unfolding marked
-below_marked a marks h = record { kinds = λ q. unset_top (kind_at a q); marks = h }
+below_marked a marks words h = record { kinds = λ q. unset_top (kind_at a q); marks = h; ranges = words }
 
 pub marks_marked : (a : StateValue) (marks : List Bool) → IsBelow a (marked marks) → AreMarkedIn marks a.marks
 unfolding marked
 marks_marked a marks h = h.marks
 
--- what covers every state
-pub below_all : (a : StateValue) → IsBelow a (marked [])
+-- what covers every state whose ranges are of words
+pub below_all : (a : StateValue) → AreWords a.ranges → IsBelow a (marked [])
 unfolding marked
-below_all a = record { kinds = λ q. unset_top (kind_at a q); marks = λ place is. absurd (false≢true is) }
+below_all a words = record { kinds = λ q. unset_top (kind_at a q); marks = λ place is. absurd (false≢true is); ranges = words }
+
+pub words_all : (a : StateValue) → IsBelow a (marked []) → AreWords a.ranges
+unfolding marked
+words_all a h = h.ranges
+
+-- those ranges, and nothing else
+pub ranged : List Range → StateValue
+ranged ranges = record { kinds = []; marks = []; ranges = ranges }
+
+pub below_ranged : (a : StateValue) (ranges : List Range) → AreRangesWithin a.ranges ranges → IsBelow a (ranged ranges)
+unfolding ranged
+below_ranged a ranges h = record { kinds = λ q. unset_top (kind_at a q); marks = λ place is. absurd (false≢true is); ranges = h }
+
+pub ranges_ranged : (a : StateValue) (ranges : List Range) → IsBelow a (ranged ranges) → AreRangesWithin a.ranges ranges
+unfolding ranged
+ranges_ranged a ranges h = h.ranges
 
 -- ---- what is known in a loop
 
@@ -110,17 +155,29 @@ round_less transitive p l slot head a b below h = record {
   unwritten = λ register out. kind_less transitive (kind_at a register) (kind_at b register) (kind_at head register) (below.kinds register) (h.unwritten register out);
   counter = kind_less transitive (kind_at a l.register) (kind_at b l.register) (Num (counter_range l slot)) (below.kinds l.register) h.counter;
   marks = λ place is. below.marks place (h.marks place is);
+  ranges = λ out. ranges_less a.ranges b.ranges head.ranges below.ranges (h.ranges out);
+  words = ranges_less a.ranges b.ranges [] below.ranges h.words;
 }
 
 -- an instruction of the loop that leaves what it does not write leaves what the head says, where it does not count
-pub round_left : (p : Program) (l : Loop) (slot next : ℕ) (head a b : StateValue) (insn : Insn) → IsTrue (holds l slot) → insn_at p slot ≡ Some insn → is_written insn l.register ≡ false → counter_range l next ≡ counter_range l slot → IsLeftBy insn a b → IsRound p l slot head a → IsRound p l next head b
-round_left p l slot next head a b insn inside begins counter same left h = record {
+pub round_left : (p : Program) (l : Loop) (slot next : ℕ) (head a b : StateValue) (insn : Insn) → IsTrue (holds l slot) → insn_at p slot ≡ Some insn → is_written insn l.register ≡ false → counter_range l next ≡ counter_range l slot → IsWhole a → IsLeftBy insn a b → IsRound p l slot head a → IsRound p l next head b
+round_left p l slot next head a b insn inside begins counter same whole left h = record {
   unwritten = λ register out.
       subst (λ (k : AbsKind). IsKindBelow k (kind_at head register)) (sym (left.kinds register (unwritten_by register out))) (h.unwritten register out);
   counter = rw (left.kinds l.register counter, same) h.counter;
   marks = λ place is. left.marks place (h.marks place is);
+  ranges = λ out. subst (λ (ranges : List Range). AreRangesWithin ranges head.ranges) (sym (left.ranges (unstored out))) (h.ranges out);
+  words = λ k. record { above = omega arith; below = omega (arith, (left.proper whole k).words) };
 }
   where
+    unstored : (HasStore p l → ⊥) → is_store insn ≡ false
+    unstored out = by_store (is_store insn) refl
+      where
+        by_store : (t : Bool) → is_store insn ≡ t → is_store insn ≡ false
+        by_store false is = is
+        by_store true is =
+            absurd (out (record { slot = slot; inside = inside; stores = subst (λ (o : Option Insn). IsStoreAt o) (sym begins) is }))
+
     by_test : (register : ℕ) (t : Bool) → is_written insn register ≡ t → (IsWrittenIn p l register → ⊥) → is_written insn register ≡ false
     by_test register false is out = is
     by_test register true is out =
@@ -131,7 +188,8 @@ round_left p l slot next head a b insn inside begins counter same left h = recor
 
 -- what is known stays so at another slot with as many rounds to go
 pub round_there : (p : Program) (l : Loop) (slot next : ℕ) (head a : StateValue) → counter_range l next ≡ counter_range l slot → IsRound p l slot head a → IsRound p l next head a
-round_there p l slot next head a same h = record { unwritten = h.unwritten; counter = rw same h.counter; marks = h.marks }
+round_there p l slot next head a same h =
+    record { unwritten = h.unwritten; counter = rw same h.counter; marks = h.marks; ranges = h.ranges; words = h.words }
 
 -- ---- the edge back
 
@@ -154,18 +212,24 @@ open_covers (Map i) (Num b) is_open proper number = absurd (no (number refl))
     no is = cc
 
 -- an edge back whose counter is within the bound again, and on which each number of the head is a number, is covered;
--- whether the loop writes a register is decided by `writes`
+-- whether the loop writes a register is decided by `writes`, and whether it stores by `stores`
 pub closes : (p : Program) (l : Loop) (head edge : StateValue) → IsWhole edge → IsHead p l head
     → ((register : ℕ) → (IsWrittenIn p l register → ⊥) → IsKindBelow (kind_at edge register) (kind_at head register))
     → IsKindBelow (kind_at edge l.register) (Num (1, l.bound)) → AreMarkedIn head.marks edge.marks
     → ((register : ℕ) → register ≢ l.register → IsWrittenIn p l register → IsTrue (is_number (kind_at head register)) → IsTrue (is_number (kind_at edge register)))
     → ((register : ℕ) → IsWrittenIn p l register ⊎ (IsWrittenIn p l register → ⊥)) → ((register : ℕ) → register ≡ l.register ⊎ register ≢ l.register)
+    → (HasStore p l → AreAllWhole head.ranges) → ((HasStore p l → ⊥) → AreRangesWithin edge.ranges head.ranges) → HasStore p l ⊎ (HasStore p l → ⊥)
     → IsBelow edge head
-closes p l head edge whole stands outside counter marks numbers writes same = record {
+closes p l head edge whole stands outside counter marks numbers writes same wide kept stores = record {
   kinds = λ register. by_writes register (writes register) (same register);
   marks = marks;
+  ranges = by_store stores;
 }
   where
+    by_store : HasStore p l ⊎ (HasStore p l → ⊥) → AreRangesWithin edge.ranges head.ranges
+    by_store (inl stored) = ranges_whole edge.ranges head.ranges (words_of edge whole) (wide stored)
+    by_store (inr out) = kept out
+
     by_writes : (register : ℕ) → IsWrittenIn p l register ⊎ (IsWrittenIn p l register → ⊥) → register ≡ l.register ⊎ register ≢ l.register → IsKindBelow (kind_at edge register) (kind_at head register)
     by_writes register (inr out) either = outside register out
     by_writes register (inl written) (inr other) =

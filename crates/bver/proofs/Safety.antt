@@ -23,6 +23,8 @@ use Rattle.absdom.specs.declared.kinds.AbsKind.{AbsKind}
 use Rattle.absdom.specs.declared.kinds.AbsKind.TheVariants.{Unset, Num, Ptr, Map}
 use Rattle.absdom.specs.State.{StateValue, kind_at}
 use Rattle.absdom.specs.Fits.{Fits, FitsKind}
+use Rattle.absdom.specs.declared.spill.Spill.{Spill}
+use Rattle.absdom.specs.Spill.{spill_of}
 use Rattle.bver_form.specs.Loops.{IsEdge, weight_left}
 use Rattle.bver.specs.Justified.{AsksCell, IsHead, IsPermittedAt, IsJustified}
 use Rattle.bver.proofs.Standing.{Laws, Stands, Continues, continues, permitted_here, stands}
@@ -54,12 +56,12 @@ record Counted (p : Program) (n : ℕ) (s : State) : Type 0 where
   pub within : n + weight_left p (values_of p.loops s) s.slot ≤ weight_of p
 
 -- an instruction begins where a path stands
-begins_here : (sizes : Maps) (table : ℕ → Option StateValue) (slot : ℕ) (a : StateValue) (o : Option Insn) → IsPermittedAt sizes table slot (Some a) o → IsSome o
-begins_here sizes table slot a None h = absurd h
-begins_here sizes table slot a (Some insn) h = refl
+begins_here : (spill : Spill) (sizes : Maps) (table : ℕ → Option StateValue) (slot : ℕ) (a : StateValue) (o : Option Insn) → IsPermittedAt spill sizes table slot (Some a) o → IsSome o
+begins_here spill sizes table slot a None h = absurd h
+begins_here spill sizes table slot a (Some insn) h = refl
 
 insn_here : (p : Program) (sizes : Maps) (h : IsJustified p sizes) (s : State) (at : Stands h.table s) → IsSome (insn_at p s.slot)
-insn_here p sizes h s at = begins_here sizes h.table s.slot at.known (insn_at p s.slot) (permitted_here p sizes h s at)
+insn_here p sizes h s at = begins_here (spill_of p.version) sizes h.table s.slot at.known (insn_at p s.slot) (permitted_here p sizes h s at)
 
 -- a path begins
 counted_first : Laws → (p : Program) (sizes : Maps) (h : IsJustified p sizes) (port : ℕ) → Stands h.table (entry_state port) → Counted p 0 (entry_state port)
@@ -158,22 +160,22 @@ finds_cell sizes (MapOf own) (Number n) (Map index) (Num range) is has cell =
     lt-ltb n (slice_index sizes own) (subst (λ (m : ℕ). n < slice_index sizes m) (sym is) below)
 
 -- a permitted instruction finds its map
-finds : (sizes : Maps) (table : ℕ → Option StateValue) (s : State) (a : StateValue) (o : Option Insn) → Fits s a → IsPermittedAt sizes table s.slot (Some a) o → finds_maps sizes s o ≡ true
-finds sizes table s a None fits h = absurd h
-finds sizes table s a (Some (Alu op width dst src)) fits h = refl
-finds sizes table s a (Some (Negate width dst)) fits h = refl
-finds sizes table s a (Some (MoveSigned extension dst src)) fits h = refl
-finds sizes table s a (Some (ByteSwap swap bits dst)) fits h = refl
-finds sizes table s a (Some (Load size dst place)) fits h = refl
-finds sizes table s a (Some (Store size place src)) fits h = refl
-finds sizes table s a (Some (Jump comparison offset)) fits h = refl
-finds sizes table s a (Some (Goto distance)) fits h = refl
-finds sizes table s a (Some (Wide dst value)) fits h = refl
-finds sizes table s a (Some (LoadMap dst index)) fits h = h.0
-finds sizes table s a (Some (LoadAddress dst address)) fits h = absurd h
-finds sizes table s a (Some (insns.Call callee number)) fits h =
+finds : (spill : Spill) (sizes : Maps) (table : ℕ → Option StateValue) (s : State) (a : StateValue) (o : Option Insn) → Fits s a → IsPermittedAt spill sizes table s.slot (Some a) o → finds_maps sizes s o ≡ true
+finds spill sizes table s a None fits h = absurd h
+finds spill sizes table s a (Some (Alu op width dst src)) fits h = refl
+finds spill sizes table s a (Some (Negate width dst)) fits h = refl
+finds spill sizes table s a (Some (MoveSigned extension dst src)) fits h = refl
+finds spill sizes table s a (Some (ByteSwap swap bits dst)) fits h = refl
+finds spill sizes table s a (Some (Load size dst place)) fits h = refl
+finds spill sizes table s a (Some (Store size place src)) fits h = refl
+finds spill sizes table s a (Some (Jump comparison offset)) fits h = refl
+finds spill sizes table s a (Some (Goto distance)) fits h = refl
+finds spill sizes table s a (Some (Wide dst value)) fits h = refl
+finds spill sizes table s a (Some (LoadMap dst index)) fits h = h.0
+finds spill sizes table s a (Some (LoadAddress dst address)) fits h = absurd h
+finds spill sizes table s a (Some (insns.Call callee number)) fits h =
     finds_cell sizes (s.registers 1) (s.registers 2) (kind_at a 1) (kind_at a 2) (fits.registers 1) (fits.registers 2) h.0
-finds sizes table s a (Some Exit) fits h = refl
+finds spill sizes table s a (Some Exit) fits h = refl
 
 pub is_safe : Laws → (p : Program) (sizes : Maps) → IsJustified p sizes → IsSafe p sizes
 is_safe laws p sizes h = record {
@@ -183,5 +185,5 @@ is_safe laws p sizes h = record {
       omega (arith, counted.within, laws.one p s.slot (values_of p.loops s) h.limits h.formed (insn_here p sizes h s at), h.formed.within_budget);
   no_trap = λ header port calls n s good low path.
       let at = stands laws p sizes h header port calls n s good low path in
-      rw (finds sizes h.table s at.known (insn_at p s.slot) at.fits (permitted_here p sizes h s at)) (no_trap_of h.table (step p header s) (continues laws p sizes h header s good at));
+      rw (finds (spill_of p.version) sizes h.table s at.known (insn_at p s.slot) at.fits (permitted_here p sizes h s at)) (no_trap_of h.table (step p header s) (continues laws p sizes h header s good at));
 }

@@ -26,6 +26,8 @@ use Rattle.absdom.specs.State.{StateValue, after_call, kind_at}
 use Rattle.absdom.specs.Effect.{after_insn}
 use Rattle.absdom.specs.Fits.{Fits, FitsKind, FitsEdge, IsSound, IsIndex, GoesStraight, TakesEdge, edge_where}
 use Rattle.absdom.specs.Laws.{BelowFits, CallFits, EntryFits, ApplyFits, RefineFits}
+use Rattle.absdom.specs.declared.spill.Spill.{Spill}
+use Rattle.absdom.specs.Spill.{spill_of}
 use Rattle.bver_form.specs.Form.{IsAllowed}
 use Rattle.bver_form.specs.Support.{IsSupportedCall}
 use Rattle.bver_form.specs.Jumps.{target}
@@ -79,7 +81,7 @@ goes_on below table next Trap (Ok a) sound covered = absurd sound
 
 -- the same registers and stack at another slot
 fits_at : (s : State) (a : StateValue) (slot : ℕ) → Fits s a → Fits (state slot s.registers s.stack) a
-fits_at s a slot fits = record { registers = fits.registers; bytes = fits.bytes }
+fits_at s a slot fits = record { registers = fits.registers; bytes = fits.bytes; places = fits.places }
 
 steps_to : BelowFits → (table : ℕ → Option StateValue) (s : State) (next : ℕ) (a : StateValue) → Fits s a → IsCovered a (table next) → Stands table (state next s.registers s.stack)
 steps_to below table s next a fits covered =
@@ -147,37 +149,37 @@ index_of sizes (negsuc n) h = absurd cc
 -- ---- the step at an instruction
 
 -- one that goes on to the next
-proceeds : Laws → (table : ℕ → Option StateValue) (header : Header) (s : State) (a : StateValue) (insn : Insn) → IsHeader header → Fits s a → GoesStraight insn → Proceeds table s.slot a insn → Continues table (perform header s insn)
-proceeds laws table header s a insn good fits straight h =
-    goes_on laws.below table (s.slot + slots_of insn) (perform header s insn) (after_insn a insn) (laws.apply header s a insn good straight fits) h
+proceeds : Laws → (spill : Spill) (table : ℕ → Option StateValue) (header : Header) (s : State) (a : StateValue) (insn : Insn) → IsHeader header → Fits s a → GoesStraight insn → Proceeds spill table s.slot a insn → Continues table (perform header s insn)
+proceeds laws spill table header s a insn good fits straight h =
+    goes_on laws.below table (s.slot + slots_of insn) (perform header s insn) (after_insn spill a insn) (laws.apply spill header s a insn good straight fits) h
 
-continues_at : Laws → (p : Program) (sizes : Maps) (table : ℕ → Option StateValue) (header : Header) (s : State) (a : StateValue) (insn : Insn) → IsHeader header → Fits s a → IsAllowed p s.slot insn → IsInsn insn → IsPermitted sizes table s.slot a insn → Continues table (perform header s insn)
-continues_at laws p sizes table header s a (Alu op width dst src) good fits allowed is_insn h = proceeds laws table header s a (Alu op width dst src) good fits allowed.leaves_frame h
-continues_at laws p sizes table header s a (Negate width dst) good fits allowed is_insn h = proceeds laws table header s a (Negate width dst) good fits allowed.leaves_frame h
-continues_at laws p sizes table header s a (MoveSigned extension dst src) good fits allowed is_insn h = proceeds laws table header s a (MoveSigned extension dst src) good fits allowed.leaves_frame h
-continues_at laws p sizes table header s a (ByteSwap swap bits dst) good fits allowed is_insn h = proceeds laws table header s a (ByteSwap swap bits dst) good fits allowed.leaves_frame h
-continues_at laws p sizes table header s a (Load size dst place) good fits allowed is_insn h = proceeds laws table header s a (Load size dst place) good fits allowed.leaves_frame h
-continues_at laws p sizes table header s a (Store size place src) good fits allowed is_insn h = proceeds laws table header s a (Store size place src) good fits tt h
-continues_at laws p sizes table header s a (Jump comparison offset) good fits allowed is_insn h =
+continues_at : Laws → (spill : Spill) (p : Program) (sizes : Maps) (table : ℕ → Option StateValue) (header : Header) (s : State) (a : StateValue) (insn : Insn) → IsHeader header → Fits s a → IsAllowed p s.slot insn → IsInsn insn → IsPermitted spill sizes table s.slot a insn → Continues table (perform header s insn)
+continues_at laws spill p sizes table header s a (Alu op width dst src) good fits allowed is_insn h = proceeds laws spill table header s a (Alu op width dst src) good fits allowed.leaves_frame h
+continues_at laws spill p sizes table header s a (Negate width dst) good fits allowed is_insn h = proceeds laws spill table header s a (Negate width dst) good fits allowed.leaves_frame h
+continues_at laws spill p sizes table header s a (MoveSigned extension dst src) good fits allowed is_insn h = proceeds laws spill table header s a (MoveSigned extension dst src) good fits allowed.leaves_frame h
+continues_at laws spill p sizes table header s a (ByteSwap swap bits dst) good fits allowed is_insn h = proceeds laws spill table header s a (ByteSwap swap bits dst) good fits allowed.leaves_frame h
+continues_at laws spill p sizes table header s a (Load size dst place) good fits allowed is_insn h = proceeds laws spill table header s a (Load size dst place) good fits allowed.leaves_frame h
+continues_at laws spill p sizes table header s a (Store size place src) good fits allowed is_insn h = proceeds laws spill table header s a (Store size place src) good fits tt h
+continues_at laws spill p sizes table header s a (Jump comparison offset) good fits allowed is_insn h =
     compares_on laws.below table s offset _ _ (laws.refine header s a comparison offset fits) h
-continues_at laws p sizes table header s a (Goto (Short offset)) good fits allowed is_insn h = lands_on laws.below table s (target s.slot offset) a fits h
-continues_at laws p sizes table header s a (Goto (Long immediate)) good fits allowed is_insn h = lands_on laws.below table s (target s.slot immediate) a fits h
-continues_at laws p sizes table header s a (Wide dst value) good fits allowed is_insn h = proceeds laws table header s a (Wide dst value) good fits (allowed.leaves_frame, is_insn.1) h
-continues_at laws p sizes table header s a (LoadMap dst index) good fits allowed is_insn h = proceeds laws table header s a (LoadMap dst index) good fits (allowed.leaves_frame, index_of sizes index h.0) h.1
-continues_at laws p sizes table header s a (LoadAddress dst address) good fits allowed is_insn h = absurd h
-continues_at laws p sizes table header s a (insns.Call callee number) good fits allowed is_insn h =
+continues_at laws spill p sizes table header s a (Goto (Short offset)) good fits allowed is_insn h = lands_on laws.below table s (target s.slot offset) a fits h
+continues_at laws spill p sizes table header s a (Goto (Long immediate)) good fits allowed is_insn h = lands_on laws.below table s (target s.slot immediate) a fits h
+continues_at laws spill p sizes table header s a (Wide dst value) good fits allowed is_insn h = proceeds laws spill table header s a (Wide dst value) good fits (allowed.leaves_frame, is_insn.1) h
+continues_at laws spill p sizes table header s a (LoadMap dst index) good fits allowed is_insn h = proceeds laws spill table header s a (LoadMap dst index) good fits (allowed.leaves_frame, index_of sizes index h.0) h.1
+continues_at laws spill p sizes table header s a (LoadAddress dst address) good fits allowed is_insn h = absurd h
+continues_at laws spill p sizes table header s a (insns.Call callee number) good fits allowed is_insn h =
     calls_on laws.below laws.call sizes table s a callee number allowed.supported h.0 fits h.1
-continues_at laws p sizes table header s a Exit good fits allowed is_insn h = exits_with table (s.registers 0) (kind_at a 0) (fits.registers 0) h
+continues_at laws spill p sizes table header s a Exit good fits allowed is_insn h = exits_with table (s.registers 0) (kind_at a 0) (fits.registers 0) h
 
-continues_from : Laws → (p : Program) (sizes : Maps) (h : IsJustified p sizes) (header : Header) (s : State) (at : Stands h.table s) (o : Option Insn) → IsHeader header → insn_at p s.slot ≡ o → IsPermittedAt sizes h.table s.slot (Some at.known) o → Continues h.table (perform_at header s o)
+continues_from : Laws → (p : Program) (sizes : Maps) (h : IsJustified p sizes) (header : Header) (s : State) (at : Stands h.table s) (o : Option Insn) → IsHeader header → insn_at p s.slot ≡ o → IsPermittedAt (spill_of p.version) sizes h.table s.slot (Some at.known) o → Continues h.table (perform_at header s o)
 continues_from laws p sizes h header s at None good is permitted = absurd permitted
 continues_from laws p sizes h header s at (Some insn) good is permitted =
-    continues_at laws p sizes h.table header s at.known insn good at.fits (h.formed.allowed s.slot insn is) (insn_in false p.slots s.slot insn h.limits.code is) permitted
+    continues_at laws (spill_of p.version) p sizes h.table header s at.known insn good at.fits (h.formed.allowed s.slot insn is) (insn_in false p.slots s.slot insn h.limits.code is) permitted
 
 -- what is known where a path stands permits its instruction
-pub permitted_here : (p : Program) (sizes : Maps) (h : IsJustified p sizes) (s : State) (at : Stands h.table s) → IsPermittedAt sizes h.table s.slot (Some at.known) (insn_at p s.slot)
+pub permitted_here : (p : Program) (sizes : Maps) (h : IsJustified p sizes) (s : State) (at : Stands h.table s) → IsPermittedAt (spill_of p.version) sizes h.table s.slot (Some at.known) (insn_at p s.slot)
 permitted_here p sizes h s at =
-    subst (λ (k : Option StateValue). IsPermittedAt sizes h.table s.slot k (insn_at p s.slot)) at.is (h.permitted s.slot)
+    subst (λ (k : Option StateValue). IsPermittedAt (spill_of p.version) sizes h.table s.slot k (insn_at p s.slot)) at.is (h.permitted s.slot)
 
 pub continues : Laws → (p : Program) (sizes : Maps) (h : IsJustified p sizes) (header : Header) (s : State) → IsHeader header → Stands h.table s → Continues h.table (step p header s)
 continues laws p sizes h header s good at =

@@ -1,6 +1,6 @@
 -- The visit of an instruction in a loop: what is known where it leads says all that the loop's head says of what the
 -- loop does not write, and the counter is within the bound.
-use Rattle.std.proofs.Common.{◌≡◌, ◌≢◌, ℕ, ◌+◌, ◌-◌, ◌<◌, ◌≤◌, ◌^◌, ◌⊎◌, inl, inr, Bool, true, false, List, Option, None, Some, refl, sym, subst, ◌∙◌, arith, get_or-set_same, get_or-set_other}
+use Rattle.std.proofs.Common.{◌≡◌, ◌≢◌, ℕ, ◌+◌, ◌-◌, ◌<◌, ◌≤◌, ◌^◌, ◌⊎◌, inl, inr, Bool, true, false, List, [], Option, None, Some, refl, sym, subst, ◌∙◌, arith, get_or-set_same, get_or-set_other}
 use Rattle.std.specs.Prelude.{IsTrue, IsSome, IfSome, ◌==◌, if◌then◌else◌}
 use Rattle.std.proofs.lemmas.Bool.{cases_lt, false≢true}
 use Rattle.std.proofs.lemmas.Bool.Decides.{nat_tests}
@@ -19,18 +19,20 @@ use Rattle.absdom.specs.declared.kinds.AbsKind.{AbsKind}
 use Rattle.absdom.specs.declared.kinds.AbsKind.TheVariants.{Unset, Num, Ptr, Map}
 use Rattle.absdom.specs.Kinds.{IsKindBelow}
 use Rattle.absdom.specs.State.{StateValue, IsBelow, IsProper, IsWhole, kind_at, with_kind}
+use Rattle.absdom.specs.Places.{AreRangesWithin}
 use Rattle.absdom.specs.Effect.{sum_kind, with_result}
 use Rattle.absdom.specs.Laws.{ApplyLeaves, BelowIsReflexive, BelowIsTransitive, CallLeaves, IsLeftBy, RefineShrinks}
+use Rattle.absdom.specs.Spill.{spill_of}
 use Rattle.bver_form.specs.Form.{IsFormed}
 use Rattle.bver_form.specs.Loops.{ComesIn, IsEdge, IsInside, IsLoopFormed, holds, step_down}
-use Rattle.bver.specs.Heads.{IsRaised, IsRaisedKind, counts, keeps, opens}
-use Rattle.bver.specs.Justified.{IsCovered, IsHead, IsWrittenBy, IsWrittenIn}
+use Rattle.bver.specs.Heads.{AreRaisedRanges, IsRaised, IsRaisedKind, counts, keeps, opens, retains, widens}
+use Rattle.bver.specs.Justified.{HasStore, IsCovered, IsHead, IsWrittenBy, IsWrittenIn}
 use Rattle.bver.specs.Leading.{GivesBelow, LeadsBelow}
 use Rattle.bver.specs.Visit.{HasNext, VisitValue}
 use Rattle.bver.proofs.Counters.{holds_at, inside_of}
 use Rattle.bver.proofs.Raising.{kind_below-refl}
 use Rattle.bver.proofs.Rings.{leads_by, ring, ring_any, ring_behind}
-use Rattle.bver.proofs.Rounds.{IsRound, below_all, counter_range, round_left, round_less, round_there}
+use Rattle.bver.proofs.Rounds.{AreWords, IsRound, below_all, counter_range, ranges_less, ranges_same, round_left, round_less, round_there, words_of}
 use Rattle.bver.proofs.Steps.{step_within}
 
 -- what holds of what an instruction leaves
@@ -61,11 +63,13 @@ range_back l = rw at refl
 
 -- ---- at the head
 
-pub round_head : BelowIsReflexive → (p : Program) (l : Loop) (h : StateValue) → l.head < l.back → IsHead p l h → IsRound p l l.head h h
-round_head reflexive p l h ordered head = record {
+pub round_head : BelowIsReflexive → (p : Program) (l : Loop) (h : StateValue) → l.head < l.back → IsWhole h → IsHead p l h → IsRound p l l.head h h
+round_head reflexive p l h ordered whole head = record {
   unwritten = λ register out. kind_below-refl reflexive (kind_at h register);
   counter = rw (range_ahead l l.head (λ same. omega (arith, ordered, same)), head.counter) (kind_below-refl reflexive (Num (1, l.bound)));
   marks = λ place is. is;
+  ranges = λ out. ranges_same h.ranges;
+  words = words_of h whole;
 }
 
 -- ---- at the head of a loop that lies inside
@@ -109,6 +113,17 @@ kind_kept p m lowered place register before after other out (counts at is) = abs
 kind_kept p m lowered place register before after other out (opens o written is) = absurd (out written)
 kind_kept p m lowered place register before after other out (keeps o w is) = is
 
+-- what an inner loop stores the loop around it does
+stored_inside : (p : Program) (l m : Loop) → IsInside m l → HasStore p m → HasStore p l
+stored_inside p l m inside s =
+    let within = inside_of m s.slot s.inside in
+    record { slot = s.slot; inside = holds_at l s.slot (omega (arith, inside.0, within.0)) (omega (arith, inside.1, within.1)); stores = s.stores }
+
+-- the ranges of places are kept where the loop does not store
+ranges_kept : (p : Program) (m : Loop) (before after head : StateValue) → (HasStore p m → ⊥) → AreRaisedRanges p m before after → AreRangesWithin before.ranges head.ranges → AreRangesWithin after.ranges head.ranges
+ranges_kept p m before after head out (widens stored is) within = absurd (out stored)
+ranges_kept p m before after head out (retains o is) within = rw is within
+
 -- a register that the inner loop does not write is kept
 raised_kept : (p : Program) (m : Loop) (lowered : List Bool) (place register : ℕ) (before after : StateValue) → IsWhole before → IsWhole after → IsRaised p m lowered place before after → register ≢ m.register → (IsWrittenIn p m register → ⊥) → kind_at after register ≡ kind_at before register
 raised_kept p m lowered place register before after p_before p_after raised other out =
@@ -139,6 +154,8 @@ round_raised p l m lowered place slot h before after ordered outer inner inside 
       (λ written. counter_apart p l m outer inner inside written)))
       round.counter;
   marks = λ mark is. rw raised.marks (round.marks mark is);
+  ranges = λ out. ranges_kept p m before after h (λ stored. out (stored_inside p l m inside stored)) raised.ranges (round.ranges out);
+  words = words_of after p_after;
 }
 
 -- ---- where an instruction leads
@@ -147,29 +164,35 @@ round_raised p l m lowered place slot h before after ordered outer inner inside 
 abbrev pub IsAround : Program → Loop → (head : StateValue) → (around : ℕ → StateValue) → Type 0
 IsAround p l head around = (slot : ℕ) (b : StateValue) → IsRound p l slot head b → IsBelow b (around slot)
 
+-- what a whole state becomes has ranges of words
+moved_words : (a b : StateValue) (insn : Insn) → IsWhole a → IsLeftBy insn a b ⊎ IsBelow b a → AreWords b.ranges
+moved_words a b insn whole (inl left) k = record { above = omega arith; below = omega (arith, (left.proper whole k).words) }
+moved_words a b insn whole (inr below) k = ranges_less b.ranges a.ranges [] below.ranges (words_of a whole) k
+
 -- into a loop no instruction outside leads but to its head
 pub leads_outside : Leaves → (v : VisitValue) (l : Loop) (inner : ℕ → Option StateValue) (a : StateValue) (insn : Insn) → IsFormed v.program → HasNext v insn → insn_at v.program v.slot ≡ Some insn
     → ((next : ℕ) → IsEdge v.program v.slot next → IsSome (insn_at v.program next) → ComesIn l v.slot next) → holds l v.slot ≡ false
-    → LeadsBelow (ring l inner) v.slot a insn
-leads_outside laws v l inner a insn form next begins comes outside =
+    → IsWhole a
+    → LeadsBelow (spill_of v.program.version) (ring l inner) v.slot a insn
+leads_outside laws v l inner a insn form next begins comes outside whole =
     leads_by laws.applies laws.calls laws.shrinks laws.reflexive v (ring l inner) a insn form next begins
     (λ k b edge some moves.
     ring_any (λ o. IsCovered b o) l inner k
     (λ behind. absurd (omega (arith, behind.0, (comes k edge some).to_head outside (holds_at l k (omega (arith, behind.0)) behind.1))))
-    (below_all b))
+    (below_all b (moved_words a b insn whole moves)))
 
 -- in the loop, but for the instruction that counts and the jump back
 pub leads_around : Leaves → (v : VisitValue) (l : Loop) (h a : StateValue) (around : ℕ → StateValue) (insn : Insn) → IsFormed v.program → HasNext v insn → insn_at v.program v.slot ≡ Some insn
     → ((next : ℕ) → IsEdge v.program v.slot next → IsSome (insn_at v.program next) → ComesIn l v.slot next)
     → IsLoopFormed v.program l → l.head ≤ v.slot → v.slot < l.back → v.slot + 1 ≢ l.back
-    → IsAround v.program l h around → IsRound v.program l v.slot h a
-    → LeadsBelow (ring l (λ k. Some (around k))) v.slot a insn
-leads_around laws v l h a around insn form next begins comes formed above before apart covers round =
+    → IsWhole a → IsAround v.program l h around → IsRound v.program l v.slot h a
+    → LeadsBelow (spill_of v.program.version) (ring l (λ k. Some (around k))) v.slot a insn
+leads_around laws v l h a around insn form next begins comes formed above before apart whole covers round =
     leads_by laws.applies laws.calls laws.shrinks laws.reflexive v (ring l (λ k. Some (around k))) a insn form next begins
     (λ k b edge some moves.
     ring_any (λ o. IsCovered b o) l (λ k. Some (around k)) k
     (λ behind. covers k b (there k b (λ at_back. apart ((comes k edge some).to_back at_back)) moves))
-    (below_all b))
+    (below_all b (moved_words a b insn whole moves)))
   where
     inside : IsTrue (holds l v.slot)
     inside = holds_at l v.slot above (omega (arith, before))
@@ -181,13 +204,13 @@ leads_around laws v l h a around insn form next begins comes formed above before
     same k other = range_ahead l k other ∙ sym (range_ahead l v.slot (λ at_back. omega (arith, at_back, before)))
 
     there : (k : ℕ) (b : StateValue) → k ≢ l.back → IsLeftBy insn a b ⊎ IsBelow b a → IsRound v.program l k h b
-    there k b other (inl left) = round_left v.program l v.slot k h a b insn inside begins uncounted (same k other) left round
+    there k b other (inl left) = round_left v.program l v.slot k h a b insn inside begins uncounted (same k other) whole left round
     there k b other (inr below) = round_less laws.transitive v.program l k h b a below (round_there v.program l v.slot k h a (same k other) round)
 
 -- the instruction that counts takes one from the counter
 pub leads_counted : (v : VisitValue) (l : Loop) (h a : StateValue) (around : ℕ → StateValue) → IsLoop 512 l → IsLoopFormed v.program l → v.slot + 1 ≡ l.back → IsWhole a
     → IsAround v.program l h around → IsRound v.program l v.slot h a
-    → LeadsBelow (ring l (λ k. Some (around k))) v.slot a (step_down l)
+    → LeadsBelow (spill_of v.program.version) (ring l (λ k. Some (around k))) v.slot a (step_down l)
 leads_counted v l h a around limits formed last whole covers round =
     by_kind (kind_at a l.register) (rw (range_ahead l v.slot (λ same. omega (arith, same, last))) at round.counter) (whole.kinds l.register)
   where
@@ -204,6 +227,8 @@ leads_counted v l h a around limits formed last whole covers round =
           rw (get_or-set_same a.kinds l.register (Num (alu_range Add Bits64 range (single_range (2 ^ 64 - 1)))) Unset (omega (arith, whole.sizes.registers, limits.register)), last, range_back l)
           (step_within range.0 range.1 l.bound within.above proper.in_order within.below limits.high);
       marks = round.marks;
+      ranges = round.ranges;
+      words = round.words;
     }
 
     by_kind : (k : AbsKind) → IsKindBelow k (Num (1, l.bound)) → IsProper k → GivesBelow (with_result a l.register (sum_kind Bits64 k (Num (single_range (2 ^ 64 - 1))))) (ring l (λ k. Some (around k)) (v.slot + 1))

@@ -11,6 +11,7 @@ use Rattle.machine.specs.declared.regions.Region.{Region}
 use Rattle.machine.specs.Step.{insn_at}
 use Rattle.absdom.specs.State.{StateValue, IsEntry, IsWhole}
 use Rattle.absdom.specs.Laws.{BelowIsTransitive}
+use Rattle.absdom.specs.Spill.{spill_of}
 use Rattle.bver_form.specs.Form.{IsFormed}
 use Rattle.bver_form.specs.Jumps.{first_slot}
 use Rattle.bver.specs.Heads.{AreHeadsAt, IsDeclared}
@@ -95,12 +96,12 @@ visited_next transitive p old new regions slot region v f heads accessed inside 
     differs : (k : ℕ) → k < slot → k ≢ slot
     differs k below same = omega arith
 
-pub permitted_next : BelowIsTransitive → (p : Program) (sizes : Maps) (old new : ℕ → Option StateValue) (slot : ℕ) → ArePermitted p sizes old slot → Grows p slot old new → IsPermittedAt sizes new slot (new slot) (insn_at p slot) → ArePermitted p sizes new (slot + 1)
+pub permitted_next : BelowIsTransitive → (p : Program) (sizes : Maps) (old new : ℕ → Option StateValue) (slot : ℕ) → ArePermitted p sizes old slot → Grows p slot old new → IsPermittedAt (spill_of p.version) sizes new slot (new slot) (insn_at p slot) → ArePermitted p sizes new (slot + 1)
 permitted_next transitive p sizes old new slot v f permitted =
-    below_more (λ (k : ℕ). IsPermittedAt sizes new k (new k) (insn_at p k)) slot
+    below_more (λ (k : ℕ). IsPermittedAt (spill_of p.version) sizes new k (new k) (insn_at p k)) slot
     (λ k below.
-    subst (λ (o : Option StateValue). IsPermittedAt sizes new k o (insn_at p k)) (sym (f.kept k below))
-    (permitted_at_more transitive sizes old new k (old k) (insn_at p k) f.grown (v k below)))
+    subst (λ (o : Option StateValue). IsPermittedAt (spill_of p.version) sizes new k o (insn_at p k)) (sym (f.kept k below))
+    (permitted_at_more transitive (spill_of p.version) sizes old new k (old k) (insn_at p k) f.grown (v k below)))
     permitted
 
 -- ---- after all visits
@@ -125,7 +126,7 @@ judged p sizes known regions limits form size v permitted = record {
     permitted = λ slot.
         elim (cases_lt slot (length p.slots)) [
           | inl below ↦ permitted slot below
-          | inr past ↦ subst (λ (o : Option StateValue). IsPermittedAt sizes known slot o (insn_at p slot)) (sym (past_none p known slot v.entry.placed past)) tt
+          | inr past ↦ subst (λ (o : Option StateValue). IsPermittedAt (spill_of p.version) sizes known slot o (insn_at p slot)) (sym (past_none p known slot v.entry.placed past)) tt
         ];
     heads = λ k d inside. v.heads k d inside (head_below k d inside);
   };

@@ -8,11 +8,12 @@ use Rattle.absdom.specs.declared.kinds.AbsKind.{AbsKind}
 use Rattle.absdom.specs.declared.kinds.AbsKind.TheVariants.{Unset, Num, Ptr, Map}
 use Rattle.absdom.specs.Kinds.{IsKindBelow}
 use Rattle.absdom.specs.State.{StateValue, kind_at}
+use Rattle.absdom.specs.Places.{AreAllWhole}
 use Rattle.bver_form.specs.declared.refusal.Refusal.{Refusal}
 use Rattle.bver_form.specs.declared.refusal.Refusal.TheVariants.{LoopEntry}
 use Rattle.bver_form.specs.declared.refusal.Refused.{Refused}
 use Rattle.bver_form.specs.Lowered.{IsMore, IsSettled, is_lowered}
-use Rattle.bver.specs.Justified.{IsHead, IsWrittenIn}
+use Rattle.bver.specs.Justified.{HasStore, IsHead, IsWrittenIn}
 
 -- a loop that a program declares, and its place among those
 pub record BodyValue : Type 0 where
@@ -41,11 +42,18 @@ pub data IsRaisedKind (p : Program) (l : Loop) (lowered : List Bool) (place regi
   opens : register ≢ l.register → IsWrittenIn p l register → after ≡ opened_kind (is_lowered lowered place register) before → IsRaisedKind p l lowered place register before after
   keeps : register ≢ l.register → (IsWrittenIn p l register → ⊥) → after ≡ before → IsRaisedKind p l lowered place register before after
 
--- what is known is raised: r0 to r9 are, and r10 and the stack are kept
+-- how the ranges of the stack's places are raised at the head of a loop: where the loop stores nothing is known of any
+-- place, and else they are kept
+pub data AreRaisedRanges (p : Program) (l : Loop) (before after : StateValue) : Type 0 where
+  widens : HasStore p l → AreAllWhole after.ranges → AreRaisedRanges p l before after
+  retains : (HasStore p l → ⊥) → after.ranges ≡ before.ranges → AreRaisedRanges p l before after
+
+-- what is known is raised: r0 to r9 are, and so are the ranges of places; r10 and the bytes of the stack are kept
 pub record IsRaised (p : Program) (l : Loop) (lowered : List Bool) (place : ℕ) (before after : StateValue) : Type 0 where
   pub registers : (register : ℕ) → register ≤ 9 → IsRaisedKind p l lowered place register (kind_at before register) (kind_at after register)
   pub frame : kind_at after 10 ≡ kind_at before 10
   pub marks : after.marks ≡ before.marks
+  pub ranges : AreRaisedRanges p l before after
 
 -- a run comes to the head with a counter from 1 to the bound
 abbrev pub IsWithinBound : Loop → StateValue → Type 0

@@ -14,11 +14,16 @@ use Rattle.bpf_parts.specs.declared.operation.Comparison.{Comparison}
 use Rattle.machine.specs.Sizes.{Maps}
 use Rattle.machine.specs.declared.regions.Region.{Region}
 use Rattle.machine.specs.Step.{insn_at, is_map}
+use Rattle.machine.specs.Laws.{is_store}
 use Rattle.absdom_num.specs.Tables.{whole_range}
 use Rattle.absdom.specs.declared.cause.Cause.{Cause}
 use Rattle.absdom.specs.declared.kinds.AbsKind.{AbsKind}
 use Rattle.absdom.specs.declared.kinds.AbsKind.TheVariants.{Unset, Num, Ptr, Map}
 use Rattle.absdom.specs.State.{StateValue, IsEntry, IsBelow, after_call, kind_at}
+use Rattle.absdom.specs.Places.{AreAllWhole}
+use Rattle.absdom.specs.declared.spill.Spill.{Spill}
+use Rattle.absdom.specs.declared.spill.Spill.TheVariants.{Keeps}
+use Rattle.absdom.specs.Spill.{spill_of}
 use Rattle.absdom.specs.Effect.{after_insn}
 use Rattle.absdom.specs.Edges.{Edges, refined_edges}
 use Rattle.absdom.specs.State.{IsWhole}
@@ -61,8 +66,8 @@ knowledge_at table (negsuc n) = None
 -- ---- what is permitted
 
 -- an instruction that goes on to the next one: it is not refused, and what it leaves is covered there
-abbrev pub Proceeds : (table : ℕ → Option StateValue) (slot : ℕ) → StateValue → Insn → Type 0
-Proceeds table slot a insn = IsResultCovered (after_insn a insn) (table (slot + slots_of insn))
+abbrev pub Proceeds : Spill → (table : ℕ → Option StateValue) (slot : ℕ) → StateValue → Insn → Type 0
+Proceeds spill table slot a insn = IsResultCovered (after_insn spill a insn) (table (slot + slots_of insn))
 
 -- a register holds a number
 abbrev pub IsNumber : AbsKind → Type 0
@@ -84,29 +89,29 @@ AsksCell sizes (Map map) (Map index) = ⊥
 -- with what is known at its slot an instruction cannot go wrong, and on every edge that a run may take
 -- what it leaves is covered: a map that is loaded exists, a helper is asked for a cell of r1 and r2, and EXIT has a
 -- number for its answer
-abbrev pub IsPermitted : (sizes : Maps) (table : ℕ → Option StateValue) (slot : ℕ) → StateValue → Insn → Type 0
-IsPermitted sizes table slot a (Alu op width dst src) = Proceeds table slot a (Alu op width dst src)
-IsPermitted sizes table slot a (Negate width dst) = Proceeds table slot a (Negate width dst)
-IsPermitted sizes table slot a (MoveSigned extension dst src) = Proceeds table slot a (MoveSigned extension dst src)
-IsPermitted sizes table slot a (ByteSwap swap bits dst) = Proceeds table slot a (ByteSwap swap bits dst)
-IsPermitted sizes table slot a (Load size dst place) = Proceeds table slot a (Load size dst place)
-IsPermitted sizes table slot a (Store size place src) = Proceeds table slot a (Store size place src)
-IsPermitted sizes table slot a (Jump comparison offset) =
+abbrev pub IsPermitted : Spill → (sizes : Maps) (table : ℕ → Option StateValue) (slot : ℕ) → StateValue → Insn → Type 0
+IsPermitted spill sizes table slot a (Alu op width dst src) = Proceeds spill table slot a (Alu op width dst src)
+IsPermitted spill sizes table slot a (Negate width dst) = Proceeds spill table slot a (Negate width dst)
+IsPermitted spill sizes table slot a (MoveSigned extension dst src) = Proceeds spill table slot a (MoveSigned extension dst src)
+IsPermitted spill sizes table slot a (ByteSwap swap bits dst) = Proceeds spill table slot a (ByteSwap swap bits dst)
+IsPermitted spill sizes table slot a (Load size dst place) = Proceeds spill table slot a (Load size dst place)
+IsPermitted spill sizes table slot a (Store size place src) = Proceeds spill table slot a (Store size place src)
+IsPermitted spill sizes table slot a (Jump comparison offset) =
     AreEdgesCovered (edges_of_comparison a comparison) (knowledge_at table (target slot offset)) (table (slot + 1))
-IsPermitted sizes table slot a (Goto distance) = IsCovered a (knowledge_at table (target slot (distance_of distance)))
-IsPermitted sizes table slot a (Wide dst value) = Proceeds table slot a (Wide dst value)
-IsPermitted sizes table slot a (LoadMap dst index) =
-    IsTrue (is_map sizes index) × Proceeds table slot a (LoadMap dst index)
-IsPermitted sizes table slot a (LoadAddress dst address) = ⊥
-IsPermitted sizes table slot a (Call callee number) =
+IsPermitted spill sizes table slot a (Goto distance) = IsCovered a (knowledge_at table (target slot (distance_of distance)))
+IsPermitted spill sizes table slot a (Wide dst value) = Proceeds spill table slot a (Wide dst value)
+IsPermitted spill sizes table slot a (LoadMap dst index) =
+    IsTrue (is_map sizes index) × Proceeds spill table slot a (LoadMap dst index)
+IsPermitted spill sizes table slot a (LoadAddress dst address) = ⊥
+IsPermitted spill sizes table slot a (Call callee number) =
     AsksCell sizes (kind_at a 1) (kind_at a 2) × IsCovered (after_call a) (table (slot + 1))
-IsPermitted sizes table slot a Exit = IsNumber (kind_at a 0)
+IsPermitted spill sizes table slot a Exit = IsNumber (kind_at a 0)
 
 -- the same at a slot: a table has states only where instructions begin, and where it has none no run comes
-abbrev pub IsPermittedAt : (sizes : Maps) (table : ℕ → Option StateValue) (slot : ℕ) → Option StateValue → Option Insn → Type 0
-IsPermittedAt sizes table slot None insn = Unit {0}
-IsPermittedAt sizes table slot (Some a) None = ⊥
-IsPermittedAt sizes table slot (Some a) (Some insn) = IsPermitted sizes table slot a insn
+abbrev pub IsPermittedAt : Spill → (sizes : Maps) (table : ℕ → Option StateValue) (slot : ℕ) → Option StateValue → Option Insn → Type 0
+IsPermittedAt spill sizes table slot None insn = Unit {0}
+IsPermittedAt spill sizes table slot (Some a) None = ⊥
+IsPermittedAt spill sizes table slot (Some a) (Some insn) = IsPermitted spill sizes table slot a insn
 
 -- what is known at entry is covered
 pub record IsEntered (there : Option StateValue) : Type 0 where
@@ -127,6 +132,17 @@ pub record IsWrittenIn (p : Program) (l : Loop) (register : ℕ) : Type 0 where
   pub inside : IsTrue (holds l slot)
   pub writes : IsWrittenBy (insn_at p slot) register
 
+-- an instruction is a store
+abbrev pub IsStoreAt : Option Insn → Type 0
+IsStoreAt None = ⊥
+IsStoreAt (Some insn) = IsTrue (is_store insn)
+
+-- an instruction of the loop is a store
+pub record HasStore (p : Program) (l : Loop) : Type 0 where
+  pub slot : ℕ
+  pub inside : IsTrue (holds l slot)
+  pub stores : IsStoreAt (insn_at p slot)
+
 -- nothing is known of a register but, at most, that it holds a number
 abbrev pub IsOpen : AbsKind → Type 0
 IsOpen Unset = Unit {0}
@@ -134,23 +150,27 @@ IsOpen (Num range) = range ≡ whole_range Bits64
 IsOpen (Ptr region offsets) = ⊥
 IsOpen (Map index) = ⊥
 
--- what is known at the head of a loop, which stands for every pass: its counter is 1 to its bound, and each
--- other register that the loop writes is open
+-- what is known at the head of a loop, which stands for every pass: its counter is 1 to its bound, each other
+-- register that the loop writes is open, and where the loop stores nothing is known of any place of the stack. The
+-- last is asked in version 2 alone: in version 1 no range of a place is ever read.
 pub record IsHead (p : Program) (l : Loop) (a : StateValue) : Type 0 where
   pub counter : kind_at a l.register ≡ Num (1, l.bound)
   pub others : (register : ℕ) → register ≢ l.register → IsWrittenIn p l register → IsOpen (kind_at a register)
+  pub places : spill_of p.version ≡ Keeps → HasStore p l → AreAllWhole a.ranges
 
 -- ---- justified
 
 -- the program has its form, and there is a table of whole states that covers the entry, permits the
--- instruction at each of them, and at the head of each loop, where it has a state, stands for every pass
+-- instruction at each of them, and at the head of each loop, where it has a state, stands for every pass.
+-- For a program of version 1 the ranges of places are never read: where there is such a table, there is one in
+-- which nothing is known of any place.
 pub record IsJustified (program : Program) (sizes : Maps) : Type 0 where
   pub limits : IsProgram program
   pub formed : IsFormed program
   pub table : ℕ → Option StateValue
   pub entered : IsEntered (table 0)
   pub whole : (slot : ℕ) → IfSome (table slot) IsWhole
-  pub permitted : (slot : ℕ) → IsPermittedAt sizes table slot (table slot) (insn_at program slot)
+  pub permitted : (slot : ℕ) → IsPermittedAt (spill_of program.version) sizes table slot (table slot) (insn_at program slot)
   pub heads : All (λ l. IfSome (table l.head) (IsHead program l)) program.loops
 
 -- ---- the region of an access

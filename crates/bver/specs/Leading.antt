@@ -10,6 +10,8 @@ use Rattle.absdom.specs.declared.cause.Cause.{Cause}
 use Rattle.absdom.specs.Edges.{Edges}
 use Rattle.absdom.specs.Effect.{after_insn}
 use Rattle.absdom.specs.State.{StateValue, IsWhole, after_call}
+use Rattle.absdom.specs.declared.spill.Spill.{Spill}
+use Rattle.absdom.specs.Spill.{spill_of}
 use Rattle.bver_form.specs.Jumps.{target}
 use Rattle.bver_form.specs.Lowered.{is_lowered}
 use Rattle.bver.specs.Heads.{Falls, IsDeclared, IsRaised, IsWithinBound}
@@ -31,26 +33,26 @@ BranchesBelow (Err cause) taken next = Unit {0}
 BranchesBelow (Ok edges) taken next = IsCoveredIfAny edges.taken taken × IsCoveredIfAny edges.not_taken next
 
 -- an instruction that goes on to the next one leaves what is covered there, where it is not refused
-abbrev pub ProceedsBelow : (above : ℕ → Option StateValue) (slot : ℕ) → StateValue → Insn → Type 0
-ProceedsBelow above slot a insn = GivesBelow (after_insn a insn) (above (slot + slots_of insn))
+abbrev pub ProceedsBelow : Spill → (above : ℕ → Option StateValue) (slot : ℕ) → StateValue → Insn → Type 0
+ProceedsBelow spill above slot a insn = GivesBelow (after_insn spill a insn) (above (slot + slots_of insn))
 
 -- on every edge that a run may take, what an instruction leaves is covered: as if it were permitted, but where it is
 -- refused nothing is asked
-abbrev pub LeadsBelow : (above : ℕ → Option StateValue) (slot : ℕ) → StateValue → Insn → Type 0
-LeadsBelow above slot a (Alu op width dst src) = ProceedsBelow above slot a (Alu op width dst src)
-LeadsBelow above slot a (Negate width dst) = ProceedsBelow above slot a (Negate width dst)
-LeadsBelow above slot a (MoveSigned extension dst src) = ProceedsBelow above slot a (MoveSigned extension dst src)
-LeadsBelow above slot a (ByteSwap swap bits dst) = ProceedsBelow above slot a (ByteSwap swap bits dst)
-LeadsBelow above slot a (Load size dst place) = ProceedsBelow above slot a (Load size dst place)
-LeadsBelow above slot a (Store size place src) = ProceedsBelow above slot a (Store size place src)
-LeadsBelow above slot a (Jump comparison offset) =
+abbrev pub LeadsBelow : Spill → (above : ℕ → Option StateValue) (slot : ℕ) → StateValue → Insn → Type 0
+LeadsBelow spill above slot a (Alu op width dst src) = ProceedsBelow spill above slot a (Alu op width dst src)
+LeadsBelow spill above slot a (Negate width dst) = ProceedsBelow spill above slot a (Negate width dst)
+LeadsBelow spill above slot a (MoveSigned extension dst src) = ProceedsBelow spill above slot a (MoveSigned extension dst src)
+LeadsBelow spill above slot a (ByteSwap swap bits dst) = ProceedsBelow spill above slot a (ByteSwap swap bits dst)
+LeadsBelow spill above slot a (Load size dst place) = ProceedsBelow spill above slot a (Load size dst place)
+LeadsBelow spill above slot a (Store size place src) = ProceedsBelow spill above slot a (Store size place src)
+LeadsBelow spill above slot a (Jump comparison offset) =
     BranchesBelow (edges_of_comparison a comparison) (knowledge_at above (target slot offset)) (above (slot + 1))
-LeadsBelow above slot a (Goto distance) = IsCovered a (knowledge_at above (target slot (distance_of distance)))
-LeadsBelow above slot a (Wide dst value) = ProceedsBelow above slot a (Wide dst value)
-LeadsBelow above slot a (LoadMap dst index) = ProceedsBelow above slot a (LoadMap dst index)
-LeadsBelow above slot a (LoadAddress dst address) = Unit {0}
-LeadsBelow above slot a (Call callee number) = IsCovered (after_call a) (above (slot + 1))
-LeadsBelow above slot a Exit = Unit {0}
+LeadsBelow spill above slot a (Goto distance) = IsCovered a (knowledge_at above (target slot (distance_of distance)))
+LeadsBelow spill above slot a (Wide dst value) = ProceedsBelow spill above slot a (Wide dst value)
+LeadsBelow spill above slot a (LoadMap dst index) = ProceedsBelow spill above slot a (LoadMap dst index)
+LeadsBelow spill above slot a (LoadAddress dst address) = Unit {0}
+LeadsBelow spill above slot a (Call callee number) = IsCovered (after_call a) (above (slot + 1))
+LeadsBelow spill above slot a Exit = Unit {0}
 
 -- what is known on the edge of a comparison on which it holds, where a run may take it
 abbrev pub taken_state : Result Edges Cause → Option StateValue
@@ -119,7 +121,7 @@ IsUncoveredIfAny p slot lowered known (Some edge) = IsUncovered p slot lowered k
 
 -- with what is known at its slot an instruction is refused: no table permits it, or its edge back is not covered
 pub data IsFlowFault (v : VisitValue) (lowered : List Bool) (known : ℕ → Option StateValue) (a : StateValue) (insn : Insn) : Type 0 where
-  refutes : IsRefuted v.sizes v.slot a insn → IsFlowFault v lowered known a insn
+  refutes : IsRefuted (spill_of v.program.version) v.sizes v.slot a insn → IsFlowFault v lowered known a insn
   returns : IsUncoveredIfAny v.program v.slot lowered known (jumping_state a insn) → IsFlowFault v lowered known a insn
 
 -- a run may come to the head of a declared loop at the slot with a counter outside its bound, or with none
@@ -150,14 +152,14 @@ IsRaisedIfAny p lowered slot (Some before) None = ⊥
 IsRaisedIfAny p lowered slot (Some before) (Some after) = IsRaisedAt p lowered slot before after
 
 -- where anything is known at the slot, it is covered there, and so is what the instruction leads to
-abbrev pub IsFollowedBelow : (above : ℕ → Option StateValue) (slot : ℕ) → Option StateValue → Insn → Type 0
-IsFollowedBelow above slot known insn = IfSome known (λ a. IsCovered a (above slot) × LeadsBelow above slot a insn)
+abbrev pub IsFollowedBelow : Spill → (above : ℕ → Option StateValue) (slot : ℕ) → Option StateValue → Insn → Type 0
+IsFollowedBelow spill above slot known insn = IfSome known (λ a. IsCovered a (above slot) × LeadsBelow spill above slot a insn)
 
 -- after the visit of the instruction at the slot no more is known than what came there, raised, and what it leads to, and
 -- no more is lowered than falls on its edge back
 pub record IsLeastVisit (v : VisitValue) (lowered now : List Bool) (old new : TableValue) (was runs : Bool) (before after : StateValue) (insn : Insn) : Type 0 where
   pub raised : IsRaisedIfAny v.program lowered v.slot (visited_state was before old v.slot) (visited_state was before new v.slot)
-  pub least : IsLeastNext (λ above. IsFollowedBelow above v.slot (visited_state was before new v.slot) insn) old new runs (v.slot + slots_of insn) after
+  pub least : IsLeastNext (λ above. IsFollowedBelow (spill_of v.program.version) above v.slot (visited_state was before new v.slot) insn) old new runs (v.slot + slots_of insn) after
   pub marks : AreLoweredBack v.program v.slot (knowledge_in old) (jumping_if_any (visited_state was before new v.slot) insn) lowered now
 
 -- the same at a second slot, where nothing is lowered

@@ -12,6 +12,7 @@ use Rattle.machine.specs.Step.{insn_at}
 use Rattle.absdom.specs.declared.cause.Cause.{Cause}
 use Rattle.absdom.specs.Edges.{Edges}
 use Rattle.absdom.specs.State.{StateValue, IsBelow, IsWhole}
+use Rattle.absdom.specs.Spill.{spill_of}
 use Rattle.bver_form.specs.Jumps.{first_slot, target}
 use Rattle.bver.specs.Justified.{AreEdgesCovered, IsHead, IsCovered, IsCoveredIfAny, IsEntered, IsPermittedAt, region_at, knowledge_at}
 use Rattle.bver.specs.Heads.{AreHeadsAt}
@@ -120,7 +121,7 @@ visited_state runs state table slot = if runs then Some state else knowledge_in 
 -- the visit of an instruction at the slot, from one running state to the next, where one stands: it is permitted where
 -- nothing was lowered, its region is the one that it accesses, and what is known at a head stands for every pass
 pub record IsInsnVisit (v : VisitValue) (old new : TableValue) (was runs : Bool) (before after : StateValue) (settled : Type 0) (region : Option Region) (insn : Insn) : Type 0 where
-  pub permitted : settled → IsPermittedAt v.sizes (knowledge_beside new runs (v.slot + slots_of insn) after) v.slot (visited_state was before new v.slot) (Some insn)
+  pub permitted : settled → IsPermittedAt (spill_of v.program.version) v.sizes (knowledge_beside new runs (v.slot + slots_of insn) after) v.slot (visited_state was before new v.slot) (Some insn)
   pub accesses : region ≡ region_at (visited_state was before new v.slot) (Some insn)
   pub heads : AreHeadsAt v.program v.slot (visited_state was before new v.slot)
   pub plain : IsTrue runs → IsPlain v.program (v.slot + slots_of insn)
@@ -162,4 +163,4 @@ pub record AreVisited (p : Program) (known : ℕ → Option StateValue) (regions
 
 -- what the slots before this one do is permitted
 abbrev pub ArePermitted : Program → (sizes : Maps) → (known : ℕ → Option StateValue) → (slot : ℕ) → Type 0
-ArePermitted p sizes known slot = (k : ℕ) → k < slot → IsPermittedAt sizes known k (known k) (insn_at p k)
+ArePermitted p sizes known slot = (k : ℕ) → k < slot → IsPermittedAt (spill_of p.version) sizes known k (known k) (insn_at p k)

@@ -2,16 +2,17 @@
 
 ghost use Rattle.std.specs.Prelude.{◌≡◌, ◌≤◌, ◌<◌, ◌↔◌, IfErr, IsTrue, OnOk, MatchResult, length};
 ghost use Rattle.bpf.specs.Program.{insn_at};
-ghost use Rattle.bver.specs.Justified.{IsCovered, IsWrittenBy, IsWrittenIn};
+ghost use Rattle.machine.specs.Laws.{is_store};
+ghost use Rattle.bver.specs.Justified.{HasStore, IsCovered, IsStoreAt, IsWrittenBy, IsWrittenIn};
 ghost use Rattle.bver_form.specs.Lowered.{IsMore, IsSettled};
 ghost use Rattle.bver.specs.Table.{knowledge_in};
-ghost use Rattle.bver.specs.Heads.{AreLowered, BodyValue, Falls, IsClosingFault, IsDeclared, IsEntryFault, IsRaised, IsRaisedKind, IsWithinBound, opened_kind};
+ghost use Rattle.bver.specs.Heads.{AreLowered, AreRaisedRanges, BodyValue, Falls, IsClosingFault, IsDeclared, IsEntryFault, IsRaised, IsRaisedKind, IsWithinBound, opened_kind};
 
 use crate::table::{Table, is_number};
 use absdom::{AbsKind, State};
 use absdom_num::Range;
 use bpf::{Image, Loop};
-use bpf_insn::Register;
+use bpf_insn::{Insn, Register};
 use bver_form::{Lowered, Refusal, Refused};
 use std::marker::Model;
 
@@ -41,6 +42,23 @@ fn writes_at(image: &Image, slot: u16, register: Register) -> bool
 {
     match image.insn(slot) {
         Some(insn) => insn.writes(register),
+        None => false,
+    }
+}
+
+/// Whether the instruction is a store: it accesses memory, and names no register that it writes.
+fn is_store(insn: &Insn) -> bool
+    ensures { result ≡ is_store insn.now }
+{
+    insn.accessed().is_some() && insn.written().is_none()
+}
+
+/// Whether the instruction at the slot is a store.
+fn stores_at(image: &Image, slot: u16) -> bool
+    ensures { IsTrue result ↔ IsStoreAt (insn_at image.now slot) }
+{
+    match image.insn(slot) {
+        Some(insn) => is_store(&insn),
         None => false,
     }
 }
@@ -102,6 +120,18 @@ impl<'a> Body<'a> {
         false
     }
 
+    /// Whether an instruction of the loop is a store.
+    fn stores(&self) -> bool
+        ensures { IsTrue result ↔ HasStore self.now.program self.now.declared }
+    {
+        for slot in self.declared.head..self.declared.back + 1 {
+            if stores_at(self.image, slot) {
+                return true;
+            }
+        }
+        false
+    }
+
     /// What is known of a register at the head, from what is known on the way there.
     fn raised(&self, lowered: &Lowered, register: Register, kind: AbsKind) -> AbsKind
         requires { register ≤ 9 }
@@ -118,11 +148,23 @@ impl<'a> Body<'a> {
         }
     }
 
-    /// Raises each register.
-    fn raise_registers(&self, lowered: &Lowered, state: &mut State)
+    /// Raises the ranges of the stack's places. A program of version 1 has none, so there nothing changes.
+    fn raise_ranges(&self, state: &mut State)
+        ensures kinds { state.new.kinds ≡ state.old.kinds }
+        ensures marks { state.new.marks ≡ state.old.marks }
+        ensures ranges { AreRaisedRanges self.now.program self.now.declared state.old state.new }
+    {
+        if self.stores() {
+            state.forget_places();
+        }
+    }
+
+    /// Raises the ranges of places, and each register.
+    fn raise_all(&self, lowered: &Lowered, state: &mut State)
         ensures { IsRaised self.now.program self.now.declared lowered.now self.now.place
             state.old state.new }
     {
+        self.raise_ranges(state);
         for number in 0..10 {
             match Register::new(number) {
                 Some(register) => {
@@ -137,7 +179,7 @@ impl<'a> Body<'a> {
 
     /// Raises what is known at the head to what stands for every pass: the counter is 1 to the bound, of
     /// each other register that the loop writes any number is known, and nothing where it was lowered or is
-    /// no number.
+    /// no number; where the loop stores, nothing is known of any place of the stack.
     ///
     /// # Errors
     ///
@@ -153,7 +195,7 @@ impl<'a> Body<'a> {
         if !state.kind(self.declared.register).leq(&counter) {
             return Err(Refusal::LoopEntry);
         }
-        self.raise_registers(lowered, state);
+        self.raise_all(lowered, state);
         Ok(())
     }
 

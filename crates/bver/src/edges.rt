@@ -4,6 +4,7 @@ ghost use Rattle.std.specs.Prelude.{◌≡◌, ◌+◌, ◌⊎◌, IfErr, IfOk, 
 ghost use Rattle.bpf_insn.specs.Spelling.{slots_of};
 ghost use Rattle.machine.specs.Step.{insn_at, is_map};
 ghost use Rattle.absdom.specs.Effect.{after_insn};
+ghost use Rattle.absdom.specs.Spill.{spill_of};
 ghost use Rattle.absdom.specs.Edges.{edge_state, edge_states};
 ghost use Rattle.absdom.specs.Kinds.{map_of, number_of};
 ghost use Rattle.absdom.specs.State.{after_call, kind_at};
@@ -84,12 +85,14 @@ fn jump(
     }
 }
 
-/// Follows the edge of a comparison on which it holds, if a run may take it.
+/// Follows the edge of a comparison on which it holds, if a run may take it. What is known there is made in the
+/// spare state.
 fn follow_taken(
     visit: &Visit,
     table: &mut Table<'_>,
     lowered: &mut Lowered,
     state: &State,
+    spare: &mut State,
     comparison: &Comparison,
     distance: i32,
     edge: &Option<Operands>,
@@ -121,9 +124,9 @@ fn follow_taken(
     order_of_states();
     match edge {
         Some(new) => {
-            let mut state = *state;
-            state.narrow(comparison.dst, &comparison.src, new);
-            jump(visit, table, lowered, distance, &state)
+            spare.set_to(state);
+            spare.narrow(comparison.dst, &comparison.src, new);
+            jump(visit, table, lowered, distance, spare)
         }
         None => Ok(()),
     }
@@ -181,6 +184,7 @@ fn branch(
     table: &mut Table<'_>,
     lowered: &mut Lowered,
     state: &mut State,
+    spare: &mut State,
     comparison: &Comparison,
     distance: i32,
     edges: &Edges,
@@ -219,6 +223,7 @@ fn branch(
         table,
         lowered,
         state,
+        spare,
         comparison,
         distance,
         &edges.taken,
@@ -234,6 +239,7 @@ fn compare(
     table: &mut Table<'_>,
     lowered: &mut Lowered,
     state: &mut State,
+    spare: &mut State,
     comparison: &Comparison,
     offset: i16,
 ) -> Result<bool, Refused>
@@ -280,6 +286,7 @@ fn compare(
                 table,
                 lowered,
                 state,
+                spare,
                 comparison,
                 i32::from(offset),
                 &edges,
@@ -300,20 +307,20 @@ fn straight(
     requires table { IsTableOf visit.now table.old }
     requires next { IsNext visit.now (slots_of insn.now) }
     ensures covered { IfOk result
-        (λ runs. IsResultCovered (after_insn state.old insn.now)
+        (λ runs. IsResultCovered (after_insn (spill_of visit.now.program.version) state.old insn.now)
         (knowledge_next table.new runs (visit.now.slot + slots_of insn.now) state.new)) }
     ensures least { IfOk result
-        (λ runs. IsLeastNext (λ above. GivesBelow (after_insn state.old insn.now)
+        (λ runs. IsLeastNext (λ above. GivesBelow (after_insn (spill_of visit.now.program.version) state.old insn.now)
         (above (visit.now.slot + slots_of insn.now)))
         table.old table.new runs (visit.now.slot + slots_of insn.now) state.new) }
-    ensures refuted { IfErr result (λ _. IsErr (after_insn state.old insn.now)) }
+    ensures refuted { IfErr result (λ _. IsErr (after_insn (spill_of visit.now.program.version) state.old insn.now)) }
     ensures plain { IfOk result
         (GoesOnPlain visit.now.program (visit.now.slot + slots_of insn.now)) }
     ensures extended { IsExtendedAfter visit.now table.old table.new }
     ensures refused { IfErr result (IsValueFault visit.now.program) }
 {
     order_of_states();
-    match state.apply(insn) {
+    match state.apply(visit.spill(), insn) {
         Ok(()) => Ok(go_on(visit, table, state, insn.slots())),
         Err(cause) => Err(visit.refused(refusal_of(cause))),
     }
@@ -449,7 +456,8 @@ pub(crate) fn accessed_region(state: &State, insn: &Insn) -> Option<Region>
 /// Tests an instruction with what is known at its slot, and follows the edges that a run may take from
 /// there. The state is changed to what is known at the next instruction, and stays the running one there
 /// where the result is true. An edge back to the head of a loop may lower registers there; the instruction
-/// is permitted where none was lowered.
+/// is permitted where none was lowered. The spare state is for what is known on an edge of a comparison, and is any
+/// state before and after.
 ///
 /// # Errors
 ///
@@ -461,6 +469,7 @@ pub(crate) fn flow(
     table: &mut Table<'_>,
     lowered: &mut Lowered,
     state: &mut State,
+    spare: &mut State,
     insn: &Insn,
 ) -> Result<bool, Refused>
     requires table { IsTableOf visit.now table.old }
@@ -469,11 +478,12 @@ pub(crate) fn flow(
     requires next { HasNext visit.now insn.now }
     ensures permitted { IfOk result
         (λ runs. IsSettled lowered.old lowered.new
-        → IsPermitted visit.now.sizes
+        → IsPermitted (spill_of visit.now.program.version) visit.now.sizes
         (knowledge_beside table.new runs
         (visit.now.slot + slots_of insn.now) state.new) visit.now.slot state.old insn.now) }
     ensures least { IfOk result
-        (λ runs. IsLeastNext (λ above. LeadsBelow above visit.now.slot state.old insn.now)
+        (λ runs. IsLeastNext (λ above. LeadsBelow (spill_of visit.now.program.version) above
+        visit.now.slot state.old insn.now)
         table.old table.new runs (visit.now.slot + slots_of insn.now) state.new) }
     ensures plain { IfOk result
         (GoesOnPlain visit.now.program (visit.now.slot + slots_of insn.now)) }
@@ -500,7 +510,7 @@ pub(crate) fn flow(
             straight(visit, table, state, insn)
         }
         Insn::Jump { comparison, offset } => {
-            compare(visit, table, lowered, state, comparison, *offset)
+            compare(visit, table, lowered, state, spare, comparison, *offset)
         }
         Insn::Goto { distance } => {
             jump(visit, table, lowered, distance.slots(), state)?;

@@ -137,6 +137,7 @@ fn visit_insn(
     table: &mut Table<'_>,
     lowered: &mut Lowered,
     state: &mut State,
+    spare: &mut State,
     runs: &mut bool,
     insn: &Insn,
 ) -> Result<Option<Region>, Refused>
@@ -164,7 +165,7 @@ fn visit_insn(
     }
     state.stands_whole();
     let region = accessed_region(state, insn);
-    let goes_on = flow(visit, table, lowered, state, insn)?;
+    let goes_on = flow(visit, table, lowered, state, spare, insn)?;
     *runs = goes_on;
     Ok(region)
 }
@@ -175,6 +176,7 @@ fn visit_slot(
     table: &mut Table<'_>,
     lowered: &mut Lowered,
     state: &mut State,
+    spare: &mut State,
     runs: &mut bool,
 ) -> Result<Option<Region>, Refused>
     requires table { IsTableOf visit.now table.old }
@@ -194,7 +196,7 @@ fn visit_slot(
         (insn_at visit.now.program visit.now.slot)) }
 {
     match visit.insn() {
-        Some(insn) => visit_insn(visit, table, lowered, state, runs, &insn),
+        Some(insn) => visit_insn(visit, table, lowered, state, spare, runs, &insn),
         None => Ok(None),
     }
 }
@@ -238,10 +240,11 @@ pub(crate) fn pass(
     refine_shrinks();
     loops_are_counted();
     let mut state = State::entry();
+    let mut spare = State::entry();
     let mut runs = false;
     for slot in 0..image.slots() {
         let visit = Visit::new(image, sizes, slot);
-        let region = visit_slot(&visit, table, lowered, &mut state, &mut runs)?;
+        let region = visit_slot(&visit, table, lowered, &mut state, &mut spare, &mut runs)?;
         regions[usize::from(slot)] = region;
         table.stands_at_targets();
         state.stands_whole();

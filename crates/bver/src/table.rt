@@ -66,7 +66,7 @@ impl Known {
         if self.is_known {
             self.state.join(state);
         } else {
-            self.state = *state;
+            self.state.set_to(state);
             self.is_known = true;
         }
     }
@@ -82,7 +82,7 @@ impl Known {
     fn put(&mut self, state: &State)
         ensures { self.new ≡ Some state.now }
     {
-        self.state = *state;
+        self.state.set_to(state);
         self.is_known = true;
     }
 
@@ -105,7 +105,7 @@ impl Known {
         ensures { self.now ≡ (if result then Some state.new else None) }
     {
         if self.is_known {
-            *state = self.state;
+            state.set_to(&self.state);
         }
         self.is_known
     }

@@ -3,6 +3,7 @@
 ghost use Rattle.std.specs.Prelude.{◌≡◌, ◌≢◌, IfSome, IsSome, None, All, false, length, nat_lt, slice_index};
 ghost use Rattle.bpf.specs.Program.{IsProgram};
 ghost use Rattle.machine.specs.Step.{insn_at};
+ghost use Rattle.absdom.specs.Spill.{spill_of};
 ghost use Rattle.bver_form.specs.Form.{IsFormed};
 ghost use Rattle.bver_form.specs.Jumps.{first_slot, is_loop_back, target};
 ghost use Rattle.bver.specs.Heads.{IsDeclared};
@@ -10,6 +11,7 @@ ghost use Rattle.bver_form.specs.Targets.{IsKept};
 ghost use Rattle.bver.specs.Visit.{VisitValue};
 
 use crate::body::Body;
+use absdom::Spill;
 use bpf::Image;
 use bpf_insn::Insn;
 use bver_form::{Refusal, Refused};
@@ -52,6 +54,13 @@ impl<'a> Visit<'a> {
         ensures formed { IsFormed self.now.program }
     {
         self.slot
+    }
+
+    /// Whether numbers on the stack keep their ranges, by the version of the program.
+    pub(crate) fn spill(&self) -> Spill
+        ensures { result ≡ spill_of self.now.program.version }
+    {
+        Spill::of_version(self.image.version())
     }
 
     /// The instruction that begins there. `None` at a second slot.

@@ -12,8 +12,9 @@
 //! the file `pieces.txt` has a number of ports, the packet lines of a file, what `judge` prints of them on a fresh node, both
 //! apart by `/`, and its exit status. Each line of the file `schedules.txt` has a name, map sizes, a number of ports, the
 //! text of an image, events at the ports and what each comes to; lines of the text are apart by `;`, the others by `/`, and
-//! `-` stands for no maps and for the factory image. A line that begins with `#` says where the others come from. Prints
-//! each line at which this workspace differs, and how many lines agree.
+//! `-` stands for no maps and for the factory image. Each line of the file `version2.txt` has a name, map sizes, a version of
+//! the format, the text of a program, whose lines are apart by `;`, and what `verify` prints of its image. A line that begins
+//! with `#` says where the others come from. Prints each line at which this workspace differs, and how many lines agree.
 #![tactic(auto)]
 
 mod calls;
@@ -22,6 +23,7 @@ mod packets;
 mod pieces;
 mod policies;
 mod schedules;
+mod versions;
 
 use anyhow::{Context, Result};
 use basm::{assemble, disassemble};
@@ -50,6 +52,9 @@ const PIECES: &str = "pieces.txt";
 
 /// The file of schedules.
 const SCHEDULES: &str = "schedules.txt";
+
+/// The file of programs in both versions of the format.
+const VERSIONS: &str = "version2.txt";
 
 /// Whether the bytes are the instruction's, all of them.
 fn is_spelling(insn: &Insn, bytes: &[u8]) -> bool {
@@ -227,6 +232,12 @@ fn main(rt: HostRuntime) -> Result<()> {
         &fs::read_to_string(&rt, SCHEDULES)?,
         "schedules",
         |_name, row| schedules::agrees(&rt, alloc, row),
+        &mut out,
+    )?;
+    compare(
+        &fs::read_to_string(&rt, VERSIONS)?,
+        "programs in both versions",
+        |_name, row| versions::agrees(&rt, alloc, row),
         &mut out,
     )?;
     let printed = packets::printed(&rt, rt.alloc())?;

@@ -7,6 +7,7 @@ use Rattle.bpf_parts.specs.Operands.{distance_of}
 use Rattle.bpf_insn.specs.Spelling.{slots_of}
 use Rattle.machine.specs.Sizes.{Maps}
 use Rattle.absdom.specs.Effect.{after_insn}
+use Rattle.absdom.specs.declared.spill.Spill.TheVariants.{Forgets}
 use Rattle.absdom.specs.State.{IsWhole, StateValue, after_call}
 use Rattle.bver_form.specs.Jumps.{jump_distance, target}
 use Rattle.bver_form.specs.Support.{IsSupported, LeavesFrame}
@@ -24,7 +25,7 @@ LandsIn slots slot (negsuc n) = ⊥
 -- an instruction may stand at the slot, and what is known there permits it
 pub record IsServed (sizes : Maps) (table : Knowledge) (slots : List (Option Insn)) (slot : ℕ) (a : StateValue) (insn : Insn) : Type 0 where
   pub whole : IsWhole a
-  pub permitted : IsPermitted sizes table slot a insn
+  pub permitted : IsPermitted Forgets sizes table slot a insn
   pub supported : IsSupported insn
   pub leaves_frame : LeavesFrame insn
   pub lands : IfSome (jump_distance insn) (LandsIn slots slot)
@@ -76,10 +77,10 @@ module _ (sizes : Maps) (table : Knowledge) (slots : List (Option Insn)) (slot :
       ap (λ (k : ℕ). before first table k) same
   knowledge_further (negsuc n) h = absurd h
 
-  proceeds_further : (a : StateValue) (i : Insn) → IsResultCovered (after_insn a i) (table (slot + slots_of i)) → IsResultCovered (after_insn a i) (before first table (suc slot + slots_of i))
-  proceeds_further a i h = subst (λ (there : Option StateValue). IsResultCovered (after_insn a i) there) (sym (known_further first table slot (slots_of i))) h
+  proceeds_further : (a : StateValue) (i : Insn) → IsResultCovered (after_insn Forgets a i) (table (slot + slots_of i)) → IsResultCovered (after_insn Forgets a i) (before first table (suc slot + slots_of i))
+  proceeds_further a i h = subst (λ (there : Option StateValue). IsResultCovered (after_insn Forgets a i) there) (sym (known_further first table slot (slots_of i))) h
 
-  permitted_further : (a : StateValue) (i : Insn) → IfSome (jump_distance i) (LandsIn slots slot) → IsPermitted sizes table slot a i → IsPermitted sizes (before first table) (suc slot) a i
+  permitted_further : (a : StateValue) (i : Insn) → IfSome (jump_distance i) (LandsIn slots slot) → IsPermitted Forgets sizes table slot a i → IsPermitted Forgets sizes (before first table) (suc slot) a i
   permitted_further a (Alu op width dst src) lands h = proceeds_further a (Alu op width dst src) h
   permitted_further a (Negate width dst) lands h = proceeds_further a (Negate width dst) h
   permitted_further a (MoveSigned extension dst src) lands h = proceeds_further a (MoveSigned extension dst src) h

@@ -17,6 +17,7 @@ use Rattle.absdom.specs.declared.cause.Cause.{Cause}
 use Rattle.absdom.specs.declared.kinds.AbsKind.{AbsKind}
 use Rattle.absdom.specs.declared.kinds.AbsKind.TheVariants.{Map}
 use Rattle.absdom.specs.Edges.{Edges, refined_edges}
+use Rattle.absdom.specs.declared.spill.Spill.TheVariants.{Forgets}
 use Rattle.absdom.specs.Effect.{after_insn, alu_kind, load_kind, map_kind, operand_kind, with_result}
 use Rattle.absdom.specs.Laws.{AreEdgesBelow, BelowIsReflexive, BelowIsTransitive, RefineShrinks}
 use Rattle.absdom.specs.State.{IsBelow, IsWhole, StateValue, kind_at, with_kind}
@@ -62,7 +63,7 @@ begun sizes behind there slots h = record {
 -- ---- one instruction more
 
 module _ (sizes : Maps) (a next : StateValue) (behind : ℕ) (there : Option StateValue) (slots : List (Option Insn)) (whole : IsWhole a) where
-  one_before : (insn : Insn) → ((table : Knowledge) → table 1 ≡ Some next → IsPermitted sizes table 0 a insn)
+  one_before : (insn : Insn) → ((table : Knowledge) → table 1 ≡ Some next → IsPermitted Forgets sizes table 0 a insn)
       → IsSupported insn → LeavesFrame insn → jump_distance insn ≡ None
       → IsJustifiedFrom sizes next behind there slots → IsJustifiedFrom sizes a (suc behind) there (Some insn ∷ slots)
   one_before insn permits supported leaves_frame straight rest =
@@ -82,25 +83,25 @@ module _ (sizes : Maps) (a next : StateValue) (behind : ℕ) (there : Option Sta
         further = rest.further;
       }
 
-  pub load_before : (size : LoadSize) (dst base offset : ℕ) → (dst == 10) ≡ false → IsResultCovered (with_result a dst (load_kind a size (kind_at a base) (pos offset))) (Some next)
+  pub load_before : (size : LoadSize) (dst base offset : ℕ) → (dst == 10) ≡ false → IsResultCovered (with_result a dst (load_kind Forgets a size (kind_at a base) (pos offset))) (Some next)
       → IsJustifiedFrom sizes next behind there slots → IsJustifiedFrom sizes a (suc behind) there (Some (loaded size dst base offset) ∷ slots)
   load_before size dst base offset other covered rest =
       one_before (loaded size dst base offset)
-      (λ table is. subst (λ (o : Option StateValue). IsResultCovered (after_insn a (loaded size dst base offset)) o) (sym is) covered)
+      (λ table is. subst (λ (o : Option StateValue). IsResultCovered (after_insn Forgets a (loaded size dst base offset)) o) (sym is) covered)
       tt (eqb-false dst 10 other) refl rest
 
   pub alu_before : (op : AluOp) (width : Width) (dst : ℕ) (src : Operand) → (dst == 10) ≡ false → IsResultCovered (with_result a dst (alu_kind op width (kind_at a dst) (operand_kind a src))) (Some next)
       → IsJustifiedFrom sizes next behind there slots → IsJustifiedFrom sizes a (suc behind) there (Some (Alu op width dst src) ∷ slots)
   alu_before op width dst src other covered rest =
       one_before (Alu op width dst src)
-      (λ table is. subst (λ (o : Option StateValue). IsResultCovered (after_insn a (Alu op width dst src)) o) (sym is) covered)
+      (λ table is. subst (λ (o : Option StateValue). IsResultCovered (after_insn Forgets a (Alu op width dst src)) o) (sym is) covered)
       tt (eqb-false dst 10 other) refl rest
 
-  pub swap_before : (dst : ℕ) → (dst == 10) ≡ false → IsResultCovered (after_insn a (swapped dst)) (Some next)
+  pub swap_before : (dst : ℕ) → (dst == 10) ≡ false → IsResultCovered (after_insn Forgets a (swapped dst)) (Some next)
       → IsJustifiedFrom sizes next behind there slots → IsJustifiedFrom sizes a (suc behind) there (Some (swapped dst) ∷ slots)
   swap_before dst other covered rest =
       one_before (swapped dst)
-      (λ table is. subst (λ (o : Option StateValue). IsResultCovered (after_insn a (swapped dst)) o) (sym is) covered)
+      (λ table is. subst (λ (o : Option StateValue). IsResultCovered (after_insn Forgets a (swapped dst)) o) (sym is) covered)
       tt (eqb-false dst 10 other) refl rest
 
 -- ---- comparisons

@@ -26,6 +26,7 @@ use Rattle.absdom.specs.declared.kinds.AbsKind.{AbsKind}
 use Rattle.absdom.specs.declared.kinds.AbsKind.TheVariants.{Unset, Num, Map}
 use Rattle.absdom.specs.declared.cause.Cause.{Cause}
 use Rattle.absdom.specs.Edges.{refined_edges}
+use Rattle.absdom.specs.declared.spill.Spill.TheVariants.{Forgets}
 use Rattle.absdom.specs.Effect.{load_kind, map_kind, with_result}
 use Rattle.absdom.specs.Kinds.{IsKindBelow}
 use Rattle.absdom.specs.Laws.{BelowIsReflexive, BelowIsTransitive, RefineShrinks}
@@ -166,12 +167,12 @@ module _ (laws : Laws) (sizes : Maps) where
   kind_stretch Rmw behind insns rest = masked 252 92 behind insns rest
 
   -- through a register from which a byte at the offset can be read
-  field_stretch : (field : Option ℕ) (base offset behind : ℕ) (insns : List Insn) → load_kind between LoadByte (kind_at between base) (pos offset) ≡ Ok (Num (0, 2 ^ 8 - 1))
+  field_stretch : (field : Option ℕ) (base offset behind : ℕ) (insns : List Insn) → load_kind Forgets between LoadByte (kind_at between base) (pos offset) ≡ Ok (Num (0, 2 ^ 8 - 1))
       → IsStretch sizes between behind insns → IsStretch sizes between (behind + field_slots field) (field_test field base offset behind ++ insns)
   field_stretch None base offset behind insns readable rest = again sizes between behind (behind + 0) insns (omega arith) rest
   field_stretch (Some wanted) base offset behind insns readable rest =
       let compared = test behind _ NotEqual 0 (Immediate (pos wanted)) refl rest in
-      let covered : IsResultCovered (with_result between 0 (load_kind between LoadByte (kind_at between base) (pos offset))) (Some comparing) =
+      let covered : IsResultCovered (with_result between 0 (load_kind Forgets between LoadByte (kind_at between base) (pos offset))) (Some comparing) =
       subst (λ (r : Result AbsKind Cause). IsResultCovered (with_result between 0 r) (Some comparing)) (sym readable) (below_in_rules byte_number tt tt) in
       let read = load_before sizes between comparing (suc behind) (Some between) _ whole_between LoadByte 0 base offset refl covered compared in
       again sizes between (suc (suc behind)) (behind + 2) (field_test (Some wanted) base offset behind ++ insns) (omega arith) read
@@ -260,7 +261,7 @@ module _ (laws : Laws) (sizes : Maps) where
 -- ---- the whole
 
 permitted_at : (sizes : Maps) (table : Knowledge) (slots : List (Option Insn)) (slot : ℕ) (a : Option StateValue) (insn : Option Insn)
-    → IsServedAt sizes table slots slot a insn → IsPermittedAt sizes table slot a insn
+    → IsServedAt sizes table slots slot a insn → IsPermittedAt Forgets sizes table slot a insn
 permitted_at sizes table slots slot None insn h = tt
 permitted_at sizes table slots slot (Some a) None h = h
 permitted_at sizes table slots slot (Some a) (Some insn) h = h.permitted

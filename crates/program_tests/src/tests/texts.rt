@@ -101,6 +101,22 @@ exit|0|7
 .budget 1/.loop 0, 1, 1, r10/exit/exit|2|8
 .budget 1/.loop 0, end, 1, r0/exit/exit/end:|2|8
 .budget 1/.loop 0, 1, 1, r0/.loop 0, 2, 1, r1/exit/exit/exit|3|8
+.version/.budget 1/exit|1|2
+.version x/.budget 1/exit|1|2
+.version +2/.budget 1/exit|1|2
+.version 0x/.budget 1/exit|1|2
+.version 2 2/.budget 1/exit|1|2
+.version 2, 2/.budget 1/exit|1|2
+.version 0/.budget 1/exit|1|10
+.version -1/.budget 1/exit|1|10
+.version 3/.budget 1/exit|1|10
+.version 257/.budget 1/exit|1|10
+.version 2147483648/.budget 1/exit|1|10
+.version 99999999999/.budget 1/exit|1|10
+.version 0x000000002/.budget 1/exit|1|10
+.version 2/.version 2/.budget 1/exit|2|10
+.version 1/.version 1/.budget 1/exit|2|10
+.version 1/.budget 1/exit/.version 2|4|10
 ";
 
 /// Texts with several faults, and the one that is named.
@@ -121,6 +137,14 @@ const ORDER: &str = "\
 .budget 1/ja nowhere/mov r11, 0/exit|2|4
 .budget 1/a:/a:/frob/exit|3|4
 .budget 1/frob/a:/a:/exit|2|1
+frob/.version 3/.budget 1/exit|1|1
+.version 3/frob/.budget 1/exit|1|10
+.version 2/.version x/.budget 1/exit|2|2
+.version 2/.version 3/.budget 1/exit|2|10
+.version 3/.version/.budget 1/exit|1|10
+.version 3/.budget 0/exit|1|10
+.version 3|0|6
+.version 3/exit|0|7
 frob/exit|0|7
 frob|0|7
 .budget x|0|6
@@ -161,6 +185,10 @@ exit/.budget 65536/mov32 r9, 0xFfFfFfFe/mov r10, -2147483648|.budget 65536/exit/
 .budget 9/ldxb r0, [r1+0x10]/ldxb r0, [r1-0x10]/ldxb r0, [r1+00]/ldxb r0, [r1-32768]/exit|.budget 9/ldxb r0, [r1+16]/ldxb r0, [r1-16]/ldxb r0, [r1+0]/ldxb r0, [r1-32768]/exit/
 .budget 9/.loop head, back, 3, r1/mov r1, 3/head:/add r1, -1/back: ; the jump/jne r1, 0, head/exit|.budget 9/.loop 1, 2, 3, r1/mov r1, 3/add r1, -1/jne r1, 0, -2/exit/
 .budget 9/.loop 2, 3, 1, r0/.loop 0, 1, 1, r0/exit/exit/exit/ja32 -2147483648|.budget 9/.loop 0, 1, 1, r0/.loop 2, 3, 1, r0/exit/exit/exit/ja32 -2147483648/
+.version 1/.budget 2/mov r0, 0/exit|.budget 2/mov r0, 0/exit/
+.version 2/.budget 2/mov r0, 0/exit|.version 2/.budget 2/mov r0, 0/exit/
+.budget 2/mov r0, 0/exit/  .version  0x2 ; the last line|.version 2/.budget 2/mov r0, 0/exit/
+ja end/.version 002/.budget 9/.loop 1, 2, 1, r0/exit/exit/end:/exit|.version 2/.budget 9/.loop 1, 2, 1, r0/ja +2/exit/exit/exit/
 ";
 
 /// The text of these lines.
@@ -348,11 +376,16 @@ fn images_have_their_bytes(rt: HostRuntime) -> Result<(), Fail> {
     let alloc = rt.alloc();
     let mut deny = YES;
     deny[20] = 10;
-    for (text, bytes) in [
-        (".budget 2/mov r0, 0/exit", YES),
-        (".budget 2/mov r0, 10/exit", deny),
+    let mut second = YES;
+    second[4] = 2;
+    for (text, bytes, version) in [
+        (".budget 2/mov r0, 0/exit", YES, 1),
+        (".version 1/.budget 2/mov r0, 0/exit", YES, 1),
+        (".budget 2/mov r0, 10/exit", deny, 1),
+        (".version 2/.budget 2/mov r0, 0/exit", second, 2),
     ] {
         let image = assemble(alloc, &lines(alloc, text)?)?;
+        same(&rt, "images have their bytes", image.version(), version);
         same(
             &rt,
             "images have their bytes",

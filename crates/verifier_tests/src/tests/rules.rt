@@ -2,26 +2,44 @@
 //! tables were read off the rules by hand; those of the third, and the others once more, are the answers of
 //! a verifier written apart in Python from the rules.
 
-use bver::verify;
+use bver::{MapSizes, verify};
 use std::alloc::Global;
 use std::process::Abort;
 use std::test::Fail;
 use trial::{Row, answer, image_of_text, sizes};
 
-/// A row has a name, a program, its budget, map sizes and the answer.
+/// A row has a name, a program, its budget, map sizes and the answer. What is accepted is accepted in version 2 too, with
+/// the same weight.
 fn check(rt: &impl Abort, alloc: Global, line: &str) -> Result<(), Fail> {
     let mut row = Row::of(line);
     let name = row.part()?;
     let program = row.part()?;
-    let image = image_of_text(alloc, program, row.part()?.parse::<u32>()?)?;
+    let budget = row.part()?.parse::<u32>()?;
     let sizes = sizes(alloc, row.part()?)?;
     let wanted = answer(row.part()?)?;
-    let found = match verify(alloc, image, &sizes) {
-        Ok(_) => None,
-        Err(refused) => Some((refused.number(), refused.slot)),
-    };
+    let (found, weight) = verified(alloc, program, budget, &sizes)?;
     assert!(rt; found == wanted, "{name}");
+    if wanted.is_none() {
+        let text = format!(in alloc; ".version 2; {program}")?;
+        let again = verified(alloc, &text, budget, &sizes)?;
+        assert!(rt; again == (None, weight), "{name} in version 2");
+    }
     Ok(())
+}
+
+/// Why a program is refused, if it is, and its weight.
+fn verified(
+    alloc: Global,
+    program: &str,
+    budget: u32,
+    sizes: &MapSizes,
+) -> Result<(Option<(u8, u16)>, u64), Fail> {
+    let image = image_of_text(alloc, program, budget)?;
+    let weight = image.weight();
+    Ok(match verify(alloc, image, sizes) {
+        Ok(_) => (None, weight),
+        Err(refused) => (Some((refused.number(), refused.slot)), weight),
+    })
 }
 
 fn check_all(rt: &impl Abort, alloc: Global, table: &str) -> Result<(), Fail> {

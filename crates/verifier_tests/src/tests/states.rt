@@ -1,7 +1,7 @@
 //! The calls on states that a program meets, with the answers of the table.
 
 use crate::tests::checks::{check, same};
-use absdom::{AbsKind, Cause, Offsets, Region, State, refine};
+use absdom::{AbsKind, Cause, Offsets, Region, Spill, State, refine};
 use absdom_num::Range;
 use bpf_insn::{AluOp, Condition, Insn, LoadSize, Operand, Place, Register, Size, Width};
 use std::test::Fail;
@@ -93,37 +93,37 @@ fn each_refusal_has_its_cause(rt: HostRuntime) -> Result<(), Fail> {
     same(
         &rt,
         "each refusal has its cause",
-        state.apply(&add(r4, 1)),
+        state.apply(Spill::Forgets, &add(r4, 1)),
         Err(Cause::UnsetOperand),
     );
     same(
         &rt,
         "each refusal has its cause",
-        state.apply(&negate),
+        state.apply(Spill::Forgets, &negate),
         Err(Cause::KindMismatch),
     );
     same(
         &rt,
         "each refusal has its cause",
-        state.apply(&load(r4, r1, 0)),
+        state.apply(Spill::Forgets, &load(r4, r1, 0)),
         Err(Cause::OutOfRegion),
     );
     same(
         &rt,
         "each refusal has its cause",
-        state.apply(&load(r4, r10, -8)),
+        state.apply(Spill::Forgets, &load(r4, r10, -8)),
         Err(Cause::UnsetStack),
     );
     same(
         &rt,
         "each refusal has its cause",
-        state.apply(&store(r1, 0)),
+        state.apply(Spill::Forgets, &store(r1, 0)),
         Err(Cause::HeaderWrite),
     );
     same(
         &rt,
         "each refusal has its cause",
-        state.apply(&add(r1, 65_537)),
+        state.apply(Spill::Forgets, &add(r1, 65_537)),
         Err(Cause::PointerRange),
     );
     let entry = State::entry();
@@ -151,10 +151,11 @@ fn each_refusal_has_its_cause(rt: HostRuntime) -> Result<(), Fail> {
 fn bytes_that_were_stored_are_loaded(rt: HostRuntime) -> Result<(), Fail> {
     let (r4, r10) = (register(4)?, register(10)?);
     let entry = State::entry();
-    let mut state = entry;
-    state.apply(&store(r10, -8))?;
-    let stored = state;
-    state.apply(&load(r4, r10, -8))?;
+    let mut state = State::entry();
+    state.apply(Spill::Forgets, &store(r10, -8))?;
+    let mut stored = State::entry();
+    stored.set_to(&state);
+    state.apply(Spill::Forgets, &load(r4, r10, -8))?;
     same(
         &rt,
         "bytes that were stored are loaded",
@@ -171,9 +172,49 @@ fn bytes_that_were_stored_are_loaded(rt: HostRuntime) -> Result<(), Fail> {
     same(
         &rt,
         "bytes that were stored are loaded",
-        state.apply(&load(r4, r10, -8)),
+        state.apply(Spill::Forgets, &load(r4, r10, -8)),
         Err(Cause::UnsetStack),
     );
+    Ok(())
+}
+
+#[test]
+fn numbers_that_are_kept_keep_their_range(rt: HostRuntime) -> Result<(), Fail> {
+    let (r4, r10) = (register(4)?, register(10)?);
+    let mut forgotten = State::entry();
+    forgotten.apply(Spill::Forgets, &store(r10, -8))?;
+    let mut kept = State::entry();
+    kept.apply(Spill::Keeps, &store(r10, -8))?;
+    check(&rt, "a range is less than none", kept.leq(&forgotten));
+    check(&rt, "none is not less than a range", !forgotten.leq(&kept));
+    let mut state = State::entry();
+    state.set_to(&kept);
+    state.apply(Spill::Keeps, &load(r4, r10, -8))?;
+    same(
+        &rt,
+        "a number that is kept",
+        state.kind(r4),
+        AbsKind::Num(Range::single(u64::MAX)),
+    );
+    state.join(&forgotten);
+    state.apply(Spill::Keeps, &load(r4, r10, -8))?;
+    same(
+        &rt,
+        "a number that one side forgot",
+        state.kind(r4),
+        AbsKind::Num(Range::whole()),
+    );
+    kept.apply(Spill::Keeps, &store(r10, -12))?;
+    kept.apply(Spill::Keeps, &load(r4, r10, -8))?;
+    same(
+        &rt,
+        "a number that was written over",
+        kept.kind(r4),
+        AbsKind::Num(Range::whole()),
+    );
+    kept.apply(Spill::Keeps, &store(r10, -8))?;
+    kept.forget_places();
+    check(&rt, "what was forgotten", kept.leq(&forgotten));
     Ok(())
 }
 

@@ -1,6 +1,7 @@
 use Rattle.std.proofs.Common.{rules, ◌≡◌}
 use Rattle.bpf_insn.specs.declared.flow.Flow.TheVariants.{GoesOn}
 use Rattle.bpf_insn.specs.Flow.{flow_of}
+use Rattle.absdom.specs.Spill.{spill_of}
 use Rattle.bver.proofs.Below.{straight_least}
 use Rattle.bver.proofs.edges.flow.Goals as goal
 
@@ -15,4 +16,4 @@ pub returns-in-Alu-clause-least : goal.returns-in-Alu-clause-least
 returns-in-Alu-clause-least c =
     let goes : flow_of c.args.insn.now ≡ GoesOn = search rules in
     let v = c.args.visit.now in
-    straight_least c.straight-in-Alu.result v.slot c.args.state.now c.args.insn.now c.args.table.now c.straight-in-Alu.new.table c.straight-in-Alu.new.state goes c.straight-in-Alu.ensures.least
+    straight_least (spill_of v.program.version) c.straight-in-Alu.result v.slot c.args.state.now c.args.insn.now c.args.table.now c.straight-in-Alu.new.table c.straight-in-Alu.new.state goes c.straight-in-Alu.ensures.least

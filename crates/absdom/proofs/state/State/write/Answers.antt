@@ -9,8 +9,11 @@ invariant_of-self c = record {
       record {
         registers = length-set _ _ _ ∙ c.self.invariant.sizes.registers;
         bytes = c.self.invariant.sizes.bytes;
+        places = c.self.invariant.sizes.places;
       };
   kinds =
       let proper : IsProper c.args.kind = search rules in
       proper_after _ _ c.args.kind proper c.self.invariant.kinds;
+  ranges = c.self.invariant.ranges;
+  unset = c.self.invariant.unset;
 }

@@ -7,7 +7,7 @@ use Rattle.basm.specs.Draft.{AddsItem, HasRoom, UnlessMemory}
 use Rattle.basm_lex.specs.Mnemonics.{mnemonic_word}
 use Rattle.basm.specs.Names.{slot_named}
 use Rattle.basm.specs.Relation.{Item, texts}
-use Rattle.basm.proofs.Arms.{budget_item, empty_adds, insn_item, label_item, loop_item}
+use Rattle.basm.proofs.Arms.{budget_item, empty_adds, insn_item, label_item, loop_item, version_item}
 use Rattle.basm.proofs.Items.{adds_label, line_insn, line_label, line_loop, line_nothing}
 use Rattle.basm.proofs.draft.Draft.add_line.Goals as goal
 
@@ -39,6 +39,13 @@ returns-in-text-2-clause-exact c = λ item says room.
     loop_item (texts c.as_slice-operands.result.now) (slot_named c.args.survey.now.names) c.args.self.now.slots c.args.line.now item Q
     (λ found is. none-some found (c.in-None.ensures.exact found (c.in_ok-statement.ensures.word ∙ is))) (sym c.in_ok-statement.ensures.word ∙ c.in-text-2.is) operands says (λ l four room. c.add_loop.ensures.exact l four room) room
 
+pub returns-in-text-3-clause-exact : goal.returns-in-text-3-clause-exact
+returns-in-text-3-clause-exact c = λ item says room.
+    let operands : texts c.as_slice-operands.result.now ≡ operands_of c.args.line.now = ap texts c.as_slice-operands.ensures.value ∙ c.in_ok-statement.ensures.operands in
+    let Q : Item → Type 0 = λ item. HasRoom c.args.survey.now.slots item c.args.self.now → UnlessMemory c.add_version.result (λ _. AddsItem item c.args.self.now c.add_version.new.self) in
+    version_item (texts c.as_slice-operands.result.now) (slot_named c.args.survey.now.names) c.args.self.now.slots c.args.line.now item Q
+    (λ found is. none-some found (c.in-None.ensures.exact found (c.in_ok-statement.ensures.word ∙ is))) (sym c.in_ok-statement.ensures.word ∙ c.in-text-3.is) operands says (λ n one room. c.add_version.ensures.exact n one room.0 room.1) room
+
 pub returns-in-Some-clause-adds : goal.returns-in-Some-clause-adds
 returns-in-Some-clause-adds c =
     let operands : texts c.as_slice-operands.result.now ≡ operands_of c.args.line.now = ap texts c.as_slice-operands.ensures.value ∙ c.in_ok-statement.ensures.operands in
@@ -61,6 +68,6 @@ returns-clause-exact c = λ item says room.
     let word = c.in_ok-statement.ensures.word in
     let Q : Item → Type 0 = λ item. UnlessMemory c.read_label.result (λ _. AddsItem item c.args.self.now c.args.self.now) in
     label_item (slot_named c.args.survey.now.names) c.args.self.now.slots c.args.line.now item Q
-    (λ same. c.in_default.not-empty (word ∙ same)) (λ same. c.in_default.not-text (word ∙ same)) (λ same. c.in_default.not-text-2 (word ∙ same))
+    (λ same. c.in_default.not-empty (word ∙ same)) (λ same. c.in_default.not-text (word ∙ same)) (λ same. c.in_default.not-text-2 (word ∙ same)) (λ same. c.in_default.not-text-3 (word ∙ same))
     (λ found same. none-some found (c.in-None.ensures.exact found (word ∙ same))) says
     (λ name label. rw (c.read_label.ensures.exact name label) (adds_label name c.args.self.now))

@@ -25,6 +25,7 @@ returns-clause-exact c = λ l four room.
     let both = IfOk-at_ok _ (c.loop_room.ensures room.3) (IfOk-at_ok _ read c.both.ensures.exact) in
     let same : c.in_ok-found.found ≡ l = ap (loop_of l) (sym c.in_ok-found.was ∙ both) in
     record {
+      version = sym (append-nil _);
       budget = sym (append-nil _);
       loops = c.in_ok-push.ensures.items ∙ ap (λ (x : Loop). c.args.self.now.loops.items ++ x ∷ []) same;
       insns = sym (append-nil _);

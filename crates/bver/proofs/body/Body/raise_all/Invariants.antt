@@ -1,5 +1,5 @@
 use Rattle.bver.proofs.Raising.{IsRaising}
-use Rattle.bver.proofs.body.Body.raise_registers.Given as goal
+use Rattle.bver.proofs.body.Body.raise_all.Given as goal
 
 abbrev pub invariant-loop-number : goal.invariant-loop-number
 invariant-loop-number l =

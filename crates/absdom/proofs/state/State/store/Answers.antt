@@ -1,0 +1,29 @@
+use Rattle.std.proofs.Common.{◌≡◌, ◌∙◌, ap, sym, subst, length, rules, Bool, false, List, ◌*◌}
+use Rattle.bpf_parts.specs.declared.operation.Width.TheVariants.{Bits64}
+use Rattle.absdom_num.specs.declared.ranges.Range.{Range}
+use Rattle.absdom_num.specs.Ranges.{IsRange}
+use Rattle.absdom_num.specs.Tables.{whole_range}
+use Rattle.absdom.specs.Marks.{all_marked}
+use Rattle.absdom.specs.Places.{range_in}
+use Rattle.absdom.proofs.MarkSteps.{length-stored_marks}
+use Rattle.absdom.proofs.PlaceSteps.{whole_proper, length-stored, stored_each, stored_unset}
+use Rattle.absdom.proofs.state.State.store.Goals as goal
+
+pub invariant_of-self : goal.invariant_of-self
+invariant_of-self c =
+    let proper : IsRange c.args.value = search rules in
+    record {
+      sizes =
+          record {
+            registers = c.self.invariant.sizes.registers;
+            bytes = ap length c.mark_stored.ensures ∙ length-stored_marks c.self.inside.marks c.args.bytes (c.args.lowest, c.args.highest) ∙ c.self.invariant.sizes.bytes;
+            places = ap length c.store.ensures ∙ length-stored c.args.spill c.self.inside.places c.args.bytes (c.args.lowest, c.args.highest) c.args.value ∙ c.self.invariant.sizes.places;
+          };
+      kinds = c.self.invariant.kinds;
+      ranges = λ k.
+          rw c.store.ensures
+          (stored_each IsRange c.args.spill c.self.inside.places c.args.bytes (c.args.lowest, c.args.highest) c.args.value proper whole_proper c.self.invariant.ranges k);
+      unset = λ k.
+          rw (c.store.ensures, c.mark_stored.ensures)
+          (stored_unset c.args.spill c.self.inside.marks c.self.inside.places c.args.bytes (c.args.lowest, c.args.highest) c.args.value c.self.invariant.sizes.bytes c.requires.inside c.self.invariant.unset k);
+    }
