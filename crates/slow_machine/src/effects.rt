@@ -250,15 +250,21 @@ fn key_in(sizes: &MapSizes, map: u8, key: u64) -> Option<u16>
     }
 }
 
+/// Of which kind the map is.
+fn kind_of(sizes: &MapSizes, map: u8) -> MapKind
+    ensures { result ≡ kind_of_map sizes.now map }
+{
+    match sizes.kind(map) {
+        Some(kind) => kind,
+        None => MapKind::Counter,
+    }
+}
+
 /// Whether the helper may be asked of the map.
 fn takes_map(sizes: &MapSizes, helper: u8, map: u8) -> bool
     ensures { result ≡ takes_kind (pos helper) (kind_of_map sizes.now map) }
 {
-    let kind = match sizes.kind(map) {
-        Some(kind) => kind,
-        None => MapKind::Counter,
-    };
-    kind.takes(i32::from(helper))
+    kind_of(sizes, map).takes(i32::from(helper))
 }
 
 /// The argument of a helper: a number in r3, where it takes one. The others have 0.
