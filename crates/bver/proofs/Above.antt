@@ -26,7 +26,7 @@ use Rattle.bver_form.specs.Lowered.{is_lowered}
 use Rattle.bver.specs.Heads.{AreRaisedRanges, AreUnset, BodyValue, Falls, IsRaised, IsRaisedKind, IsWithinBound, counts, opens, keeps, opened_kind, is_number, retains, widens}
 use Rattle.bver.specs.Table.{TableValue, knowledge_in}
 use Rattle.bver.specs.Visit.{IsGrown as HasGrown, IsLeast, IsLeastOf}
-use Rattle.bver.specs.Justified.{AreEdgesCovered, AsksCell, HasStore, IsCovered, IsCoveredIfAny, IsHead, IsNumber, IsOpen, IsPermitted, IsResultCovered, Proceeds, knowledge_at}
+use Rattle.bver.specs.Justified.{AreEdgesCovered, AsksCell, HasStore, IsCovered, IsCoveredIfAny, IsHead, IsNumber, IsOpen, IsPermitted, IsResultCovered, Proceeds, knowledge_at, AsksKind, MayAsk}
 use Rattle.bver.proofs.Rounds.{ranges_whole, words_of}
 
 -- ---- what a table permits of a state, it permits of a smaller one
@@ -78,6 +78,23 @@ cell_less sizes (Num a) (Map j) k l map key h = absurd map
 cell_less sizes (Ptr r a) (Map j) k l map key h = absurd map
 cell_less sizes (Map i) (Map j) k l map key h = subst (λ (n : ℕ). AsksCell sizes (Map n) k) (sym map) (key_less sizes j k l key h)
 
+kind_less : (sizes : Maps) (helper : ℤ) (m n : AbsKind) → IsKindBelow m n → AsksKind sizes helper n → AsksKind sizes helper m
+kind_less sizes helper m Unset below h = absurd h
+kind_less sizes helper m (Num b) below h = absurd h
+kind_less sizes helper m (Ptr s b) below h = absurd h
+kind_less sizes helper Unset (Map j) below h = absurd below
+kind_less sizes helper (Num a) (Map j) below h = absurd below
+kind_less sizes helper (Ptr r a) (Map j) below h = absurd below
+kind_less sizes helper (Map i) (Map j) below h = subst (λ (n : ℕ). AsksKind sizes helper (Map n)) (sym below) h
+
+-- who knows more may ask the same
+may_less : (sizes : Maps) (helper : ℤ) (a b : StateValue) → IsBelow a b → MayAsk sizes helper b → MayAsk sizes helper a
+may_less sizes helper a b below h = record {
+  cell = cell_less sizes (kind_at a 1) (kind_at b 1) (kind_at a 2) (kind_at b 2) (below.kinds 1) (below.kinds 2) h.cell;
+  given = λ takes. number_less (kind_at a 3) (kind_at b 3) (below.kinds 3) (h.given takes);
+  kind = kind_less sizes helper (kind_at a 1) (kind_at b 1) (below.kinds 1) h.kind;
+}
+
 pub permitted_less : ApplyGrows → RefineGrows → CallGrows → BelowIsTransitive → (spill : Spill) (sizes : Maps) (table : ℕ → Option StateValue) (slot : ℕ) (a b : StateValue) (insn : Insn) → IsWhole a → IsWhole b → IsBelow a b → IsPermitted spill sizes table slot b insn → IsPermitted spill sizes table slot a insn
 permitted_less applies refines calls transitive spill sizes table slot a b insn p q below h = by_insn insn h
   where
@@ -99,7 +116,7 @@ permitted_less applies refines calls transitive spill sizes table slot a b insn 
     by_insn (LoadMap dst index) h = (h.0, proceeds (LoadMap dst index) h.1)
     by_insn (LoadAddress dst address) h = absurd h
     by_insn (Call callee number) h = (
-      cell_less sizes (kind_at a 1) (kind_at b 1) (kind_at a 2) (kind_at b 2) (below.kinds 1) (below.kinds 2) h.0,
+      may_less sizes number a b below h.0,
       covered_less transitive (after_call a) (after_call b) (table (slot + 1)) (calls a b p q below) h.1,
     )
     by_insn Exit h = number_less (kind_at a 0) (kind_at b 0) (below.kinds 0) h

@@ -22,7 +22,7 @@ use Rattle.machine.specs.Words.{holds_words}
 use Rattle.machine.specs.Memory.{Header, place_of}
 use Rattle.bpf_parts.specs.Sizes.{size_bytes}
 use Rattle.machine.specs.State.{State, state, register_after}
-use Rattle.machine.specs.Step.{Question, Outcome, Next, Ask, Verdict, Trap, perform, insn_at, operand, writes, puts, stores, compares, branches, lands, asks, calls, exits, map_at, is_helper}
+use Rattle.machine.specs.Step.{Question, Outcome, Next, Ask, Verdict, Trap, perform, insn_at, operand, writes, puts, stores, compares, branches, lands, asks, calls, exits, map_at, is_helper, argument_of}
 use Rattle.bver_form.specs.Jumps.{target}
 use Rattle.bver_form.specs.Loops.{IsEdge, GoesTo}
 
@@ -108,20 +108,21 @@ exits_edge slot after (Num n) = tt
 exits_edge slot after (Ptr region offset) = tt
 exits_edge slot after (Map index) = tt
 
-asks_edge : (s : State) (callee : Callee) (number helper : ℤ) (map key : Value) → IsOnEdge (Calls callee number) s.slot (s.slot + 1) (asks s helper map key)
-asks_edge s callee number helper (Map map) (Num key) = λ answer. refl
-asks_edge s callee number helper (Map map) Unset = tt
-asks_edge s callee number helper (Map map) (Ptr region offset) = tt
-asks_edge s callee number helper (Map map) (Map index) = tt
-asks_edge s callee number helper Unset key = tt
-asks_edge s callee number helper (Num n) key = tt
-asks_edge s callee number helper (Ptr region offset) key = tt
+asks_edge : (s : State) (callee : Callee) (number helper : ℤ) (map key : Value) (argument : Option ℕ) → IsOnEdge (Calls callee number) s.slot (s.slot + 1) (asks s helper map key argument)
+asks_edge s callee number helper (Map map) (Num key) (Some argument) = λ answer. refl
+asks_edge s callee number helper (Map map) (Num key) None = tt
+asks_edge s callee number helper (Map map) Unset argument = tt
+asks_edge s callee number helper (Map map) (Ptr region offset) argument = tt
+asks_edge s callee number helper (Map map) (Map index) argument = tt
+asks_edge s callee number helper Unset key argument = tt
+asks_edge s callee number helper (Num n) key argument = tt
+asks_edge s callee number helper (Ptr region offset) key argument = tt
 
 calls_edge : (s : State) (callee : Callee) (number : ℤ) → IsOnEdge (Calls callee number) s.slot (s.slot + 1) (calls s callee number)
 calls_edge s Helper number = by_helper (is_helper number)
   where
-    by_helper : (is : Bool) → IsOnEdge (Calls Helper number) s.slot (s.slot + 1) (if is then asks s number (s.registers 1) (s.registers 2) else Trap)
-    by_helper true = asks_edge s Helper number number (s.registers 1) (s.registers 2)
+    by_helper : (is : Bool) → IsOnEdge (Calls Helper number) s.slot (s.slot + 1) (if is then asks s number (s.registers 1) (s.registers 2) (argument_of number (s.registers 3)) else Trap)
+    by_helper true = asks_edge s Helper number number (s.registers 1) (s.registers 2) (argument_of number (s.registers 3))
     by_helper false = tt
 calls_edge s Local number = tt
 calls_edge s ByTypeId number = tt

@@ -1,7 +1,7 @@
 -- A justified program is safe: each step of a path takes one from what is left of the weight, and where it stands one
 -- is left.
-use Rattle.std.proofs.Common.{◌≡◌, ◌≢◌, ℕ, ◌+◌, ◌<◌, ◌≤◌, true, false, List, length, Option, None, Some, refl, sym, ap, subst, ◌∙◌, arith, add-one}
-use Rattle.std.specs.Prelude.{slice_index, slice_index_or, All, IfSome, IsSome}
+use Rattle.std.proofs.Common.{◌≡◌, ◌≢◌, ℕ, ◌+◌, ◌<◌, ◌≤◌, ℤ, Bool, true, false, List, length, Option, None, Some, refl, sym, ap, subst, ◌∙◌, arith, add-one}
+use Rattle.std.specs.Prelude.{◌&&◌, slice_index, slice_index_or, All, IfSome, IsSome}
 use Rattle.std.proofs.lemmas.Bool.{lt-ltb}
 use Rattle.bpf.specs.declared.loops.Loop.{Loop}
 use Rattle.bpf.specs.Program.{Program}
@@ -10,13 +10,13 @@ use Rattle.bpf_insn.specs.Flow.{is_written}
 use Rattle.bpf_insn.specs.declared.insn.Insn.{Insn}
 use Rattle.bpf_insn.specs.declared.insn.Insn.TheVariants.{Alu, Negate, MoveSigned, ByteSwap, Load, Store, Jump, Goto, Wide, LoadMap, LoadAddress, Exit}
 use Rattle.bpf_insn.specs.declared.insn.Insn.TheVariants as insns
-use Rattle.machine.specs.Sizes.{Maps}
+use Rattle.machine.specs.Sizes.{Maps, kind_of_map}
 use Rattle.machine.specs.declared.calls.Call.{Call}
 use Rattle.machine.specs.declared.values.Value.{Value}
 use Rattle.machine.specs.declared.values.Value.TheVariants.{Unset as Nothing, Num as Number, Ptr as Pointer, Map as MapOf}
 use Rattle.machine.specs.Memory.{Header, IsHeader}
 use Rattle.machine.specs.State.{State, entry_state}
-use Rattle.machine.specs.Step.{Outcome, Trap, step, perform, perform_at, insn_at, finds_maps, is_cell}
+use Rattle.machine.specs.Step.{Outcome, Trap, step, perform, perform_at, insn_at, finds_maps, is_cell, has_kind, takes_kind}
 use Rattle.machine.specs.Laws.{AreLeftBy}
 use Rattle.machine.specs.Runs.{Path, entry, moves, answered, IsSafe}
 use Rattle.absdom.specs.declared.kinds.AbsKind.{AbsKind}
@@ -26,8 +26,8 @@ use Rattle.absdom.specs.Fits.{Fits, FitsKind}
 use Rattle.absdom.specs.declared.spill.Spill.{Spill}
 use Rattle.absdom.specs.Spill.{spill_of}
 use Rattle.bver_form.specs.Loops.{IsEdge, weight_left}
-use Rattle.bver.specs.Justified.{AsksCell, IsHead, IsPermittedAt, IsJustified}
-use Rattle.bver.proofs.Standing.{Laws, Stands, Continues, continues, permitted_here, stands}
+use Rattle.bver.specs.Justified.{AsksCell, AsksKind, IsHead, IsPermittedAt, IsJustified}
+use Rattle.bver.proofs.Standing.{Laws, Stands, Continues, continues, performs_here, permitted_here, stands}
 use Rattle.bver.proofs.Arrivals.{LeadsTo, at_once, by_answer, edge_of}
 use Rattle.bver.proofs.Counters.{AreCounting, IsBegun, IsStepped, IsNumberIn, begun, begun_high, inside_of, loop_in, stepped, values_at, values_of}
 
@@ -129,12 +129,12 @@ counts laws p sizes h header port calls n s good low (moves {n = m} {s = r} path
     let there = stands laws p sizes h header port calls m r good low path in
     let here = stands laws p sizes h header port calls n s good low (moves path e) in
     rw (← add-one)
-    (counted_from laws p sizes h header m r s (insn_at p r.slot) here refl (insn_here p sizes h r there) (at_once (sym (laws.performs p header r h.limits.version) ∙ e)) (counts laws p sizes h header port calls m r good low path))
+    (counted_from laws p sizes h header m r s (insn_at p r.slot) here refl (insn_here p sizes h r there) (at_once (sym (performs_here laws.performs p sizes h header r) ∙ e)) (counts laws p sizes h header port calls m r good low path))
 counts laws p sizes h header port calls n s good low (answered {n = m} {s = r} {question = asked} {on = on} answer path e below) =
     let there = stands laws p sizes h header port _ m r good low path in
     let here = stands laws p sizes h header port calls n s good low (answered answer path e below) in
     rw (← add-one)
-    (counted_from laws p sizes h header m r s (insn_at p r.slot) here refl (insn_here p sizes h r there) (by_answer asked on answer (sym (laws.performs p header r h.limits.version) ∙ e) refl) (counts laws p sizes h header port _ m r good low path))
+    (counted_from laws p sizes h header m r s (insn_at p r.slot) here refl (insn_here p sizes h r there) (by_answer asked on answer (sym (performs_here laws.performs p sizes h header r) ∙ e) refl) (counts laws p sizes h header port _ m r good low path))
 
 -- ---- safe
 
@@ -156,8 +156,21 @@ finds_cell sizes (MapOf own) Nothing (Map index) (Num range) is has cell = absur
 finds_cell sizes (MapOf own) (Pointer region z) (Map index) (Num range) is has cell = absurd has
 finds_cell sizes (MapOf own) (MapOf other) (Map index) (Num range) is has cell = absurd has
 finds_cell sizes (MapOf own) (Number n) (Map index) (Num range) is has cell =
-    let below : n < slice_index sizes index = omega (arith, has.below, cell) in
-    lt-ltb n (slice_index sizes own) (subst (λ (m : ℕ). n < slice_index sizes m) (sym is) below)
+    let below : n < slice_index sizes.cells index = omega (arith, has.below, cell) in
+    lt-ltb n (slice_index sizes.cells own) (subst (λ (m : ℕ). n < slice_index sizes.cells m) (sym is) below)
+
+-- and a map of its kind
+finds_kind : (sizes : Maps) (helper : ℤ) (map : Value) (k : AbsKind) → FitsKind map k → AsksKind sizes helper k → has_kind sizes helper map ≡ true
+finds_kind sizes helper map Unset is kind = absurd kind
+finds_kind sizes helper map (Num range) is kind = absurd kind
+finds_kind sizes helper map (Ptr region offsets) is kind = absurd kind
+finds_kind sizes helper Nothing (Map index) is kind = absurd is
+finds_kind sizes helper (Number n) (Map index) is kind = absurd is
+finds_kind sizes helper (Pointer region z) (Map index) is kind = absurd is
+finds_kind sizes helper (MapOf own) (Map index) is kind = subst (λ (m : ℕ). takes_kind helper (kind_of_map sizes m) ≡ true) (sym is) kind
+
+both : (a b : Bool) → a ≡ true → b ≡ true → (a && b) ≡ true
+both a b h k = rw (h, k) refl
 
 -- a permitted instruction finds its map
 finds : (spill : Spill) (sizes : Maps) (table : ℕ → Option StateValue) (s : State) (a : StateValue) (o : Option Insn) → Fits s a → IsPermittedAt spill sizes table s.slot (Some a) o → finds_maps sizes s o ≡ true
@@ -174,7 +187,9 @@ finds spill sizes table s a (Some (Wide dst value)) fits h = refl
 finds spill sizes table s a (Some (LoadMap dst index)) fits h = h.0
 finds spill sizes table s a (Some (LoadAddress dst address)) fits h = absurd h
 finds spill sizes table s a (Some (insns.Call callee number)) fits h =
-    finds_cell sizes (s.registers 1) (s.registers 2) (kind_at a 1) (kind_at a 2) (fits.registers 1) (fits.registers 2) h.0
+    both (is_cell sizes (s.registers 1) (s.registers 2)) (has_kind sizes number (s.registers 1))
+    (finds_cell sizes (s.registers 1) (s.registers 2) (kind_at a 1) (kind_at a 2) (fits.registers 1) (fits.registers 2) h.0.cell)
+    (finds_kind sizes number (s.registers 1) (kind_at a 1) (fits.registers 1) h.0.kind)
 finds spill sizes table s a (Some Exit) fits h = refl
 
 pub is_safe : Laws → (p : Program) (sizes : Maps) → IsJustified p sizes → IsSafe p sizes

@@ -1,6 +1,7 @@
 -- Every path of a justified program stands at a slot with a state that fits what is known there.
-use Rattle.std.proofs.Common.{◌≡◌, ℕ, ◌+◌, ◌^◌, ◌<◌, ℤ, pos, negsuc, Bool, true, false, List, Option, None, Some, Result, Ok, Err, refl, sym, subst}
-use Rattle.std.specs.Prelude.{IsTrue, if◌then◌else◌}
+use Rattle.std.proofs.Common.{◌≡◌, ℕ, ◌+◌, ◌^◌, ◌<◌, ℤ, pos, negsuc, Bool, true, false, List, Option, None, Some, Result, Ok, Err, refl, sym, subst, arith}
+use Rattle.std.specs.Prelude.{IsTrue, IsSome, ◌&&◌, ◌==◌, nat_le, if◌then◌else◌}
+use Rattle.std.proofs.lemmas.Bool.Decides.{nat_tests}
 use Rattle.bpf.specs.Program.{Program}
 use Rattle.bpf_parts.specs.declared.distance.Distance.TheVariants.{Short, Long}
 use Rattle.bpf_parts.specs.declared.callee.Callee.{Callee}
@@ -8,6 +9,9 @@ use Rattle.bpf_parts.specs.declared.callee.Callee.TheVariants.{Helper, Local, By
 use Rattle.bpf_insn.specs.declared.insn.Insn.{Insn}
 use Rattle.bpf_insn.specs.declared.insn.Insn.TheVariants.{Alu, Negate, MoveSigned, ByteSwap, Load, Store, Jump, Goto, Wide, LoadMap, LoadAddress, Exit}
 use Rattle.bpf_insn.specs.declared.insn.Insn.TheVariants as insns
+use Rattle.bpf_insn.specs.Flow.{flow_of}
+use Rattle.bpf_insn.specs.declared.flow.Flow.{Flow}
+use Rattle.bpf_insn.specs.declared.flow.Flow.TheVariants.{GoesOn, Branches, Jumps, Calls, Ends, Unsupported}
 use Rattle.bpf_insn.specs.Spelling.{IsInsn, slots_of}
 use Rattle.machine.specs.Sizes.{Maps}
 use Rattle.machine.specs.declared.calls.Call.{Call}
@@ -16,7 +20,7 @@ use Rattle.machine.specs.declared.values.Value.TheVariants.{Unset as Nothing, Nu
 use Rattle.machine.specs.Memory.{Header, IsHeader}
 use Rattle.machine.specs.Laws.{InstructionsLeave, StepPerforms}
 use Rattle.machine.specs.State.{State, state, entry_state}
-use Rattle.machine.specs.Step.{Outcome, Next, Ask, Verdict, Trap, step, perform, perform_at, insn_at, is_map, after_answer as answer_to, asks, calls, exits, lands, branches}
+use Rattle.machine.specs.Step.{Outcome, Next, Ask, Verdict, Trap, step, perform, perform_at, insn_at, is_map, is_helper, has_helper, knows_flow, knows_insn, number, argument_of, takes_argument, after_answer as answer_to, asks, calls, exits, lands, branches}
 use Rattle.machine.specs.Runs.{Path, entry, moves, answered}
 use Rattle.absdom.specs.declared.cause.Cause.{Cause}
 use Rattle.absdom.specs.declared.kinds.AbsKind.{AbsKind}
@@ -28,11 +32,11 @@ use Rattle.absdom.specs.Fits.{Fits, FitsKind, FitsEdge, IsSound, IsIndex, GoesSt
 use Rattle.absdom.specs.Laws.{BelowFits, CallFits, EntryFits, ApplyFits, RefineFits}
 use Rattle.absdom.specs.declared.spill.Spill.{Spill}
 use Rattle.absdom.specs.Spill.{spill_of}
-use Rattle.bver_form.specs.Form.{IsAllowed}
-use Rattle.bver_form.specs.Support.{IsSupportedCall}
+use Rattle.bver_form.specs.Form.{IsAllowed, IsFormed}
+use Rattle.bver_form.specs.Support.{IsSupportedCall, IsSupportedFlow}
 use Rattle.bver_form.specs.Jumps.{target}
 use Rattle.bver_form.specs.Laws.{BeginsWithinWeight, EachStepTakesOne, OneIsLeft, LoopsAreEntered}
-use Rattle.bver.specs.Justified.{AsksCell, IsCovered, IsCoveredIfAny, IsResultCovered, AreEdgesCovered, IsNumber, Proceeds, IsPermitted, IsPermittedAt, IsJustified, knowledge_at}
+use Rattle.bver.specs.Justified.{AsksCell, HasArgument, MayAsk, IsCovered, IsCoveredIfAny, IsResultCovered, AreEdgesCovered, IsNumber, Proceeds, IsPermitted, IsPermittedAt, IsJustified, knowledge_at}
 use Rattle.bver.proofs.Slots.{insn_in}
 
 -- the laws of what is known, of steps, and of loops
@@ -119,28 +123,55 @@ exits_with table (MapOf index) (Num range) fits number = absurd fits
 exits_with table v (Ptr region offsets) fits number = absurd number
 exits_with table v (Map index) fits number = absurd number
 
+-- a helper's argument, where it has one
+argument_from : (t : Bool) (v : Value) (k : AbsKind) → FitsKind v k → (IsTrue t → IsNumber k) → IsSome (if t then number v else Some 0)
+argument_from false v k fits has = refl
+argument_from true v k fits has = number_from v k fits (has refl)
+  where
+    number_from : (v : Value) (k : AbsKind) → FitsKind v k → IsNumber k → IsSome (number v)
+    number_from v Unset fits h = absurd h
+    number_from v (Ptr region offsets) fits h = absurd h
+    number_from v (Map index) fits h = absurd h
+    number_from Nothing (Num range) fits h = absurd fits
+    number_from (Number n) (Num range) fits h = refl
+    number_from (Pointer region z) (Num range) fits h = absurd fits
+    number_from (MapOf index) (Num range) fits h = absurd fits
+
 -- a helper's question, whatever is answered
-asks_on : BelowFits → CallFits → (sizes : Maps) (table : ℕ → Option StateValue) (s : State) (a : StateValue) (helper : ℤ) (map key : Value) (k q : AbsKind) → FitsKind map k → FitsKind key q → AsksCell sizes k q → Fits s a → IsCovered (after_call a) (table (s.slot + 1)) → Continues table (asks s helper map key)
-asks_on below call sizes table s a helper map key Unset q is has cell fits covered = absurd cell
-asks_on below call sizes table s a helper map key (Num range) q is has cell fits covered = absurd cell
-asks_on below call sizes table s a helper map key (Ptr region offsets) q is has cell fits covered = absurd cell
-asks_on below call sizes table s a helper map key (Map index) Unset is has cell fits covered = absurd cell
-asks_on below call sizes table s a helper map key (Map index) (Ptr region offsets) is has cell fits covered = absurd cell
-asks_on below call sizes table s a helper map key (Map index) (Map other) is has cell fits covered = absurd cell
-asks_on below call sizes table s a helper Nothing key (Map index) (Num range) is has cell fits covered = absurd is
-asks_on below call sizes table s a helper (Number n) key (Map index) (Num range) is has cell fits covered = absurd is
-asks_on below call sizes table s a helper (Pointer region z) key (Map index) (Num range) is has cell fits covered = absurd is
-asks_on below call sizes table s a helper (MapOf own) Nothing (Map index) (Num range) is has cell fits covered = absurd has
-asks_on below call sizes table s a helper (MapOf own) (Pointer region z) (Map index) (Num range) is has cell fits covered = absurd has
-asks_on below call sizes table s a helper (MapOf own) (MapOf other) (Map index) (Num range) is has cell fits covered = absurd has
-asks_on below call sizes table s a helper (MapOf own) (Number n) (Map index) (Num range) is has cell fits covered =
+asks_on : BelowFits → CallFits → (sizes : Maps) (table : ℕ → Option StateValue) (s : State) (a : StateValue) (helper : ℤ) (map key : Value) (o : Option ℕ) (k q : AbsKind) → FitsKind map k → FitsKind key q → AsksCell sizes k q → IsSome o → Fits s a → IsCovered (after_call a) (table (s.slot + 1)) → Continues table (asks s helper map key o)
+asks_on below call sizes table s a helper map key o Unset q is has cell some fits covered = absurd cell
+asks_on below call sizes table s a helper map key o (Num range) q is has cell some fits covered = absurd cell
+asks_on below call sizes table s a helper map key o (Ptr region offsets) q is has cell some fits covered = absurd cell
+asks_on below call sizes table s a helper map key o (Map index) Unset is has cell some fits covered = absurd cell
+asks_on below call sizes table s a helper map key o (Map index) (Ptr region offsets) is has cell some fits covered = absurd cell
+asks_on below call sizes table s a helper map key o (Map index) (Map other) is has cell some fits covered = absurd cell
+asks_on below call sizes table s a helper Nothing key o (Map index) (Num range) is has cell some fits covered = absurd is
+asks_on below call sizes table s a helper (Number n) key o (Map index) (Num range) is has cell some fits covered = absurd is
+asks_on below call sizes table s a helper (Pointer region z) key o (Map index) (Num range) is has cell some fits covered = absurd is
+asks_on below call sizes table s a helper (MapOf own) Nothing o (Map index) (Num range) is has cell some fits covered = absurd has
+asks_on below call sizes table s a helper (MapOf own) (Pointer region z) o (Map index) (Num range) is has cell some fits covered = absurd has
+asks_on below call sizes table s a helper (MapOf own) (MapOf other) o (Map index) (Num range) is has cell some fits covered = absurd has
+asks_on below call sizes table s a helper (MapOf own) (Number n) None (Map index) (Num range) is has cell some fits covered = absurd cc
+asks_on below call sizes table s a helper (MapOf own) (Number n) (Some argument) (Map index) (Num range) is has cell some fits covered =
     λ answer low. arrives below table (answer_to s answer) (after_call a) (call s a answer low fits) covered
 
-calls_on : BelowFits → CallFits → (sizes : Maps) (table : ℕ → Option StateValue) (s : State) (a : StateValue) (callee : Callee) (number : ℤ) → IsSupportedCall callee number → AsksCell sizes (kind_at a 1) (kind_at a 2) → Fits s a → IsCovered (after_call a) (table (s.slot + 1)) → Continues table (calls s callee number)
-calls_on below call sizes table s a Helper number supported cell fits covered =
-    rw supported (asks_on below call sizes table s a number (s.registers 1) (s.registers 2) (kind_at a 1) (kind_at a 2) (fits.registers 1) (fits.registers 2) cell fits covered)
-calls_on below call sizes table s a Local number supported cell fits covered = absurd supported
-calls_on below call sizes table s a ByTypeId number supported cell fits covered = absurd supported
+-- the helpers of a version are helpers
+is_helper_of : (version : ℕ) (number : ℤ) → IsTrue (has_helper version number) → is_helper number ≡ true
+is_helper_of version (negsuc n) h = absurd cc
+is_helper_of version (pos n) h = by_first (version == 1) (version == 2) h
+  where
+    by_first : (first second : Bool) → (nat_le 1 n && nat_le n (if first then 2 else (if second then 3 else 0))) ≡ true → (nat_le 1 n && nat_le n 3) ≡ true
+    by_first true second h = grind (arith, nat_tests)
+    by_first false true h = h
+    by_first false false h = grind (arith, nat_tests)
+
+calls_on : BelowFits → CallFits → (version : ℕ) (sizes : Maps) (table : ℕ → Option StateValue) (s : State) (a : StateValue) (callee : Callee) (number : ℤ) → IsSupportedCall version callee number → MayAsk sizes number a → Fits s a → IsCovered (after_call a) (table (s.slot + 1)) → Continues table (calls s callee number)
+calls_on below call version sizes table s a Helper number supported may fits covered =
+    rw (is_helper_of version number supported)
+    (asks_on below call sizes table s a number (s.registers 1) (s.registers 2) (argument_of number (s.registers 3)) (kind_at a 1) (kind_at a 2) (fits.registers 1) (fits.registers 2) may.cell
+    (argument_from (takes_argument number) (s.registers 3) (kind_at a 3) (fits.registers 3) may.given) fits covered)
+calls_on below call version sizes table s a Local number supported may fits covered = absurd supported
+calls_on below call version sizes table s a ByTypeId number supported may fits covered = absurd supported
 
 index_of : (sizes : Maps) (index : ℤ) → IsTrue (is_map sizes index) → IsIndex index
 index_of sizes (pos n) h = tt
@@ -168,13 +199,32 @@ continues_at laws spill p sizes table header s a (Wide dst value) good fits allo
 continues_at laws spill p sizes table header s a (LoadMap dst index) good fits allowed is_insn h = proceeds laws spill table header s a (LoadMap dst index) good fits (allowed.leaves_frame, index_of sizes index h.0) h.1
 continues_at laws spill p sizes table header s a (LoadAddress dst address) good fits allowed is_insn h = absurd h
 continues_at laws spill p sizes table header s a (insns.Call callee number) good fits allowed is_insn h =
-    calls_on laws.below laws.call sizes table s a callee number allowed.supported h.0 fits h.1
+    calls_on laws.below laws.call p.version sizes table s a callee number allowed.supported h.0 fits h.1
 continues_at laws spill p sizes table header s a Exit good fits allowed is_insn h = exits_with table (s.registers 0) (kind_at a 0) (fits.registers 0) h
 
 continues_from : Laws → (p : Program) (sizes : Maps) (h : IsJustified p sizes) (header : Header) (s : State) (at : Stands h.table s) (o : Option Insn) → IsHeader header → insn_at p s.slot ≡ o → IsPermittedAt (spill_of p.version) sizes h.table s.slot (Some at.known) o → Continues h.table (perform_at header s o)
 continues_from laws p sizes h header s at None good is permitted = absurd permitted
 continues_from laws p sizes h header s at (Some insn) good is permitted =
     continues_at laws (spill_of p.version) p sizes h.table header s at.known insn good at.fits (h.formed.allowed s.slot insn is) (insn_in false p.slots s.slot insn h.limits.code is) permitted
+
+-- what is supported in a version is known to it
+flow_known : (version : ℕ) (flow : Flow) → IsSupportedFlow version flow → knows_flow version flow ≡ true
+flow_known version GoesOn h = refl
+flow_known version (Branches distance) h = refl
+flow_known version (Jumps distance) h = refl
+flow_known version (Calls Helper number) h = h
+flow_known version (Calls Local number) h = absurd h
+flow_known version (Calls ByTypeId number) h = absurd h
+flow_known version Ends h = refl
+flow_known version Unsupported h = absurd h
+
+insn_known : (p : Program) → IsFormed p → (slot : ℕ) (o : Option Insn) → insn_at p slot ≡ o → knows_insn p.version o ≡ true
+insn_known p formed slot None is = refl
+insn_known p formed slot (Some insn) is = flow_known p.version (flow_of insn) (formed.allowed slot insn is).supported
+
+-- a step of a justified program is what its instruction does
+pub performs_here : StepPerforms → (p : Program) (sizes : Maps) → IsJustified p sizes → (header : Header) (s : State) → step p header s ≡ perform_at header s (insn_at p s.slot)
+performs_here performs p sizes h header s = performs p header s (insn_known p h.formed s.slot (insn_at p s.slot) refl)
 
 -- what is known where a path stands permits its instruction
 pub permitted_here : (p : Program) (sizes : Maps) (h : IsJustified p sizes) (s : State) (at : Stands h.table s) → IsPermittedAt (spill_of p.version) sizes h.table s.slot (Some at.known) (insn_at p s.slot)
@@ -183,7 +233,7 @@ permitted_here p sizes h s at =
 
 pub continues : Laws → (p : Program) (sizes : Maps) (h : IsJustified p sizes) (header : Header) (s : State) → IsHeader header → Stands h.table s → Continues h.table (step p header s)
 continues laws p sizes h header s good at =
-    rw (laws.performs p header s h.limits.version)
+    rw (performs_here laws.performs p sizes h header s)
     (continues_from laws p sizes h header s at (insn_at p s.slot) good refl (permitted_here p sizes h s at))
 
 -- every path stands somewhere

@@ -11,9 +11,9 @@ use Rattle.bpf_parts.specs.Operands.{distance_of}
 use Rattle.bpf_parts.specs.declared.operation.Width.TheVariants.{Bits64}
 use Rattle.bpf_insn.specs.Spelling.{slots_of}
 use Rattle.bpf_parts.specs.declared.operation.Comparison.{Comparison}
-use Rattle.machine.specs.Sizes.{Maps}
+use Rattle.machine.specs.Sizes.{Maps, kind_of_map}
 use Rattle.machine.specs.declared.regions.Region.{Region}
-use Rattle.machine.specs.Step.{insn_at, is_map}
+use Rattle.machine.specs.Step.{insn_at, is_map, takes_argument, takes_kind}
 use Rattle.machine.specs.Laws.{is_store}
 use Rattle.absdom_num.specs.Tables.{whole_range}
 use Rattle.absdom.specs.declared.cause.Cause.{Cause}
@@ -82,13 +82,33 @@ AsksCell sizes Unset key = ⊥
 AsksCell sizes (Num range) key = ⊥
 AsksCell sizes (Ptr region offsets) key = ⊥
 AsksCell sizes (Map map) Unset = ⊥
-AsksCell sizes (Map map) (Num range) = range.1 < slice_index sizes map
+AsksCell sizes (Map map) (Num range) = range.1 < slice_index sizes.cells map
 AsksCell sizes (Map map) (Ptr region offsets) = ⊥
 AsksCell sizes (Map map) (Map index) = ⊥
 
+-- a helper has its argument: where it takes one, a number
+abbrev pub HasArgument : (helper : ℤ) → AbsKind → Type 0
+HasArgument helper kind = IsTrue (takes_argument helper) → IsNumber kind
+
+-- a helper is asked of a map of a kind of which it may be asked
+abbrev pub AsksKind : (sizes : Maps) → (helper : ℤ) → (map : AbsKind) → Type 0
+AsksKind sizes helper Unset = ⊥
+AsksKind sizes helper (Num range) = ⊥
+AsksKind sizes helper (Ptr region offsets) = ⊥
+AsksKind sizes helper (Map map) = IsTrue (takes_kind helper (kind_of_map sizes map))
+
+-- a helper is asked for a cell, with its argument, and of a map of its kind
+pub record IsQuestion (sizes : Maps) (helper : ℤ) (map key argument : AbsKind) : Type 0 where
+  pub cell : AsksCell sizes map key
+  pub given : HasArgument helper argument
+  pub kind : AsksKind sizes helper map
+
+-- a helper may be asked: its map is in r1, its key in r2, and its argument in r3
+abbrev pub MayAsk : (sizes : Maps) → (helper : ℤ) → StateValue → Type 0
+MayAsk sizes helper a = IsQuestion sizes helper (kind_at a 1) (kind_at a 2) (kind_at a 3)
+
 -- with what is known at its slot an instruction cannot go wrong, and on every edge that a run may take
--- what it leaves is covered: a map that is loaded exists, a helper is asked for a cell of r1 and r2, and EXIT has a
--- number for its answer
+-- what it leaves is covered: a map that is loaded exists, a helper may be asked, and EXIT has a number for its answer
 abbrev pub IsPermitted : Spill → (sizes : Maps) (table : ℕ → Option StateValue) (slot : ℕ) → StateValue → Insn → Type 0
 IsPermitted spill sizes table slot a (Alu op width dst src) = Proceeds spill table slot a (Alu op width dst src)
 IsPermitted spill sizes table slot a (Negate width dst) = Proceeds spill table slot a (Negate width dst)
@@ -104,7 +124,7 @@ IsPermitted spill sizes table slot a (LoadMap dst index) =
     IsTrue (is_map sizes index) × Proceeds spill table slot a (LoadMap dst index)
 IsPermitted spill sizes table slot a (LoadAddress dst address) = ⊥
 IsPermitted spill sizes table slot a (Call callee number) =
-    AsksCell sizes (kind_at a 1) (kind_at a 2) × IsCovered (after_call a) (table (slot + 1))
+    MayAsk sizes number a × IsCovered (after_call a) (table (slot + 1))
 IsPermitted spill sizes table slot a Exit = IsNumber (kind_at a 0)
 
 -- the same at a slot: a table has states only where instructions begin, and where it has none no run comes

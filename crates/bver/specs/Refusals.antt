@@ -26,6 +26,7 @@ IsValueRefusal refusals.FallOff = ⊥
 IsValueRefusal refusals.Budget = ⊥
 IsValueRefusal refusals.Unsupported = ⊥
 IsValueRefusal refusals.Memory = ⊥
+IsValueRefusal refusals.MapKind = Unit {0}
 
 -- a refusal for what values may do wrong, at a slot where an instruction begins
 pub record IsValueFault (p : Program) (refused : Refused) : Type 0 where

@@ -2,7 +2,7 @@
 
 ghost use Rattle.std.specs.Prelude.{◌≡◌, ◌+◌, ◌⊎◌, IfErr, IfOk, IsErr, IsSome, IsTrue, MatchResult, OnOk, Ok, Some, false};
 ghost use Rattle.bpf_insn.specs.Spelling.{slots_of};
-ghost use Rattle.machine.specs.Step.{insn_at, is_map};
+ghost use Rattle.machine.specs.Step.{insn_at, is_map, takes_argument};
 ghost use Rattle.absdom.specs.Effect.{after_insn};
 ghost use Rattle.absdom.specs.Spill.{spill_of};
 ghost use Rattle.absdom.specs.Edges.{edge_state, edge_states};
@@ -11,7 +11,7 @@ ghost use Rattle.absdom.specs.State.{after_call, kind_at};
 ghost use Rattle.bver_form.specs.Form.{IsAllowed};
 ghost use Rattle.bver_form.specs.Jumps.{IsJump};
 ghost use Rattle.bver.specs.Codes.{refusal_of};
-ghost use Rattle.bver.specs.Justified.{AsksCell, IsCovered, IsCoveredIfAny, IsNumber, IsPermitted, IsResultCovered, accessed_region, edges_of_comparison, pointed_region};
+ghost use Rattle.bver.specs.Justified.{HasArgument, IsCovered, IsCoveredIfAny, IsNumber, IsPermitted, IsResultCovered, MayAsk, accessed_region, edges_of_comparison, pointed_region};
 ghost use Rattle.bver_form.specs.Lowered.{IsMore, IsSettled};
 ghost use Rattle.bver.specs.Refusals.{IsValueFault, IsValueRefusal};
 ghost use Rattle.bver.specs.Table.{knowledge_beside, knowledge_in, knowledge_next};
@@ -25,6 +25,9 @@ use absdom::{AbsKind, Cause, Edges, Operands, Region, State, order_of_states, re
 use absdom_num::Range;
 use bpf_insn::{Comparison, Insn, Register};
 use bver_form::{Lowered, Refusal, Refused};
+
+/// The number of the helper `peak`, which alone takes an argument.
+const PEAK: i32 = 3;
 
 /// The refusal for what an instruction may do wrong.
 fn refusal_of(cause: Cause) -> Refusal
@@ -387,32 +390,65 @@ fn asked_keys(visit: &Visit, state: &State) -> Result<Range, Refused>
     }
 }
 
-/// Tests that r1 is a map and r2 a key of it, as a helper wants.
-fn check_cell(visit: &Visit, state: &State) -> Result<(), Refused>
+/// Whether the helper of that number takes an argument.
+fn takes_argument(helper: i32) -> bool
+    ensures { result ≡ takes_argument helper }
+{
+    helper == PEAK
+}
+
+/// Tests that r3 is a number, where the helper takes it as its argument.
+fn check_argument(visit: &Visit, state: &State, helper: i32) -> Result<(), Refused>
     requires begins { IsSome (insn_at visit.now.program visit.now.slot) }
-    ensures cell { MatchResult result
-        (λ _. AsksCell visit.now.sizes (kind_at state.now 1) (kind_at state.now 2))
-        (λ _. AsksCell visit.now.sizes (kind_at state.now 1) (kind_at state.now 2) → ⊥) }
+    ensures argument { MatchResult result (λ _. HasArgument helper (kind_at state.now 3))
+        (λ _. HasArgument helper (kind_at state.now 3) → ⊥) }
+    ensures refused { IfErr result (IsValueFault visit.now.program) }
+{
+    if !takes_argument(helper) {
+        return Ok(());
+    }
+    match Register::new(3) {
+        Some(argument) => match state.kind(argument).number() {
+            Ok(_) => Ok(()),
+            Err(cause) => Err(visit.refused(refusal_of(cause))),
+        },
+        None => unreachable!(),
+    }
+}
+
+/// Tests that a helper may be asked: r1 is a map of its kind, r2 a key of it, and r3 its argument. The kind is tested
+/// last.
+fn check_asked(visit: &Visit, state: &State, helper: i32) -> Result<(), Refused>
+    requires begins { IsSome (insn_at visit.now.program visit.now.slot) }
+    ensures asked { MatchResult result (λ _. MayAsk visit.now.sizes helper state.now)
+        (λ _. MayAsk visit.now.sizes helper state.now → ⊥) }
     ensures refused { IfErr result (IsValueFault visit.now.program) }
 {
     let map = asked_map(visit, state)?;
     let keys = asked_keys(visit, state)?;
+    check_argument(visit, state, helper)?;
     if !visit.has_keys(map, keys.high()) {
         return Err(visit.refused(Refusal::MapKey));
+    }
+    if !visit.takes_kind(map, helper) {
+        return Err(visit.refused(Refusal::MapKind));
     }
     Ok(())
 }
 
 /// A helper's call, which goes on with any answer. Tells whether the state is the running one at the next
 /// instruction.
-fn ask(visit: &Visit, table: &mut Table<'_>, state: &mut State) -> Result<bool, Refused>
+fn ask(
+    visit: &Visit,
+    table: &mut Table<'_>,
+    state: &mut State,
+    helper: i32,
+) -> Result<bool, Refused>
     requires begins { IsSome (insn_at visit.now.program visit.now.slot) }
     requires table { IsTableOf visit.now table.old }
     requires next { IsNext visit.now 1 }
-    ensures cell { OnOk result
-        (AsksCell visit.now.sizes (kind_at state.old 1) (kind_at state.old 2)) }
-    ensures refuted { IfErr result
-        (λ _. AsksCell visit.now.sizes (kind_at state.old 1) (kind_at state.old 2) → ⊥) }
+    ensures asked { OnOk result (MayAsk visit.now.sizes helper state.old) }
+    ensures refuted { IfErr result (λ _. MayAsk visit.now.sizes helper state.old → ⊥) }
     ensures left { OnOk result (state.new ≡ after_call state.old) }
     ensures covered { IfOk result
         (λ runs. IsCovered (after_call state.old)
@@ -426,7 +462,7 @@ fn ask(visit: &Visit, table: &mut Table<'_>, state: &mut State) -> Result<bool, 
     ensures refused { IfErr result (IsValueFault visit.now.program) }
 {
     order_of_states();
-    check_cell(visit, state)?;
+    check_asked(visit, state, helper)?;
     state.call();
     Ok(go_on(visit, table, state, 1))
 }
@@ -461,8 +497,8 @@ pub(crate) fn accessed_region(state: &State, insn: &Insn) -> Option<Region>
 ///
 /// # Errors
 ///
-/// The first of `Unset` and `KindMismatch`, the destination before the source and r1 before r2, `PointerRange`,
-/// `HeaderWrite`, `OutOfRegion`, `UnsetStack` and `MapKey`; or `LoopEntry` at a head that an edge back
+/// The first of `Unset` and `KindMismatch`, the destination before the source and r1 before r2 before r3,
+/// `PointerRange`, `HeaderWrite`, `OutOfRegion`, `UnsetStack`, `MapKey` and `MapKind`; or `LoopEntry` at a head that an edge back
 /// to it neither lowers nor finds covered.
 pub(crate) fn flow(
     visit: &Visit,
@@ -520,7 +556,7 @@ pub(crate) fn flow(
             check_answer(visit, state)?;
             Ok(false)
         }
-        Insn::Call { .. } => ask(visit, table, state),
+        Insn::Call { number, .. } => ask(visit, table, state, *number),
         Insn::LoadAddress { .. } => unreachable!(),
     }
 }

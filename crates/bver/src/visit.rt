@@ -2,7 +2,8 @@
 
 ghost use Rattle.std.specs.Prelude.{◌≡◌, ◌≢◌, IfSome, IsSome, None, All, false, length, nat_lt, slice_index};
 ghost use Rattle.bpf.specs.Program.{IsProgram};
-ghost use Rattle.machine.specs.Step.{insn_at};
+ghost use Rattle.machine.specs.Sizes.{kind_of_map};
+ghost use Rattle.machine.specs.Step.{insn_at, takes_kind};
 ghost use Rattle.absdom.specs.Spill.{spill_of};
 ghost use Rattle.bver_form.specs.Form.{IsFormed};
 ghost use Rattle.bver_form.specs.Jumps.{first_slot, is_loop_back, target};
@@ -15,7 +16,7 @@ use absdom::Spill;
 use bpf::Image;
 use bpf_insn::Insn;
 use bver_form::{Refusal, Refused};
-use machine::MapSizes;
+use machine::{MapKind, MapSizes};
 use std::marker::Model;
 
 /// A slot of a program that has its form, which is verified for a node with these maps.
@@ -83,18 +84,28 @@ impl<'a> Visit<'a> {
 
     /// How many maps there are.
     pub(crate) fn maps(&self) -> u8
-        ensures { result ≡ length self.now.sizes }
+        ensures { result ≡ length self.now.sizes.cells }
     {
         self.sizes.maps()
     }
 
     /// Whether the map exists and has all keys up to the last.
     pub(crate) fn has_keys(&self, map: u8, last: u64) -> bool
-        ensures { result ≡ nat_lt last (slice_index self.now.sizes map) }
+        ensures { result ≡ nat_lt last (slice_index self.now.sizes.cells map) }
     {
         match self.sizes.cells(map) {
             Some(cells) => last < u64::from(cells),
             None => false,
+        }
+    }
+
+    /// Whether the helper of that number may be asked of the map.
+    pub(crate) fn takes_kind(&self, map: u8, helper: i32) -> bool
+        ensures { result ≡ takes_kind helper (kind_of_map self.now.sizes map) }
+    {
+        match self.sizes.kind(map) {
+            Some(kind) => kind.takes(helper),
+            None => MapKind::Counter.takes(helper),
         }
     }
 

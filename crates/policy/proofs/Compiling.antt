@@ -1,6 +1,6 @@
 -- Compiled tables: a rule by its tests, the rules from the last, and what comes before them.
 use Rattle.std.specs.Prelude.{◌≢◌, pos, ◌&&◌, ◌==◌, not, bit_and, if◌then◌else◌, slice_index}
-use Rattle.std.proofs.Common.{◌≡◌, ◌<◌, ◌^◌, ◌+◌, ◌-◌, ◌%◌, ℕ, suc, Bool, true, false, List, [], ◌∷◌, ◌++◌, length, Option, Some, None, inl, refl, sym, ap, ◌∙◌, subst, arith, append_assoc}
+use Rattle.std.proofs.Common.{◌≡◌, ◌<◌, ◌^◌, ◌+◌, ◌-◌, ◌%◌, ℕ, suc, Bool, true, false, List, [], ◌∷◌, ◌++◌, length, Option, Some, None, refl, sym, ap, ◌∙◌, subst, arith, append_assoc}
 use Rattle.std.specs.Prelude.{All}
 use Rattle.std.proofs.lemmas.List.Elements.{All-head, All-tail}
 use Rattle.bpf.specs.Program.{Program, insn_at, program}
@@ -20,7 +20,7 @@ use Rattle.machine.specs.Laws.{AnswersDecide, RunsFromTheFront, StepPerforms}
 use Rattle.machine.specs.Memory.{Header, IsHeader}
 use Rattle.machine.specs.Runs.{Ends, Runs}
 use Rattle.machine.specs.State.{State, entry_register, entry_state, register_after, state}
-use Rattle.machine.specs.Step.{Next, alu, loads, perform, writes}
+use Rattle.machine.specs.Step.{Next, alu, knows_insn, loads, perform, perform_at, writes}
 use Rattle.machine.specs.Words.{swapped_bytes}
 use Rattle.rmap.specs.Command.{address_of, extended_of, increments, command_kind, initiator_of, key_of, length_of}
 use Rattle.policy.specs.Code.{address_code, applied, behind_extended, behind_initiator, behind_key, behind_kind, behind_range, field_slots, field_test, kind_slots, kind_test, last_address_code, loaded, quota_slots, quota_test, range_test, rule_code, rules_code, skips_if, swapped, table_code, verdict_code}
@@ -276,11 +276,11 @@ start m port d code rest =
     ∙ sym (big_word tail) in
     let swap : perform header (state 3 r3 stack) (swapped 8) ≡ Next (state 4 r4 stack) =
     ap (λ (k : ℕ). writes (state 3 r3 stack) 4 8 (Some (Num k))) big in
-    next m.program header (state 0 r0 stack) (state 1 r1 stack) (applied Mov 6 (FromRegister 1)) d m.performs code.0 refl
-    (next m.program header (state 1 r1 stack) (state 2 r2 stack) (applied Mov 7 (FromRegister 2)) d m.performs code.1.0 refl
-    (next m.program header (state 2 r2 stack) (state 3 r3 stack) (loaded LoadWord 8 7 4) d m.performs code.1.1.0 load
-    (next m.program header (state 3 r3 stack) (state 4 r4 stack) (swapped 8) d m.performs code.1.1.1.0 swap
-    (next m.program header (state 4 r4 stack) (state 5 r5 stack) (applied Mov 9 (FromRegister 8)) d m.performs code.1.1.1.1.0 refl
+    next m.program header (state 0 r0 stack) (state 1 r1 stack) (applied Mov 6 (FromRegister 1)) d m.performs code.0 refl refl
+    (next m.program header (state 1 r1 stack) (state 2 r2 stack) (applied Mov 7 (FromRegister 2)) d m.performs code.1.0 refl refl
+    (next m.program header (state 2 r2 stack) (state 3 r3 stack) (loaded LoadWord 8 7 4) d m.performs code.1.1.0 refl load
+    (next m.program header (state 3 r3 stack) (state 4 r4 stack) (swapped 8) d m.performs code.1.1.1.0 refl swap
+    (next m.program header (state 4 r4 stack) (state 5 r5 stack) (applied Mov 9 (FromRegister 8)) d m.performs code.1.1.1.1.0 refl refl
     (rest r5 stack (record { front = refl; tail = refl; first_address = refl; last_address = refl }))))))
 
 -- the last address where there is a length
@@ -304,8 +304,8 @@ long m registers stack address length last d stands value some address_fits leng
     let sub : perform header t (applied Sub 9 (Immediate (pos 1))) ≡ Next (state 14 r2 stack) =
     ap (λ (k : ℕ). writes t 14 9 (Some (Num k))) less in
     let then_one : Stands address (address + length) r1 = moved_last address address (address + length) registers stands in
-    next m.program header s t (applied Add 9 (FromRegister 0)) d m.performs first add
-    (next m.program header t (state 14 r2 stack) (applied Sub 9 (Immediate (pos 1))) d m.performs second sub
+    next m.program header s t (applied Add 9 (FromRegister 0)) d m.performs first refl add
+    (next m.program header t (state 14 r2 stack) (applied Sub 9 (Immediate (pos 1))) d m.performs second refl sub
     (rest r2 (moved_last address (address + length) last r1 then_one)))
 
 -- the last address
@@ -353,17 +353,17 @@ finish m registers stack d code stands there =
     let address_small : address < 2 ^ 32 = omega (arith, big_word tail, b4, b5, b6, b7) in
     let length_small : length < 2 ^ 24 = omega (arith, big_three tail b11, b8, b9, b10, b11) in
     let inc = is_increment byte (front_byte header m.is_header 2 (omega arith)) in
-    next m.program header (state 5 registers stack) (state 6 r1 stack) (loaded LoadByte 0 6 2) d m.performs code.0 load
-    (next m.program header (state 6 r1 stack) (state 7 r2 stack) (applied And 0 (Immediate (pos 4))) d m.performs code.1.0 refl
-    (branched m.program header 7 6 14 r2 stack (skips_if Equal 0 (Immediate (pos 0)) 6) d (bit_and byte 4 == 0) m.performs code.1.1.0 refl refl
+    next m.program header (state 5 registers stack) (state 6 r1 stack) (loaded LoadByte 0 6 2) d m.performs code.0 refl load
+    (next m.program header (state 6 r1 stack) (state 7 r2 stack) (applied And 0 (Immediate (pos 4))) d m.performs code.1.0 refl refl
+    (branched m.program header 7 6 14 r2 stack (skips_if Equal 0 (Immediate (pos 0)) 6) d (bit_and byte 4 == 0) m.performs code.1.1.0 refl refl refl
     (λ zero.
     let same : address ≡ last = sym (plain_last grows (not (length == 0)) far address (sym inc ∙ zero)) in
     there.from r2 stack (with_last address address r2 stands_2 last same))
     (λ one.
-    next m.program header (state 8 r2 stack) (state 9 r3 stack) (loaded LoadWord 0 7 8) d m.performs code.1.1.1.0 load_length
-    (next m.program header (state 9 r3 stack) (state 10 r4 stack) (swapped 0) d m.performs code.1.1.1.1.0 swap
-    (next m.program header (state 10 r4 stack) (state 11 r5 stack) (applied Rsh 0 (Immediate (pos 8))) d m.performs code.1.1.1.1.1.0 shift
-    (branched m.program header 11 2 14 r5 stack (skips_if Equal 0 (Immediate (pos 0)) 2) d (length == 0) m.performs code.1.1.1.1.1.1.0 refl refl
+    next m.program header (state 8 r2 stack) (state 9 r3 stack) (loaded LoadWord 0 7 8) d m.performs code.1.1.1.0 refl load_length
+    (next m.program header (state 9 r3 stack) (state 10 r4 stack) (swapped 0) d m.performs code.1.1.1.1.0 refl swap
+    (next m.program header (state 10 r4 stack) (state 11 r5 stack) (applied Rsh 0 (Immediate (pos 8))) d m.performs code.1.1.1.1.1.0 refl shift
+    (branched m.program header 11 2 14 r5 stack (skips_if Equal 0 (Immediate (pos 0)) 2) d (length == 0) m.performs code.1.1.1.1.1.1.0 refl refl refl
     (λ zero.
     let same : address ≡ last = sym (empty_last grows (length == 0) far address zero) in
     there.from r5 stack (with_last address address r5 stands_5 last same))
@@ -379,7 +379,7 @@ whole_ends : StepPerforms → (rules : List Rule) (budget : ℕ) → All FitsFie
     → Finishes (table_program budget rules) header (entry_state port) (decision rules header told)
 whole_ends performs rules budget fits header port told is_header words =
     let p : Program = table_program budget rules in
-    let m : Setting = record { program = p; header = header; performs = λ h s. performs p h s (inl refl); is_header = is_header } in
+    let m : Setting = record { program = p; header = header; performs = λ h s insn here known. performs p h s (subst (λ (o : Option Insn). knows_insn 1 o ≡ true) (sym here) known) ∙ ap (λ (o : Option Insn). perform_at h s o) here; is_header = is_header } in
     let d : Decision = decision rules header told in
     let code : StandAt p 0 (table_code rules) = stand p [] (table_code rules) refl in
     let apart : StandAt p 0 (address_code ++ (last_address_code ++ rules_code rules)) = subst (λ (insns : List Insn). StandAt p 0 insns) (append_assoc address_code last_address_code (rules_code rules)) code in

@@ -6,21 +6,28 @@ use Rattle.std.proofs.Math.Seq.{get_or-append_seam}
 use Rattle.bpf.specs.Program.{Program, insn_at}
 use Rattle.bpf.specs.Parts.{placed_slots, second_slots}
 use Rattle.bpf_insn.specs.declared.insn.Insn.{Insn}
+use Rattle.bpf_insn.specs.Flow.{flow_of}
 use Rattle.bpf_insn.specs.Spelling.{second_immediate, slots_in, slots_of}
 use Rattle.machine.specs.declared.calls.Call.{Call}
 use Rattle.machine.specs.declared.values.Value.{Value}
 use Rattle.machine.specs.Memory.{Header}
 use Rattle.machine.specs.Runs.{Ends, GoesOn, call}
 use Rattle.machine.specs.State.{State, state}
-use Rattle.machine.specs.Step.{Question, Outcome, Next, Ask, Verdict, branches, perform, perform_at, step}
+use Rattle.machine.specs.Step.{Question, Outcome, Next, Ask, Verdict, branches, knows_flow, perform, step}
 
 -- the draws and the verdict of a table
 abbrev pub Decision : Type 0
 Decision = List Call × ℕ
 
--- each step of a program is what the instruction at its slot does
+-- an instruction of version 1 of the format
+abbrev pub IsOfFirst : Insn → Type 0
+IsOfFirst insn = knows_flow 1 (flow_of insn) ≡ true
+
+-- each step of a program whose instruction is one of version 1 is what it does
 abbrev pub Performs : Program → Type 0
-Performs program = (header : Header) (s : State) → step program header s ≡ perform_at header s (insn_at program s.slot)
+Performs program =
+    (header : Header) (s : State) (insn : Insn) → insn_at program s.slot ≡ Some insn → IsOfFirst insn
+    → step program header s ≡ perform header s insn
 
 -- from a state on, some steps have these draws and give this verdict
 pub record Finishes (program : Program) (header : Header) (s : State) (d : Decision) : Type 0 where
@@ -34,21 +41,21 @@ Rest program header n d o = GoesOn (λ t calls. Ends program header n t calls d.
 -- ---- one instruction
 
 performed : (program : Program) (header : Header) (s : State) (insn : Insn) (o : Outcome) → Performs program
-    → insn_at program s.slot ≡ Some insn → perform header s insn ≡ o → step program header s ≡ o
-performed program header s insn o performs here done =
-    performs header s ∙ ap (λ (i : Option Insn). perform_at header s i) here ∙ done
+    → insn_at program s.slot ≡ Some insn → IsOfFirst insn → perform header s insn ≡ o → step program header s ≡ o
+performed program header s insn o performs here known done =
+    performs header s insn here known ∙ done
 
 pub next : (program : Program) (header : Header) (s t : State) (insn : Insn) (d : Decision) → Performs program
-    → insn_at program s.slot ≡ Some insn → perform header s insn ≡ Next t → Finishes program header t d → Finishes program header s d
-next program header s t insn d performs here done rest =
-    let e : step program header s ≡ Next t = performed program header s insn (Next t) performs here done in
+    → insn_at program s.slot ≡ Some insn → IsOfFirst insn → perform header s insn ≡ Next t → Finishes program header t d → Finishes program header s d
+next program header s t insn d performs here known done rest =
+    let e : step program header s ≡ Next t = performed program header s insn (Next t) performs here known done in
     record { steps = suc rest.steps; ends = subst (λ (o : Outcome). Rest program header rest.steps d o) (sym e) rest.ends }
 
 pub asked : (program : Program) (header : Header) (s : State) (question : Question) (on : ℕ → State) (insn : Insn) (answer : ℕ) (d : Decision) → Performs program
-    → insn_at program s.slot ≡ Some insn → perform header s insn ≡ Ask question on → answer < 2 ^ 64
+    → insn_at program s.slot ≡ Some insn → IsOfFirst insn → perform header s insn ≡ Ask question on → answer < 2 ^ 64
     → Finishes program header (on answer) d → Finishes program header s (call question answer ∷ d.0, d.1)
-asked program header s question on insn answer d performs here done small rest =
-    let e : step program header s ≡ Ask question on = performed program header s insn (Ask question on) performs here done in
+asked program header s question on insn answer d performs here known done small rest =
+    let e : step program header s ≡ Ask question on = performed program header s insn (Ask question on) performs here known done in
     let drawn : Decision = (call question answer ∷ d.0, d.1) in
     record {
       steps = suc rest.steps;
@@ -56,23 +63,23 @@ asked program header s question on insn answer d performs here done small rest =
     }
 
 pub stopped : (program : Program) (header : Header) (s : State) (insn : Insn) (verdict : ℕ) → Performs program
-    → insn_at program s.slot ≡ Some insn → perform header s insn ≡ Verdict verdict → Finishes program header s ([], verdict)
-stopped program header s insn verdict performs here done =
-    let e : step program header s ≡ Verdict verdict = performed program header s insn (Verdict verdict) performs here done in
+    → insn_at program s.slot ≡ Some insn → IsOfFirst insn → perform header s insn ≡ Verdict verdict → Finishes program header s ([], verdict)
+stopped program header s insn verdict performs here known done =
+    let e : step program header s ≡ Verdict verdict = performed program header s insn (Verdict verdict) performs here known done in
     record { steps = 1; ends = subst (λ (o : Outcome). Rest program header 0 ([], verdict) o) (sym e) (refl, refl, refl) }
 
 -- a jump over so many slots is one of two: where the test holds what ends at its target, else what ends behind it
 pub branched : (program : Program) (header : Header) (slot skipped end : ℕ) (registers : ℕ → Value) (stack : ℕ → Option ℕ) (insn : Insn) (d : Decision) (t : Bool) → Performs program
-    → insn_at program slot ≡ Some insn → perform header (state slot registers stack) insn ≡ branches (state slot registers stack) (pos skipped) t
+    → insn_at program slot ≡ Some insn → IsOfFirst insn → perform header (state slot registers stack) insn ≡ branches (state slot registers stack) (pos skipped) t
     → slot + 1 + skipped ≡ end
     → (t ≡ true → Finishes program header (state end registers stack) d)
     → (t ≡ false → Finishes program header (state (slot + 1) registers stack) d)
     → Finishes program header (state slot registers stack) d
-branched program header slot skipped end registers stack insn d true performs here done target there behind =
+branched program header slot skipped end registers stack insn d true performs here known done target there behind =
     let at_target : Finishes program header (state (slot + 1 + skipped) registers stack) d = subst (λ (k : ℕ). Finishes program header (state k registers stack) d) (sym target) (there refl) in
-    next program header (state slot registers stack) (state (slot + 1 + skipped) registers stack) insn d performs here done at_target
-branched program header slot skipped end registers stack insn d false performs here done target there behind =
-    next program header (state slot registers stack) (state (slot + 1) registers stack) insn d performs here done (behind refl)
+    next program header (state slot registers stack) (state (slot + 1 + skipped) registers stack) insn d performs here known done at_target
+branched program header slot skipped end registers stack insn d false performs here known done target there behind =
+    next program header (state slot registers stack) (state (slot + 1) registers stack) insn d performs here known done (behind refl)
 
 -- ---- where instructions stand
 

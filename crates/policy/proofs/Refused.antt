@@ -1,14 +1,17 @@
 -- What the faults of tables tell.
-use Rattle.std.specs.Prelude.{All, nat_lt, if◌then◌else◌, slice_index}
+use Rattle.std.specs.Prelude.{All, ◌&&◌, nat_lt, if◌then◌else◌, slice_index}
 use Rattle.std.specs.Option.{option_or}
 use Rattle.std.proofs.Common.{◌≡◌, ◌<◌, ◌≤◌, ◌+◌, ℕ, suc, Bool, true, false, List, [], ◌∷◌, length, get_or, drop, Option, Some, None, refl, sym, ap, ◌∙◌, subst, add-one}
 use Rattle.std.proofs.Math.Seq.{drop-cons}
 use Rattle.std.proofs.lemmas.Bool.{ltb-false, ltb-true, and_parts}
 use Rattle.std.proofs.lemmas.List.Elements.{All-cons, All-nil}
 use Rattle.machine.specs.declared.calls.Call.{Call}
-use Rattle.machine.specs.Sizes.{IsInside, Maps}
+use Rattle.machine.specs.Sizes.{IsInside, Maps, kind_of_map}
+use Rattle.machine.specs.Step.{is_counter}
+use Rattle.machine.specs.declared.kinds.MapKind.{MapKind}
+use Rattle.machine.specs.declared.kinds.MapKind.TheVariants.{Counter, Peak}
 use Rattle.policy.specs.Codes.{ruling_code}
-use Rattle.policy.specs.Compiled.{HasCells, IsCompileFault, compile_fault, has_cell, quota_fault, rule_fault, rules_fault}
+use Rattle.policy.specs.Compiled.{HasCells, IsCompileFault, IsOfCounter, compile_fault, has_cell, quota_fault, rule_fault, rules_fault}
 use Rattle.policy.specs.Meaning.{decision, draw, holds, ruled}
 use Rattle.policy.specs.declared.faults.PolicyFault.{PolicyFault}
 use Rattle.policy.specs.declared.faults.PolicyFault.TheVariants.{TooLong, BadRange, Memory, NoCell, BadLine}
@@ -76,7 +79,7 @@ fault_here sizes rules i d found fault total within is some whole =
 -- ---- cells
 
 abbrev AreInside : Maps → List Call → Type 0
-AreInside sizes calls = All (λ c. IsInside sizes c.map c.key) calls
+AreInside sizes calls = All (IsOfCounter sizes) calls
 
 no_fault : (t : Bool) (fault : PolicyFault) (rest : Option PolicyFault) → (if t then Some fault else rest) ≡ None → rest ≡ None
 no_fault true fault rest is = cc
@@ -94,13 +97,18 @@ none_second : (f g : Option PolicyFault) → option_or f g ≡ None → g ≡ No
 none_second None g is = is
 none_second (Some fault) g is = cc
 
-inside : (sizes : Maps) (quota : Quota) → has_cell sizes quota ≡ true → IsInside sizes quota.map quota.cell
+counts : (kind : MapKind) → is_counter kind ≡ true → kind ≡ Counter
+counts Counter is = refl
+counts Peak is = absurd cc
+
+inside : (sizes : Maps) (quota : Quota) → has_cell sizes quota ≡ true → IsInside sizes quota.map quota.cell × (kind_of_map sizes quota.map ≡ Counter)
 inside sizes quota is =
-    let parts = and_parts (nat_lt quota.map (length sizes)) (nat_lt quota.cell (slice_index sizes quota.map)) is in
-    record { map_exists = ltb-true _ _ parts.0; key_exists = ltb-true _ _ parts.1 }
+    let whole = and_parts (nat_lt quota.map (length sizes.cells) && nat_lt quota.cell (slice_index sizes.cells quota.map)) (is_counter (kind_of_map sizes quota.map)) is in
+    let parts = and_parts (nat_lt quota.map (length sizes.cells)) (nat_lt quota.cell (slice_index sizes.cells quota.map)) whole.0 in
+    (record { map_exists = ltb-true _ _ parts.0; key_exists = ltb-true _ _ parts.1 }, counts (kind_of_map sizes quota.map) whole.1)
 
 -- the maps have the cell of a quota without a fault
-pub quota_inside : (sizes : Maps) (quota : Quota) → quota_fault sizes (Some quota) ≡ None → IsInside sizes quota.map quota.cell
+pub quota_inside : (sizes : Maps) (quota : Quota) → quota_fault sizes (Some quota) ≡ None → IsInside sizes quota.map quota.cell × (kind_of_map sizes quota.map ≡ Counter)
 quota_inside sizes quota none = inside sizes quota (met (has_cell sizes quota) NoCell none)
 
 -- where rules have no fault, the quota of the first and the others have none
@@ -115,17 +123,17 @@ either_inside true sizes f g in_f in_g = in_f
 either_inside false sizes f g in_f in_g = in_g
 
 ruled_inside : (sizes : Maps) (quota : Option Quota) (code : ℕ) (told : ℕ → ℕ) (rest : List Call × ℕ) → quota_fault sizes quota ≡ None → AreInside sizes rest.0 → AreInside sizes (ruled quota code told rest).0
-ruled_inside sizes None code told rest none are = All-nil (λ c. IsInside sizes c.map c.key)
+ruled_inside sizes None code told rest none are = All-nil (IsOfCounter sizes)
 ruled_inside sizes (Some quota) code told rest none are =
-    let P : Call → Type 0 = λ c. IsInside sizes c.map c.key in
+    let P : Call → Type 0 = IsOfCounter sizes in
     let first : Call = draw quota (told 0) in
-    let here : P first = quota_inside sizes quota none in
+    let here : P first = let both = quota_inside sizes quota none in record { inside = both.0; kind = both.1 } in
     let alone : List Call × ℕ = (first ∷ [], code) in
     let more : List Call × ℕ = (first ∷ rest.0, rest.1) in
     either_inside (nat_lt (told 0) quota.limit) sizes alone more (All-cons P first [] here (All-nil P)) (All-cons P first rest.0 here are)
 
 decision_inside : (sizes : Maps) (rules : List Rule) → rules_fault sizes rules ≡ None → HasCells sizes rules
-decision_inside sizes [] none header told = All-nil (λ c. IsInside sizes c.map c.key)
+decision_inside sizes [] none header told = All-nil (IsOfCounter sizes)
 decision_inside sizes (rule ∷ rules) none header told =
     let later : List Call × ℕ = decision rules header (λ k. told (suc k)) in
     let faults = no_faults sizes rule rules none in

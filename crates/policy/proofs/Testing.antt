@@ -27,7 +27,7 @@ use Rattle.policy.specs.Meaning.{agrees, draw, fields_of, has_kind, last_address
 use Rattle.policy.specs.declared.rules.Quota.{Quota}
 use Rattle.policy.specs.declared.rules.RuleKind.{RuleKind}
 use Rattle.policy.specs.declared.rules.RuleKind.TheVariants.{Read, Write, Rmw, Any}
-use Rattle.policy.proofs.Finishing.{Decision, Finishes, Performs, StandAt, asked, next, stopped}
+use Rattle.policy.proofs.Finishing.{Decision, Finishes, IsOfFirst, Performs, StandAt, asked, next, stopped}
 use Rattle.policy.proofs.Headers.{below_fails, bits_moved, front_byte, front_loaded, is_read, is_rmw, is_write, reach_fails, same_word, word_moved}
 
 -- a program on a header
@@ -66,15 +66,15 @@ kept first last registers value h = record {
 
 -- the jump of a test
 turned : (m : Setting) (slot skipped end : ℕ) (registers : ℕ → Value) (stack : ℕ → Option ℕ) (insn : Insn) (met unmet : Decision) (holds : Bool)
-    → insn_at m.program slot ≡ Some insn
+    → insn_at m.program slot ≡ Some insn → IsOfFirst insn
     → perform m.header (state slot registers stack) insn ≡ branches (state slot registers stack) (pos skipped) (not holds)
     → slot + 1 + skipped ≡ end → StandsOn m.header registers → EndsFrom m (slot + 1) met → EndsFrom m end unmet
     → Finishes m.program m.header (state slot registers stack) (if holds then met else unmet)
-turned m slot skipped end registers stack insn met unmet true here done target stands behind there =
-    next m.program m.header (state slot registers stack) (state (slot + 1) registers stack) insn met m.performs here done (behind.from registers stack stands)
-turned m slot skipped end registers stack insn met unmet false here done target stands behind there =
+turned m slot skipped end registers stack insn met unmet true here known done target stands behind there =
+    next m.program m.header (state slot registers stack) (state (slot + 1) registers stack) insn met m.performs here known done (behind.from registers stack stands)
+turned m slot skipped end registers stack insn met unmet false here known done target stands behind there =
     let back : EndsFrom m (slot + 1 + skipped) unmet = from_slot m end (slot + 1 + skipped) unmet (sym target) there in
-    next m.program m.header (state slot registers stack) (state (slot + 1 + skipped) registers stack) insn unmet m.performs here done (back.from registers stack stands)
+    next m.program m.header (state slot registers stack) (state (slot + 1 + skipped) registers stack) insn unmet m.performs here known done (back.from registers stack stands)
 
 -- ---- a byte of the header
 
@@ -100,7 +100,7 @@ loaded_next m slot base offset byte registers stack d found here stands rest =
     let done : perform m.header s (loaded LoadByte 0 base offset) ≡ Next (state (slot + 1) (register_after registers 0 (Num byte)) stack) =
     ap (λ (v : Value). writes s (slot + 1) 0 (loads m.header s LoadByte v (pos offset))) (found.points registers stands)
     ∙ ap (λ (o : Option Value). writes s (slot + 1) 0 o) (found.gives s) in
-    next m.program m.header s (state (slot + 1) (register_after registers 0 (Num byte)) stack) (loaded LoadByte 0 base offset) d m.performs here done rest
+    next m.program m.header s (state (slot + 1) (register_after registers 0 (Num byte)) stack) (loaded LoadByte 0 base offset) d m.performs here refl done rest
 
 compared : (m : Setting) (slot base offset byte wanted behind end : ℕ) (met unmet : Decision) → Finds m base offset byte
     → StandAt m.program slot (field_test (Some wanted) base offset behind) → wanted < 256
@@ -117,7 +117,7 @@ compared m slot base offset byte wanted behind end met unmet found code small ta
       let aim : slot + 1 + 1 + behind ≡ end = omega (arith, target) in
       let on : EndsFrom m (slot + 1 + 1) met = from_slot m (slot + 2) (slot + 1 + 1) met two rest in
       loaded_next m slot base offset byte registers stack (if byte == wanted then met else unmet) found code.0 stands
-      (turned m (slot + 1) behind end after stack jump met unmet (byte == wanted) code.1.0 done aim (kept _ _ registers (Num byte) stands) on there);
+      (turned m (slot + 1) behind end after stack jump met unmet (byte == wanted) code.1.0 refl done aim (kept _ _ registers (Num byte) stands) on there);
 }
 
 -- a field
@@ -155,8 +155,8 @@ masked m slot mask wanted behind end holds met unmet code mask_fits wanted_fits 
       let stand_one : StandsOn m.header one = kept _ _ registers (Num byte) stands in
       let stand_two : StandsOn m.header two = kept _ _ one (Num (bit_and byte mask)) stand_one in
       loaded_next m slot 6 2 byte registers stack d found code.0 stands
-      (next m.program m.header s t (applied And 0 (Immediate (pos mask))) d m.performs code.1.0 cut
-      (turned m (slot + 1 + 1) behind end two stack jump met unmet holds code.1.1.0 done aim stand_two on there));
+      (next m.program m.header s t (applied And 0 (Immediate (pos mask))) d m.performs code.1.0 refl cut
+      (turned m (slot + 1 + 1) behind end two stack jump met unmet holds code.1.1.0 refl done aim stand_two on there));
 }
 
 -- what the command asks for
@@ -186,7 +186,7 @@ end_next m slot n registers stack d small here rest =
     let s : State = state slot registers stack in
     let done : perform m.header s (set_to_bits 0 n) ≡ Next (state (slot + 1) (register_after registers 0 (Num n)) stack) =
     ap (λ (o : Option Value). writes s (slot + 1) 0 o) (bits_moved (registers 0) n small) in
-    next m.program m.header s (state (slot + 1) (register_after registers 0 (Num n)) stack) (set_to_bits 0 n) d m.performs here done rest
+    next m.program m.header s (state (slot + 1) (register_after registers 0 (Num n)) stack) (set_to_bits 0 n) d m.performs here refl done rest
 
 low_tested : (m : Setting) (slot low behind end : ℕ) (met unmet : Decision) → low < 2 ^ 32
     → insn_at m.program slot ≡ Some (set_to_bits 0 low) → insn_at m.program (slot + 1) ≡ Some (skips_if Less 8 (FromRegister 0) behind)
@@ -201,7 +201,7 @@ low_tested m slot low behind end met unmet small first second target rest there 
       ap (λ (v : Value). compares Less Bits64 s (pos behind) v (Num low)) stands.first_address
       ∙ ap (λ (b : Bool). branches s (pos behind) b) (below_fails address low) in
       end_next m slot low registers stack (if nat_le low address then met else unmet) small first
-      (turned m (slot + 1) behind end after stack (skips_if Less 8 (FromRegister 0) behind) met unmet (nat_le low address) second done target (kept _ _ registers (Num low) stands) rest there);
+      (turned m (slot + 1) behind end after stack (skips_if Less 8 (FromRegister 0) behind) met unmet (nat_le low address) second refl done target (kept _ _ registers (Num low) stands) rest there);
 }
 
 high_tested : (m : Setting) (slot high behind end : ℕ) (met unmet : Decision) → high < 2 ^ 32
@@ -217,7 +217,7 @@ high_tested m slot high behind end met unmet small first second target rest ther
       ap (λ (v : Value). compares Greater Bits64 s (pos behind) v (Num high)) stands.last_address
       ∙ ap (λ (b : Bool). branches s (pos behind) b) (below_fails high last) in
       end_next m slot high registers stack (if nat_le last high then met else unmet) small first
-      (turned m (slot + 1) behind end after stack (skips_if Greater 9 (FromRegister 0) behind) met unmet (nat_le last high) second done target (kept _ _ registers (Num high) stands) rest there);
+      (turned m (slot + 1) behind end after stack (skips_if Greater 9 (FromRegister 0) behind) met unmet (nat_le last high) second refl done target (kept _ _ registers (Num high) stands) rest there);
 }
 
 -- the range of the addresses
@@ -249,7 +249,7 @@ number_next m slot register n registers stack d small writable here rest =
     let done : perform m.header s (set_to register n) ≡ Next t =
     ap (λ (o : Option Value). writes s (slot + 1) register o) (word_moved (registers register) n small)
     ∙ ap (λ (b : Bool). (if b then Trap else Next t)) writable in
-    next m.program m.header s t (set_to register n) d m.performs here done rest
+    next m.program m.header s t (set_to register n) d m.performs here refl done rest
 
 -- a draw in front of one of two decisions
 abbrev after_draw : calls.Call → Decision → Decision
@@ -284,10 +284,10 @@ drawn m slot end code answer quota rest small limited insns target behind there 
       let aim : slot + 2 + 1 + 1 + 1 + 2 ≡ end = omega (arith, target) in
       let on : EndsFrom m (slot + 2 + 1 + 1 + 1) ([], code) = from_slot m (slot + 5) (slot + 2 + 1 + 1 + 1) ([], code) five behind in
       let stand_three : StandsOn m.header three = record { front = stands.front; tail = stands.tail; first_address = stands.first_address; last_address = stands.last_address } in
-      let last : Finishes m.program m.header v d = turned m (slot + 2 + 1 + 1) 2 end three stack jump ([], code) rest holds insns.1.1.1.0 done aim stand_three on there in
-      let call_done : Finishes m.program m.header u whole = asked m.program m.header u (question 2 quota.map quota.cell) (after_answer u) (Call Helper (pos 2)) answer d m.performs insns.1.1.0 refl small last in
+      let last : Finishes m.program m.header v d = turned m (slot + 2 + 1 + 1) 2 end three stack jump ([], code) rest holds insns.1.1.1.0 refl done aim stand_three on there in
+      let call_done : Finishes m.program m.header u whole = asked m.program m.header u (question 2 quota.map quota.cell 0) (after_answer u) (Call Helper (pos 2)) answer d m.performs insns.1.1.0 refl refl small last in
       let key : Finishes m.program m.header t whole = number_next m (slot + 2) 2 quota.cell one stack whole cell_small refl insns.1.0 call_done in
-      let map : Finishes m.program m.header s whole = next m.program m.header s t (LoadMap 1 (pos quota.map)) whole m.performs insns.0 refl key in
+      let map : Finishes m.program m.header s whole = next m.program m.header s t (LoadMap 1 (pos quota.map)) whole m.performs insns.0 refl refl key in
       subst (λ (e : Decision). Finishes m.program m.header s e) (drawn_first holds (draw quota answer) ([], code) rest) map;
 }
 
@@ -307,5 +307,5 @@ verdict_given m slot code small insns = record {
   from = λ registers stack stands.
       let after : ℕ → Value = register_after registers 0 (Num code) in
       number_next m slot 0 code registers stack ([], code) small refl insns.0
-      (stopped m.program m.header (state (slot + 1) after stack) Exit code m.performs insns.1.0 refl);
+      (stopped m.program m.header (state (slot + 1) after stack) Exit code m.performs insns.1.0 refl refl);
 }

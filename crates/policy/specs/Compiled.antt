@@ -6,7 +6,9 @@ use Rattle.bpf.specs.Weight.{weight_of}
 use Rattle.machine.specs.declared.calls.Call.{Call}
 use Rattle.machine.specs.Memory.{Header, IsHeader}
 use Rattle.machine.specs.Runs.{AreAnswered, Runs}
-use Rattle.machine.specs.Sizes.{IsInside, Maps}
+use Rattle.machine.specs.Sizes.{IsInside, Maps, kind_of_map}
+use Rattle.machine.specs.Step.{is_counter}
+use Rattle.machine.specs.declared.kinds.MapKind.TheVariants.{Counter}
 use Rattle.policy.specs.Meaning.{AreWords, decision}
 use Rattle.policy.specs.declared.faults.PolicyFault.{PolicyFault}
 use Rattle.policy.specs.declared.faults.PolicyFault.TheVariants.{TooLong, BadRange, Memory, NoCell, BadLine}
@@ -15,16 +17,18 @@ use Rattle.policy.specs.declared.rules.Rule.{Rule}
 
 -- ---- faults
 
--- whether the maps have the cell of a quota
+-- whether the maps have the cell of a quota, in a counter map
 abbrev pub has_cell : Maps → Quota → Bool
-has_cell sizes quota = nat_lt quota.map (length sizes) && nat_lt quota.cell (slice_index sizes quota.map)
+has_cell sizes quota =
+    nat_lt quota.map (length sizes.cells) && nat_lt quota.cell (slice_index sizes.cells quota.map)
+    && is_counter (kind_of_map sizes quota.map)
 
--- the fault of a quota: its cell is not there
+-- the fault of a quota: its cell is not there, or in a peak map
 abbrev pub quota_fault : Maps → Option Quota → Option PolicyFault
 quota_fault sizes None = None
 quota_fault sizes (Some quota) = if has_cell sizes quota then None else Some NoCell
 
--- the first fault of a rule: its range ends before it begins, or the cell of its quota is not there
+-- the first fault of a rule: its range ends before it begins, or the cell of its quota is not there or in a peak map
 abbrev pub rule_fault : Maps → Rule → Option PolicyFault
 rule_fault sizes rule = if nat_lt rule.high rule.low then Some BadRange else quota_fault sizes rule.quota
 
@@ -57,10 +61,15 @@ pub record HasMeaning (rules : List Rule) (program : Program) : Type 0 where
       → AreAnswered told calls → Runs program header port calls n verdict
       → (calls ≡ (decision rules header told).0) × (verdict ≡ (decision rules header told).1)
 
--- every cell that the table draws from is there
+-- the call is of a cell that is there, in a counter map
+pub record IsOfCounter (sizes : Maps) (c : Call) : Type 0 where
+  pub inside : IsInside sizes c.map c.key
+  pub kind : kind_of_map sizes c.map ≡ Counter
+
+-- every cell that the table draws from is there, in a counter map
 abbrev pub HasCells : Maps → List Rule → Type 0
 HasCells sizes rules =
-    (header : Header) (told : ℕ → ℕ) → All (λ c. IsInside sizes c.map c.key) (decision rules header told).0
+    (header : Header) (told : ℕ → ℕ) → All (IsOfCounter sizes) (decision rules header told).0
 
 -- a program of a table: it has the table's meaning, no loop, and its weight as its budget, and the maps have the
 -- cells that are drawn from

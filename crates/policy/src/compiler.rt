@@ -4,6 +4,8 @@ ghost use Rattle.std.specs.Prelude.{◌≡◌, ◌≤◌, length, IfErr, IfOk};
 ghost use Rattle.bpf.specs.Program.{IsProgram};
 ghost use Rattle.bver.specs.Justified.{IsJustified};
 ghost use Rattle.policy.specs.Compiled.{IsCompiled, IsCompileFault, compile_fault, quota_fault, rule_fault, rules_fault};
+ghost use Rattle.machine.specs.Sizes.{kind_of_map};
+ghost use Rattle.machine.specs.Step.{is_counter};
 ghost use Rattle.policy.specs.Meant.{CodeHasMeaning, CodeIsJustified, IsMadeOf};
 ghost use Rattle.policy.specs.declared.faults.PolicyFault.TheVariants.{Memory};
 
@@ -15,7 +17,7 @@ use crate::tables::Table;
 use absdom::{order_of_states, refine_shrinks};
 use bpf::{Image, ImageFault};
 use bpf_insn::Insn;
-use machine::{MapSizes, runs_from_the_front, steps_perform};
+use machine::{MapKind, MapSizes, runs_from_the_front, steps_perform};
 use std::alloc::Global;
 
 /// The most rules of a table that is compiled.
@@ -24,12 +26,22 @@ const MAX_RULES: usize = 12;
 /// The version of the format that a compiled image has.
 const VERSION: u8 = 1;
 
-/// The fault of a quota: the maps do not have its cell.
+/// Whether the map counts. One that is not there does.
+fn is_counter(sizes: &MapSizes, map: u8) -> bool
+    ensures { result ≡ is_counter (kind_of_map sizes.now map) }
+{
+    match sizes.kind(map) {
+        Some(kind) => matches!(kind, MapKind::Counter),
+        None => true,
+    }
+}
+
+/// The fault of a quota: the maps do not have its cell, or it is in a peak map.
 fn quota_fault(quota: Option<Quota>, sizes: &MapSizes) -> Option<PolicyFault>
     ensures { result ≡ quota_fault sizes.now quota }
 {
     let quota = quota?;
-    if sizes.contains(quota.map, quota.cell) {
+    if sizes.contains(quota.map, quota.cell) && is_counter(sizes, quota.map) {
         None
     } else {
         Some(PolicyFault::NoCell)
@@ -112,8 +124,8 @@ fn image_of(alloc: Global, insns: &[Insn]) -> Result<Image, PolicyFault>
 /// # Errors
 ///
 /// The first of these: `TooLong` for more than 12 rules; then, rule by rule, `BadRange` where the range of addresses
-/// ends before it begins, and `NoCell` where the maps do not have the cell of the quota. `Memory` where there is none
-/// and memory was refused.
+/// ends before it begins, and `NoCell` where the maps do not have the cell of the quota, or it is in a peak map.
+/// `Memory` where there is none and memory was refused.
 pub fn compile(alloc: Global, table: &Table, sizes: &MapSizes) -> Result<Image, PolicyFault>
     ensures compiled { IfOk result (IsCompiled sizes.now table.now) }
     ensures justified { IfOk result (λ image. IsJustified image sizes.now) }

@@ -20,8 +20,8 @@ The process was refused memory while the table was read or compiled.
 Give the process more memory.";
 
 const NO_CELL: &str = "\
-A quota `MAP:CELL:LIMIT` names a map that is not in `--maps`, which count from 0, or a cell that it does not
-have.
+A quota `MAP:CELL:LIMIT` names a map that is not in `--maps`, which count from 0, a cell that it does not have, or
+a peak map, of which no tickets are drawn.
 Give the maps that the node has by `--maps`, and count cells from 0.";
 
 const BAD_LINE: &str = "\
@@ -41,7 +41,7 @@ pub enum PolicyFault {
     /// Memory was refused.
     #[error("no memory")]
     Memory,
-    /// The counter maps do not have the cell of a quota.
+    /// The maps do not have the cell of a quota, or it is in a peak map.
     #[error("no such cell")]
     NoCell,
     /// A line writes no rule.

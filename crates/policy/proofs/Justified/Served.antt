@@ -26,7 +26,7 @@ LandsIn slots slot (negsuc n) = ⊥
 pub record IsServed (sizes : Maps) (table : Knowledge) (slots : List (Option Insn)) (slot : ℕ) (a : StateValue) (insn : Insn) : Type 0 where
   pub whole : IsWhole a
   pub permitted : IsPermitted Forgets sizes table slot a insn
-  pub supported : IsSupported insn
+  pub supported : IsSupported 1 insn
   pub leaves_frame : LeavesFrame insn
   pub lands : IfSome (jump_distance insn) (LandsIn slots slot)
 

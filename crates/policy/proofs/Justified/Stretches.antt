@@ -11,7 +11,8 @@ use Rattle.bpf_parts.specs.declared.operation.Width.{Width}
 use Rattle.bpf_parts.specs.declared.operation.Width.TheVariants.{Bits64}
 use Rattle.bpf_insn.specs.declared.insn.Insn.{Insn}
 use Rattle.bpf_insn.specs.declared.insn.Insn.TheVariants.{Alu, Call, Exit, LoadMap}
-use Rattle.machine.specs.Sizes.{Maps}
+use Rattle.machine.specs.Sizes.{Maps, kind_of_map}
+use Rattle.machine.specs.declared.kinds.MapKind.TheVariants.{Counter}
 use Rattle.machine.specs.Step.{is_map}
 use Rattle.absdom.specs.declared.cause.Cause.{Cause}
 use Rattle.absdom.specs.declared.kinds.AbsKind.{AbsKind}
@@ -64,7 +65,7 @@ begun sizes behind there slots h = record {
 
 module _ (sizes : Maps) (a next : StateValue) (behind : ℕ) (there : Option StateValue) (slots : List (Option Insn)) (whole : IsWhole a) where
   one_before : (insn : Insn) → ((table : Knowledge) → table 1 ≡ Some next → IsPermitted Forgets sizes table 0 a insn)
-      → IsSupported insn → LeavesFrame insn → jump_distance insn ≡ None
+      → IsSupported 1 insn → LeavesFrame insn → jump_distance insn ≡ None
       → IsJustifiedFrom sizes next behind there slots → IsJustifiedFrom sizes a (suc behind) there (Some insn ∷ slots)
   one_before insn permits supported leaves_frame straight rest =
       let table : Knowledge = before (Some a) rest.table in
@@ -157,11 +158,11 @@ test_before transitive shrinks sizes next less behind slots condition dst src wh
 
 -- ---- a ticket
 
-pub call_before : BelowIsReflexive → (sizes : Maps) (map cell behind : ℕ) (slots : List (Option Insn)) → IsWhole (drawing map cell) → cell < slice_index sizes map
+pub call_before : BelowIsReflexive → (sizes : Maps) (map cell behind : ℕ) (slots : List (Option Insn)) → IsWhole (drawing map cell) → cell < slice_index sizes.cells map → kind_of_map sizes map ≡ Counter
     → IsJustifiedTo sizes comparing behind slots → IsJustifiedTo sizes (drawing map cell) (suc behind) (Some (Call Helper (pos 2)) ∷ slots)
-call_before reflexive sizes map cell behind slots whole inside rest =
+call_before reflexive sizes map cell behind slots whole inside counter rest =
     one_before sizes (drawing map cell) comparing behind (Some between) slots whole (Call Helper (pos 2))
-    (λ table is. (inside, subst (λ (o : Option StateValue). IsCovered comparing o) (sym is) (reflexive comparing)))
+    (λ table is. (record { cell = inside; given = λ takes. absurd cc; kind = rw counter refl }, subst (λ (o : Option StateValue). IsCovered comparing o) (sym is) (reflexive comparing)))
     refl tt refl rest
 
 -- the load of a map has two slots

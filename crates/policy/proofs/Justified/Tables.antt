@@ -204,14 +204,15 @@ module _ (laws : Laws) (sizes : Maps) where
       → IsStretch sizes between 2 insns → IsStretch sizes between (2 + quota_slots quota) (quota_test quota 2 ++ insns)
   quota_stretch None insns limited none rest = rest
   quota_stretch (Some quota) insns limited none rest =
-      let inside : IsInside sizes quota.map quota.cell = quota_inside sizes quota none in
+      let both = quota_inside sizes quota none in
+      let inside : IsInside sizes quota.map quota.cell = both.0 in
       let same : word (pos quota.cell) ≡ quota.cell = omega (arith, limited.1) in
       let small : map_kind (pos quota.map) ≡ Map quota.map = map_small quota.map (nat_lt quota.map 256) (lt-ltb quota.map 256 limited.0) in
       let compared = test 2 _ GreaterEqual 0 (Immediate (pos quota.limit)) refl rest in
-      let drawn = call_before laws.reflexive sizes quota.map quota.cell 3 _ (whole_drawing quota.map quota.cell limited.1) inside.key_exists compared in
+      let drawn = call_before laws.reflexive sizes quota.map quota.cell 3 _ (whole_drawing quota.map quota.cell limited.1) inside.key_exists both.1 compared in
       let set = alu_before sizes (mapped quota.map) (drawing quota.map quota.cell) 4 (Some between) _ (whole_mapped quota.map) Mov Bits64 2 (Immediate (pos quota.cell)) refl
       (below_in_rules tt refl (moved_same (word (pos quota.cell)) quota.cell same)) drawn in
-      map_before laws.reflexive sizes quota.map 5 _ whole_between (lt-ltb quota.map (length sizes) inside.map_exists) small set
+      map_before laws.reflexive sizes quota.map 5 _ whole_between (lt-ltb quota.map (length sizes.cells) inside.map_exists) small set
 
   verdict_stretch : (code : ℕ) (insns : List Insn) → IsStretch sizes between 0 insns → IsStretch sizes between 2 (verdict_code code ++ insns)
   verdict_stretch code insns rest =
