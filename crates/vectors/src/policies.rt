@@ -78,7 +78,7 @@ fn questions(alloc: Global, draws: &str) -> Result<String> {
     for draw in draws.split(',') {
         if let Some((map, key)) = draw.split_once(':') {
             let semicolon = if text.is_empty() { "" } else { ";" };
-            write!(text, "{semicolon}2,{map},{key}")?;
+            write!(text, "{semicolon}2,{map},{key},0")?;
         }
     }
     Ok(text)
