@@ -5,8 +5,8 @@ ghost use Rattle.ports.specs.Queue.{IsPutPassOf};
 ghost use Rattle.ports.specs.Serves.{IsWorkerOf};
 
 use super::checks::same;
-use super::desks::{node, text_of, worker};
 use super::workers::CLEAN;
+use desks::{shared_node, text_of, worker};
 use ports::{Full, NoGate, Port, PutPass, Replies, Report, Worker, work};
 use publish::{Opened, Room};
 use spw::Packet;
@@ -69,7 +69,7 @@ fn full_until_taken<J: Room + Send, R: Threads + Wait + Abort + Sync>(
     requires { opened ≡ J.book }
 {
     let factory = program(alloc, 0)?;
-    let (node, mut passes) = node::<J, _>(rt, alloc, opened, 1, &[bank(1024)], factory)?;
+    let (node, mut passes) = shared_node::<J, _>(rt, alloc, opened, 1, &[bank(1024)], factory)?;
     let pass = passes.pop().ok_or("no pass")?;
     let (port, mut put_pass, serve_pass) = Port::new(alloc, 1)?;
     let worker = worker(&node, &port, pass, serve_pass, Replies::new(alloc))?;

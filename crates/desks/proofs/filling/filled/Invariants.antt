@@ -1,5 +1,5 @@
 use Rattle.ports.specs.Queue.{IsPutPassOf}
-use Rattle.port_tests.proofs.tests.desks.filled.Given as goal
+use Rattle.desks.proofs.filling.filled.Given as goal
 
 abbrev pub invariant-loop-line : goal.invariant-loop-line
 invariant-loop-line g l = IsPutPassOf l.port l.put_pass

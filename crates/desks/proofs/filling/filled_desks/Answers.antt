@@ -1,9 +1,9 @@
 use Rattle.std.specs.Prelude.{◌+◌, ◌++◌, ◌∷◌, [], vec_items, vec_len}
 use Rattle.std.proofs.Common.{sym, subst}
 use Rattle.ports.specs.Serves.{AreServed}
-use Rattle.port_tests.specs.Desks.{ArePutPasses}
-use Rattle.port_tests.proofs.Pairs.{puts_more, serves_more}
-use Rattle.port_tests.proofs.tests.desks.desks.Goals as goal
+use Rattle.desks.specs.Desks.{ArePutPasses}
+use Rattle.desks.proofs.Pairs.{puts_more, serves_more}
+use Rattle.desks.proofs.filling.filled_desks.Goals as goal
 
 pub loop-pass-preserved : goal.loop-pass-preserved
 loop-pass-preserved g c =

@@ -9,7 +9,7 @@ use Rattle.ports.specs.Serves.{AreServed, IsWorkerOf}
 use Rattle.ports.specs.declared.port.Port.{Port}
 use Rattle.ports.specs.declared.port.PutPass.{PutPass}
 use Rattle.ports.specs.declared.worker.Worker.{Worker}
-use Rattle.port_tests.specs.Desks.{ArePutPasses}
+use Rattle.desks.specs.Desks.{ArePutPasses}
 
 -- An element behind the others is at the place of its number.
 last : {A : Type 0} (xs : List A) (x y : A) (k : ℕ) → k ≡ length xs → slice_index_or (xs ++ x ∷ []) k y ≡ x
