@@ -2,7 +2,7 @@
 
 use super::YES;
 use crate::tests::checks::{check, same};
-use bpf::{Image, ImageFault, Loop};
+use bpf::{Image, Loop};
 use bpf_insn::{AluOp, Callee, Comparison, Condition, Insn, Operand, Register, Width};
 use std::alloc::Global;
 use std::process::Abort;
@@ -442,33 +442,5 @@ fn a_weight_is_a_sum_of_products(rt: HostRuntime) -> Result<(), Fail> {
         Image::read(rt.alloc(), &largest(rt.alloc())?)?.weight(),
         u64::MAX,
     );
-    Ok(())
-}
-
-/// The bytes of a copy of the image of `COUNTDOWN`, and of an image that is made of exits and its loops.
-fn made_twice(alloc: Global) -> Result<(Vec<u8>, Vec<u8>), ImageFault> {
-    let image = Image::read(alloc, &COUNTDOWN)?.copy()?;
-    let exits = Image::new(alloc, &EXITS[..6], image.loops(), image.budget())?;
-    Ok((image.write()?, exits.write()?))
-}
-
-/// A refused allocation is `Memory`, and the next calls give the images.
-#[test]
-fn refused_memory_is_told(rt: HostRuntime) -> Result<(), Fail> {
-    if let Err(fault) = made_twice(rt.alloc()) {
-        same(&rt, "refused memory is told", fault.code(), 8);
-    }
-    let (copied, exits) = made_twice(rt.alloc())?;
-    check(
-        &rt,
-        "refused memory is told",
-        copied.as_slice() == COUNTDOWN.as_slice(),
-    );
-    check(
-        &rt,
-        "refused memory is told",
-        exits.as_slice().starts_with(&COUNTDOWN[..24]),
-    );
-    same(&rt, "refused memory is told", exits.len(), 72);
     Ok(())
 }

@@ -1,4 +1,4 @@
-use Rattle.publish_tests.proofs.tests.refusals.memory_refused_to_install.Given as goal
+use Rattle.refusal_tests.proofs.tests.programs.memory_refused_to_install.Given as goal
 
 -- the history that was just opened
 abbrev pub ghosts-installed : goal.ghosts-installed
