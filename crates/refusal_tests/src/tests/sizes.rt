@@ -2,7 +2,8 @@
 
 use super::checks::same;
 use bank::{Bank, Entry, Share};
-use bver::{Accepted, Op};
+use bpf_insn::Insn;
+use bver::{Accepted, Op, Region};
 use cells::CellSeat;
 use ports::Item;
 use publish::{Reader, STAGING_BYTES, Staging};
@@ -27,6 +28,8 @@ its reader of programs: 96
 its staging: 32
 the bytes of a staging: 16384
 an accepted program: 128
+a slot of its image: 24
+the region of a slot: 2
 an operation: 24
 a buffer for replies: 4136
 ";
@@ -47,6 +50,8 @@ fn parts_take_so_many_bytes(rt: HostRuntime) -> Result<(), Fail> {
         ("its staging", size_of::<Staging>()),
         ("the bytes of a staging", STAGING_BYTES),
         ("an accepted program", size_of::<Accepted>()),
+        ("a slot of its image", size_of::<Option<Insn>>()),
+        ("the region of a slot", size_of::<Option<Region>>()),
         ("an operation", size_of::<Op>()),
         ("a buffer for replies", size_of::<ReplyBuf>()),
     ] {
