@@ -77,8 +77,8 @@ fn is_too_heavy(alloc: Global, program: &str, budget: u32, sizes: &MapSizes) -> 
 }
 
 /// What the verifier answers to a named program with a budget and the sizes of its maps, and where it accepts the run at
-/// a port, with answers and in so many steps. The budget is the weight, of which one less is refused, but where it is
-/// refused itself.
+/// a port, with answers and in so many steps. The budget of an accepted program is its weight, since one less is refused.
+/// Any other is refused as too heavy where its weight is above its budget, and where it is not for something else.
 pub fn of_text(alloc: Global, given: &str) -> Result<String, Fail> {
     let mut row = Row::of(given);
     let _name = row.part()?;
@@ -86,15 +86,15 @@ pub fn of_text(alloc: Global, given: &str) -> Result<String, Fail> {
     let budget = row.part()?.parse::<u32>()?;
     let sizes = sizes(alloc, row.part()?)?;
     let image = image_of_text(alloc, program, budget)?;
-    let is_weight = image.weight() == u64::from(budget);
+    let is_heavy = image.weight() > u64::from(budget);
     let accepted = match verify(alloc, image, &sizes) {
         Ok(accepted) => accepted,
-        Err(refused) if is_weight == (refused.code == Refusal::Budget) => {
+        Err(refused) if is_heavy != (refused.code == Refusal::Budget) => {
             return Ok(String::from_str(alloc, "another weight")?);
         }
         Err(refused) => return Ok(refusal(alloc, refused)?),
     };
-    if !is_weight || !is_too_heavy(alloc, program, budget.saturating_sub(1), &sizes)? {
+    if !is_too_heavy(alloc, program, budget.saturating_sub(1), &sizes)? {
         return Ok(String::from_str(alloc, "ok|with another weight")?);
     }
     let asked = Asked::read(alloc, row.part()?, row.part()?, row.part()?)?;
