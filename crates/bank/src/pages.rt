@@ -76,7 +76,7 @@ impl Pages {
     /// The bytes from that many bytes behind the first to the end of their page.
     fn from(&self, offset: usize) -> &[u8]
         requires { offset < length self.now }
-        ensures { result.now ≡ take (4096 - offset % 4096) (drop offset self.now) }
+        ensures { result.now ≡ take (PAGE - offset % PAGE) (drop offset self.now) }
     {
         let pages = self.pages.as_slice();
         from_byte(&pages[offset / PAGE], offset % PAGE)
@@ -175,7 +175,7 @@ fn zero_pages(alloc: Global, size: usize) -> Result<Vec<Vec<u8>>, AllocError>
 
 /// So many full pages of zeros.
 fn full_pages(alloc: Global, count: usize) -> Result<Vec<Vec<u8>>, AllocError>
-    ensures { IfOk result (λ pages. map vec_items pages.items ≡ replicate count (replicate 4096 0)) }
+    ensures { IfOk result (λ pages. map vec_items pages.items ≡ replicate count (replicate PAGE 0)) }
 {
     let mut pages = Vec::new(alloc);
     for _ in 0..count {
@@ -251,7 +251,7 @@ fn from_byte(page: &Vec<u8>, start: usize) -> &[u8]
 
 /// The bytes at the end of a page and those at the beginning of the next, and zeros behind them.
 fn joined(end: &[u8], next: &[u8]) -> [u8; PAGE]
-    requires { length end.now + length next.now ≤ 4096 }
+    requires { length end.now + length next.now ≤ PAGE }
     ensures { take (length end.now + length next.now) result ≡ end.now ++ next.now }
 {
     let mut bytes = [0; PAGE];

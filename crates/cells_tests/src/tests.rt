@@ -1,10 +1,9 @@
-//! Counter words: seats of one thread, seats in threads, and memory that is refused.
+//! Counter words: seats of one thread, and seats in threads.
 
 ghost use Rattle.std.specs.Prelude.{◌≡◌, ◌+◌, All, vec_len};
 ghost use Rattle.cells.specs.Seats.{IsSeatOf};
 
 mod places;
-mod refusals;
 mod threads;
 
 use brun::Counters;

@@ -31,7 +31,7 @@ pub use jobs::{Job, perform};
 pub use judge::JudgeWords;
 pub use options::NodeWords;
 pub use policies::PolicyWords;
-pub use serve::ServeWords;
+pub use serve::{ServeWords, print_report};
 pub use sim::SimWords;
 pub use stops::WriteFault;
 pub use storage::{Cannot, Files};

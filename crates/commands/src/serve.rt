@@ -127,8 +127,12 @@ fn print_ports<W: Write>(out: &mut W, sinks: &[Replies]) -> io::Result<()>
     Ok(())
 }
 
-/// Prints how many packets were no command, and how many replies were lost.
-fn print_report<W: Write>(out: &mut W, report: Report) -> io::Result<()>
+/// Prints how many packets were no command, and how many replies were lost: the last line of the job.
+///
+/// # Errors
+///
+/// Those of the writer.
+pub fn print_report<W: Write>(out: &mut W, report: Report) -> io::Result<()>
     ensures { OnOk result (Prints W.contents out.old out.new (report_line report)) }
 {
     let Report { discarded, lost } = report;

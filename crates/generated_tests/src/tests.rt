@@ -1,4 +1,4 @@
-//! Random programs, with and without loops and questions.
+//! Random programs, with and without loops and questions, and one that asks as often as it may.
 
 mod agreement;
 mod asking;
@@ -6,3 +6,4 @@ mod checks;
 mod generated;
 mod generator;
 mod tables;
+mod waiting;

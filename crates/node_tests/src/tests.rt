@@ -5,6 +5,5 @@ mod banks;
 mod checks;
 mod full_journals;
 mod journals;
-mod loads;
 mod nodes;
 mod pages;

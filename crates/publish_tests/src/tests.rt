@@ -1,9 +1,8 @@
-//! Published programs: some call of each, readers beside loads, and memory that is refused.
+//! Published programs: some call of each, and readers beside loads.
 
 ghost use Rattle.std.specs.Prelude.{◌≡◌, IfSome};
 
 mod loads;
-mod refusals;
 mod staging;
 mod takes;
 

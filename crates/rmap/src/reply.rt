@@ -28,12 +28,13 @@ pub struct ReplyBuf {
 impl Model for ReplyBuf {
     ghost use Rattle.std.specs.Prelude.{◌≡◌, ◌≤◌, List, ℕ, take};
     ghost use Rattle.std.specs.Prelude.{length as list_length};
+    ghost use Rattle.rmap.specs.declared.reply.TheConstants.{MAX_REPLY};
 
     ghost Value = { List ℕ };
 
     ghost view = { λ b. take b.length b.bytes };
 
-    ghost invariant = { λ b. (b.length ≤ 4121) × (list_length b.bytes ≡ 4121) };
+    ghost invariant = { λ b. (b.length ≤ MAX_REPLY) × (list_length b.bytes ≡ MAX_REPLY) };
 }
 
 impl ReplyBuf {

@@ -3,6 +3,5 @@
 mod agreement;
 mod checks;
 mod commands;
-mod memory;
 mod schedules;
 mod worlds;

@@ -1,6 +1,6 @@
 //! Rows of a table in text.
 
-use bver::MapSizes;
+use machine::{MapKind, MapSizes};
 use std::alloc::Global;
 use std::fmt::Debug;
 use std::str::Split;
@@ -40,13 +40,21 @@ pub fn hexadecimals(alloc: Global, text: &str) -> Result<Vec<u64>, Fail> {
     Ok(numbers)
 }
 
-/// The sizes of maps, with spaces between them.
+/// The size and the kind of a map: a number, with a `p` behind it for a peak map.
+fn map_of(word: &str) -> Result<(u16, MapKind), Fail> {
+    Ok(match word.strip_suffix('p') {
+        Some(size) => (size.parse::<u16>()?, MapKind::Peak),
+        None => (word.parse::<u16>()?, MapKind::Counter),
+    })
+}
+
+/// The maps of a text, with spaces between them.
 pub fn sizes(alloc: Global, text: &str) -> Result<MapSizes, Fail> {
-    let mut numbers = Vec::new(alloc);
+    let mut maps = Vec::new(alloc);
     for word in text.split_whitespace() {
-        numbers.push(word.parse::<u16>()?)?;
+        maps.push(map_of(word)?)?;
     }
-    Ok(MapSizes::new(&numbers)?)
+    Ok(MapSizes::with_kinds(&maps)?)
 }
 
 /// The code and the slot of a refusal, or nothing.

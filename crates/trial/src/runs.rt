@@ -24,12 +24,18 @@ pub fn verdict(alloc: Global, program: &Accepted, port: u8, old: u8) -> Result<u
     Ok(run(program, &FRONT, &TAIL, port, &mut [old; 512], seat))
 }
 
-/// Notes a question behind the others: `HELPER,MAP,KEY`, with `;` between two.
-fn note(questions: &mut String, helper: u8, map: u8, key: u16) -> Result<(), AllocError> {
+/// Notes a question behind the others: `HELPER,MAP,KEY,ARGUMENT`, with `;` between two.
+fn note(
+    questions: &mut String,
+    helper: u8,
+    map: u8,
+    key: u16,
+    argument: u64,
+) -> Result<(), AllocError> {
     if !questions.is_empty() {
         questions.push(';')?;
     }
-    write!(questions, "{helper},{map},{key}")
+    write!(questions, "{helper},{map},{key},{argument}")
 }
 
 /// The verdict of a run at the port on a header, of which the first four and the last twelve bytes are given, and the
@@ -49,16 +55,16 @@ pub fn turns_on(
     for told in answers {
         match advance(accepted, front, tail, stack, &mut paused) {
             Turn::Verdict(verdict) => return Ok(Some(verdict)),
-            Turn::Ask(helper, map, key) => {
-                note(questions, helper, map, key)?;
+            Turn::Ask(helper, map, key, argument) => {
+                note(questions, helper, map, key, argument)?;
                 answer(&mut paused, *told);
             }
         }
     }
     match advance(accepted, front, tail, stack, &mut paused) {
         Turn::Verdict(verdict) => Ok(Some(verdict)),
-        Turn::Ask(helper, map, key) => {
-            note(questions, helper, map, key)?;
+        Turn::Ask(helper, map, key, argument) => {
+            note(questions, helper, map, key, argument)?;
             Ok(None)
         }
     }

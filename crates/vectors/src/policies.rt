@@ -1,46 +1,47 @@
-//! Policy tables, as they were read, decided and refused apart.
+//! Policy tables: how they are read, and how they decide.
 
-use anyhow::{Context, Result};
-use bver::verify;
-use machine::{Call, MapSizes};
-use policy::{PolicyFault, Table, compile};
+use bpf::Image;
+use bver::{MapSizes, verify};
+use machine::Call;
+use policy::{PolicyFault, Rule, Table, compile};
 use std::alloc::{AllocError, Global};
-use trial::turns_on;
+use std::test::Fail;
+use trial::{Row, sizes, turns_on};
 
-/// The columns of a row behind its table.
-#[derive(Drop)]
-struct Row<'a> {
-    /// The sizes of maps, with commas between them.
-    sizes: &'a str,
-    /// The 16 bytes of a header in hexadecimal, or nothing where the table has a fault.
-    header: &'a str,
-    /// The answers of draws in order, with commas between them.
-    answers: &'a str,
-    /// The draws, each as map and cell with a colon, with commas between them.
-    draws: &'a str,
-    /// The verdict, or `fault` and its number.
-    verdict: &'a str,
+/// A rule: kind, key, initiator logical address, extended address, first and last address, quota, verdict.
+fn printed(alloc: Global, rule: &Rule) -> Result<String, AllocError> {
+    let quota = match rule.quota {
+        None => String::from_str(alloc, "None")?,
+        Some(quota) => format!(in alloc; "{}:{}:{}", quota.map, quota.cell, quota.limit)?,
+    };
+    let (kind, key, initiator) = (rule.kind, rule.key, rule.initiator);
+    let (extended, low, high) = (rule.extended, rule.low, rule.high);
+    let code = rule.ruling.code();
+    format!(in alloc;
+        "{kind:?} {key:?} {initiator:?} {extended:?} {low:08X} {high:08X} {quota} {code}"
+    )
 }
 
-/// The columns of a row behind its table.
-fn row_of(row: &str) -> Result<Row<'_>> {
-    let mut columns = row.split('\t');
-    let sizes = columns.next().context("map sizes")?;
-    let header = columns.next().context("a header")?;
-    let answers = columns.next().context("answers")?;
-    let draws = columns.next().context("draws")?;
-    let verdict = columns.next().context("a verdict")?;
-    Ok(Row {
-        sizes,
-        header,
-        answers,
-        draws,
-        verdict,
-    })
+/// The only rule of a text, or the words of its fault. In the text `\n` is a line feed, `\t` a tab and `\r` a carriage
+/// return.
+pub fn rule(alloc: Global, given: &str) -> Result<String, Fail> {
+    let text = given
+        .replace(alloc, "\\n", "\n")?
+        .replace(alloc, "\\t", "\t")?;
+    Ok(
+        match Table::read(alloc, &text.replace(alloc, "\\r", "\r")?) {
+            Err(fault) => format!(in alloc; "{fault}")?,
+            Ok(table) => match table.rules() {
+                [] => String::from_str(alloc, "no rule")?,
+                [rule] => printed(alloc, rule)?,
+                _ => String::from_str(alloc, "several rules")?,
+            },
+        },
+    )
 }
 
 /// The numbers of a text, with commas between them.
-fn numbers(alloc: Global, text: &str) -> Result<Vec<u64>> {
+fn numbers(alloc: Global, text: &str) -> Result<Vec<u64>, Fail> {
     let mut numbers = Vec::new(alloc);
     for word in text.split(',') {
         if !word.is_empty() {
@@ -50,19 +51,8 @@ fn numbers(alloc: Global, text: &str) -> Result<Vec<u64>> {
     Ok(numbers)
 }
 
-/// The sizes of the maps of a row.
-fn sizes(alloc: Global, text: &str) -> Result<MapSizes> {
-    let mut sizes = Vec::new(alloc);
-    for word in text.split(',') {
-        if !word.is_empty() {
-            sizes.push(word.parse::<u16>()?)?;
-        }
-    }
-    Ok(MapSizes::new(&sizes)?)
-}
-
-/// The draws as a row has them.
-fn printed(alloc: Global, calls: &[Call]) -> Result<String, AllocError> {
+/// The draws, each as map and cell with a colon, with commas between them.
+fn draws(alloc: Global, calls: &[Call]) -> Result<String, AllocError> {
     let mut text = String::new(alloc);
     for call in calls {
         let (map, key) = (call.map, call.key);
@@ -72,81 +62,54 @@ fn printed(alloc: Global, calls: &[Call]) -> Result<String, AllocError> {
     Ok(text)
 }
 
-/// The draws of a row as the questions of a run.
-fn questions(alloc: Global, draws: &str) -> Result<String> {
+/// The same as questions of a run.
+fn questions(alloc: Global, calls: &[Call]) -> Result<String, AllocError> {
     let mut text = String::new(alloc);
-    for draw in draws.split(',') {
-        if let Some((map, key)) = draw.split_once(':') {
-            let semicolon = if text.is_empty() { "" } else { ";" };
-            write!(text, "{semicolon}2,{map},{key}")?;
-        }
+    for call in calls {
+        let (map, key) = (call.map, call.key);
+        let between = if text.is_empty() { "" } else { ";" };
+        write!(text, "{between}2,{map},{key},0")?;
     }
     Ok(text)
 }
 
-/// Whether the table decides as the row says of the header.
-fn decides(
-    alloc: Global,
-    table: &Table,
-    front: &[u8; 4],
-    tail: &[u8; 12],
-    row: &Row,
-) -> Result<bool> {
-    let answers = numbers(alloc, row.answers)?;
+/// A table, its lines apart by ` / `, and the program of it.
+fn compiled(alloc: Global, text: &str, sizes: &MapSizes) -> Result<(Table, Image), PolicyFault> {
+    let table = Table::read(alloc, &text.replace(alloc, " / ", "\n")?)?;
+    let image = compile(alloc, &table, sizes)?;
+    Ok((table, image))
+}
+
+/// What a table draws and decides, and its program too, for maps of some sizes, for the 16 bytes of a header, with the
+/// answers of draws in order and commas between them. Or the fault, where there is no header.
+pub fn decision(alloc: Global, given: &str) -> Result<String, Fail> {
+    let mut row = Row::of(given);
+    let text = row.part()?;
+    let sizes = sizes(alloc, row.part()?)?;
+    let (table, image) = match compiled(alloc, text, &sizes) {
+        Ok(made) => made,
+        Err(fault) => return Ok(format!(in alloc; "fault {}", fault.code())?),
+    };
+    let header = hex::decode(alloc, row.part()?)?;
+    let (front, rest) = header.as_slice().split_first_chunk::<4>().ok_or("a front")?;
+    let tail = rest.first_chunk::<12>().ok_or("a tail")?;
+    let answers = numbers(alloc, row.part()?)?;
     let mut calls = Vec::new(alloc);
     let verdict = table.decide(front, tail, &answers, &mut calls)?;
-    let draws = printed(alloc, &calls)?;
-    Ok(verdict == row.verdict.parse::<u64>()? && draws.as_str() == row.draws)
-}
-
-/// Whether the table's image is accepted, and a run of it on the header draws and ends as the row says.
-fn runs(
-    alloc: Global,
-    table: &Table,
-    sizes: &MapSizes,
-    front: &[u8; 4],
-    tail: &[u8; 12],
-    row: &Row,
-) -> Result<bool> {
-    let accepted = verify(alloc, compile(alloc, table, sizes)?, sizes)?;
-    let answers = numbers(alloc, row.answers)?;
+    let program = verify(alloc, image, &sizes)?;
     let mut asked = String::new(alloc);
-    let mut stack = [0xa5; 512];
-    let verdict = turns_on(&accepted, front, tail, 0, &mut stack, &answers, &mut asked)?;
-    let wanted = questions(alloc, row.draws)?;
-    Ok(verdict == Some(row.verdict.parse::<u64>()?) && asked.as_str() == wanted.as_str())
-}
-
-/// Whether the table and its image answer as the row says of its header.
-fn answers(alloc: Global, table: &Table, sizes: &MapSizes, row: &Row) -> Result<bool> {
-    let bytes = hex::decode(alloc, row.header).context("reading the header")?;
-    let (front, rest) = bytes
-        .as_slice()
-        .split_first_chunk::<4>()
-        .context("a front")?;
-    let tail = rest.first_chunk::<12>().context("a tail")?;
-    Ok(decides(alloc, table, front, tail, row)? && runs(alloc, table, sizes, front, tail, row)?)
-}
-
-/// The first fault of a table that was read.
-fn fault_of(alloc: Global, table: &Table, sizes: &MapSizes) -> Option<PolicyFault> {
-    compile(alloc, table, sizes).err()
-}
-
-/// Whether reading a table, whose lines are apart by ` / `, compiling it, deciding by it and running its image give
-/// what the row says.
-pub fn agrees(alloc: Global, table: &str, row: &str) -> Result<bool> {
-    let row = row_of(row)?;
-    let text = table.replace(alloc, " / ", "\n")?;
-    let sizes = sizes(alloc, row.sizes)?;
-    let fault = match Table::read(alloc, &text) {
-        Err(fault) => fault,
-        Ok(table) => match fault_of(alloc, &table, &sizes) {
-            Some(fault) => fault,
-            None => return Ok(!row.header.is_empty() && answers(alloc, &table, &sizes, &row)?),
-        },
-    };
-    let code = fault.code();
-    let told = format!(in alloc; "fault {code}")?;
-    Ok(row.header.is_empty() && row.verdict == told.as_str())
+    let run = turns_on(
+        &program,
+        front,
+        tail,
+        0,
+        &mut [0; 512],
+        &answers,
+        &mut asked,
+    )?;
+    if run != Some(verdict) || asked.as_str() != questions(alloc, &calls)?.as_str() {
+        return Ok(String::from_str(alloc, "otherwise by the program")?);
+    }
+    let draws = draws(alloc, &calls)?;
+    Ok(format!(in alloc; "{draws}|{verdict}")?)
 }

@@ -1,11 +1,13 @@
-//! Programs in both versions of the format, as a verifier that was written apart answers them.
+//! Programs in both versions of the format.
 
-use anyhow::{Context, Result, anyhow};
+use crate::jobs::performed;
 use commands::words;
-use conformance::{Folder, folder_of, perform_in};
+use conformance::{Folder, folder_of};
 use std::alloc::Global;
 use std::sync::Wait;
+use std::test::Fail;
 use std::thread::Threads;
+use trial::Row;
 
 /// The name of the file of the text.
 const TEXT: &str = "text";
@@ -13,54 +15,41 @@ const TEXT: &str = "text";
 /// The name of the file of the image.
 const IMAGE: &str = "image";
 
-/// What a row has for no counter maps.
+/// What a row has for no maps.
 const NONE: &str = "-";
 
-/// What the job of these words prints, and its exit status.
+/// What the job of these words prints.
 fn done<R: Threads + Wait + Sync>(
     rt: &R,
     alloc: Global,
     folder: &mut Folder,
     line: &[&str],
-) -> Result<(String, u8)> {
-    let job = words(alloc, line).map_err(|_| anyhow!("no job"))?;
-    let (out, status) = perform_in(rt, alloc, &job, folder).map_err(|_| anyhow!(
-        "the writer failed"
-    ))?;
-    Ok((String::from_utf8(out)?, status))
+) -> Result<String, Fail> {
+    let job = words(alloc, line).map_err(|_| "no job")?;
+    let (printed, _) = performed(rt, alloc, &job, folder)?;
+    Ok(printed)
 }
 
-/// What `verify` answers to the image with these maps.
-fn verified<R: Threads + Wait + Sync>(
+/// What `verify` prints, with the maps of a named row, of the image that `asm` makes of its text, which has the row's
+/// version of the format.
+pub fn answer<R: Threads + Wait + Sync>(
     rt: &R,
     alloc: Global,
-    folder: &mut Folder,
-    maps: &str,
-) -> Result<(String, u8)> {
-    if maps == NONE {
-        done(rt, alloc, folder, &["verify", IMAGE])
-    } else {
-        done(rt, alloc, folder, &["verify", IMAGE, "--maps", maps])
+    given: &str,
+) -> Result<String, Fail> {
+    let mut row = Row::of(given);
+    let _name = row.part()?;
+    let (maps, version) = (row.part()?, row.part()?.parse::<u8>()?);
+    let text = row.part()?.replace(alloc, ";", "\n")?;
+    let mut folder = folder_of(alloc, &[(TEXT, text.as_bytes())]).map_err(|_| "no folder")?;
+    let _assembled = done(rt, alloc, &mut folder, &["asm", TEXT, IMAGE])?;
+    let image = folder.content(IMAGE).ok_or("no image")?;
+    if image.get(4).copied() != Some(version) {
+        return Ok(String::from_str(alloc, "another version")?);
     }
-}
-
-/// Whether `asm` makes an image of the row's version of its text, and `verify` answers it with these maps as the row
-/// does. The lines of the text are apart by `;`.
-pub fn agrees<R: Threads + Wait + Sync>(rt: &R, alloc: Global, row: &str) -> Result<bool> {
-    let (maps, row) = row.split_once('\t').context("the maps")?;
-    let (version, row) = row.split_once('\t').context("the version")?;
-    let (text, wanted) = row.split_once('\t').context("the text")?;
-    let text = text.replace(alloc, ";", "\n")?;
-    let mut folder = folder_of(alloc, &[(TEXT, text.as_bytes())]).map_err(|_| anyhow!(
-        "no folder"
-    ))?;
-    done(rt, alloc, &mut folder, &["asm", TEXT, IMAGE])?;
-    let image = folder.content(IMAGE).context("an image")?;
-    let version_agrees = image.get(4).copied() == Some(version.parse::<u8>()?);
-    let (found, status) = verified(rt, alloc, &mut folder, maps)?;
-    Ok(
-        version_agrees
-            && found.as_str().strip_suffix('\n') == Some(wanted)
-            && status == u8::from(!wanted.starts_with("accepted")),
-    )
+    if maps == NONE {
+        done(rt, alloc, &mut folder, &["verify", IMAGE])
+    } else {
+        done(rt, alloc, &mut folder, &["verify", IMAGE, "--maps", maps])
+    }
 }

@@ -1,4 +1,4 @@
-//! Random programs that ask counters, on which the interpreter by turns and the slow machine agree.
+//! Random programs that ask cells, on which the interpreter by turns and the slow machine agree.
 
 ghost use Rattle.std.specs.Prelude.{◌<◌};
 
@@ -10,6 +10,7 @@ use crate::tests::checks::same;
 use bpf::Image;
 use bpf_insn::{AluOp, Callee, Insn, Operand};
 use bver::{MapSizes, verify};
+use machine::MapKind;
 use slow_machine::Ending;
 use std::alloc::{AllocError, Global};
 use std::process::Abort;
@@ -22,8 +23,17 @@ const PROGRAMS: u64 = 300;
 /// How many questions each has at most.
 const QUESTIONS: u64 = 12;
 
-/// How many cells the maps have, as a power of two.
+/// How many cells the maps have, as a power of two. The second and the last are peak maps.
 const CELLS: [i32; 4] = [1, 4, 32, 128];
+
+/// A helper that may be asked of the map: `count`, or that of the map's kind.
+fn helper(random: &mut Random, map: u64) -> i32 {
+    if random.below(2) == 0 {
+        1
+    } else {
+        2 + (map % 2) as i32
+    }
+}
 
 /// An instruction on what outlives a question: numbers, the tail by r8 and the stack by r9 and r10.
 fn lasting(random: &mut Random) -> Insn {
@@ -46,8 +56,8 @@ fn lasting(random: &mut Random) -> Insn {
     }
 }
 
-/// Adds a question of nine slots: a helper, a map, and a number as the key, of which so many low bits are left
-/// that the key is inside. It unsets r4 and r5, which get other numbers.
+/// Adds a question of ten slots: a helper, a map, a number as the key, of which so many low bits are left that the key
+/// is inside, and a number in r3, which some helpers take. It unsets r4 and r5, which get other numbers.
 fn add_question(insns: &mut Vec<Insn>, random: &mut Random) -> Result<(), AllocError> {
     let map = random.below(4);
     let cells = CELLS[map as usize];
@@ -61,11 +71,13 @@ fn add_question(insns: &mut Vec<Insn>, random: &mut Random) -> Result<(), AllocE
     )?;
     add(insns, alu(AluOp::Mov, 2, key))?;
     add(insns, alu(AluOp::And, 2, Operand::Immediate(cells - 1)))?;
+    let argument = Operand::FromRegister(number(random));
+    add(insns, alu(AluOp::Mov, 3, argument))?;
     add(
         insns,
         Insn::Call {
             callee: Callee::Helper,
-            number: 1 + random.below(2) as i32,
+            number: helper(random, map),
         },
     )?;
     for unset in [4, 5] {
@@ -87,7 +99,7 @@ fn leap(random: &mut Random) -> Insn {
     match jump(random, dst, src) {
         Insn::Jump { comparison, .. } => Insn::Jump {
             comparison,
-            offset: 9,
+            offset: 10,
         },
         other => other,
     }
@@ -134,8 +146,13 @@ fn answers(alloc: Global, random: &mut Random) -> Result<Vec<u64>, AllocError> {
 /// the verdict.
 fn agrees(rt: &impl Abort, alloc: Global, seed: u64) -> Result<bool, Fail> {
     let mut random = Random::new(seed);
-    let image = Image::new(alloc, 1, &instructions(alloc, &mut random)?, &[], 65_536)?;
-    let sizes = MapSizes::new(&[1, 4, 32, 128])?;
+    let image = Image::new(alloc, 2, &instructions(alloc, &mut random)?, &[], 65_536)?;
+    let sizes = MapSizes::with_kinds(&[
+        (1, MapKind::Counter),
+        (4, MapKind::Peak),
+        (32, MapKind::Counter),
+        (128, MapKind::Peak),
+    ])?;
     let program = verify(alloc, image.copy()?, &sizes)?;
     let port = random.below(32) as u8;
     let answers = answers(alloc, &mut random)?;

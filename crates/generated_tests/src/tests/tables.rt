@@ -104,13 +104,13 @@ fn tail(random: &mut Random) -> [u8; 12] {
     [initiator, 0, 7, extended, a, b, c, d, 0, 0, length, 0x5a]
 }
 
-/// The draws of a table as a run asks for them: `2,MAP,KEY`, with `;` between two.
+/// The draws of a table as a run asks for them: `2,MAP,KEY,0`, with `;` between two.
 fn questions(alloc: Global, calls: &[Call]) -> Result<String, AllocError> {
     let mut text = String::new(alloc);
     for call in calls {
         let semicolon = if text.is_empty() { "" } else { ";" };
         let (map, key) = (call.map, call.key);
-        write!(text, "{semicolon}2,{map},{key}")?;
+        write!(text, "{semicolon}2,{map},{key},0")?;
     }
     Ok(text)
 }

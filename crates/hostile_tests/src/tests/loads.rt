@@ -4,17 +4,17 @@ ghost use Rattle.std.specs.Prelude.{◌≡◌};
 
 use super::remainders::slow_crc;
 use crate::tests::checks::same;
+use desks::{filled_desks, shared_node};
+use ports::{NoGate, Report, serve};
 use publish::{Opened, Room};
-use rmap::{Place, ReplyBuf};
-use spw::Packet;
 use std::alloc::Global;
 use std::marker::Brand;
 use std::process::Abort;
 use std::sync::Wait;
 use std::test::Fail;
-use std::thread::{Threads, map_vec};
-use target::{Node, NodeConfig, Pass, Step, finish, judge, load, stage};
-use trial::{LOAD, PLAIN_WRITE, STAGE, SpareBank, bank, packet, program};
+use std::thread::Threads;
+use target::Node;
+use trial::{LOAD, PLAIN_WRITE, STAGE, bank, program};
 
 /// What is replied to [`STAGE`].
 const STAGED: &[u8] = &[0x67, 0x01, 0x2C, 0x00, 0xFE, 0x00, 0x10, 0xF1];
@@ -32,23 +32,21 @@ const TOLD: [u8; 12] = [
 /// What is replied to the plain write.
 const WRITTEN: &[u8] = &[0x67, 0x01, 0x2C, 0x00, 0xFE, 0x00, 0x00, 0xED];
 
-/// How many ports there are, how often each loads, and how many packets it sends.
+/// How many ports there are, how often each loads, and how many packets it is sent.
 const PORTS: u8 = 4;
 
 const LOADS: usize = 50;
 
 const PACKETS: usize = 1 + 3 * LOADS;
 
-/// What was replied at a port: how often the program was staged, loaded and the bank written, the generations of the
-/// load results in order, and how many replies were others.
-#[derive(Drop)]
-struct Replies {
-    port: u8,
-    staged: usize,
-    loaded: usize,
-    written: usize,
-    generations: Vec<u32>,
-    others: usize,
+/// What a port is sent, as packet lines: a program to stage, and fifty times a load, a read of its result and a write.
+fn sent(alloc: Global) -> Result<Vec<&'static str>, Fail> {
+    let mut lines = Vec::new(alloc);
+    lines.push(STAGE)?;
+    for _load in 0..LOADS {
+        lines.extend_from_slice(&[LOAD, RESULT, PLAIN_WRITE])?;
+    }
+    Ok(lines)
 }
 
 /// The generation of a whole load result behind its header.
@@ -62,107 +60,20 @@ fn generation(reply: &[u8]) -> Option<u32> {
     }
 }
 
-impl Replies {
-    /// None yet.
-    fn new(alloc: Global, port: u8) -> Replies {
-        Replies {
-            port,
-            staged: 0,
-            loaded: 0,
-            written: 0,
-            generations: Vec::new(alloc),
-            others: 0,
+/// The generations of a port's load results, in order. Each of its packets has its reply, of status 0.
+fn generations(rt: &impl Abort, alloc: Global, replies: &[Vec<u8>]) -> Result<Vec<u32>, Fail> {
+    same(rt, "the replies", replies.len(), PACKETS);
+    let mut told = Vec::new(alloc);
+    for (number, reply) in replies.iter().enumerate() {
+        let reply = reply.as_slice();
+        match number % 3 {
+            _ if number == 0 => same(rt, "the staged program", reply, STAGED),
+            1 => same(rt, "a load", reply, LOADED),
+            2 => told.push(generation(reply).ok_or("no load result")?)?,
+            _ => same(rt, "a write", reply, WRITTEN),
         }
     }
-
-    /// Counts a reply.
-    fn count(&mut self, reply: &[u8]) {
-        match generation(reply) {
-            Some(generation) if self.generations.push(generation).is_ok() => {}
-            _ if reply == STAGED => self.staged = self.staged.wrapping_add(1),
-            _ if reply == LOADED => self.loaded = self.loaded.wrapping_add(1),
-            _ if reply == WRITTEN => self.written = self.written.wrapping_add(1),
-            _ => self.others = self.others.wrapping_add(1),
-        }
-    }
-}
-
-/// A port with the packets that it is to send, the last one first.
-#[derive(Drop)]
-struct Sender<J: Room> {
-    pass: Pass<J>,
-    spare: SpareBank,
-    packets: Vec<Packet>,
-    replies: Replies,
-}
-
-/// The port of a pass, with a program to stage, and fifty times a load, a read of its result and a write.
-fn with_loads<J: Room>(alloc: Global, pass: Pass<J>) -> Result<Sender<J>, Fail> {
-    let mut packets = Vec::new(alloc);
-    for _load in 0..LOADS {
-        for line in [PLAIN_WRITE, RESULT, LOAD] {
-            packets.push(packet(alloc, line)?)?;
-        }
-    }
-    packets.push(packet(alloc, STAGE)?)?;
-    let port = pass.port();
-    Ok(Sender {
-        pass,
-        spare: SpareBank::new(alloc)?,
-        packets,
-        replies: Replies::new(alloc, port),
-    })
-}
-
-/// Serves a packet at the pass's port: a command to a bank under its lock, a load under the publisher's. The spare bank
-/// is for a command to no bank of the node.
-fn serve<J: Room, R: Wait + Drop>(
-    rt: &impl Wait,
-    alloc: Global,
-    node: &Node<J, R>,
-    pass: &mut Pass<J>,
-    spare: &mut SpareBank,
-    packet: Packet,
-    reply: &mut ReplyBuf,
-) {
-    let judged = match judge(pass, packet, reply) {
-        Step::Judged(judged) => judged,
-        Step::Discarded(_, _packet) | Step::Answered(_, _packet) | Step::Unread(_packet) => return,
-    };
-    match judged.place() {
-        Place::Bank(k) if usize::from(k) < node.banks() && usize::from(k) < pass.banks() => {
-            let mut guard = node.bank(k).lock(rt);
-            finish(pass, &mut guard, judged, reply);
-        }
-        Place::Staging | Place::LoadResult => {
-            stage(pass, judged, reply);
-        }
-        Place::Control => {
-            let mut guard = node.publisher().lock(rt);
-            load(alloc, pass, &mut guard, judged, reply);
-        }
-        Place::Bank(_) => {
-            spare.end(judged, reply);
-        }
-    }
-}
-
-/// Sends the packets, and counts what is replied.
-fn sent<J: Room, R: Wait + Drop>(
-    rt: &impl Wait,
-    alloc: Global,
-    node: &Node<J, R>,
-    mut sender: Sender<J>,
-) -> Replies {
-    let mut reply = ReplyBuf::new();
-    for _packet in 0..PACKETS {
-        if let Some(packet) = sender.packets.pop() {
-            let (pass, spare) = (&mut sender.pass, &mut sender.spare);
-            serve(rt, alloc, node, pass, spare, packet, &mut reply);
-            sender.replies.count(reply.bytes());
-        }
-    }
-    sender.replies
+    Ok(told)
 }
 
 /// The generations by which the commands of a port in the first bank's journal were judged, in order.
@@ -193,61 +104,34 @@ fn falls(numbers: &[u32]) -> usize {
         .count()
 }
 
-/// Compares the replies at a port with what was sent: the generations that it was told rise, and each write was judged
-/// by the program of the port's last load or a later one.
-fn compare<J: Room, R: Wait + Drop>(
-    rt: &(impl Abort + Wait),
-    alloc: Global,
-    node: &Node<J, R>,
-    replies: &Replies,
-) -> Result<(), Fail> {
-    let counts = (
-        replies.staged,
-        replies.loaded,
-        replies.written,
-        replies.others,
-    );
-    same(rt, "the replies", counts, (1, LOADS, LOADS, 0));
-    let told = &replies.generations;
-    same(
-        rt,
-        "the load results",
-        (told.len(), falls(told)),
-        (LOADS, 0),
-    );
-    let judged = judged_by(rt, alloc, node, replies.port)?;
+/// Compares what a port was told with what its writes were judged by: the generations that it was told rise, and each
+/// write was judged by the program of the port's last load or a later one.
+fn compare(rt: &impl Abort, told: &[u32], judged: &[u32]) {
+    let found = (told.len(), falls(told));
+    same(rt, "the load results", found, (LOADS, 0));
     let early = judged
         .iter()
         .zip(told)
         .filter(|(by, told)| *by < *told)
         .count();
     same(rt, "the entries", (judged.len(), early), (LOADS, 0));
-    Ok(())
 }
 
 /// The generations 1 to 200 were told, each once.
-fn compare_all(rt: &impl Abort, alloc: Global, all: &[Replies]) -> Result<(), Fail> {
-    let mut told = Vec::new(alloc);
-    for replies in all {
-        told.extend_from_slice(&replies.generations)?;
-    }
+fn compare_all(rt: &impl Abort, mut told: Vec<u32>) -> Result<(), Fail> {
     told.sort()?;
-    let many = told.len();
     let others = told
         .iter()
         .zip(1..=u32::MAX)
         .filter(|(told, number)| **told != *number)
         .count();
-    same(
-        rt,
-        "all load results",
-        (many, others),
-        (LOADS * usize::from(PORTS), 0),
-    );
+    let wanted = (LOADS * usize::from(PORTS), 0);
+    same(rt, "all load results", (told.len(), others), wanted);
     Ok(())
 }
 
-fn four_load<J: Room + Send + Sync, R: Threads + Wait + Abort + Sync>(
+/// Serves the four ports, and compares what they replied and what the journal has.
+fn four_load<J: Room + Send + 'static, R: Threads + Wait + Abort + Sync>(
     rt: &R,
     alloc: Global,
     opened: Opened,
@@ -255,22 +139,31 @@ fn four_load<J: Room + Send + Sync, R: Threads + Wait + Abort + Sync>(
     requires { opened ≡ J.book }
 {
     let factory = program(alloc, 0)?;
-    let config = NodeConfig {
-        address: 0xFE,
-        ports: PORTS,
-        banks: &[bank(1024)],
-        sizes: factory.sizes(),
+    let banks = [bank(1024)];
+    let (node, passes) = shared_node::<J, _>(rt, alloc, opened, PORTS, &banks, factory)?;
+    let sent = sent(alloc)?;
+    let lines = sent.as_slice();
+    let (ports, _put_passes, workers) = filled_desks(
+        rt,
+        alloc,
+        &node,
+        passes,
+        1024,
+        &[lines, lines, lines, lines],
+    )?;
+    let (workers, report) = serve(rt, alloc, &node, &ports, workers, &NoGate);
+    let nothing = Report {
+        discarded: 0,
+        lost: 0,
     };
-    let (node, passes) = Node::<J, _>::new(alloc, rt, opened, &config, factory)?;
-    let mut senders = Vec::new(alloc);
-    for pass in passes {
-        senders.push(with_loads(alloc, pass)?)?;
+    same(rt, "the report", report, Ok(nothing));
+    let mut all = Vec::new(alloc);
+    for worker in &workers {
+        let told = generations(rt, alloc, worker.sink.replies())?;
+        compare(rt, &told, &judged_by(rt, alloc, &node, worker.pass.port())?);
+        all.extend_from_slice(&told)?;
     }
-    let all = map_vec(rt, senders, &|sender| sent(rt, alloc, &node, sender))?;
-    for replies in &all {
-        compare(rt, alloc, &node, replies)?;
-    }
-    compare_all(rt, alloc, &all)
+    compare_all(rt, all)
 }
 
 /// Three times, since threads meet in another order each time.

@@ -1,6 +1,6 @@
-//! `bank`: outside rows, and memory that is refused.
+//! `bank`: outside rows.
 
-use crate::tests::checks::{check, same};
+use crate::tests::checks::same;
 use bank::{Applied, Bank, BankFault, Journal, Judged, Share};
 use rmap::{Command, ReplyBuf, Status, Windows, header_fault};
 use std::alloc::Global;
@@ -145,22 +145,4 @@ fn sizes_outside_their_limits(rt: HostRuntime) -> Result<(), Fail> {
         same(&rt, "a bank", (base, size, ports, fault), wanted);
     }
     Ok(())
-}
-
-/// How many shares a bank of two pages has, and its ports.
-fn made(alloc: Global) -> Result<usize, BankFault> {
-    let journal = Journal::new(alloc, 3)?;
-    let (bank, shares) = Bank::new(alloc, BASE, 5_000, journal, 2)?;
-    Ok(shares.len() + usize::from(bank.ports()))
-}
-
-#[test]
-fn memory_refused_while_made(rt: HostRuntime) {
-    let first = made(rt.alloc());
-    let is_told = first == Ok(4) || first == Err(BankFault::Memory);
-    check(
-        &rt,
-        "the first bank",
-        is_told && (made(rt.alloc()) == Ok(4) || first == Ok(4)),
-    );
 }

@@ -1,8 +1,8 @@
-//! `target`: outside rows, each call once, and memory that is refused.
+//! `target`: outside rows, and each call once.
 
 ghost use Rattle.std.specs.Prelude.{◌≡◌};
 
-use crate::tests::checks::{check, same};
+use crate::tests::checks::same;
 use bank::Applied;
 use bver::Accepted;
 use publish::{Opened, Room};
@@ -14,7 +14,7 @@ use std::process::Abort;
 use std::sync::Wait;
 use std::test::Fail;
 use target::{BankConfig, Banks, NodeFault, Served, Stop};
-use trial::{PLAIN_READ, PLAIN_REPLY, bank, node, packet, program, served, yes};
+use trial::{PLAIN_READ, PLAIN_REPLY, bank, node, packet, program, served};
 
 /// What becomes of the packet of a line at port 0 of a fresh node.
 fn served_afresh(
@@ -230,19 +230,4 @@ fn made<J: Room, R: Wait>(
 {
     let (banks, _publisher, passes) = node::<J, _>(alloc, rt, opened, ports, banks, factory)?;
     Ok((banks.len(), passes.len()))
-}
-
-/// The same of a node of one bank and two ports; `None` where the program takes no memory.
-fn made_small(rt: &impl Wait, alloc: Global) -> Option<Result<(usize, usize), NodeFault>> {
-    let factory = yes(alloc)?;
-    Some(made::<Brand, _>(rt, alloc, Opened::new(), 2, &[bank(1024)], factory))
-}
-
-#[test]
-fn memory_refused_while_made(rt: HostRuntime) {
-    let first = made_small(&rt, rt.alloc());
-    let full = Some(Ok((1, 2)));
-    let is_told = first == full || first == Some(Err(NodeFault::Memory)) || first.is_none();
-    let is_made = first == full || made_small(&rt, rt.alloc()) == full;
-    check(&rt, "a small node", is_told && is_made);
 }

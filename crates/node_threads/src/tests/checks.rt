@@ -7,8 +7,3 @@ use std::process::Abort;
 pub fn same<T: Copy + PartialEq + Debug>(rt: &impl Abort, what: &str, found: T, wanted: T) {
     assert_eq!(rt; found, wanted, "at {what}");
 }
-
-/// Ends the test where this does not hold. `what` says of which row or call it is.
-pub fn check(rt: &impl Abort, what: &str, holds: bool) {
-    assert!(rt; holds, "at {what}");
-}

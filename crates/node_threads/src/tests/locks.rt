@@ -2,7 +2,7 @@
 
 ghost use Rattle.std.specs.Prelude.{◌≡◌};
 
-use crate::tests::checks::{check, same};
+use crate::tests::checks::same;
 use bank::{Applied, Judged};
 use bver::Accepted;
 use publish::{Opened, Room};
@@ -15,9 +15,7 @@ use std::process::Abort;
 use std::sync::Wait;
 use std::test::Fail;
 use target::{BankConfig, Node, NodeConfig, NodeFault, Pass, Step, finish, judge, load, stage};
-use trial::{
-    BASE, LOAD, PLAIN_READ, PLAIN_WRITE, Random, STAGE, SpareBank, bank, packet, program, yes,
-};
+use trial::{BASE, LOAD, PLAIN_READ, PLAIN_WRITE, Random, STAGE, SpareBank, bank, packet, program};
 
 /// A node of two ports and two banks, the second of 300 bytes from the address 0x1000 on, and its passes. That
 /// program judges at first.
@@ -53,33 +51,6 @@ fn shared<J: Room, R: Wait + Drop>(
 {
     let factory = program(alloc, 0)?;
     Ok(made(rt, alloc, opened, factory)?)
-}
-
-/// How many banks and passes such a node has; `None` where the program takes no memory.
-fn made_shared(rt: &impl Wait, alloc: Global) -> Option<Result<(usize, usize), NodeFault>> {
-    let factory = yes(alloc)?;
-    Some(counts::<Brand, _>(rt, alloc, Opened::new(), factory))
-}
-
-fn counts<J: Room, R: Wait>(
-    rt: &R,
-    alloc: Global,
-    opened: Opened,
-    factory: Accepted,
-) -> Result<(usize, usize), NodeFault>
-    requires { opened ≡ J.book }
-{
-    let (node, passes) = made::<J, _>(rt, alloc, opened, factory)?;
-    Ok((node.banks(), passes.len()))
-}
-
-#[test]
-fn memory_refused_while_locks_are_made(rt: HostRuntime) {
-    let first = made_shared(&rt, rt.alloc());
-    let full = Some(Ok((2, 2)));
-    let is_told = first == full || first == Some(Err(NodeFault::Memory)) || first.is_none();
-    let is_made = first == full || made_shared(&rt, rt.alloc()) == full;
-    check(&rt, "a shared node", is_told && is_made);
 }
 
 #[test]

@@ -1,91 +1,10 @@
-//! `spw`: lines as people write them, printed faults, and that reading succeeds.
+//! `spw`: long lines, printed faults, and that reading succeeds. Lines as people write them are in the program `vectors`.
 
 use crate::tests::checks::same;
-use hex::decode;
 use spw::{End, LineFault, MAX_PACKET, Packet, line_is_unambiguous, read_line};
 use std::alloc::{AllocError, Global};
 use std::process::Abort;
 use std::test::Fail;
-use trial::{Row, word};
-
-/// Lines, and the port, bytes and marker that they write.
-const LINES: &str = "\
-0 FE01 EOP|0|FE01|Eop
-0 fe 01 6C 00 67 EOP|0|FE016C0067|Eop
-31 00 EEP|31|00|Eep
-  7   aB  Cd0F  EEP  |7|ABCD0F|Eep
-07 EOP|7||Eop
-007 EEP|7||Eep
-1 E0 EE EOP|1|E0EE|Eop
-";
-
-/// Lines, and the first fault of each.
-const FAULTS: &str = "\
-|NoPort
-   |NoPort
-EOP|NoPort
-+7 00 EOP|NoPort
--1 00 EOP|NoPort
-32 00 EOP|NoPort
-256 00 EOP|NoPort
-0x1 00 EOP|NoPort
-\t0 00 EOP|NoPort
-0|BadMarker
-0 EOP 00|BadMarker
-0 00 eop|BadMarker
-0 00 EOP\r|BadMarker
-0 00EOP|BadMarker
-0 0 EOP|BadHex
-0 0 0 EOP|BadHex
-0 0G EOP|BadHex
-0 EOP EOP|BadHex
-0 00\t00 EOP|BadHex
-0 é0 EOP|BadHex
-";
-
-/// Lines with several faults, and the one that is named.
-const ORDER: &str = "\
-32 0 EOX|NoPort
-32 0 EOP|NoPort
-31 0 EOX|BadMarker
-31 0 EOP|BadHex
-";
-
-#[test]
-fn lines_are_read(rt: HostRuntime) -> Result<(), Fail> {
-    for row in LINES.lines() {
-        let mut row = Row::of(row);
-        let line = row.part()?;
-        let (port, packet) = read_line(rt.alloc(), line)?;
-        same(&rt, line, port, row.part()?.parse::<u8>()?);
-        let bytes = decode(rt.alloc(), row.part()?)?;
-        same(&rt, line, packet.bytes(), bytes.as_slice());
-        let end = word(rt.alloc(), Some(packet.end()))?;
-        same(&rt, line, end.as_str(), row.part()?);
-    }
-    Ok(())
-}
-
-/// Compares the fault of each line of a table.
-fn have_faults(rt: &impl Abort, alloc: Global, table: &str) -> Result<(), Fail> {
-    for row in table.lines() {
-        let mut row = Row::of(row);
-        let (line, fault) = (row.part()?, row.part()?);
-        let found = word(alloc, read_line(alloc, line).err())?;
-        same(rt, line, found.as_str(), fault);
-    }
-    Ok(())
-}
-
-#[test]
-fn faults_are_named(rt: HostRuntime) -> Result<(), Fail> {
-    have_faults(&rt, rt.alloc(), FAULTS)
-}
-
-#[test]
-fn first_fault_is_named(rt: HostRuntime) -> Result<(), Fail> {
-    have_faults(&rt, rt.alloc(), ORDER)
-}
 
 /// A line at port 0 with so many bytes of zero, each behind what stands between them, then a word of its
 /// own, and the marker.

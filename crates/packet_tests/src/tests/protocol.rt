@@ -1,10 +1,5 @@
-//! `rmap`: that the definitions are the standard's, shown by worked packets.
-//!
-//! Packets are written as packet lines, with the port 0. Their CRCs and the replies' were computed
-//! outside this crate, by long division of polynomials.
-
-mod exchanges;
-mod headers;
+//! `rmap`: the fields of a header, kinds, the longest reply, and printed words. Worked commands and their replies are in the
+//! program `vectors`.
 
 use crate::tests::checks::same;
 use rmap::{
@@ -13,36 +8,7 @@ use rmap::{
 };
 use spw::End;
 use std::test::Fail;
-use trial::{Row, packet, word};
-
-/// What a packet is, the packet, and why it is discarded.
-const DISCARDS: &str = "\
-the empty packet|0 EOP|Short
-two bytes|0 FE01 EOP|Short
-a write cut off after 10 bytes|0 FE016C0067000000A000 EOP|Short
-the same with an error end|0 FE016C0067000000A000 EEP|Short
-a header without its CRC|0 FE016C0067000000A0000000000010 EOP|Short
-a header that lacks a byte of its reply address|0 FE014D000000000067000000A0000000000001 EOP|Short
-another protocol|0 FE026C0067000000A0000000000000EF EOP|Protocol
-three bytes of another protocol|0 FE026C EOP|Protocol
-a reply of another protocol|0 67022C00 EOP|Protocol
-a reply|0 67012C00FE0000ED EOP|Reply
-a long reply|0 FE012C0067000000A000000000000077 EOP|Reply
-a wrong header CRC|0 FE016C0067000000A00000000000109E 0123456789ABCDEF101112131415161756 EOP|HeaderCrc
-a changed key|0 FE016C0167000000A00000000000109F 0123456789ABCDEF101112131415161756 EOP|HeaderCrc
-";
-
-#[test]
-fn packets_that_are_no_commands(rt: HostRuntime) -> Result<(), Fail> {
-    for line in DISCARDS.lines() {
-        let mut row = Row::of(line);
-        let shows = row.part()?;
-        let sent = packet(rt.alloc(), row.part()?)?;
-        let found = word(rt.alloc(), Command::view(&sent).err())?;
-        same(&rt, shows, found.as_str(), row.part()?);
-    }
-    Ok(())
-}
+use trial::{packet, word};
 
 /// The numbers of the header, in their order.
 fn numbers(command: &Command) -> [u32; 8] {

@@ -1,9 +1,10 @@
-//! A sink that fails.
+//! Sinks that fail.
 
 ghost use Rattle.std.specs.Prelude.{◌≡◌};
 
 use super::checks::same;
-use super::desks::{filled, node, text_of, worker};
+use bank::Bank;
+use desks::{filled, shared_node, text_of, worker};
 use ports::{NoGate, Replies, Report, Sink, SinkFault, work};
 use publish::{Opened, Room};
 use std::alloc::Global;
@@ -11,13 +12,23 @@ use std::marker::Brand;
 use std::process::Abort;
 use std::sync::Wait;
 use std::test::Fail;
-use trial::{PLAIN_READ, PLAIN_WRITE, bank, program};
+use trial::{BASE, PLAIN_READ, PLAIN_WRITE, bank, program};
 
-/// A sink that keeps the replies but one: it fails once, when so many sends are left.
+/// Which sends of a sink fail.
+#[derive(Clone, Copy, Debug, PartialEq, Eq)]
+enum Failure {
+    /// The one of this number, from 1 on.
+    At(u8),
+    /// Every one.
+    Always,
+}
+
+/// A sink that keeps the replies but those whose sends fail.
 #[derive(Drop)]
 struct Failing {
     kept: Replies,
-    left: u64,
+    failure: Failure,
+    sends: u8,
     failed: u64,
 }
 
@@ -27,8 +38,9 @@ impl Sink for Failing {
     ghost failed = { λ s. s.failed };
 
     fn send(&mut self, port: u8, reply: &[u8]) -> Result<(), SinkFault> {
-        self.left = self.left.wrapping_sub(1);
-        if self.left == 0 || self.kept.send(port, reply).is_err() {
+        self.sends = self.sends.saturating_add(1);
+        let fails = self.failure == Failure::Always || self.failure == Failure::At(self.sends);
+        if fails || self.kept.send(port, reply).is_err() {
             self.failed = self.failed.saturating_add(1);
             return Err(SinkFault);
         }
@@ -40,62 +52,97 @@ impl Sink for Failing {
     }
 }
 
+/// How many packets there are: a write and a read in turn.
+const PACKETS: u8 = 10;
+
 /// The replies to the plain write and to the read behind it.
 const REPLIES: [&str; 2] = [
     "67012C00FE0000ED\n",
     "67010C00FE0001000000106D0123456789ABCDEF101112131415161756\n",
 ];
 
-/// Five writes and five reads at a port whose sink fails at the send of that number, from 1 on: that reply alone is
-/// lost.
-fn failing_at<J: Room, R: Wait + Abort>(
+/// What the plain write writes.
+const WRITTEN: [u8; 16] = [
+    0x01, 0x23, 0x45, 0x67, 0x89, 0xAB, 0xCD, 0xEF, 0x10, 0x11, 0x12, 0x13, 0x14, 0x15, 0x16, 0x17,
+];
+
+/// The packets as lines, and the replies that a sink with that failure keeps.
+fn packets(alloc: Global, failure: Failure) -> Result<(Vec<&'static str>, String), Fail> {
+    let mut lines = Vec::new(alloc);
+    let mut kept = String::new(alloc);
+    for number in 1..=PACKETS {
+        let is_write = number % 2 == 1;
+        lines.push(if is_write { PLAIN_WRITE } else { PLAIN_READ })?;
+        if failure != Failure::Always && failure != Failure::At(number) {
+            kept.push_str(REPLIES[usize::from(!is_write)])?;
+        }
+    }
+    Ok((lines, kept))
+}
+
+/// Compares what the packets left in the bank: each one its entry, of status 0, and the bytes that were written.
+fn compare_bank(rt: &impl Abort, bank: &Bank) {
+    let mut number = 0u64;
+    for entry in bank.entries() {
+        let found = (entry.number(), entry.port(), entry.status().code());
+        same(rt, "an entry", found, (number, 0, 0));
+        number = number.wrapping_add(1);
+    }
+    same(rt, "the entries", number, u64::from(PACKETS));
+    for (address, byte) in (BASE..BASE + 16).zip(&WRITTEN) {
+        let found = (address, bank.memory(address));
+        same(rt, "a byte", found, (address, Some(*byte)));
+    }
+}
+
+/// Serves the packets at a port whose sink fails so: those replies alone are lost, and the commands are done as ever.
+fn serve_failing<J: Room, R: Wait + Abort>(
     rt: &R,
     alloc: Global,
     opened: Opened,
-    number: u8,
+    failure: Failure,
+    lost: u64,
 ) -> Result<(), Fail>
     requires { opened ≡ J.book }
 {
     let factory = program(alloc, 0)?;
-    let (node, mut passes) = node::<J, _>(rt, alloc, opened, 1, &[bank(1024)], factory)?;
+    let (node, mut passes) = shared_node::<J, _>(rt, alloc, opened, 1, &[bank(1024)], factory)?;
     let pass = passes.pop().ok_or("no pass")?;
-    let mut lines = Vec::new(alloc);
-    let mut wanted = String::new(alloc);
-    for turn in 1..=10u8 {
-        let is_write = turn % 2 == 1;
-        lines.push(if is_write { PLAIN_WRITE } else { PLAIN_READ })?;
-        if turn != number {
-            wanted.push_str(REPLIES[usize::from(!is_write)])?;
-        }
-    }
-    let (port, _put_pass, serve_pass) = filled(rt, alloc, &lines)?;
+    let (lines, wanted) = packets(alloc, failure)?;
+    let (port, mut put_pass, serve_pass) = filled(rt, alloc, 16, &lines)?;
     let sink = Failing {
         kept: Replies::new(alloc),
-        left: u64::from(number),
+        failure,
+        sends: 0,
         failed: 0,
     };
     let mut worker = worker(&node, &port, pass, serve_pass, sink)?;
     let report = work(rt, alloc, &node, &port, &mut worker, &NoGate);
-    let counts = Report {
-        discarded: 0,
-        lost: 1,
-    };
-    same(rt, "the report", report, counts);
-    same(rt, "the failures", worker.sink.failures(), 1);
+    let counts = Report { discarded: 0, lost };
+    same(rt, "the report", (failure, report), (failure, counts));
+    let failures = worker.sink.failures();
+    same(rt, "the failures", (failure, failures), (failure, lost));
     let found = text_of(alloc, worker.sink.kept.replies())?;
     same(rt, "the replies", found.as_str(), wanted.as_str());
     if node.banks() == 0 {
         return Err("no bank".into());
     }
-    let entries = node.bank(0).lock(rt).entries().len();
-    same(rt, "the entries", entries, 10);
+    compare_bank(rt, &node.bank(0).lock(rt));
+    port.rejoin(&mut put_pass, worker.serve_pass);
     Ok(())
 }
 
 #[test]
 fn one_lost_reply(rt: HostRuntime) -> Result<(), Fail> {
-    for number in 1..=10u8 {
-        failing_at::<Brand, _>(&rt, rt.alloc(), Opened::new(), number)?;
+    for number in 1..=PACKETS {
+        serve_failing::<Brand, _>(&rt, rt.alloc(), Opened::new(), Failure::At(number), 1)?;
     }
     Ok(())
+}
+
+/// The worker comes back, and its packets were served.
+#[test]
+fn all_replies_lost(rt: HostRuntime) -> Result<(), Fail> {
+    let lost = u64::from(PACKETS);
+    serve_failing::<Brand, _>(&rt, rt.alloc(), Opened::new(), Failure::Always, lost)
 }

@@ -3,9 +3,9 @@
 ghost use Rattle.std.specs.Prelude.{◌≡◌};
 
 use super::checks::{check, same};
-use super::desks::{accepted, desks, node, status_of};
 use super::gates::Meeting;
 use super::workers::CLEAN;
+use desks::{accepted, filled_desks, shared_node, status_of};
 use ports::serve;
 use publish::{Opened, Room};
 use std::alloc::Global;
@@ -54,9 +54,16 @@ fn packets_that_met<J: Room + Send + 'static, R: Threads + Wait + Abort + Sync>(
     requires { opened ≡ J.book }
 {
     let factory = accepted(alloc, MEETING, 24_589, "2")?;
-    let (node, passes) = node::<J, _>(rt, alloc, opened, 2, &[bank(1024)], factory)?;
+    let (node, passes) = shared_node::<J, _>(rt, alloc, opened, 2, &[bank(1024)], factory)?;
     let reads = [PLAIN_READ; PACKETS];
-    let (ports, _put_passes, workers) = desks(rt, alloc, &node, passes, &[&reads, &reads])?;
+    let (ports, _put_passes, workers) = filled_desks(
+        rt,
+        alloc,
+        &node,
+        passes,
+        512,
+        &[&reads, &reads],
+    )?;
     let gate = Meeting::new();
     let (workers, report) = serve(rt, alloc, &node, &ports, workers, &gate);
     same(rt, "the report", (workers.len(), report), (2, Ok(CLEAN)));

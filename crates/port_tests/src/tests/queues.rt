@@ -1,13 +1,13 @@
 //! A port with room for one packet.
 
-ghost use Rattle.std.specs.Prelude.{◌≡◌};
-ghost use Rattle.ports.specs.Queue.{IsPutPassOf};
+ghost use Rattle.std.specs.Prelude.{◌≡◌, IfOk};
+ghost use Rattle.ports.specs.Queue.{IsPutPassOf, IsServePassOf};
 ghost use Rattle.ports.specs.Serves.{IsWorkerOf};
 
 use super::checks::same;
-use super::desks::{node, text_of, worker};
 use super::workers::CLEAN;
-use ports::{Full, NoGate, Port, PutPass, Replies, Report, Worker, work};
+use desks::{shared_node, text_of, worker};
+use ports::{Full, NoGate, Port, PutPass, Replies, Report, ServePass, Worker, work};
 use publish::{Opened, Room};
 use spw::Packet;
 use std::alloc::Global;
@@ -55,10 +55,47 @@ fn worked<J: Room, R: Wait, Q: Wait + Drop>(
     (worker, report)
 }
 
-/// A put into a full queue hands the packet back, and is taken once the worker took what was there.
-#[test]
-fn a_queue_is_full_until_a_packet_is_taken(rt: HostRuntime) -> Result<(), Fail> {
-    full_until_taken::<Brand, _>(&rt, rt.alloc(), Opened::new())
+/// A port for one packet, which has the plain write. A plain read was put too and came back, and the end mark found no
+/// room either.
+fn full_port(
+    rt: &(impl Abort + Wait),
+    alloc: Global,
+) -> Result<(Port, PutPass, ServePass, Packet), Fail>
+    ensures puts { IfOk result (λ made. IsPutPassOf made.0 made.1) }
+    ensures serves { IfOk result (λ made. IsServePassOf made.0 made.2) }
+{
+    let (port, mut put_pass, serve_pass) = Port::new(alloc, 1)?;
+    let first = port.put(rt, &mut put_pass, packet(alloc, PLAIN_WRITE)?);
+    same(rt, "the first packet", first.is_ok(), true);
+    let sent = packet(alloc, PLAIN_READ)?;
+    let Err((Full, back)) = port.put(rt, &mut put_pass, packet(alloc, PLAIN_READ)?) else {
+        return Err("a second packet in a queue for one".into());
+    };
+    same(rt, "what came back", back.bytes(), sent.bytes());
+    let closed = port.close(rt, &mut put_pass);
+    same(rt, "the end mark in a full queue", closed, Err(Full));
+    Ok((port, put_pass, serve_pass, back))
+}
+
+/// Works in one thread, and puts the packet and the end mark in another.
+fn worked_beside<J: Room + Send, R: Threads + Wait + Sync, Q: Wait + Drop + Send>(
+    rt: &R,
+    alloc: Global,
+    node: &Node<J, Q>,
+    port: &Port,
+    put_pass: PutPass,
+    packet: Packet,
+    worker: Worker<J, Replies>,
+) -> (PutPass, (Worker<J, Replies>, Report))
+    requires puts { IsPutPassOf port.now put_pass }
+    requires serves { IsWorkerOf node.now port.now worker }
+    ensures { IsPutPassOf port.now result.0 }
+{
+    join(
+        rt,
+        move || put_at_last(rt, port, put_pass, packet),
+        move || worked(rt, alloc, node, port, worker),
+    )
 }
 
 fn full_until_taken<J: Room + Send, R: Threads + Wait + Abort + Sync>(
@@ -69,31 +106,27 @@ fn full_until_taken<J: Room + Send, R: Threads + Wait + Abort + Sync>(
     requires { opened ≡ J.book }
 {
     let factory = program(alloc, 0)?;
-    let (node, mut passes) = node::<J, _>(rt, alloc, opened, 1, &[bank(1024)], factory)?;
+    let (node, mut passes) = shared_node::<J, _>(rt, alloc, opened, 1, &[bank(1024)], factory)?;
     let pass = passes.pop().ok_or("no pass")?;
-    let (port, mut put_pass, serve_pass) = Port::new(alloc, 1)?;
+    let (port, put_pass, serve_pass, back) = full_port(rt, alloc)?;
     let worker = worker(&node, &port, pass, serve_pass, Replies::new(alloc))?;
-    let first = port.put(rt, &mut put_pass, packet(alloc, PLAIN_WRITE)?);
-    same(rt, "the first packet", first.is_ok(), true);
-    let sent = packet(alloc, PLAIN_READ)?;
-    let Err((Full, back)) = port.put(rt, &mut put_pass, packet(alloc, PLAIN_READ)?) else {
-        return Err("a second packet in a queue for one".into());
-    };
-    same(rt, "what came back", back.bytes(), sent.bytes());
-    let closed = port.close(rt, &mut put_pass);
-    same(rt, "the end mark in a full queue", closed, Err(Full));
-    let (node, port) = (&node, &port);
-    let (mut put_pass, (worker, report)) = join(
-        rt,
-        move || put_at_last(rt, port, put_pass, back),
-        move || worked(rt, alloc, node, port, worker),
+    let (mut put_pass, (worker, report)) = worked_beside(
+        rt, alloc, &node, &port, put_pass, back, worker,
     );
     same(rt, "the report", report, CLEAN);
-    let wanted = "67012C00FE0000ED\n\
-        67010C00FE0001000000106D0123456789ABCDEF101112131415161756\n";
     let found = text_of(alloc, worker.sink.replies())?;
-    same(rt, "the replies", found.as_str(), wanted);
+    same(rt, "the replies", found.as_str(), REPLIES);
     let closed = port.close(rt, &mut put_pass);
     same(rt, "an end mark in an empty queue", closed, Ok(()));
     Ok(())
+}
+
+/// The replies to the plain write and the plain read behind it.
+const REPLIES: &str = "67012C00FE0000ED\n\
+    67010C00FE0001000000106D0123456789ABCDEF101112131415161756\n";
+
+/// A put into a full queue hands the packet back, and is taken once the worker took what was there.
+#[test]
+fn a_queue_is_full_until_a_packet_is_taken(rt: HostRuntime) -> Result<(), Fail> {
+    full_until_taken::<Brand, _>(&rt, rt.alloc(), Opened::new())
 }

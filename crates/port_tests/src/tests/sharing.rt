@@ -3,8 +3,8 @@
 ghost use Rattle.std.specs.Prelude.{◌≡◌};
 
 use super::checks::{check, same};
-use super::desks::{accepted, desks, node, text_of, with_status};
 use super::workers::CLEAN;
+use desks::{accepted, filled_desks, shared_node, text_of, with_status};
 use ports::{NoGate, serve};
 use publish::{Opened, Room};
 use std::alloc::Global;
@@ -38,7 +38,7 @@ fn quota<J: Room + Send + 'static, R: Threads + Wait + Abort + Sync>(
     };
     let (node, mut cells, passes) = Node::<J, _>::with_cells(alloc, rt, opened, &config, factory)?;
     let ten = [PLAIN_WRITE; 10];
-    let (ports, _put_passes, workers) = desks(rt, alloc, &node, passes, &[&ten, &ten])?;
+    let (ports, _put_passes, workers) = filled_desks(rt, alloc, &node, passes, 11, &[&ten, &ten])?;
     let (workers, report) = serve(rt, alloc, &node, &ports, workers, &NoGate);
     same(rt, "the report", (workers.len(), report), (2, Ok(CLEAN)));
     let mut done = 0usize;
@@ -91,9 +91,9 @@ fn load_beside<J: Room + Send + 'static, R: Threads + Wait + Abort + Sync>(
     requires { opened ≡ J.book }
 {
     let factory = program(alloc, 0)?;
-    let (node, passes) = node::<J, _>(rt, alloc, opened, 2, &[bank(1024)], factory)?;
+    let (node, passes) = shared_node::<J, _>(rt, alloc, opened, 2, &[bank(1024)], factory)?;
     let lines: [&[&str]; 2] = [&[STAGE, LOAD, PLAIN_WRITE], &[PLAIN_WRITE]];
-    let (ports, _put_passes, workers) = desks(rt, alloc, &node, passes, &lines)?;
+    let (ports, _put_passes, workers) = filled_desks(rt, alloc, &node, passes, 4, &lines)?;
     let (workers, report) = serve(rt, alloc, &node, &ports, workers, &NoGate);
     same(rt, "the report", (workers.len(), report), (2, Ok(CLEAN)));
     let loads = workers.first().ok_or("no worker")?;

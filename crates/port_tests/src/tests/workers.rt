@@ -3,8 +3,8 @@
 ghost use Rattle.std.specs.Prelude.{◌≡◌};
 
 use super::checks::same;
-use super::desks::{desks, filled, node, text_of, worker};
 use super::gates::InTurn;
+use desks::{filled, filled_desks, shared_node, text_of, worker};
 use ports::{NoGate, Replies, Report, serve, work};
 use publish::{Opened, Room};
 use std::alloc::Global;
@@ -45,9 +45,9 @@ fn end_mark<J: Room, R: Wait + Abort>(rt: &R, alloc: Global, opened: Opened) -> 
     requires { opened ≡ J.book }
 {
     let factory = program(alloc, 0)?;
-    let (node, mut passes) = node::<J, _>(rt, alloc, opened, 1, &[bank(1024)], factory)?;
+    let (node, mut passes) = shared_node::<J, _>(rt, alloc, opened, 1, &[bank(1024)], factory)?;
     let pass = passes.pop().ok_or("no pass")?;
-    let (port, _put_pass, serve_pass) = filled(rt, alloc, &[])?;
+    let (port, _put_pass, serve_pass) = filled(rt, alloc, 1, &[])?;
     let mut worker = worker(&node, &port, pass, serve_pass, Replies::new(alloc))?;
     let gate = InTurn::new();
     let report = work(rt, alloc, &node, &port, &mut worker, &gate);
@@ -70,8 +70,8 @@ fn nobody<J: Room + Send + 'static, R: Threads + Wait + Abort + Sync>(
     requires { opened ≡ J.book }
 {
     let factory = program(alloc, 0)?;
-    let (node, _passes) = node::<J, _>(rt, alloc, opened, 1, &[bank(1024)], factory)?;
-    let (ports, _put_passes, workers) = desks(rt, alloc, &node, Vec::new(alloc), &[])?;
+    let (node, _passes) = shared_node::<J, _>(rt, alloc, opened, 1, &[bank(1024)], factory)?;
+    let (ports, _put_passes, workers) = filled_desks(rt, alloc, &node, Vec::new(alloc), 1, &[])?;
     let (workers, report) = serve(rt, alloc, &node, &ports, workers, &NoGate);
     same(rt, "nobody", (workers.len(), report), (0, Ok(CLEAN)));
     Ok(())
@@ -86,7 +86,7 @@ fn each_kind<J: Room, R: Wait + Abort>(rt: &R, alloc: Global, opened: Opened) ->
     requires { opened ≡ J.book }
 {
     let factory = program(alloc, 0)?;
-    let (node, mut passes) = node::<J, _>(rt, alloc, opened, 1, &[bank(1024)], factory)?;
+    let (node, mut passes) = shared_node::<J, _>(rt, alloc, opened, 1, &[bank(1024)], factory)?;
     let pass = passes.pop().ok_or("no pass")?;
     let lines = [
         PLAIN_WRITE,
@@ -96,7 +96,7 @@ fn each_kind<J: Room, R: Wait + Abort>(rt: &R, alloc: Global, opened: Opened) ->
         WRONG_WRITE,
         UNUSED,
     ];
-    let (port, mut put_pass, serve_pass) = filled(rt, alloc, &lines)?;
+    let (port, mut put_pass, serve_pass) = filled(rt, alloc, 7, &lines)?;
     let mut worker = worker(&node, &port, pass, serve_pass, Replies::new(alloc))?;
     let gate = InTurn::new();
     let report = work(rt, alloc, &node, &port, &mut worker, &gate);
@@ -127,9 +127,9 @@ fn write_beside<J: Room, R: Wait + Abort>(rt: &R, alloc: Global, opened: Opened)
 {
     let factory = program(alloc, 0)?;
     let banks = [bank(1024), bank(1024)];
-    let (node, mut passes) = node::<J, _>(rt, alloc, opened, 1, &banks, factory)?;
+    let (node, mut passes) = shared_node::<J, _>(rt, alloc, opened, 1, &banks, factory)?;
     let pass = passes.pop().ok_or("no pass")?;
-    let (port, _put_pass, serve_pass) = filled(rt, alloc, &[WRITE_BESIDE])?;
+    let (port, _put_pass, serve_pass) = filled(rt, alloc, 2, &[WRITE_BESIDE])?;
     let mut worker = worker(&node, &port, pass, serve_pass, Replies::new(alloc))?;
     let report = work(rt, alloc, &node, &port, &mut worker, &NoGate);
     same(rt, "the report", report, CLEAN);

@@ -1,13 +1,7 @@
-//! Opcodes, faults, registers and rare forms. The program `vectors` compares whole instructions with an
-//! independent assembler.
+//! Opcodes and registers. Instructions by their text and their bytes are in the program `vectors`.
 
-use super::RARE_FORMS;
 use crate::tests::checks::{check, same};
-use bpf_insn::{BadInsn, Register, decode, encode, text};
-use std::alloc::Global;
-use std::process::Abort;
-use std::test::Fail;
-use trial::{Row, hexadecimals};
+use bpf_insn::{BadInsn, Register, decode};
 
 /// The first bytes of the table of opcodes (RFC 9669, appendix A), rising.
 const OPCODES: [u8; 117] = [
@@ -36,96 +30,6 @@ fn every_opcode_is_in_the_table_or_a_fault(rt: HostRuntime) {
     }
 }
 
-/// The number of the fault, 0 where there is none.
-fn fault_code(first: u64, second: Option<u64>) -> u8 {
-    let bytes = first.to_be_bytes();
-    let answer = match second {
-        None => decode(&bytes, None),
-        Some(second) => decode(&bytes, Some(&second.to_be_bytes())),
-    };
-    match answer {
-        Ok(_) => 0,
-        Err(fault) => fault.code(),
-    }
-}
-
-const ZERO: Option<u64> = Some(0);
-
-/// First slot, next slot, and the fault that is wanted.
-const FAULTS: [(u64, Option<u64>, u8); 59] = [
-    (0xff00_0000_0000_0000, None, 1),
-    (0x1c00_0000_0000_0000, None, 0),
-    (0x8c00_0000_0000_0000, None, 1),
-    (0xdf00_0000_0000_0010, None, 1),
-    (0xdc00_0000_1000_0000, None, 0),
-    (0x8d00_0000_0000_0000, None, 1),
-    (0x8600_0000_0000_0000, None, 1),
-    (0x9600_0000_0000_0000, None, 1),
-    (0x0d00_0000_0000_0000, None, 1),
-    (0xb70b_0000_0000_0000, None, 2),
-    (0xbfb0_0000_0000_0000, None, 2),
-    (0xb7b0_0000_0000_0000, None, 3),
-    (0x0f0b_0000_0000_0000, None, 2),
-    (0x79b0_0000_0000_0000, None, 2),
-    (0x7b0b_0000_0000_0000, None, 2),
-    (0x180b_0000_0000_0000, None, 2),
-    (0x550b_0000_0100_0000, None, 2),
-    (0x1800_0000_0000_0000, None, 4),
-    (0x1870_0000_0000_0000, None, 4),
-    (0x1870_0000_0000_0000, ZERO, 3),
-    (0x1800_0100_0000_0000, None, 4),
-    (0x1800_0100_0000_0000, ZERO, 3),
-    (0x1800_0000_0000_0000, Some(0x1800_0000_0000_0000), 3),
-    (0x1800_0000_0000_0000, Some(0x0001_0000_0000_0000), 3),
-    (0x1800_0000_0000_0000, Some(0x0000_0100_0000_0000), 3),
-    (0x1800_0000_0000_0000, Some(0x0000_0000_0100_0000), 0),
-    (0x1850_0000_0000_0000, Some(0x0000_0000_0100_0000), 3),
-    (0x1850_0000_0000_0000, ZERO, 0),
-    (0x1810_0000_0000_0000, Some(0x0000_0000_0100_0000), 3),
-    (0x1820_0000_0000_0000, Some(0x0000_0000_0100_0000), 0),
-    (0x1830_0000_0000_0000, Some(0x0000_0000_0100_0000), 3),
-    (0x1840_0000_0000_0000, Some(0x0000_0000_0100_0000), 3),
-    (0x1860_0000_0000_0000, Some(0x0000_0000_0100_0000), 0),
-    (0x0700_0100_0000_0000, None, 3),
-    (0x3700_0100_0000_0000, None, 0),
-    (0x3700_0200_0000_0000, None, 3),
-    (0x9700_0100_0000_0000, None, 0),
-    (0xbf00_0800_0000_0000, None, 0),
-    (0xbc00_2000_0000_0000, None, 3),
-    (0xbf00_2000_0000_0000, None, 0),
-    (0xb700_0800_0000_0000, None, 3),
-    (0xbf00_0000_0100_0000, None, 3),
-    (0x8700_0000_0100_0000, None, 3),
-    (0x8710_0000_0000_0000, None, 3),
-    (0xd400_0000_1100_0000, None, 3),
-    (0xd410_0000_1000_0000, None, 3),
-    (0x8530_0000_0100_0000, None, 3),
-    (0x8520_0000_0100_0000, None, 0),
-    (0x8501_0000_0100_0000, None, 3),
-    (0x9500_0000_0100_0000, None, 3),
-    (0x9501_0000_0000_0000, None, 3),
-    (0x0500_0000_0100_0000, None, 3),
-    (0x0600_0100_0000_0000, None, 3),
-    (0x7900_0000_0100_0000, None, 3),
-    (0x7a10_0000_0000_0000, None, 3),
-    (0x7b00_0000_0100_0000, None, 3),
-    (0x5510_0000_0000_0000, None, 3),
-    (0x5d00_0000_0100_0000, None, 3),
-    (0xdcff_0000_0000_0000, None, 2),
-];
-
-#[test]
-fn the_first_fault_is_told(rt: HostRuntime) {
-    for (first, second, wanted) in &FAULTS {
-        same(
-            &rt,
-            "slots",
-            (*first, fault_code(*first, *second)),
-            (*first, *wanted),
-        );
-    }
-}
-
 #[test]
 fn a_register_has_its_number(rt: HostRuntime) {
     for number in 0..=10u8 {
@@ -140,42 +44,4 @@ fn a_register_has_its_number(rt: HostRuntime) {
         "a register has its number",
         Register::new(11).is_none(),
     );
-}
-
-/// Fails unless these slots are the spelling of the instruction that has this text.
-fn spell(rt: &impl Abort, alloc: Global, slots: &[u64], wanted: &str) -> Result<(), Fail> {
-    let first = slots.first().ok_or("a slot")?.to_be_bytes();
-    let second = slots.get(1).map_or([0; 8], |slot| slot.to_be_bytes());
-    match decode(&first, Some(&second)) {
-        Ok(insn) => {
-            let (encoded, rest) = encode(&insn);
-            check(rt, "spell", encoded.as_slice() == first.as_slice());
-            check(
-                rt,
-                "spell",
-                rest.map_or(
-                    slots.len() == 1,
-                    |slot| slot.as_slice() == second.as_slice(),
-                ),
-            );
-            same(rt, "spell", text(alloc, &insn)?.as_str(), wanted);
-        }
-        Err(_) => check(rt, wanted, false),
-    }
-    Ok(())
-}
-
-#[test]
-fn rare_forms(rt: HostRuntime) -> Result<(), Fail> {
-    for line in RARE_FORMS.lines() {
-        let mut row = Row::of(line);
-        let wanted = row.part()?;
-        spell(
-            &rt,
-            rt.alloc(),
-            &hexadecimals(rt.alloc(), row.part()?)?,
-            wanted,
-        )?;
-    }
-    Ok(())
 }

@@ -61,7 +61,7 @@ a load reads the staging of its Publish||1|16|mov r0, 0; exit|take 0 load-1/publ
 ";
 
 /// The event of a text: its name, its port and, where it takes one, the name of a packet.
-pub fn event(alloc: Global, text: &str) -> Result<Event, Fail> {
+fn event(alloc: Global, text: &str) -> Result<Event, Fail> {
     let (kind, rest) = text.split_once(' ').ok_or("an event without a port")?;
     if kind == "take" {
         let (port, name) = rest.split_once(' ').ok_or("a take without a packet")?;
@@ -86,7 +86,7 @@ fn digits(alloc: Global, reply: &Reply) -> Result<String, Fail> {
 }
 
 /// An outcome as text.
-pub fn outcome_text(alloc: Global, outcome: &Outcome) -> Result<String, Fail> {
+fn outcome_text(alloc: Global, outcome: &Outcome) -> Result<String, Fail> {
     match outcome {
         Outcome::Refused => Ok("refused".to_string(alloc)?),
         Outcome::Discarded(discard) => {

@@ -1,8 +1,8 @@
-//! The calls of the verifier, and memory that is refused.
+//! The calls of the verifier.
 
 use crate::tests::checks::{check, same};
-use bpf::{Image, ImageFault};
-use bver::{MapSizes, Refusal, Region, verify};
+use bpf::Image;
+use bver::{MapSizes, Region, verify};
 use std::alloc::Global;
 use std::test::Fail;
 use trial::image_of_text;
@@ -110,123 +110,6 @@ fn accepts_as_many_slots_as_there_may_be(rt: HostRuntime) -> Result<(), Fail> {
         "accepts as many slots as there may be",
         accepted.image().weight(),
         512,
-    );
-    Ok(())
-}
-
-/// The image, where the first reading may be refused memory.
-fn loads(alloc: Global) -> Result<Image, ImageFault> {
-    Image::read(alloc, &LOADS).or_else(|_| Image::read(alloc, &LOADS))
-}
-
-/// Each allocation may be refused: the answer is then the refusal of memory and nothing else, and the
-/// next call is as ever.
-#[test]
-fn verifies_where_memory_may_be_refused(rt: HostRuntime) -> Result<(), Fail> {
-    let alloc = rt.alloc();
-    let none = MapSizes::new(&[])?;
-    let accepted = match verify(alloc, loads(alloc)?, &none) {
-        Ok(accepted) => accepted,
-        Err(refused) => {
-            same(
-                &rt,
-                "verifies where memory may be refused",
-                refused.code,
-                Refusal::Memory,
-            );
-            same(&rt, "verifies where memory may be refused", refused.slot, 0);
-            verify(alloc, loads(alloc)?, &none)?
-        }
-    };
-    let copy = accepted.copy().or_else(|_| accepted.copy())?;
-    same(
-        &rt,
-        "verifies where memory may be refused",
-        copy.budget(),
-        9,
-    );
-    same(
-        &rt,
-        "verifies where memory may be refused",
-        copy.region(0),
-        Some(Region::Tail),
-    );
-    Ok(())
-}
-
-/// `ja -1; exit` with a budget of 2.
-const BACK: [u8; 32] = [
-    0x42, 0x50, 0x46, 0x41, 1, 0, 2, 0, 2, 0, 0, 0, 0, 0, 0, 0, 5, 0, 0xff, 0xff, 0, 0, 0, 0, 0x95,
-    0, 0, 0, 0, 0, 0, 0,
-];
-
-/// A fault of the form is told before any memory is asked for.
-#[test]
-fn form_is_refused_where_memory_may_be_refused(rt: HostRuntime) -> Result<(), Fail> {
-    let alloc = rt.alloc();
-    let image = Image::read(alloc, &BACK).or_else(|_| Image::read(alloc, &BACK))?;
-    match verify(alloc, image, &MapSizes::new(&[])?) {
-        Ok(_) => check(&rt, "form is refused where memory may be refused", false),
-        Err(refused) => {
-            same(
-                &rt,
-                "form is refused where memory may be refused",
-                refused.code,
-                Refusal::BackJump,
-            );
-            same(
-                &rt,
-                "form is refused where memory may be refused",
-                refused.slot,
-                0,
-            );
-        }
-    }
-    Ok(())
-}
-
-/// The image with loops, where the first readings may be refused memory.
-fn nested(alloc: Global) -> Result<Image, ImageFault> {
-    Image::read(alloc, &NESTED)
-        .or_else(|_| Image::read(alloc, &NESTED))
-        .or_else(|_| Image::read(alloc, &NESTED))
-}
-
-/// The same of a program with loops.
-#[test]
-fn verifies_loops_where_memory_may_be_refused(rt: HostRuntime) -> Result<(), Fail> {
-    let alloc = rt.alloc();
-    let none = MapSizes::new(&[])?;
-    let accepted = match verify(alloc, nested(alloc)?, &none) {
-        Ok(accepted) => accepted,
-        Err(refused) => {
-            same(
-                &rt,
-                "verifies loops where memory may be refused",
-                refused.code,
-                Refusal::Memory,
-            );
-            same(
-                &rt,
-                "verifies loops where memory may be refused",
-                refused.slot,
-                0,
-            );
-            verify(alloc, nested(alloc)?, &none)?
-        }
-    };
-    let copy = accepted.copy().or_else(|_| accepted.copy())?;
-    same(
-        &rt,
-        "verifies loops where memory may be refused",
-        copy.budget(),
-        48,
-    );
-    same(
-        &rt,
-        "verifies loops where memory may be refused",
-        copy.image().loops().len(),
-        2,
     );
     Ok(())
 }

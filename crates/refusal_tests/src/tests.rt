@@ -1,0 +1,12 @@
+//! Each test does its work once, accepts success or the named refusal, compares what stands, and then does the same with
+//! ample memory.
+
+mod checks;
+mod images;
+mod loads;
+mod making;
+mod marks;
+mod programs;
+mod serving;
+mod sizes;
+mod worlds;
