@@ -79,7 +79,14 @@ fn image_is_made(rt: &impl Abort, alloc: Global, image: &Image, how: Made) -> Re
     begin(alloc)?;
     let made = match how {
         Made::Copied => image.copy().ok(),
-        Made::OfExits => Image::new(alloc, &exits, image.loops(), image.budget()).ok(),
+        Made::OfExits => Image::new(
+            alloc,
+            image.version(),
+            &exits,
+            image.loops(),
+            image.budget(),
+        )
+        .ok(),
         Made::Written => image
             .write()
             .ok()
