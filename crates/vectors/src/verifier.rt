@@ -29,14 +29,24 @@ pub fn form(alloc: Global, given: &str) -> Result<String, Fail> {
     Ok(answer(alloc, check(&image))?)
 }
 
-/// The answer to a named program with a budget and the sizes of its maps.
+/// The answer to a named program with a budget and the sizes of its maps. What is accepted is accepted in version 2 too,
+/// with the same weight.
 pub fn program(alloc: Global, given: &str) -> Result<String, Fail> {
     let mut row = Row::of(given);
     let _name = row.part()?;
     let program = row.part()?;
-    let image = image_of_text(alloc, program, row.part()?.parse::<u32>()?)?;
+    let budget = row.part()?.parse::<u32>()?;
     let sizes = sizes(alloc, row.part()?)?;
-    Ok(answer(alloc, verify(alloc, image, &sizes))?)
+    let image = image_of_text(alloc, program, budget)?;
+    let weight = image.weight();
+    if let Err(refused) = verify(alloc, image, &sizes) {
+        return Ok(refusal(alloc, refused)?);
+    }
+    let again = image_of_text(alloc, &format!(in alloc; ".version 2; {program}")?, budget)?;
+    if again.weight() != weight {
+        return Ok(String::from_str(alloc, "another weight in version 2")?);
+    }
+    Ok(answer(alloc, verify(alloc, again, &sizes))?)
 }
 
 /// The weight of a named program, and with a budget of that and the sizes of its maps the answer to it.
