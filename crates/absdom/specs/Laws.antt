@@ -128,7 +128,7 @@ pub record IsLeftBy (insn : Insn) (before after : StateValue) : Type 0 where
 abbrev pub ApplyLeaves : Type 0
 ApplyLeaves = (spill : Spill) (a : StateValue) (insn : Insn) → IfOk (after_insn spill a insn) (IsLeftBy insn a)
 
--- where ranges are forgotten, no instruction tells anything of a place
+-- where ranges are forgotten and nothing is known of any place, no instruction tells anything of one
 abbrev pub ForgetsAll : Type 0
 ForgetsAll =
     (a : StateValue) (insn : Insn) → AreAllWhole a.ranges → IfOk (after_insn Forgets a insn) (λ b. AreAllWhole b.ranges)

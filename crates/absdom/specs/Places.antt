@@ -34,11 +34,11 @@ widened_from place [] first last = []
 widened_from place (range ∷ ranges) first last =
     (if is_touched place first last then whole_range Bits64 else range) ∷ widened_from (suc place) ranges first last
 
--- the same of all places
+-- the ranges of all places after that
 abbrev pub widened : List Range → (first last : ℕ) → List Range
 widened ranges first last = widened_from 0 ranges first last
 
--- whether so many bytes from either of two bytes on are one place
+-- whether an access of so many bytes, which begins at either of two bytes or between, is of the eight bytes of one place
 abbrev pub is_place : (bytes : ℕ) → ℕ × ℕ → Bool
 is_place bytes firsts = (bytes == 8) && (firsts.0 == firsts.1) && (firsts.0 % 8 == 0)
 

@@ -174,7 +174,8 @@ impl Places {
     }
 }
 
-/// Whether so many bytes from either of two bytes on are one place.
+/// Whether an access of so many bytes, which begins at `lowest`, at `highest` or between, is of the eight bytes of
+/// one place.
 pub(crate) fn is_place(bytes: usize, lowest: usize, highest: usize) -> bool
     ensures { result ≡ is_place bytes (lowest, highest) }
 {

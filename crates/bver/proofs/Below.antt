@@ -1,7 +1,7 @@
 -- What a pass knows stays below every table that covers what comes to a slot and what its instruction leads to; so it
 -- stays below one under which the program is justified, and a refusal refutes that one.
 use Rattle.std.proofs.Common.{◌≡◌, ℕ, ◌+◌, ◌<◌, ◌≤◌, Bool, true, false, List, [], Option, None, Some, Result, Ok, Err, inl, inr, refl, sym, ap, subst, ◌∙◌, arith, ◌⊎◌}
-use Rattle.std.specs.Prelude.{IsTrue, IsSome, IfOk, IfSome}
+use Rattle.std.specs.Prelude.{IsTrue, IsSome, IsErr, IfOk, IfErr, IfSome}
 use Rattle.std.proofs.lemmas.Bool.{cases_lt, false≢true}
 use Rattle.bpf.specs.declared.loops.Loop.{Loop}
 use Rattle.bpf.specs.Program.{Program, IsProgram}
@@ -29,7 +29,7 @@ use Rattle.bver.specs.Heads.{AreUnset, Falls, HasLowered, IsDeclared, IsWithinBo
 use Rattle.bver.specs.Justified.{AreEdgesCovered, HasStore, IsCovered, IsCoveredIfAny, IsEntered, IsHead, IsPermitted, IsPermittedAt, IsResultCovered, edges_of_comparison, knowledge_at}
 use Rattle.bver.specs.Leading.{AreLoweredBack, BranchesBelow, EntersOutsideIfAny, GivesBelow, IsFlowFault, IsFollowedBelow, IsRaisedAt, IsLeastVisit, IsLoweredBackIfAny, IsRaisedIfAny, IsUncovered, IsUncoveredIfAny, IsVisitFault, IsVisitFaultIfAny, LeadsBelow, enters, jumping_if_any, jumping_state, leads, raises, refutes, returns, stays}
 use Rattle.bver.specs.Table.{TableValue, knowledge_in}
-use Rattle.bver.specs.Unjustified.{Justifies}
+use Rattle.bver.specs.Unjustified.{IsRefuted, Justifies}
 use Rattle.bver.specs.Visit.{AreWhole, IsExtended, IsInsnVisit, IsLeastNext, IsLeastOf, VisitValue, visited_state}
 use Rattle.bver.proofs.Above.{entry_refuted, permitted_less, raised_less}
 use Rattle.bver.proofs.Covering.{AreCovered}
@@ -88,6 +88,34 @@ pub straight_least : (spill : Spill) (r : Result Bool Refused) (slot : ℕ) (a :
     → IfOk r (λ runs. IsLeastNext (λ above. LeadsBelow spill above slot a insn) old new runs (slot + slots_of insn) state)
 straight_least spill (Ok runs) slot a insn old new state goes least = λ above grown followed. least above grown (leads_on spill above slot a insn goes followed)
 straight_least spill (Err refused) slot a insn old new state goes least = tt
+
+-- an instruction that goes on is refuted where it is refused
+result_refuted : (r : Result StateValue Cause) (there : Option StateValue) → IsErr r → IsResultCovered r there → ⊥
+result_refuted (Err cause) there fails h = h
+result_refuted (Ok a) there fails h = absurd cc
+
+refuted_on : (spill : Spill) (sizes : Maps) (slot : ℕ) (a : StateValue) (insn : Insn) → flow_of insn ≡ GoesOn → IsErr (after_insn spill a insn) → IsRefuted spill sizes slot a insn
+refuted_on spill sizes slot a insn goes fails table h = by_insn insn goes fails h
+  where
+    by_insn : (insn : Insn) → flow_of insn ≡ GoesOn → IsErr (after_insn spill a insn) → IsPermitted spill sizes table slot a insn → ⊥
+    by_insn (Alu op width dst src) goes fails h = result_refuted (after_insn spill a (Alu op width dst src)) _ fails h
+    by_insn (Negate width dst) goes fails h = result_refuted (after_insn spill a (Negate width dst)) _ fails h
+    by_insn (MoveSigned extension dst src) goes fails h = result_refuted (after_insn spill a (MoveSigned extension dst src)) _ fails h
+    by_insn (ByteSwap swap bits dst) goes fails h = result_refuted (after_insn spill a (ByteSwap swap bits dst)) _ fails h
+    by_insn (Load size dst place) goes fails h = result_refuted (after_insn spill a (Load size dst place)) _ fails h
+    by_insn (Store size place src) goes fails h = result_refuted (after_insn spill a (Store size place src)) _ fails h
+    by_insn (Jump comparison offset) goes fails h = absurd cc
+    by_insn (Goto distance) goes fails h = absurd cc
+    by_insn (Wide dst value) goes fails h = absurd cc
+    by_insn (LoadMap dst index) goes fails h = absurd cc
+    by_insn (LoadAddress dst address) goes fails h = absurd cc
+    by_insn (Call callee number) goes fails h = absurd cc
+    by_insn Exit goes fails h = absurd cc
+
+pub straight_fault : (r : Result Bool Refused) (v : VisitValue) (lowered : List Bool) (known : ℕ → Option StateValue) (a : StateValue) (insn : Insn) → flow_of insn ≡ GoesOn
+    → IfErr r (λ refused. IsErr (after_insn (spill_of v.program.version) a insn)) → IfErr r (λ refused. IsFlowFault v lowered known a insn)
+straight_fault (Ok runs) v lowered known a insn goes fails = tt
+straight_fault (Err refused) v lowered known a insn goes fails = refutes (refuted_on (spill_of v.program.version) v.sizes v.slot a insn goes fails)
 
 -- ---- from one slot of a pass to the next
 
