@@ -78,21 +78,21 @@ cell_less sizes (Num a) (Map j) k l map key h = absurd map
 cell_less sizes (Ptr r a) (Map j) k l map key h = absurd map
 cell_less sizes (Map i) (Map j) k l map key h = subst (λ (n : ℕ). AsksCell sizes (Map n) k) (sym map) (key_less sizes j k l key h)
 
-kind_less : (sizes : Maps) (helper : ℤ) (m n : AbsKind) → IsKindBelow m n → AsksKind sizes helper n → AsksKind sizes helper m
-kind_less sizes helper m Unset below h = absurd h
-kind_less sizes helper m (Num b) below h = absurd h
-kind_less sizes helper m (Ptr s b) below h = absurd h
-kind_less sizes helper Unset (Map j) below h = absurd below
-kind_less sizes helper (Num a) (Map j) below h = absurd below
-kind_less sizes helper (Ptr r a) (Map j) below h = absurd below
-kind_less sizes helper (Map i) (Map j) below h = subst (λ (n : ℕ). AsksKind sizes helper (Map n)) (sym below) h
+takes_less : (sizes : Maps) (helper : ℤ) (m n : AbsKind) → IsKindBelow m n → AsksKind sizes helper n → AsksKind sizes helper m
+takes_less sizes helper m Unset below h = absurd h
+takes_less sizes helper m (Num b) below h = absurd h
+takes_less sizes helper m (Ptr s b) below h = absurd h
+takes_less sizes helper Unset (Map j) below h = absurd below
+takes_less sizes helper (Num a) (Map j) below h = absurd below
+takes_less sizes helper (Ptr r a) (Map j) below h = absurd below
+takes_less sizes helper (Map i) (Map j) below h = subst (λ (n : ℕ). AsksKind sizes helper (Map n)) (sym below) h
 
 -- who knows more may ask the same
 may_less : (sizes : Maps) (helper : ℤ) (a b : StateValue) → IsBelow a b → MayAsk sizes helper b → MayAsk sizes helper a
 may_less sizes helper a b below h = record {
   cell = cell_less sizes (kind_at a 1) (kind_at b 1) (kind_at a 2) (kind_at b 2) (below.kinds 1) (below.kinds 2) h.cell;
   given = λ takes. number_less (kind_at a 3) (kind_at b 3) (below.kinds 3) (h.given takes);
-  kind = kind_less sizes helper (kind_at a 1) (kind_at b 1) (below.kinds 1) h.kind;
+  kind = takes_less sizes helper (kind_at a 1) (kind_at b 1) (below.kinds 1) h.kind;
 }
 
 pub permitted_less : ApplyGrows → RefineGrows → CallGrows → BelowIsTransitive → (spill : Spill) (sizes : Maps) (table : ℕ → Option StateValue) (slot : ℕ) (a b : StateValue) (insn : Insn) → IsWhole a → IsWhole b → IsBelow a b → IsPermitted spill sizes table slot b insn → IsPermitted spill sizes table slot a insn
