@@ -53,6 +53,7 @@ fn draw(quota: &Quota, answer: u64) -> Call
         helper: TICKET,
         map: quota.map,
         key: quota.cell,
+        argument: 0,
         answer,
     }
 }
