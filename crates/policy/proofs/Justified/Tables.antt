@@ -32,6 +32,7 @@ use Rattle.absdom.specs.Kinds.{IsKindBelow}
 use Rattle.absdom.specs.Laws.{BelowIsReflexive, BelowIsTransitive, RefineShrinks}
 use Rattle.absdom.specs.State.{IsProper, IsWhole, StateValue, kind_at}
 use Rattle.bver_form.specs.Form.{IsAllowed}
+use Rattle.bver_form.specs.Support.{IsSupported}
 use Rattle.bver_form.specs.Jumps.{IsJump, jump_distance}
 use Rattle.bver_form.specs.Loops.{IsLoopFormed}
 use Rattle.bver.specs.Justified.{IsCovered, IsHead, IsJustified, IsPermittedAt, IsResultCovered}
@@ -280,12 +281,12 @@ jump_at p slot (Some (pos skipped)) h = record { first_slot = h; onward = inl (o
 jump_at p slot (Some (negsuc n)) h = absurd h
 
 allowed_at : (sizes : Maps) (table : Knowledge) (p : Program) (slot : ℕ) (a : Option StateValue) (found : Option Insn) (insn : Insn)
-    → IsServedAt sizes table p.slots slot a found → found ≡ Some insn → IsAllowed p slot insn
-allowed_at sizes table p slot a None insn h is = cc
-allowed_at sizes table p slot None (Some other) insn h is = absurd h
-allowed_at sizes table p slot (Some a) (Some other) insn h is =
+    → p.version ≡ 1 → IsServedAt sizes table p.slots slot a found → found ≡ Some insn → IsAllowed p slot insn
+allowed_at sizes table p slot a None insn first h is = cc
+allowed_at sizes table p slot None (Some other) insn first h is = absurd h
+allowed_at sizes table p slot (Some a) (Some other) insn first h is =
     let here : IsAllowed p slot other = record {
-      supported = h.supported;
+      supported = subst (λ (version : ℕ). IsSupported version other) (sym first) h.supported;
       leaves_frame = h.leaves_frame;
       jump = jump_at p slot (jump_distance other) h.lands;
     } in
@@ -306,7 +307,7 @@ table_justified laws sizes rules budget fits none limits light =
       limits = limits;
       formed = record {
         loops = All-nil (IsLoopFormed p);
-        allowed = λ slot insn is. allowed_at sizes stretch.table p slot (stretch.table slot) (insn_at p slot) insn (stretch.served slot) is;
+        allowed = λ slot insn is. allowed_at sizes stretch.table p slot (stretch.table slot) (insn_at p slot) insn refl (stretch.served slot) is;
         ends = ended_at p.slots Exit stretch.ended;
         within_budget = light;
       };
