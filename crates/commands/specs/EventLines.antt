@@ -6,7 +6,7 @@ use Rattle.spw.specs.declared.faults.LineFault.{LineFault}
 use Rattle.spw.specs.declared.faults.LineFault.TheVariants.{NoPort, BadHex, BadMarker, TooLong, Memory}
 use Rattle.sched.specs.History.{port_of}
 use Rattle.sched.specs.declared.event.Event.{Event}
-use Rattle.sched.specs.declared.event.Event.TheVariants.{Take, Count, Ticket, Effect, Publish}
+use Rattle.sched.specs.declared.event.Event.TheVariants.{Take, Count, Ticket, Peak, Effect, Publish}
 use Rattle.commands.specs.declared.events.EventFault.{EventFault}
 use Rattle.commands.specs.declared.events.EventFault.TheVariants.{Line, Unknown}
 
@@ -16,7 +16,8 @@ Begins word line text = words_of line ≡ word ∷ words_of text
 
 -- the word of an event that names a port and no more
 abbrev pub IsPortWord : List ℕ → Type 0
-IsPortWord word = (word ≡ codes "count") ⊎ (word ≡ codes "ticket") ⊎ (word ≡ codes "effect") ⊎ (word ≡ codes "publish")
+IsPortWord word =
+    (word ≡ codes "count") ⊎ (word ≡ codes "ticket") ⊎ (word ≡ codes "peak") ⊎ (word ≡ codes "effect") ⊎ (word ≡ codes "publish")
 
 -- the word of an event
 abbrev pub IsEventWord : List ℕ → Type 0
@@ -36,6 +37,7 @@ abbrev pub IsTakeLine : List ℕ → Event → Type 0
 IsTakeLine text (Take port packet) = IsPacketLine text port packet × (length packet.bytes ≤ 4200)
 IsTakeLine text (Count port) = ⊥
 IsTakeLine text (Ticket port) = ⊥
+IsTakeLine text (Peak port) = ⊥
 IsTakeLine text (Effect port) = ⊥
 IsTakeLine text (Publish port) = ⊥
 
@@ -49,6 +51,7 @@ IsEventLine line (Take port packet) =
     (text : List ℕ) × Begins (codes "take") line text × IsTakeLine text (Take port packet)
 IsEventLine line (Count port) = IsPortLine (codes "count") line port
 IsEventLine line (Ticket port) = IsPortLine (codes "ticket") line port
+IsEventLine line (Peak port) = IsPortLine (codes "peak") line port
 IsEventLine line (Effect port) = IsPortLine (codes "effect") line port
 IsEventLine line (Publish port) = IsPortLine (codes "publish") line port
 

@@ -86,8 +86,8 @@ fn lone_port(alloc: Global, text: &str) -> Result<u8, EventFault>
     }
 }
 
-/// The event that a line writes: `take` and a packet line behind it, or `count`, `ticket`, `effect` or `publish` and a
-/// port behind it. Words are what stands between spaces, as in packet lines.
+/// The event that a line writes: `take` and a packet line behind it, or `count`, `ticket`, `peak`, `effect` or `publish`
+/// and a port behind it. Words are what stands between spaces, as in packet lines.
 ///
 /// The faults are tested in this order: `Unknown` where the first word is that of no event, or there is none; the port;
 /// behind `take` the rest of the packet line, as [`read_line`] does; `Unknown` where there are words too many. `Memory`
@@ -102,6 +102,7 @@ pub fn read_event(alloc: Global, line: &str) -> Result<Event, EventFault>
         "take" => taken(alloc, text),
         "count" => Ok(Event::Count(lone_port(alloc, text)?)),
         "ticket" => Ok(Event::Ticket(lone_port(alloc, text)?)),
+        "peak" => Ok(Event::Peak(lone_port(alloc, text)?)),
         "effect" => Ok(Event::Effect(lone_port(alloc, text)?)),
         "publish" => Ok(Event::Publish(lone_port(alloc, text)?)),
         _ => Err(EventFault::Unknown),

@@ -25,7 +25,7 @@ pub const BANK: BankConfig = BankConfig {
     room: 1024,
 };
 
-/// The configuration of the node of the jobs, with so many ports and with counter maps of these sizes.
+/// The configuration of the node of the jobs, with so many ports and with maps of these sizes.
 pub fn node_config(ports: u8, sizes: MapSizes) -> NodeConfig<'static>
     ensures { IsConfig ports sizes result }
 {

@@ -6,13 +6,14 @@ ghost use Rattle.clap.specs.declared.builder.command.Command.TheViews.{out-Comma
 ghost use Rattle.clap.specs.Walk.{first_of, rows_of};
 ghost use Rattle.clap.specs.Matches.{found_of};
 ghost use Rattle.basm.specs.Relation.{texts};
-ghost use Rattle.commands.specs.Options.{GivesNode, GivesPorts, GivesSizes, IsBadValue, IsMapList, IsPortCount, IsSize, IsValueFault, RefusesCount, RefusesList, RefusesNode, WriteSizes, WritesSuch, list_parts, listed_numbers, with_node_options};
+ghost use Rattle.commands.specs.Options.{GivesNode, GivesPorts, GivesSizes, IsBadValue, IsMap, IsMapList, IsPortCount, IsSize, IsValueFault, RefusesCount, RefusesList, RefusesNode, WriteMaps, WritesMap, WritesSuch, kind_of, list_parts, size_word, with_node_options, written_maps};
+ghost use Rattle.machine.specs.Sizes.{listed_maps};
 
 use crate::arguments::{option, text_of};
 use crate::usage::UsageFault;
 use bver::MapSizes;
 use clap::{ArgMatches, Command};
-use machine::MAX_CELLS;
+use machine::{MAX_CELLS, MapKind};
 use spw::PORTS;
 use std::alloc::{AllocError, Global};
 
@@ -21,20 +22,20 @@ use std::alloc::{AllocError, Global};
 pub struct NodeWords {
     /// The name of the file of the BPF image that judges; without it the factory image does.
     pub image: Option<String>,
-    /// How many cells each counter map of the node has.
+    /// How many cells each map of the node has, and of which kind it is.
     pub sizes: MapSizes,
     /// How many ports the node has: 1 to 32. With any other number the job ends as for want of memory.
     pub ports: u8,
 }
 
-/// The sizes of no counter maps.
+/// The sizes of no maps.
 fn no_maps() -> MapSizes
-    ensures { result ≡ [] }
+    ensures { result ≡ listed_maps [] }
 {
     MapSizes::new(&[]).unwrap()
 }
 
-/// How many cells a map has by a part of a list, or `BadOption`.
+/// How many cells a map has by a word, or `BadOption`.
 fn size_written(part: &str) -> Result<u16, UsageFault>
     ensures { MatchResult result (WritesSuch IsSize part.now) (IsBadValue (IsSize part.now)) }
 {
@@ -49,17 +50,36 @@ fn size_written(part: &str) -> Result<u16, UsageFault>
     }
 }
 
-/// How many cells each map has by the parts of a list.
-fn sizes_written(alloc: Global, parts: &[&str]) -> Result<Vec<u16>, UsageFault>
-    ensures ok { IfOk result (λ sizes. WriteSizes parts.now sizes.items) }
-    ensures err { IfErr result (IsValueFault (All (λ part. IsSize part.now) parts.now)) }
+/// The digits of a part of a list, and the kind of its map.
+fn size_and_kind(part: &str) -> (&str, MapKind)
+    ensures digits { result.0.now ≡ size_word part.now }
+    ensures kind { result.1 ≡ kind_of part.now }
 {
-    let mut sizes = Vec::new(alloc);
-    for part in parts {
-        let size = size_written(part)?;
-        sizes.push(size)?;
+    match part.strip_suffix('p') {
+        Some(digits) => (digits, MapKind::Peak),
+        None => (part, MapKind::Counter),
     }
-    Ok(sizes)
+}
+
+/// The map that a part of a list writes, or `BadOption`.
+fn map_written(part: &str) -> Result<(u16, MapKind), UsageFault>
+    ensures { MatchResult result (WritesMap part.now) (IsBadValue (IsMap part.now)) }
+{
+    let (digits, kind) = size_and_kind(part);
+    Ok((size_written(digits)?, kind))
+}
+
+/// The maps that the parts of a list write.
+fn maps_written(alloc: Global, parts: &[&str]) -> Result<Vec<(u16, MapKind)>, UsageFault>
+    ensures ok { IfOk result (λ maps. WriteMaps parts.now maps.items) }
+    ensures err { IfErr result (IsValueFault (All (λ part. IsMap part.now) parts.now)) }
+{
+    let mut maps = Vec::new(alloc);
+    for part in parts {
+        let map = map_written(part)?;
+        maps.push(map)?;
+    }
+    Ok(maps)
 }
 
 /// The parts of a list: what stands between its commas.
@@ -69,14 +89,14 @@ fn parts_of(alloc: Global, text: &str) -> Result<Vec<&str>, AllocError>
     text.split(',').collect(alloc)
 }
 
-/// The sizes of counter maps that a list writes.
+/// The maps that a list writes.
 fn map_sizes(alloc: Global, text: &str) -> Result<MapSizes, UsageFault>
-    ensures ok { IfOk result (λ sizes. IsMapList text.now × (sizes ≡ listed_numbers text.now)) }
+    ensures ok { IfOk result (λ sizes. IsMapList text.now × (sizes ≡ written_maps text.now)) }
     ensures err { IfErr result (IsValueFault (IsMapList text.now)) }
 {
     let parts = parts_of(alloc, text)?;
-    let sizes = sizes_written(alloc, parts.as_slice())?;
-    match MapSizes::new(sizes.as_slice()) {
+    let maps = maps_written(alloc, parts.as_slice())?;
+    match MapSizes::with_kinds(maps.as_slice()) {
         Ok(sizes) => Ok(sizes),
         Err(_) => Err(UsageFault::BadOption),
     }
@@ -98,8 +118,9 @@ fn port_count(word: &str) -> Result<u8, UsageFault>
     }
 }
 
-/// The sizes of counter maps by `--maps`: decimal numbers of cells with commas between them, at most 8 and at
-/// most 256 in all. Without the option there are no maps. `BadOption` where its value is none such.
+/// The maps by `--maps`: decimal numbers of cells with commas between them, at most 8 and at most 256 in all, each
+/// with a `p` behind it where it is of a peak map. Without the option there are no maps. `BadOption` where its value
+/// is none such.
 pub fn sizes_of(alloc: Global, found: &ArgMatches) -> Result<MapSizes, UsageFault>
     ensures ok { IfOk result (GivesSizes (first_of (codes "maps") (rows_of (found_of found.now)))) }
     ensures err { IfErr result (RefusesList (rows_of (found_of found.now))) }
@@ -131,7 +152,7 @@ pub fn node_arguments<'a>(alloc: Global, command: Command<'a>) -> Result<Command
 {
     let help = "The file of the BPF image that judges, in place of the factory image";
     let image = option(alloc, "image", "FILE", help);
-    let help = "How many cells each counter map has, as 5,1; without it there are no maps";
+    let help = "How many cells each map has, as 5,1p with a p for a peak map; without it there are no maps";
     let maps = option(alloc, "maps", "LIST", help);
     let help = "How many ports the node has, 1 to 32; without it one";
     let ports = option(alloc, "ports", "N", help);

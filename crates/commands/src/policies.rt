@@ -31,7 +31,7 @@ pub struct PolicyWords {
     pub table: String,
     /// The name of the file that the image is written to.
     pub image: String,
-    /// How many cells each counter map has of the node that the image is to judge on.
+    /// How many cells each map has of the node, and of which kind it is, that the image is to judge on.
     pub sizes: MapSizes,
 }
 
@@ -44,7 +44,7 @@ pub fn policy_command<'a>(alloc: Global) -> Result<Command<'a>, AllocError>
     let table = file(alloc, "table", "FILE", help);
     let help = "The file that the BPF image is written to";
     let image = file(alloc, "image", "OUT", help);
-    let help = "How many cells each counter map has, as 5,1; without it there are no maps";
+    let help = "How many cells each map has, as 5,1p with a p for a peak map; without it there are no maps";
     let maps = option(alloc, "maps", "LIST", help);
     Command::new(alloc, "policy")
         .about("Compiles a policy table to a BPF image")
@@ -100,7 +100,7 @@ fn print_slots<W: Write>(out: &mut W, image: &Image) -> io::Result<()>
     writeln!(out, "slots {slots}")
 }
 
-/// Compiles the table of a file for a node with counter maps of these sizes, writes the image to another file, and
+/// Compiles the table of a file for a node with maps of these sizes, writes the image to another file, and
 /// prints how many slots it has.
 ///
 /// Faults are found in this order: the file of the table (`CannotRead`, also where it is not UTF-8), the table

@@ -56,7 +56,7 @@ pub fn image_in<'a, F: Files>(
     Ok(Image::read(alloc, bytes.as_slice())?)
 }
 
-/// The program of the image file of this name, for a node with counter maps of these sizes.
+/// The program of the image file of this name, for a node with maps of these sizes.
 pub fn program_in<'a, F: Files>(
     alloc: Global,
     files: &mut F,

@@ -27,7 +27,7 @@ use std::io::{self, Write};
 pub struct VerifyWords {
     /// The name of the file of the image.
     pub image: String,
-    /// How many cells each counter map has of the node that it may judge on.
+    /// How many cells each map has of the node, and of which kind it is, that it may judge on.
     pub sizes: MapSizes,
 }
 
@@ -37,7 +37,7 @@ pub fn verify_command<'a>(alloc: Global) -> Result<Command<'a>, AllocError>
     ensures local { IfOk result (λ c. (fields_of c).has_globals ≡ false) }
 {
     let about = "Tells whether a BPF image may judge, or why it is refused";
-    let help = "How many cells each counter map has, as 5,1; without it there are no maps";
+    let help = "How many cells each map has, as 5,1p with a p for a peak map; without it there are no maps";
     let maps = option(alloc, "maps", "LIST", help);
     image_command(alloc, "verify", about)?.arg(maps)
 }
@@ -59,7 +59,7 @@ fn print_accepted<W: Write>(out: &mut W, weight: u64, budget: u32) -> io::Result
     writeln!(out, "accepted weight {weight} budget {budget}")
 }
 
-/// Verifies the image of a file for a node with counter maps of these sizes, and prints its weight and its
+/// Verifies the image of a file for a node with maps of these sizes, and prints its weight and its
 /// budget where it may judge.
 ///
 /// Faults are found in this order: the file (`CannotRead`), its image (`BadImage`), the program
