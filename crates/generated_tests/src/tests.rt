@@ -5,4 +5,5 @@ mod asking;
 mod checks;
 mod generated;
 mod generator;
+mod spills;
 mod tables;
