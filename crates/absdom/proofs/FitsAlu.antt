@@ -9,7 +9,7 @@ use Rattle.bpf_parts.specs.declared.operation.AluOp.TheVariants.{Add, Sub, Mul, 
 use Rattle.machine.specs.declared.regions.Region.{Region}
 use Rattle.machine.specs.declared.values.Value.{Value}
 use Rattle.machine.specs.declared.values.Value.TheVariants.{Unset as Nothing, Num as Number, Ptr as Pointer, Map as MapOf}
-use Rattle.machine.specs.Words.{signed_value, low_part}
+use Rattle.machine.specs.Words.{signed_value}
 use Rattle.machine.specs.Step.{alu, copied_value, number_result}
 use Rattle.absdom_num.specs.declared.ranges.Range.{Range}
 use Rattle.absdom_num.specs.Ranges.{IsIn}

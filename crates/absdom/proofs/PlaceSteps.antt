@@ -1,5 +1,5 @@
 -- One place of the stack: its range after a store and in a join.
-use Rattle.std.proofs.Common.{◌≡◌, ◌≢◌, ℕ, zero, suc, ◌+◌, ◌-◌, ◌*◌, ◌/◌, ◌%◌, ◌^◌, ◌<◌, ◌≤◌, min, max, Bool, true, false, ◌&&◌, ◌==◌, nat_le, nat_lt, if◌then◌else◌, refl, sym, ◌∙◌, ap, subst, arith, ◌⊎◌, inl, inr, List, [], ◌∷◌, length, set, replicate, get_or-set_other, length-set}
+use Rattle.std.proofs.Common.{◌≡◌, ◌≢◌, ℕ, zero, suc, ◌+◌, ◌-◌, ◌*◌, ◌/◌, ◌%◌, ◌<◌, ◌≤◌, max, Bool, true, false, ◌&&◌, nat_le, nat_lt, if◌then◌else◌, refl, sym, ◌∙◌, ap, subst, arith, ◌⊎◌, inl, inr, List, [], ◌∷◌, length, set, replicate, get_or-set_other, length-set}
 use Rattle.std.proofs.lemmas.Bool.{cases_lt}
 use Rattle.std.proofs.lemmas.Bool.Decides.{nat_tests}
 use Rattle.std.proofs.lemmas.List.{ext_get_or, get_or_past, get_or-replicate, length-replicate}
@@ -12,7 +12,7 @@ use Rattle.absdom.specs.declared.spill.Spill.TheVariants.{Forgets, Keeps}
 use Rattle.absdom.specs.Marks.{mark_at, all_marked, AreInBoth}
 use Rattle.absdom.specs.Places.{all_whole, range_in, AreAllWhole, ArePlaces, is_touched, widened_from, widened, is_place, AreRangesJoined, AreRangesWithin}
 use Rattle.absdom.specs.Effect.{stored_marks, stored_ranges, AreInside}
-use Rattle.absdom.proofs.MarkSteps.{marked_bytes, all_marked_from, still_marked, stored_stays, stored_made, length-stored_marks}
+use Rattle.absdom.proofs.MarkSteps.{marked_bytes, all_marked_from, still_marked, stored_stays, stored_made}
 
 -- ---- the whole range
 

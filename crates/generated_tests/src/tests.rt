@@ -5,5 +5,6 @@ mod asking;
 mod checks;
 mod generated;
 mod generator;
+mod spills;
 mod tables;
 mod waiting;

@@ -13,7 +13,7 @@ use crate::effects::{Frame, perform};
 use crate::memory::Memory;
 use crate::turns::{Turn, apply};
 use bpf::Image;
-use bpf_insn::{Callee, FRAME_POINTER, Flow, Insn, REGISTERS};
+use bpf_insn::{Callee, FRAME_POINTER, Flow, Insn, REGISTERS, Register};
 use machine::{MapSizes, Region, Value, has_helper, steps_perform};
 use std::marker::Model;
 
@@ -126,6 +126,13 @@ impl<'a> Machine<'a> {
         ensures { result ≡ self.now.steps }
     {
         self.steps
+    }
+
+    /// What a register holds.
+    pub fn register(&self, register: Register) -> Value
+        ensures { result ≡ (state_of self.now).registers register }
+    {
+        self.registers[usize::from(register.number())]
     }
 
     /// Makes a step: what the instruction at the machine's slot does. Where it is not `Turn::Next`, the

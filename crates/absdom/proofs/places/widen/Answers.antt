@@ -1,6 +1,5 @@
-use Rattle.std.proofs.Common.{◌≡◌, ◌+◌, ◌/◌, subst, arith, List, set}
-use Rattle.absdom_num.specs.declared.ranges.Range.{Range}
-use Rattle.absdom.proofs.PlaceSteps.{AreForgotten, forgotten-none, forgotten-more, forgotten-all}
+use Rattle.std.proofs.Common.{◌/◌, arith}
+use Rattle.absdom.proofs.PlaceSteps.{forgotten-none, forgotten-more, forgotten-all}
 use Rattle.absdom.proofs.places.widen.Goals as goal
 
 pub loop-place-init : goal.loop-place-init

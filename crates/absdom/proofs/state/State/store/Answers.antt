@@ -1,10 +1,5 @@
-use Rattle.std.proofs.Common.{◌≡◌, ◌∙◌, ap, sym, subst, length, rules, Bool, false, List, ◌*◌}
-use Rattle.bpf_parts.specs.declared.operation.Width.TheVariants.{Bits64}
-use Rattle.absdom_num.specs.declared.ranges.Range.{Range}
+use Rattle.std.proofs.Common.{◌∙◌, ap, length, rules}
 use Rattle.absdom_num.specs.Ranges.{IsRange}
-use Rattle.absdom_num.specs.Tables.{whole_range}
-use Rattle.absdom.specs.Marks.{all_marked}
-use Rattle.absdom.specs.Places.{range_in}
 use Rattle.absdom.proofs.MarkSteps.{length-stored_marks}
 use Rattle.absdom.proofs.PlaceSteps.{whole_proper, length-stored, stored_each, stored_unset}
 use Rattle.absdom.proofs.state.State.store.Goals as goal
