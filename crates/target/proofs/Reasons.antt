@@ -17,14 +17,18 @@ use Rattle.target.specs.declared.control.ControlData.{ControlData}
 use Rattle.target.specs.declared.refusal.LoadRefusal.{LoadRefusal}
 use Rattle.target.specs.declared.refusal.LoadRefusal.TheVariants.{Control, Slot, Image, Program as Unverified, GenerationsFull}
 use Rattle.target.specs.Loads.{IsUnpreparedBy, IsUnspelled, IsUnverified, control_fault, load_refusal_code, load_refusal_place, loaded_bytes, wants_image_memory, wants_verifier_memory}
-use Rattle.target.specs.Laws.{IsControlCode, RefusalsTellWhy, TellsWhy}
+use Rattle.target.specs.Laws.{IsControlCode, IsVerifierCode, RefusalsTellWhy, TellsWhy}
 use Rattle.target.proofs.Refusals.{control_faults, image_codes_few}
+
+-- a code above 18 is none of the verifier's
+not_verifier : (code : ℕ) → 19 ≤ code → IsVerifierCode code → ⊥
+not_verifier code high own = elim own [ inl low ↦ absurd (omega (arith, high, low)) | inr is ↦ absurd (omega (arith, high, is)) ]
 
 by_control : (control : ControlData) (staged : List ℕ) (count : ℕ) → control_fault control ≡ Some Control → TellsWhy control staged count Control
 by_control control staged count is = record {
   control_is_wrong = (λ e. inl refl, λ w. is);
   unspelled = λ low high. absurd (omega (arith, high));
-  spelled = λ low. absurd (omega (arith, low));
+  spelled = λ own. absurd (not_verifier _ (omega arith) own);
   full = λ e. absurd (omega (arith, e));
   unplaced = λ low other. refl;
   no_want = refl;
@@ -34,7 +38,7 @@ by_slot : (control : ControlData) (staged : List ℕ) (count : ℕ) → control_
 by_slot control staged count is = record {
   control_is_wrong = (λ e. inr refl, λ w. is);
   unspelled = λ low high. absurd (omega (arith, high));
-  spelled = λ low. absurd (omega (arith, low));
+  spelled = λ own. absurd (not_verifier _ (omega arith) own);
   full = λ e. absurd (omega (arith, e));
   unplaced = λ low other. refl;
   no_want = refl;
@@ -75,14 +79,14 @@ by_image control staged count fault none other spells_none =
     record {
       control_is_wrong = no_control control (Image fault) none (omega (arith, few)) (omega (arith, few));
       unspelled = λ low high. spells_none;
-      spelled = λ low. absurd (omega (arith, low));
+      spelled = λ own. absurd (not_verifier _ (omega arith) own);
       full = λ e. absurd (omega (arith, few, e));
       unplaced = λ low other. no_slot fault (λ e. absurd (other (ap (λ n. 32 + n) e)));
       no_want = image_wants_none fault other;
     }
 
--- the numbers of the verifier's refusals are at most 17
-refusal_codes_few : (r : Refusal) → refusal_code r ≤ 17
+-- the numbers of the verifier's refusals are at most 18
+refusal_codes_few : (r : Refusal) → refusal_code r ≤ 18
 refusal_codes_few refusals.Target = omega arith
 refusal_codes_few refusals.BackJump = omega arith
 refusal_codes_few refusals.LoopShape = omega arith
@@ -100,6 +104,7 @@ refusal_codes_few refusals.FallOff = omega arith
 refusal_codes_few refusals.Budget = omega arith
 refusal_codes_few refusals.Unsupported = omega arith
 refusal_codes_few refusals.Memory = omega arith
+refusal_codes_few refusals.MapKind = omega arith
 
 verifier_wants_none : (r : Refusal) → r ≢ refusals.Memory → wants_verifier_memory r ≡ false
 verifier_wants_none refusals.Target other = refl
@@ -119,6 +124,7 @@ verifier_wants_none refusals.FallOff other = refl
 verifier_wants_none refusals.Budget other = refl
 verifier_wants_none refusals.Unsupported other = refl
 verifier_wants_none refusals.Memory other = absurd (other refl)
+verifier_wants_none refusals.MapKind other = refl
 
 -- a slot where an instruction begins is one of the program's
 slot_within : (p : Program) (slot : ℕ) → IsSome (insn_at p slot) → slot < length p.slots
@@ -150,7 +156,7 @@ by_verifier known control staged count refused none is =
     record {
       control_is_wrong = no_control control (Unverified refused) none (omega (arith, few)) (omega (arith, few));
       unspelled = λ low high. absurd (omega (arith, few, low));
-      spelled = λ low. (is.program, is.is_program, is.spelled, placed known is.program refused is.is_program why other);
+      spelled = λ own. (is.program, is.is_program, is.spelled, placed known is.program refused is.is_program why other);
       full = λ e. absurd (omega (arith, few, e));
       unplaced = λ low other. absurd (omega (arith, few, low));
       no_want = verifier_wants_none refused.code other;
@@ -163,7 +169,7 @@ by_publishing : (control : ControlData) (staged : List ℕ) (count : ℕ) → co
 by_publishing control staged count none all = record {
   control_is_wrong = no_control control GenerationsFull none (omega arith) (omega arith);
   unspelled = λ low high. absurd (omega (arith, high));
-  spelled = λ low. absurd (omega (arith, low));
+  spelled = λ own. absurd (not_verifier _ (omega arith) own);
   full = λ e. all;
   unplaced = λ low other. refl;
   no_want = refl;

@@ -83,6 +83,7 @@ wants_verifier_memory refusals.FallOff = false
 wants_verifier_memory refusals.Budget = false
 wants_verifier_memory refusals.Unsupported = false
 wants_verifier_memory refusals.Memory = true
+wants_verifier_memory refusals.MapKind = false
 
 -- memory was refused to the image, to the verifier or to publishing
 abbrev pub wants_memory : LoadRefusal → Bool
