@@ -10,6 +10,7 @@ mod images;
 mod insns;
 mod jobs;
 mod packets;
+mod peaks;
 mod pieces;
 mod policies;
 mod ranges;
@@ -59,6 +60,9 @@ fn main(rt: HostRuntime) -> Result<(), Fail> {
     })?;
     compare(&rt, &mut out, "version2.txt", |alloc, given| {
         versions::answer(&rt, alloc, given)
+    })?;
+    compare(&rt, &mut out, "peaks.txt", |alloc, given| {
+        peaks::printed(&rt, alloc, given)
     })?;
     let printed = replies::printed(&rt, rt.alloc())?;
     compare_lines(&rt, &mut out, "replies.txt", &printed)
