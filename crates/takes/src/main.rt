@@ -1,20 +1,24 @@
-//! `takes`: how often a second programs are taken and published, packets are served through a pass, put into the
-//! queue of a port and taken from it, and served at ports that run at once. Without an argument it does few rounds and prints what was done; with a number
-//! of rounds it prints the rates too.
+//! `takes`: how often a second programs are taken and published, packets are served through a pass, put into the queue
+//! of a port and taken from it, tickets of a cell are drawn and a cell is raised by two threads, and packets are served at
+//! ports that run at once. Without an argument it does few rounds and prints what was done; with a number of rounds it
+//! prints the rates too.
 #![tactic(auto)]
 
 mod packets;
 mod queues;
 mod serves;
+mod words;
 
 ghost use Rattle.std.specs.Prelude.{◌≡◌, IfSome};
 
 use crate::packets::Port;
 use crate::queues::put_and_take;
 use crate::serves::serve_writes;
+use crate::words::ask;
 use anyhow::{Context, Result};
 use bpf::Image;
 use bver::{Accepted, MapSizes, verify};
+use machine::MapKind;
 use publish::{Opened, Programs, Publisher, Reader, Room};
 use std::alloc::Global;
 use std::env;
@@ -192,6 +196,23 @@ fn measure_queue<R: Wait + Clock + Print>(
     )
 }
 
+/// Draws tickets of one cell in two threads, and raises one.
+fn measure_words<R: Threads + Clock + Print + Sync>(
+    rt: &R,
+    alloc: Global,
+    rounds: Option<u32>,
+) -> Result<()> {
+    for (what, kind) in [
+        ("tickets of one cell on two threads", MapKind::Counter),
+        ("peaks of one cell on two threads", MapKind::Peak),
+    ] {
+        let start = Instant::now(rt)?;
+        let asked = ask(rt, alloc, kind, rounds.unwrap_or(FEW))?;
+        print(rt, what, asked, &start, rounds.is_some())?;
+    }
+    Ok(())
+}
+
 /// How often full ports are served where rates are asked for.
 const SERVES: u32 = 50;
 
@@ -263,5 +284,6 @@ fn main(rt: HostRuntime) -> Result<()> {
     measure::<Brand, _>(&rt, rt.alloc(), Opened::new(), rounds)?;
     measure_packets::<Brand, _>(&rt, rt.alloc(), Opened::new(), rounds)?;
     measure_queue(&rt, rt.alloc(), rounds)?;
+    measure_words(&rt, rt.alloc(), rounds)?;
     measure_serves(&rt, rt.alloc(), rounds.is_some())
 }
