@@ -333,9 +333,9 @@ publish_refused w port p there below none n h world = record {
 -- ---- what a refusal tells
 
 -- where memory was not wanted, a load was refused for what was staged
-pub not_wanted : (control : ControlData) (bytes : List ℕ) (refusal : LoadRefusal) → IsUnprepared control bytes refusal ⊎ WantsToPrepare control bytes refusal → wants_memory refusal ≡ false → IsUnprepared control bytes refusal
-not_wanted control bytes refusal (inl why) no_want = why
-not_wanted control bytes refusal (inr wants) no_want = absurd (wanted control bytes refusal wants no_want)
+pub not_wanted : (control : ControlData) (bytes : List ℕ) (sizes : Maps) (refusal : LoadRefusal) → IsUnprepared control bytes sizes refusal ⊎ WantsToPrepare control bytes refusal → wants_memory refusal ≡ false → IsUnprepared control bytes sizes refusal
+not_wanted control bytes sizes refusal (inl why) no_want = why
+not_wanted control bytes sizes refusal (inr wants) no_want = absurd (wanted control bytes refusal wants no_want)
   where
     wanted : (control : ControlData) (bytes : List ℕ) (refusal : LoadRefusal) → WantsToPrepare control bytes refusal → wants_memory refusal ≡ false → ⊥
     wanted control bytes refusal (loading.of_image right is) no_want = let clash : true ≡ false = sym (ap wants_memory is) ∙ no_want in absurd cc
