@@ -46,13 +46,13 @@ length_alike word ds es same = length_tickets word es ∙ same (λ d. cond (is_t
 
 -- a word that counts some draws counts the same in another order
 pub counted_alike : (word value : ℕ) (ds es : List Draw) → AreAlike ds es
-    → ((n : ℕ) → All (IsBehind word n) ds → All (IsBehind word n) es) → IsCounted word value ds → IsCounted word value es
-counted_alike word value ds es same behind h =
+    → ((P : Draw → Type 0) → All P ds → All P es) → IsCounted word value ds → IsCounted word value es
+counted_alike word value ds es same facts h =
     let n : length (tickets word es) ≡ length (tickets word ds) = length_alike word ds es same in record {
       counts = h.counts ∙ ap (λ (k : ℕ). k % 2 ^ 64) (sym n);
       each_once = λ number. times_tickets word number es ∙ same (λ d. cond (is_numbered word number d) 1 0) ∙ sym (times_tickets word number ds)
           ∙ h.each_once number ∙ ap (λ (k : ℕ). cond (nat_lt number k) 1 0) (sym n);
-      behind = subst (λ (k : ℕ). All (IsBehind word k) es) (sym n) (behind _ h.behind);
+      behind = subst (λ (k : ℕ). All (IsBehind word k) es) (sym n) (facts (IsBehind word (length (tickets word ds))) h.behind);
     }
 
 -- the tickets with one draw more
@@ -85,9 +85,9 @@ counted_other word value ds d apart h =
 
 -- an answer of `count`
 pub counted_count : (word value answer : ℕ) (ds : List Draw) → IsCounted word value ds
-    → IsCounted word value (ds ++ draw 1 word (length (tickets word ds)) answer ∷ [])
+    → IsCounted word value (ds ++ draw 1 word 0 (length (tickets word ds)) answer ∷ [])
 counted_count word value answer ds h =
-    let d = draw 1 word (length (tickets word ds)) answer in
+    let d = draw 1 word 0 (length (tickets word ds)) answer in
     counted_same word value ds d (tickets_same word ds d refl) (λ here. omega arith) h
 
 one_more : (number n : ℕ) → cond (nat_lt number n) 1 0 + cond (n == number) 1 0 ≡ cond (nat_lt number (n + 1)) 1 0
@@ -98,10 +98,10 @@ later h = omega arith
 
 -- an answer of `ticket`
 pub counted_ticket : (word value answer : ℕ) (ds : List Draw) → IsCounted word value ds
-    → IsCounted word ((value + 1) % 2 ^ 64) (ds ++ draw 2 word (length (tickets word ds)) answer ∷ [])
+    → IsCounted word ((value + 1) % 2 ^ 64) (ds ++ draw 2 word 0 (length (tickets word ds)) answer ∷ [])
 counted_ticket word value answer ds h =
     let n = length (tickets word ds) in
-    let d : Draw = draw 2 word n answer in
+    let d : Draw = draw 2 word 0 n answer in
     let more : tickets word (ds ++ d ∷ []) ≡ tickets word ds ++ n ∷ [] =
     tickets_push word ds d ∙ ap (λ (b : Bool). tickets word ds ++ map (λ (d : Draw). d.exact) (cond b (d ∷ []) [])) (eq-eqb word word refl) in
     let long : length (tickets word (ds ++ d ∷ [])) ≡ n + 1 = ap length more ∙ length-append (tickets word ds) (n ∷ []) in

@@ -7,6 +7,7 @@ use mathlib.Core.Option.{some, some-injective, some-ne-none}
 use lib.ListN.{get_elem?}
 use Rattle.cells.specs.declared.hands.Draw.{Draw}
 use Rattle.cells.specs.declared.hands.Hand.{Hand}
+use Rattle.machine.specs.Sizes.{Maps}
 use Rattle.cells.specs.Counting.{hand, all_draws}
 
 -- a sum over hands, after a change of one
@@ -32,9 +33,9 @@ sum_draws_set f (h ∷ hs) (suc i) v w e =
     omega (arith, sum_by-append f h.draws (all_draws (set hs i w)), sum_by-append f h.draws (all_draws hs))
 
 -- a hand without draws adds none
-pub draws_snoc : (hands : List Hand) (parts : ℕ) → all_draws (hands ++ hand parts [] ∷ []) ≡ all_draws hands
-draws_snoc [] parts = refl
-draws_snoc (h ∷ hs) parts = ap (λ (l : List Draw). h.draws ++ l) (draws_snoc hs parts)
+pub draws_snoc : (hands : List Hand) (maps : Maps) (parts : ℕ) → all_draws (hands ++ hand maps parts [] ∷ []) ≡ all_draws hands
+draws_snoc [] maps parts = refl
+draws_snoc (h ∷ hs) maps parts = ap (λ (l : List Draw). h.draws ++ l) (draws_snoc hs maps parts)
 
 -- where no hand has parts, and those without parts have no draws, there are no draws
 pub no_draws : (hands : List Hand) → sum_by (λ (h : Hand). h.parts) hands ≡ 0

@@ -3,35 +3,36 @@ use Rattle.std.specs.Prelude.{ℕ, ◌≡◌, ◌+◌, ◌%◌, ◌^◌, ◌<◌
 use base.Stored.{Gv}
 use Rattle.atomic_table.specs.Seated.{TableId}
 use Rattle.atomic_table.specs.declared.shared.Seat.{Seat}
-use Rattle.machine.specs.Sizes.{AreSizes}
+use Rattle.machine.specs.Sizes.{Maps, AreSizes, kind_of_map}
 use Rattle.machine.specs.declared.calls.Call.{Call}
+use Rattle.machine.specs.declared.kinds.MapKind.TheVariants.{Counter}
 use Rattle.machine.specs.Runs.{call}
 use Rattle.machine.specs.Step.{question}
 use Rattle.cells.specs.declared.hands.Draw.{Draw}
 use Rattle.cells.specs.declared.hands.Hand.{Hand}
-use Rattle.cells.specs.Draws.{calls_of, tickets_of, word_of, AreNumbersBelow}
+use Rattle.cells.specs.Draws.{calls_of, tickets_of, word_of, kind_at, AreNumbersBelow, IsGreatest}
 use Rattle.cells.specs.Counting.{IsDrawn}
 
--- a seat: the sizes of the maps, the name of its table, and what it drew
+-- a seat: the maps, the name of its table, and what it drew
 pub record CellSeatValue : Type 0 where
-  pub sizes : List ℕ
+  pub sizes : Maps
   pub home : Gv
   pub draws : List Draw
 
--- a seat of that table, for maps of those sizes, with those draws
-abbrev pub seat : List ℕ → Gv → List Draw → CellSeatValue
+-- a seat of that table, for those maps, with those draws
+abbrev pub seat : Maps → Gv → List Draw → CellSeatValue
 seat sizes home draws = record { sizes = sizes; home = home; draws = draws }
 
--- the cells: the sizes of the maps, the name of their table, how many of the 256 parts are not with seats, and
+-- the cells: the maps, the name of their table, how many of the 256 parts are not with seats, and
 -- what the seats drew that came back
 pub record CellsValue : Type 0 where
-  pub sizes : List ℕ
+  pub sizes : Maps
   pub home : Gv
   pub parts : ℕ
   pub draws : List Draw
 
--- the cells of that table, for maps of those sizes, with so many parts and those draws
-abbrev pub cells : List ℕ → Gv → ℕ → List Draw → CellsValue
+-- the cells of that table, for those maps, with so many parts and those draws
+abbrev pub cells : Maps → Gv → ℕ → List Draw → CellsValue
 cells sizes home parts draws = record { sizes = sizes; home = home; parts = parts; draws = draws }
 
 -- the seat is one of these cells
@@ -47,12 +48,12 @@ IsWhole it = it.parts ≡ 256
 abbrev pub calls : CellSeatValue → List Call
 calls s = calls_of s.sizes s.draws
 
--- the seat asked once more: a helper answered it, and counted as the rule of the words says
-pub record Asks (helper map key : ℕ) (before : CellSeatValue) (answer : ℕ) (after : CellSeatValue) : Type 0 where
-  pub asked : calls after ≡ calls before ++ call (question helper map key) answer ∷ []
+-- the seat asked once more: a helper answered it, and drew as the rule of the words says
+pub record Asks (helper map key argument : ℕ) (before : CellSeatValue) (answer : ℕ) (after : CellSeatValue) : Type 0 where
+  pub asked : calls after ≡ calls before ++ call (question helper map key argument) answer ∷ []
   pub sizes : after.sizes ≡ before.sizes
   pub home : after.home ≡ before.home
-  pub drawn : IsDrawn helper (word_of before.sizes map key) before.draws answer after.draws
+  pub drawn : IsDrawn (kind_of_map before.sizes map) helper (word_of before.sizes map key) argument before.draws answer after.draws
 
 -- the cells where that seat came back
 abbrev pub cells_with : CellsValue → CellSeatValue → CellsValue
@@ -67,20 +68,25 @@ abbrev pub AreNumbered : CellsValue → (map key n : ℕ) → Type 0
 AreNumbered it map key n =
     let tickets = tickets_of map key (calls_back it) in length tickets < 2 ^ 64 → AreNumbersBelow n tickets
 
--- the draw is of one of these cells, and its answer is its number modulo 2^64
-abbrev pub IsOf : List ℕ → Draw → Type 0
-IsOf sizes d = (d.word < sum sizes) × (d.answer ≡ d.exact % 2 ^ 64)
+-- the number is the greatest argument of the calls that came back and asked a cell, 0 where there is none
+abbrev pub IsHighest : CellsValue → (map key n : ℕ) → Type 0
+IsHighest it map key n = IsGreatest map key n (calls_back it)
 
--- each draw is of one of the cells, and its answer is its number modulo 2^64
-abbrev pub AreOf : List ℕ → List Draw → Type 0
-AreOf sizes draws = All (IsOf sizes) draws
+-- the draw is of one of these cells, and its answer is its number modulo 2^64, where the cell counts
+abbrev pub IsOf : Maps → Draw → Type 0
+IsOf maps d = (d.word < sum maps.cells) × (kind_at maps d.word ≡ Counter → d.answer ≡ d.exact % 2 ^ 64)
+
+-- each draw is of one of the cells, and its answer is its number modulo 2^64, where the cell counts
+abbrev pub AreOf : Maps → List Draw → Type 0
+AreOf maps draws = All (IsOf maps) draws
 
 -- the place stands in a table of these cells, which has one word more; it has no slots, and its draws are of
 -- these cells
-pub record IsPlaced (sizes about : List ℕ) (table : TableId) (place : Seat (Unit {0}) Hand) : Type 0 where
-  pub limits : AreSizes sizes
-  pub key : about ≡ sizes
-  pub words : table.words ≡ sum sizes + 1
+pub record IsPlaced (maps about : Maps) (table : TableId) (place : Seat (Unit {0}) Hand) : Type 0 where
+  pub limits : AreSizes maps
+  pub key : about ≡ maps
+  pub words : table.words ≡ sum maps.cells + 1
   pub home : place.table_id ≡ table
   pub slots : place.me.1 ≡ []
-  pub draws : AreOf sizes place.me.0.draws
+  pub hand : place.me.0.maps ≡ maps
+  pub draws : AreOf maps place.me.0.draws

@@ -1,15 +1,16 @@
 //! All cells of a node.
 
-ghost use Rattle.std.specs.Prelude.{◌≡◌, ◌-◌, ◌<◌, ◌++◌, [], IfOk, replicate};
+ghost use Rattle.std.specs.Prelude.{◌≡◌, ◌-◌, ◌<◌, ◌++◌, [], All, IfOk, replicate};
 ghost use Rattle.std.specs.Arc.{arc_value};
 ghost use Rattle.atomic_table.specs.Seated.{table_id_coded};
-ghost use Rattle.machine.specs.Sizes.{IsInside};
-ghost use Rattle.cells.specs.Counting.{hand, IsAhead, IsCounted};
-ghost use Rattle.cells.specs.Draws.{word_of};
-ghost use Rattle.cells.specs.Seats.{seat, calls, calls_back, cells, cells_with, AreNumbered, IsPlaced, IsSeatOf, IsWhole};
+ghost use Rattle.machine.specs.Sizes.{IsInside, kind_of_map};
+ghost use Rattle.machine.specs.declared.kinds.MapKind.TheVariants.{Counter, Peak};
+ghost use Rattle.cells.specs.Counting.{hand, IsAhead, IsCounted, IsPeak};
+ghost use Rattle.cells.specs.Draws.{word_of, IsUnder};
+ghost use Rattle.cells.specs.Seats.{seat, calls, calls_back, cells, cells_with, AreNumbered, IsHighest, IsPlaced, IsSeatOf, IsWhole};
 
 use crate::hands::Hand;
-use crate::rule::{Parts, Totals, Words};
+use crate::rule::{Heights, Parts, Totals, Words};
 use crate::seats::CellSeat;
 use crate::words::{first_word, word_at};
 use atomic_table::{Seat, Table};
@@ -48,11 +49,11 @@ fn zeros() -> [u64; MOST]
     [0; MOST]
 }
 
-/// The words of maps of these sizes, each 0, and the one place in them, which has all parts.
+/// The words of these maps, each 0, and the one place in them, which has all parts.
 fn words(alloc: Global, sizes: &MapSizes) -> Result<(Words, Seat<(), Hand>), AllocError>
     ensures placed { IfOk result
         (λ made. IsPlaced sizes.now made.0.shared.key made.0.shared.table_id made.1) }
-    ensures whole { IfOk result (λ made. made.1.me.0 ≡ hand 256 []) }
+    ensures whole { IfOk result (λ made. made.1.me.0 ≡ hand sizes.now 256 []) }
 {
     let zeros = zeros();
     let zeros: &[u64] = &zeros;
@@ -74,7 +75,7 @@ fn new_seat(
         (λ s. s ≡ seat sizes.now (table_id_coded.code rest.old.table_id) []) }
     ensures home { rest.new.table_id ≡ rest.old.table_id }
     ensures slots { rest.new.me.1 ≡ [] }
-    ensures rest { IfOk result (λ s. rest.new.me.0 ≡ hand (rest.old.me.0.parts - 1) []) }
+    ensures rest { IfOk result (λ s. rest.new.me.0 ≡ hand sizes.now (rest.old.me.0.parts - 1) []) }
 {
     let shared = Arc::try_clone(words)?;
     let place = words.shared.split_seat::<Parts>(rest);
@@ -86,7 +87,7 @@ fn new_seat(
 }
 
 impl Cells {
-    /// The cells of maps of these sizes, each 0, and so many seats. No more memory is asked for afterwards.
+    /// The cells of these maps, each 0, and so many seats. No more memory is asked for afterwards.
     ///
     /// # Errors
     ///
@@ -126,12 +127,14 @@ impl Cells {
         self.words.shared.join_seat::<Parts>(&mut self.rest, place);
     }
 
-    /// How many tickets were drawn from a cell, modulo 2^64: one load of its word, by whoever takes the cells
-    /// apart. It is no call of a program, and no seat's.
+    /// How many tickets were drawn from a cell of a counter map, modulo 2^64: one load of its word, by whoever
+    /// takes the cells apart. It is no call of a program, and no seat's.
     ///
-    /// The map and the key have to be inside the sizes, which `MapSizes::contains` tests.
+    /// The map and the key have to be inside the sizes, which `MapSizes::contains` tests; `MapSizes::kind` tells
+    /// the map's kind.
     pub fn drawn(&mut self, map: u8, key: u16) -> u64
-        requires { IsInside self.old.sizes map key }
+        requires inside { IsInside self.old.sizes map key }
+        requires kind { kind_of_map self.old.sizes map ≡ Counter }
         ensures same { self.new ≡ self.old }
         ensures ahead { IsAhead (word_of self.old.sizes map key) result self.old.draws }
         ensures counted { IsWhole self.old
@@ -140,5 +143,23 @@ impl Cells {
     {
         let word = word_at(&self.sizes, map, key);
         self.words.shared.load::<Totals>(&mut self.rest, word)
+    }
+
+    /// What a cell of a peak map was raised to, 0 where it never was: one load of its word, by whoever takes the
+    /// cells apart. It is no call of a program, and no seat's.
+    ///
+    /// The map and the key have to be inside the sizes, which `MapSizes::contains` tests; `MapSizes::kind` tells
+    /// the map's kind.
+    pub fn highest(&mut self, map: u8, key: u16) -> u64
+        requires inside { IsInside self.old.sizes map key }
+        requires kind { kind_of_map self.old.sizes map ≡ Peak }
+        ensures same { self.new ≡ self.old }
+        ensures above { All (IsUnder (word_of self.old.sizes map key) result) self.old.draws }
+        ensures peak { IsWhole self.old
+            → IsPeak (word_of self.old.sizes map key) result self.old.draws }
+        ensures calls { IsWhole self.old → IsHighest self.old map key result }
+    {
+        let word = word_at(&self.sizes, map, key);
+        self.words.shared.load::<Heights>(&mut self.rest, word)
     }
 }

@@ -8,7 +8,7 @@ use std::alloc::Global;
 /// The words, in a table that has no slots.
 pub(crate) type Words = Table<(), Hand, MapSizes, Ruled, Global>;
 
-/// The rule of the words, for maps of these sizes.
+/// The rule of the words, for these maps.
 pub(crate) struct Ruled;
 
 impl TableRule<(), Hand, MapSizes> for Ruled {
@@ -17,7 +17,7 @@ impl TableRule<(), Hand, MapSizes> for Ruled {
 
     ghost holds = { IsTable };
 
-    ghost first = { λ sizes. hand 256 [] };
+    ghost first = { λ maps. hand maps 256 [] };
 }
 
 /// A step that answers `count`.
@@ -38,6 +38,15 @@ impl Play<(), Hand> for Tickets {
     ghost then = { Answers 2 };
 }
 
+/// A step that answers `peak`.
+pub(crate) struct Peaks;
+
+impl Play<(), Hand> for Peaks {
+    ghost use Rattle.cells.specs.Counting.{Raises};
+
+    ghost then = { Raises };
+}
+
 /// A step that tells how many tickets were drawn.
 pub(crate) struct Totals;
 
@@ -47,6 +56,15 @@ impl Play<(), Hand> for Totals {
     ghost then = { Tells };
 }
 
+/// A step that tells what a word was raised to.
+pub(crate) struct Heights;
+
+impl Play<(), Hand> for Heights {
+    ghost use Rattle.cells.specs.Counting.{TellsPeak};
+
+    ghost then = { TellsPeak };
+}
+
 /// A seat gives one of its parts to a new one.
 pub(crate) struct Parts;
 
@@ -54,16 +72,16 @@ impl Split<Hand> for Parts {
     ghost use Rattle.std.specs.Prelude.{◌-◌, []};
     ghost use Rattle.cells.specs.Counting.{hand};
 
-    ghost left = { λ h. hand (h.parts - 1) h.draws };
+    ghost left = { λ h. hand h.maps (h.parts - 1) h.draws };
 
-    ghost right = { λ h. hand 1 [] };
+    ghost right = { λ h. hand h.maps 1 [] };
 }
 
 impl Join<Hand> for Parts {
-    ghost use Rattle.std.specs.Prelude.{◌+◌, ◌++◌, []};
-    ghost use Rattle.cells.specs.Counting.{hand};
+    ghost use Rattle.std.specs.Prelude.{◌+◌, ◌++◌};
+    ghost use Rattle.cells.specs.Counting.{hand, spent_hand};
 
-    ghost both = { λ h other. hand (h.parts + other.parts) (h.draws ++ other.draws) };
+    ghost both = { λ h other. hand h.maps (h.parts + other.parts) (h.draws ++ other.draws) };
 
-    ghost spent = { hand 0 [] };
+    ghost spent = { spent_hand };
 }

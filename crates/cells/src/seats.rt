@@ -1,12 +1,13 @@
-//! A seat, by which a thread counts.
+//! A seat, by which a thread counts and raises.
 
-ghost use Rattle.std.specs.Prelude.{◌≡◌};
+ghost use Rattle.std.specs.Prelude.{◌≡◌, max};
 ghost use Rattle.std.specs.Arc.{arc_value};
-ghost use Rattle.machine.specs.Sizes.{AreSizes, IsInside};
+ghost use Rattle.machine.specs.Sizes.{AreSizes, IsInside, kind_of_map};
+ghost use Rattle.machine.specs.declared.kinds.MapKind.TheVariants.{Counter, Peak};
 ghost use Rattle.cells.specs.Seats.{Asks};
 
 use crate::hands::Hand;
-use crate::rule::{Counts, Tickets, Words};
+use crate::rule::{Counts, Peaks, Tickets, Words};
 use crate::words::word_at;
 use atomic_table::Seat;
 use brun::Counters;
@@ -14,11 +15,11 @@ use machine::MapSizes;
 use std::marker::Model;
 use std::sync::Arc;
 
-/// A seat, by which a thread counts. Contracts see it as the sizes of the maps, the name of its table, and what
-/// it drew.
+/// A seat, by which a thread counts and raises. Contracts see it as the maps, the name of its table, and what it
+/// drew.
 ///
 /// A seat that is dropped takes along what is known of its tickets: their numbers are simply missing among
-/// those of the others.
+/// those of the others. What it raised stays in the words.
 #[derive(Drop)]
 pub struct CellSeat {
     pub(crate) sizes: MapSizes,
@@ -44,7 +45,7 @@ impl CellSeat {
     /// One load of the word of a cell.
     fn load(&mut self, map: u8, key: u16) -> u64
         requires { IsInside self.old.sizes map key }
-        ensures asks { Asks 1 map key self.old result self.new }
+        ensures asks { Asks 1 map key 0 self.old result self.new }
     {
         let word = word_at(&self.sizes, map, key);
         self.words.shared.load::<Counts>(&mut self.place, word)
@@ -52,13 +53,26 @@ impl CellSeat {
 
     /// One `fetch_add` of the word of a cell.
     fn fetch_add(&mut self, map: u8, key: u16) -> u64
-        requires { IsInside self.old.sizes map key }
-        ensures asks { Asks 2 map key self.old result self.new }
+        requires inside { IsInside self.old.sizes map key }
+        requires kind { kind_of_map self.old.sizes map ≡ Counter }
+        ensures asks { Asks 2 map key 0 self.old result self.new }
     {
         let word = word_at(&self.sizes, map, key);
         self.words
             .shared
             .fetch_add::<Tickets>(&mut self.place, word, 1)
+    }
+
+    /// One `fetch_max` of the word of a cell. It tells what the word was before it.
+    fn fetch_max(&mut self, map: u8, key: u16, value: u64) -> u64
+        requires inside { IsInside self.old.sizes map key }
+        requires kind { kind_of_map self.old.sizes map ≡ Peak }
+        ensures asks { Asks 3 map key value self.old (max result value) self.new }
+    {
+        let word = word_at(&self.sizes, map, key);
+        self.words
+            .shared
+            .fetch_max::<Peaks>(&mut self.place, word, value)
     }
 }
 
@@ -80,15 +94,25 @@ impl Counters for CellSeat {
 
     fn count(&mut self, map: u8, key: u16) -> u64
         requires { IsInside self.old.sizes map key }
-        ensures asks { Asks 1 map key self.old result self.new }
+        ensures asks { Asks 1 map key 0 self.old result self.new }
     {
         self.load(map, key)
     }
 
     fn ticket(&mut self, map: u8, key: u16) -> u64
-        requires { IsInside self.old.sizes map key }
-        ensures asks { Asks 2 map key self.old result self.new }
+        requires inside { IsInside self.old.sizes map key }
+        requires kind { kind_of_map self.old.sizes map ≡ Counter }
+        ensures asks { Asks 2 map key 0 self.old result self.new }
     {
         self.fetch_add(map, key)
+    }
+
+    fn peak(&mut self, map: u8, key: u16, value: u64) -> u64
+        requires inside { IsInside self.old.sizes map key }
+        requires kind { kind_of_map self.old.sizes map ≡ Peak }
+        ensures asks { Asks 3 map key value self.old result self.new }
+    {
+        let found = self.fetch_max(map, key, value);
+        found.max(value)
     }
 }

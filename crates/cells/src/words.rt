@@ -8,8 +8,8 @@ use machine::MapSizes;
 
 /// How many cells the maps have before this one, or all maps where it is the number of maps.
 pub(crate) fn first_word(sizes: &MapSizes, map: u8) -> usize
-    requires { map ≤ length sizes.now }
-    ensures word { result ≡ sum (take map sizes.now) }
+    requires { map ≤ length sizes.now.cells }
+    ensures word { result ≡ sum (take map sizes.now.cells) }
     ensures few { result ≤ 256 }
 {
     sizes.stand_limited();
@@ -24,7 +24,7 @@ pub(crate) fn first_word(sizes: &MapSizes, map: u8) -> usize
 pub(crate) fn word_at(sizes: &MapSizes, map: u8, key: u16) -> usize
     requires { IsInside sizes.now map key }
     ensures word { result ≡ word_of sizes.now map key }
-    ensures inside { result < sum sizes.now }
+    ensures inside { result < sum sizes.now.cells }
 {
     first_word(sizes, map) + usize::from(key)
 }

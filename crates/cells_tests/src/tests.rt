@@ -1,19 +1,32 @@
-//! Counter words: seats of one thread, and seats in threads.
+//! Words of cells: seats of one thread, and seats in threads.
 
 ghost use Rattle.std.specs.Prelude.{◌≡◌, ◌+◌, All, vec_len};
+ghost use Rattle.machine.specs.Sizes.{kind_of_map};
 ghost use Rattle.cells.specs.Seats.{IsSeatOf};
 
+mod peaks;
 mod places;
 mod threads;
 
 use brun::Counters;
 use cells::{CellSeat, Cells};
+use machine::{MapKind, MapSizes};
 use std::fmt::Debug;
 use std::process::Abort;
 
 /// Ends the test where what was found is not what is wanted. `what` says of which call it is.
 fn same<T: Copy + PartialEq + Debug>(rt: &impl Abort, what: &str, found: T, wanted: T) {
     assert_eq!(rt; found, wanted, "at {what}");
+}
+
+/// Of which kind the map is.
+fn kind_of(sizes: &MapSizes, map: u8) -> MapKind
+    ensures { result ≡ kind_of_map sizes.now map }
+{
+    match sizes.kind(map) {
+        Some(kind) => kind,
+        None => MapKind::Counter,
+    }
 }
 
 /// The answer of `count`, where there is the cell.
@@ -24,12 +37,42 @@ fn count(seat: &mut CellSeat, map: u8, key: u16) -> Option<u64> {
     Some(seat.count(map, key))
 }
 
-/// A ticket, where there is the cell.
+/// A ticket, where there is the cell, in a counter map.
 fn ticket(seat: &mut CellSeat, map: u8, key: u16) -> Option<u64> {
-    if !seat.sizes().contains(map, key) {
+    let sizes = seat.sizes();
+    if !sizes.contains(map, key) {
         return None;
     }
-    Some(seat.ticket(map, key))
+    match kind_of(&sizes, map) {
+        MapKind::Counter => Some(seat.ticket(map, key)),
+        MapKind::Peak => None,
+    }
+}
+
+/// The answer of `peak`, where there is the cell, in a peak map.
+fn peak(seat: &mut CellSeat, map: u8, key: u16, value: u64) -> Option<u64> {
+    let sizes = seat.sizes();
+    if !sizes.contains(map, key) {
+        return None;
+    }
+    match kind_of(&sizes, map) {
+        MapKind::Counter => None,
+        MapKind::Peak => Some(seat.peak(map, key, value)),
+    }
+}
+
+/// How many tickets were drawn, or what the cell was raised to, by the kind of its map; the maps are those of the cells.
+fn found(cells: &mut Cells, sizes: &MapSizes, map: u8, key: u16) -> Option<u64>
+    requires { cells.old.sizes ≡ sizes.now }
+    ensures sizes { cells.new.sizes ≡ cells.old.sizes }
+{
+    if !sizes.contains(map, key) {
+        return None;
+    }
+    match kind_of(sizes, map) {
+        MapKind::Counter => Some(cells.drawn(map, key)),
+        MapKind::Peak => Some(cells.highest(map, key)),
+    }
 }
 
 /// Gives the seats back.

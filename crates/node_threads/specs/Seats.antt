@@ -1,11 +1,12 @@
 -- Of which cells the seat of a port is.
-use Rattle.std.specs.Prelude.{◌≡◌, ℕ, List}
+use Rattle.std.specs.Prelude.{◌≡◌}
 use base.Stored.{Gv}
+use Rattle.machine.specs.Sizes.{Maps}
 use Rattle.target.specs.Passes.{SeatValue}
 use Rattle.cells.specs.Seats.{CellsValue}
 
--- the sizes of the maps that a seat counts in, and the name of their cells: no call changes them
-abbrev pub maps_of : SeatValue → List ℕ × Gv
+-- the maps that a seat asks, and the name of their cells: no call changes them
+abbrev pub maps_of : SeatValue → Maps × Gv
 maps_of s = (s.sizes, s.home)
 
 -- the seat is one of these cells

@@ -1,6 +1,7 @@
 -- What a table of programs shows.
 use mathlib.Core.List.{IsPrefix}
 use Rattle.std.proofs.Common.{◌≡◌, ℕ, zero, suc, ◌+◌, ◌<◌, ◌==◌, Bool, true, false, List, [], ◌∷◌, ◌++◌, length, Option, Some, slice_index_or, slice_set, cond, refl, ap, sym, ◌∙◌, subst, arith}
+use Rattle.machine.specs.Sizes.{Maps}
 use Rattle.bver.specs.Justified.{AcceptedValue}
 use Rattle.publish.specs.declared.history.Publish.{Publish}
 use Rattle.publish.specs.declared.table.Shown.{Shown}
@@ -81,11 +82,11 @@ pub sizes_grow : (xs ys : List Publish) → 0 < length xs → IsPrefix xs ys →
 sizes_grow [] ys some pre = absurd (omega arith)
 sizes_grow (x ∷ xs) ys some pre = ap sizes_of (sym pre.1)
 
-pub for_snoc : (sizes : List ℕ) (ps : List Publish) (p : Publish) → AreFor sizes ps → p.program.sizes ≡ sizes → AreFor sizes (ps ++ p ∷ [])
+pub for_snoc : (sizes : Maps) (ps : List Publish) (p : Publish) → AreFor sizes ps → p.program.sizes ≡ sizes → AreFor sizes (ps ++ p ∷ [])
 for_snoc sizes [] p are is = (is, tt)
 for_snoc sizes (q ∷ ps) p are is = (are.0, for_snoc sizes ps p are.1 is)
 
-from_for : (sizes : List ℕ) (best : AcceptedValue × ℕ) (next : ℕ) (ps : List Publish) (k : ℕ) → best.0.sizes ≡ sizes → AreFor sizes ps → (judging_from best next ps k).0.sizes ≡ sizes
+from_for : (sizes : Maps) (best : AcceptedValue × ℕ) (next : ℕ) (ps : List Publish) (k : ℕ) → best.0.sizes ≡ sizes → AreFor sizes ps → (judging_from best next ps k).0.sizes ≡ sizes
 from_for sizes best next [] k is are = is
 from_for sizes best next (p ∷ ps) k is are = from_for sizes (cond (p.slot == k) (p.program, next) best) (next + 1) ps k (pick (p.slot == k)) are.1
   where

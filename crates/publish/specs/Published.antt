@@ -1,6 +1,7 @@
 -- Which program judges.
 use Rattle.std.specs.Prelude.{ℕ, ◌≡◌, ◌==◌, ◌+◌, List, [], ◌∷◌, Option, Some, None, cond}
 use Rattle.core.specs.Option.{option_map}
+use Rattle.machine.specs.Sizes.{Maps}
 use Rattle.bver.specs.Justified.{AcceptedValue}
 use Rattle.publish.specs.declared.history.Publish.{Publish}
 
@@ -24,12 +25,12 @@ program_at history slot = option_map (λ p. p.0) (judging_program history slot)
 abbrev pub generation_at : List Publish → ℕ → Option ℕ
 generation_at history slot = option_map (λ p. p.1) (judging_program history slot)
 
--- the sizes of the maps of a node: those of its factory program
-abbrev pub sizes_of : List Publish → List ℕ
-sizes_of [] = []
+-- the maps of a node: those of its factory program
+abbrev pub sizes_of : List Publish → Maps
+sizes_of [] = record { cells = []; kinds = [] }
 sizes_of (f ∷ ps) = f.program.sizes
 
--- each program was accepted for those sizes
-abbrev pub AreFor : List ℕ → List Publish → Type 0
+-- each program was accepted for those maps
+abbrev pub AreFor : Maps → List Publish → Type 0
 AreFor sizes [] = Unit {0}
 AreFor sizes (p ∷ ps) = (p.program.sizes ≡ sizes) × AreFor sizes ps

@@ -54,7 +54,7 @@ impl<J: Room, R: Wait + Drop> Drop for Publisher<J, R> {
 }
 
 impl<J: Room, R: Wait + Drop> Publisher<J, R> {
-    /// The sizes of the maps for which each program was accepted: those of the factory program.
+    /// The maps for which each program was accepted, with their kinds: those of the factory program.
     pub fn sizes(&self) -> MapSizes
         ensures { result ≡ sizes_of self.now }
     {

@@ -93,7 +93,7 @@ impl<J: Room> Reader<J> {
         &self.known
     }
 
-    /// The sizes of the maps for which each program was accepted.
+    /// The maps for which each program was accepted, with their kinds.
     pub fn sizes(&self) -> MapSizes
         ensures { result ≡ sizes_of self.now.programs }
     {

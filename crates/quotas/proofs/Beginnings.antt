@@ -3,12 +3,12 @@ use Rattle.std.specs.Prelude.{◌&&◌, ◌==◌, if◌then◌else◌, ◌%◌, 
 use Rattle.std.proofs.Common.{◌≡◌, ◌<◌, ◌≤◌, ◌+◌, ◌⊎◌, ℕ, Bool, true, false, Option, Some, None, refl, sym, ap, ap₂, ◌∙◌, arith, inl, inr}
 use Rattle.std.proofs.lemmas.Bool.{and_from, and_parts, cases_lt, eqb-true}
 use Rattle.sched.specs.declared.event.Event.{Event}
-use Rattle.sched.specs.declared.event.Event.TheVariants.{Take, Count, Ticket, Effect, Publish}
+use Rattle.sched.specs.declared.event.Event.TheVariants.{Take, Count, Ticket, Peak, Effect, Publish}
 use Rattle.sched.specs.declared.event.Outcome.{Outcome}
 use Rattle.sched.specs.declared.event.Outcome.TheVariants.{Told}
 use Rattle.sched.specs.Headline.{Begins, whole, longer}
 use Rattle.sched.specs.History.{History, Then, port_of}
-use Rattle.sched.specs.Lawful.{IsLawful, told_on}
+use Rattle.sched.specs.Lawful.{IsLawful, ticket_on}
 use Rattle.sched.specs.Looking.{Node, cell_asked, draws, is_cell, is_told, tickets, turn_at}
 use Rattle.quotas.specs.Matches.{IsDraw}
 
@@ -45,7 +45,7 @@ ticket_counts n h event outcome map key answer draw =
 
 -- ---- what a draw is told
 
-told_there : (n : Node) (h : History) (map key : ℕ) (cell : Option (ℕ × ℕ)) → is_cell cell map key ≡ true → told_on n h cell ≡ Told (tickets n h map key % 2 ^ 64)
+told_there : (n : Node) (h : History) (map key : ℕ) (cell : Option (ℕ × ℕ)) → is_cell cell map key ≡ true → ticket_on n h cell ≡ Told (tickets n h map key % 2 ^ 64)
 told_there n h map key None is = cc
 told_there n h map key (Some cell) is =
     let parts = and_parts (cell.0 == map) (cell.1 == key) is in
@@ -58,6 +58,7 @@ pub told_tickets : (n : Node) (h : History) (event : Event) (outcome : Outcome) 
     → answer ≡ tickets n h map key % 2 ^ 64
 told_tickets n h (Take port packet) outcome map key answer lawful draw = let no_draw = draw.asked in cc
 told_tickets n h (Count port) outcome map key answer lawful draw = let no_draw = draw.asked in cc
+told_tickets n h (Peak port) outcome map key answer lawful draw = let no_draw = draw.asked in cc
 told_tickets n h (Effect port) outcome map key answer lawful draw = let no_draw = draw.asked in cc
 told_tickets n h (Publish port) outcome map key answer lawful draw = let no_draw = draw.asked in cc
 told_tickets n h (Ticket port) outcome map key answer lawful draw = by (cases_lt port n.ports)

@@ -1,27 +1,30 @@
 -- What an event of a port does to the world, by what the world's calls say.
-use Rattle.std.proofs.Common.{◌≡◌, ◌<◌, ◌≤◌, ◌+◌, ◌%◌, ◌^◌, ℕ, List, [], length, get_or, true, false, Option, Some, None, is_none, refl, sym, ap, subst, ◌∙◌, arith}
-use Rattle.std.specs.Prelude.{slice_get, slice_set, slice_index_or}
+use Rattle.std.proofs.Common.{◌≡◌, ◌<◌, ◌≤◌, ◌+◌, ◌%◌, ◌^◌, max, ℕ, List, [], length, get_or, true, false, pos, Option, Some, None, is_none, refl, sym, ap, subst, ◌∙◌, arith}
+use Rattle.std.specs.Prelude.{IsTrue, slice_get, slice_set, slice_index_or}
 use Rattle.std.proofs.lemmas.Option.{slice_get_read}
 use Rattle.spw.specs.Cargo.{Cargo}
 use Rattle.rmap.specs.declared.places.Place.{Place}
 use Rattle.rmap.specs.Windows.{WindowsValue}
-use Rattle.machine.specs.Sizes.{Maps, IsInside}
+use Rattle.machine.specs.Sizes.{Maps, IsInside, kind_of_map}
+use Rattle.machine.specs.Step.{takes_kind}
+use Rattle.machine.specs.declared.kinds.MapKind.{MapKind}
+use Rattle.machine.specs.declared.kinds.MapKind.TheVariants as kinds
 use Rattle.bank.specs.Admission.{IsPlacedBy}
 use Rattle.target.specs.declared.stop.Stop.{Stop}
 use Rattle.target.specs.Steps.{IsStopped}
 use Rattle.sched.specs.declared.event.Event.{Event}
-use Rattle.sched.specs.declared.event.Event.TheVariants.{Take, Count, Ticket}
+use Rattle.sched.specs.declared.event.Event.TheVariants.{Take, Count, Ticket, Peak}
 use Rattle.sched.specs.declared.event.Outcome.{Outcome}
 use Rattle.sched.specs.declared.event.Outcome.TheVariants.{Refused, Taken, Told}
 use Rattle.sched.specs.Begins.{IsBegun}
 use Rattle.sched.specs.History.{port_of}
 use Rattle.sched.specs.Lawful.{stop_outcome}
-use Rattle.sched.specs.Looking.{cell_asked}
+use Rattle.sched.specs.Looking.{argument_asked, cell_asked}
 use Rattle.sched.specs.Worlds.{RunValue, PortValue, WorldValue, GoesOn, IsPortIn, IsRunUnderIfAny, IsSameRunIfAny, IsWorld, turn_in, with_word, word_at}
 use Rattle.sched.proofs.Growth.{left_all}
 use Rattle.sched.proofs.Keeping.{cells_keep, cell_there, port_keeps, same_under_if_any, world_with_port}
 use Rattle.sched.proofs.Taking.{take_refused, take_stopped, take_taken}
-use Rattle.sched.proofs.Telling.{IsTold, count_goes_on, count_refused, ticket_goes_on, ticket_refused}
+use Rattle.sched.proofs.Telling.{IsTold, count_goes_on, count_refused, ticket_goes_on, ticket_refused, peak_goes_on, peak_refused}
 
 -- ---- a port that was read
 
@@ -92,17 +95,31 @@ begun_goes_on old w place port packet lies p q r run is placed =
     (subst (λ (k : ℕ). GoesOn (Take port packet) (Taken run.generation) w (record w { ports = slice_set w.ports k r })) (sym is.read.place_is)
     (subst (λ (v : PortValue). GoesOn (Take port packet) (Taken run.generation) w (record w { ports = slice_set w.ports port v })) (sym is.written) made))
 
--- ---- Count and Ticket
+-- ---- Count, Ticket and Peak
 
 -- what a helper asks of a world
 pub record IsAsked (old w : WorldValue) (place port helper map key : ℕ) (p : PortValue) : Type 0 where
   pub read : IsRead old w place port p
   pub asked : Some (map, key) ≡ cell_asked helper (turn_in p.run)
   pub inside : (windows : WindowsValue) (sizes : Maps) → IsRunUnderIfAny windows sizes p.run → IsInside sizes map key
+  pub kind : (windows : WindowsValue) (sizes : Maps) → IsRunUnderIfAny windows sizes p.run → IsTrue (takes_kind (pos helper) (kind_of_map sizes map))
 
 asked_inside : (old w : WorldValue) (place port helper map key : ℕ) (p : PortValue) → IsAsked old w place port helper map key p → IsWorld w → IsInside w.sizes map key
 asked_inside old w place port helper map key p is fits =
     is.inside w.windows w.sizes (fits.ports port p (there old w place port p is.read)).run
+
+-- helper 2 asks counter maps alone, and helper 3 peak maps
+counter_alone : (kind : MapKind) → IsTrue (takes_kind (pos 2) kind) → kind ≡ kinds.Counter
+counter_alone kinds.Counter is = refl
+counter_alone kinds.Peak is = absurd cc
+
+peak_alone : (kind : MapKind) → IsTrue (takes_kind (pos 3) kind) → kind ≡ kinds.Peak
+peak_alone kinds.Counter is = absurd cc
+peak_alone kinds.Peak is = refl
+
+asked_kind : (old w : WorldValue) (place port helper map key : ℕ) (p : PortValue) → IsAsked old w place port helper map key p → IsWorld w → IsTrue (takes_kind (pos helper) (kind_of_map w.sizes map))
+asked_kind old w place port helper map key p is fits =
+    is.kind w.windows w.sizes (fits.ports port p (there old w place port p is.read)).run
 
 -- the cell that is asked for is there
 pub asked_there : (old w : WorldValue) (place port helper map key : ℕ) (p : PortValue) → IsAsked old w place port helper map key p → IsWorld w → (map < length w.words) × (key < length (slice_index_or w.words map []))
@@ -127,8 +144,9 @@ told_world old w place port told p q is fits =
     subst (λ (k : ℕ). IsWorld (record w { ports = slice_set w.ports k q })) (sym is.read.place_is)
     (world_with_port w port p q read (told_fits w port told p q read is.told_as is.same fits) fits)
 
-pub ticket_world : (old w : WorldValue) (place port told map key next : ℕ) (p q : PortValue) → IsToldAt old w place port told p q → map < length w.words → IsWorld w → IsWorld (record w { words = with_word w.words map key next; ports = slice_set w.ports place q })
-ticket_world old w place port told map key next p q is map_there fits =
+-- the world behind an answer with which the word of a cell was written
+pub written_world : (old w : WorldValue) (place port told map key next : ℕ) (p q : PortValue) → IsToldAt old w place port told p q → map < length w.words → IsWorld w → IsWorld (record w { words = with_word w.words map key next; ports = slice_set w.ports place q })
+written_world old w place port told map key next p q is map_there fits =
     let made = told_world old w place port told p q is fits in
     record {
       cells = cells_keep w.sizes w.words map key next map_there fits.cells;
@@ -148,6 +166,11 @@ pub ticket_none : (old w : WorldValue) (place port : ℕ) (p : PortValue) → Is
 ticket_none old w place port p is none =
     subst (λ (v : WorldValue). GoesOn (Ticket port) Refused v v) is.is (ticket_refused w port p (there old w place port p is) (below old w place port p is) none)
 
+-- Peak, where no helper asks
+pub peak_none : (old w : WorldValue) (place port : ℕ) (p : PortValue) → IsRead old w place port p → None ≡ cell_asked 3 (turn_in p.run) → GoesOn (Peak port) Refused old old
+peak_none old w place port p is none =
+    subst (λ (v : WorldValue). GoesOn (Peak port) Refused v v) is.is (peak_refused w port p (there old w place port p is) (below old w place port p is) none)
+
 -- Count, where helper 1 asks
 pub count_told : (old w : WorldValue) (place port map key told : ℕ) (p q : PortValue) → IsAsked old w place port 1 map key p → told ≡ word_at w.words map key → IsToldAt old w place port told p q → IsWorld w
     → GoesOn (Count port) (Told told) old (record w { ports = slice_set w.ports place q })
@@ -163,9 +186,20 @@ pub ticket_told : (old w : WorldValue) (place port map key told next : ℕ) (p q
 ticket_told old w place port map key told next p q asks word counts is fits =
     let inside = below old w place port p is.read in
     let cell = asked_there old w place port 2 map key p asks fits in
-    let made = ticket_goes_on w port map key told next p q (there old w place port p is.read) inside (low w port inside fits) (asked_inside old w place port 2 map key p asks fits) cell.0 cell.1 word counts asks.asked is.told_as in
+    let made = ticket_goes_on w port map key told next p q (there old w place port p is.read) inside (low w port inside fits) (asked_inside old w place port 2 map key p asks fits) cell.0 cell.1 (counter_alone (kind_of_map w.sizes map) (asked_kind old w place port 2 map key p asks fits)) word counts asks.asked is.told_as in
     subst (λ (v : WorldValue). GoesOn (Ticket port) (Told told) v (record w { words = with_word w.words map key next; ports = slice_set w.ports place q })) is.read.is
     (subst (λ (k : ℕ). GoesOn (Ticket port) (Told told) w (record w { words = with_word w.words map key next; ports = slice_set w.ports k q })) (sym is.read.place_is) made)
+
+-- Peak, where helper 3 asks
+pub peak_told : (old w : WorldValue) (place port map key argument next : ℕ) (p q : PortValue) → IsAsked old w place port 3 map key p → argument ≡ argument_asked (turn_in p.run) → next ≡ max (word_at w.words map key) argument → IsToldAt old w place port next p q → IsWorld w
+    → GoesOn (Peak port) (Told next) old (record w { words = with_word w.words map key next; ports = slice_set w.ports place q })
+peak_told old w place port map key argument next p q asks number raised is fits =
+    let inside = below old w place port p is.read in
+    let cell = asked_there old w place port 3 map key p asks fits in
+    let kind = peak_alone (kind_of_map w.sizes map) (asked_kind old w place port 3 map key p asks fits) in
+    let made = peak_goes_on w port map key argument next p q (there old w place port p is.read) inside (low w port inside fits) (asked_inside old w place port 3 map key p asks fits) cell.0 cell.1 kind number raised asks.asked is.told_as in
+    subst (λ (v : WorldValue). GoesOn (Peak port) (Told next) v (record w { words = with_word w.words map key next; ports = slice_set w.ports place q })) is.read.is
+    (subst (λ (k : ℕ). GoesOn (Peak port) (Told next) w (record w { words = with_word w.words map key next; ports = slice_set w.ports k q })) (sym is.read.place_is) made)
 
 -- ---- nowhere
 

@@ -2,7 +2,6 @@
 use Rattle.std.proofs.Common.{◌≡◌, ◌≢◌, ◌<◌, ◌≤◌, ◌+◌, ◌^◌, ◌==◌, ◌⊎◌, ℕ, [], Bool, true, false, Option, Some, None, refl, sym, ap, subst, ◌∙◌, arith, inl, inr}
 use Rattle.std.specs.Prelude.{if◌then◌else◌}
 use Rattle.std.proofs.lemmas.Bool.{cases_lt}
-use Rattle.std.proofs.lemmas.List.Elements.{All-nil, All-push}
 use Rattle.spw.specs.Cargo.{Cargo}
 use Rattle.rmap.specs.declared.discard.Discard.{Discard}
 use Rattle.rmap.specs.declared.places.Place.{Place}
@@ -22,14 +21,13 @@ use Rattle.target.specs.Loads.{control_of, published_result}
 use Rattle.target.specs.Outcomes.{Load, IsLoad}
 use Rattle.target.specs.Outcomes as loads
 use Rattle.sched.specs.declared.event.Event.{Event}
-use Rattle.sched.specs.declared.event.Event.TheVariants.{Take, Count, Ticket, Effect, Publish}
+use Rattle.sched.specs.declared.event.Event.TheVariants.{Take, Count, Ticket, Peak, Effect, Publish}
 use Rattle.sched.specs.declared.event.Outcome.{Outcome}
 use Rattle.sched.specs.declared.event.Outcome.TheVariants.{Refused, Discarded, Answered, Taken, Told, Done}
 use Rattle.sched.specs.Headline.{HasBytes, LeadsTo, same, further}
 use Rattle.sched.specs.History.{History, Start, Then, Open, port_of, taken_by, after_answer, opened_by, opened}
-use Rattle.sched.specs.Lawful.{IsLawful, IsOutcome, IsOutcomeAt, IsControlled, IsDecided, IsLoaded, IsPublishedAt, IsPublishedBy, IsPublishOutcome, effect_at_place, effect_at_turn, effect_outcome, header_outcome, packet_outcome, take_outcome, told_on}
-use Rattle.sched.specs.Looking.{Node, windows_in, place_in, slot_in, cell_asked, turn_at, turn_of, staging, published_at, published_behind, publishes, published}
-use Rattle.sched.specs.Turns.{AreWords}
+use Rattle.sched.specs.Lawful.{IsLawful, IsOutcome, IsOutcomeAt, IsControlled, IsDecided, IsLoaded, IsPublishedAt, IsPublishedBy, IsPublishOutcome, effect_at_place, effect_at_turn, effect_outcome, header_outcome, packet_outcome, take_outcome, count_on, ticket_on, peak_on}
+use Rattle.sched.specs.Looking.{Node, windows_in, place_in, slot_in, argument_asked, cell_asked, turn_at, turn_of, staging, published_at, published_behind, publishes, published}
 use Rattle.sched.proofs.Publishing.{loaded_program}
 
 -- ---- what is left of an outcome
@@ -57,9 +55,17 @@ no_take_end n h p None is = no_packet_end n h p (discard_of p.bytes) is
 no_take_end n h p (Some o) is = is
 
 -- nor is an answer
-no_told_end : (n : Node) (h : History) (cell : Option (ℕ × ℕ)) → IsDone (told_on n h cell) → ⊥
-no_told_end n h None is = is
-no_told_end n h (Some cell) is = is
+no_count_end : (n : Node) (h : History) (cell : Option (ℕ × ℕ)) → IsDone (count_on n h cell) → ⊥
+no_count_end n h None is = is
+no_count_end n h (Some cell) is = is
+
+no_ticket_end : (n : Node) (h : History) (cell : Option (ℕ × ℕ)) → IsDone (ticket_on n h cell) → ⊥
+no_ticket_end n h None is = is
+no_ticket_end n h (Some cell) is = is
+
+no_peak_end : (n : Node) (h : History) (argument : ℕ) (cell : Option (ℕ × ℕ)) → IsDone (peak_on n h argument cell) → ⊥
+no_peak_end n h argument None is = is
+no_peak_end n h argument (Some cell) is = is
 
 -- ---- how a command is done
 
@@ -68,6 +74,7 @@ abbrev pub EndsAs : Node → History → (port : ℕ) → Open → (verdict : �
 EndsAs n h port o verdict (Take at_port packet) outcome = ⊥
 EndsAs n h port o verdict (Count at_port) outcome = ⊥
 EndsAs n h port o verdict (Ticket at_port) outcome = ⊥
+EndsAs n h port o verdict (Peak at_port) outcome = ⊥
 EndsAs n h port o verdict (Effect at_port) outcome = outcome ≡ effect_at_place n h port (command_of o.packet) verdict (place_in n o.packet)
 EndsAs n h port o verdict (Publish at_port) outcome = (place_in n o.packet ≡ Some places.Control) × IsControlled n h port (command_of o.packet) (judged_line (command_of o.packet) verdict) outcome
 
@@ -82,7 +89,7 @@ pub record IsEnd (n : Node) (h : History) (event : Event) (outcome : Outcome) : 
 
 effect_turn : (n : Node) (h : History) (port : ℕ) (o : Open) (outcome : Outcome) → port < n.ports → opened h port ≡ Some o → IsDone outcome → (turn : Option Turn) → turn_of n port o ≡ turn → outcome ≡ effect_at_turn n h port o turn → IsEnd n h (Effect port) outcome
 effect_turn n h port o outcome there is done None at_turn told = absurd (subst IsDone told done)
-effect_turn n h port o outcome there is done (Some (turns.Ask helper map key)) at_turn told = absurd (subst IsDone told done)
+effect_turn n h port o outcome there is done (Some (turns.Ask helper map key argument)) at_turn told = absurd (subst IsDone told done)
 effect_turn n h port o outcome there is done (Some (turns.Verdict verdict)) at_turn told = record { there = there; command = o; is_open = is; verdict = verdict; stands = at_turn; ended = told }
 
 effect_end : (n : Node) (h : History) (port : ℕ) (outcome : Outcome) → port < n.ports → IsDone outcome → (last : Option Open) → opened h port ≡ last → outcome ≡ effect_outcome n h port last → IsEnd n h (Effect port) outcome
@@ -99,7 +106,7 @@ publish_place n h port o verdict outcome there is done stands (Some places.Contr
 
 publish_turn : (n : Node) (h : History) (port : ℕ) (o : Open) (outcome : Outcome) → port < n.ports → opened h port ≡ Some o → IsDone outcome → (turn : Option Turn) → turn_of n port o ≡ turn → IsPublishedBy n h port o turn outcome → IsEnd n h (Publish port) outcome
 publish_turn n h port o outcome there is done None at_turn told = absurd (subst IsDone told done)
-publish_turn n h port o outcome there is done (Some (turns.Ask helper map key)) at_turn told = absurd (subst IsDone told done)
+publish_turn n h port o outcome there is done (Some (turns.Ask helper map key argument)) at_turn told = absurd (subst IsDone told done)
 publish_turn n h port o outcome there is done (Some (turns.Verdict verdict)) at_turn told = publish_place n h port o verdict outcome there is done at_turn (place_in n o.packet) refl told
 
 publish_end : (n : Node) (h : History) (port : ℕ) (outcome : Outcome) → port < n.ports → IsDone outcome → (last : Option Open) → opened h port ≡ last → IsPublishOutcome n h port last outcome → IsEnd n h (Publish port) outcome
@@ -108,8 +115,10 @@ publish_end n h port outcome there done (Some o) is told = publish_turn n h port
 
 end_at : (n : Node) (h : History) (event : Event) (outcome : Outcome) → port_of event < n.ports → IsDone outcome → IsOutcomeAt n h event outcome → IsEnd n h event outcome
 end_at n h (Take port p) outcome there done told = absurd (no_take_end n h p (opened h port) (subst IsDone told done))
-end_at n h (Count port) outcome there done told = absurd (no_told_end n h (cell_asked 1 (turn_at n h port)) (subst IsDone told done))
-end_at n h (Ticket port) outcome there done told = absurd (no_told_end n h (cell_asked 2 (turn_at n h port)) (subst IsDone told done))
+end_at n h (Count port) outcome there done told = absurd (no_count_end n h (cell_asked 1 (turn_at n h port)) (subst IsDone told done))
+end_at n h (Ticket port) outcome there done told = absurd (no_ticket_end n h (cell_asked 2 (turn_at n h port)) (subst IsDone told done))
+end_at n h (Peak port) outcome there done told =
+    absurd (no_peak_end n h (argument_asked (turn_at n h port)) (cell_asked 3 (turn_at n h port)) (subst IsDone told done))
 end_at n h (Effect port) outcome there done told = effect_end n h port outcome there done (opened h port) refl told
 end_at n h (Publish port) outcome there done told = publish_end n h port outcome there done (opened h port) refl told
 
@@ -168,6 +177,7 @@ ended_justified : (law : ImagesAreRead) (n : Node) (h : History) (event : Event)
 ended_justified law n h (Take port p) outcome made end e = absurd end.ended
 ended_justified law n h (Count port) outcome made end e = absurd end.ended
 ended_justified law n h (Ticket port) outcome made end e = absurd end.ended
+ended_justified law n h (Peak port) outcome made end e = absurd end.ended
 ended_justified law n h (Effect port) outcome made end e =
     let none : ◌≡◌ {A = Option (ℕ × Program)} None (Some made) =
     sym (effect_publishes n h port (command_of end.command.packet) end.verdict (place_in n end.command.packet)) ∙ sym (ap (published_at n h (Effect port)) end.ended) ∙ e in
@@ -241,120 +251,3 @@ taken_kept n h port p generation is =
 pub began_bytes : (port : ℕ) (first h : History) → LeadsTo port first h → HasBytes h → HasBytes first
 began_bytes port first h same bytes = bytes
 began_bytes port first h (further leads others) bytes = began_bytes port first _ leads bytes.0
-
--- ---- answers
-
--- what an outcome tells is a word
-abbrev pub TellsWord : Outcome → Type 0
-TellsWord Refused = Unit {0}
-TellsWord (Discarded discard) = Unit {0}
-TellsWord (Answered status reply) = Unit {0}
-TellsWord (Taken generation) = Unit {0}
-TellsWord (Told told) = told < 2 ^ 64
-TellsWord (Done status reply loaded) = Unit {0}
-
-header_word : (n : Node) (h : History) (p : Cargo) (line : Option Status) → TellsWord (header_outcome n h p line)
-header_word n h p (Some status) = tt
-header_word n h p None = tt
-
-packet_word : (n : Node) (h : History) (p : Cargo) (discard : Option Discard) → TellsWord (packet_outcome n h p discard)
-packet_word n h p (Some discard) = tt
-packet_word n h p None = header_word n h p (header_line (command_of p) (windows_in n))
-
-take_word : (n : Node) (h : History) (p : Cargo) (last : Option Open) → TellsWord (take_outcome n h p last)
-take_word n h p None = packet_word n h p (discard_of p.bytes)
-take_word n h p (Some o) = tt
-
-told_word : (n : Node) (h : History) (cell : Option (ℕ × ℕ)) → TellsWord (told_on n h cell)
-told_word n h None = tt
-told_word n h (Some cell) = omega arith
-
-place_word : (n : Node) (h : History) (port : ℕ) (c : CommandValue) (verdict : ℕ) (place : Option Place) → TellsWord (effect_at_place n h port c verdict place)
-place_word n h port c verdict None = tt
-place_word n h port c verdict (Some (places.Bank k)) = tt
-place_word n h port c verdict (Some places.Staging) = tt
-place_word n h port c verdict (Some places.LoadResult) = tt
-place_word n h port c verdict (Some places.Control) = tt
-
-effect_turn_word : (n : Node) (h : History) (port : ℕ) (o : Open) (turn : Option Turn) → TellsWord (effect_at_turn n h port o turn)
-effect_turn_word n h port o None = tt
-effect_turn_word n h port o (Some (turns.Ask helper map key)) = tt
-effect_turn_word n h port o (Some (turns.Verdict verdict)) = place_word n h port (command_of o.packet) verdict (place_in n o.packet)
-
-effect_word : (n : Node) (h : History) (port : ℕ) (last : Option Open) → TellsWord (effect_outcome n h port last)
-effect_word n h port None = tt
-effect_word n h port (Some o) = effect_turn_word n h port o (turn_of n port o)
-
-loaded_word : (n : Node) (h : History) (c : CommandValue) (load : Load) (outcome : Outcome) → IsLoaded n h c load outcome → TellsWord outcome
-loaded_word n h c (loads.Published slot a) outcome told = subst TellsWord (sym told) tt
-loaded_word n h c (loads.Refused refusal) outcome told = subst TellsWord (sym told) tt
-
-controlled_word : (n : Node) (h : History) (port : ℕ) (c : CommandValue) (line : Option Status) (outcome : Outcome) → IsControlled n h port c line outcome → TellsWord outcome
-controlled_word n h port c (Some status) outcome told = subst TellsWord (sym told) tt
-controlled_word n h port c None outcome decided = loaded_word n h c decided.load outcome decided.told
-
-publish_place_word : (n : Node) (h : History) (port : ℕ) (c : CommandValue) (verdict : ℕ) (place : Option Place) (outcome : Outcome) → IsPublishedAt n h port c verdict place outcome → TellsWord outcome
-publish_place_word n h port c verdict None outcome told = subst TellsWord (sym told) tt
-publish_place_word n h port c verdict (Some (places.Bank k)) outcome told = subst TellsWord (sym told) tt
-publish_place_word n h port c verdict (Some places.Staging) outcome told = subst TellsWord (sym told) tt
-publish_place_word n h port c verdict (Some places.LoadResult) outcome told = subst TellsWord (sym told) tt
-publish_place_word n h port c verdict (Some places.Control) outcome told = controlled_word n h port c (judged_line c verdict) outcome told
-
-publish_turn_word : (n : Node) (h : History) (port : ℕ) (o : Open) (turn : Option Turn) (outcome : Outcome) → IsPublishedBy n h port o turn outcome → TellsWord outcome
-publish_turn_word n h port o None outcome told = subst TellsWord (sym told) tt
-publish_turn_word n h port o (Some (turns.Ask helper map key)) outcome told = subst TellsWord (sym told) tt
-publish_turn_word n h port o (Some (turns.Verdict verdict)) outcome told = publish_place_word n h port (command_of o.packet) verdict (place_in n o.packet) outcome told
-
-publish_word : (n : Node) (h : History) (port : ℕ) (last : Option Open) (outcome : Outcome) → IsPublishOutcome n h port last outcome → TellsWord outcome
-publish_word n h port None outcome told = subst TellsWord (sym told) tt
-publish_word n h port (Some o) outcome told = publish_turn_word n h port o (turn_of n port o) outcome told
-
-word_at_port : (n : Node) (h : History) (event : Event) (outcome : Outcome) → IsOutcomeAt n h event outcome → TellsWord outcome
-word_at_port n h (Take port p) outcome told = subst TellsWord (sym told) (take_word n h p (opened h port))
-word_at_port n h (Count port) outcome told = subst TellsWord (sym told) (told_word n h (cell_asked 1 (turn_at n h port)))
-word_at_port n h (Ticket port) outcome told = subst TellsWord (sym told) (told_word n h (cell_asked 2 (turn_at n h port)))
-word_at_port n h (Effect port) outcome told = subst TellsWord (sym told) (effect_word n h port (opened h port))
-word_at_port n h (Publish port) outcome told = publish_word n h port (opened h port) outcome told
-
-tells_word : (n : Node) (h : History) (event : Event) (outcome : Outcome) → IsOutcome n h event outcome → TellsWord outcome
-tells_word n h event outcome is = by (cases_lt (port_of event) n.ports)
-  where
-    by : (port_of event < n.ports) ⊎ (n.ports ≤ port_of event) → TellsWord outcome
-    by (inl below) = word_at_port n h event outcome (is.here below)
-    by (inr past) = subst TellsWord (sym (is.nowhere past)) tt
-
--- the answers of a command, if one is open, are words
-abbrev HaveWords : Option Open → Type 0
-HaveWords None = Unit {0}
-HaveWords (Some o) = AreWords o.answers
-
-taken_words : (h : History) (generation : ℕ) (event : Event) → HaveWords (taken_by h generation event)
-taken_words h generation (Take port p) = All-nil (λ answer. answer < 2 ^ 64)
-taken_words h generation (Count port) = tt
-taken_words h generation (Ticket port) = tt
-taken_words h generation (Effect port) = tt
-taken_words h generation (Publish port) = tt
-
-answered_words : (told : ℕ) (last : Option Open) → told < 2 ^ 64 → HaveWords last → HaveWords (after_answer told last)
-answered_words told None word before = tt
-answered_words told (Some o) word before = All-push (λ answer. answer < 2 ^ 64) o.answers told before word
-
-words_by : (h : History) (last : Option Open) (event : Event) (outcome : Outcome) → TellsWord outcome → HaveWords last → HaveWords (opened_by h last event outcome)
-words_by h last event Refused word before = before
-words_by h last event (Discarded discard) word before = before
-words_by h last event (Answered status reply) word before = before
-words_by h last event (Taken generation) word before = taken_words h generation event
-words_by h last event (Told told) word before = answered_words told last word before
-words_by h last event (Done status reply loaded) word before = tt
-
-lawful_words : (n : Node) (h : History) (port : ℕ) → IsLawful n h → HaveWords (opened h port)
-lawful_words n Start port lawful = tt
-lawful_words n (Then h event outcome) port lawful = by (port_of event == port) (lawful_words n h port lawful.0)
-  where
-    by : (own : Bool) → HaveWords (opened h port) → HaveWords (if own then opened_by h (opened h port) event outcome else opened h port)
-    by true before = words_by h (opened h port) event outcome (tells_word n h event outcome lawful.1) before
-    by false before = before
-
--- the answers of an open command of a lawful history are words
-pub open_words : (n : Node) (h : History) (port : ℕ) (o : Open) → IsLawful n h → opened h port ≡ Some o → AreWords o.answers
-open_words n h port o lawful is = subst HaveWords is (lawful_words n h port lawful)

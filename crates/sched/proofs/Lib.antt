@@ -11,6 +11,8 @@ pub mod Publishing
 pub mod Opened
 pub mod Headers
 pub mod Judging
+pub mod Arguments
+pub mod Small
 pub mod Headlines
 pub mod Events
 pub mod Finishing

@@ -7,6 +7,9 @@ use Rattle.std.proofs.lemmas.List.FromFn.{length-range_with_len, get_or-range_wi
 use Rattle.std.proofs.lemmas.Option.{slice_get-map, slice_get_within, slice_get-get_or, get_or_from_slice_get, same_Some}
 use base.Stored.{gnil}
 use Rattle.bpf.specs.Program.{Program}
+use Rattle.machine.specs.declared.kinds.MapKind.{MapKind}
+use Rattle.machine.specs.declared.kinds.MapKind.TheVariants as kinds
+use Rattle.machine.specs.Sizes.{kind_of_map}
 use Rattle.bver_form.specs.declared.refusal.Refused.{Refused}
 use Rattle.bver.specs.Justified.{AcceptedValue, IsJustified}
 use Rattle.bver.specs.Refusals.{IsRefusal}
@@ -23,7 +26,7 @@ use Rattle.sched.specs.declared.faults.WorldFault.{WorldFault}
 use Rattle.sched.specs.declared.faults.WorldFault.TheVariants.{Memory as NoMemory, Image}
 use Rattle.sched.specs.Codes.{fault_of_node, fault_of_refusal}
 use Rattle.sched.specs.History.{Start}
-use Rattle.sched.specs.Looking.{entries, memory, room_of, first_memory}
+use Rattle.sched.specs.Looking.{entries, memory, room_of, first_memory, word_by_kind}
 use Rattle.sched.specs.Worlds.{PortValue, WorldValue, AreBanksOf, AreCells, ArePortsOf, AreZeros, IsBankOf, IsPortIn, IsWorld, IsFactoryRefused, IsWorldOf, IsWorldFault, first_port, node_of, shown_in_all}
 
 -- ---- lists by their number
@@ -126,12 +129,17 @@ ports_made config factory = record {
       });
 }
 
+-- the word of a cell of which nothing was told, of either kind
+no_word : (kind : MapKind) → 0 ≡ word_by_kind kind 0 0
+no_word kinds.Counter = refl
+no_word kinds.Peak = refl
+
 pub made_of : (config : NodeConfig) (factory : Program) (w : WorldValue) (a : AcceptedValue) → IsMade config factory w a → IsWorldOf (node_of config factory) Start w
 made_of config factory w a is = record {
   windows_are = is.windows_are;
   sizes_are = is.sizes_are;
   banks_are = rw is.banks_are (banks_made config factory);
-  words_are = λ map key inside. is.zeros map key;
+  words_are = λ map key inside. is.zeros map key ∙ no_word (kind_of_map config.sizes map);
   programs_are = rw is.programs_are (λ slot shown at. rw (shown_at a slot shown at) (record { program = is.program; generation = refl; accepted = record { sizes = is.accepted; justified = is.justified } }));
   count_is = is.count_is;
   ports_are = rw is.ports_are (ports_made config factory);

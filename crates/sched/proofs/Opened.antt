@@ -4,7 +4,7 @@ use Rattle.std.proofs.lemmas.Bool.{eqb-false}
 use Rattle.std.proofs.lemmas.Bool.Decides.{nat_tests}
 use Rattle.rmap.specs.declared.status.Status.{Status}
 use Rattle.sched.specs.declared.event.Event.{Event}
-use Rattle.sched.specs.declared.event.Event.TheVariants.{Take, Count, Ticket, Effect, Publish}
+use Rattle.sched.specs.declared.event.Event.TheVariants.{Take, Count, Ticket, Peak, Effect, Publish}
 use Rattle.sched.specs.declared.event.Outcome.{Outcome}
 use Rattle.sched.specs.declared.event.Outcome.TheVariants.{Refused, Discarded, Answered, Taken, Told, Done}
 use Rattle.sched.specs.History.{History, Start, Then, Open, port_of, taken_by, after_answer, opened_by, opened}
@@ -36,6 +36,7 @@ taken-here h port generation (Take at packet) o own e =
     (subst (λ (k : ℕ). LeadsTo port (Then h (Take port packet) (Taken generation)) (Then h (Take k packet) (Taken generation))) (sym own) same)
 taken-here h port generation (Count at) o own e = absurd (none-is o e)
 taken-here h port generation (Ticket at) o own e = absurd (none-is o e)
+taken-here h port generation (Peak at) o own e = absurd (none-is o e)
 taken-here h port generation (Effect at) o own e = absurd (none-is o e)
 taken-here h port generation (Publish at) o own e = absurd (none-is o e)
 
@@ -74,6 +75,7 @@ taken_behind : (first h : History) (generation : ℕ) (event : Event) (o : Open)
 taken_behind first h generation (Take at packet) o begins e = subst (λ (x : Open). Begins first x.before) (some-is _ o e) begins
 taken_behind first h generation (Count at) o begins e = absurd (none-is o e)
 taken_behind first h generation (Ticket at) o begins e = absurd (none-is o e)
+taken_behind first h generation (Peak at) o begins e = absurd (none-is o e)
 taken_behind first h generation (Effect at) o begins e = absurd (none-is o e)
 taken_behind first h generation (Publish at) o begins e = absurd (none-is o e)
 

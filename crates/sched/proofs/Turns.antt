@@ -55,7 +55,7 @@ stands program header port calls n s turn path few here =
 
 -- what is known where a turn was found
 abbrev Found : Program → Header → (port : ℕ) → (answers : List ℕ) → Turn → Type 0
-Found program header port answers (turns.Ask helper map key) = HasAsked program header port answers (question helper map key)
+Found program header port answers (turns.Ask helper map key argument) = HasAsked program header port answers (question helper map key argument)
 Found program header port answers (turns.Verdict v) = HasEnded program header port answers v
 
 some-is : {A : Type 0} (x y : A) → ◌≡◌ {A = Option A} (Some x) (Some y) → x ≡ y

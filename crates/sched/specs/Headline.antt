@@ -17,7 +17,7 @@ use Rattle.target.specs.Loads.{control_of, published_result, refused_result}
 use Rattle.target.specs.Outcomes.{Load, IsLoad}
 use Rattle.target.specs.Outcomes as loads
 use Rattle.sched.specs.declared.event.Event.{Event}
-use Rattle.sched.specs.declared.event.Event.TheVariants.{Take, Count, Ticket, Effect, Publish}
+use Rattle.sched.specs.declared.event.Event.TheVariants.{Take, Count, Ticket, Peak, Effect, Publish}
 use Rattle.sched.specs.declared.event.Outcome.{Outcome}
 use Rattle.sched.specs.declared.event.Outcome.TheVariants.{Refused, Discarded, Answered, Taken, Told, Done}
 use Rattle.sched.specs.History.{History, Start, Then, Open, port_of, opened}
@@ -37,6 +37,7 @@ abbrev pub BringsBytes : Event → Type 0
 BringsBytes (Take port packet) = All (λ byte. byte < 256) packet.bytes
 BringsBytes (Count port) = Unit {0}
 BringsBytes (Ticket port) = Unit {0}
+BringsBytes (Peak port) = Unit {0}
 BringsBytes (Effect port) = Unit {0}
 BringsBytes (Publish port) = Unit {0}
 
@@ -158,6 +159,7 @@ abbrev pub EndsBy : Node → History → (port : ℕ) → Open → (verdict : �
 EndsBy n h port o verdict (Take at_port packet) outcome = ⊥
 EndsBy n h port o verdict (Count at_port) outcome = ⊥
 EndsBy n h port o verdict (Ticket at_port) outcome = ⊥
+EndsBy n h port o verdict (Peak at_port) outcome = ⊥
 EndsBy n h port o verdict (Effect at_port) outcome =
     IsEffectOf n h port (command_of o.packet) verdict (place_in n o.packet) outcome (Then h (Effect at_port) outcome)
 EndsBy n h port o verdict (Publish at_port) outcome =

@@ -2,7 +2,7 @@
 use Rattle.std.specs.Prelude.{ℕ, ◌==◌, if◌then◌else◌, List, [], ◌∷◌, ◌++◌, Option, Some, None}
 use Rattle.spw.specs.Cargo.{Cargo}
 use Rattle.sched.specs.declared.event.Event.{Event}
-use Rattle.sched.specs.declared.event.Event.TheVariants.{Take, Count, Ticket, Effect, Publish}
+use Rattle.sched.specs.declared.event.Event.TheVariants.{Take, Count, Ticket, Peak, Effect, Publish}
 use Rattle.sched.specs.declared.event.Outcome.{Outcome}
 use Rattle.sched.specs.declared.event.Outcome.TheVariants.{Refused, Discarded, Answered, Taken, Told, Done}
 
@@ -22,6 +22,7 @@ abbrev pub port_of : Event → ℕ
 port_of (Take port packet) = port
 port_of (Count port) = port
 port_of (Ticket port) = port
+port_of (Peak port) = port
 port_of (Effect port) = port
 port_of (Publish port) = port
 
@@ -42,6 +43,7 @@ abbrev pub taken_by : History → (generation : ℕ) → Event → Option Open
 taken_by h generation (Take port packet) = Some (taken packet generation h)
 taken_by h generation (Count port) = None
 taken_by h generation (Ticket port) = None
+taken_by h generation (Peak port) = None
 taken_by h generation (Effect port) = None
 taken_by h generation (Publish port) = None
 

@@ -1,5 +1,5 @@
 -- Lawful histories: each outcome is the one that looking back from its place gives.
-use Rattle.std.specs.Prelude.{◌≡◌, ◌<◌, ◌≤◌, ◌^◌, ℕ, ◌+◌, ◌%◌, true, List, [], slice_get, Option, Some, None}
+use Rattle.std.specs.Prelude.{◌≡◌, ◌<◌, ◌≤◌, ◌^◌, ℕ, ◌+◌, ◌%◌, max, true, List, [], slice_get, Option, Some, None}
 use Rattle.spw.specs.Cargo.{Cargo}
 use Rattle.rmap.specs.declared.discard.Discard.{Discard}
 use Rattle.rmap.specs.declared.places.Place.{Place}
@@ -19,11 +19,11 @@ use Rattle.target.specs.declared.stop.Stop.TheVariants.{Discarded as NoCommand, 
 use Rattle.target.specs.Outcomes.{Load, IsLoad}
 use Rattle.target.specs.Outcomes as loads
 use Rattle.sched.specs.declared.event.Event.{Event}
-use Rattle.sched.specs.declared.event.Event.TheVariants.{Take, Count, Ticket, Effect, Publish}
+use Rattle.sched.specs.declared.event.Event.TheVariants.{Take, Count, Ticket, Peak, Effect, Publish}
 use Rattle.sched.specs.declared.event.Outcome.{Outcome}
 use Rattle.sched.specs.declared.event.Outcome.TheVariants.{Refused, Discarded, Answered, Taken, Told, Done}
 use Rattle.sched.specs.History.{History, Start, Then, Open, port_of, opened}
-use Rattle.sched.specs.Looking.{Node, windows_in, place_in, slot_in, staging, publishes, published, turn_of, turn_at, cell_asked, tickets, has_room, entries, memory}
+use Rattle.sched.specs.Looking.{Node, windows_in, place_in, slot_in, staging, publishes, published, turn_of, turn_at, cell_asked, argument_asked, tickets, peaks, cell_word, has_room, entries, memory}
 
 -- ---- Take
 
@@ -48,16 +48,26 @@ abbrev pub take_outcome : Node → History → Cargo → Option Open → Outcome
 take_outcome n h p None = packet_outcome n h p (discard_of p.bytes)
 take_outcome n h p (Some o) = Refused
 
--- ---- Count and Ticket
+-- ---- Count, Ticket and Peak
 
--- what is told of a cell, where a program asks for one: how many tickets of it were told, modulo 2^64
-abbrev pub told_on : Node → History → Option (ℕ × ℕ) → Outcome
-told_on n h None = Refused
-told_on n h (Some cell) = Told (tickets n h cell.0 cell.1 % 2 ^ 64)
+-- what Count tells of a cell, where a program asks for one: what its word says
+abbrev pub count_on : Node → History → Option (ℕ × ℕ) → Outcome
+count_on n h None = Refused
+count_on n h (Some cell) = Told (cell_word n h cell.0 cell.1)
 
--- what an event of that helper comes to at a port
-abbrev pub told_outcome : Node → History → (port helper : ℕ) → Outcome
-told_outcome n h port helper = told_on n h (cell_asked helper (turn_at n h port))
+-- what Ticket tells of a cell, where a program asks for one: how many tickets of it were told, modulo 2^64
+abbrev pub ticket_on : Node → History → Option (ℕ × ℕ) → Outcome
+ticket_on n h None = Refused
+ticket_on n h (Some cell) = Told (tickets n h cell.0 cell.1 % 2 ^ 64)
+
+-- what Peak tells of a cell, where a program raises one to a number: the greater of its peak and that
+abbrev pub peak_on : Node → History → (argument : ℕ) → Option (ℕ × ℕ) → Outcome
+peak_on n h argument None = Refused
+peak_on n h argument (Some cell) = Told (max (peaks n h cell.0 cell.1) argument)
+
+-- the same at a port, where its program stands
+abbrev pub peak_at : Node → History → Option Turn → Outcome
+peak_at n h turn = peak_on n h (argument_asked turn) (cell_asked 3 turn)
 
 -- ---- Effect
 
@@ -89,7 +99,7 @@ effect_at_place n h port c verdict (Some places.Control) = Refused
 -- the same where the program has its verdict
 abbrev pub effect_at_turn : Node → History → (port : ℕ) → Open → Option Turn → Outcome
 effect_at_turn n h port o None = Refused
-effect_at_turn n h port o (Some (turns.Ask helper map key)) = Refused
+effect_at_turn n h port o (Some (turns.Ask helper map key argument)) = Refused
 effect_at_turn n h port o (Some (turns.Verdict verdict)) =
     effect_at_place n h port (command_of o.packet) verdict (place_in n o.packet)
 
@@ -130,7 +140,7 @@ IsPublishedAt n h port c verdict (Some places.Control) outcome =
 -- the same where the program has its verdict
 abbrev pub IsPublishedBy : Node → History → (port : ℕ) → Open → Option Turn → Outcome → Type 0
 IsPublishedBy n h port o None outcome = outcome ≡ Refused
-IsPublishedBy n h port o (Some (turns.Ask helper map key)) outcome = outcome ≡ Refused
+IsPublishedBy n h port o (Some (turns.Ask helper map key argument)) outcome = outcome ≡ Refused
 IsPublishedBy n h port o (Some (turns.Verdict verdict)) outcome =
     IsPublishedAt n h port (command_of o.packet) verdict (place_in n o.packet) outcome
 
@@ -144,8 +154,9 @@ IsPublishOutcome n h port (Some o) outcome = IsPublishedBy n h port o (turn_of n
 -- what an event comes to at a port of the node
 abbrev pub IsOutcomeAt : Node → History → Event → Outcome → Type 0
 IsOutcomeAt n h (Take port p) outcome = outcome ≡ take_outcome n h p (opened h port)
-IsOutcomeAt n h (Count port) outcome = outcome ≡ told_outcome n h port 1
-IsOutcomeAt n h (Ticket port) outcome = outcome ≡ told_outcome n h port 2
+IsOutcomeAt n h (Count port) outcome = outcome ≡ count_on n h (cell_asked 1 (turn_at n h port))
+IsOutcomeAt n h (Ticket port) outcome = outcome ≡ ticket_on n h (cell_asked 2 (turn_at n h port))
+IsOutcomeAt n h (Peak port) outcome = outcome ≡ peak_at n h (turn_at n h port)
 IsOutcomeAt n h (Effect port) outcome = outcome ≡ effect_outcome n h port (opened h port)
 IsOutcomeAt n h (Publish port) outcome = IsPublishOutcome n h port (opened h port) outcome
 

@@ -1,6 +1,6 @@
--- What looking back on a history of a node finds: stagings, programs, tickets, and what each bank's journal and memory
--- have. All of it comes from what the outcomes told.
-use Rattle.std.specs.Prelude.{ℕ, ◌+◌, ◌-◌, ◌^◌, ◌==◌, ◌&&◌, Bool, true, false, nat_lt, if◌then◌else◌, List, [], ◌∷◌, ◌++◌, length, replicate, slice_get, Option, Some, None, is_some, Result, Ok, Err}
+-- What looking back on a history of a node finds: stagings, programs, tickets, peaks, and what each bank's journal and
+-- memory have. All of it comes from what the outcomes told.
+use Rattle.std.specs.Prelude.{ℕ, ◌+◌, ◌-◌, ◌^◌, ◌%◌, ◌==◌, ◌&&◌, Bool, true, false, max, nat_lt, if◌then◌else◌, List, [], ◌∷◌, ◌++◌, length, replicate, slice_get, Option, Some, None, is_some, Result, Ok, Err}
 use Rattle.bpf.specs.Program.{Program}
 use Rattle.bpf.specs.Reading.{image_reading}
 use Rattle.bpf.specs.declared.fault.ImageFault.{ImageFault}
@@ -10,7 +10,9 @@ use Rattle.rmap.specs.declared.status.Status.{Status}
 use Rattle.rmap.specs.Command.{CommandValue, command_of, command_kind}
 use Rattle.rmap.specs.Windows.{WindowsValue, place_of}
 use Rattle.machine.specs.Memory.{Header}
-use Rattle.machine.specs.Sizes.{Maps}
+use Rattle.machine.specs.Sizes.{Maps, kind_of_map}
+use Rattle.machine.specs.declared.kinds.MapKind.{MapKind}
+use Rattle.machine.specs.declared.kinds.MapKind.TheVariants as kinds
 use Rattle.brun.specs.declared.turns.Turn.{Turn}
 use Rattle.brun.specs.declared.turns.Turn.TheVariants as turns
 use Rattle.brun.specs.Runs.{header}
@@ -24,14 +26,13 @@ use Rattle.target.specs.Nodes.{windows_of, first_staging}
 use Rattle.target.specs.Slots.{slot_of}
 use Rattle.spw.specs.Cargo.{Cargo}
 use Rattle.sched.specs.declared.event.Event.{Event}
-use Rattle.sched.specs.declared.event.Event.TheVariants.{Take, Count, Ticket, Effect, Publish}
+use Rattle.sched.specs.declared.event.Event.TheVariants.{Take, Count, Ticket, Peak, Effect, Publish}
 use Rattle.sched.specs.declared.event.Outcome.{Outcome}
 use Rattle.sched.specs.declared.event.Outcome.TheVariants.{Refused, Discarded, Answered, Taken, Told, Done}
 use Rattle.sched.specs.History.{History, Start, Then, Open, port_of, opened}
 use Rattle.sched.specs.Turns.{turn_after}
 
--- the node of a history: its logical address, how many ports it has, its banks, the sizes of its counter maps, and its
--- factory program
+-- the node of a history: its logical address, how many ports it has, its banks, its maps, and its factory program
 pub record Node : Type 0 where
   pub address : ℕ
   pub ports : ℕ
@@ -165,12 +166,12 @@ turn_by n port (Some o) = turn_of n port o
 abbrev pub turn_at : Node → History → (port : ℕ) → Option Turn
 turn_at n h port = turn_by n port (opened h port)
 
--- ---- tickets
+-- ---- tickets and peaks
 
 -- the cell, by map and key, for which a program that stands so asks that helper
 abbrev pub cell_asked : (helper : ℕ) → Option Turn → Option (ℕ × ℕ)
 cell_asked helper None = None
-cell_asked helper (Some (turns.Ask asked map key)) = if asked == helper then Some (map, key) else None
+cell_asked helper (Some (turns.Ask asked map key argument)) = if asked == helper then Some (map, key) else None
 cell_asked helper (Some (turns.Verdict verdict)) = None
 
 -- whether it is that cell
@@ -192,6 +193,7 @@ abbrev pub draws : Option Turn → Event → (map key : ℕ) → Bool
 draws turn (Take port packet) map key = false
 draws turn (Count port) map key = false
 draws turn (Ticket port) map key = is_cell (cell_asked 2 turn) map key
+draws turn (Peak port) map key = false
 draws turn (Effect port) map key = false
 draws turn (Publish port) map key = false
 
@@ -203,12 +205,44 @@ tickets n (Then h event outcome) map key =
     then tickets n h map key + 1
     else tickets n h map key
 
+-- whether an event raises the cell, where its port stands so: helper 3 does
+abbrev pub raises : Option Turn → Event → (map key : ℕ) → Bool
+raises turn (Take port packet) map key = false
+raises turn (Count port) map key = false
+raises turn (Ticket port) map key = false
+raises turn (Peak port) map key = is_cell (cell_asked 3 turn) map key
+raises turn (Effect port) map key = false
+raises turn (Publish port) map key = false
+
+-- the number to which a program that stands so raises a cell; of one that asks for none it says nothing
+abbrev pub argument_asked : Option Turn → ℕ
+argument_asked None = 0
+argument_asked (Some (turns.Ask helper map key argument)) = argument
+argument_asked (Some (turns.Verdict verdict)) = 0
+
+-- the greatest number to which the cell was raised, 0 where it never was
+abbrev pub peaks : Node → History → (map key : ℕ) → ℕ
+peaks n Start map key = 0
+peaks n (Then h event outcome) map key =
+    if is_told outcome && raises (turn_at n h (port_of event)) event map key
+    then max (peaks n h map key) (argument_asked (turn_at n h (port_of event)))
+    else peaks n h map key
+
+-- what the word of a cell says, by the kind of its map: how many tickets were drawn, modulo 2^64, or the peak
+abbrev pub word_by_kind : MapKind → (tickets peak : ℕ) → ℕ
+word_by_kind kinds.Counter tickets peak = tickets % 2 ^ 64
+word_by_kind kinds.Peak tickets peak = peak
+
+-- what the word of a cell of the node says
+abbrev pub cell_word : Node → History → (map key : ℕ) → ℕ
+cell_word n h map key = word_by_kind (kind_of_map n.sizes map) (tickets n h map key) (peaks n h map key)
+
 -- ---- banks
 
 -- the verdict of a run that stands so; of one that has none it says nothing
 abbrev pub verdict_of : Option Turn → ℕ
 verdict_of None = 0
-verdict_of (Some (turns.Ask helper map key)) = 0
+verdict_of (Some (turns.Ask helper map key argument)) = 0
 verdict_of (Some (turns.Verdict verdict)) = verdict
 
 -- the entry of that number that an open command of the port leaves, which was done with that status

@@ -13,7 +13,7 @@ use Rattle.machine.specs.Step.{Question, Outcome, Next, Ask, Verdict, Trap, step
 
 -- a helper's question, as a turn of a run
 abbrev pub asking : Question → Turn
-asking question = turns.Ask question.helper question.map question.key
+asking question = turns.Ask question.helper question.map question.key question.argument
 
 -- what follows a step with those answers to the questions to come: a question takes the first of them, or is where the
 -- run stands; a verdict leaves none over

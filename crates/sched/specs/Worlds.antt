@@ -1,5 +1,5 @@
 -- What a world is, and of which history it is the world.
-use Rattle.std.specs.Prelude.{◌≡◌, ◌≢◌, ◌<◌, ◌≤◌, ◌⊎◌, ℕ, ◌%◌, ◌^◌, List, [], ◌∷◌, length, replicate, slice_get, slice_index, slice_index_or, slice_set, Option, Some, None}
+use Rattle.std.specs.Prelude.{◌≡◌, ◌≢◌, ◌<◌, ◌≤◌, ◌⊎◌, ℕ, List, [], ◌∷◌, length, replicate, slice_get, slice_index, slice_index_or, slice_set, Option, Some, None}
 use base.Stored.{gnil}
 use Rattle.spw.specs.Cargo.{Cargo}
 use Rattle.rmap.specs.declared.places.Place.{Place}
@@ -32,7 +32,7 @@ use Rattle.sched.specs.declared.event.Outcome.{Outcome}
 use Rattle.sched.specs.declared.faults.WorldFault.{WorldFault}
 use Rattle.sched.specs.declared.faults.WorldFault.TheVariants.{Memory as NoMemory, Config, Image}
 use Rattle.sched.specs.History.{History, Then, Open, opened}
-use Rattle.sched.specs.Looking.{Node, windows_in, header_in, staging, published, publishes, program_of, turn_of, tickets, room_of, entries, first_memory, memory}
+use Rattle.sched.specs.Looking.{Node, windows_in, header_in, staging, published, publishes, program_of, turn_of, cell_word, room_of, entries, first_memory, memory}
 use Rattle.sched.specs.Lawful.{IsLawful}
 use Rattle.sched.specs.Turns.{answers_of}
 
@@ -65,7 +65,7 @@ pub record PortValue : Type 0 where
   pub staging : Staged
   pub run : Option RunValue
 
--- a world: the windows and the map sizes of its node, its banks, its counter words by map, the program of each slot with
+-- a world: the windows and the maps of its node, its banks, the words of its cells by map, the program of each slot with
 -- its generation, how many were published, and its ports
 pub record WorldValue : Type 0 where
   pub windows : WindowsValue
@@ -134,7 +134,7 @@ IsSameRunIfAny (Some old) (Some new) = IsSameRun old new
 
 -- a program stands at a question
 abbrev pub IsAsk : Turn → Type 0
-IsAsk (turns.Ask helper map key) = Unit {0}
+IsAsk (turns.Ask helper map key argument) = Unit {0}
 IsAsk (turns.Verdict verdict) = ⊥
 
 -- where the command stands that is judged, if one is
@@ -149,7 +149,7 @@ Asks (Some r) = IsAsk r.turn
 
 -- the verdict of a program that stands so, if it has one
 abbrev pub verdict_at : Turn → Option ℕ
-verdict_at (turns.Ask helper map key) = None
+verdict_at (turns.Ask helper map key argument) = None
 verdict_at (turns.Verdict verdict) = Some verdict
 
 -- the verdict of a command that ends at that place by an Effect, if it has one: a control write does not
@@ -209,8 +209,8 @@ AreZeros words = (map key : ℕ) → word_at words map key ≡ 0
 
 -- there are words of each map, one for each of its cells
 pub record AreCells (sizes : Maps) (words : List (List ℕ)) : Type 0 where
-  pub maps : length words ≡ length sizes
-  pub cells : (map : ℕ) → map < length sizes → length (slice_index_or words map []) ≡ slice_index sizes map
+  pub maps : length words ≡ length sizes.cells
+  pub cells : (map : ℕ) → map < length sizes.cells → length (slice_index_or words map []) ≡ slice_index sizes.cells map
 
 -- what a port of a world has, as the pass of a port of a node: of the node's counters and programs it knows nothing
 abbrev pub pass_of_port : WindowsValue → Maps → (port : ℕ) → PortValue → PassValue
@@ -306,10 +306,10 @@ pub record AreBanksOf (n : Node) (entries_of : ℕ → List EntryValue) (memory_
   pub count : length banks ≡ length n.banks
   pub each : (k : ℕ) (b : BankValue) → slice_get banks k ≡ Some b → IsBankOf n k (entries_of k) (memory_in k) b
 
--- the word of each cell is how many tickets of it were told, modulo 2^64
-abbrev pub AreWordsOf : Maps → (tickets : ℕ → ℕ → ℕ) → List (List ℕ) → Type 0
-AreWordsOf sizes tickets words =
-    (map key : ℕ) → IsInside sizes map key → word_at words map key ≡ tickets map key % 2 ^ 64
+-- the word of each cell is that
+abbrev pub AreWordsOf : Maps → (word_of_cell : ℕ → ℕ → ℕ) → List (List ℕ) → Type 0
+AreWordsOf sizes word_of_cell words =
+    (map key : ℕ) → IsInside sizes map key → word_at words map key ≡ word_of_cell map key
 
 -- what is shown is that program of that generation, accepted for the maps of the node
 pub record IsShownAs (n : Node) (published : Program × ℕ) (shown : AcceptedValue × ℕ) : Type 0 where
@@ -327,7 +327,7 @@ pub record IsWorldOf (n : Node) (h : History) (w : WorldValue) : Type 0 where
   pub windows_are : w.windows ≡ windows_in n
   pub sizes_are : w.sizes ≡ n.sizes
   pub banks_are : AreBanksOf n (entries n h) (memory n h) w.banks
-  pub words_are : AreWordsOf n.sizes (tickets n h) w.words
+  pub words_are : AreWordsOf n.sizes (cell_word n h) w.words
   pub programs_are : AreProgramsOf n (published n h) w.programs
   pub count_is : w.count ≡ publishes n h
   pub ports_are : ArePortsOf n h w.ports

@@ -16,6 +16,8 @@ pub enum Event {
     Count(u8),
     /// The port's program draws a ticket.
     Ticket(u8),
+    /// The port's program raises a peak.
+    Peak(u8),
     /// The port's judged command takes its effect, at a bank or in the port's staging.
     Effect(u8),
     /// The port's judged control write loads what the port staged.
@@ -31,6 +33,7 @@ impl Event {
             Event::Take(port, _)
             | Event::Count(port)
             | Event::Ticket(port)
+            | Event::Peak(port)
             | Event::Effect(port)
             | Event::Publish(port) => *port,
         }

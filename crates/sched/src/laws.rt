@@ -10,6 +10,7 @@ ghost use Rattle.sched.specs.Turns.{TurnsArePaths};
 use crate::event::Event;
 use bpf::image_laws;
 use bver::justified_programs;
+use machine::numbers_fit;
 use publish::published_programs;
 
 /// A law and no work: where a safe program stands after some answers is where its paths lead.
@@ -57,6 +58,7 @@ pub fn every_schedule_judges_once()
     turns_are_paths();
     justified_programs();
     image_laws();
+    numbers_fit();
 }
 
 /// A law and no work: what is published in a slot is what judges there by the list of publishes of a running node.

@@ -1,13 +1,14 @@
 //! What a port has.
 
-ghost use Rattle.std.specs.Prelude.{◌≡◌, ◌<◌, ℕ, Option, None, Some, IfSome, is_none, length, true};
+ghost use Rattle.std.specs.Prelude.{◌≡◌, ◌<◌, ℕ, Option, None, Some, IfSome, IsTrue, is_none, length, pos, true};
 ghost use Rattle.rmap.specs.Windows.{WindowsValue};
-ghost use Rattle.machine.specs.Sizes.{IsInside, Maps};
+ghost use Rattle.machine.specs.Sizes.{IsInside, Maps, kind_of_map};
+ghost use Rattle.machine.specs.Step.{takes_kind};
 ghost use Rattle.bank.specs.Records.{after_command, answer_of, fits, memory_of, next_share};
 ghost use Rattle.target.specs.Stagings.{IsStaged, IsStagingPlace};
 ghost use Rattle.sched.specs.Ends.{CanEnd, CanFinish, EndsAt, HasFinished, IsReplyTo, IsWriteUnder, after_write, load_result_kept, share_in, with_share_in};
 ghost use Rattle.sched.specs.History.{Open, after_answer};
-ghost use Rattle.sched.specs.Looking.{Node, cell_asked};
+ghost use Rattle.sched.specs.Looking.{Node, argument_asked, cell_asked};
 ghost use Rattle.sched.specs.Worlds.{Asks, IsJudging, IsRunUnderIfAny, IsSameRunIfAny, effect_due, publish_due, turn_in};
 
 use crate::run::Run;
@@ -72,11 +73,24 @@ impl Port {
         ensures inside { (windows : WindowsValue) (sizes : Maps)
             → IsRunUnderIfAny windows sizes self.now.run
             → IfSome result (λ cell. IsInside sizes cell.0 cell.1) }
+        ensures kind { (windows : WindowsValue) (sizes : Maps)
+            → IsRunUnderIfAny windows sizes self.now.run
+            → IfSome result (λ cell. IsTrue (takes_kind (pos helper) (kind_of_map sizes cell.0))) }
         ensures asks { IfSome result (λ _. Asks self.now.run) }
     {
         match &self.run {
             Some(run) => run.asked(helper),
             None => None,
+        }
+    }
+
+    /// The number to which the program raises a cell, where it asks for that; else it says nothing.
+    pub fn argument(&self) -> u64
+        ensures { result ≡ argument_asked (turn_in self.now.run) }
+    {
+        match &self.run {
+            Some(run) => run.argument(),
+            None => 0,
         }
     }
 

@@ -1,16 +1,17 @@
 //! A command that is judged, from its Take to its end.
 
-ghost use Rattle.std.specs.Prelude.{◌≡◌, ◌<◌, ℕ, List, Some, IfSome, length};
+ghost use Rattle.std.specs.Prelude.{◌≡◌, ◌<◌, ℕ, List, Some, IfSome, IsTrue, length, pos};
 ghost use Rattle.std.specs.Arc.{arc_value};
 ghost use Rattle.rmap.specs.Command.{command_of, discard_of};
 ghost use Rattle.machine.specs.declared.calls.Call.{Call};
 ghost use Rattle.machine.specs.Memory.{IsHeader};
-ghost use Rattle.machine.specs.Sizes.{IsInside};
+ghost use Rattle.machine.specs.Sizes.{IsInside, kind_of_map};
+ghost use Rattle.machine.specs.Step.{takes_kind};
 ghost use Rattle.bank.specs.Admission.{IsPlacedBy};
 ghost use Rattle.brun.specs.Pauses.{AsksWithin, IsAt, IsPaused, Turns};
 ghost use Rattle.sched.specs.Ends.{judged_with};
 ghost use Rattle.sched.specs.History.{History, Open, taken, with_answer};
-ghost use Rattle.sched.specs.Looking.{Node, cell_asked, header_in, published, slot_in, windows_in};
+ghost use Rattle.sched.specs.Looking.{Node, argument_asked, cell_asked, header_in, published, slot_in, windows_in};
 ghost use Rattle.sched.specs.Worlds.{IsAsk, IsFor, IsRunOf, IsRunWith, IsSameRun, verdict_at};
 
 use crate::laws::{arrays_are_headers, turns_are_paths};
@@ -112,7 +113,7 @@ impl Run {
     {
         match self.turn {
             Turn::Verdict(verdict) => Some(verdict),
-            Turn::Ask(_, _, _) => None,
+            Turn::Ask(_, _, _, _) => None,
         }
     }
 
@@ -120,11 +121,23 @@ impl Run {
     pub fn asked(&self, helper: u8) -> Option<(u8, u16)>
         ensures value { result ≡ cell_asked helper (Some self.now.turn) }
         ensures inside { IfSome result (λ cell. IsInside self.now.program.sizes cell.0 cell.1) }
+        ensures kind { IfSome result (λ cell.
+            IsTrue (takes_kind (pos helper) (kind_of_map self.now.program.sizes cell.0))) }
         ensures asks { IfSome result (λ _. IsAsk self.now.turn) }
     {
         match self.turn {
-            Turn::Ask(asked, map, key) if asked == helper => Some((map, key)),
-            Turn::Ask(_, _, _) | Turn::Verdict(_) => None,
+            Turn::Ask(asked, map, key, _) if asked == helper => Some((map, key)),
+            Turn::Ask(_, _, _, _) | Turn::Verdict(_) => None,
+        }
+    }
+
+    /// The number to which the program raises a cell, where it asks for that; else it says nothing.
+    pub fn argument(&self) -> u64
+        ensures { result ≡ argument_asked (Some self.now.turn) }
+    {
+        match self.turn {
+            Turn::Ask(_, _, _, argument) => argument,
+            Turn::Verdict(_) => 0,
         }
     }
 

@@ -33,6 +33,7 @@ pub fn step(alloc: Global, world: &mut World, event: Event) -> Result<Outcome, W
         Event::Take(port, packet) => world.take(alloc, port, packet),
         Event::Count(port) => Ok(world.count(port)),
         Event::Ticket(port) => Ok(world.ticket(port)),
+        Event::Peak(port) => Ok(world.peak(port)),
         Event::Effect(port) => world.effect(alloc, port),
         Event::Publish(port) => world.publish(alloc, port),
     }

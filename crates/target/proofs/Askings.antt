@@ -2,17 +2,18 @@
 use Rattle.std.proofs.Common.{◌≡◌, ℕ, List, [], ◌∷◌, ◌++◌, refl, ap}
 use base.Stored.{Gv}
 use Rattle.machine.specs.declared.calls.Call.{Call}
+use Rattle.machine.specs.Sizes.{Maps}
 use Rattle.rmap.specs.Windows.{WindowsValue}
 use Rattle.cells.specs.Seats.{CellSeatValue, calls}
 use Rattle.target.specs.Passes.{BearingValue, SeatValue, seat_of, bearing_after}
 
-abbrev pub seat_parts : List ℕ → Gv → List Call → SeatValue
+abbrev pub seat_parts : Maps → Gv → List Call → SeatValue
 seat_parts sizes home asked = record { sizes = sizes; home = home; asked = asked }
 
 abbrev pub bearing_parts : ℕ → WindowsValue → SeatValue → BearingValue
 bearing_parts port windows seat = record { port = port; windows = windows; seat = seat }
 
-same_seat : (sizes sizes_too : List ℕ) (home home_too : Gv) (asked asked_too : List Call) → sizes ≡ sizes_too → home ≡ home_too → asked ≡ asked_too → seat_parts sizes home asked ≡ seat_parts sizes_too home_too asked_too
+same_seat : (sizes sizes_too : Maps) (home home_too : Gv) (asked asked_too : List Call) → sizes ≡ sizes_too → home ≡ home_too → asked ≡ asked_too → seat_parts sizes home asked ≡ seat_parts sizes_too home_too asked_too
 same_seat sizes sizes_too home home_too asked asked_too a b c = rw (a, b, c) refl
 
 -- a seat that asked more, of a bearing that is otherwise the same

@@ -7,6 +7,7 @@ use Rattle.bpf.specs.declared.fault.ImageFault.TheVariants as image_faults
 use Rattle.bpf.specs.Program.{Program, IsProgram, image_bytes}
 use Rattle.bpf.specs.Reading.{Fails, image_reading}
 use Rattle.bver.specs.Justified.{AcceptedValue}
+use Rattle.bver.specs.Unjustified.{TellsUnjustified}
 use Rattle.bver.specs.Refusals.{IsRefusal, IsValueRefusal, of_form, of_values, of_memory}
 use Rattle.bver_form.specs.Codes.{IsFormCode}
 use Rattle.bver_form.specs.Laws.{FaultIsKnown}
@@ -78,36 +79,36 @@ refused_same : (r : Refused) (code : Refusal) (slot : ℕ) → r.code ≡ code �
 refused_same r code slot c s = ap₂ refused_of c s
 
 -- a refusal of the verifier, or want of memory
-pub unverified : FaultIsKnown → (bytes : List ℕ) (p : Program) (r : Refused) (refusal : LoadRefusal) → refusal ≡ Unverified r
-    → IsProgram p → bytes ≡ image_bytes p → IsRefusal p r → IsUnpreparedBy None bytes refusal ⊎ WantsToVerify bytes refusal
-unverified known bytes p r refusal is program spelled why = elim why [
+pub unverified : FaultIsKnown → (bytes : List ℕ) (sizes : Maps) (p : Program) (r : Refused) (refusal : LoadRefusal) → refusal ≡ Unverified r
+    → IsProgram p → bytes ≡ image_bytes p → IsRefusal p r → TellsUnjustified p sizes r → IsUnpreparedBy None bytes sizes refusal ⊎ WantsToVerify bytes refusal
+unverified known bytes sizes p r refusal is program spelled why unjustified = elim why [
   | of_form fault ↦ told (known_form r.code (known p r program fault).0)
   | of_values formed fault ↦ told (known_value r.code fault.code)
   | of_memory formed code slot ↦ inr (inr (p, program, spelled, is ∙ ap Unverified (refused_same r refusals.Memory 0 code slot)))
 ]
   where
-    told : r.code ≢ refusals.Memory → IsUnpreparedBy None bytes refusal ⊎ WantsToVerify bytes refusal
-    told other = inl (inr (record { program = p; is_program = program; spelled = spelled; refused = r; is = is; no_want = other; why = why }))
+    told : r.code ≢ refusals.Memory → IsUnpreparedBy None bytes sizes refusal ⊎ WantsToVerify bytes refusal
+    told other = inl (inr (record { program = p; is_program = program; spelled = spelled; refused = r; is = is; no_want = other; why = why; unjustified = unjustified other }))
 
 -- the same of what a call comes to that ends so
-pub unverified_told : {A : Type 0} (known : FaultIsKnown) (bytes : List ℕ) (p : Program) (r : Refused) (result : Result A LoadRefusal) → IsErrAnd result (λ (refusal : LoadRefusal). refusal ≡ Unverified r)
-    → IsProgram p → bytes ≡ image_bytes p → IsRefusal p r → IfErr result (λ (refusal : LoadRefusal). IsUnpreparedBy None bytes refusal ⊎ WantsToVerify bytes refusal)
-unverified_told known bytes p r (Ok a) is program spelled why = tt
-unverified_told known bytes p r (Err refusal) is program spelled why = unverified known bytes p r refusal is program spelled why
+pub unverified_told : {A : Type 0} (known : FaultIsKnown) (bytes : List ℕ) (sizes : Maps) (p : Program) (r : Refused) (result : Result A LoadRefusal) → IsErrAnd result (λ (refusal : LoadRefusal). refusal ≡ Unverified r)
+    → IsProgram p → bytes ≡ image_bytes p → IsRefusal p r → TellsUnjustified p sizes r → IfErr result (λ (refusal : LoadRefusal). IsUnpreparedBy None bytes sizes refusal ⊎ WantsToVerify bytes refusal)
+unverified_told known bytes sizes p r (Ok a) is program spelled why unjustified = tt
+unverified_told known bytes sizes p r (Err refusal) is program spelled why unjustified = unverified known bytes sizes p r refusal is program spelled why unjustified
 
 -- the same where the image was refused
-pub unread : (bytes : List ℕ) (refusal : LoadRefusal) → IsUnspelled bytes refusal ⊎ (refusal ≡ Image image_faults.Memory) → IsUnpreparedBy None bytes refusal ⊎ WantsToVerify bytes refusal
-unread bytes refusal why = elim why [
+pub unread : (bytes : List ℕ) (sizes : Maps) (refusal : LoadRefusal) → IsUnspelled bytes refusal ⊎ (refusal ≡ Image image_faults.Memory) → IsUnpreparedBy None bytes sizes refusal ⊎ WantsToVerify bytes refusal
+unread bytes sizes refusal why = elim why [
   | inl fault ↦ inl (inl fault)
   | inr memory ↦ inr (inl memory)
 ]
 
 -- control data that are right
-pub unprepared : (control : ControlData) (staged : List ℕ) (refusal : LoadRefusal) → control_fault control ≡ None
-    → IsUnpreparedBy None (loaded_bytes control staged) refusal ⊎ WantsToVerify (loaded_bytes control staged) refusal
-    → IsUnprepared control staged refusal ⊎ WantsToPrepare control staged refusal
-unprepared control staged refusal right why = elim why [
-  | inl fault ↦ inl (subst (λ (o : Option LoadRefusal). IsUnpreparedBy o (loaded_bytes control staged) refusal) (sym right) fault)
+pub unprepared : (control : ControlData) (staged : List ℕ) (sizes : Maps) (refusal : LoadRefusal) → control_fault control ≡ None
+    → IsUnpreparedBy None (loaded_bytes control staged) sizes refusal ⊎ WantsToVerify (loaded_bytes control staged) refusal
+    → IsUnprepared control staged sizes refusal ⊎ WantsToPrepare control staged refusal
+unprepared control staged sizes refusal right why = elim why [
+  | inl fault ↦ inl (subst (λ (o : Option LoadRefusal). IsUnpreparedBy o (loaded_bytes control staged) sizes refusal) (sym right) fault)
   | inr want ↦ inr (elim want [
     | inl image ↦ WantsToPrepare.of_image right image
     | inr verifier ↦ WantsToPrepare.of_verifier right verifier.0 verifier.1 verifier.2 verifier.3
@@ -115,23 +116,23 @@ unprepared control staged refusal right why = elim why [
 ]
 
 -- the same of what a call comes to that ends so
-pub unprepared_told : {A : Type 0} (control : ControlData) (staged : List ℕ) (told : LoadRefusal) (result : Result A LoadRefusal) → IsErrAnd result (λ (refusal : LoadRefusal). refusal ≡ told) → control_fault control ≡ None
-    → IsUnpreparedBy None (loaded_bytes control staged) told ⊎ WantsToVerify (loaded_bytes control staged) told
-    → IfErr result (λ (refusal : LoadRefusal). IsUnprepared control staged refusal ⊎ WantsToPrepare control staged refusal)
-unprepared_told control staged told (Ok a) is right why = tt
-unprepared_told control staged told (Err refusal) is right why =
-    unprepared control staged refusal right (subst (λ (r : LoadRefusal). IsUnpreparedBy None (loaded_bytes control staged) r ⊎ WantsToVerify (loaded_bytes control staged) r) (sym is) why)
+pub unprepared_told : {A : Type 0} (control : ControlData) (staged : List ℕ) (sizes : Maps) (told : LoadRefusal) (result : Result A LoadRefusal) → IsErrAnd result (λ (refusal : LoadRefusal). refusal ≡ told) → control_fault control ≡ None
+    → IsUnpreparedBy None (loaded_bytes control staged) sizes told ⊎ WantsToVerify (loaded_bytes control staged) told
+    → IfErr result (λ (refusal : LoadRefusal). IsUnprepared control staged sizes refusal ⊎ WantsToPrepare control staged refusal)
+unprepared_told control staged sizes told (Ok a) is right why = tt
+unprepared_told control staged sizes told (Err refusal) is right why =
+    unprepared control staged sizes refusal right (subst (λ (r : LoadRefusal). IsUnpreparedBy None (loaded_bytes control staged) sizes r ⊎ WantsToVerify (loaded_bytes control staged) r) (sym is) why)
 
 -- control data that are wrong
-pub misdirected : (control : ControlData) (staged : List ℕ) (fault refusal : LoadRefusal) → control_fault control ≡ Some fault → refusal ≡ fault → IsUnprepared control staged refusal
-misdirected control staged fault refusal wrong is = subst (λ (o : Option LoadRefusal). IsUnpreparedBy o (loaded_bytes control staged) refusal) (sym wrong) is
+pub misdirected : (control : ControlData) (staged : List ℕ) (sizes : Maps) (fault refusal : LoadRefusal) → control_fault control ≡ Some fault → refusal ≡ fault → IsUnprepared control staged sizes refusal
+misdirected control staged sizes fault refusal wrong is = subst (λ (o : Option LoadRefusal). IsUnpreparedBy o (loaded_bytes control staged) sizes refusal) (sym wrong) is
 
 at_end : (count : ℕ) → (count < 2 ^ 32) ⊎ (2 ^ 32 ≤ count)
 at_end count = search arith
 
 -- what is not prepared is not loaded
 pub not_prepared : (control : ControlData) (staged : List ℕ) (sizes : Maps) (count : ℕ) (refusal : LoadRefusal)
-    → IsUnprepared control staged refusal ⊎ WantsToPrepare control staged refusal → IsLoadRefusal control staged sizes count refusal
+    → IsUnprepared control staged sizes refusal ⊎ WantsToPrepare control staged refusal → IsLoadRefusal control staged sizes count refusal
 not_prepared control staged sizes count refusal why = elim why [
   | inl fault ↦ inl (inl fault)
   | inr want ↦ inr (WantsMemory.preparing want)
@@ -139,10 +140,10 @@ not_prepared control staged sizes count refusal why = elim why [
 
 -- the same of what a call comes to that ends so
 pub not_prepared_told : {A : Type 0} (control : ControlData) (staged : List ℕ) (sizes : Maps) (count : ℕ) (told : LoadRefusal) (result : Result A LoadRefusal) → IsErrAnd result (λ (refusal : LoadRefusal). refusal ≡ told)
-    → IsUnprepared control staged told ⊎ WantsToPrepare control staged told → IfErr result (IsLoadRefusal control staged sizes count)
+    → IsUnprepared control staged sizes told ⊎ WantsToPrepare control staged told → IfErr result (IsLoadRefusal control staged sizes count)
 not_prepared_told control staged sizes count told (Ok a) is why = tt
 not_prepared_told control staged sizes count told (Err refusal) is why =
-    not_prepared control staged sizes count refusal (subst (λ (r : LoadRefusal). IsUnprepared control staged r ⊎ WantsToPrepare control staged r) (sym is) why)
+    not_prepared control staged sizes count refusal (subst (λ (r : LoadRefusal). IsUnprepared control staged sizes r ⊎ WantsToPrepare control staged r) (sym is) why)
 
 -- nor is what is not published
 pub not_published : (control : ControlData) (staged : List ℕ) (sizes : Maps) (count slot : ℕ) (program : AcceptedValue) (refusal : LoadRefusal)

@@ -83,6 +83,7 @@ wants_verifier_memory refusals.FallOff = false
 wants_verifier_memory refusals.Budget = false
 wants_verifier_memory refusals.Unsupported = false
 wants_verifier_memory refusals.Memory = true
+wants_verifier_memory refusals.MapKind = false
 
 -- memory was refused to the image, to the verifier or to publishing
 abbrev pub wants_memory : LoadRefusal → Bool
@@ -108,8 +109,8 @@ pub record IsUnspelled (bytes : List ℕ) (refusal : LoadRefusal) : Type 0 where
 abbrev pub IsFirstFault : List ℕ → LoadRefusal → Type 0
 IsFirstFault bytes refusal = (fault : ImageFault) → refusal ≡ Image fault → Fails fault (image_reading bytes)
 
--- the bytes spell a program, which the verifier refused, and it is told why
-pub record IsUnverified (bytes : List ℕ) (refusal : LoadRefusal) : Type 0 where
+-- the bytes spell a program, which the verifier refused for these maps, and it is told why: nothing justifies it
+pub record IsUnverified (bytes : List ℕ) (sizes : Maps) (refusal : LoadRefusal) : Type 0 where
   pub program : Program
   pub is_program : IsProgram program
   pub spelled : bytes ≡ image_bytes program
@@ -117,15 +118,16 @@ pub record IsUnverified (bytes : List ℕ) (refusal : LoadRefusal) : Type 0 wher
   pub is : refusal ≡ Unverified refused
   pub no_want : refused.code ≢ refusals.Memory
   pub why : IsRefusal program refused
+  pub unjustified : IsJustified program sizes → ⊥
 
 -- why nothing can be published, by what is wrong with the control data: exactly where something is, that is told
-abbrev pub IsUnpreparedBy : Option LoadRefusal → List ℕ → LoadRefusal → Type 0
-IsUnpreparedBy (Some fault) bytes refusal = refusal ≡ fault
-IsUnpreparedBy None bytes refusal = IsUnspelled bytes refusal ⊎ IsUnverified bytes refusal
+abbrev pub IsUnpreparedBy : Option LoadRefusal → List ℕ → Maps → LoadRefusal → Type 0
+IsUnpreparedBy (Some fault) bytes sizes refusal = refusal ≡ fault
+IsUnpreparedBy None bytes sizes refusal = IsUnspelled bytes refusal ⊎ IsUnverified bytes sizes refusal
 
--- why nothing can be published
-abbrev pub IsUnprepared : ControlData → (staged : List ℕ) → LoadRefusal → Type 0
-IsUnprepared control staged refusal = IsUnpreparedBy (control_fault control) (loaded_bytes control staged) refusal
+-- why nothing can be published, in a node with these maps
+abbrev pub IsUnprepared : ControlData → (staged : List ℕ) → Maps → LoadRefusal → Type 0
+IsUnprepared control staged sizes refusal = IsUnpreparedBy (control_fault control) (loaded_bytes control staged) sizes refusal
 
 -- the control data are right, and the staged bytes spell that program, which is justified for those sizes
 pub record IsPrepared (control : ControlData) (staged : List ℕ) (sizes : Maps) (slot : ℕ) (a : AcceptedValue) : Type 0 where

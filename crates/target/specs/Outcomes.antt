@@ -18,7 +18,7 @@ abbrev pub IsLoad : ControlData → (staged : List ℕ) → Maps → (count : �
 IsLoad control staged sizes count (Published slot program) =
     IsPrepared control staged sizes slot program × (count < 2 ^ 32)
 IsLoad control staged sizes count (Refused refusal) =
-    IsUnprepared control staged refusal
+    IsUnprepared control staged sizes refusal
     ⊎ ((slot : ℕ) × (program : AcceptedValue) × IsPrepared control staged sizes slot program × (2 ^ 32 ≤ count) × (refusal ≡ load_refusals.GenerationsFull))
 
 -- memory was refused to a running load: to what comes before publishing, or to publishing, where generations are

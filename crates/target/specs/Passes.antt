@@ -7,12 +7,12 @@ use Rattle.publish.specs.Published.{sizes_of}
 use Rattle.publish.specs.Staged.{Staged}
 use base.Stored.{Gv}
 use Rattle.machine.specs.declared.calls.Call.{Call}
+use Rattle.machine.specs.Sizes.{Maps}
 use Rattle.cells.specs.Seats.{CellSeatValue, calls}
 
--- what a port has of its node's counters: the sizes of the maps, the name of the cells, and the calls
--- of its programs so far
+-- what a port has of its node's cells: the maps, the name of the cells, and the calls of its programs so far
 pub record SeatValue : Type 0 where
-  pub sizes : List ℕ
+  pub sizes : Maps
   pub home : Gv
   pub asked : List Call
 

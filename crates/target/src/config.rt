@@ -26,7 +26,7 @@ pub struct NodeConfig<'a> {
     pub ports: u8,
     /// Its banks, 1 to 8. The extended address of a bank is its place in the list.
     pub banks: &'a [BankConfig],
-    /// The sizes of its counter maps.
+    /// Its maps: how many cells each has, and of which kind it is.
     pub sizes: MapSizes,
 }
 

@@ -53,7 +53,7 @@ fn program_of(alloc: Global, bytes: &[u8], sizes: &MapSizes) -> Result<Accepted,
     ensures spelled { IfOk result (λ a. IsProgram a.program × (bytes.now ≡ image_bytes a.program)) }
     ensures justified { IfOk result (λ a. IsJustified a.program sizes.now × (a.sizes ≡ sizes.now)) }
     ensures refused { IfErr result (λ refusal.
-        IsUnpreparedBy None bytes.now refusal ⊎ WantsToVerify bytes.now refusal) }
+        IsUnpreparedBy None bytes.now sizes.now refusal ⊎ WantsToVerify bytes.now refusal) }
     ensures first { IfErr result (IsFirstFault bytes.now) }
 {
     first_faults();
@@ -78,7 +78,7 @@ pub fn prepare(
 ) -> Result<(u8, Accepted), LoadRefusal>
     ensures prepared { IfOk result
         (λ made. IsPrepared control staging.now.bytes sizes.now made.0 made.1) }
-    ensures refused { IfErr result (λ refusal. IsUnprepared control staging.now.bytes refusal
+    ensures refused { IfErr result (λ refusal. IsUnprepared control staging.now.bytes sizes.now refusal
         ⊎ WantsToPrepare control staging.now.bytes refusal) }
     ensures first { IfErr result (IsFirstFault (loaded_bytes control staging.now.bytes)) }
 {

@@ -19,5 +19,5 @@ pub use operations::{
     CONDITIONS, EXTENSIONS, LOAD_SIZES, OPERATIONS, SIZES, SWAP_BITS, SWAPS, WIDTHS,
 };
 pub use random::Random;
-pub use rows::{Row, answer, hexadecimals, sizes, word};
+pub use rows::{Row, answer, counts, hexadecimals, sizes, word};
 pub use runs::{FRONT, TAIL, by_turns, turns_on, verdict};

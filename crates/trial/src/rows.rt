@@ -1,5 +1,8 @@
 //! Rows of a table in text.
 
+ghost use Rattle.std.specs.Prelude.{◌≡◌, IsTrue};
+ghost use Rattle.machine.specs.Sizes.{kind_of_map};
+
 use machine::{MapKind, MapSizes};
 use std::alloc::Global;
 use std::fmt::Debug;
@@ -55,6 +58,16 @@ pub fn sizes(alloc: Global, text: &str) -> Result<MapSizes, Fail> {
         maps.push(map_of(word)?)?;
     }
     Ok(MapSizes::with_kinds(&maps)?)
+}
+
+/// Whether the cells of the map count tickets.
+pub fn counts(sizes: &MapSizes, map: u8) -> bool
+    ensures { IsTrue result → kind_of_map sizes.now map ≡ MapKind.Counter }
+{
+    match sizes.kind(map) {
+        Some(MapKind::Counter) | None => true,
+        Some(MapKind::Peak) => false,
+    }
 }
 
 /// The code and the slot of a refusal, or nothing.

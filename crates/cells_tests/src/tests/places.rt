@@ -1,6 +1,6 @@
 //! Cells by their places, and what seats of one thread see.
 
-use crate::tests::{count, give_back, same, ticket};
+use crate::tests::{count, found, give_back, same, ticket};
 use cells::Cells;
 use machine::MapSizes;
 use std::test::*;
@@ -20,9 +20,8 @@ fn two_seats_see_one_word(rt: HostRuntime) -> Result<(), Fail> {
     same(&rt, "the own count", count(&mut one, 0, 0), Some(3));
     same(&rt, "the other's ticket", ticket(&mut other, 0, 0), Some(3));
     same(&rt, "the count after it", count(&mut one, 0, 0), Some(4));
-    if sizes.contains(0, 0) {
-        same(&rt, "what was drawn", cells.drawn(0, 0), 4);
-    }
+    let drawn = found(&mut cells, &sizes, 0, 0);
+    same(&rt, "what was drawn", drawn, Some(4));
     Ok(())
 }
 
@@ -119,8 +118,7 @@ fn seats_come_back(rt: HostRuntime) -> Result<(), Fail> {
     let (mut cells, seats) = Cells::new(rt.alloc(), &sizes, 255)?;
     same(&rt, "how many seats", seats.len(), 255);
     give_back(&mut cells, seats);
-    if sizes.contains(0, 0) {
-        same(&rt, "what was drawn", cells.drawn(0, 0), 0);
-    }
+    let drawn = found(&mut cells, &sizes, 0, 0);
+    same(&rt, "what was drawn", drawn, Some(0));
     Ok(())
 }

@@ -1,6 +1,6 @@
 //! Seats in threads.
 
-use crate::tests::{count, same, ticket};
+use crate::tests::{count, found, same, ticket};
 use cells::{CellSeat, Cells};
 use machine::MapSizes;
 use std::alloc::{AllocError, Global};
@@ -59,8 +59,7 @@ fn eight_threads_draw(rt: HostRuntime) -> Result<(), Fail> {
     for (number, place) in numbers.iter().zip(0..8000u64) {
         same(&rt, "a number", *number, place);
     }
-    if sizes.contains(0, 0) {
-        same(&rt, "what was drawn", cells.drawn(0, 0), 8000);
-    }
+    let drawn = found(&mut cells, &sizes, 0, 0);
+    same(&rt, "what was drawn", drawn, Some(8000));
     Ok(())
 }

@@ -18,7 +18,7 @@ use std::sync::Wait;
 use std::test::Fail;
 use std::thread::{Threads, map_vec};
 use target::{Node, NodeConfig, Pass, Step, finish, judge};
-use trial::{PLAIN_READ, SpareBank, bank, image_of_text};
+use trial::{PLAIN_READ, SpareBank, bank, counts, image_of_text};
 
 /// Draws a ticket for each command, and says yes to the first five.
 const QUOTA: &str =
@@ -216,7 +216,7 @@ fn drawn(mut cells: Cells, sizes: &MapSizes, mut all: Vec<Left>) -> Option<u64>
     while let Some(Left { seat, .. }) = all.pop() {
         cells.take_back(seat);
     }
-    if !sizes.contains(0, 0) {
+    if !sizes.contains(0, 0) || !counts(sizes, 0) {
         return None;
     }
     Some(cells.drawn(0, 0))

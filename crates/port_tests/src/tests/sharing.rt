@@ -14,7 +14,7 @@ use std::sync::Wait;
 use std::test::Fail;
 use std::thread::Threads;
 use target::{Node, NodeConfig};
-use trial::{PLAIN_WRITE, bank, program};
+use trial::{PLAIN_WRITE, bank, counts, program};
 
 /// A program that says yes to the first five commands, whatever their port.
 const QUOTA: &str =
@@ -50,7 +50,7 @@ fn quota<J: Room + Send + 'static, R: Threads + Wait + Abort + Sync>(
         denied = denied.wrapping_add(with_status(replies, 10));
     }
     same(rt, "done and denied", (done, denied), (5, 15));
-    if config.sizes.contains(0, 0) {
+    if config.sizes.contains(0, 0) && counts(&config.sizes, 0) {
         same(rt, "the tickets", cells.drawn(0, 0), 20);
     }
     if node.banks() == 0 {

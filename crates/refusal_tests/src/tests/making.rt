@@ -18,15 +18,16 @@ use std::process::Abort;
 use std::sync::Wait;
 use std::test::Fail;
 use target::{BankConfig, Node, NodeConfig, NodeFault};
-use trial::{BASE, PLAIN_READ, bank, sizes};
+use trial::{BASE, PLAIN_READ, bank, counts, sizes};
 
 /// The sizes of the maps.
 const MAPS: &str = "2 1";
 
 /// A ticket of the cell of the second map.
 fn ticket(seat: &mut CellSeat) -> Result<u64, Fail> {
-    if !seat.sizes().contains(1, 0) {
-        return Err("no cell".into());
+    let sizes = seat.sizes();
+    if !sizes.contains(1, 0) || !counts(&sizes, 1) {
+        return Err("no cell that counts".into());
     }
     Ok(seat.ticket(1, 0))
 }

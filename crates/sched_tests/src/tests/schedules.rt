@@ -9,7 +9,7 @@ use std::test::Fail;
 use target::NodeConfig;
 use trial::{Row, bank, image_of_text, sizes};
 
-/// A row has a name, the sizes of the maps, how many ports there are, the room of the bank's journal, the factory
+/// A row has a name, the maps, how many ports there are, the room of the bank's journal, the factory
 /// program, events, and what they come to: a generation, what was told, or a status with the reply and the load result.
 const SCHEDULES: &str = "\
 no command||1|16|mov r0, 0; exit|take 0 nothing/take 0 cut/take 0 cut-by-an-error/take 0 other-protocol/take 0 reply/take 0 wrong-header|discard 1/discard 1/discard 1/discard 2/discard 3/discard 4
@@ -58,6 +58,15 @@ a program over its budget||1|16|mov r0, 0; exit|take 0 stage-little-budget/effec
 a refused load keeps the program||1|16|mov r0, 0; exit|take 0 stage-no/effect 0/take 0 load-1/publish 0/take 0 stage-unset/effect 0/take 0 load-40/publish 0/take 0 write/effect 0|taken 0/done 0 67012C00FE00017C/taken 0/done 0 67012C00FE00020E 0000000000000001/taken 0/done 0 67012C00FE00017C/taken 0/done 1 67012C01FE000282 0500000200000000/taken 1/done 10 67012C0AFE0000D2
 a control write without its verdict or its body||1|16|mov r0, 0; exit|take 0 stage-no/effect 0/take 0 load-badly/publish 0/take 0 load-3/publish 0/take 0 load-1/publish 0/take 0 result/effect 0|taken 0/done 0 67012C00FE00017C/taken 0/done 4 67012C04FE00027D/taken 0/done 0 67012C00FE00020E 0000000000000001/taken 1/done 10 67012C0AFE000231/taken 1/done 10 67010C0AFE0000000000004F00
 a load reads the staging of its Publish||1|16|mov r0, 0; exit|take 0 load-1/publish 0/take 0 stage-no/effect 0/take 0 load-1/publish 0|taken 0/done 1 67012C01FE000282 2100000000000000/taken 0/done 0 67012C00FE00017C/taken 0/done 0 67012C00FE00020E 0000000000000001
+two ports raise a peak, the higher first|1p|2|16|.version 2; ldmap r1, 0; mov r2, 0; call 3; mov r0, 0; exit|take 0 read/take 1 read/peak 1/peak 0/effect 0/effect 1|taken 0/taken 0/told 1/told 1/done 0 67010C00FE0001000000106D0000000000000000000000000000000000/done 0 67010C00FE0001000000106D0000000000000000000000000000000000
+two ports raise a peak in order|1p|2|16|.version 2; ldmap r1, 0; mov r2, 0; call 3; mov r0, 0; exit|take 0 read/take 1 read/peak 0/peak 1/effect 0/effect 1|taken 0/taken 0/told 0/told 1/done 0 67010C00FE0001000000106D0000000000000000000000000000000000/done 0 67010C00FE0001000000106D0000000000000000000000000000000000
+a lower number is told the peak|1p|8|16|.version 2; ldmap r1, 0; mov r2, 0; call 3; mov r0, 0; exit|take 7 read/peak 7/effect 7/take 3 read/peak 3/effect 3|taken 0/told 7/done 0 67010C00FE0001000000106D0000000000000000000000000000000000/taken 0/told 7/done 0 67010C00FE0001000000106D0000000000000000000000000000000000
+peak at its helper|1p|1|16|.version 2; ldmap r1, 0; mov r2, 0; call 3; mov r0, 0; exit|peak 0/take 0 read/ticket 0/count 0/effect 0/publish 0/peak 1/peak 0/peak 0/effect 0|refused/taken 0/refused/refused/refused/refused/refused/told 0/refused/done 0 67010C00FE0001000000106D0000000000000000000000000000000000
+peak at the other helpers|1|1|16|ldmap r1, 0; mov r2, 0; call 1; mov r6, r0; ldmap r1, 0; mov r2, 0; call 2; mov r0, r6; exit|take 0 read/peak 0/count 0/peak 0/ticket 0/effect 0|taken 0/refused/told 0/refused/told 0/done 0 67010C00FE0001000000106D0000000000000000000000000000000000
+a count is told the peak of its cell|1p|2|16|.version 2; jeq r3, 0, +7; ldmap r1, 0; mov r2, 0; mov r3, 9; call 3; mov r0, 0; exit; ldmap r1, 0; mov r2, 0; call 1; mov r0, 0; exit|take 0 read/take 1 read/peak 1/count 0/effect 0/take 0 read/count 0|taken 0/taken 0/told 9/told 9/done 0 67010C00FE0001000000106D0000000000000000000000000000000000/taken 0/told 9
+a ticket is raised into a peak|1 1p|2|16|.version 2; ldmap r1, 0; mov r2, 0; call 2; ldmap r1, 1; mov r2, 0; mov r3, r0; call 3; mov r0, 0; exit|take 0 read/take 1 read/ticket 0/ticket 1/peak 1/peak 0/effect 0/effect 1|taken 0/taken 0/told 0/told 1/told 1/told 1/done 0 67010C00FE0001000000106D0000000000000000000000000000000000/done 0 67010C00FE0001000000106D0000000000000000000000000000000000
+a load asks a map of the other kind|1|1|16|mov r0, 0; exit|take 0 stage-peak/effect 0/take 0 load-64/publish 0/take 0 result/effect 0/take 0 read/effect 0|taken 0/done 0 67012C00FE00017C/taken 0/done 1 67012C01FE000282 1200000300000000/taken 0/done 0 67010C00FE000000000008961200000300000000D8/taken 0/done 0 67010C00FE0001000000106D0000000000000000000000000000000000
+a load is for maps of these kinds|1p|1|16|mov r0, 0; exit|take 0 stage-peak/effect 0/take 0 load-64/publish 0/take 0 write/peak 0/effect 0|taken 0/done 0 67012C00FE00017C/taken 0/done 0 67012C00FE00020E 0000000000000001/taken 1/told 0/done 0 67012C00FE0000ED
 ";
 
 /// The event of a text: its name, its port and, where it takes one, the name of a packet.
@@ -71,6 +80,7 @@ fn event(alloc: Global, text: &str) -> Result<Event, Fail> {
     match kind {
         "count" => Ok(Event::Count(port)),
         "ticket" => Ok(Event::Ticket(port)),
+        "peak" => Ok(Event::Peak(port)),
         "effect" => Ok(Event::Effect(port)),
         "publish" => Ok(Event::Publish(port)),
         _ => Err("no such event".into()),

@@ -11,7 +11,7 @@ of_words-requires c =
     let sizes = c.args.sizes.now in
     let n = c.first_word-count.result in
     let z = c.zeros-zeros.result in
-    let all : n ≡ sum sizes = c.first_word-count.ensures.word ∙ ap (λ (k : ℕ). sum (take k sizes)) c.maps.ensures.maps ∙ ap sum (take-length sizes) in
+    let all : n ≡ sum sizes.cells = c.first_word-count.ensures.word ∙ ap (λ (k : ℕ). sum (take k sizes.cells)) c.maps.ensures.maps ∙ ap sum (take-length sizes.cells) in
     let size : length z ≡ 257 = ap length c.zeros-zeros.ensures ∙ length-replicate {A = ℕ} 257 0 in
     let long : length (take (n + 1) z) ≡ n + 1 = length-take-le (n + 1) z (let few = c.first_word-count.ensures.few in omega arith) in
     opens sizes (take (n + 1) z) (long ∙ ap (λ (k : ℕ). k + 1) all)

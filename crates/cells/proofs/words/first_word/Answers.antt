@@ -4,5 +4,5 @@ use Rattle.cells.proofs.words.first_word.Goals as goal
 
 pub returns-clause-few : goal.returns-clause-few
 returns-clause-few c =
-    let sizes = c.args.sizes.now in
+    let sizes = c.args.sizes.now.cells in
     omega (arith, c.loop-before.invariant, c.stand_limited.ensures.total, sum_by-take-le (λ (x : ℕ). x) sizes c.loop-before.before)

@@ -1,5 +1,6 @@
-use Rattle.std.proofs.Common.{ℕ, sym, subst}
-use Rattle.machine.specs.Sizes.{IsInside}
+use Rattle.std.proofs.Common.{◌≡◌, ℕ, sym, subst}
+use Rattle.machine.specs.Sizes.{IsInside, kind_of_map}
+use Rattle.machine.specs.declared.kinds.MapKind.TheVariants.{Counter}
 use Rattle.cells.specs.Counting.{IsCounted}
 use Rattle.cells.specs.Seats.{CellsValue, AreNumbered, IsWhole}
 use Rattle.cells.proofs.CellsOfWords.{told}
@@ -7,7 +8,10 @@ use Rattle.cells.proofs.Places.{tells_at}
 use Rattle.cells.proofs.cells.Cells.drawn.Goals as goal
 
 pub load-requires : goal.load-requires
-load-requires c = rw c.deref.ensures (tells_at _ _ _ c.self.inside.rest c.self.invariant c.word_at-word.result c.word_at-word.ensures.inside)
+load-requires c =
+    let inside = subst (λ (v : CellsValue). IsInside v.sizes c.args.map c.args.key) (sym c.self.view_is) c.requires.inside in
+    let kind = subst (λ (v : CellsValue). kind_of_map v.sizes c.args.map ≡ Counter) (sym c.self.view_is) c.requires.kind in
+    rw c.deref.ensures (tells_at _ _ _ c.self.inside.rest c.self.invariant c.args.map c.args.key c.word_at-word.result inside c.word_at-word.ensures.word kind c.word_at-word.ensures.inside)
 
 pub returns-clause-tickets : goal.returns-clause-tickets
 returns-clause-tickets c =
@@ -15,6 +19,7 @@ returns-clause-tickets c =
     let key = c.args.key in
     let found = c.load.result in
     let draws = c.self.inside.rest.me.0.draws in
-    let inside = subst (λ (v : CellsValue). IsInside v.sizes map key) (sym c.self.view_is) c.requires in
+    let inside = subst (λ (v : CellsValue). IsInside v.sizes map key) (sym c.self.view_is) c.requires.inside in
+    let kind = subst (λ (v : CellsValue). kind_of_map v.sizes map ≡ Counter) (sym c.self.view_is) c.requires.kind in
     subst (λ (v : CellsValue). IsWhole v → AreNumbered v map key found) c.self.view_is
-    (λ all. told c.self.inside.sizes map key found draws inside c.self.invariant.draws (subst (λ (word : ℕ). IsCounted word found draws) c.word_at-word.ensures.word (c.load.ensures.2.counted all)))
+    (λ all. told c.self.inside.sizes map key found draws inside kind c.self.invariant.draws (subst (λ (word : ℕ). IsCounted word found draws) c.word_at-word.ensures.word (c.load.ensures.2.counted all)))

@@ -8,6 +8,6 @@ use Rattle.cells.proofs.cells.Cells.new.Given as goal
 abbrev pub invariant-loop-seat : goal.invariant-loop-seat
 invariant-loop-seat l = record {
   placed : IsPlaced l.sizes (arc_value l.words).shared.key (arc_value l.words).shared.table_id l.rest;
-  rest : l.rest.me.0 ≡ hand (256 - l._seat) [];
+  rest : l.rest.me.0 ≡ hand l.sizes (256 - l._seat) [];
   places : l.places.items ≡ replicate l._seat (seat l.sizes (table_id_coded.code l.rest.table_id) []);
 }

@@ -1,5 +1,6 @@
-use Rattle.std.proofs.Common.{List, ℕ, sym, ap, ◌∙◌, subst}
+use Rattle.std.proofs.Common.{sym, ap, ◌∙◌, subst}
 use Rattle.atomic_table.specs.Seated.{table_id_coded}
+use Rattle.machine.specs.Sizes.{Maps}
 use Rattle.cells.specs.Seats.{AreOf}
 use Rattle.cells.proofs.Places.{joins_at, placed_joined}
 use Rattle.cells.proofs.cells.Cells.take_back.Goals as goal
@@ -14,5 +15,5 @@ invariant_of-self c =
     let sizes = ap (λ s. s.sizes) c.seat.view_is ∙ c.requires.sizes ∙ sym (ap (λ s. s.sizes) c.self.view_is) in
     let draws = c.seat.inside.place.me.0.draws in
     let me = c.join_seat.ensures.2 in
-    placed_joined _ _ _ c.self.inside.rest c.self.invariant c.join_seat.new.seat draws c.join_seat.ensures.0 (ap (λ m. m.1) me) (ap (λ m. m.0.draws) me)
-    (subst (λ (n : List ℕ). AreOf n draws) sizes c.seat.invariant.0.draws)
+    placed_joined _ _ _ c.self.inside.rest c.self.invariant c.join_seat.new.seat draws c.join_seat.ensures.0 (ap (λ m. m.1) me) (ap (λ m. m.0.maps) me) (ap (λ m. m.0.draws) me)
+    (subst (λ (n : Maps). AreOf n draws) sizes c.seat.invariant.0.draws)

@@ -13,13 +13,13 @@ load-requires c =
 pub invariant_of-self : goal.invariant_of-self
 invariant_of-self c =
     let answers = c.load.ensures.2 in
-    (placed_after _ _ _ c.self.inside.place c.self.invariant.0 1 c.load.result _ c.load.new.seat c.word_at-word.ensures.inside c.load.ensures.0 answers, answers.parts ∙ c.self.invariant.1)
+    (placed_after _ _ _ c.self.inside.place c.self.invariant.0 1 0 c.load.result _ c.load.new.seat c.word_at-word.ensures.inside c.load.ensures.0 answers, answers.parts ∙ c.self.invariant.1)
 
 pub returns : goal.returns
 returns c =
     let after : CellSeatValue = seat c.self.inside.sizes (table_id_coded.code c.load.new.seat.table_id) c.load.new.seat.me.0.draws in
     let inside = subst (λ (v : CellSeatValue). IsInside v.sizes c.args.map c.args.key) (sym c.self.view_is) c.requires in
     record {
-      asks = subst (λ (v : CellSeatValue). Asks 1 c.args.map c.args.key v c.load.result after) c.self.view_is
-          (asks_after _ _ _ c.self.inside.place c.self.invariant.0 c.args.map c.args.key 1 c.load.result _ c.load.new.seat inside c.word_at-word.ensures.word c.load.ensures.0 c.load.ensures.2);
+      asks = subst (λ (v : CellSeatValue). Asks 1 c.args.map c.args.key 0 v c.load.result after) c.self.view_is
+          (asks_after _ _ _ c.self.inside.place c.self.invariant.0 c.args.map c.args.key 1 0 c.load.result _ c.load.new.seat inside c.word_at-word.ensures.word c.load.ensures.0 c.load.ensures.2);
     }

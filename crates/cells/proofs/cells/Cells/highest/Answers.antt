@@ -1,0 +1,24 @@
+use Rattle.std.proofs.Common.{◌≡◌, ℕ, sym, subst}
+use Rattle.machine.specs.Sizes.{IsInside, kind_of_map}
+use Rattle.machine.specs.declared.kinds.MapKind.TheVariants.{Peak}
+use Rattle.cells.specs.Counting.{IsPeak}
+use Rattle.cells.specs.Seats.{CellsValue, IsHighest, IsWhole}
+use Rattle.cells.proofs.CellsOfWords.{told_peak}
+use Rattle.cells.proofs.Places.{tells_peak_at}
+use Rattle.cells.proofs.cells.Cells.highest.Goals as goal
+
+pub load-requires : goal.load-requires
+load-requires c =
+    let inside = subst (λ (v : CellsValue). IsInside v.sizes c.args.map c.args.key) (sym c.self.view_is) c.requires.inside in
+    let kind = subst (λ (v : CellsValue). kind_of_map v.sizes c.args.map ≡ Peak) (sym c.self.view_is) c.requires.kind in
+    rw c.deref.ensures (tells_peak_at _ _ _ c.self.inside.rest c.self.invariant c.args.map c.args.key c.word_at-word.result inside c.word_at-word.ensures.word kind c.word_at-word.ensures.inside)
+
+pub returns-clause-calls : goal.returns-clause-calls
+returns-clause-calls c =
+    let map = c.args.map in
+    let key = c.args.key in
+    let found = c.load.result in
+    let draws = c.self.inside.rest.me.0.draws in
+    let inside = subst (λ (v : CellsValue). IsInside v.sizes map key) (sym c.self.view_is) c.requires.inside in
+    subst (λ (v : CellsValue). IsWhole v → IsHighest v map key found) c.self.view_is
+    (λ all. told_peak c.self.inside.sizes map key found draws inside c.self.invariant.draws (subst (λ (word : ℕ). IsPeak word found draws) c.word_at-word.ensures.word (c.load.ensures.2.peak all)))
