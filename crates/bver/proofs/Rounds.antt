@@ -1,7 +1,7 @@
 -- What is known in a loop says all that its head says of what the loop does not write. So an edge back to the head
 -- that lowers nothing is covered there.
 use Rattle.std.proofs.Common.{◌≡◌, ◌≢◌, ℕ, zero, suc, ◌-◌, Bool, true, false, List, [], ◌∷◌, Option, Some, ◌⊎◌, inl, inr, refl, sym, subst, arith}
-use Rattle.std.specs.Prelude.{IsTrue, ◌==◌, ◌^◌, if◌then◌else◌}
+use Rattle.std.specs.Prelude.{IsTrue, ◌==◌, if◌then◌else◌}
 use Rattle.std.proofs.lemmas.Bool.{false≢true}
 use Rattle.bpf.specs.declared.loops.Loop.{Loop}
 use Rattle.bpf.specs.Program.{Program}
@@ -15,7 +15,7 @@ use Rattle.absdom.specs.declared.kinds.AbsKind.TheVariants.{Unset, Num, Ptr, Map
 use Rattle.absdom.specs.Kinds.{IsKindBelow}
 use Rattle.absdom.specs.Marks.{AreMarkedIn}
 use Rattle.absdom.specs.Places.{AreAllWhole, AreRangesWithin}
-use Rattle.absdom.specs.State.{StateValue, IsBelow, IsWhole, IsProper, kind_at, kind_in, range_at}
+use Rattle.absdom.specs.State.{StateValue, IsBelow, IsWhole, IsProper, kind_at, kind_in}
 use Rattle.absdom.specs.Laws.{BelowIsTransitive, IsLeftBy}
 use Rattle.bver_form.specs.Loops.{holds}
 use Rattle.bver.specs.Heads.{is_number}
