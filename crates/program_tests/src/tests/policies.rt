@@ -20,6 +20,7 @@ fn tickets_of_a_table(rt: HostRuntime) -> Result<(), Fail> {
         helper: 2,
         map,
         key,
+        argument: 0,
         answer,
     };
     same(
