@@ -4,10 +4,10 @@
 #![tactic(auto)]
 
 use anyhow::{Result, anyhow};
-use bver::MapSizes;
 use commands::{
     AsmWords, HostFiles, Job, JudgeWords, NodeWords, PolicyWords, VerifyWords, perform,
 };
+use machine::{MapKind, MapSizes};
 use std::alloc::{AllocError, Global};
 use std::io::{self, Write};
 use std::rt;
@@ -27,7 +27,7 @@ const PROGRAMS: [&str; 4] = [
 struct Node<'a> {
     /// The name of the file of packet lines.
     lines: &'a str,
-    /// How many cells each counter map has.
+    /// How many cells each map has, and of which kind it is.
     sizes: MapSizes,
     ports: u8,
 }
@@ -94,6 +94,21 @@ fn show<R: rt::Files + Input + Threads + Wait + Sync, W: Write>(
     Ok(())
 }
 
+/// Does the jobs of the program that keeps a peak, on a node of two ports.
+fn show_rising<R: rt::Files + Input + Threads + Wait + Sync, W: Write>(
+    rt: &R,
+    alloc: Global,
+    out: &mut W,
+) -> Result<()> {
+    let raised = Node {
+        lines: "numbers.txt",
+        sizes: MapSizes::with_kinds(&[(1, MapKind::Peak)])?,
+        ports: 2,
+    };
+    let text = assembly(alloc, "rising")?;
+    show(rt, alloc, text, "rising", &raised, out)
+}
+
 fn main(rt: HostRuntime) -> Result<()> {
     let mut out = io::writer(&rt);
     let alone = Node {
@@ -118,5 +133,6 @@ fn main(rt: HostRuntime) -> Result<()> {
         ports: 1,
     };
     let table = compilation(rt.alloc(), "instrument", &counting)?;
-    show(&rt, rt.alloc(), table, "instrument", &counting, &mut out)
+    show(&rt, rt.alloc(), table, "instrument", &counting, &mut out)?;
+    show_rising(&rt, rt.alloc(), &mut out)
 }
