@@ -1,7 +1,7 @@
 //! `takes`: how often a second programs are taken and published, packets are served through a pass, put into the queue
-//! of a port and taken from it, tickets of a cell are drawn and a cell is raised by two threads, and packets are served at
-//! ports that run at once. Without an argument it does few rounds and prints what was done; with a number of rounds it
-//! prints the rates too.
+//! of a port and taken from it, tickets of a cell are drawn and a cell is raised by two threads, and packets are served
+//! at ports that run at once. Without an argument it does few rounds and prints what was done; with a number of rounds
+//! it prints the rates too.
 #![tactic(auto)]
 
 mod packets;

@@ -61,5 +61,9 @@ pub fn ask<R: Threads + Sync>(rt: &R, alloc: Global, kind: MapKind, rounds: u32)
         MapKind::Counter => thread::map_vec(rt, seats, &|seat| draw(seat, rounds))?,
         MapKind::Peak => thread::map_vec(rt, seats, &|seat| raise(seat, rounds))?,
     };
-    Ok(asked.iter().fold(0, |sum: u64, done| sum.wrapping_add(*done)))
+    Ok(
+        asked
+            .iter()
+            .fold(0, |sum: u64, done| sum.wrapping_add(*done)),
+    )
 }
