@@ -10,9 +10,9 @@ use std::test::Fail;
 use target::{BankConfig, NodeConfig};
 use trial::{BASE, LOAD, PLAIN_READ, PLAIN_WRITE, STAGE, bank, image_of_text, packet, sizes};
 
-/// Reads a cell, draws a ticket of it, and says yes.
-const ASKS: &str =
-    "ldmap r1, 0; mov r2, 0; call 1; ldmap r1, 0; mov r2, 0; call 2; mov r0, 0; exit";
+/// Reads a cell, draws a ticket of it, raises a cell of the other map to that, and says yes.
+const ASKS: &str = ".version 2; ldmap r1, 0; mov r2, 0; call 1; ldmap r1, 0; mov r2, 0; call 2; \
+    ldmap r1, 1; mov r2, 0; mov r3, r0; call 3; mov r0, 0; exit";
 
 /// A command that the header decides, as a packet line.
 const UNUSED: &str = "0 FE01580067000700A00000000000007F EOP";
@@ -22,6 +22,7 @@ const FRESH: &str = "\
 take 0 read|taken 0
 count 0|told 0
 ticket 0|told 0
+peak 0|told 0
 effect 0|done 0 67010C00FE0001000000106D0000000000000000000000000000000000
 ";
 
@@ -31,12 +32,15 @@ take 0 write|taken 0
 take 1 stage|taken 0
 count 1|told 0
 ticket 1|told 0
+peak 1|told 0
 effect 1|done 0 67012C00FE0010F1
 take 1 load|taken 0
 count 1|told 1
 ticket 1|told 1
+peak 1|told 1
 count 0|told 2
 ticket 0|told 2
+peak 0|told 2
 publish 1|done 0 67012C00FE001160 0000000000000001
 effect 0|done 0 67012C00FE0000ED
 take 1 unused|answered 2 67011802FE0007000000004C00
@@ -44,7 +48,7 @@ take 1 read|taken 0
 take 0 write|taken 1
 ";
 
-/// A world of two ports and two banks, whose maps have two cells and one, or why it was not made.
+/// A world of two ports and two banks, with a counter map of two cells and a peak map of one, or why it was not made.
 fn world(alloc: Global) -> Result<Result<World, WorldFault>, Fail> {
     let small = BankConfig {
         base: 0x1000,
@@ -55,9 +59,9 @@ fn world(alloc: Global) -> Result<Result<World, WorldFault>, Fail> {
         address: 0xFE,
         ports: 2,
         banks: &[bank(16), small],
-        sizes: sizes(alloc, "2 1")?,
+        sizes: sizes(alloc, "2 1p")?,
     };
-    let factory = image_of_text(alloc, ASKS, 8)?;
+    let factory = image_of_text(alloc, ASKS, 12)?;
     begin(alloc)?;
     let made = World::new(alloc, &config, &factory);
     end(alloc)?;
@@ -88,6 +92,7 @@ fn event(alloc: Global, text: &str) -> Result<Event, Fail> {
         }
         "count" => Ok(Event::Count(port)),
         "ticket" => Ok(Event::Ticket(port)),
+        "peak" => Ok(Event::Peak(port)),
         "effect" => Ok(Event::Effect(port)),
         _ => Ok(Event::Publish(port)),
     }
