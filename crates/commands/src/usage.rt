@@ -10,16 +10,21 @@ ghost use Rattle.commands.specs.declared.usage.UsageFault.TheVariants.{Memory};
 
 use crate::asm::{asm_command, asm_job};
 use crate::dis::{dis_command, dis_job};
+use crate::explain::{explain_command, explain_job};
 use crate::jobs::Job;
 use crate::judge::{judge_command, judge_job};
 use crate::policies::{policy_command, policy_job};
 use crate::serve::{serve_command, serve_job};
 use crate::sim::{sim_command, sim_job};
 use crate::verify::{verify_command, verify_job};
+use crate::why::{why_command, why_job};
 use clap::error::ErrorKind;
 use clap::{ArgMatches, Command, Error};
 use std::alloc::{AllocError, AllocFailed, Global};
 use thiserror::Error as ThisError;
+
+/// What `rmapctl --version` tells.
+const VERSION: &str = "1.0";
 
 /// Why a command line names no job.
 #[derive(Debug, PartialEq, Eq, Drop, ThisError)]
@@ -74,9 +79,12 @@ fn command_line<'a>(alloc: Global) -> Result<Command<'a>, AllocError>
     let policy = policy_command(alloc)?;
     let serve = serve_command(alloc)?;
     let sim = sim_command(alloc)?;
+    let explain = explain_command(alloc)?;
+    let why = why_command(alloc)?;
     let rmapctl = Command::new(alloc, "rmapctl").bin_name("rmapctl")?;
     rmapctl
         .about("An RMAP target whose commands are judged by BPF programs")
+        .version(VERSION)
         .no_binary_name(true)
         .disable_help_subcommand(true)
         .subcommand_required(true)
@@ -86,7 +94,9 @@ fn command_line<'a>(alloc: Global) -> Result<Command<'a>, AllocError>
         .subcommand(judge)?
         .subcommand(policy)?
         .subcommand(serve)?
-        .subcommand(sim)
+        .subcommand(sim)?
+        .subcommand(explain)?
+        .subcommand(why)
 }
 
 /// What the user is told of words that `clap` refuses.
@@ -125,16 +135,22 @@ fn job_of(alloc: Global, found: &ArgMatches) -> Result<Job, UsageFault>
     if let Some(serve) = found.subcommand_matches("serve") {
         return Ok(Job::Serve(serve_job(alloc, serve)?));
     }
-    match found.subcommand_matches("sim") {
-        Some(sim) => Ok(Job::Simulate(sim_job(alloc, sim)?)),
+    if let Some(sim) = found.subcommand_matches("sim") {
+        return Ok(Job::Simulate(sim_job(alloc, sim)?));
+    }
+    if let Some(explain) = found.subcommand_matches("explain") {
+        return Ok(Job::Explain(explain_job(alloc, explain)?));
+    }
+    match found.subcommand_matches("why") {
+        Some(why) => Ok(Job::Why(why_job(alloc, why)?)),
         None => Err(UsageFault::BadOption),
     }
 }
 
 /// The job that the words of a command line name, without the program's own name.
 ///
-/// Words that name none are `Parse` with the text of `clap` for the user (so are `--help` and
-/// `-h`), `Memory` where memory was refused.
+/// Words that name none are `Parse` with the text of `clap` for the user (so are `--help`, `-h` and
+/// `--version`), `BadOption` where an option or a code is none, `Memory` where memory was refused.
 pub fn words(alloc: Global, words: &[&str]) -> Result<Job, UsageFault>
     ensures ok { IfOk result (NamesJob (texts words.now)) }
     ensures err { IfErr result (NamesNone (texts words.now)) }
