@@ -16,6 +16,19 @@ use Rattle.commands.specs.declared.topics.CodeKind.{CodeKind}
 use Rattle.commands.specs.declared.topics.CodeKind.TheVariants.{Verifier, Text, Image, Insn, Line, Discard, Status, Load, Policy}
 use Rattle.commands.specs.declared.topics.TheConstants.{IMAGE_FAULTS}
 
+-- the kind at a place of the order in which codes are listed, the last one at every later place
+abbrev pub kind_at : ℕ → CodeKind
+kind_at place =
+    if place == 0 then Verifier
+    else (if place == 1 then Text
+    else (if place == 2 then Image
+    else (if place == 3 then Insn
+    else (if place == 4 then Line
+    else (if place == 5 then Discard
+    else (if place == 6 then Status
+    else (if place == 7 then Load
+    else Policy)))))))
+
 -- the letters before the number
 abbrev pub kind_word : CodeKind → List ℕ
 kind_word Verifier = codes "V"

@@ -15,7 +15,7 @@ ghost use Rattle.commands.specs.declared.faults.Fault.TheVariants.{NoMemory};
 use crate::arguments::{optional, text_of};
 use crate::dis::print_text;
 use crate::stops::Halt;
-use crate::topics::{Code, KINDS, Topic, add_lines, read_code};
+use crate::topics::{Code, CodeKind, KINDS, Topic, add_lines, read_code};
 use crate::usage::UsageFault;
 use clap::{ArgMatches, Command};
 use std::alloc::{AllocError, Global};
@@ -65,12 +65,7 @@ pub fn explain_job(alloc: Global, found: &ArgMatches) -> Result<ExplainWords, Us
 }
 
 /// Adds the line of a code, and what it is.
-fn add_title(
-    text: &mut String,
-    alloc: Global,
-    code: Code,
-    topic: Topic,
-) -> Result<(), AllocError> {
+fn add_title(text: &mut String, alloc: Global, code: Code, topic: Topic) -> Result<(), AllocError> {
     let word = code.kind.word();
     let number = code.number;
     let title = topic.title(alloc)?;
@@ -80,7 +75,8 @@ fn add_title(
 /// All codes, a line for each.
 fn listing(alloc: Global) -> Result<String, AllocError> {
     let mut text = String::new(alloc);
-    for kind in KINDS {
+    for place in 0..KINDS {
+        let kind = CodeKind::at(place);
         for number in 0..=255u8 {
             if let Some(topic) = kind.topic(number) {
                 add_title(&mut text, alloc, Code { kind, number }, topic)?;

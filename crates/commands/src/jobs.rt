@@ -76,6 +76,7 @@ fn attempt<'a, J: Room + Send + 'static, R: Threads + Wait + Sync, F: Files, W: 
 }
 
 /// Does a job, where a node that it makes has that history of programs.
+#[tactic(auto, using(crate::proofs::Explaining::left_behind, crate::proofs::Explaining::performs_why))]
 fn perform_opened<J: Room + Send + 'static, R: Threads + Wait + Sync, F: Files, W: Write>(
     rt: &R,
     alloc: Global,

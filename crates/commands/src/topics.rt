@@ -1,7 +1,7 @@
 //! The codes that outputs tell, and what is said of each.
 
 ghost use Rattle.std.specs.Prelude.{◌≡◌, ◌↔◌, ◌<◌, ◌^◌, IfOk, IsTrue, MatchOption, is_some};
-ghost use Rattle.commands.specs.Topics.{HasNumber, IsCode, IsWritten, Writes, code_text, has_code, image_fault_of_load, is_line_code, is_load_code, is_own_load_code, kind_word};
+ghost use Rattle.commands.specs.Topics.{HasNumber, IsCode, IsWritten, Writes, code_text, has_code, image_fault_of_load, is_line_code, is_load_code, is_own_load_code, kind_at, kind_word};
 
 use crate::faults::{NO_SUCH_PORT, TOO_MANY};
 use basm::AsmCode;
@@ -52,18 +52,8 @@ pub enum CodeKind {
     Policy,
 }
 
-/// The kinds, in the order in which codes are listed.
-pub const KINDS: [CodeKind; 9] = [
-    CodeKind::Verifier,
-    CodeKind::Text,
-    CodeKind::Image,
-    CodeKind::Insn,
-    CodeKind::Line,
-    CodeKind::Discard,
-    CodeKind::Status,
-    CodeKind::Load,
-    CodeKind::Policy,
-];
+/// How many kinds there are.
+pub const KINDS: u8 = 9;
 
 /// What a code tells.
 #[derive(Clone, Copy, Debug)]
@@ -185,6 +175,23 @@ fn load_topic(number: u8) -> Option<Topic>
 }
 
 impl CodeKind {
+    /// The kind at this place, from 0, of the order in which codes are listed; at every later place the last one.
+    pub fn at(place: u8) -> CodeKind
+        ensures { result ≡ kind_at place }
+    {
+        match place {
+            0 => CodeKind::Verifier,
+            1 => CodeKind::Text,
+            2 => CodeKind::Image,
+            3 => CodeKind::Insn,
+            4 => CodeKind::Line,
+            5 => CodeKind::Discard,
+            6 => CodeKind::Status,
+            7 => CodeKind::Load,
+            _ => CodeKind::Policy,
+        }
+    }
+
     /// The letters before the number.
     pub fn word(self) -> &'static str
         ensures { result.now ≡ kind_word self }
@@ -250,11 +257,13 @@ pub struct Code {
 }
 
 /// The code that a text writes, in upper or lower case. `None` where it is none.
+#[tactic(auto, using(crate::proofs::CodeLetters::no_code))]
 pub fn read_code(alloc: Global, text: &str) -> Result<Option<Code>, AllocError>
     ensures { IfOk result (λ code. MatchOption code
         (¬ IsCode text.now) (λ c. Writes c.kind c.number text.now)) }
 {
-    for kind in KINDS {
+    for place in 0..KINDS {
+        let kind = CodeKind::at(place);
         if let Some(number) = kind.number_in(alloc, text)? {
             return Ok(Some(Code { kind, number }));
         }

@@ -1,6 +1,6 @@
 //! The job `why`.
 
-ghost use Rattle.std.specs.Prelude.{◌≡◌, IfErr, IfOk, false};
+ghost use Rattle.std.specs.Prelude.{◌≡◌, IfErr, IfOk, OnOk, false};
 ghost use Rattle.clap.specs.Simple.{app_of};
 ghost use Rattle.clap.specs.declared.builder.command.Command.TheViews.{out-Command as fields_of};
 ghost use Rattle.clap.specs.Walk.{rows_of};
@@ -99,14 +99,13 @@ fn reason_or_none(alloc: Global, reason: Result<String, AllocError>) -> String {
     }
 }
 
-/// Prints a fault, and the reason behind it. Gives the exit status.
-fn print_fault<W: Write>(out: &mut W, fault: &Fault, reason: &str) -> Result<u8, WriteFault>
-    ensures { IfOk result (λ status. (status ≡ 1)
-        × TellsMore fault.now (W.contents out.old) (W.contents out.new)) }
+/// Prints a fault, and the reason behind it.
+fn print_fault<W: Write>(out: &mut W, fault: &Fault, reason: &str) -> Result<(), WriteFault>
+    ensures { OnOk result (TellsMore fault.now (W.contents out.old) (W.contents out.new)) }
 {
     writeln!(out, "{fault}")?;
     write!(out, "{reason}")?;
-    Ok(1)
+    Ok(())
 }
 
 /// Verifies a copy of an image.
@@ -124,6 +123,15 @@ fn verified(alloc: Global, image: &Image, sizes: &MapSizes) -> Result<Accepted, 
     }
 }
 
+/// Whether a program may judge, or the refusal.
+fn checked(alloc: Global, image: &Image, sizes: &MapSizes) -> Result<(), Refused>
+    ensures justified { IfOk result (λ _. IsJustified image.now sizes.now) }
+    ensures safe { IfOk result (λ _. IsSafe image.now sizes.now) }
+{
+    let _accepted = verified(alloc, image, sizes)?;
+    Ok(())
+}
+
 /// Verifies an image, and prints its weight and its budget where it may judge, else the refusal and the reason. Gives
 /// the exit status.
 fn explain_program<W: Write>(
@@ -135,20 +143,22 @@ fn explain_program<W: Write>(
     ensures { IfOk result
         (ExplainsProgram image.now sizes.now (W.contents out.old) (W.contents out.new)) }
 {
-    match verified(alloc, image, sizes) {
-        Ok(_) => {
+    match checked(alloc, image, sizes) {
+        Ok(()) => {
             print_accepted(out, image.weight(), image.budget())?;
             Ok(0)
         }
         Err(refused) => {
             let reason = reason_or_none(alloc, reason_of_refusal(alloc, image, refused));
-            print_fault(out, &Fault::Unfit(refused), reason.as_str())
+            print_fault(out, &Fault::Unfit(refused), reason.as_str())?;
+            Ok(1)
         }
     }
 }
 
 /// Verifies the image of a file as the job `verify` does, and prints the same; and where a fault ends it, behind its
 /// line the instruction that is told, and the reason. Gives the exit status, which is that of `verify`.
+#[tactic(auto, using(crate::proofs::Explaining::explains_file))]
 pub fn why_file<F: Files, W: Write>(
     alloc: Global,
     words: &WhyWords,
@@ -162,7 +172,8 @@ pub fn why_file<F: Files, W: Write>(
         Ok(image) => explain_program(alloc, &image, &words.sizes, out),
         Err(fault) => {
             let reason = reason_or_none(alloc, reason_of_fault(alloc, &fault));
-            print_fault(out, &fault, reason.as_str())
+            print_fault(out, &fault, reason.as_str())?;
+            Ok(1)
         }
     }
 }
