@@ -6,6 +6,7 @@ use Rattle.commands.specs.declared.topics.CodeKind.TheVariants.{Verifier, Text, 
 
 -- each kind has a place
 none_of : (text : List ℕ) → ((k : ℕ) → k < 9 → HasNumber (kind_at k) text → ⊥) → (kind : CodeKind) → HasNumber kind text → ⊥
+unfolding kind_at
 none_of text none Verifier h = none 0 (lit< tt) h
 none_of text none Text h = none 1 (lit< tt) h
 none_of text none Image h = none 2 (lit< tt) h

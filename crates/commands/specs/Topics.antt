@@ -17,7 +17,7 @@ use Rattle.commands.specs.declared.topics.CodeKind.TheVariants.{Verifier, Text, 
 use Rattle.commands.specs.declared.topics.TheConstants.{IMAGE_FAULTS}
 
 -- the kind at a place of the order in which codes are listed, the last one at every later place
-abbrev pub kind_at : ℕ → CodeKind
+unfoldable pub kind_at : ℕ → CodeKind
 kind_at place =
     if place == 0 then Verifier
     else (if place == 1 then Text

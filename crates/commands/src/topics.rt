@@ -176,6 +176,7 @@ fn load_topic(number: u8) -> Option<Topic>
 
 impl CodeKind {
     /// The kind at this place, from 0, of the order in which codes are listed; at every later place the last one.
+    #[tactic(auto, unfolding(crate::specs::Topics::kind_at))]
     pub fn at(place: u8) -> CodeKind
         ensures { result ≡ kind_at place }
     {
@@ -257,7 +258,6 @@ pub struct Code {
 }
 
 /// The code that a text writes, in upper or lower case. `None` where it is none.
-#[tactic(auto, using(crate::proofs::CodeLetters::no_code))]
 pub fn read_code(alloc: Global, text: &str) -> Result<Option<Code>, AllocError>
     ensures { IfOk result (λ code. MatchOption code
         (¬ IsCode text.now) (λ c. Writes c.kind c.number text.now)) }
