@@ -28,11 +28,15 @@ rmapctl_shape s = record s {
   has_version = true;
 }
 
+-- a command with the jobs on programs and on packets in order
+abbrev pub with_first_jobs : App → App
+with_first_jobs app =
+    with_subcommand (with_subcommand (with_subcommand (with_subcommand (with_subcommand app asm_app.top) dis_app.top) verify_app.top) judge_app.top) policy_app.top
+
 -- `rmapctl` with its subcommands
 unfoldable pub rmapctl_app : App
 rmapctl_app =
-    with_subcommand (with_subcommand (with_subcommand (with_subcommand (with_subcommand (with_subcommand (with_subcommand (with_subcommand (with_subcommand (on_top rmapctl_shape (new_app (codes "rmapctl")))
-    asm_app.top) dis_app.top) verify_app.top) judge_app.top) policy_app.top) serve_app.top) sim_app.top) explain_app.top) why_app.top
+    with_subcommand (with_subcommand (with_subcommand (with_subcommand (with_first_jobs (on_top rmapctl_shape (new_app (codes "rmapctl")))) serve_app.top) sim_app.top) explain_app.top) why_app.top
 
 -- the subcommand that clap finds in the words, with its matches
 abbrev pub subcommand_in : List Text → Option (Text × List Row)

@@ -4,7 +4,7 @@ ghost use Rattle.std.specs.Prelude.{◌≡◌, IfOk, IfErr};
 ghost use Rattle.clap.specs.Simple.{app_of, subcommand_rows_of};
 ghost use Rattle.clap.specs.Values.{kind_of};
 ghost use Rattle.clap.specs.Walk.{texts};
-ghost use Rattle.commands.specs.CommandLine.{rmapctl_app, Names, NamesJob, NamesNone, LacksJob, TellsRefusal};
+ghost use Rattle.commands.specs.CommandLine.{rmapctl_app, with_first_jobs, Names, NamesJob, NamesNone, LacksJob, TellsRefusal};
 ghost use Rattle.commands.specs.Statuses.{usage_status};
 ghost use Rattle.commands.specs.declared.usage.UsageFault.TheVariants.{Memory};
 
@@ -68,31 +68,40 @@ impl<T: Drop> From<AllocFailed<T>> for UsageFault {
     }
 }
 
-/// The whole command line.
-fn command_line<'a>(alloc: Global) -> Result<Command<'a>, AllocError>
-    ensures { IfOk result (λ c. app_of c ≡ rmapctl_app) }
+/// The command line with the jobs on programs and on packets in order.
+fn with_first_jobs<'a>(alloc: Global, rmapctl: Command<'a>) -> Result<Command<'a>, AllocError>
+    ensures { IfOk result (λ c. app_of c ≡ with_first_jobs (app_of rmapctl.entry)) }
 {
     let asm = asm_command(alloc)?;
     let dis = dis_command(alloc)?;
     let verify = verify_command(alloc)?;
     let judge = judge_command(alloc)?;
     let policy = policy_command(alloc)?;
+    rmapctl
+        .subcommand(asm)?
+        .subcommand(dis)?
+        .subcommand(verify)?
+        .subcommand(judge)?
+        .subcommand(policy)
+}
+
+/// The whole command line.
+fn command_line<'a>(alloc: Global) -> Result<Command<'a>, AllocError>
+    ensures { IfOk result (λ c. app_of c ≡ rmapctl_app) }
+{
     let serve = serve_command(alloc)?;
     let sim = sim_command(alloc)?;
     let explain = explain_command(alloc)?;
     let why = why_command(alloc)?;
     let rmapctl = Command::new(alloc, "rmapctl").bin_name("rmapctl")?;
-    rmapctl
-        .about("An RMAP target whose commands are judged by BPF programs")
+    let about = "An RMAP target whose commands are judged by BPF programs";
+    let top = rmapctl
+        .about(about)
         .version(VERSION)
         .no_binary_name(true)
         .disable_help_subcommand(true)
-        .subcommand_required(true)
-        .subcommand(asm)?
-        .subcommand(dis)?
-        .subcommand(verify)?
-        .subcommand(judge)?
-        .subcommand(policy)?
+        .subcommand_required(true);
+    with_first_jobs(alloc, top)?
         .subcommand(serve)?
         .subcommand(sim)?
         .subcommand(explain)?
