@@ -30,7 +30,7 @@ begins program header port frame stack low size stands =
     record { port = port; low = low; calls = []; stands = stands program header stack size }
 
 pub comes_to_question : (program : Program) (header : Header) (helper map key argument : ℕ) (old new : Frame) (before after : List ℕ) → Advances program header (turns.Ask helper map key argument) old new before after → IsPaused program header old before → IsAtQuestion new
-comes_to_question program header helper map key old new before after advances run =
+comes_to_question program header helper map key argument old new before after advances run =
     record {
       program = program;
       header = header;
@@ -42,7 +42,7 @@ comes_to_question program header helper map key old new before after advances ru
     }
 
 pub goes_on : (program : Program) (header : Header) (helper map key argument answer : ℕ) (old asking new : Frame) (before after : List ℕ) → Advances program header (turns.Ask helper map key argument) old asking before after → Answers answer asking new → IsPaused program header old before → IsPaused program header new after
-goes_on program header helper map key answer old asking new before after advances answers run =
+goes_on program header helper map key argument answer old asking new before after advances answers run =
     record {
       port = run.port;
       low = run.low;
