@@ -1,6 +1,8 @@
-//! Jobs whose writer fails, jobs to which memory is refused, schedules beside packets in order, and the line of a report.
+//! Jobs whose writer fails, jobs to which memory is refused, schedules beside packets in order, the line of a report, and
+//! codes.
 
 mod checks;
+mod codes;
 mod reports;
 mod schedules;
 mod writers;

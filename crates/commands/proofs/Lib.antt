@@ -1,7 +1,9 @@
 mod Arriving
+mod CodeLetters
 mod Continuing
 mod Desking
 mod Ending
+mod Explaining
 mod FactoryImage
 mod Filling
 mod FirstWords

@@ -1,4 +1,4 @@
--- The files that the words of a command line name.
+-- The arguments of a command line, and the files that they name.
 use Rattle.std.specs.Prelude.{◌≡◌, ℕ, List, Option, Some, None, true, codes, option_map, String, string_bytes}
 use Rattle.std.specs.Borrow.{Bor}
 use Rattle.clap.specs.Walk.{Row, Rule, Text, first_of}
@@ -9,6 +9,10 @@ use Rattle.commands.specs.declared.usage.UsageFault.TheVariants.{Parse, BadOptio
 -- a file that has to be given
 abbrev pub file_rule : Text → Rule
 file_rule id = record (new_rule id) { value_names = 1; required = true }
+
+-- a word that may be left out
+abbrev pub optional_rule : Text → Rule
+optional_rule id = record (new_rule id) { value_names = 1 }
 
 -- an option that may be left out, with one value: --NAME VALUE
 abbrev pub option_rule : Text → Rule

@@ -7,29 +7,36 @@ use Rattle.clap.specs.declared.error.kind.ErrorKind.{ErrorKind}
 use Rattle.clap.specs.declared.error.kind.ErrorKind.TheVariants.{OutOfMemory}
 use Rattle.commands.specs.AsmJob.{asm_app, NamesAsm}
 use Rattle.commands.specs.DisJob.{dis_app, NamesDis}
+use Rattle.commands.specs.ExplainJob.{explain_app, NamesExplain, SpoilsExplain}
 use Rattle.commands.specs.VerifyJob.{verify_app, NamesVerify, SpoilsVerify}
 use Rattle.commands.specs.JudgeJob.{judge_app, NamesJudge, SpoilsJudge}
 use Rattle.commands.specs.PolicyJob.{policy_app, NamesPolicy, SpoilsPolicy}
 use Rattle.commands.specs.ServeJob.{serve_app, NamesServe, SpoilsServe}
 use Rattle.commands.specs.SimJob.{sim_app, NamesSim}
+use Rattle.commands.specs.WhyJob.{why_app, NamesWhy}
 use Rattle.commands.specs.declared.jobs.Job.{Job}
-use Rattle.commands.specs.declared.jobs.Job.TheVariants.{Assemble, Disassemble, Verify, Judge, Policy, Serve, Simulate}
+use Rattle.commands.specs.declared.jobs.Job.TheVariants.{Assemble, Disassemble, Verify, Judge, Policy, Serve, Simulate, Explain, Why}
 use Rattle.commands.specs.declared.usage.UsageFault.{UsageFault}
 use Rattle.commands.specs.declared.usage.UsageFault.TheVariants.{Parse, BadOption, Memory}
 
--- only subcommands are words of rmapctl itself
+-- only subcommands are words of rmapctl itself, beside its help and its version
 abbrev pub rmapctl_shape : Shape → Shape
 rmapctl_shape s = record s {
   no_binary_name = true;
   disable_help_subcommand = true;
   subcommand_required = true;
+  has_version = true;
 }
+
+-- a command with the jobs on programs and on packets in order
+abbrev pub with_first_jobs : App → App
+with_first_jobs app =
+    with_subcommand (with_subcommand (with_subcommand (with_subcommand (with_subcommand app asm_app.top) dis_app.top) verify_app.top) judge_app.top) policy_app.top
 
 -- `rmapctl` with its subcommands
 unfoldable pub rmapctl_app : App
 rmapctl_app =
-    with_subcommand (with_subcommand (with_subcommand (with_subcommand (with_subcommand (with_subcommand (with_subcommand (on_top rmapctl_shape (new_app (codes "rmapctl")))
-    asm_app.top) dis_app.top) verify_app.top) judge_app.top) policy_app.top) serve_app.top) sim_app.top
+    with_subcommand (with_subcommand (with_subcommand (with_subcommand (with_first_jobs (on_top rmapctl_shape (new_app (codes "rmapctl")))) serve_app.top) sim_app.top) explain_app.top) why_app.top
 
 -- the subcommand that clap finds in the words, with its matches
 abbrev pub subcommand_in : List Text → Option (Text × List Row)
@@ -45,6 +52,8 @@ Names (Some found) (Judge words) = (found.0 ≡ codes "judge") × NamesJudge fou
 Names (Some found) (Policy words) = (found.0 ≡ codes "policy") × NamesPolicy found.1 words
 Names (Some found) (Serve words) = (found.0 ≡ codes "serve") × NamesServe found.1 words
 Names (Some found) (Simulate words) = (found.0 ≡ codes "sim") × NamesSim found.1 words
+Names (Some found) (Explain words) = (found.0 ≡ codes "explain") × NamesExplain found.1 words
+Names (Some found) (Why words) = (found.0 ≡ codes "why") × NamesWhy found.1 words
 
 -- what the user is told of a refusal by clap of this kind
 abbrev pub TellsRefusal : ErrorKind → UsageFault → Type 0
@@ -52,7 +61,7 @@ TellsRefusal kind Memory = Unit {0}
 TellsRefusal kind BadOption = ⊥
 TellsRefusal kind (Parse text) = kind ≢ OutOfMemory
 
--- the subcommand lacks a file that has to be given, or has an option with a value that it may not have
+-- the subcommand lacks a file that has to be given, or has an option or a code with a value that it may not have
 pub record IsSpoiled (found : Text × List Row) : Type 0 where
   pub asm : found.0 ≡ codes "asm" → (first_of (codes "text") found.1 ≡ None) ⊎ (first_of (codes "image") found.1 ≡ None)
   pub dis : found.0 ≡ codes "dis" → first_of (codes "image") found.1 ≡ None
@@ -61,6 +70,8 @@ pub record IsSpoiled (found : Text × List Row) : Type 0 where
   pub policy : found.0 ≡ codes "policy" → SpoilsPolicy found.1
   pub serve : found.0 ≡ codes "serve" → SpoilsServe found.1
   pub sim : found.0 ≡ codes "sim" → SpoilsJudge found.1
+  pub explain : found.0 ≡ codes "explain" → SpoilsExplain found.1
+  pub why : found.0 ≡ codes "why" → SpoilsVerify found.1
 
 -- clap found no subcommand, or one without what it needs
 abbrev pub IsIncomplete : Option (Text × List Row) → Type 0

@@ -7,6 +7,8 @@ pub mod CommandLine
 pub mod DisJob
 pub mod Disassembled
 pub mod EventLines
+pub mod ExplainJob
+pub mod Explained
 pub mod Feeds
 pub mod Files
 pub mod JobNode
@@ -26,5 +28,7 @@ pub mod SimJob
 pub mod Simulated
 pub mod Statuses
 pub mod Stops
+pub mod Topics
 pub mod Verified
 pub mod VerifyJob
+pub mod WhyJob

@@ -6,14 +6,27 @@ use Rattle.commands.specs.Compiled.{CompilesTable, IsNotCompiled}
 use Rattle.commands.specs.Disassembled.{Disassembles, IsNotPrinted}
 use Rattle.commands.specs.Files.{Reads, Writes}
 use Rattle.commands.specs.Judged.{IsNotJudged, JudgesFile}
-use Rattle.commands.specs.Printed.{fault_line}
+use Rattle.commands.specs.Printed.{PrintsMore, fault_line}
 use Rattle.commands.specs.Reading.{IsNoProgram}
 use Rattle.commands.specs.ServedFile.{IsNotServed, ServesFile}
 use Rattle.commands.specs.Simulated.{IsNotSimulated, SimulatesFile}
 use Rattle.commands.specs.Verified.{Verifies}
 use Rattle.commands.specs.declared.faults.Fault.{Fault}
+use Rattle.commands.specs.declared.faults.Fault.TheVariants.{NoMemory}
 use Rattle.commands.specs.declared.jobs.Job.{Job}
-use Rattle.commands.specs.declared.jobs.Job.TheVariants.{Assemble, Disassemble, Verify, Judge, Policy, Serve, Simulate}
+use Rattle.commands.specs.declared.jobs.Job.TheVariants.{Assemble, Disassemble, Verify, Judge, Policy, Serve, Simulate, Explain, Why}
+
+-- what stands behind the line of the fault: `why` may print more, and all others end with the line
+abbrev pub IsLeftBehind : Job → (told new : Option (List ℕ)) → Type 0
+IsLeftBehind (Judge words) told new = new ≡ told
+IsLeftBehind (Assemble words) told new = new ≡ told
+IsLeftBehind (Disassemble words) told new = new ≡ told
+IsLeftBehind (Verify words) told new = new ≡ told
+IsLeftBehind (Policy words) told new = new ≡ told
+IsLeftBehind (Serve words) told new = new ≡ told
+IsLeftBehind (Simulate words) told new = new ≡ told
+IsLeftBehind (Explain words) told new = new ≡ told
+IsLeftBehind (Why words) told new = PrintsMore told new
 
 module _ {S : Type 0} (reads : Reads S) (writes : Writes S) where
   -- the job was done: what it read and wrote led from one state of the files to the other, and
@@ -28,6 +41,8 @@ module _ {S : Type 0} (reads : Reads S) (writes : Writes S) where
       CompilesTable reads writes before (string_bytes words.table) (string_bytes words.image) words.sizes after old new
   IsDone (Serve words) before after old new = ServesFile reads words before after old new
   IsDone (Simulate words) before after old new = SimulatesFile reads words before after old new
+  IsDone (Explain words) before after old new = (after ≡ before) × PrintsMore old new
+  IsDone (Why words) before after old new = Verifies reads before (string_bytes words.image) words.sizes after old new
 
   -- the fault ended the job; only `judge` and `sim` printed before it
   abbrev pub IsEnded : Job → (before after : S) → (old new : Option (List ℕ)) → Fault → Type 0
@@ -42,13 +57,18 @@ module _ {S : Type 0} (reads : Reads S) (writes : Writes S) where
       IsNotCompiled reads writes before (string_bytes words.table) (string_bytes words.image) words.sizes after fault × (new ≡ old)
   IsEnded (Serve words) before after old new fault = IsNotServed reads words before after fault × (new ≡ old)
   IsEnded (Simulate words) before after old new fault = IsNotSimulated reads words before after old new fault
+  IsEnded (Explain words) before after old new fault = (fault ≡ NoMemory) × (after ≡ before) × (new ≡ old)
+  IsEnded (Why words) before after old new fault =
+      IsNoProgram reads before (string_bytes words.image) after fault × (new ≡ old)
 
-  -- a fault ended the job, and its line was printed after what came before
+  -- a fault ended the job, and its line was printed after what came before, with what `why` tells behind it
   pub record TellsFault (job : Job) (before after : S) (old new : Option (List ℕ)) : Type 0 where
     pub fault : Fault
     pub printed : Option (List ℕ)
     pub ended : IsEnded job before after old printed fault
-    pub line : Appends printed new (fault_line fault)
+    pub told : Option (List ℕ)
+    pub line : Appends printed told (fault_line fault)
+    pub behind : IsLeftBehind job told new
 
   -- the exit status of the job is 0 where it was done, and 1 where a fault ended it
   abbrev pub Performs : Job → (before after : S) → (old new : Option (List ℕ)) → (status : ℕ) → Type 0

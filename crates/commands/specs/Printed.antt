@@ -12,6 +12,10 @@ use Rattle.commands.specs.declared.faults.Fault.TheVariants.{CannotRead, CannotW
 abbrev pub Prints : {W : Type 0} → (contents : W → Option (List ℕ)) → (old new : W) → List ℕ → Type 0
 Prints contents old new line = Appends (contents old) (contents new) line
 
+-- more was printed, behind what the writer holds where that is known
+abbrev pub PrintsMore : (old new : Option (List ℕ)) → Type 0
+PrintsMore old new = (more : List ℕ) × Appends old new more
+
 -- the text of what ends a job
 abbrev pub fault_text : Fault → List ℕ
 fault_text (CannotRead name) = codes "cannot read " ++ name.now

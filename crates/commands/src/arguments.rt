@@ -1,11 +1,11 @@
-//! The files that the words of a command line name.
+//! The arguments of a command line.
 
 ghost use Rattle.std.specs.Prelude.{◌≡◌, IfOk, IfErr, false, option_map};
 ghost use Rattle.clap.specs.Simple.{app_of};
 ghost use Rattle.clap.specs.declared.builder.command.Command.TheViews.{out-Command as fields_of};
 ghost use Rattle.clap.specs.Walk.{first_of, rows_of, rule_of};
 ghost use Rattle.clap.specs.Matches.{found_of};
-ghost use Rattle.commands.specs.Arguments.{HasName, Lacks, file_rule, image_app, option_rule};
+ghost use Rattle.commands.specs.Arguments.{HasName, Lacks, file_rule, image_app, option_rule, optional_rule};
 
 use crate::usage::UsageFault;
 use clap::{Arg, ArgMatches, Command};
@@ -31,6 +31,14 @@ pub fn option<'a>(alloc: Global, name: &'a str, value: &'a str, help: &'a str) -
         .long(name)
         .value_name(value)
         .help(help)
+}
+
+/// A word that may be left out.
+pub fn optional<'a>(alloc: Global, id: &'a str, name: &'a str, help: &'a str) -> Arg<'a>
+    ensures rule { rule_of result ≡ optional_rule id.now }
+    ensures local { result.global ≡ false }
+{
+    Arg::new(alloc, id).value_name(name).help(help)
 }
 
 /// A subcommand with the file of a BPF image: `NAME FILE`.

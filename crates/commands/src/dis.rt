@@ -46,7 +46,7 @@ pub fn dis_job(alloc: Global, found: &ArgMatches) -> Result<DisWords, UsageFault
 }
 
 /// Prints the text of an image, which has its line feeds.
-fn print_text<W: Write>(out: &mut W, text: &str) -> io::Result<()>
+pub fn print_text<W: Write>(out: &mut W, text: &str) -> io::Result<()>
     ensures { OnOk result (Prints W.contents out.old out.new text.now) }
 {
     write!(out, "{text}")

@@ -45,10 +45,10 @@ pub enum Fault<'a> {
 }
 
 /// The number of the fault of a line whose port does not exist.
-const NO_SUCH_PORT: u8 = 6;
+pub const NO_SUCH_PORT: u8 = 6;
 
 /// The number of the fault of a packet line whose port has no room for its packet.
-const TOO_MANY: u8 = 7;
+pub const TOO_MANY: u8 = 7;
 
 impl Fault<'_> {
     /// The fault of the packet line of this number, by what is wrong with it.

@@ -6,6 +6,7 @@ ghost use Rattle.commands.specs.Stops.{StopsBy};
 
 use crate::asm::{AsmWords, assemble_file};
 use crate::dis::{DisWords, disassemble_file};
+use crate::explain::{ExplainWords, explain};
 use crate::judge::{JudgeWords, judge_file};
 use crate::policies::{PolicyWords, compile_file};
 use crate::serve::{ServeWords, serve_file};
@@ -13,6 +14,7 @@ use crate::sim::{SimWords, sim_file};
 use crate::stops::{Halt, WriteFault};
 use crate::storage::Files;
 use crate::verify::{VerifyWords, verify_file};
+use crate::why::{WhyWords, why_file};
 use publish::{Opened, Room};
 use std::alloc::Global;
 use std::io::Write;
@@ -37,9 +39,13 @@ pub enum Job {
     Verify(VerifyWords),
     /// Compiles a policy table, and writes the image.
     Policy(PolicyWords),
+    /// Prints what is to be said of a code, or a line for each code.
+    Explain(ExplainWords),
+    /// Verifies a BPF image, and prints whether it may judge, and the reason why not.
+    Why(WhyWords),
 }
 
-/// Does a job, up to its end or the fault that ends it, which is still to be printed.
+/// Does a job, up to its end or the fault that ends it, which is still to be printed. Up to there `why` is `verify`.
 fn attempt<'a, J: Room + Send + 'static, R: Threads + Wait + Sync, F: Files, W: Write>(
     rt: &R,
     alloc: Global,
@@ -64,10 +70,13 @@ fn attempt<'a, J: Room + Send + 'static, R: Threads + Wait + Sync, F: Files, W: 
         Job::Disassemble(words) => disassemble_file(alloc, words.image.as_str(), files, out),
         Job::Verify(words) => verify_file(alloc, words.image.as_str(), words.sizes, files, out),
         Job::Policy(words) => compile_file(alloc, words, files, out),
+        Job::Explain(words) => explain(alloc, words, out),
+        Job::Why(words) => verify_file(alloc, words.image.as_str(), words.sizes, files, out),
     }
 }
 
 /// Does a job, where a node that it makes has that history of programs.
+#[tactic(auto, using(crate::proofs::Explaining::left_behind, crate::proofs::Explaining::performs_why))]
 fn perform_opened<J: Room + Send + 'static, R: Threads + Wait + Sync, F: Files, W: Write>(
     rt: &R,
     alloc: Global,
@@ -80,6 +89,9 @@ fn perform_opened<J: Room + Send + 'static, R: Threads + Wait + Sync, F: Files, 
     ensures { IfOk result (Performs F.reads F.writes job.now files.old files.new
         (W.contents out.old) (W.contents out.new)) }
 {
+    if let Job::Why(words) = job {
+        return why_file(alloc, words, files, out);
+    }
     match attempt::<J, _, _, _>(rt, alloc, opened, job, files, out) {
         Ok(()) => Ok(0),
         Err(Halt::Ended(fault)) => {

@@ -4,22 +4,27 @@ ghost use Rattle.std.specs.Prelude.{◌≡◌, IfOk, IfErr};
 ghost use Rattle.clap.specs.Simple.{app_of, subcommand_rows_of};
 ghost use Rattle.clap.specs.Values.{kind_of};
 ghost use Rattle.clap.specs.Walk.{texts};
-ghost use Rattle.commands.specs.CommandLine.{rmapctl_app, Names, NamesJob, NamesNone, LacksJob, TellsRefusal};
+ghost use Rattle.commands.specs.CommandLine.{rmapctl_app, with_first_jobs, Names, NamesJob, NamesNone, LacksJob, TellsRefusal};
 ghost use Rattle.commands.specs.Statuses.{usage_status};
 ghost use Rattle.commands.specs.declared.usage.UsageFault.TheVariants.{Memory};
 
 use crate::asm::{asm_command, asm_job};
 use crate::dis::{dis_command, dis_job};
+use crate::explain::{explain_command, explain_job};
 use crate::jobs::Job;
 use crate::judge::{judge_command, judge_job};
 use crate::policies::{policy_command, policy_job};
 use crate::serve::{serve_command, serve_job};
 use crate::sim::{sim_command, sim_job};
 use crate::verify::{verify_command, verify_job};
+use crate::why::{why_command, why_job};
 use clap::error::ErrorKind;
 use clap::{ArgMatches, Command, Error};
 use std::alloc::{AllocError, AllocFailed, Global};
 use thiserror::Error as ThisError;
+
+/// What `rmapctl --version` tells.
+const VERSION: &str = "1.0";
 
 /// Why a command line names no job.
 #[derive(Debug, PartialEq, Eq, Drop, ThisError)]
@@ -63,30 +68,44 @@ impl<T: Drop> From<AllocFailed<T>> for UsageFault {
     }
 }
 
-/// The whole command line.
-fn command_line<'a>(alloc: Global) -> Result<Command<'a>, AllocError>
-    ensures { IfOk result (λ c. app_of c ≡ rmapctl_app) }
+/// The command line with the jobs on programs and on packets in order.
+fn with_first_jobs<'a>(alloc: Global, rmapctl: Command<'a>) -> Result<Command<'a>, AllocError>
+    ensures { IfOk result (λ c. app_of c ≡ with_first_jobs (app_of rmapctl.entry)) }
 {
     let asm = asm_command(alloc)?;
     let dis = dis_command(alloc)?;
     let verify = verify_command(alloc)?;
     let judge = judge_command(alloc)?;
     let policy = policy_command(alloc)?;
-    let serve = serve_command(alloc)?;
-    let sim = sim_command(alloc)?;
-    let rmapctl = Command::new(alloc, "rmapctl").bin_name("rmapctl")?;
     rmapctl
-        .about("An RMAP target whose commands are judged by BPF programs")
-        .no_binary_name(true)
-        .disable_help_subcommand(true)
-        .subcommand_required(true)
         .subcommand(asm)?
         .subcommand(dis)?
         .subcommand(verify)?
         .subcommand(judge)?
-        .subcommand(policy)?
+        .subcommand(policy)
+}
+
+/// The whole command line.
+fn command_line<'a>(alloc: Global) -> Result<Command<'a>, AllocError>
+    ensures { IfOk result (λ c. app_of c ≡ rmapctl_app) }
+{
+    let serve = serve_command(alloc)?;
+    let sim = sim_command(alloc)?;
+    let explain = explain_command(alloc)?;
+    let why = why_command(alloc)?;
+    let rmapctl = Command::new(alloc, "rmapctl").bin_name("rmapctl")?;
+    let about = "An RMAP target whose commands are judged by BPF programs";
+    let top = rmapctl
+        .about(about)
+        .version(VERSION)
+        .no_binary_name(true)
+        .disable_help_subcommand(true)
+        .subcommand_required(true);
+    with_first_jobs(alloc, top)?
         .subcommand(serve)?
-        .subcommand(sim)
+        .subcommand(sim)?
+        .subcommand(explain)?
+        .subcommand(why)
 }
 
 /// What the user is told of words that `clap` refuses.
@@ -125,16 +144,22 @@ fn job_of(alloc: Global, found: &ArgMatches) -> Result<Job, UsageFault>
     if let Some(serve) = found.subcommand_matches("serve") {
         return Ok(Job::Serve(serve_job(alloc, serve)?));
     }
-    match found.subcommand_matches("sim") {
-        Some(sim) => Ok(Job::Simulate(sim_job(alloc, sim)?)),
+    if let Some(sim) = found.subcommand_matches("sim") {
+        return Ok(Job::Simulate(sim_job(alloc, sim)?));
+    }
+    if let Some(explain) = found.subcommand_matches("explain") {
+        return Ok(Job::Explain(explain_job(alloc, explain)?));
+    }
+    match found.subcommand_matches("why") {
+        Some(why) => Ok(Job::Why(why_job(alloc, why)?)),
         None => Err(UsageFault::BadOption),
     }
 }
 
 /// The job that the words of a command line name, without the program's own name.
 ///
-/// Words that name none are `Parse` with the text of `clap` for the user (so are `--help` and
-/// `-h`), `Memory` where memory was refused.
+/// Words that name none are `Parse` with the text of `clap` for the user (so are `--help`, `-h` and
+/// `--version`), `BadOption` where an option or a code is none, `Memory` where memory was refused.
 pub fn words(alloc: Global, words: &[&str]) -> Result<Job, UsageFault>
     ensures ok { IfOk result (NamesJob (texts words.now)) }
     ensures err { IfErr result (NamesNone (texts words.now)) }

@@ -53,7 +53,7 @@ pub fn verify_job(alloc: Global, found: &ArgMatches) -> Result<VerifyWords, Usag
 }
 
 /// Prints that a program may judge: `accepted weight W budget B`.
-fn print_accepted<W: Write>(out: &mut W, weight: u64, budget: u32) -> io::Result<()>
+pub fn print_accepted<W: Write>(out: &mut W, weight: u64, budget: u32) -> io::Result<()>
     ensures { OnOk result (Prints W.contents out.old out.new (accepted_line weight budget)) }
 {
     writeln!(out, "accepted weight {weight} budget {budget}")

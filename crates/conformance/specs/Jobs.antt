@@ -3,7 +3,7 @@ use Rattle.std.specs.Prelude.{◌≡◌, ℕ, zero, suc, List, Some, string_byte
 use Rattle.bpf.specs.Program.{Program, image_bytes}
 use Rattle.basm.specs.Relation.{IsText}
 use Rattle.commands.specs.declared.jobs.Job.{Job}
-use Rattle.commands.specs.declared.jobs.Job.TheVariants.{Assemble, Disassemble, Verify, Judge, Policy, Serve, Simulate}
+use Rattle.commands.specs.declared.jobs.Job.TheVariants.{Assemble, Disassemble, Verify, Judge, Policy, Serve, Simulate, Explain, Why}
 use Rattle.machine.specs.Sizes.{Maps}
 use Rattle.policy.specs.Compiled.{IsCompiled}
 use Rattle.policy.specs.Lines.{IsTable}
@@ -42,3 +42,5 @@ Leaves (Policy words) before after zero =
 Leaves (Policy words) before after (suc n) = after ≡ before
 Leaves (Simulate words) before after status = after ≡ before
 Leaves (Serve words) before after status = after ≡ before
+Leaves (Explain words) before after status = after ≡ before
+Leaves (Why words) before after status = after ≡ before

@@ -3,6 +3,7 @@
 mod checks;
 mod faults;
 mod gates;
+mod jobs;
 mod meetings;
 mod queues;
 mod sharing;

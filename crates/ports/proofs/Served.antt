@@ -1,5 +1,5 @@
 -- Workers that came back from their threads.
-use Rattle.std.proofs.Common.{◌≡◌, ◌+◌, ◌-◌, ◌<◌, ℕ, List, ◌++◌, Option, None, Some, sym, ap, ◌∙◌, subst, ⊎_elim, arith}
+use Rattle.std.proofs.Common.{◌≡◌, ◌+◌, ◌-◌, ◌<◌, ◌≤◌, ℕ, List, [], ◌++◌, Option, None, Some, refl, sym, ap, ◌∙◌, subst, ⊎_elim, arith}
 use Rattle.std.specs.Prelude.{map, length, slice_index_or}
 use Rattle.std.proofs.lemmas.Bool.{cases_lt}
 use Rattle.std.proofs.lemmas.List.{get_or-map, get_or_append_left, get_or-append-add, length-append, length-map}
@@ -9,7 +9,7 @@ use Rattle.ports.specs.declared.port.ServePass.{ServePass}
 use Rattle.ports.specs.declared.starts.Ended.{Ended}
 use Rattle.ports.specs.declared.worker.Worker.{Worker}
 use Rattle.ports.specs.declared.worker.Report.{Report}
-use Rattle.ports.specs.Serves.{IsWorkerOf, AreLast, AreServed, HasReturned, IsBack, IsTotalOf, HaveServed}
+use Rattle.ports.specs.Serves.{IsWorkerOf, AreLast, AreServed, HasReturned, HaveComeBack, IsBack, IsTotalOf, HaveServed}
 
 -- A pass that is the port's is so later.
 same_port : (port : Port) (old new : ServePass) → IsServePassOf port old → IsServePassAfter old new → IsServePassOf port new
@@ -83,3 +83,36 @@ module _ {J S : Type 0} (sent : S → List (List ℕ)) (failed : S → ℕ) (ban
           };
           sum = told.added;
         }
+
+    -- Where a thread could not be made, the workers of the others came back, and behind them the rest, as they went in.
+    pub have_come_back : AreBack → AreLast rest old → length ended + length rest ≤ length old → length old ≤ length ended + length rest + 1 → HaveComeBack sent failed old (returned ++ rest)
+    have_come_back each last most few =
+        let many : length returned ≡ length ended = length-map ended (λ (e : Ended J S). e.worker) in
+        let whole : length (returned ++ rest) ≡ length returned + length rest = length-append returned rest in
+        record {
+          first = returned;
+          last = rest;
+          all = refl;
+          each = λ k worker below.
+              let end : Ended J S = record { worker = worker; report = None } in
+              let low : k < length ended = subst (λ n. k < n) many below in (
+                (slice_index_or ended k end).report,
+                subst (λ w. IsBack sent failed (slice_index_or old k worker) w (slice_index_or ended k end).report)
+                    (sym (get_or-map (λ (e : Ended J S). e.worker) ended k end worker low)) (each k end worker low),
+              );
+          rest = last;
+          most = omega (arith, many, whole, most);
+          few = omega (arith, many, whole, few);
+        }
+
+-- Where no thread was started, all came back as they went in.
+pub all_came_back : {J S : Type 0} (sent : S → List (List ℕ)) (failed : S → ℕ) (old : List (Worker J S)) → HaveComeBack sent failed old old
+all_came_back {J} {S} sent failed old = record {
+  first = [];
+  last = old;
+  all = refl;
+  each = λ k worker (below : k < 0). absurd (omega (arith, below));
+  rest = ([], refl);
+  most = omega arith;
+  few = omega arith;
+}

@@ -1,5 +1,5 @@
 -- Workers that serve ports side by side: worker k serves port k.
-use Rattle.std.specs.Prelude.{◌≡◌, ◌<◌, ◌≤◌, ℕ, List, ◌++◌, length, map, slice_index_or, Option, Some, MatchOption, vec_len, vec_capacity}
+use Rattle.std.specs.Prelude.{◌≡◌, ◌<◌, ◌≤◌, ◌+◌, ℕ, List, ◌++◌, length, map, slice_index_or, Option, Some, MatchOption, vec_len, vec_capacity}
 use Rattle.std.specs.List.{sum_by}
 use Rattle.ports.specs.Queue.{IsServePassOf, IsServePassAfter}
 use Rattle.ports.specs.Sinks.{cut}
@@ -50,6 +50,24 @@ pub record IsTotalOf (told : List (Option Report)) (total : Report) : Type 0 whe
   pub all : told ≡ map Some reports
   pub added : total ≡ total_of reports
 
+-- the worker came back: as it went in, or behind its port's end mark
+abbrev pub HasComeBack : {J S : Type 0} → (S → List (List ℕ)) → (S → ℕ) → Worker J S → Worker J S → Type 0
+HasComeBack sent failed old new = (report : Option Report) × IsBack sent failed old new report
+
+-- the second list ends with the first
+abbrev pub AreLast : {X : Type 0} → List X → List X → Type 0
+AreLast {X} last all = (front : List X) × (all ≡ front ++ last)
+
+-- what came back of workers that could not all be started: first those that had a thread, each come back, then the last ones, as they went in; at most one is missing, the one between them
+pub record HaveComeBack {J S : Type 0} (sent : S → List (List ℕ)) (failed : S → ℕ) (old new : List (Worker J S)) : Type 0 where
+  pub first : List (Worker J S)
+  pub last : List (Worker J S)
+  pub all : new ≡ first ++ last
+  pub each : (k : ℕ) (worker : Worker J S) → k < length first → HasComeBack sent failed (slice_index_or old k worker) (slice_index_or first k worker)
+  pub rest : AreLast last old
+  pub most : length new ≤ length old
+  pub few : length old ≤ length new + 1
+
 -- each worker served its port until the end mark and stands at its place again; that report is the sum of theirs
 pub record HaveServed {J S : Type 0} (sent : S → List (List ℕ)) (failed : S → ℕ) (banks : ℕ) (ports : List Port) (old new : List (Worker J S)) (total : Report) : Type 0 where
   pub reports : List Report
@@ -69,7 +87,3 @@ abbrev pub AreThreadsOf : {J S : Type 0} → ℕ → List (PromisedHandle (Ended
 AreThreadsOf {J} {S} n threads workers =
     (k : ℕ) (thread : PromisedHandle (Ended J S) (Start J S)) (worker : Worker J S) → k < n
     → (slice_index_or threads k thread).promise.0.value ≡ slice_index_or workers k worker
-
--- the second list ends with the first
-abbrev pub AreLast : {X : Type 0} → List X → List X → Type 0
-AreLast {X} last all = (front : List X) × (all ≡ front ++ last)

@@ -1,8 +1,8 @@
 //! All ports of a node at once, each in a thread of its own.
 
-ghost use Rattle.std.specs.Prelude.{◌≡◌, ◌+◌, ◌≤◌, ◌++◌, IfOk, IfSome, length, map, vec_len, vec_capacity};
+ghost use Rattle.std.specs.Prelude.{◌≡◌, ◌+◌, ◌≤◌, ◌++◌, IfOk, IfSome, OnErr, length, map, vec_len, vec_capacity};
 ghost use Rattle.std.specs.PromisedHandle.{KeepsEach};
-ghost use Rattle.ports.specs.Serves.{AreServed, HasRoomFor, HaveServed, IsSumOf, IsTotalOf};
+ghost use Rattle.ports.specs.Serves.{AreServed, HasRoomFor, HaveComeBack, HaveServed, IsSumOf, IsTotalOf};
 
 use crate::gate::Gate;
 use crate::port::Port;
@@ -124,6 +124,7 @@ pub fn serve<
     requires { AreServed node.now (vec_len workers) ports.now workers.items }
     ensures served { IfOk result.1
         (HaveServed S.sent S.failed node.now ports.now workers.items result.0.items) }
+    ensures kept { OnErr result.1 (HaveComeBack S.sent S.failed workers.items result.0.items) }
     ensures back { length result.0.items ≡ length workers.items
         → AreServed node.now (length workers.items) ports.now result.0.items }
 {

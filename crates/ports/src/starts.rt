@@ -112,6 +112,7 @@ pub(crate) fn start_each<
     requires served { AreServed node.now (vec_len workers) ports.now workers.items }
     ensures len { result.all ≡ true → vec_len result.threads ≡ vec_len workers }
     ensures most { vec_len result.threads + vec_len result.rest ≤ vec_len workers }
+    ensures few { vec_len workers ≤ vec_len result.threads + vec_len result.rest + 1 }
     ensures rest { AreLast result.rest.items workers.items }
     ensures each { AreThreadsOf (vec_len result.threads) result.threads.items workers.items }
 {
@@ -124,6 +125,7 @@ pub(crate) fn start_each<
             requires served { AreServed node.now (vec_len workers) ports.now workers.items }
             ensures len { result.all ≡ true → vec_len result.threads ≡ vec_len workers }
             ensures most { vec_len result.threads + vec_len result.rest ≤ vec_len workers }
+            ensures few { vec_len workers ≤ vec_len result.threads + vec_len result.rest + 1 }
             ensures rest { AreLast result.rest.items workers.items }
             ensures each { AreThreadsOf (vec_len result.threads) result.threads.items workers.items }
         {

@@ -29,23 +29,23 @@ pub begins : (program : Program) (header : Header) (port : ℕ) (frame : Frame) 
 begins program header port frame stack low size stands =
     record { port = port; low = low; calls = []; stands = stands program header stack size }
 
-pub comes_to_question : (program : Program) (header : Header) (helper map key : ℕ) (old new : Frame) (before after : List ℕ) → Advances program header (turns.Ask helper map key) old new before after → IsPaused program header old before → IsAtQuestion new
-comes_to_question program header helper map key old new before after advances run =
+pub comes_to_question : (program : Program) (header : Header) (helper map key argument : ℕ) (old new : Frame) (before after : List ℕ) → Advances program header (turns.Ask helper map key argument) old new before after → IsPaused program header old before → IsAtQuestion new
+comes_to_question program header helper map key argument old new before after advances run =
     record {
       program = program;
       header = header;
       port = run.port;
       calls = run.calls;
-      asked = question helper map key;
+      asked = question helper map key argument;
       stack = after;
       asks = advances run.port run.calls run.low run.stands;
     }
 
-pub goes_on : (program : Program) (header : Header) (helper map key answer : ℕ) (old asking new : Frame) (before after : List ℕ) → Advances program header (turns.Ask helper map key) old asking before after → Answers answer asking new → IsPaused program header old before → IsPaused program header new after
-goes_on program header helper map key answer old asking new before after advances answers run =
+pub goes_on : (program : Program) (header : Header) (helper map key argument answer : ℕ) (old asking new : Frame) (before after : List ℕ) → Advances program header (turns.Ask helper map key argument) old asking before after → Answers answer asking new → IsPaused program header old before → IsPaused program header new after
+goes_on program header helper map key argument answer old asking new before after advances answers run =
     record {
       port = run.port;
       low = run.low;
-      calls = run.calls ++ call (question helper map key) answer ∷ [];
-      stands = answers program header run.port run.calls (question helper map key) after (advances run.port run.calls run.low run.stands);
+      calls = run.calls ++ call (question helper map key argument) answer ∷ [];
+      stands = answers program header run.port run.calls (question helper map key argument) after (advances run.port run.calls run.low run.stands);
     }

@@ -80,6 +80,29 @@ fn compiled(alloc: Global, text: &str, sizes: &MapSizes) -> Result<(Table, Image
     Ok((table, image))
 }
 
+/// The verdict of a run of a table's program on a header, if it is not left without an answer, and its questions.
+fn run_of(
+    alloc: Global,
+    image: Image,
+    sizes: &MapSizes,
+    front: &[u8; 4],
+    tail: &[u8; 12],
+    answers: &[u64],
+) -> Result<(Option<u64>, String), Fail> {
+    let program = verify(alloc, image, sizes)?;
+    let mut asked = String::new(alloc);
+    let verdict = turns_on(
+        &program,
+        front,
+        tail,
+        0,
+        &mut [0xa5; 512],
+        answers,
+        &mut asked,
+    )?;
+    Ok((verdict, asked))
+}
+
 /// What a table draws and decides, and its program too, for maps of some sizes, for the 16 bytes of a header, with the
 /// answers of draws in order and commas between them. Or the fault, where there is no header.
 pub fn decision(alloc: Global, given: &str) -> Result<String, Fail> {
@@ -96,17 +119,7 @@ pub fn decision(alloc: Global, given: &str) -> Result<String, Fail> {
     let answers = numbers(alloc, row.part()?)?;
     let mut calls = Vec::new(alloc);
     let verdict = table.decide(front, tail, &answers, &mut calls)?;
-    let program = verify(alloc, image, &sizes)?;
-    let mut asked = String::new(alloc);
-    let run = turns_on(
-        &program,
-        front,
-        tail,
-        0,
-        &mut [0; 512],
-        &answers,
-        &mut asked,
-    )?;
+    let (run, asked) = run_of(alloc, image, &sizes, front, tail, &answers)?;
     if run != Some(verdict) || asked.as_str() != questions(alloc, &calls)?.as_str() {
         return Ok(String::from_str(alloc, "otherwise by the program")?);
     }

@@ -35,24 +35,30 @@ impl Asked {
     }
 }
 
-/// The questions and the verdict of a run of the interpreter, whatever the stack held before. The slow machine comes to
-/// that verdict at the last step, and not before.
-fn ended(
-    alloc: Global,
-    program: &Accepted,
-    sizes: &MapSizes,
-    asked: &Asked,
-) -> Result<String, Fail> {
+/// Whether the slow machine comes to that verdict at the last step of a run, and not before.
+fn ends_slowly(program: &Accepted, sizes: &MapSizes, asked: &Asked, verdict: u64) -> bool {
     let Asked {
         port,
         answers,
         steps,
     } = asked;
     let port = *port % 32;
+    let slow = |limit: u32| run(program.image(), sizes, &FRONT, &TAIL, port, answers, limit);
+    slow(*steps) == Ending::Verdict(verdict) && slow(steps.saturating_sub(1)) == Ending::OutOfSteps
+}
+
+/// The questions and the verdict of a run of the interpreter, whatever the stack held before, and of the slow machine.
+fn ended(
+    alloc: Global,
+    program: &Accepted,
+    sizes: &MapSizes,
+    asked: &Asked,
+) -> Result<String, Fail> {
+    let port = asked.port % 32;
     let mut questions = String::new(alloc);
     let mut again = String::new(alloc);
-    let first = by_turns(program, port, &mut [0; 512], answers, &mut questions)?;
-    let second = by_turns(program, port, &mut [0xa5; 512], answers, &mut again)?;
+    let first = by_turns(program, port, &mut [0; 512], &asked.answers, &mut questions)?;
+    let second = by_turns(program, port, &mut [0xa5; 512], &asked.answers, &mut again)?;
     let found = first.ok_or("no answer is left")?;
     if second != first || again.as_str() != questions.as_str() {
         return Ok(String::from_str(alloc, "ok|by what the stack held")?);
@@ -60,10 +66,7 @@ fn ended(
     if questions.is_empty() && verdict(alloc, program, port, 0xa5)? != found {
         return Ok(String::from_str(alloc, "ok|otherwise in one turn")?);
     }
-    let slow = |limit: u32| run(program.image(), sizes, &FRONT, &TAIL, port, answers, limit);
-    if slow(*steps) != Ending::Verdict(found)
-        || slow(steps.saturating_sub(1)) != Ending::OutOfSteps
-    {
+    if !ends_slowly(program, sizes, asked, found) {
         return Ok(String::from_str(alloc, "ok|in other steps")?);
     }
     Ok(format!(in alloc; "ok|{questions}|{found}")?)

@@ -1,8 +1,11 @@
 use Rattle.std.proofs.Common.{ap, ap₂, codes, true, ◌≡◌, ◌∙◌}
 use Rattle.std.proofs.lemmas.Result.{IfOk-weaker}
 use Rattle.clap.specs.Simple.{App, Shape, app_of, app_of_fields, new_app, on_top, with_subcommand}
-use Rattle.commands.specs.CommandLine.{rmapctl_app}
+use Rattle.commands.specs.CommandLine.{rmapctl_app, with_first_jobs}
 use Rattle.commands.proofs.usage.command_line.Goals as goal
+
+abbrev versioned : Shape → Shape
+versioned s = record s { has_version = true }
 
 abbrev bare : Shape → Shape
 bare s = record s { no_binary_name = true }
@@ -18,23 +21,19 @@ unfolding rmapctl_app
 returns c =
     let about : app_of c.about.result ≡ new_app (codes "rmapctl") =
     ap app_of_fields c.about.ensures ∙ ap app_of_fields c.in_ok-rmapctl.ensures.0 ∙ c.new.ensures.app in
-    let first : app_of c.no_binary_name.result ≡ on_top bare (app_of c.about.result) = ap app_of_fields c.no_binary_name.ensures in
+    let told : app_of c.version.result ≡ on_top versioned (app_of c.about.result) = ap app_of_fields c.version.ensures in
+    let first : app_of c.no_binary_name.result ≡ on_top bare (app_of c.version.result) = ap app_of_fields c.no_binary_name.ensures in
     let second : app_of c.disable_help_subcommand.result ≡ on_top helpless (app_of c.no_binary_name.result) =
     ap app_of_fields c.disable_help_subcommand.ensures in
-    let third : app_of c.subcommand_required.result ≡ on_top wanting (app_of c.disable_help_subcommand.result) =
-    ap app_of_fields c.subcommand_required.ensures in
-    let top = third ∙ ap (on_top wanting) (second ∙ ap (on_top helpless) (first ∙ ap (on_top bare) about)) in
-    let with_asm = c.in_ok-subcommand.ensures.shape c.in_ok-asm.ensures.local
-    ∙ ap₂ with_subcommand top (ap (λ (a : App). a.top) c.in_ok-asm.ensures.shape) in
-    let with_dis = c.in_ok-subcommand-2.ensures.shape c.in_ok-dis.ensures.local
-    ∙ ap₂ with_subcommand with_asm (ap (λ (a : App). a.top) c.in_ok-dis.ensures.shape) in
-    let with_verify = c.in_ok-subcommand-3.ensures.shape c.in_ok-verify.ensures.local
-    ∙ ap₂ with_subcommand with_dis (ap (λ (a : App). a.top) c.in_ok-verify.ensures.shape) in
-    let with_judge = c.in_ok-subcommand-4.ensures.shape c.in_ok-judge.ensures.local
-    ∙ ap₂ with_subcommand with_verify (ap (λ (a : App). a.top) c.in_ok-judge.ensures.shape) in
-    let with_policy = c.in_ok-subcommand-5.ensures.shape c.in_ok-policy.ensures.local
-    ∙ ap₂ with_subcommand with_judge (ap (λ (a : App). a.top) c.in_ok-policy.ensures.shape) in
-    let with_serve = c.in_ok-subcommand-6.ensures.shape c.in_ok-serve.ensures.local
-    ∙ ap₂ with_subcommand with_policy (ap (λ (a : App). a.top) c.in_ok-serve.ensures.shape) in
-    IfOk-weaker c.subcommand-7.result _ _ (λ m h. h.shape c.in_ok-sim.ensures.local
-    ∙ ap₂ with_subcommand with_serve (ap (λ (a : App). a.top) c.in_ok-sim.ensures.shape)) c.subcommand-7.ensures
+    let third : app_of c.subcommand_required-top.result ≡ on_top wanting (app_of c.disable_help_subcommand.result) =
+    ap app_of_fields c.subcommand_required-top.ensures in
+    let top = third ∙ ap (on_top wanting) (second ∙ ap (on_top helpless) (first ∙ ap (on_top bare) (told ∙ ap (on_top versioned) about))) in
+    let with_first = c.in_ok-with_first_jobs.ensures ∙ ap with_first_jobs top in
+    let with_serve = c.in_ok-subcommand.ensures.shape c.in_ok-serve.ensures.local
+    ∙ ap₂ with_subcommand with_first (ap (λ (a : App). a.top) c.in_ok-serve.ensures.shape) in
+    let with_sim = c.in_ok-subcommand-2.ensures.shape c.in_ok-sim.ensures.local
+    ∙ ap₂ with_subcommand with_serve (ap (λ (a : App). a.top) c.in_ok-sim.ensures.shape) in
+    let with_explain = c.in_ok-subcommand-3.ensures.shape c.in_ok-explain.ensures.local
+    ∙ ap₂ with_subcommand with_sim (ap (λ (a : App). a.top) c.in_ok-explain.ensures.shape) in
+    IfOk-weaker c.subcommand-4.result _ _ (λ m h. h.shape c.in_ok-why.ensures.local
+    ∙ ap₂ with_subcommand with_explain (ap (λ (a : App). a.top) c.in_ok-why.ensures.shape)) c.subcommand-4.ensures

@@ -1,7 +1,7 @@
-use Rattle.std.proofs.Common.{◌≡◌, ◌<◌, ◌++◌, ◌∙◌, ap, sym, subst}
+use Rattle.std.proofs.Common.{◌≡◌, ◌<◌, ◌++◌, ◌∙◌, ap, arith, sym, subst}
 use Rattle.std.specs.Prelude.{length, map, slice_index_or, vec_len, IfSome}
-use Rattle.ports.specs.Serves.{AreServed, HaveServed, IsBack, IsTotalOf}
-use Rattle.ports.proofs.Served.{AreBack, can_serve, have_served}
+use Rattle.ports.specs.Serves.{AreServed, HaveComeBack, HaveServed, IsBack, IsTotalOf}
+use Rattle.ports.proofs.Served.{AreBack, all_came_back, can_serve, have_come_back, have_served}
 use Rattle.ports.proofs.serves.serve.Goals as goal
 
 -- The thread that was joined has the promise of the worker at its place.
@@ -42,3 +42,20 @@ returns-clause-back g c =
     let is = c.with_rest.ensures ∙ ap (λ l. l ++ started.result.rest.items) c.gather-workers.ensures.workers in
     λ long. subst (AreServed banks (length old) ports) (sym is)
     (can_serve sent failed banks ports old ended started.result.rest.items served back started.ensures.rest (sym (ap length is) ∙ long))
+
+pub returns-clause-kept : goal.returns-clause-kept
+returns-clause-kept g c =
+    let sent = g.S.Sink.sent in let failed = g.S.Sink.failed in let banks = c.args.node.now in let ports = c.args.ports.now in
+    let old = c.args.workers.items in let ended = c.join_each.result.items in let started = c.start_each-started in
+    let back : AreBack sent failed banks ports old ended started.result.rest.items
+    = λ k end worker below.
+    let low : k < vec_len started.result.threads = subst (λ n. k < n) (sym c.join_each.result.ok.0 ∙ c.join_each.ensures.len) below in
+    let kept = (c.join_each.ensures.each k end low).1 in
+    subst (λ w. IsBack sent failed w (slice_index_or ended k end).worker (slice_index_or ended k end).report)
+    (ap (λ h. h.promise.0.value) kept.handle_is ∙ started.ensures.each k kept.handle worker low) kept.kept in
+    let is = c.with_rest.ensures ∙ ap (λ l. l ++ started.result.rest.items) c.gather-workers.ensures.workers in
+    let all : length ended ≡ vec_len started.result.threads = sym c.join_each.result.ok.0 ∙ c.join_each.ensures.len in
+    subst (HaveComeBack sent failed old) (sym is)
+    (have_come_back sent failed banks ports old ended started.result.rest.items back started.ensures.rest
+    (omega (arith, started.ensures.most, all, started.result.rest.ok.0, c.args.workers.ok.0))
+    (omega (arith, started.ensures.few, all, started.result.rest.ok.0, c.args.workers.ok.0)))

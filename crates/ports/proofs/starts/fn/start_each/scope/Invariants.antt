@@ -15,3 +15,4 @@ invariant-loop-worker g l =
     × (done + vec_len l.rest + into_iter_len ahead ≤ into_iter_len first)
     × (into_iter_len first ≤ vec_capacity l.threads)
     × (into_iter_len first ≤ vec_capacity l.rest)
+    × (into_iter_len first ≤ done + vec_len l.rest + into_iter_len ahead + 1)
