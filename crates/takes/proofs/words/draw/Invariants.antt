@@ -1,4 +1,4 @@
-use Rattle.std.specs.Prelude.{◌≡◌, ◌×◌}
+use Rattle.std.specs.Prelude.{◌≡◌}
 use Rattle.machine.specs.Sizes.{IsInside, kind_of_map}
 use Rattle.machine.specs.declared.kinds.MapKind.TheVariants.{Counter}
 use Rattle.takes.proofs.words.draw.Given as goal
