@@ -152,7 +152,8 @@ pub fn node_arguments<'a>(alloc: Global, command: Command<'a>) -> Result<Command
 {
     let help = "The file of the BPF image that judges, in place of the factory image";
     let image = option(alloc, "image", "FILE", help);
-    let help = "How many cells each map has, as 5,1p with a p for a peak map; without it there are no maps";
+    let help =
+        "How many cells each map has, as 5,1p with a p for a peak map; without it there are no maps";
     let maps = option(alloc, "maps", "LIST", help);
     let help = "How many ports the node has, 1 to 32; without it one";
     let ports = option(alloc, "ports", "N", help);

@@ -44,7 +44,8 @@ pub fn policy_command<'a>(alloc: Global) -> Result<Command<'a>, AllocError>
     let table = file(alloc, "table", "FILE", help);
     let help = "The file that the BPF image is written to";
     let image = file(alloc, "image", "OUT", help);
-    let help = "How many cells each map has, as 5,1p with a p for a peak map; without it there are no maps";
+    let help =
+        "How many cells each map has, as 5,1p with a p for a peak map; without it there are no maps";
     let maps = option(alloc, "maps", "LIST", help);
     Command::new(alloc, "policy")
         .about("Compiles a policy table to a BPF image")

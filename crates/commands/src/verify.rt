@@ -37,7 +37,8 @@ pub fn verify_command<'a>(alloc: Global) -> Result<Command<'a>, AllocError>
     ensures local { IfOk result (λ c. (fields_of c).has_globals ≡ false) }
 {
     let about = "Tells whether a BPF image may judge, or why it is refused";
-    let help = "How many cells each map has, as 5,1p with a p for a peak map; without it there are no maps";
+    let help =
+        "How many cells each map has, as 5,1p with a p for a peak map; without it there are no maps";
     let maps = option(alloc, "maps", "LIST", help);
     image_command(alloc, "verify", about)?.arg(maps)
 }
