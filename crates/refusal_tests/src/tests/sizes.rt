@@ -21,14 +21,14 @@ a packet without its bytes: 32
 an item of a queue: 40
 a bank: 128
 a share of a bank: 16
-a pass: 784
-its bearing: 632
-its seat at the counters: 32
-its reader of programs: 96
+a pass: 800
+its bearing: 640
+its seat at the counters: 40
+its reader of programs: 104
 its staging: 32
 the bytes of a staging: 16384
-an accepted program: 128
-a slot of its image: 24
+an accepted program: 136
+a slot of its image: 32
 the region of a slot: 2
 an operation: 24
 a buffer for replies: 4136
