@@ -40,7 +40,7 @@ pub record IsJobNode (s : JobNodeValue) : Type 0 where
 abbrev pub own_bank : BankConfig
 own_bank = record { base = 2684354560; size = 65536; room = 1024 }
 
--- the configuration of the node with so many ports, and counter maps of these sizes
+-- the configuration of the node with so many ports, and maps of these sizes
 pub record IsConfig (ports : ℕ) (sizes : Maps) (config : NodeConfig) : Type 0 where
   pub address : config.address ≡ 254
   pub ports_are : config.ports ≡ ports

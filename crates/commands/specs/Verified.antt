@@ -9,7 +9,7 @@ use Rattle.machine.specs.Sizes.{Maps}
 use Rattle.commands.specs.Files.{Reads, HoldsImage}
 use Rattle.commands.specs.VerifyJob.{accepted_line}
 
--- the image in the file is justified on a node with counter maps of these sizes, and so safe, and its weight and
+-- the image in the file is justified on a node with maps of these sizes, and so safe, and its weight and
 -- budget were printed
 pub record Verifies {S : Type 0} (reads : Reads S) (before : S) (name : List ℕ) (sizes : Maps) (after : S) (old new : Option (List ℕ)) : Type 0 where
   pub program : Program

@@ -54,12 +54,11 @@ fn passes<J: Room>(
     Ok(passes)
 }
 
-/// The plain parts of a node, for one thread: banks of zero bytes, the cells of its counter maps, each 0, what
-/// publishes its programs, and a pass for each port, in order, with a seat at the cells and a reader of the
-/// programs. In each slot the factory program judges, of generation 0. `Ports` and then `Banks` where a number
-/// is outside its limits; `Memory` where memory was refused: a publisher that was made already ends then, which
-/// may wait. The publisher keeps `rt`. The condition is a program that was accepted for the maps of the
-/// configuration.
+/// The plain parts of a node, for one thread: banks of zero bytes, the cells of its maps, each 0, what publishes
+/// its programs, and a pass for each port, in order, with a seat at the cells and a reader of the programs. In
+/// each slot the factory program judges, of generation 0. `Ports` and then `Banks` where a number is outside its
+/// limits; `Memory` where memory was refused: a publisher that was made already ends then, which may wait. The
+/// publisher keeps `rt`. The condition is a program that was accepted for the maps of the configuration.
 pub fn banks_and_passes<J: Room, R: Wait + Drop>(
     alloc: Global,
     rt: R,

@@ -13,11 +13,11 @@ mod runs;
 pub use images::image_of_text;
 pub use nodes::{
     BASE, LOAD, PLAIN_READ, PLAIN_REPLY, PLAIN_WRITE, STAGE, SpareBank, bank, node, packet,
-    program, served, yes,
+    program, served,
 };
 pub use operations::{
     CONDITIONS, EXTENSIONS, LOAD_SIZES, OPERATIONS, SIZES, SWAP_BITS, SWAPS, WIDTHS,
 };
 pub use random::Random;
-pub use rows::{Row, answer, counts, hexadecimals, sizes, word};
+pub use rows::{Row, counts, hexadecimals, sizes, word};
 pub use runs::{FRONT, TAIL, by_turns, turns_on, verdict};

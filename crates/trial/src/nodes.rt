@@ -4,7 +4,6 @@ ghost use Rattle.std.specs.Prelude.{◌≡◌};
 
 use crate::images::image_of_text;
 use bank::{Bank, Journal, Judged, Share};
-use basm::assemble;
 use bver::{Accepted, MapSizes, verify};
 use publish::{Opened, Publisher, Room};
 use rmap::{ReplyBuf, Status};
@@ -56,13 +55,6 @@ pub fn program(alloc: Global, verdict: u8) -> Result<Accepted, Fail> {
     let text = format!(in alloc; "mov r0, {verdict}; exit")?;
     let image = image_of_text(alloc, &text, 2)?;
     Ok(verify(alloc, image, &MapSizes::new(&[])?)?)
-}
-
-/// The program that says yes; `None` where it takes no memory.
-pub fn yes(alloc: Global) -> Option<Accepted> {
-    let image = assemble(alloc, ".budget 2\nmov r0, 0\nexit").ok()?;
-    let sizes = MapSizes::new(&[]).ok()?;
-    verify(alloc, image, &sizes).ok()
 }
 
 /// The plain parts of a node of logical address 0xFE without maps: its banks, what publishes its programs, and

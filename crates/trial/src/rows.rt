@@ -70,15 +70,6 @@ pub fn counts(sizes: &MapSizes, map: u8) -> bool
     }
 }
 
-/// The code and the slot of a refusal, or nothing.
-pub fn answer(text: &str) -> Result<Option<(u8, u16)>, Fail> {
-    if text == "ok" {
-        return Ok(None);
-    }
-    let (code, slot) = text.split_once(' ').ok_or("code and slot")?;
-    Ok(Some((code.parse::<u8>()?, slot.parse::<u16>()?)))
-}
-
 /// The variant as its name, or `-` for none.
 pub fn word<T: Debug + Drop>(alloc: Global, value: Option<T>) -> Result<String, Fail> {
     Ok(match value {

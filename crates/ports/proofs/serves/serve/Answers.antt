@@ -1,7 +1,7 @@
 use Rattle.std.proofs.Common.{◌≡◌, ◌<◌, ◌++◌, ◌∙◌, ap, arith, sym, subst}
 use Rattle.std.specs.Prelude.{length, map, slice_index_or, vec_len, IfSome}
 use Rattle.ports.specs.Serves.{AreServed, HaveComeBack, HaveServed, IsBack, IsTotalOf}
-use Rattle.ports.proofs.Served.{AreBack, all_came_back, can_serve, have_come_back, have_served}
+use Rattle.ports.proofs.Served.{AreBack, can_serve, have_come_back, have_served}
 use Rattle.ports.proofs.serves.serve.Goals as goal
 
 -- The thread that was joined has the promise of the worker at its place.
