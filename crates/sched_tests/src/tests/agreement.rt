@@ -12,7 +12,7 @@ use target::{BankConfig, NodeConfig};
 use trial::{BASE, image_of_text, sizes};
 
 /// How many kinds of events there are, with the two ports: the kind of number k at port p has the number 2 k + p.
-const EVENTS: usize = 8;
+const EVENTS: usize = 10;
 
 /// What happens at a port: a take of the plain write, or a step of what was taken.
 #[derive(Clone, Copy, Debug, PartialEq, Eq)]
@@ -20,6 +20,7 @@ enum Kind {
     Take,
     Count,
     Ticket,
+    Peak,
     Effect,
 }
 
@@ -47,9 +48,11 @@ enum Program {
     Quota,
     /// Asks how many tickets were drawn, draws one, and says yes where there was none.
     CountsThenDraws,
+    /// Shows the number of its port and one more to the cell, and says yes where no greater was shown.
+    Rises,
 }
 
-/// Where a program stands: the number of the helper that it asks, or its verdict.
+/// Where a program stands: what it asks, or its verdict.
 #[derive(Clone, Copy, Debug)]
 enum Turn {
     Asks(Kind),
@@ -66,11 +69,22 @@ impl Program {
             Program::CountsThenDraws => {
                 "ldmap r1, 0; mov r2, 0; call 1; mov r6, r0; ldmap r1, 0; mov r2, 0; call 2; mov r0, r6; exit"
             }
+            Program::Rises => {
+                ".version 2; add r3, 1; mov r6, r3; ldmap r1, 0; mov r2, 0; call 3; jeq r0, r6, +2; mov r0, 10; exit; mov r0, 0; exit"
+            }
         }
     }
 
-    /// Where it stands after so many answers, of which the first was that.
-    fn turn(self, answers: usize, first: u64) -> Turn {
+    /// The maps of its node, as `--maps` has them.
+    fn maps(self) -> &'static str {
+        match self {
+            Program::Quota | Program::CountsThenDraws => "1",
+            Program::Rises => "1p",
+        }
+    }
+
+    /// Where it stands at the port after so many answers, of which the first was that.
+    fn turn(self, port: u8, answers: usize, first: u64) -> Turn {
         match self {
             Program::Quota => match answers {
                 0 => Turn::Asks(Kind::Ticket),
@@ -81,8 +95,17 @@ impl Program {
                 1 => Turn::Asks(Kind::Ticket),
                 _ => Turn::Verdict(first),
             },
+            Program::Rises => match answers {
+                0 => Turn::Asks(Kind::Peak),
+                _ => Turn::Verdict(if first == shown_at(port) { 0 } else { 10 }),
+            },
         }
     }
+}
+
+/// What the program of a port shows to a cell of a peak map.
+fn shown_at(port: u8) -> u64 {
+    if port == 0 { 1 } else { 2 }
 }
 
 /// How often the helper of the port's open command was answered, and what it was told first; `None` where no command is
@@ -103,15 +126,19 @@ fn answers(history: &[Pair], port: u8) -> Option<(usize, u64)> {
     open
 }
 
-/// How many tickets were told.
-fn tickets(history: &[Pair]) -> u64 {
-    let mut count = 0_u64;
+/// What the cell holds: how many tickets were told, or the greatest number that was shown.
+fn word(history: &[Pair]) -> u64 {
+    let mut word = 0_u64;
     for pair in history {
-        if matches!(pair.came, Came::Told(_)) && pair.kind == Kind::Ticket {
-            count = count.wrapping_add(1);
+        if matches!(pair.came, Came::Told(_)) {
+            word = match pair.kind {
+                Kind::Ticket => word.wrapping_add(1),
+                Kind::Peak => word.max(shown_at(pair.port)),
+                Kind::Take | Kind::Count | Kind::Effect => word,
+            };
         }
     }
-    count
+    word
 }
 
 /// What an event comes to behind a history.
@@ -123,8 +150,11 @@ fn looked_back(program: Program, history: &[Pair], port: u8, kind: Kind) -> Came
             Came::Refused
         };
     };
-    match program.turn(count, first) {
-        Turn::Asks(asked) if asked == kind => Came::Told(tickets(history)),
+    match program.turn(port, count, first) {
+        Turn::Asks(Kind::Peak) if kind == Kind::Peak => {
+            Came::Told(word(history).max(shown_at(port)))
+        }
+        Turn::Asks(asked) if asked == kind => Came::Told(word(history)),
         Turn::Verdict(0) if kind == Kind::Effect => Came::Done(Status::Success),
         Turn::Verdict(_) if kind == Kind::Effect => Came::Done(Status::NotAuthorised),
         _ => Came::Refused,
@@ -138,6 +168,7 @@ fn numbered(number: usize) -> (u8, Kind) {
         0 => Kind::Take,
         1 => Kind::Count,
         2 => Kind::Ticket,
+        3 => Kind::Peak,
         _ => Kind::Effect,
     };
     (port, kind)
@@ -149,6 +180,7 @@ fn event(alloc: Global, port: u8, kind: Kind) -> Result<Event, Fail> {
         Kind::Take => Event::Take(port, command(alloc, "write")?),
         Kind::Count => Event::Count(port),
         Kind::Ticket => Event::Ticket(port),
+        Kind::Peak => Event::Peak(port),
         Kind::Effect => Event::Effect(port),
     })
 }
@@ -180,7 +212,7 @@ fn ends(history: &[Pair]) -> (usize, usize) {
 /// Compares a world with what looking back finds.
 fn compare(rt: &impl Abort, world: &World, history: &[Pair]) -> Result<(), Fail> {
     let (written, done) = ends(history);
-    same(rt, "tickets", world.word(0, 0), Some(tickets(history)));
+    same(rt, "the cell", world.word(0, 0), Some(word(history)));
     if world.banks() == 0 {
         return Err("no bank".into());
     }
@@ -221,7 +253,7 @@ fn list(
     Ok(())
 }
 
-/// Every list of four events that begins with an event of the kind of that number, below 4, at one of the ports, and so
+/// Every list of four events that begins with an event of the kind of that number, below 5, at one of the ports, and so
 /// every shorter one.
 fn lists(rt: &impl Abort, alloc: Global, program: Program, first: u8) -> Result<(), Fail> {
     let config = NodeConfig {
@@ -232,7 +264,7 @@ fn lists(rt: &impl Abort, alloc: Global, program: Program, first: u8) -> Result<
             size: 64,
             room: 4,
         }],
-        sizes: sizes(alloc, "1")?,
+        sizes: sizes(alloc, program.maps())?,
     };
     let factory = image_of_text(alloc, program.text(), 16)?;
     for further in 0..EVENTS * EVENTS * EVENTS {
@@ -260,8 +292,13 @@ fn quotas_behind_a_ticket(rt: HostRuntime) -> Result<(), Fail> {
 }
 
 #[test]
-fn quotas_behind_an_effect(rt: HostRuntime) -> Result<(), Fail> {
+fn quotas_behind_a_peak(rt: HostRuntime) -> Result<(), Fail> {
     lists(&rt, rt.alloc(), Program::Quota, 3)
+}
+
+#[test]
+fn quotas_behind_an_effect(rt: HostRuntime) -> Result<(), Fail> {
+    lists(&rt, rt.alloc(), Program::Quota, 4)
 }
 
 #[test]
@@ -280,6 +317,36 @@ fn counts_behind_a_ticket(rt: HostRuntime) -> Result<(), Fail> {
 }
 
 #[test]
-fn counts_behind_an_effect(rt: HostRuntime) -> Result<(), Fail> {
+fn counts_behind_a_peak(rt: HostRuntime) -> Result<(), Fail> {
     lists(&rt, rt.alloc(), Program::CountsThenDraws, 3)
+}
+
+#[test]
+fn counts_behind_an_effect(rt: HostRuntime) -> Result<(), Fail> {
+    lists(&rt, rt.alloc(), Program::CountsThenDraws, 4)
+}
+
+#[test]
+fn peaks_behind_a_take(rt: HostRuntime) -> Result<(), Fail> {
+    lists(&rt, rt.alloc(), Program::Rises, 0)
+}
+
+#[test]
+fn peaks_behind_a_count(rt: HostRuntime) -> Result<(), Fail> {
+    lists(&rt, rt.alloc(), Program::Rises, 1)
+}
+
+#[test]
+fn peaks_behind_a_ticket(rt: HostRuntime) -> Result<(), Fail> {
+    lists(&rt, rt.alloc(), Program::Rises, 2)
+}
+
+#[test]
+fn peaks_behind_a_peak(rt: HostRuntime) -> Result<(), Fail> {
+    lists(&rt, rt.alloc(), Program::Rises, 3)
+}
+
+#[test]
+fn peaks_behind_an_effect(rt: HostRuntime) -> Result<(), Fail> {
+    lists(&rt, rt.alloc(), Program::Rises, 4)
 }
