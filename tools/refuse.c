@@ -5,6 +5,7 @@
 #include <stddef.h>
 #include <stdio.h>
 #include <stdlib.h>
+#include <sys/syscall.h>
 #include <unistd.h>
 
 enum { BEGIN = 60013, END = 60017 };
@@ -25,10 +26,18 @@ __attribute__((constructor)) static void read_numbers(void) {
   last = getenv("FROM") ? 1L << 62 : first;
 }
 
-__attribute__((destructor)) static void say(void) {
+static void say(void) {
   char line[120];
   int length = snprintf(line, sizeof line, "marks %ld requests %ld bytes %ld\n", (long)marks, (long)requests, (long)bytes);
-  if (write(STDERR_FILENO, line, (size_t)length) != length) _exit(2);
+  if (write(STDERR_FILENO, line, (size_t)length) != length) abort();
+}
+
+__attribute__((destructor)) static void end(void) { say(); }
+
+/* A program that may start threads leaves by this call, which runs no destructor. */
+void _exit(int status) {
+  say();
+  for (;;) syscall(SYS_exit_group, status);
 }
 
 /* Whether this request is to be refused. */

@@ -2,6 +2,8 @@
 
 use super::checks::{check, same};
 use super::marks::{begin, end, tell};
+use bpf::Image;
+use bver::MapSizes;
 use sched::{Event, Outcome, Reply, World, WorldFault, step};
 use spw::Packet;
 use std::alloc::{AllocError, Global};
@@ -48,8 +50,13 @@ take 1 read|taken 0
 take 0 write|taken 1
 ";
 
-/// A world of two ports and two banks, with a counter map of two cells and a peak map of one, or why it was not made.
-fn world(alloc: Global) -> Result<Result<World, WorldFault>, Fail> {
+/// What a world is made with: a counter map of two cells and a peak map of one, and the image of its factory program.
+fn parts(alloc: Global) -> Result<(MapSizes, Image), Fail> {
+    Ok((sizes(alloc, "2 1p")?, image_of_text(alloc, ASKS, 12)?))
+}
+
+/// A world of two ports and two banks, with these maps and that factory program.
+fn world(alloc: Global, sizes: MapSizes, factory: &Image) -> Result<World, WorldFault> {
     let small = BankConfig {
         base: 0x1000,
         size: 300,
@@ -59,13 +66,9 @@ fn world(alloc: Global) -> Result<Result<World, WorldFault>, Fail> {
         address: 0xFE,
         ports: 2,
         banks: &[bank(16), small],
-        sizes: sizes(alloc, "2 1p")?,
+        sizes,
     };
-    let factory = image_of_text(alloc, ASKS, 12)?;
-    begin(alloc)?;
-    let made = World::new(alloc, &config, &factory);
-    end(alloc)?;
-    Ok(made)
+    World::new(alloc, &config, factory)
 }
 
 /// The packet of a name.
@@ -208,7 +211,11 @@ fn compare(
 
 /// Whether a world was made; then it is served a read.
 fn world_is_made(rt: &(impl Abort + Print), alloc: Global) -> Result<bool, Fail> {
-    match world(alloc)? {
+    let (sizes, factory) = parts(alloc)?;
+    begin(alloc)?;
+    let made = world(alloc, sizes, &factory);
+    end(alloc)?;
+    match made {
         Ok(mut world) => {
             same(
                 rt,
@@ -238,6 +245,7 @@ fn memory_refused_to_world(rt: HostRuntime) -> Result<(), Fail> {
 #[test]
 fn memory_refused_to_step(rt: HostRuntime) -> Result<(), Fail> {
     let alloc = rt.alloc();
-    let mut world = world(alloc)??;
+    let (sizes, factory) = parts(alloc)?;
+    let mut world = world(alloc, sizes, &factory)?;
     compare(&rt, alloc, &mut world, BESIDE)
 }
