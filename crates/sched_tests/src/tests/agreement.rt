@@ -223,20 +223,21 @@ fn compare(rt: &impl Abort, world: &World, history: &[Pair]) -> Result<(), Fail>
     Ok(())
 }
 
-/// Steps through a list of four events, the number of which has a digit for each, and compares each outcome, and the world
-/// behind it, with what looking back finds.
+/// Steps through a list of so many events, the number of which has a digit for each, and compares each outcome, and the
+/// world behind it, with what looking back finds.
 fn list(
     rt: &impl Abort,
     alloc: Global,
     config: &NodeConfig,
     program: Program,
     factory: &Image,
+    events: usize,
     number: usize,
 ) -> Result<(), Fail> {
     let mut world = World::new(alloc, config, factory)?;
     let mut history = Vec::new(alloc);
     let mut left = number;
-    for _event in 0..4 {
+    for _event in 0..events {
         let (port, kind) = numbered(left % EVENTS);
         left /= EVENTS;
         let outcome = step(alloc, &mut world, event(alloc, port, kind)?)?;
@@ -253,8 +254,8 @@ fn list(
     Ok(())
 }
 
-/// Every list of four events that begins with an event of the kind of that number, below 5, at one of the ports, and so
-/// every shorter one.
+/// Every list of four events that begins with a take at one of the ports, where that is the kind of number `first`, and so
+/// every shorter one; else every list of three that begins with an event of that kind, which is refused.
 fn lists(rt: &impl Abort, alloc: Global, program: Program, first: u8) -> Result<(), Fail> {
     let config = NodeConfig {
         address: 0xFE,
@@ -267,10 +268,15 @@ fn lists(rt: &impl Abort, alloc: Global, program: Program, first: u8) -> Result<
         sizes: sizes(alloc, program.maps())?,
     };
     let factory = image_of_text(alloc, program.text(), 16)?;
-    for further in 0..EVENTS * EVENTS * EVENTS {
+    let (events, further) = if first == 0 {
+        (4, EVENTS * EVENTS * EVENTS)
+    } else {
+        (3, EVENTS * EVENTS)
+    };
+    for rest in 0..further {
         for port in 0..2usize {
-            let number = further * EVENTS + usize::from(first) * 2 + port;
-            list(rt, alloc, &config, program, &factory, number)?;
+            let number = rest * EVENTS + usize::from(first) * 2 + port;
+            list(rt, alloc, &config, program, &factory, events, number)?;
         }
     }
     Ok(())
