@@ -1,5 +1,5 @@
-/* Refuses memory to a test of crates/refusal_tests: tools/refusals preloads it. Requests are numbered between two marks, which
-   are requests of sizes that nothing else asks for (crates/refusal_tests/src/tests/marks.rt). The one of number REFUSE is answered
+/* Refuses memory to a test of crates/test_refusals: tools/refusals preloads it. Requests are numbered between two marks, which
+   are requests of sizes that nothing else asks for (crates/test_refusals/src/tests/marks.rt). The one of number REFUSE is answered
    with null, and with FROM set each one behind it too. At the end it says how many there were, and of how many bytes. */
 #include <stdatomic.h>
 #include <stddef.h>

@@ -90,7 +90,7 @@ fits_refined s a r k f fits =
     record {
       registers = λ q. kind_refined s.registers a.kinds r k f fits.registers q (q == r) refl;
       bytes = fits.bytes;
-      places = fits.places;
+      words = fits.words;
     }
 
 number_fits : (v : Value) (n : ℕ) (range : Range) → v ≡ Number n → IsIn n range → FitsKind v (Num range)

@@ -37,7 +37,7 @@ entry_fits a port e h =
     record {
       registers = λ k. let P : List AbsKind → Type 0 = λ kinds. FitsKind (entry_register port k) (kind_in kinds k) in subst P (sym e.kinds) (entry_kind_fits port h k);
       bytes = λ p m. let no : true ≡ false = sym m ∙ e.marks p in absurd cc;
-      places = λ k m. let no : true ≡ false = sym (marked_bytes a.marks (8 * k) 8 m 0 (omega arith)) ∙ e.marks (8 * k + 0) in absurd cc;
+      words = λ k m. let no : true ≡ false = sym (marked_bytes a.marks (8 * k) 8 m 0 (omega arith)) ∙ e.marks (8 * k + 0) in absurd cc;
     }
 
 -- the registers after a call, one written after another
@@ -82,5 +82,5 @@ after_call_fits s a answer h fits =
     record {
       registers = λ k. let P : Value → Type 0 = λ v. FitsKind v (kind_at (after_call a) k) in subst P (same_after_call s.registers answer k) (before.registers k);
       bytes = fits.bytes;
-      places = fits.places;
+      words = fits.words;
     }

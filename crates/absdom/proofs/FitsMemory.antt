@@ -24,14 +24,14 @@ use Rattle.absdom.specs.declared.kinds.AbsKind.TheVariants.{Unset, Num, Ptr, Map
 use Rattle.absdom_num.specs.declared.ranges.Range.{Range}
 use Rattle.absdom.specs.State.{StateValue, range_at}
 use Rattle.absdom.specs.Marks.{mark_at, all_marked}
-use Rattle.absdom.specs.Places.{is_place}
+use Rattle.absdom.specs.StackWords.{is_stack_word}
 use Rattle.absdom.specs.declared.spill.Spill.{Spill}
 use Rattle.absdom.specs.declared.spill.Spill.TheVariants.{Forgets, Keeps}
 use Rattle.absdom.specs.Effect.{both_places, access_places, is_set, loaded_range, read_range, read_kind, load_kind}
 use Rattle.absdom.specs.Fits.{IsAmong, FitsKind, IsByte, IsReadIn, Fits}
 use Rattle.absdom.proofs.FitsAlu.{FitsResult}
 use Rattle.absdom.proofs.MarkSteps.{marked_bytes}
-use Rattle.absdom.proofs.PlaceSteps.{place_test}
+use Rattle.absdom.proofs.WordSteps.{word_test}
 
 -- a place between two others, with room for its bytes
 pub record IsBetween (size bytes first last place : ℕ) : Type 0 where
@@ -161,7 +161,7 @@ place_read own header s a LoadDouble first last place fits between e is =
     own (byte_of header s.stack Stack) s.stack 8 place (λ k l. refl) ∙ ap (little_endian s.stack 8) there
     in
     let P : Option ℕ → Type 0 = λ o. FitsResult (load_value LoadDouble o) (Ok (Num (range_at a (first / 8)))) in
-    subst P (sym same) (whole_word (little_endian s.stack 8 (8 * (first / 8))) (range_at a (first / 8)) (fits.places (first / 8) marked))
+    subst P (sym same) (whole_word (little_endian s.stack 8 (8 * (first / 8))) (range_at a (first / 8)) (fits.words (first / 8) marked))
 
 -- what is in the table's range
 table_read : (header : Header) (s : State) (a : StateValue) (size : LoadSize) (region : Region) (first last place : ℕ) → IsHeader header → Fits s a → IsBetween (region_size region) (load_bytes size) first last place → is_set region a.marks (load_bytes size) (first, last) ≡ true → FitsResult (load_value size (little_endian (byte_of header s.stack region) (load_bytes size) place)) (Ok (Num (loaded_range size)))
@@ -169,9 +169,9 @@ table_read header s a size region first last place known fits between e =
     value_fits size (little_endian (byte_of header s.stack region) (load_bytes size) place)
     (little_fits (byte_of header s.stack region) (load_bytes size) place (bytes_set header s a region (load_bytes size) first last place known fits e between))
 
-kept_read : SameBytes → (header : Header) (s : State) (a : StateValue) (size : LoadSize) (first last place : ℕ) → IsHeader header → Fits s a → IsBetween 512 (load_bytes size) first last place → is_set Stack a.marks (load_bytes size) (first, last) ≡ true → (t : Bool) → is_place (load_bytes size) (first, last) ≡ t → FitsResult (load_value size (little_endian (byte_of header s.stack Stack) (load_bytes size) place)) (Ok (Num (if t then range_at a (first / 8) else loaded_range size)))
+kept_read : SameBytes → (header : Header) (s : State) (a : StateValue) (size : LoadSize) (first last place : ℕ) → IsHeader header → Fits s a → IsBetween 512 (load_bytes size) first last place → is_set Stack a.marks (load_bytes size) (first, last) ≡ true → (t : Bool) → is_stack_word (load_bytes size) (first, last) ≡ t → FitsResult (load_value size (little_endian (byte_of header s.stack Stack) (load_bytes size) place)) (Ok (Num (if t then range_at a (first / 8) else loaded_range size)))
 kept_read own header s a size first last place known fits between e true is =
-    place_read own header s a size first last place fits between e (place_test (load_bytes size) (first, last) is)
+    place_read own header s a size first last place fits between e (word_test (load_bytes size) (first, last) is)
 kept_read own header s a size first last place known fits between e false is =
     table_read header s a size Stack first last place known fits between e
 
@@ -183,7 +183,7 @@ range_read own Keeps header s a size Front first last place known fits between e
 range_read own Keeps header s a size Tail first last place known fits between e =
     table_read header s a size Tail first last place known fits between e
 range_read own Keeps header s a size Stack first last place known fits between e =
-    kept_read own header s a size first last place known fits between e (is_place (load_bytes size) (first, last)) refl
+    kept_read own header s a size first last place known fits between e (is_stack_word (load_bytes size) (first, last)) refl
 
 -- by whether all of them are set
 read_by_test : SameBytes → (spill : Spill) (header : Header) (s : State) (a : StateValue) (size : LoadSize) (region : Region) (first last place : ℕ) → IsHeader header → Fits s a → IsBetween (region_size region) (load_bytes size) first last place → (t : Bool) → is_set region a.marks (load_bytes size) (first, last) ≡ t → FitsResult (load_value size (little_endian (byte_of header s.stack region) (load_bytes size) place)) (if t then Ok (Num (read_range spill a size region (first, last))) else Err UnsetStack)

@@ -27,7 +27,7 @@ use Rattle.absdom.specs.declared.kinds.AbsKind.TheVariants.{Unset, Num, Ptr, Map
 use Rattle.absdom.specs.Kinds.{number_of}
 use Rattle.absdom.specs.State.{StateValue, kind_in, kind_at, range_at, with_kind}
 use Rattle.absdom.specs.Marks.{mark_at, all_marked, marks_after}
-use Rattle.absdom.specs.Places.{range_in, is_touched}
+use Rattle.absdom.specs.StackWords.{range_in, is_touched}
 use Rattle.absdom.specs.declared.spill.Spill.{Spill}
 use Rattle.absdom.specs.Effect.{operand_kind, alu_kind, unary_kind, load_kind, access_places, stored_marks, stored_ranges, with_stored, after_write_at, after_store, with_result, map_kind}
 use Rattle.absdom.specs.Fits.{FitsKind, IsByte, IsReadIn, Fits, GoesOn, IsSound, IsIndex}
@@ -35,7 +35,7 @@ use Rattle.absdom.specs.Laws.{ApplyFits}
 use Rattle.absdom.proofs.FitsAlu.{FitsResult, alu_fits, computed_alone_fits}
 use Rattle.absdom.proofs.FitsMemory.{IsBetween, HasPlace, place_between, IsNumber, little_fits, word_below, load_fits}
 use Rattle.absdom.proofs.MarkSteps.{marked_bytes, all_marked_from, mark_is_new}
-use Rattle.absdom.proofs.PlaceSteps.{set_at, apart, IsFilled, filled_at, touched_at, left_at}
+use Rattle.absdom.proofs.WordSteps.{set_at, apart, IsFilled, filled_at, touched_at, left_at}
 
 -- ---- registers
 
@@ -59,7 +59,7 @@ fits_after s a next r v k f fits =
     record {
       registers = λ q. kind_after_by_place s.registers a.kinds r v k f fits.registers q (q == r) refl;
       bytes = fits.bytes;
-      places = fits.places;
+      words = fits.words;
     }
 
 -- a register that may be written is
@@ -141,7 +141,7 @@ kept_number own s a bytes first last place n k between fits t m =
     (λ i l. byte_kept s.stack bytes place n (8 * k + i) (elim away [ inl h ↦ inl (omega arith) | inr h ↦ inr (omega arith) ]))
     in
     let P : Option ℕ → Type 0 = λ o. IsReadIn o (range_at a k) in
-    subst P (sym same) (fits.places k old)
+    subst P (sym same) (fits.words k old)
 
 -- eight bytes that are set are a word
 some_word : (o : Option ℕ) → IsNumber (256 ^ 8) o → IsReadIn o (whole_range Bits64)
@@ -198,7 +198,7 @@ wrote_fits read own spill s a bytes first last place n value inside between fits
     record {
       registers = fits.registers;
       bytes = stored_set s a bytes first last place n between fits;
-      places = stored_numbers read own spill s a bytes first last place n value inside between fits;
+      words = stored_numbers read own spill s a bytes first last place n value inside between fits;
     }
 
 puts_sound : BytesAreRead → SameBytes → (spill : Spill) (s : State) (a : StateValue) (bytes : ℕ) (places : Option (ℕ × ℕ)) (place : Option ℕ) (n : ℕ) (value : Range) → IsIn n value → HasPlace 512 bytes places place → Fits s a → IsSound (puts s bytes place (Number n)) (s.slot + 1) (after_write_at spill a bytes places value)

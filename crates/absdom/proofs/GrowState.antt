@@ -24,7 +24,7 @@ use Rattle.absdom.specs.Offsets.{AreAmong}
 use Rattle.absdom.specs.Kinds.{number_of, IsKindBelow}
 use Rattle.absdom.specs.State.{StateValue, IsBelow, kind_in, kind_at, range_at, with_kind, IsProper, IsWhole}
 use Rattle.absdom.specs.Marks.{mark_at, marks_after, AreMarkedIn}
-use Rattle.absdom.specs.Places.{range_in, is_touched, is_place, AreRangesWithin}
+use Rattle.absdom.specs.StackWords.{range_in, is_touched, is_stack_word, AreRangesWithin}
 use Rattle.absdom.specs.declared.spill.Spill.{Spill}
 use Rattle.absdom.specs.declared.spill.Spill.TheVariants.{Forgets, Keeps}
 use Rattle.absdom.specs.Effect.{operand_kind, alu_kind, unary_kind, both_places, access_places, is_set, loaded_range, read_range, read_kind, load_kind, stored_ranges, with_stored, after_write_at, after_write_to, after_store, with_result, map_kind}
@@ -32,7 +32,7 @@ use Rattle.absdom.specs.Laws.{ApplyGrows as StatesGrow, IsGrown, CallGrows}
 use Rattle.absdom.proofs.Order.{region_from_test, kind_below-refl}
 use Rattle.absdom.proofs.FitsMemory.{IsBetween, HasPlace, place_between, word_below}
 use Rattle.absdom.proofs.MarkSteps.{marked_bytes, all_marked_from, mark_stays, mark_made, mark_is_new}
-use Rattle.absdom.proofs.PlaceSteps.{whole_proper, within_whole, place_test, place_if, apart, not_touching, IsFilled, filled_at, touched_at, left_at, stored_each}
+use Rattle.absdom.proofs.WordSteps.{whole_proper, within_whole, word_test, word_if, apart, not_touching, IsFilled, filled_at, touched_at, left_at, stored_each}
 use Rattle.absdom.proofs.GrowAlu.{IsKindGrown, alu_grows, computed_alone_grows}
 
 -- ---- registers
@@ -115,25 +115,25 @@ whole_loaded SignedHalf e r h = absurd (omega (arith, e))
 whole_loaded SignedWord e r h = absurd (omega (arith, e))
 
 -- by whether the accesses are of one place
-kept_grows : (a b : StateValue) (size : LoadSize) (large small : ℕ × ℕ) → IsWhole a → IsBelow a b → AreWithin 512 (load_bytes size) large small → (t u : Bool) → is_place (load_bytes size) large ≡ t → is_place (load_bytes size) small ≡ u → IsWithin (if u then range_at a (small.0 / 8) else loaded_range size) (if t then range_at b (large.0 / 8) else loaded_range size)
+kept_grows : (a b : StateValue) (size : LoadSize) (large small : ℕ × ℕ) → IsWhole a → IsBelow a b → AreWithin 512 (load_bytes size) large small → (t u : Bool) → is_stack_word (load_bytes size) large ≡ t → is_stack_word (load_bytes size) small ≡ u → IsWithin (if u then range_at a (small.0 / 8) else loaded_range size) (if t then range_at b (large.0 / 8) else loaded_range size)
 kept_grows a b size large small p below w false false e f = within-refl (loaded_range size)
 kept_grows a b size large small p below w false true e f =
-    let is = place_test (load_bytes size) small f in
+    let is = word_test (load_bytes size) small f in
     whole_loaded size is.0 (range_at a (small.0 / 8)) (p.ranges (small.0 / 8))
 kept_grows a b size large small p below w true true e f =
-    let is = place_test (load_bytes size) large e in
+    let is = word_test (load_bytes size) large e in
     let one : large.0 ≡ large.1 = is.1 in
     let same : small.0 ≡ large.0 = omega (arith, w.first.above, w.first.below) in
     let P : ℕ → Type 0 = λ n. IsWithin (range_at a (n / 8)) (range_at b (large.0 / 8)) in
     subst P (sym same) (below.ranges (large.0 / 8))
 kept_grows a b size large small p below w true false e f =
-    let is = place_test (load_bytes size) large e in
+    let is = word_test (load_bytes size) large e in
     let eight : load_bytes size ≡ 8 = is.0 in
     let one : large.0 ≡ large.1 = is.1 in
     let even : large.0 % 8 ≡ 0 = is.2 in
     let first : small.0 ≡ 8 * (large.0 / 8) = omega (arith, w.first.above, w.first.below) in
     let two : small.0 ≡ small.1 = omega (arith, w.first.above, w.first.below, w.last.above, w.last.below) in
-    let yes : is_place (load_bytes size) small ≡ true = place_if (load_bytes size) small (large.0 / 8) eight two first in
+    let yes : is_stack_word (load_bytes size) small ≡ true = word_if (load_bytes size) small (large.0 / 8) eight two first in
     let no : true ≡ false = sym yes ∙ f in
     absurd cc
 
@@ -142,7 +142,7 @@ range_grows Forgets a b size region large small p below w = within-refl (loaded_
 range_grows Keeps a b size Front large small p below w = within-refl (loaded_range size)
 range_grows Keeps a b size Tail large small p below w = within-refl (loaded_range size)
 range_grows Keeps a b size Stack large small p below w =
-    kept_grows a b size large small p below w (is_place (load_bytes size) large) (is_place (load_bytes size) small) refl refl
+    kept_grows a b size large small p below w (is_stack_word (load_bytes size) large) (is_stack_word (load_bytes size) small) refl refl
 
 read_by_test : (spill : Spill) (a b : StateValue) (size : LoadSize) (region : Region) (large small : ℕ × ℕ) → IsWhole a → IsBelow a b → AreWithin (region_size region) (load_bytes size) large small → (t : Bool) → is_set region b.marks (load_bytes size) large ≡ t → IsKindGrown (read_kind spill a size region (Some small)) (if t then Ok (Num (read_range spill b size region large)) else Err UnsetStack)
 read_by_test spill a b size region large small p below w false e = tt
@@ -225,7 +225,7 @@ ranges_grow spill a b bytes large small v w p q below proper h inside k = by_tes
     new = range_in (stored_ranges spill a.ranges bytes small v) k
 
     sizes : length a.ranges ≡ length b.ranges
-    sizes = p.sizes.places ∙ sym q.sizes.places
+    sizes = p.sizes.words ∙ sym q.sizes.words
 
     by_test : (t : Bool) → is_touched k large.0 (large.1 + bytes - 1) ≡ t → IsWithin new (range_in (stored_ranges spill b.ranges bytes large w) k)
     by_test false t =

@@ -1,5 +1,5 @@
 pub mod MarkSteps
-pub mod PlaceSteps
+pub mod WordSteps
 pub mod StateSteps
 pub mod Order
 pub mod FitsAlu

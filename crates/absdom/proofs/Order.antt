@@ -125,9 +125,9 @@ below_fits s a b h f =
     record {
       registers = λ k. fits_above (s.registers k) (kind_at a k) (kind_at b k) (h.kinds k) (f.registers k);
       bytes = λ place m. f.bytes place (h.marks place m);
-      places = λ place m.
+      words = λ place m.
           read_above (little_endian s.stack 8 (8 * place)) (range_at a place) (range_at b place) (h.ranges place)
-          (f.places place (still_marked b.marks a.marks (8 * place) 8 h.marks m));
+          (f.words place (still_marked b.marks a.marks (8 * place) 8 h.marks m));
     }
 
 pub below_is_reflexive : BelowIsReflexive

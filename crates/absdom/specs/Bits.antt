@@ -1,5 +1,6 @@
 -- Marks as the bits of eight words, the lowest bit first.
-use Rattle.std.specs.Prelude.{◌≡◌, ◌<◌, ◌^◌, ◌+◌, ◌*◌, ◌/◌, ◌%◌, ◌==◌, ℕ, zero, suc, Bool, true, false, List, [], ◌∷◌, ◌++◌, length, take, drop, slice_index_or}
+use Rattle.std.specs.Prelude.{◌≡◌, ◌<◌, ◌^◌, ◌+◌, ◌*◌, ◌/◌, ◌%◌, ◌==◌, ℕ, zero, suc, Bool, true, false, List, [], ◌∷◌}
+use Rattle.std.specs.Prelude.{◌++◌, length, take, drop, slice_index_or}
 use Rattle.std.proofs.Common.{refl, ap, ◌∙◌, sym, arith}
 use Rattle.std.proofs.lemmas.Bool.Decides.{nat_tests}
 use Rattle.std.proofs.Math.Seq.{take-append_seam, drop-append_seam}
@@ -43,21 +44,26 @@ unfolding bits_of word_of
 word_back zero word h = omega arith
 word_back (suc count) word h = step (word % 2 == 1) refl (word_back count (word / 2) (omega (arith, pow-suc 2 count)))
   where
-    step : (odd : Bool) → (word % 2 == 1) ≡ odd → word_of (bits_of count (word / 2)) ≡ word / 2 → word_of (odd ∷ bits_of count (word / 2)) ≡ word
+    step : (odd : Bool) → (word % 2 == 1) ≡ odd → word_of (bits_of count (word / 2)) ≡ word / 2
+        → word_of (odd ∷ bits_of count (word / 2)) ≡ word
     step true e half = let one : word % 2 ≡ 1 = grind (arith, nat_tests) in omega (arith, half)
     step false e half = let none : word % 2 ≡ 0 = grind (arith, nat_tests) in omega (arith, half)
 
-words_back : (count : ℕ) (words : List ℕ) → length words ≡ count → ((k : ℕ) → slice_index_or words k 0 < 2 ^ 64) → words_of count (marks_of words) ≡ words
+words_back : (count : ℕ) (words : List ℕ) → length words ≡ count → ((k : ℕ) → slice_index_or words k 0 < 2 ^ 64)
+    → words_of count (marks_of words) ≡ words
 unfolding marks_of words_of
 words_back zero [] e each = refl
 words_back zero (word ∷ words) e each = absurd (omega arith)
 words_back (suc count) [] e each = absurd (omega arith)
 words_back (suc count) (word ∷ words) e each =
     let front : take 64 (bits_of 64 word ++ marks_of words) ≡ bits_of 64 word =
-    ap (λ n. take n (bits_of 64 word ++ marks_of words)) (sym (length-bits 64 word)) ∙ take-append_seam (bits_of 64 word) (marks_of words) in
+    ap (λ n. take n (bits_of 64 word ++ marks_of words)) (sym (length-bits 64 word))
+    ∙ take-append_seam (bits_of 64 word) (marks_of words) in
     let rest : drop 64 (bits_of 64 word ++ marks_of words) ≡ marks_of words =
-    ap (λ n. drop n (bits_of 64 word ++ marks_of words)) (sym (length-bits 64 word)) ∙ drop-append_seam (bits_of 64 word) (marks_of words) in
-    let first : word_of (take 64 (bits_of 64 word ++ marks_of words)) ≡ word = ap word_of front ∙ word_back 64 word (each 0) in
+    ap (λ n. drop n (bits_of 64 word ++ marks_of words)) (sym (length-bits 64 word))
+    ∙ drop-append_seam (bits_of 64 word) (marks_of words) in
+    let first : word_of (take 64 (bits_of 64 word ++ marks_of words)) ≡ word =
+    ap word_of front ∙ word_back 64 word (each 0) in
     let others : words_of count (drop 64 (bits_of 64 word ++ marks_of words)) ≡ words =
     ap (words_of count) rest ∙ words_back count words (omega arith) (λ k. each (suc k)) in
     ap (λ x. x ∷ words_of count (drop 64 (bits_of 64 word ++ marks_of words))) first ∙ ap (λ xs. word ∷ xs) others

@@ -1,7 +1,8 @@
 -- The numbers of the refusals.
 use Rattle.std.specs.Prelude.{ℕ}
 use Rattle.absdom.specs.declared.cause.Cause.{Cause}
-use Rattle.absdom.specs.declared.cause.Cause.TheVariants.{UnsetOperand, KindMismatch, OutOfRegion, UnsetStack, HeaderWrite, PointerRange}
+use Rattle.absdom.specs.declared.cause.Cause.TheVariants.{UnsetOperand, KindMismatch, OutOfRegion, UnsetStack}
+use Rattle.absdom.specs.declared.cause.Cause.TheVariants.{HeaderWrite, PointerRange}
 
 -- the number of a refusal, as the verifier tells it
 abbrev pub cause_code : Cause → ℕ

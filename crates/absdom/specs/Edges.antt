@@ -15,6 +15,8 @@ use Rattle.absdom.specs.declared.kinds.AbsKind.TheVariants.{Num}
 use Rattle.absdom.specs.Kinds.{number_of}
 use Rattle.absdom.specs.State.{StateValue, kind_at, with_kind}
 
+-- ---- the statement
+
 -- what is known on the two edges of a comparison: none is known on an edge that no run takes
 pub record Edges : Type 0 where
   pub taken : Option StateValue
@@ -58,21 +60,34 @@ abbrev pub edges_of : Condition → Width → StateValue → (dst : ℕ) → Ope
 edges_of condition width a dst src left right =
     if is_itself dst src then unrefined_edges a else edge_states a dst src (refined_ranges condition width left right)
 
--- the ranges on both edges; a comparison of a register with itself leaves them as they are
-abbrev pub ranges_of : Condition → Width → (dst : ℕ) → Operand → Range → Range → RangeEdges
-ranges_of condition width dst src left right =
-    if is_itself dst src
-    then record { taken = Some (record { dst = left; src = right }); not_taken = Some (record { dst = left; src = right }) }
-    else refined_ranges condition width left right
-
 -- the edges of a comparison of two numbers
-abbrev pub compared_edges : Condition → Width → StateValue → (dst : ℕ) → Operand → Result Range Cause → Result Range Cause → Result Edges Cause
+abbrev pub compared_edges : Condition → Width → StateValue → (dst : ℕ) → Operand → Result Range Cause
+    → Result Range Cause → Result Edges Cause
 compared_edges condition width a dst src (Err cause) right = Err cause
 compared_edges condition width a dst src (Ok left) (Err cause) = Err cause
 compared_edges condition width a dst src (Ok left) (Ok right) = Ok (edges_of condition width a dst src left right)
 
+-- what is known on the edges of a comparison, or why it is refused
+abbrev pub refined_edges : StateValue → Condition → Width → (dst : ℕ) → Operand → Result Edges Cause
+refined_edges a condition width dst src =
+    compared_edges condition width a dst src (number_of (kind_at a dst)) (compared_range width a src)
+
+-- ---- what else contracts and proofs say
+
+-- the ranges on both edges; a comparison of a register with itself leaves them as they are
+abbrev pub ranges_of : Condition → Width → (dst : ℕ) → Operand → Range → Range → RangeEdges
+ranges_of condition width dst src left right =
+    if is_itself dst src
+    then record {
+      taken = Some (record { dst = left; src = right });
+      not_taken = Some
+          (record { dst = left; src = right });
+    }
+    else refined_ranges condition width left right
+
 -- the ranges on the edges of a comparison of two numbers
-abbrev pub compared_ranges : Condition → Width → (dst : ℕ) → Operand → Result Range Cause → Result Range Cause → Result RangeEdges Cause
+abbrev pub compared_ranges : Condition → Width → (dst : ℕ) → Operand → Result Range Cause → Result Range Cause
+    → Result RangeEdges Cause
 compared_ranges condition width dst src (Err cause) right = Err cause
 compared_ranges condition width dst src (Ok left) (Err cause) = Err cause
 compared_ranges condition width dst src (Ok left) (Ok right) = Ok (ranges_of condition width dst src left right)
@@ -81,8 +96,3 @@ compared_ranges condition width dst src (Ok left) (Ok right) = Ok (ranges_of con
 abbrev pub refined_operands : StateValue → Condition → Width → (dst : ℕ) → Operand → Result RangeEdges Cause
 refined_operands a condition width dst src =
     compared_ranges condition width dst src (number_of (kind_at a dst)) (compared_range width a src)
-
--- what is known on the edges of a comparison, or why it is refused
-abbrev pub refined_edges : StateValue → Condition → Width → (dst : ℕ) → Operand → Result Edges Cause
-refined_edges a condition width dst src =
-    compared_edges condition width a dst src (number_of (kind_at a dst)) (compared_range width a src)

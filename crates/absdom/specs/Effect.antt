@@ -1,34 +1,42 @@
 -- What an instruction does to what is known, or why it is refused (a choice of this project). Operands are
 -- tested first, the destination before the source, and of each whether it is set and then its kind.
-use Rattle.std.specs.Prelude.{◌≡◌, ℕ, ◌+◌, ◌-◌, ◌^◌, ◌/◌, ◌≤◌, Bool, true, ◌||◌, ◌==◌, nat_lt, nat_le, if◌then◌else◌, slice_set, ℤ, pos, negsuc, ◌+ℤ◌, ◌-ℤ◌, List, Option, Some, None, Result, Ok, Err}
+use Rattle.std.specs.Prelude.{◌≡◌, ℕ, ◌+◌, ◌-◌, ◌^◌, ◌/◌, ◌≤◌, Bool, true, ◌||◌, ◌==◌, nat_lt, nat_le, if◌then◌else◌}
+use Rattle.std.specs.Prelude.{slice_set, ℤ, pos, negsuc, ◌+ℤ◌, ◌-ℤ◌, List, Option, Some, None, Result, Ok, Err}
 use Rattle.bpf_parts.specs.declared.operation.Width.{Width}
 use Rattle.bpf_parts.specs.declared.operation.Width.TheVariants.{Bits32, Bits64}
 use Rattle.bpf_parts.specs.declared.operation.AluOp.{AluOp}
-use Rattle.bpf_parts.specs.declared.operation.AluOp.TheVariants.{Add, Sub, Mul, Div, SignedDiv, Or, And, Lsh, Rsh, Mod, SignedMod, Xor, Mov, Arsh}
+use Rattle.bpf_parts.specs.declared.operation.AluOp.TheVariants.{Add, Sub, Mul, Div, SignedDiv, Or, And, Lsh, Rsh}
+use Rattle.bpf_parts.specs.declared.operation.AluOp.TheVariants.{Mod, SignedMod, Xor, Mov, Arsh}
 use Rattle.bpf_parts.specs.declared.operation.Operand.{Operand}
 use Rattle.bpf_parts.specs.declared.operation.Operand.TheVariants.{FromRegister, Immediate}
 use Rattle.bpf_parts.specs.declared.memory.LoadSize.{LoadSize}
-use Rattle.bpf_parts.specs.declared.memory.LoadSize.TheVariants.{LoadByte, LoadHalf, LoadWord, LoadDouble, SignedByte, SignedHalf, SignedWord}
+use Rattle.bpf_parts.specs.declared.memory.LoadSize.TheVariants.{LoadByte, LoadHalf, LoadWord, LoadDouble, SignedByte}
+use Rattle.bpf_parts.specs.declared.memory.LoadSize.TheVariants.{SignedHalf, SignedWord}
 use Rattle.bpf_insn.specs.declared.insn.Insn.{Insn}
-use Rattle.bpf_insn.specs.declared.insn.Insn.TheVariants.{Alu, Negate, MoveSigned, ByteSwap, Load, Store, Jump, Goto, Wide, LoadMap, LoadAddress, Call, Exit}
+use Rattle.bpf_insn.specs.declared.insn.Insn.TheVariants.{Alu, Negate, MoveSigned, ByteSwap, Load, Store, Jump, Goto}
+use Rattle.bpf_insn.specs.declared.insn.Insn.TheVariants.{Wide, LoadMap, LoadAddress, Call, Exit}
 use Rattle.machine.specs.declared.regions.Region.{Region}
 use Rattle.machine.specs.declared.regions.Region.TheVariants.{Front, Tail, Stack}
 use Rattle.machine.specs.Words.{word, signed_value}
 use Rattle.bpf_parts.specs.Sizes.{size_bytes, load_bytes}
 use Rattle.machine.specs.Memory.{place_of}
+use Rattle.machine.specs.declared.regions.TheConstants.{STACK_SIZE}
 use Rattle.absdom_num.specs.declared.ranges.Range.{Range}
 use Rattle.absdom_num.specs.Tables.{single_range, alu_range, negated_range, extended_range, swapped_range}
 use Rattle.absdom.specs.declared.cause.Cause.{Cause}
-use Rattle.absdom.specs.declared.cause.Cause.TheVariants.{UnsetOperand, KindMismatch, OutOfRegion, UnsetStack, HeaderWrite, PointerRange}
+use Rattle.absdom.specs.declared.cause.Cause.TheVariants.{UnsetOperand, KindMismatch, OutOfRegion, UnsetStack}
+use Rattle.absdom.specs.declared.cause.Cause.TheVariants.{HeaderWrite, PointerRange}
 use Rattle.absdom.specs.declared.kinds.AbsKind.{AbsKind}
 use Rattle.absdom.specs.declared.kinds.AbsKind.TheVariants.{Unset, Num, Ptr, Map}
 use Rattle.absdom.specs.Offsets.{offsets_within}
 use Rattle.absdom.specs.Kinds.{number_of}
 use Rattle.absdom.specs.State.{StateValue, kind_at, range_at, with_kind, with_stack}
 use Rattle.absdom.specs.Marks.{all_marked, marks_after}
-use Rattle.absdom.specs.Places.{widened, is_place}
+use Rattle.absdom.specs.StackWords.{widened, is_stack_word}
 use Rattle.absdom.specs.declared.spill.Spill.{Spill}
 use Rattle.absdom.specs.declared.spill.Spill.TheVariants.{Forgets, Keeps}
+
+-- ---- the statement
 
 -- a register's kind, or the number of an immediate
 abbrev pub operand_kind : StateValue → Operand → AbsKind
@@ -134,11 +142,6 @@ abbrev pub access_places : Region → (bytes : ℕ) → ℤ × ℤ → (offset :
 access_places region bytes offsets offset =
     both_places (place_of region bytes (offsets.0 +ℤ offset)) (place_of region bytes (offsets.1 +ℤ offset))
 
--- the bytes at both places lie in 512
-pub record AreInside (bytes : ℕ) (places : ℕ × ℕ) : Type 0 where
-  pub first : places.0 + bytes ≤ 512
-  pub last : places.1 + bytes ≤ 512
-
 -- whether all bytes of an access are set; those of the header always are
 abbrev pub is_set : Region → List Bool → (bytes : ℕ) → ℕ × ℕ → Bool
 is_set Front marks bytes places = true
@@ -155,12 +158,12 @@ loaded_range SignedByte = (0, 2 ^ 64 - 1)
 loaded_range SignedHalf = (0, 2 ^ 64 - 1)
 loaded_range SignedWord = (0, 2 ^ 64 - 1)
 
--- where numbers keep their ranges, a load of one place of the stack gives the range of that place
+-- where numbers keep their ranges, a load of one word of the stack gives the range of that word
 abbrev pub kept_range : StateValue → LoadSize → Region → ℕ × ℕ → Range
 kept_range a size Front places = loaded_range size
 kept_range a size Tail places = loaded_range size
 kept_range a size Stack places =
-    if is_place (load_bytes size) places then range_at a (places.0 / 8) else loaded_range size
+    if is_stack_word (load_bytes size) places then range_at a (places.0 / 8) else loaded_range size
 
 -- what a load of bytes that are set gives
 abbrev pub read_range : Spill → StateValue → LoadSize → Region → ℕ × ℕ → Range
@@ -171,7 +174,8 @@ read_range Keeps a size region places = kept_range a size region places
 abbrev pub read_kind : Spill → StateValue → LoadSize → Region → Option (ℕ × ℕ) → Result AbsKind Cause
 read_kind spill a size region None = Err OutOfRegion
 read_kind spill a size region (Some places) =
-    if is_set region a.marks (load_bytes size) places then Ok (Num (read_range spill a size region places)) else Err UnsetStack
+    if is_set region a.marks (load_bytes size) places then Ok (Num (read_range spill a size region places))
+    else Err UnsetStack
 
 -- a load through a pointer
 abbrev pub load_kind : Spill → StateValue → LoadSize → (base : AbsKind) → (offset : ℤ) → Result AbsKind Cause
@@ -185,12 +189,13 @@ load_kind spill a size (Map index) offset = Err KindMismatch
 abbrev pub stored_marks : List Bool → (bytes : ℕ) → ℕ × ℕ → List Bool
 stored_marks marks bytes places = if places.0 == places.1 then marks_after marks places.0 bytes else marks
 
--- where numbers keep their ranges, a store to one place of the stack gives that place the range of the number that is
--- stored; after every other store nothing is known of a place that it may touch
+-- where numbers keep their ranges, a store to one word of the stack gives that word the range of the number that is
+-- stored; after every other store nothing is known of a word that it may touch
 abbrev pub stored_ranges : Spill → List Range → (bytes : ℕ) → ℕ × ℕ → Range → List Range
 stored_ranges Forgets ranges bytes places value = widened ranges places.0 (places.1 + bytes - 1)
 stored_ranges Keeps ranges bytes places value =
-    if is_place bytes places then slice_set ranges (places.0 / 8) value else widened ranges places.0 (places.1 + bytes - 1)
+    if is_stack_word bytes places then slice_set ranges (places.0 / 8) value
+    else widened ranges places.0 (places.1 + bytes - 1)
 
 -- what is known after a store of a number of that range
 abbrev pub with_stored : Spill → StateValue → (bytes : ℕ) → ℕ × ℕ → Range → StateValue
@@ -208,17 +213,20 @@ after_stack_write spill a bytes offsets offset value =
     after_write_at spill a bytes (access_places Stack bytes offsets offset) value
 
 -- a store to a region: the header is read-only
-abbrev pub after_write_to : Spill → StateValue → (bytes : ℕ) → Region → ℤ × ℤ → (offset : ℤ) → Range → Result StateValue Cause
+abbrev pub after_write_to : Spill → StateValue → (bytes : ℕ) → Region → ℤ × ℤ → (offset : ℤ) → Range
+    → Result StateValue Cause
 after_write_to spill a bytes Front offsets offset value = Err HeaderWrite
 after_write_to spill a bytes Tail offsets offset value = Err HeaderWrite
 after_write_to spill a bytes Stack offsets offset value = after_stack_write spill a bytes offsets offset value
 
 -- a store of a number through a pointer
-abbrev pub after_store : Spill → StateValue → (bytes : ℕ) → (base : AbsKind) → (offset : ℤ) → Result Range Cause → Result StateValue Cause
+abbrev pub after_store : Spill → StateValue → (bytes : ℕ) → (base : AbsKind) → (offset : ℤ) → Result Range Cause
+    → Result StateValue Cause
 after_store spill a bytes Unset offset value = Err UnsetOperand
 after_store spill a bytes (Num n) offset value = Err KindMismatch
 after_store spill a bytes (Ptr region offsets) offset (Err cause) = Err cause
-after_store spill a bytes (Ptr region offsets) offset (Ok value) = after_write_to spill a bytes region offsets offset value
+after_store spill a bytes (Ptr region offsets) offset (Ok value) =
+    after_write_to spill a bytes region offsets offset value
 after_store spill a bytes (Map index) offset value = Err KindMismatch
 
 -- ---- instructions
@@ -237,9 +245,12 @@ map_kind (negsuc n) = Unset
 abbrev pub after_insn : Spill → StateValue → Insn → Result StateValue Cause
 after_insn spill a (Alu op width dst src) = with_result a dst (alu_kind op width (kind_at a dst) (operand_kind a src))
 after_insn spill a (Negate width dst) = with_result a dst (unary_kind (negated_range width) (number_of (kind_at a dst)))
-after_insn spill a (MoveSigned extension dst src) = with_result a dst (unary_kind (extended_range extension) (number_of (kind_at a src)))
-after_insn spill a (ByteSwap swap bits dst) = with_result a dst (unary_kind (swapped_range swap bits) (number_of (kind_at a dst)))
-after_insn spill a (Load size dst place) = with_result a dst (load_kind spill a size (kind_at a place.base) place.offset)
+after_insn spill a (MoveSigned extension dst src) =
+    with_result a dst (unary_kind (extended_range extension) (number_of (kind_at a src)))
+after_insn spill a (ByteSwap swap bits dst) =
+    with_result a dst (unary_kind (swapped_range swap bits) (number_of (kind_at a dst)))
+after_insn spill a (Load size dst place) =
+    with_result a dst (load_kind spill a size (kind_at a place.base) place.offset)
 after_insn spill a (Store size place src) =
     after_store spill a (size_bytes size) (kind_at a place.base) place.offset (number_of (operand_kind a src))
 after_insn spill a (Jump comparison offset) = Ok a
@@ -250,14 +261,27 @@ after_insn spill a (LoadAddress dst address) = Ok a
 after_insn spill a (Call callee number) = Ok a
 after_insn spill a Exit = Ok a
 
+-- ---- what else contracts and proofs say
+
+-- ---- loads and stores (RFC 9669, section 5)
+
+-- the bytes at both places lie in the stack
+pub record AreInside (bytes : ℕ) (places : ℕ × ℕ) : Type 0 where
+  pub first : places.0 + bytes ≤ STACK_SIZE
+  pub last : places.1 + bytes ≤ STACK_SIZE
+
+-- ---- instructions
+
 -- a change in place: the state becomes what is given, or stays what it was where it is refused
 abbrev pub Becomes : Result (Unit {0}) Cause → (old new : StateValue) → (given : Result StateValue Cause) → Type 0
 Becomes (Ok done) old new given = given ≡ Ok new
 Becomes (Err cause) old new given = (given ≡ Err cause) × (new ≡ old)
 
 -- a store of so many bytes of a value through a pointer, in place
-abbrev pub Stores : Spill → Result (Unit {0}) Cause → (old new : StateValue) → (bytes : ℕ) → (base : AbsKind) → (offset : ℤ) → (value : AbsKind) → Type 0
-Stores spill done old new bytes base offset value = Becomes done old new (after_store spill old bytes base offset (number_of value))
+abbrev pub Stores : Spill → Result (Unit {0}) Cause → (old new : StateValue) → (bytes : ℕ) → (base : AbsKind)
+    → (offset : ℤ) → (value : AbsKind) → Type 0
+Stores spill done old new bytes base offset value =
+    Becomes done old new (after_store spill old bytes base offset (number_of value))
 
 -- an instruction in place
 abbrev pub Applies : Spill → Result (Unit {0}) Cause → (old new : StateValue) → Insn → Type 0

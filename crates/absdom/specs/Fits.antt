@@ -1,9 +1,12 @@
 -- Which states of the machine are as a state of the verifier says (a choice of this project).
-use Rattle.std.specs.Prelude.{◌≡◌, ◌≢◌, ℕ, ◌*◌, ◌^◌, ◌<◌, ℤ, pos, negsuc, ◌≤ℤ◌, Bool, true, false, Option, Some, None, Result, Ok, Err}
+use Rattle.std.specs.Prelude.{◌≡◌, ◌≢◌, ℕ, ◌*◌, ◌^◌, ◌<◌, ℤ, pos, negsuc, ◌≤ℤ◌, Bool, true, false, Option, Some, None}
+use Rattle.std.specs.Prelude.{Result, Ok, Err}
 use Rattle.bpf_insn.specs.declared.insn.Insn.{Insn}
-use Rattle.bpf_insn.specs.declared.insn.Insn.TheVariants.{Alu, Negate, MoveSigned, ByteSwap, Load, Store, Jump, Goto, Wide, LoadMap, LoadAddress, Call, Exit}
+use Rattle.bpf_insn.specs.declared.insn.Insn.TheVariants.{Alu, Negate, MoveSigned, ByteSwap, Load, Store, Jump, Goto}
+use Rattle.bpf_insn.specs.declared.insn.Insn.TheVariants.{Wide, LoadMap, LoadAddress, Call, Exit}
 use Rattle.machine.specs.declared.values.Value.{Value}
-use Rattle.machine.specs.declared.values.Value.TheVariants.{Unset as Nothing, Num as Number, Ptr as Pointer, Map as MapOf}
+use Rattle.machine.specs.declared.values.Value.TheVariants.{Unset as Nothing, Num as Number, Ptr as Pointer}
+use Rattle.machine.specs.declared.values.Value.TheVariants.{Map as MapOf}
 use Rattle.machine.specs.State.{State}
 use Rattle.machine.specs.Step.{Outcome, Next, Ask, Verdict, Trap, branches}
 use Rattle.machine.specs.Memory.{little_endian}
@@ -48,12 +51,13 @@ abbrev pub IsReadIn : Option ℕ → Range → Type 0
 IsReadIn None range = ⊥
 IsReadIn (Some n) range = IsIn n range
 
--- each register is of its kind, each byte that is marked is set, and the number in a place whose eight bytes are all
--- marked lies in the place's range
+-- each register is of its kind, each byte that is marked is set, and the number in a word whose eight bytes are all
+-- marked lies in the word's range
 pub record Fits (s : State) (a : StateValue) : Type 0 where
   pub registers : (register : ℕ) → FitsKind (s.registers register) (kind_at a register)
   pub bytes : (place : ℕ) → mark_at a.marks place ≡ true → IsByte (s.stack place)
-  pub places : (place : ℕ) → all_marked a.marks (8 * place) 8 ≡ true → IsReadIn (little_endian s.stack 8 (8 * place)) (range_at a place)
+  pub words : (word : ℕ) → all_marked a.marks (8 * word) 8 ≡ true
+      → IsReadIn (little_endian s.stack 8 (8 * word)) (range_at a word)
 
 -- the machine goes on at that slot, in a state that fits: it neither traps nor ends
 abbrev pub GoesOn : Outcome → (slot : ℕ) → StateValue → Type 0

@@ -10,6 +10,8 @@ use Rattle.absdom.specs.declared.kinds.AbsKind.{AbsKind}
 use Rattle.absdom.specs.declared.kinds.AbsKind.TheVariants.{Unset, Num, Ptr, Map}
 use Rattle.absdom.specs.Offsets.{joined_offsets, AreAmong}
 
+-- ---- the statement
+
 -- whether two regions are the same
 abbrev pub same_region : Region → Region → Bool
 same_region Front Front = true
@@ -21,23 +23,6 @@ same_region Tail Stack = false
 same_region Stack Front = false
 same_region Stack Tail = false
 same_region Stack Stack = true
-
--- the least kind above both: of two numbers the least range that holds both, of two pointers into one
--- region the least offsets, the same map; of any other two different kinds Unset
-abbrev pub joined_kinds : AbsKind → AbsKind → AbsKind
-joined_kinds Unset b = Unset
-joined_kinds (Num a) Unset = Unset
-joined_kinds (Num a) (Num b) = Num (joined_ranges a b)
-joined_kinds (Num a) (Ptr s b) = Unset
-joined_kinds (Num a) (Map j) = Unset
-joined_kinds (Ptr r a) Unset = Unset
-joined_kinds (Ptr r a) (Num b) = Unset
-joined_kinds (Ptr r a) (Ptr s b) = if same_region r s then Ptr r (joined_offsets a b) else Unset
-joined_kinds (Ptr r a) (Map j) = Unset
-joined_kinds (Map i) Unset = Unset
-joined_kinds (Map i) (Num b) = Unset
-joined_kinds (Map i) (Ptr s b) = Unset
-joined_kinds (Map i) (Map j) = if i == j then Map i else Unset
 
 -- the first kind is contained in the second: every kind is below Unset
 abbrev pub IsKindBelow : AbsKind → AbsKind → Type 0
@@ -64,6 +49,25 @@ number_of Unset = Err UnsetOperand
 number_of (Num range) = Ok range
 number_of (Ptr region offsets) = Err KindMismatch
 number_of (Map index) = Err KindMismatch
+
+-- ---- what else contracts and proofs say
+
+-- the least kind above both: of two numbers the least range that holds both, of two pointers into one
+-- region the least offsets, the same map; of any other two different kinds Unset
+abbrev pub joined_kinds : AbsKind → AbsKind → AbsKind
+joined_kinds Unset b = Unset
+joined_kinds (Num a) Unset = Unset
+joined_kinds (Num a) (Num b) = Num (joined_ranges a b)
+joined_kinds (Num a) (Ptr s b) = Unset
+joined_kinds (Num a) (Map j) = Unset
+joined_kinds (Ptr r a) Unset = Unset
+joined_kinds (Ptr r a) (Num b) = Unset
+joined_kinds (Ptr r a) (Ptr s b) = if same_region r s then Ptr r (joined_offsets a b) else Unset
+joined_kinds (Ptr r a) (Map j) = Unset
+joined_kinds (Map i) Unset = Unset
+joined_kinds (Map i) (Num b) = Unset
+joined_kinds (Map i) (Ptr s b) = Unset
+joined_kinds (Map i) (Map j) = if i == j then Map i else Unset
 
 -- the index of a map, as an operand
 abbrev pub map_of : AbsKind → Result ℕ Cause

@@ -16,7 +16,7 @@ use Rattle.machine.specs.Laws.{is_store}
 use Rattle.absdom_num.specs.Ranges.{IsRange}
 use Rattle.absdom.specs.declared.cause.Cause.{Cause}
 use Rattle.absdom.specs.Marks.{mark_at}
-use Rattle.absdom.specs.Places.{AreAllWhole}
+use Rattle.absdom.specs.StackWords.{AreAllWhole}
 use Rattle.absdom.specs.declared.spill.Spill.{Spill}
 use Rattle.absdom.specs.declared.spill.Spill.TheVariants.{Forgets}
 use Rattle.absdom.specs.State.{StateValue, IsWhole, IsBelow, IsJoin, IsEntry, AreAlike, kind_at, range_at, after_call}
@@ -54,13 +54,15 @@ EntryFits = (a : StateValue) (port : ℕ) → IsEntry a → port < 32 → Fits (
 
 -- whatever a helper answers, the state after its call fits
 abbrev pub CallFits : Type 0
-CallFits = (s : State) (a : StateValue) (answer : ℕ) → answer < 2 ^ 64 → Fits s a → Fits (after_answer s answer) (after_call a)
+CallFits =
+    (s : State) (a : StateValue) (answer : ℕ) → answer < 2 ^ 64 → Fits s a → Fits (after_answer s answer) (after_call a)
 
 -- where an instruction is not refused, the machine goes on to the next one in a state that fits the result,
 -- from every state that fits
 abbrev pub ApplyFits : Type 0
 ApplyFits =
-    (spill : Spill) (header : Header) (s : State) (a : StateValue) (insn : Insn) → IsHeader header → GoesStraight insn → Fits s a
+    (spill : Spill) (header : Header) (s : State) (a : StateValue) (insn : Insn) → IsHeader header → GoesStraight insn
+    → Fits s a
     → IsSound (perform header s insn) (s.slot + slots_of insn) (after_insn spill a insn)
 
 -- where a comparison is not refused, every state that fits fits the edge that it takes
@@ -99,7 +101,8 @@ ApplyGrows =
 -- and a comparison: an edge that is followed from the smaller is followed from the larger
 abbrev pub RefineGrows : Type 0
 RefineGrows =
-    (a b : StateValue) (condition : Condition) (width : Width) (dst : ℕ) (src : Operand) → IsWhole a → IsWhole b → IsBelow a b
+    (a b : StateValue) (condition : Condition) (width : Width) (dst : ℕ) (src : Operand) → IsWhole a → IsWhole b
+    → IsBelow a b
     → AreEdgesGrown (refined_edges a condition width dst src) (refined_edges b condition width dst src)
 
 -- and a helper's call
@@ -110,25 +113,26 @@ CallGrows =
 -- and a join
 abbrev pub JoinGrows : Type 0
 JoinGrows =
-    (a b c d first second : StateValue) → IsJoin a b first → IsJoin c d second → IsBelow a c → IsBelow b d → IsBelow first second
+    (a b c d first second : StateValue) → IsJoin a b first → IsJoin c d second → IsBelow a c → IsBelow b d
+    → IsBelow first second
 
 -- ---- what an instruction leaves
 
 -- an instruction leaves what is known of the registers that it does not write, and each mark; one that is no
--- store makes none, and leaves what is known of each place. Of a whole state each place is left with a range whose ends
+-- store makes none, and leaves what is known of each word. Of a whole state each word is left with a range whose ends
 -- stand in order.
 pub record IsLeftBy (insn : Insn) (before after : StateValue) : Type 0 where
   pub kinds : (k : ℕ) → is_written insn k ≡ false → kind_at after k ≡ kind_at before k
   pub marks : (place : ℕ) → mark_at before.marks place ≡ true → mark_at after.marks place ≡ true
   pub unstored : is_store insn ≡ false → after.marks ≡ before.marks
   pub ranges : is_store insn ≡ false → after.ranges ≡ before.ranges
-  pub proper : IsWhole before → (place : ℕ) → IsRange (range_at after place)
+  pub proper : IsWhole before → (word : ℕ) → IsRange (range_at after word)
 
 -- an instruction that is not refused leaves what it does not write
 abbrev pub ApplyLeaves : Type 0
 ApplyLeaves = (spill : Spill) (a : StateValue) (insn : Insn) → IfOk (after_insn spill a insn) (IsLeftBy insn a)
 
--- where ranges are forgotten and nothing is known of any place, no instruction tells anything of one
+-- where ranges are forgotten and nothing is known of any word, no instruction tells anything of one
 abbrev pub ForgetsAll : Type 0
 ForgetsAll =
     (a : StateValue) (insn : Insn) → AreAllWhole a.ranges → IfOk (after_insn Forgets a insn) (λ b. AreAllWhole b.ranges)

@@ -2,7 +2,7 @@ pub mod Codes
 pub mod Kinds
 pub mod State
 pub mod Marks
-pub mod Places
+pub mod StackWords
 pub mod Spill
 pub mod Offsets
 pub mod Effect

@@ -1,6 +1,8 @@
 -- Which bytes of the stack are set: a mark for each place (a choice of this project).
 use Rattle.std.specs.Prelude.{◌≡◌, ℕ, zero, suc, ◌+◌, Bool, true, false, ◌&&◌, List, slice_index_or, slice_set}
 
+-- ---- the statement
+
 -- whether the byte at a place is known to be set
 abbrev pub mark_at : List Bool → ℕ → Bool
 mark_at marks place = slice_index_or marks place false
@@ -18,6 +20,8 @@ marks_after marks first (suc bytes) = slice_set (marks_after marks first bytes) 
 -- each mark of the first list stands in the second too
 abbrev pub AreMarkedIn : (first second : List Bool) → Type 0
 AreMarkedIn first second = (place : ℕ) → mark_at first place ≡ true → mark_at second place ≡ true
+
+-- ---- what else contracts and proofs say
 
 -- the marks that stand in both lists
 abbrev pub AreInBoth : (first second both : List Bool) → Type 0

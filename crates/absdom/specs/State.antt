@@ -1,7 +1,8 @@
--- What is known at a slot: of each register, and of each byte and each place of eight bytes of the stack (a choice of
+-- What is known at a slot: of each register, and of each byte and each word of the stack (a choice of
 -- this project).
 use Rattle.std.specs.Prelude.{◌≡◌, ℕ, ◌*◌, Bool, false, List, [], ◌∷◌, length, pos, slice_index_or, slice_set, ◌≤ℤ◌}
 use Rattle.machine.specs.declared.regions.Region.TheVariants.{Front, Tail, Stack}
+use Rattle.machine.specs.declared.regions.TheConstants.{STACK_SIZE}
 use Rattle.bpf_parts.specs.declared.operation.Width.TheVariants.{Bits64}
 use Rattle.absdom_num.specs.declared.ranges.Range.{Range}
 use Rattle.absdom_num.specs.Ranges.{IsRange}
@@ -10,20 +11,22 @@ use Rattle.absdom.specs.declared.kinds.AbsKind.{AbsKind}
 use Rattle.absdom.specs.declared.kinds.AbsKind.TheVariants.{Unset, Num, Ptr, Map}
 use Rattle.absdom.specs.Kinds.{joined_kinds, IsKindBelow}
 use Rattle.absdom.specs.Marks.{mark_at, all_marked, AreInBoth, AreMarkedIn}
-use Rattle.absdom.specs.Places.{range_in, AreAllWhole, AreRangesJoined, AreRangesWithin}
+use Rattle.absdom.specs.StackWords.{range_in, AreAllWhole, AreRangesJoined, AreRangesWithin}
 
--- a kind for each register, a mark for each byte of the stack that is known to be set, and a range for each place of
+-- ---- the statement
+
+-- a kind for each register, a mark for each byte of the stack that is known to be set, and a range for each word of
 -- eight bytes, of the number that it holds
 pub record StateValue : Type 0 where
   pub kinds : List AbsKind
   pub marks : List Bool
   pub ranges : List Range
 
--- of eleven registers, 512 bytes and 64 places
+-- of eleven registers, 512 bytes and 64 words
 pub record IsState (a : StateValue) : Type 0 where
   pub registers : length a.kinds ≡ 11
-  pub bytes : length a.marks ≡ 512
-  pub places : length a.ranges ≡ 64
+  pub bytes : length a.marks ≡ STACK_SIZE
+  pub words : length a.ranges ≡ 64
 
 -- the kind of a register in a list of kinds
 abbrev pub kind_in : List AbsKind → (register : ℕ) → AbsKind
@@ -33,9 +36,9 @@ kind_in kinds register = slice_index_or kinds register Unset
 abbrev pub kind_at : StateValue → (register : ℕ) → AbsKind
 kind_at a register = kind_in a.kinds register
 
--- what is known of the number at a place
-abbrev pub range_at : StateValue → (place : ℕ) → Range
-range_at a place = range_in a.ranges place
+-- what is known of the number in a word of the stack
+abbrev pub range_at : StateValue → (word : ℕ) → Range
+range_at a word = range_in a.ranges word
 
 -- the ends of a range, or of offsets, stand in order
 abbrev pub IsProper : AbsKind → Type 0
@@ -44,13 +47,13 @@ IsProper (Num range) = IsRange range
 IsProper (Ptr region offsets) = offsets.0 ≤ℤ offsets.1
 IsProper (Map index) = Unit {0}
 
--- what every state is: eleven registers, each of a proper kind, 512 bytes, and 64 places, each with a range whose ends
--- stand in order. Nothing is known of a place whose eight bytes are not all set.
+-- what every state is: eleven registers, each of a proper kind, 512 bytes, and 64 words, each with a range whose ends
+-- stand in order. Nothing is known of a word whose eight bytes are not all set.
 pub record IsWhole (a : StateValue) : Type 0 where
   pub sizes : IsState a
   pub kinds : (register : ℕ) → IsProper (kind_at a register)
-  pub ranges : (place : ℕ) → IsRange (range_at a place)
-  pub unset : (place : ℕ) → all_marked a.marks (8 * place) 8 ≡ false → range_at a place ≡ whole_range Bits64
+  pub ranges : (word : ℕ) → IsRange (range_at a word)
+  pub unset : (word : ℕ) → all_marked a.marks (8 * word) 8 ≡ false → range_at a word ≡ whole_range Bits64
 
 -- what is known after a register was written
 abbrev pub with_kind : StateValue → (register : ℕ) → AbsKind → StateValue
@@ -63,15 +66,18 @@ with_stack a marks ranges = record { kinds = a.kinds; marks = marks; ranges = ra
 -- after a helper's call: r0 is any number, r1 to r5 are unset
 abbrev pub after_call : StateValue → StateValue
 after_call a =
-    with_kind (with_kind (with_kind (with_kind (with_kind (with_kind a 0 (Num (whole_range Bits64))) 1 Unset) 2 Unset) 3 Unset) 4 Unset) 5 Unset
+    with_kind (with_kind
+    (with_kind (with_kind (with_kind (with_kind a 0 (Num (whole_range Bits64))) 1 Unset) 2 Unset) 3 Unset) 4 Unset)
+    5 Unset
 
 -- the kinds of r0 to r10 at entry, by the calling rules (a choice of this project)
 abbrev pub entry_kinds : List AbsKind
 entry_kinds =
-    Unset ∷ Ptr Front (pos 0, pos 0) ∷ Ptr Tail (pos 0, pos 0) ∷ Num (0, 31) ∷ Unset ∷ Unset ∷ Unset ∷ Unset ∷ Unset ∷ Unset
+    Unset ∷ Ptr Front (pos 0, pos 0) ∷ Ptr Tail (pos 0, pos 0) ∷ Num (0, 31) ∷ Unset ∷ Unset ∷ Unset ∷ Unset ∷ Unset
+    ∷ Unset
     ∷ Ptr Stack (pos 0, pos 0) ∷ []
 
--- what is known at entry: these kinds, no byte is set, and nothing is known of any place
+-- what is known at entry: these kinds, no byte is set, and nothing is known of any word
 pub record IsEntry (a : StateValue) : Type 0 where
   pub kinds : a.kinds ≡ entry_kinds
   pub marks : (place : ℕ) → mark_at a.marks place ≡ false
@@ -81,25 +87,28 @@ pub record IsEntry (a : StateValue) : Type 0 where
 abbrev pub AreBelow : List AbsKind → List AbsKind → Type 0
 AreBelow first second = (register : ℕ) → IsKindBelow (kind_in first register) (kind_in second register)
 
--- register by register the least kind above both
-abbrev pub AreJoined : List AbsKind → List AbsKind → List AbsKind → Type 0
-AreJoined first second joint = (register : ℕ) → kind_in joint register ≡ joined_kinds (kind_in first register) (kind_in second register)
-
 -- the first says all that the second says
 pub record IsBelow (a b : StateValue) : Type 0 where
   pub kinds : AreBelow a.kinds b.kinds
   pub marks : AreMarkedIn b.marks a.marks
   pub ranges : AreRangesWithin a.ranges b.ranges
 
--- register by register the least kind above both; a byte is set where it is in both; place by place the least range
+-- ---- what else contracts and proofs say
+
+-- register by register the least kind above both
+abbrev pub AreJoined : List AbsKind → List AbsKind → List AbsKind → Type 0
+AreJoined first second joint =
+    (register : ℕ) → kind_in joint register ≡ joined_kinds (kind_in first register) (kind_in second register)
+
+-- register by register the least kind above both; a byte is set where it is in both; word by word the least range
 -- that holds both
 pub record IsJoin (a b joint : StateValue) : Type 0 where
   pub kinds : AreJoined a.kinds b.kinds joint.kinds
   pub marks : AreInBoth a.marks b.marks joint.marks
   pub ranges : AreRangesJoined a.ranges b.ranges joint.ranges
 
--- the same kind of each register, the same mark of each byte, and the same range of each place
+-- the same kind of each register, the same mark of each byte, and the same range of each word
 pub record AreAlike (a b : StateValue) : Type 0 where
   pub kinds : (register : ℕ) → kind_at a register ≡ kind_at b register
   pub marks : (place : ℕ) → mark_at a.marks place ≡ mark_at b.marks place
-  pub ranges : (place : ℕ) → range_at a place ≡ range_at b place
+  pub ranges : (word : ℕ) → range_at a word ≡ range_at b word

@@ -9,16 +9,16 @@ ghost use Rattle.absdom.specs.Effect.{access_places, is_set, loaded_range, kept_
 use crate::cause::Cause;
 use crate::kinds::AbsKind;
 use crate::offsets::Offsets;
-use crate::places::{PLACE_BYTES, is_place};
 use crate::spill::Spill;
+use crate::stack_words::{WORD_BYTES, is_stack_word};
 use crate::state::State;
 use absdom_num::Range;
 use bpf_insn::{LoadSize, Size};
-use machine::Region;
+use machine::{Region, STACK_SIZE};
 
 /// The place of the first of so many bytes, where all of them lie in memory of that size.
 fn place_within(size: usize, bytes: usize, place: i32) -> Option<usize>
-    requires size { size ≤ 512 }
+    requires size { size ≤ STACK_SIZE }
     requires bytes { bytes ≤ 8 }
     ensures value { result ≡ place_within size bytes place }
     ensures bound { IfSome result (λ first. first + bytes ≤ size) }
@@ -38,9 +38,9 @@ fn place_within(size: usize, bytes: usize, place: i32) -> Option<usize>
 fn from_bottom(offset: i32) -> i32
     requires low { negsuc 100000 ≤ℤ offset }
     requires high { offset ≤ℤ pos 100000 }
-    ensures { result ≡ offset +ℤ pos 512 }
+    ensures { result ≡ offset +ℤ pos STACK_SIZE }
 {
-    offset + 512
+    offset + STACK_SIZE as i32
 }
 
 /// The place in the region of an access of so many bytes, where it is wholly inside.
@@ -49,7 +49,7 @@ fn place(region: Region, bytes: usize, offset: i32) -> Option<usize>
     requires high { offset ≤ℤ pos 100000 }
     requires bytes { bytes ≤ 8 }
     ensures value { result ≡ place_of region bytes offset }
-    ensures bound { IfSome result (λ first. first + bytes ≤ 512) }
+    ensures bound { IfSome result (λ first. first + bytes ≤ STACK_SIZE) }
 {
     let from_start = match region {
         Region::Front | Region::Tail => offset,
@@ -107,7 +107,7 @@ fn loaded_range(size: LoadSize) -> Range
     }
 }
 
-/// What a load gives where numbers keep their ranges: of one place of the stack its range.
+/// What a load gives where numbers keep their ranges: of one word of the stack its range.
 fn kept_range(state: &State, size: LoadSize, region: Region, lowest: usize, highest: usize) -> Range
     requires { AreInside (load_bytes size) (lowest, highest) }
     ensures { result ≡ kept_range state.now size region (lowest, highest) }
@@ -116,8 +116,8 @@ fn kept_range(state: &State, size: LoadSize, region: Region, lowest: usize, high
         Region::Front => loaded_range(size),
         Region::Tail => loaded_range(size),
         Region::Stack => {
-            if is_place(size.bytes(), lowest, highest) {
-                state.range(lowest / PLACE_BYTES)
+            if is_stack_word(size.bytes(), lowest, highest) {
+                state.range(lowest / WORD_BYTES)
             } else {
                 loaded_range(size)
             }

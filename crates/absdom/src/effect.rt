@@ -11,7 +11,7 @@ use crate::kinds::AbsKind;
 use crate::spill::Spill;
 use crate::state::State;
 use absdom_num::Range;
-use bpf_insn::{AluOp, Insn, LoadSize, Operand, Place, Register, Size, Width};
+use bpf_insn::{AluOp, Insn, LoadSize, MemoryOperand, Operand, Register, Size, Width};
 
 /// What is known of an operand: a register's kind, or the number of an immediate with its sign extended.
 pub(crate) fn operand(state: &State, operand: &Operand) -> AbsKind
@@ -63,7 +63,7 @@ fn fetch(
     spill: Spill,
     size: LoadSize,
     dst: Register,
-    place: &Place,
+    place: &MemoryOperand,
 ) -> Result<(), Cause>
     ensures { Applies spill result state.old state.new (Insn.Load size dst place.now) }
 {
@@ -76,7 +76,7 @@ fn put(
     state: &mut State,
     spill: Spill,
     size: Size,
-    place: &Place,
+    place: &MemoryOperand,
     src: &Operand,
 ) -> Result<(), Cause>
     ensures { Applies spill result state.old state.new (Insn.Store size place.now src.now) }
@@ -89,7 +89,7 @@ fn put(
 impl State {
     /// Changes to what is known after an instruction that goes on to the next one: arithmetic, loads, stores
     /// and two-slot loads of a constant or a map (RFC 9669, sections 4.1, 4.2, 5 and 5.4). Where numbers keep their
-    /// ranges on the stack, a store that fills a place and a load of it carry the range. All other
+    /// ranges on the stack, a store that fills a word and a load of it carry the range. All other
     /// instructions leave the state as it is here: of a comparison [`refine`] tells the edges, after a
     /// helper's call there is [`State::call`].
     ///

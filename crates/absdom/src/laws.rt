@@ -65,7 +65,7 @@ pub fn apply_grows()
 }
 
 /// A law and no work: an instruction that [`apply`] does not refuse leaves the kinds of the registers that it
-/// does not write, and clears no mark; one that is no store makes none, and leaves the range of each place. So does
+/// does not write, and clears no mark; one that is no store makes none, and leaves the range of each word. So does
 /// [`State::call`] for what a helper's call leaves.
 ///
 /// [`apply`]: crate::State::apply
@@ -75,7 +75,7 @@ pub fn apply_leaves()
     ensures call { CallLeaves }
 {}
 
-/// A law and no work: where ranges are forgotten, nothing is known of any place, if nothing was before.
+/// A law and no work: where ranges are forgotten, nothing is known of any word of the stack, if nothing was before.
 pub fn forgets_all()
     ensures { ForgetsAll }
 {}

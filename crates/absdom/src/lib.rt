@@ -2,10 +2,10 @@
 //! are a choice of this project).
 //!
 //! A [`State`] has a kind for each register, a mark for each byte of the stack that is set and a range for each
-//! place of eight bytes, and changes in place. [`State::apply`] does what an instruction does to it, or says why the
+//! word of eight bytes, and changes in place. [`State::apply`] does what an instruction does to it, or says why the
 //! instruction is refused; whether numbers on the stack keep their ranges is told by a [`Spill`]. [`refine`] tells
 //! the ranges on the two edges of a comparison. The definitions are in `specs/`: `Kinds` has the kinds and their
-//! order, `Places` the ranges of the stack, `Effect` what an instruction does to all that is known, `Fits` which
+//! order, `StackWords` the ranges of the stack, `Effect` what an instruction does to all that is known, `Fits` which
 //! states of the machine a state stands for, and `Laws` what holds of all this.
 #![tactic(auto)]
 
@@ -18,8 +18,8 @@ mod kinds;
 mod laws;
 mod marks;
 mod offsets;
-mod places;
 mod spill;
+mod stack_words;
 mod state;
 
 pub use absdom_num::{Edges, Operands};

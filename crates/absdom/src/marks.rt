@@ -36,14 +36,14 @@ impl Marks {
     /// No byte is set.
     pub(crate) fn none() -> Marks
         ensures none { (place : ℕ) → mark_at result place ≡ false }
-        ensures length { length result ≡ 512 }
+        ensures length { length result ≡ STACK_SIZE }
     {
         Marks { words: [0; WORDS] }
     }
 
     /// Whether the byte at a place is set.
     fn is_set(&self, place: usize) -> bool
-        requires { place < 512 }
+        requires { place < STACK_SIZE }
         ensures { result ≡ mark_at self.now place }
     {
         self.words[place / 64] >> (place % 64) & 1 == 1
@@ -51,7 +51,7 @@ impl Marks {
 
     /// Whether all bytes from `first` to before `end` are set.
     pub(crate) fn are_set(&self, first: usize, end: usize) -> bool
-        requires { end ≤ 512 }
+        requires { end ≤ STACK_SIZE }
         ensures { result ≡ all_marked self.now first (end - first) }
     {
         let mut all = true;
@@ -63,7 +63,7 @@ impl Marks {
 
     /// Marks the byte at a place.
     fn set(&mut self, place: usize)
-        requires { place < 512 }
+        requires { place < STACK_SIZE }
         ensures { self.new ≡ slice_set self.old place true }
     {
         let word = self.words[place / 64] | 1 << (place % 64);
@@ -73,7 +73,7 @@ impl Marks {
     /// Marks the bytes from `first` to before `end`.
     pub(crate) fn mark(&mut self, first: usize, end: usize)
         requires order { first ≤ end }
-        requires inside { end ≤ 512 }
+        requires inside { end ≤ STACK_SIZE }
         ensures { self.new ≡ marks_after self.old first (end - first) }
     {
         for place in first..end {
@@ -95,7 +95,7 @@ impl Marks {
     /// Keeps the marks that stand in both.
     pub(crate) fn join(&mut self, other: &Marks)
         ensures both { AreInBoth self.old other.now self.new }
-        ensures length { length self.new ≡ 512 }
+        ensures length { length self.new ≡ STACK_SIZE }
     {
         for k in 0..WORDS {
             let word = self.words[k] & other.words[k];

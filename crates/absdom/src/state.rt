@@ -1,17 +1,18 @@
 //! What is known at a slot.
 
 ghost use Rattle.std.specs.Prelude.{◌≡◌, ◌+◌, ◌<◌, ◌≤◌, ◌-◌, ℕ, ◌↔◌, IsTrue, false, length};
+ghost use Rattle.machine.specs.declared.regions.TheConstants.{STACK_SIZE};
 ghost use Rattle.absdom.specs.Kinds.{joined_kinds, IsKindBelow};
 ghost use Rattle.absdom.specs.State.{IsState, IsWhole, IsBelow, IsJoin, IsEntry, kind_at, kind_in, range_at, with_kind, with_stack, after_call, entry_kinds, AreJoined, AreBelow};
 ghost use Rattle.absdom.specs.Marks.{mark_at, all_marked};
-ghost use Rattle.absdom.specs.Places.{all_whole, AreAllWhole};
+ghost use Rattle.absdom.specs.StackWords.{all_whole, AreAllWhole};
 ghost use Rattle.absdom.specs.Effect.{with_stored, AreInside};
 
 use crate::kinds::AbsKind;
 use crate::marks::Marks;
 use crate::offsets::Offsets;
-use crate::places::Places;
 use crate::spill::Spill;
+use crate::stack_words::StackWords;
 use absdom_num::Range;
 use bpf_insn::{REGISTERS, Register};
 use machine::Region;
@@ -24,12 +25,12 @@ struct Registers {
 }
 
 /// What is known at a slot: the kind of each register, which bytes of the stack are set, and the range of the number
-/// in each place of eight bytes. Of a place whose eight bytes are not all set nothing is known.
+/// in each word of eight bytes. Of a word whose eight bytes are not all set nothing is known.
 #[derive(Clone, Debug, Drop)]
 pub struct State {
     registers: Registers,
     marks: Marks,
-    places: Places,
+    words: StackWords,
 }
 
 impl Model for State {
@@ -39,9 +40,9 @@ impl Model for State {
 
     ghost use Rattle.absdom.specs.State.{IsWhole};
 
-    ghost view = { λ s. record { kinds = s.registers.kinds; marks = s.marks; ranges = s.places } };
+    ghost view = { λ s. record { kinds = s.registers.kinds; marks = s.marks; ranges = s.words } };
 
-    ghost invariant = { λ s. IsWhole (record { kinds = s.registers.kinds; marks = s.marks; ranges = s.places }) };
+    ghost invariant = { λ s. IsWhole (record { kinds = s.registers.kinds; marks = s.marks; ranges = s.words }) };
 }
 
 impl State {
@@ -57,12 +58,13 @@ impl State {
                 kinds: kinds_at_entry(),
             },
             marks: Marks::none(),
-            places: Places::new(),
+            words: StackWords::new(),
         }
     }
 
     /// A law and no work: each state has eleven registers, whose ranges and offsets have their ends in order,
-    /// 512 marks, and 64 places with ranges in order, which is whole where a place is not all set. Any two states can be compared, so the laws on larger states hold of them.
+    /// 512 marks, and 64 words with ranges in order, of which that of a word that is not all set is whole. Any two
+    /// states can be compared, so the laws on larger states hold of them.
     pub fn stands_whole(&self)
         ensures { IsWhole self.now }
     {
@@ -89,18 +91,18 @@ impl State {
     {
         self.registers = other.registers;
         self.marks = other.marks;
-        self.places.set_to(&other.places);
+        self.words.set_to(&other.words);
     }
 
-    /// Forgets the range of each place of the stack. A byte that is set stays set.
-    pub fn forget_places(&mut self)
+    /// Forgets the range of each word of the stack. A byte that is set stays set.
+    pub fn forget_words(&mut self)
         ensures forgotten { self.new ≡ with_stack self.old self.old.marks all_whole }
         ensures unknown { AreAllWhole self.new.ranges }
     {
-        self.places.forget();
+        self.words.forget();
     }
 
-    /// Grows to the least state above both: register by register, place by place, and a byte is set where it is in
+    /// Grows to the least state above both: register by register, word by word, and a byte is set where it is in
     /// both.
     pub fn join(&mut self, other: &State)
         ensures joint { IsJoin self.old other.now self.new }
@@ -109,7 +111,7 @@ impl State {
     {
         join_kinds(&mut self.registers.kinds, &other.registers.kinds);
         self.marks.join(&other.marks);
-        self.places.include(&other.places);
+        self.words.include(&other.words);
     }
 
     /// Whether this state says all that the other says.
@@ -122,7 +124,7 @@ impl State {
         if !self.marks.leq(&other.marks) {
             return false;
         }
-        self.places.are_within(&other.places)
+        self.words.are_within(&other.words)
     }
 
     /// Calls a helper: r0 is then any number, and r1 to r5 are unset.
@@ -139,18 +141,18 @@ impl State {
 
     /// Whether the bytes of the stack from place `first` to before `end` are set.
     pub(crate) fn are_set(&self, first: usize, end: usize) -> bool
-        requires { end ≤ 512 }
+        requires { end ≤ STACK_SIZE }
         ensures { result ≡ all_marked self.now.marks first (end - first) }
     {
         self.marks.are_set(first, end)
     }
 
-    /// The range of the number in a place of eight bytes.
-    pub(crate) fn range(&self, place: usize) -> Range
-        requires { place < 64 }
-        ensures { result ≡ range_at self.now place }
+    /// The range of the number in a word of the stack.
+    pub(crate) fn range(&self, word: usize) -> Range
+        requires { word < 64 }
+        ensures { result ≡ range_at self.now word }
     {
-        self.places.get(place)
+        self.words.get(word)
     }
 
     /// Stores a number of that range in so many bytes of the stack, from `lowest` on or from any byte up to
@@ -168,7 +170,7 @@ impl State {
         ensures { self.new ≡ with_stored spill self.old bytes (lowest, highest) value }
     {
         self.marks.mark_stored(bytes, lowest, highest);
-        self.places.store(spill, bytes, lowest, highest, value);
+        self.words.store(spill, bytes, lowest, highest, value);
     }
 }
 

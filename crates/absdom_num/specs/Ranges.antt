@@ -2,21 +2,25 @@
 use Rattle.std.specs.Prelude.{ℕ, ◌≤◌, ◌<◌, ◌^◌, ◌==◌, if◌then◌else◌, min, max, Option, Some, None}
 use Rattle.absdom_num.specs.declared.ranges.Range.{Range}
 
+-- ---- the statement
+
 -- the ends stand in order, and both are words
 pub record IsRange (r : Range) : Type 0 where
   pub in_order : r.0 ≤ r.1
   pub words : r.1 < 2 ^ 64
+
+-- the first range is contained in the second
+pub record IsWithin (a b : Range) : Type 0 where
+  pub above : b.0 ≤ a.0
+  pub below : a.1 ≤ b.1
+
+-- ---- what else contracts and proofs say
 
 -- the range holds the word n: what "fits" says of numbers
 pub record IsIn (n : ℕ) (r : Range) : Type 0 where
   pub above : r.0 ≤ n
   pub below : n ≤ r.1
   pub word : n < 2 ^ 64
-
--- the first range is contained in the second
-pub record IsWithin (a b : Range) : Type 0 where
-  pub above : b.0 ≤ a.0
-  pub below : a.1 ≤ b.1
 
 -- the one word of a range
 abbrev pub single_value : Range → Option ℕ

@@ -2,16 +2,16 @@
 use Rattle.std.specs.Prelude.{ℕ, ◌+◌, ◌-◌, ◌&&◌, ◌==◌, nat_lt, nat_le, if◌then◌else◌, min, max, Option, Some, None}
 use Rattle.bpf_parts.specs.declared.operation.Width.{Width}
 use Rattle.bpf_parts.specs.declared.operation.Condition.{Condition}
-use Rattle.bpf_parts.specs.declared.operation.Condition.TheVariants.{Equal, Greater, GreaterEqual, AnyBits, NotEqual, SignedGreater, SignedGreaterEqual, Less, LessEqual, SignedLess, SignedLessEqual}
+use Rattle.bpf_parts.specs.declared.operation.Condition.TheVariants.{Equal, Greater, GreaterEqual, AnyBits, NotEqual}
+use Rattle.bpf_parts.specs.declared.operation.Condition.TheVariants.{SignedGreater, SignedGreaterEqual, Less}
+use Rattle.bpf_parts.specs.declared.operation.Condition.TheVariants.{LessEqual, SignedLess, SignedLessEqual}
 use Rattle.machine.specs.Words.{modulus}
 use Rattle.absdom_num.specs.declared.ranges.Range.{Range}
 use Rattle.absdom_num.specs.declared.refinement.Operands.{Operands}
 use Rattle.absdom_num.specs.declared.refinement.Edges.{Edges}
 use Rattle.absdom_num.specs.Tables.{is_single, sign_weight}
 
--- a range that is not empty
-abbrev pub nonempty_range : Range → Option Range
-nonempty_range a = if nat_le a.0 a.1 then Some a else None
+-- ---- the statement
 
 -- the new ranges. An edge with an empty range is not followed
 abbrev pub edge : Range → Range → Option Operands
@@ -107,3 +107,9 @@ refined_ranges condition width a b =
     if nat_lt a.1 (reach condition width) && nat_lt b.1 (reach condition width)
     then record { taken = when_taken condition a b; not_taken = when_not_taken condition a b }
     else unrefined_ranges a b
+
+-- ---- what else contracts and proofs say
+
+-- a range that is not empty
+abbrev pub nonempty_range : Range → Option Range
+nonempty_range a = if nat_le a.0 a.1 then Some a else None

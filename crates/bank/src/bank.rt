@@ -7,11 +7,11 @@ ghost use Rattle.bank.specs.Pages.{ArePages};
 ghost use Rattle.rmap.specs.Command.{command_of};
 ghost use Rattle.rmap.specs.Windows.{lies_inside};
 ghost use Rattle.bank.specs.Answer.{status_of};
-ghost use Rattle.bank.specs.Effect.{memory_at};
+ghost use Rattle.bank.specs.Effect.{memory_at, with_bytes};
 ghost use Rattle.bank.specs.Limits.{is_bank_size, is_range, is_bank};
-ghost use Rattle.bank.specs.Records.{first_share, fresh_bank, byte_in, fits, is_next, has_room, IsBank, IsExecutable, memory_of, memory_from, reply_from, base_of, replay, answer_of, after_command, after_rotation, number_left, next_share};
+ghost use Rattle.bank.specs.Records.{first_share, fresh_bank, byte_in, fits, is_next, has_room, IsBank, IsExecutable, memory_of, memory_from, reply_from, base_of, replay, answer_of, after_command, after_rotation, after_setting, covers, number_left, next_share};
 
-use crate::answers::judged_fault;
+use crate::answers::reply_to;
 use crate::entry::Entry;
 use crate::faults::BankFault;
 use crate::journal::{Journal, is_room};
@@ -218,7 +218,7 @@ impl Bank {
         ensures share { share.new ≡ next_share self.old share.old judged }
     {
         let room = self.has_room(judged.port());
-        let status = carry_out_on(&mut self.bytes, self.first, room, &judged, reply);
+        let status = carry_out(&mut self.bytes, self.first, room, &judged, reply);
         if !room {
             drop(judged.into_packet());
             return Applied {
@@ -248,10 +248,41 @@ impl Bank {
         self.base.copy_from(&self.bytes);
         mem::replace(&mut self.journal, fresh)
     }
+
+    /// Whether so many bytes from the address on lie in the bank.
+    pub fn covers(&self, address: u32, count: usize) -> bool
+        ensures { result ≡ covers self.now address count }
+    {
+        let size = self.bytes.len();
+        if count > size as usize {
+            return false;
+        }
+        let end = u64::from(address) + count as u64;
+        self.first <= address && end <= u64::from(self.first) + u64::from(size)
+    }
+
+    /// Puts bytes at an address without a command: the write of an instrument, of which no entry tells. So a new
+    /// journal begins with the memory that is then there, and the old one is handed out, whose replay on the base
+    /// before is the memory before. Counts and shares stay. It costs a copy of the memory. Conditions: `fresh` is
+    /// empty, and the bytes lie inside ([`Bank::covers`]).
+    pub fn set(&mut self, address: u32, bytes: &[u8], fresh: Journal) -> Journal
+        requires empty { fresh.entries ≡ [] }
+        requires inside { covers self.old address (length bytes.now) ≡ true }
+        ensures memory { memory_of self.new ≡ with_bytes (memory_of self.old) address bytes.now }
+        ensures bank { self.new ≡ after_setting self.old address bytes.now fresh }
+        ensures journal { result ≡ self.old.journal }
+        ensures replayed { memory_of self.old ≡ replay (base_of self.old) result.entries }
+    {
+        let journal = self.rotate(fresh);
+        let offset = (address - self.first) as usize;
+        self.bytes.put(offset, bytes);
+        self.base.put(offset, bytes);
+        journal
+    }
 }
 
-/// Does what a judged command asks for to the bytes of a bank, if it may be done, and leaves the reply.
-fn carry_out_on(
+/// Replies to a judged command on the bytes of a bank, and does to them what it asks for, if it may be done.
+fn carry_out(
     bytes: &mut Pages,
     first: u32,
     room: bool,
@@ -266,15 +297,9 @@ fn carry_out_on(
     ensures executed { IsExecutable result judged.now.packet }
 {
     let command = judged.command();
-    match judged_fault(&command, judged.verdict()) {
-        None if room => {
-            bytes.execute(first, &command, reply);
-            Status::Success
-        }
-        fault => {
-            let status = fault.unwrap_or(Status::GeneralError);
-            put_reply(reply, &command, status, &[]);
-            status
-        }
+    let status = reply_to(bytes, first, room, &command, judged.verdict(), reply);
+    if status == Status::Success {
+        bytes.change(first, &command);
     }
+    status
 }

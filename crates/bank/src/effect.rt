@@ -2,11 +2,10 @@
 
 ghost use Rattle.std.specs.Prelude.{◌≡◌, ◌≤◌, ◌<◌, ◌+◌, length, take, true, false, None};
 ghost use Rattle.rmap.specs.Command.{increments};
-ghost use Rattle.rmap.specs.Windows.{lies_inside};
 ghost use Rattle.rmap.specs.Checks.{body_line};
 ghost use Rattle.bank.specs.Admission.{IsAdmissible};
 ghost use Rattle.bank.specs.Effect.{IsWithin, memory_at, effect, byte_at, after_write, modified_bytes};
-ghost use Rattle.bank.specs.Answer.{read_reply, executed_reply};
+ghost use Rattle.bank.specs.Answer.{read_reply};
 
 use rmap::{Command, Kind, MAX_DATA, ReplyBuf, Status, put_reply};
 
@@ -128,23 +127,4 @@ pub(crate) fn change(memory: &mut [u8], first: u32, command: &Command)
         }
         Kind::Read | Kind::Unused => {}
     }
-}
-
-/// Executes the command on the memory that begins at the address `first`, and replies with success.
-pub(crate) fn execute(memory: &mut [u8], first: u32, command: &Command, reply: &mut ReplyBuf)
-    requires admitted { IsAdmissible command.now }
-    requires body { body_line command.now ≡ None }
-    requires inside { lies_inside first (length memory.old) command.now ≡ true }
-    ensures memory { memory_at first memory.new
-        ≡ (effect (memory_at first memory.old) command.now).memory }
-    ensures reply { reply.new ≡ executed_reply (memory_at first memory.old) command.now }
-{
-    let length = command.length() as usize;
-    match command.kind() {
-        Kind::Read => reply_read(reply, command, memory, first, length),
-        Kind::Write => put_reply(reply, command, Status::Success, &[]),
-        Kind::Rmw => reply_read(reply, command, memory, first, length / 2),
-        Kind::Unused => unreachable!(),
-    }
-    change(memory, first, command);
 }

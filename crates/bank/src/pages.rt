@@ -1,17 +1,18 @@
 //! Memory in pages.
 
-ghost use Rattle.std.specs.Prelude.{◌≡◌, ◌≤◌, ◌<◌, ◌+◌, ◌-◌, ◌%◌, ◌++◌, true, None, [], length, take, drop, replicate, map, slice_get, slice_index_or, slice_set, IfOk};
+ghost use Rattle.std.specs.Prelude.{◌≡◌, ◌≤◌, ◌<◌, ◌+◌, ◌-◌, ◌%◌, ◌^◌, ◌++◌, true, None, [], length, take, drop, replicate, map, slice_get, slice_index_or, slice_set, IfOk};
 ghost use Rattle.std.specs.List.{concat};
 ghost use Rattle.std.specs.Vec.{vec_items};
 ghost use Rattle.rmap.specs.Windows.{lies_inside};
 ghost use Rattle.rmap.specs.Checks.{body_line};
 ghost use Rattle.bank.specs.Admission.{IsAdmissible};
-ghost use Rattle.bank.specs.Effect.{IsWithin, memory_at, effect};
+ghost use Rattle.bank.specs.Effect.{IsWithin, memory_at, effect, overlaid};
 ghost use Rattle.bank.specs.Answer.{executed_reply, read_reply};
 ghost use Rattle.bank.specs.Pages.{ArePages, after_page};
 
 use crate::effect::{change, reply_read};
-use rmap::{Command, Kind, MAX_DATA, ReplyBuf, Status, put_reply};
+use crate::reading::Bytes;
+use rmap::{Command, ReplyBuf};
 use std::alloc::{AllocError, Global};
 use std::marker::Model;
 
@@ -90,23 +91,12 @@ impl Pages {
         copy_pages(&mut self.pages, &other.pages);
     }
 
-    /// Executes the command on the memory that begins at the address `first`, and replies with success.
-    pub(crate) fn execute(&mut self, first: u32, command: &Command, reply: &mut ReplyBuf)
-        requires admitted { IsAdmissible command.now }
-        requires body { body_line command.now ≡ None }
-        requires inside { lies_inside first (length self.old) command.now ≡ true }
-        requires range { first + length self.old ≤ 4294967296 }
-        ensures memory { memory_at first self.new ≡ (effect (memory_at first self.old) command.now).memory }
-        ensures reply { reply.new ≡ executed_reply (memory_at first self.old) command.now }
+    /// Puts bytes from that many bytes behind the first on.
+    pub(crate) fn put(&mut self, offset: usize, bytes: &[u8])
+        requires { offset + length bytes.now ≤ length self.old }
+        ensures { self.new ≡ overlaid offset self.old bytes.now }
     {
-        let length = command.length() as usize;
-        match command.kind() {
-            Kind::Read => self.reply_read(reply, command, first, length),
-            Kind::Write => put_reply(reply, command, Status::Success, &[]),
-            Kind::Rmw => self.reply_read(reply, command, first, length / 2),
-            Kind::Unused => unreachable!(),
-        }
-        self.change(first, command);
+        put_bytes(&mut self.pages, offset, bytes);
     }
 
     /// Does what the command does to its bytes, which lie in the memory that begins at the address
@@ -115,7 +105,7 @@ impl Pages {
         requires admitted { IsAdmissible command.now }
         requires body { body_line command.now ≡ None }
         requires inside { lies_inside first (length self.old) command.now ≡ true }
-        requires range { first + length self.old ≤ 4294967296 }
+        requires range { first + length self.old ≤ 2 ^ 32 }
         ensures { memory_at first self.new ≡ (effect (memory_at first self.old) command.now).memory }
     {
         let k = (command.address() - first) as usize / PAGE;
@@ -126,20 +116,12 @@ impl Pages {
             change_page(&mut self.pages, k + 1, address + PAGE as u32, command);
         }
     }
+}
 
-    /// Replies with `count` bytes of the memory that begins at the address `first`: those from the
-    /// command's address on, or the one there again and again.
-    pub(crate) fn reply_read(
-        &self,
-        reply: &mut ReplyBuf,
-        command: &Command,
-        first: u32,
-        count: usize,
-    )
-        requires few { count ≤ MAX_DATA }
-        requires within { IsWithin first (length self.now) command.now count }
-        ensures { reply.new ≡ read_reply (memory_at first self.now) command.now count }
-    {
+impl Bytes for Pages {
+    ghost bytes = { λ p. p };
+
+    fn reply_read(&self, first: u32, command: &Command, count: usize, reply: &mut ReplyBuf) {
         let address = command.address();
         let offset = (address - first) as usize;
         let bytes = self.from(offset);
@@ -218,6 +200,39 @@ fn copy_bytes(page: &mut Vec<u8>, other: &Vec<u8>)
     ensures { page.new.items ≡ other.now.items }
 {
     page.copy_from_slice(other);
+}
+
+/// Puts bytes from that many bytes behind the first on.
+fn put_bytes(pages: &mut Vec<Vec<u8>>, offset: usize, bytes: &[u8])
+    requires pages { ArePages (map vec_items pages.old.items) }
+    requires inside { offset + length bytes.now ≤ length (concat (map vec_items pages.old.items)) }
+    requires few { length (concat (map vec_items pages.old.items)) < 2 ^ 32 }
+    ensures pages { ArePages (map vec_items pages.new.items) }
+    ensures value { concat (map vec_items pages.new.items)
+        ≡ overlaid offset (concat (map vec_items pages.old.items)) bytes.now }
+{
+    for i in 0..bytes.len() {
+        put_byte(pages, offset + i, bytes[i]);
+    }
+}
+
+/// Puts a byte that many bytes behind the first.
+fn put_byte(pages: &mut Vec<Vec<u8>>, offset: usize, byte: u8)
+    requires pages { ArePages (map vec_items pages.old.items) }
+    requires inside { offset < length (concat (map vec_items pages.old.items)) }
+    ensures pages { ArePages (map vec_items pages.new.items) }
+    ensures value { concat (map vec_items pages.new.items)
+        ≡ slice_set (concat (map vec_items pages.old.items)) offset byte }
+{
+    set_byte(&mut pages[offset / PAGE], offset % PAGE, byte);
+}
+
+/// Puts a byte into a page.
+fn set_byte(page: &mut Vec<u8>, at: usize, byte: u8)
+    requires { at < length page.old.items }
+    ensures { page.new.items ≡ slice_set page.old.items at byte }
+{
+    page[at] = byte;
 }
 
 /// Does what the command does to those of its bytes that are in page k, which begins at that address.

@@ -9,7 +9,7 @@ use Rattle.bpf_parts.specs.Codes.{address_subtype, address_first, address_second
 use Rattle.bpf_insn.specs.declared.insn.Insn.{Insn}
 use Rattle.bpf_insn.specs.declared.insn.Insn.TheVariants.{LoadAddress}
 use Rattle.basm_lex.specs.Numbers.{WritesNumber}
-use Rattle.basm_lex.specs.Places.{WritesRegister}
+use Rattle.basm_lex.specs.Operands.{WritesRegister}
 use Rattle.basm.specs.Relation.{Four, WritesOperands}
 use Rattle.bpf_parts.specs.Kinds.{address_of}
 

@@ -1,5 +1,5 @@
 -- What is made of the parts of an image.
-use Rattle.std.proofs.Common.{◌≡◌, ℕ, ◌+◌, ◌≤◌, ◌<◌, Bool, true, false, ◌&&◌, List, [], ◌∷◌, length, Option, Some, None, Result, Ok, Err, inl, inr, refl, sym, ap, ◌∙◌, subst, arith, nat_le, nat_lt}
+use Rattle.std.proofs.Common.{◌≡◌, ℕ, ◌+◌, ◌≤◌, ◌<◌, Bool, true, false, ◌&&◌, List, [], ◌∷◌, length, Option, Some, None, Result, Ok, Err, refl, sym, ap, ◌∙◌, subst, arith, nat_le, nat_lt}
 use Rattle.std.specs.Prelude.{if◌then◌else◌}
 use Rattle.std.specs.List.{flat_map}
 use Rattle.std.specs.List.Sorted.{IsNonDecreasingBy, IsPermutation}
@@ -11,9 +11,10 @@ use Rattle.bpf_insn.specs.declared.insn.Insn.{Insn}
 use Rattle.bpf.specs.declared.fault.ImageFault.{ImageFault}
 use Rattle.bpf.specs.declared.fault.ImageFault.TheVariants as faults
 use Rattle.bpf.specs.declared.loops.Loop.{Loop}
+use Rattle.bpf.specs.declared.version.Version.{Version}
 use Rattle.bpf.specs.Parts.{parts_fault, parts_reading, placed_slots, unless}
-use Rattle.bpf.specs.Program.{AreLoops, IsBudget, IsLoop, IsProgram, IsSlotCount, IsVersion, Program, program}
-use Rattle.bpf.specs.Reading.{Fails, are_loops, is_budget, is_count, is_loop, is_version}
+use Rattle.bpf.specs.Program.{AreLoops, IsBudget, IsLoop, IsProgram, IsSlotCount, Program, program}
+use Rattle.bpf.specs.Reading.{Fails, are_loops, is_budget, is_count, is_loop}
 use Rattle.basm.specs.declared.faults.AsmFault.{AsmFault}
 use Rattle.basm.specs.declared.draft.Draft.{Draft}
 use Rattle.basm.specs.Draft.{IsImageOf}
@@ -52,22 +53,17 @@ loops_hold slots least [] loops = refl
 loops_hold slots least (l ∷ ls) loops =
     and_both _ _ (and_both _ _ (le_holds least l.head loops.0) (loop_holds slots l loops.1)) (loops_hold slots (l.head + 1) ls loops.2)
 
-version_holds : (version : ℕ) → IsVersion version → is_version version ≡ true
-version_holds version (inl first) = rw first refl
-version_holds version (inr second) = rw second refl
-
-no_fault : (version slots budget : ℕ) (loops : List Loop) → IsVersion version → IsSlotCount slots → length loops ≤ 8 → IsBudget budget → AreLoops slots 0 loops → parts_fault version slots loops budget ≡ None
+no_fault : (slots budget : ℕ) (loops : List Loop) → IsSlotCount slots → length loops ≤ 8 → IsBudget budget → AreLoops slots 0 loops → parts_fault slots loops budget ≡ None
 unfolding parts_fault
-no_fault version slots budget loops known count few within are =
-    if_true (is_version version) _ _ (version_holds version known)
-    ∙ if_true (is_count (length loops) slots 0) _ _ (count_holds (length loops) slots few count)
+no_fault slots budget loops count few within are =
+    if_true (is_count (length loops) slots 0) _ _ (count_holds (length loops) slots few count)
     ∙ if_true (is_budget budget) _ _ (budget_holds budget within)
     ∙ if_true (are_loops slots 0 loops) _ _ (loops_hold slots 0 loops are)
 
 is_made : (p : Program) (slots : List (Option Insn)) → p.slots ≡ slots → program p.version p.budget p.loops slots ≡ p
 is_made p slots same = ap (λ (s : List (Option Insn)). program p.version p.budget p.loops s) (sym same)
 
-same_version : (declared : List ℕ) (m n : ℕ) → IsVersionOf declared m → IsVersionOf declared n → m ≡ n
+same_version : (declared : List Version) (m n : Version) → IsVersionOf declared m → IsVersionOf declared n → m ≡ n
 same_version [] m n first second = first ∙ sym second
 same_version (v ∷ []) m n first second = first ∙ sym second
 same_version (v ∷ w ∷ more) m n first second = absurd first
@@ -76,12 +72,12 @@ same_version (v ∷ w ∷ more) m n first second = absurd first
 pub program_made : (p : Program) (insns : List Insn) → IsProgram p → p.slots ≡ flat_map placed_slots insns → parts_reading p.version insns p.loops p.budget ≡ Ok p
 program_made p insns is code =
     let slots = flat_map placed_slots insns in
-    let fault : parts_fault p.version (length slots) p.loops p.budget ≡ None =
-    ap (λ (s : List (Option Insn)). parts_fault p.version (length s) p.loops p.budget) (sym code) ∙ no_fault p.version (length p.slots) p.budget p.loops is.version is.slots is.few_loops is.budget is.loops in
+    let fault : parts_fault (length slots) p.loops p.budget ≡ None =
+    ap (λ (s : List (Option Insn)). parts_fault (length s) p.loops p.budget) (sym code) ∙ no_fault (length p.slots) p.budget p.loops is.slots is.few_loops is.budget is.loops in
     ap (λ (f : Option ImageFault). unless f (program p.version p.budget p.loops slots)) fault ∙ ap (λ (q : Program). Ok q) (is_made p slots code)
 
 -- where parts have an image, nothing is wrong with them once their loops are sorted
-pub image_reading : (parts : Draft) (sorted : List Loop) (version budget : ℕ) (p : Program) → IsVersionOf (option_to_list parts.version) version → parts.budget ≡ Some budget → IsPermutation parts.loops.items sorted → IsNonDecreasingBy (λ l. l.head) sorted → IsImageOf parts p
+pub image_reading : (parts : Draft) (sorted : List Loop) (version : Version) (budget : ℕ) (p : Program) → IsVersionOf (option_to_list parts.version) version → parts.budget ≡ Some budget → IsPermutation parts.loops.items sorted → IsNonDecreasingBy (λ l. l.head) sorted → IsImageOf parts p
     → parts_reading version parts.insns.items sorted budget ≡ Ok p
 image_reading parts sorted version budget p says declared moved heads image =
     let loops = sorted_loops (length p.slots) parts.loops.items sorted p.loops moved heads image.loops image.program.loops in
@@ -89,7 +85,7 @@ image_reading parts sorted version budget p says declared moved heads image =
     let same_one : version ≡ p.version = same_version (option_to_list parts.version) version p.version says image.version in
     ap (λ (ls : List Loop). parts_reading version parts.insns.items ls budget) loops
     ∙ ap (λ (n : ℕ). parts_reading version parts.insns.items p.loops n) same
-    ∙ ap (λ (v : ℕ). parts_reading v parts.insns.items p.loops p.budget) same_one
+    ∙ ap (λ (v : Version). parts_reading v parts.insns.items p.loops p.budget) same_one
     ∙ program_made p parts.insns.items image.program image.code
 
 only_memory : (fault : ImageFault) (p : Program) → Fails fault (Ok p) → fault ≡ faults.Memory

@@ -5,7 +5,7 @@ use Rattle.std.specs.Int.{w16, w32}
 use Rattle.std.specs.declared.result.Result.{Result}
 use Rattle.bpf_parts.specs.declared.operation.Operand.{Operand}
 use Rattle.bpf_parts.specs.declared.operation.Operand.TheVariants.{FromRegister, Immediate}
-use Rattle.bpf_parts.specs.declared.memory.Place.{Place}
+use Rattle.bpf_parts.specs.declared.memory.MemoryOperand.{MemoryOperand}
 use Rattle.bpf_parts.specs.declared.address.Address.{Address}
 use Rattle.bpf_parts.specs.declared.distance.Distance.TheVariants.{Short, Long}
 use Rattle.bpf_insn.specs.declared.insn.Insn.{Insn}
@@ -13,7 +13,7 @@ use Rattle.bpf_insn.specs.declared.insn.Insn.TheVariants.{Alu, Negate, MoveSigne
 use Rattle.bpf_parts.specs.Codes.{address_subtype, address_first, address_second}
 use Rattle.bpf_insn.specs.Text.{insn_name}
 use Rattle.basm_lex.specs.Numbers.{WritesNumber, WritesWide}
-use Rattle.basm_lex.specs.Places.{WritesPlace, WritesRegister}
+use Rattle.basm_lex.specs.Operands.{WritesMemoryOperand, WritesRegister}
 use Rattle.basm_lex.specs.declared.mnemonics.Mnemonic.{Mnemonic}
 use Rattle.basm_lex.specs.declared.mnemonics.Mnemonic.TheVariants.{Arithmetic, Negation, SignedMove, Swapping, Loading, Storing, StoringRegister, Jumping, ShortGoto, LongGoto, WideLoad, MapLoad, AddressLoad, Calling, Exiting}
 use Rattle.basm_lex.specs.Mnemonics.{mnemonic_word}
@@ -60,9 +60,9 @@ module _ {E : Type 0} (names : List ℕ → Option ℕ) (slot : ℕ) (xs : List 
   Reads (Negation width) = (dst : ℕ) → One xs (λ a. WritesRegister a dst) → r ≡ Ok (Negate width dst)
   Reads (SignedMove extension) = (dst src : ℕ) → Two xs (λ a. WritesRegister a dst) (λ b. WritesRegister b src) → r ≡ Ok (MoveSigned extension dst src)
   Reads (Swapping swap bits) = (dst : ℕ) → One xs (λ a. WritesRegister a dst) → r ≡ Ok (ByteSwap swap bits dst)
-  Reads (Loading size) = (dst : ℕ) (place : Place) → Two xs (λ a. WritesRegister a dst) (λ b. WritesPlace b place) → r ≡ Ok (Load size dst place)
-  Reads (Storing size) = (place : Place) (value : ℤ) → Two xs (λ a. WritesPlace a place) (λ b. WritesNumber b value) → r ≡ Ok (Store size place (Immediate value))
-  Reads (StoringRegister size) = (place : Place) (src : ℕ) → Two xs (λ a. WritesPlace a place) (λ b. WritesRegister b src) → r ≡ Ok (Store size place (FromRegister src))
+  Reads (Loading size) = (dst : ℕ) (place : MemoryOperand) → Two xs (λ a. WritesRegister a dst) (λ b. WritesMemoryOperand b place) → r ≡ Ok (Load size dst place)
+  Reads (Storing size) = (place : MemoryOperand) (value : ℤ) → Two xs (λ a. WritesMemoryOperand a place) (λ b. WritesNumber b value) → r ≡ Ok (Store size place (Immediate value))
+  Reads (StoringRegister size) = (place : MemoryOperand) (src : ℕ) → Two xs (λ a. WritesMemoryOperand a place) (λ b. WritesRegister b src) → r ≡ Ok (Store size place (FromRegister src))
   Reads (Jumping condition width) = (dst : ℕ) (src : Operand) (offset : ℤ) → Three xs (λ a. WritesRegister a dst) (λ b. WritesOperand b src) (λ c. WritesTarget names slot c offset × FitsSigned w16 offset) → r ≡ Ok (Jump (record { condition = condition; width = width; dst = dst; src = src }) offset)
   Reads ShortGoto = (offset : ℤ) → One xs (λ a. WritesTarget names slot a offset × FitsSigned w16 offset) → r ≡ Ok (Goto (Short offset))
   Reads LongGoto = (slots : ℤ) → One xs (λ a. WritesTarget names slot a slots × FitsSigned w32 slots) → r ≡ Ok (Goto (Long slots))

@@ -12,7 +12,7 @@ use Rattle.bpf_insn.specs.Spelling.{second_immediate, slots_in as immediate_slot
 use Rattle.basm_lex.specs.Lines.{IsLabel, code_of, without_trailing_spaces, is_semicolon, is_space, operands_of, rest_of, without_leading_spaces, trimmed_text, trailing_part, word_of}
 use Rattle.basm.specs.declared.draft.Draft.{Draft}
 use Rattle.basm.specs.Draft.{AddsItem, AddsLine, ArePartsOf, SayParts, WritesLoop, slots_of_items}
-use Rattle.basm.specs.Relation.{Item, Nothing, Label, Version, Budget, OneLoop, Code, AreLines, Four, IsLine, WritesInsn, budget_in, insn_in, loop_in, slots_in, version_in}
+use Rattle.basm.specs.Relation.{Item, Nothing, Label, OneVersion, Budget, OneLoop, Code, AreLines, Four, IsLine, WritesInsn, budget_in, insn_in, loop_in, slots_in, version_in}
 
 pub not_nil : {X : Type 0} (c : X) (cs : List X) → c ∷ cs ≡ [] → ⊥
 not_nil c cs same = cc
@@ -157,7 +157,7 @@ pub slots_are : (items : List Item) → length (flat_map placed_slots (flat_map 
 slots_are [] = refl
 slots_are (Nothing ∷ items) = slots_are items ∙ omega arith
 slots_are (Label name ∷ items) = slots_are items ∙ omega arith
-slots_are (Version n ∷ items) = slots_are items ∙ omega arith
+slots_are (OneVersion version ∷ items) = slots_are items ∙ omega arith
 slots_are (Budget n ∷ items) = slots_are items ∙ omega arith
 slots_are (OneLoop l ∷ items) = slots_are items ∙ omega arith
 slots_are (Code insn ∷ items) = omega (arith, length-append (placed_slots insn) (flat_map placed_slots (flat_map insn_in items)), slots_placed insn, slots_are items)

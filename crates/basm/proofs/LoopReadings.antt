@@ -8,7 +8,7 @@ use Rattle.bpf.specs.declared.loops.Loop.{Loop}
 use Rattle.bpf.specs.Program.{IsLoop}
 use Rattle.basm_lex.specs.Names.{is_name, is_name_byte}
 use Rattle.basm_lex.specs.Numbers.{IsDecimal, WritesNumber}
-use Rattle.basm_lex.specs.Places.{WritesRegister}
+use Rattle.basm_lex.specs.Operands.{WritesRegister}
 use Rattle.basm.specs.Relation.{Four, WritesEnd}
 use Rattle.basm.proofs.OperandReadings.{both_of, one_value}
 

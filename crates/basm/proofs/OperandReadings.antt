@@ -9,7 +9,7 @@ use Rattle.bpf_parts.specs.declared.memory.Size.{Size}
 use Rattle.bpf_parts.specs.declared.operation.Operand.TheVariants.{FromRegister, Immediate}
 use Rattle.bpf_insn.specs.declared.insn.Insn.{Insn}
 use Rattle.bpf_insn.specs.declared.insn.Insn.TheVariants.{Store}
-use Rattle.bpf_parts.specs.declared.memory.Place.{Place}
+use Rattle.bpf_parts.specs.declared.memory.MemoryOperand.{MemoryOperand}
 use Rattle.basm.specs.Relation.{Four, Three, Two, texts}
 
 two_at : {X : Type 0} (text : X → List ℕ) (xs : List X) (d : X) (P Q : List ℕ → Type 0) → Two (map text xs) P Q → P (text (get_or xs 0 d)) × Q (text (get_or xs 1 d))
@@ -77,12 +77,12 @@ unfolding value_in
 one_value x y same = ap (value_in x) same
 
 -- a store to the place that is read
-pub stored_number : {E : Type 0} (size : Size) (x : Place) (read : ℤ) (place : Place) (value : ℤ) → ◌≡◌ {A = Result (Place × ℤ) E} (Ok (x, read)) (Ok (place, value))
+pub stored_number : {E : Type 0} (size : Size) (x : MemoryOperand) (read : ℤ) (place : MemoryOperand) (value : ℤ) → ◌≡◌ {A = Result (MemoryOperand × ℤ) E} (Ok (x, read)) (Ok (place, value))
     → ◌≡◌ {A = Result Insn E} (Ok (Store size x (Immediate read))) (Ok (Store size place (Immediate value)))
 stored_number size x read place value same =
     ap (λ pair. Ok (Store size pair.0 (Immediate pair.1))) (one_value (x, read) (place, value) same)
 
-pub stored_register : {E : Type 0} (size : Size) (x : Place) (read : ℕ) (place : Place) (src : ℕ) → ◌≡◌ {A = Result (Place × ℕ) E} (Ok (x, read)) (Ok (place, src))
+pub stored_register : {E : Type 0} (size : Size) (x : MemoryOperand) (read : ℕ) (place : MemoryOperand) (src : ℕ) → ◌≡◌ {A = Result (MemoryOperand × ℕ) E} (Ok (x, read)) (Ok (place, src))
     → ◌≡◌ {A = Result Insn E} (Ok (Store size x (FromRegister read))) (Ok (Store size place (FromRegister src)))
 stored_register size x read place src same =
     ap (λ pair. Ok (Store size pair.0 (FromRegister pair.1))) (one_value (x, read) (place, src) same)

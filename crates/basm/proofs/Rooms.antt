@@ -12,12 +12,13 @@ use Rattle.std.proofs.lemmas.List.Sorted.{All-permutation, IsPermutation-sym, le
 use Rattle.std.proofs.lemmas.List.Sums.{sum_by-append, sum_by-cons}
 use Rattle.bpf.specs.declared.loops.Loop.{Loop}
 use Rattle.bpf.specs.Parts.{placed_slots}
-use Rattle.bpf.specs.Program.{AreLoops, IsLoop, IsProgram, IsVersion, Program}
+use Rattle.bpf.specs.Program.{AreLoops, IsLoop, IsProgram, Program}
+use Rattle.bpf.specs.declared.version.Version.{Version}
 use Rattle.basm.specs.declared.draft.Draft.{Draft}
 use Rattle.basm.specs.declared.survey.Survey.{Survey}
 use Rattle.basm.specs.Names.{slot_named}
 use Rattle.basm.specs.Draft.{AddsItem, ArePartsOf, HasRoom, IsImageOf, SurveysText, has_head, slots_of_items}
-use Rattle.basm.specs.Relation.{AreLines, Budget, Code, IsLine, IsText, IsVersionOf, Item, Label, Nothing, OneLoop, Version, budget_in, loop_in, slots_in, version_in}
+use Rattle.basm.specs.Relation.{AreLines, Budget, Code, IsLine, IsText, IsVersionOf, Item, Label, Nothing, OneLoop, OneVersion, budget_in, loop_in, slots_in, version_in}
 use Rattle.basm.proofs.Items.{not_nil, parts_push, slots_are}
 
 -- ---- how many loops have a head
@@ -64,7 +65,7 @@ only_one : {X : Type 0} (xs : List X) (x : X) (ys : List X) (y : X) → xs ++ x 
 only_one [] x ys y same = (refl, cc)
 only_one (z ∷ xs) x ys y same = absurd (omega (arith, ap length same, length-append xs (x ∷ ys)))
 
-only_version : (xs : List ℕ) (n : ℕ) (ys : List ℕ) (version : ℕ) → IsVersionOf (xs ++ n ∷ ys) version → (xs ≡ []) × (version ≡ n)
+only_version : (xs : List Version) (n : Version) (ys : List Version) (version : Version) → IsVersionOf (xs ++ n ∷ ys) version → (xs ≡ []) × (version ≡ n)
 only_version [] n [] version says = (refl, says)
 only_version [] n (m ∷ ys) version says = absurd says
 only_version (x ∷ []) n ys version says = absurd says
@@ -89,11 +90,10 @@ room_for : (before after : List Item) (item : Item) (p : Program) (parts : Draft
     → slots_of_items (before ++ item ∷ after) ≡ length p.slots → IsProgram p → ArePartsOf before parts → HasRoom (length p.slots) item parts
 room_for before after Nothing p parts version budget loops slots is are = tt
 room_for before after (Label name) p parts version budget loops slots is are = tt
-room_for before after (Version n) p parts version budget loops slots is are =
-    let P : List ℕ → Type 0 = λ declared. IsVersionOf declared p.version in
-    let cut = only_version (flat_map version_in before) n (flat_map version_in after) p.version (subst P (flat_map-append version_in before (Version n ∷ after)) version) in
-    let Q : ℕ → Type 0 = IsVersion in
-    (subst Q cut.1 is.version, none_from_list parts.version (are.version ∙ cut.0))
+room_for before after (OneVersion version) p parts says budget loops slots is are =
+    let P : List Version → Type 0 = λ declared. IsVersionOf declared p.version in
+    let cut = only_version (flat_map version_in before) version (flat_map version_in after) p.version (subst P (flat_map-append version_in before (OneVersion version ∷ after)) says) in
+    none_from_list parts.version (are.version ∙ cut.0)
 room_for before after (Budget n) p parts version budget loops slots is are =
     let cut = only_one (flat_map budget_in before) n (flat_map budget_in after) p.budget (sym (flat_map-append budget_in before (Budget n ∷ after)) ∙ budget) in
     let P : ℕ → Type 0 = λ n. (1 ≤ n) × (n ≤ 65536) in
@@ -192,7 +192,7 @@ some_from_list (Some y) x same = cc
 pub image_of : {text : List ℕ} {p : Program} (t : IsText text p) (parts : Draft) → ArePartsOf t.items parts → IsImageOf parts p
 image_of {p} t parts are =
     let P : List Loop → Type 0 = λ ls. IsPermutation ls p.loops in
-    let Q : List ℕ → Type 0 = λ declared. IsVersionOf declared p.version in
+    let Q : List Version → Type 0 = λ declared. IsVersionOf declared p.version in
     record {
       program = t.program;
       version = subst Q (sym are.version) t.version;

@@ -15,7 +15,8 @@ use Rattle.basm.specs.declared.survey.Survey.{Survey}
 use Rattle.basm.specs.Draft.{IsImageOf, SayParts, SurveysText, slots_of_items}
 use Rattle.basm.specs.Labels.{IsSurvey, lone_label, declares_budget, label_in, label_of, named_slot, labels_from, slot_after, slots_from, slots_beside, word_slots}
 use Rattle.basm.specs.Names.{slot_named}
-use Rattle.basm.specs.Relation.{budget_in, AreApart, Defines, AreLines, Budget, Code, IsLine, IsText, IsVersionOf, Item, Label, Nothing, OneLoop, Version, name_of, names_from, slots_in}
+use Rattle.bpf.specs.declared.version.Version.{Version}
+use Rattle.basm.specs.Relation.{budget_in, AreApart, Defines, AreLines, Budget, Code, IsLine, IsText, IsVersionOf, Item, Label, Nothing, OneLoop, OneVersion, name_of, names_from, slots_in}
 use Rattle.basm.proofs.Items.{not_nil, slots_are}
 use Rattle.basm.proofs.Lookups.{slot_named-Defines}
 use Rattle.basm.proofs.Surveys.{label_named}
@@ -51,7 +52,7 @@ other_word slot slots word takes = rw takes.no_label (refl, takes.slots_are)
 line_says : AreNamed → (names : List ℕ → Option ℕ) (slot : ℕ) (line : List ℕ) (item : Item) → IsLine names slot line item → SaysWord slot (name_of slot item) (slots_in item) (word_of line)
 line_says named names slot line Nothing says = let P : List ℕ → Type 0 = SaysWord slot [] 0 in subst P (sym says.0) (no_word slot)
 line_says named names slot line (Label name) says = label_word slot (word_of line) name (label_named (word_of line) name says.0 says.1)
-line_says named names slot line (Version n) says = let P : List ℕ → Type 0 = SaysWord slot [] 0 in subst P (sym says.0) (version_word slot)
+line_says named names slot line (OneVersion version) says = let P : List ℕ → Type 0 = SaysWord slot [] 0 in subst P (sym says.0) (version_word slot)
 line_says named names slot line (Budget n) says = let P : List ℕ → Type 0 = SaysWord slot [] 0 in subst P (sym says.0) (budget_word slot)
 line_says named names slot line (OneLoop l) says = let P : List ℕ → Type 0 = SaysWord slot [] 0 in subst P (sym says.0) (loop_word slot)
 line_says named names slot line (Code insn) says =
@@ -72,7 +73,7 @@ unlabelled slot word pairs slots says none = at (label_of word) (says.0 ∙ none
 label_same : AreNamed → (names : List ℕ → Option ℕ) (slot : ℕ) (line : List ℕ) (item : Item) → IsLine names slot line item → label_in line ≡ label_of (word_of line)
 label_same named names slot line Nothing says = rw says.1 refl
 label_same named names slot line (Label name) says = rw says.2 refl
-label_same named names slot line (Version n) says = unless_none _ _ (unlabelled slot _ _ _ (line_says named names slot line (Version n) says) refl)
+label_same named names slot line (OneVersion version) says = unless_none _ _ (unlabelled slot _ _ _ (line_says named names slot line (OneVersion version) says) refl)
 label_same named names slot line (Budget n) says = unless_none _ _ (unlabelled slot _ _ _ (line_says named names slot line (Budget n) says) refl)
 label_same named names slot line (OneLoop l) says = unless_none _ _ (unlabelled slot _ _ _ (line_says named names slot line (OneLoop l) says) refl)
 label_same named names slot line (Code insn) says = unless_none _ _ (unlabelled slot _ _ _ (line_says named names slot line (Code insn) says) refl)
@@ -101,7 +102,7 @@ text_is named text survey parts p is unrepeated say image =
     let P : List (List ℕ × ℕ) → Type 0 = AreApart in
     let apart : AreApart (names_from 0 say.items) = subst P labels (is.apart.0 unrepeated) in
     let Q : List Loop → Type 0 = λ ls. IsPermutation ls p.loops in
-    let R : List ℕ → Type 0 = λ declared. IsVersionOf declared p.version in
+    let R : List Version → Type 0 = λ declared. IsVersionOf declared p.version in
     record {
       items = say.items;
       names = slot_named survey.names;
@@ -136,7 +137,7 @@ declared names slot [] (item ∷ items) n ns says budget = absurd says
 declared names slot (line ∷ lines) [] n ns says budget = absurd says
 declared names slot (line ∷ lines) (Nothing ∷ items) n ns says budget = or_right (declares_budget line) _ (declared names (slot + 0) lines items n ns says.1 budget)
 declared names slot (line ∷ lines) (Label name ∷ items) n ns says budget = or_right (declares_budget line) _ (declared names (slot + 0) lines items n ns says.1 budget)
-declared names slot (line ∷ lines) (Version m ∷ items) n ns says budget = or_right (declares_budget line) _ (declared names (slot + 0) lines items n ns says.1 budget)
+declared names slot (line ∷ lines) (OneVersion version ∷ items) n ns says budget = or_right (declares_budget line) _ (declared names (slot + 0) lines items n ns says.1 budget)
 declared names slot (line ∷ lines) (Budget m ∷ items) n ns says budget = or_left (declares_budget line) _ ((bytes_eq-Decides (word_of line) (codes ".budget")).1 says.0.0)
 declared names slot (line ∷ lines) (OneLoop l ∷ items) n ns says budget = or_right (declares_budget line) _ (declared names (slot + 0) lines items n ns says.1 budget)
 declared names slot (line ∷ lines) (Code insn ∷ items) n ns says budget = or_right (declares_budget line) _ (declared names (slot + slots_in (Code insn)) lines items n ns says.1 budget)

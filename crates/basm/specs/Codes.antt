@@ -3,7 +3,8 @@ use Rattle.std.specs.Prelude.{ℕ, nat_lt, if◌then◌else◌, ◌==◌, Option
 use Rattle.basm_lex.specs.declared.numbers.NumberFault.{NumberFault}
 use Rattle.basm_lex.specs.declared.numbers.NumberFault.TheVariants.{Form, Range}
 use Rattle.basm.specs.declared.faults.AsmCode.{AsmCode}
-use Rattle.basm.specs.declared.faults.AsmCode.TheVariants.{BadWord, BadOperand, BadNumber, BadLabel, Reach, TooMany, BadBudget, BadLoop, Memory, BadVersion}
+use Rattle.basm.specs.declared.faults.AsmCode.TheVariants.{BadWord, BadOperand, BadNumber, BadLabel, Reach, TooMany}
+use Rattle.basm.specs.declared.faults.AsmCode.TheVariants.{BadBudget, BadLoop, Memory, BadVersion}
 
 -- the number of a fault
 abbrev pub asm_code : AsmCode → ℕ

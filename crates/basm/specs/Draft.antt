@@ -1,21 +1,24 @@
 -- The parts of an image that the lines so far declare, and what an item adds to them.
-use Rattle.std.specs.Prelude.{◌≡◌, ℕ, ◌+◌, ◌≤◌, ◌<◌, ◌==◌, Bool, true, false, List, ◌∷◌, [], ◌++◌, length, pos, Option, Some, None, Result, MatchResult}
+use Rattle.std.specs.Prelude.{◌≡◌, ℕ, ◌+◌, ◌≤◌, ◌<◌, ◌==◌, Bool, true, false, List, ◌∷◌, [], ◌++◌, length, pos}
+use Rattle.std.specs.Prelude.{Option, Some, None, Result, MatchResult}
 use Rattle.std.specs.Option.{option_to_list}
 use Rattle.std.specs.List.{flat_map, list_any}
 use Rattle.std.specs.List.Sorted.{IsPermutation}
 use Rattle.bpf.specs.Parts.{placed_slots}
+use Rattle.bpf.specs.declared.header.TheConstants.{MAX_LOOPS, MAX_SLOTS}
 use Rattle.bpf.specs.declared.loops.Loop.{Loop}
-use Rattle.bpf.specs.Program.{Program, IsBudget, IsLoop, IsProgram, IsVersion}
+use Rattle.bpf.specs.Program.{Program, IsBudget, IsLoop, IsProgram}
 use Rattle.bpf_insn.specs.declared.insn.Insn.{Insn}
 use Rattle.bpf_insn.specs.Spelling.{slots_of}
 use Rattle.basm_lex.specs.Numbers.{WritesNumber}
-use Rattle.basm_lex.specs.Places.{WritesRegister}
+use Rattle.basm_lex.specs.Operands.{WritesRegister}
 use Rattle.basm.specs.declared.faults.AsmCode.{AsmCode}
 use Rattle.basm.specs.declared.faults.AsmCode.TheVariants.{Memory}
 use Rattle.basm.specs.declared.draft.Draft.{Draft}
 use Rattle.basm.specs.declared.survey.Survey.{Survey}
 use Rattle.basm.specs.Names.{slot_named}
-use Rattle.basm.specs.Relation.{Four, Item, Nothing, Label, Version, Budget, OneLoop, Code, AreLines, IsLine, IsText, IsVersionOf, WritesEnd, version_in, budget_in, loop_in, insn_in, slots_in}
+use Rattle.basm.specs.Relation.{Four, Item, Nothing, Label, OneVersion, Budget, OneLoop, Code, AreLines, IsLine}
+use Rattle.basm.specs.Relation.{IsText, IsVersionOf, WritesEnd, version_in, budget_in, loop_in, insn_in, slots_in}
 
 -- the slots that the names of a text stand for, as its survey found them
 abbrev pub names_in : Survey → List ℕ → Option ℕ
@@ -24,13 +27,14 @@ names_in survey = slot_named survey.names
 -- the operands of `.loop` write the loop
 abbrev pub WritesLoop : (names : List ℕ → Option ℕ) → List (List ℕ) → Loop → Type 0
 WritesLoop names xs l =
-    Four xs (λ a. WritesEnd names a l.head) (λ b. WritesEnd names b l.back) (λ c. WritesNumber c (pos l.bound)) (λ d. WritesRegister d l.register)
+    Four xs (λ a. WritesEnd names a l.head) (λ b. WritesEnd names b l.back) (λ c. WritesNumber c (pos l.bound))
+    (λ d. WritesRegister d l.register)
 
--- the instruction is appended, and there are at most 512 slots after it
+-- the instruction is appended, and there are at most `MAX_SLOTS` slots after it
 pub record PushesInsn (old new : List Insn) (slot : ℕ) (insn : Insn) (after : ℕ) : Type 0 where
   pub pushed : new ≡ old ++ insn ∷ []
   pub next : after ≡ slot + slots_of insn
-  pub few : after ≤ 512
+  pub few : after ≤ MAX_SLOTS
 
 -- the item is added behind the others
 pub record AddsItem (item : Item) (old new : Draft) : Type 0 where
@@ -52,18 +56,19 @@ has_head head loops = list_any (λ l. l.head == head) loops
 abbrev pub HasRoom : (slots : ℕ) → Item → Draft → Type 0
 HasRoom slots Nothing parts = Unit {0}
 HasRoom slots (Label name) parts = Unit {0}
-HasRoom slots (Version n) parts = IsVersion n × (parts.version ≡ None)
+HasRoom slots (OneVersion version) parts = parts.version ≡ None
 HasRoom slots (Budget n) parts = IsBudget n × (parts.budget ≡ None)
 HasRoom slots (OneLoop l) parts =
-    IsLoop slots l × (slots ≤ 512) × (has_head l.head parts.loops.items ≡ false) × (length parts.loops.items < 8)
-HasRoom slots (Code insn) parts = parts.slots + slots_of insn ≤ 512
+    IsLoop slots l × (slots ≤ MAX_SLOTS) × (has_head l.head parts.loops.items ≡ false)
+    × (length parts.loops.items < MAX_LOOPS)
+HasRoom slots (Code insn) parts = parts.slots + slots_of insn ≤ MAX_SLOTS
 
 -- what the line says was added
 pub record AddsLine (names : List ℕ → Option ℕ) (line : List ℕ) (old new : Draft) : Type 0 where
   pub item : Item
   pub says : IsLine names old.slots line item
   pub adds : AddsItem item old new
-  pub few : old.slots ≤ 512 → new.slots ≤ 512
+  pub few : old.slots ≤ MAX_SLOTS → new.slots ≤ MAX_SLOTS
 
 -- how many slots the items take
 abbrev pub slots_of_items : List Item → ℕ
@@ -83,7 +88,7 @@ pub record SayParts (names : List ℕ → Option ℕ) (lines : List (List ℕ)) 
   pub items : List Item
   pub says : AreLines names 0 lines items
   pub parts_of : ArePartsOf items parts
-  pub few : parts.slots ≤ 512
+  pub few : parts.slots ≤ MAX_SLOTS
 
 -- the image of the parts, its loops by rising head
 pub record IsImageOf (parts : Draft) (p : Program) : Type 0 where

@@ -4,8 +4,11 @@ use Rattle.bpf.specs.declared.fault.ImageFault.{ImageFault}
 use Rattle.bpf.specs.declared.fault.ImageFault.TheVariants as image
 use Rattle.bpf.specs.Program.{Program}
 use Rattle.basm.specs.declared.faults.AsmCode.{AsmCode}
-use Rattle.basm.specs.declared.faults.AsmCode.TheVariants.{BadWord, BadOperand, BadNumber, BadLabel, Reach, TooMany, BadBudget, BadLoop, Memory, BadVersion}
+use Rattle.basm.specs.declared.faults.AsmCode.TheVariants.{BadWord, BadOperand, BadNumber, BadLabel, Reach, TooMany}
+use Rattle.basm.specs.declared.faults.AsmCode.TheVariants.{BadBudget, BadLoop, Memory, BadVersion}
 use Rattle.basm.specs.declared.faults.AsmFault.{AsmFault}
+
+-- ---- the statement
 
 -- a fault of the whole text
 abbrev pub text_fault : AsmCode → AsmFault
@@ -14,6 +17,12 @@ text_fault code = record { line = 0; code = code }
 -- want of memory, which is no line's
 abbrev pub out_of_memory : AsmFault
 out_of_memory = text_fault Memory
+
+-- the image, unless memory was refused
+abbrev pub Makes : Program → Result Program AsmFault → Type 0
+Makes p result = MatchResult result (λ made. made ≡ p) (λ fault. fault ≡ out_of_memory)
+
+-- ---- what else contracts and proofs say
 
 -- a fault of a line
 abbrev pub line_fault : ℕ → AsmCode → AsmFault
@@ -38,7 +47,3 @@ image_code image.Budget = BadBudget
 image_code image.Loop = BadLoop
 image_code (image.Insn slot fault) = TooMany
 image_code image.Memory = Memory
-
--- the image, unless memory was refused
-abbrev pub Makes : Program → Result Program AsmFault → Type 0
-Makes p result = MatchResult result (λ made. made ≡ p) (λ fault. fault ≡ out_of_memory)

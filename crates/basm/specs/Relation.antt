@@ -1,5 +1,6 @@
 -- The text relation: when lines stand to an image.
-use Rattle.std.specs.Prelude.{◌≡◌, ◌≢◌, ◌↔◌, ◌⊎◌, ℕ, ◌+◌, ℤ, pos, ◌-ℤ◌, List, [], ◌∷◌, ◌++◌, codes, Option, Some, FitsSigned}
+use Rattle.std.specs.Prelude.{◌≡◌, ◌≢◌, ◌↔◌, ◌⊎◌, ℕ, ◌+◌, ℤ, pos, ◌-ℤ◌, List, [], ◌∷◌, ◌++◌, codes, Option, Some}
+use Rattle.std.specs.Prelude.{FitsSigned}
 use Rattle.std.specs.Int.{w16, w32}
 use Rattle.std.specs.List.{flat_map}
 use Rattle.std.specs.List.Sorted.{IsPermutation}
@@ -7,18 +8,22 @@ use Rattle.bpf_parts.specs.declared.operation.Operand.{Operand}
 use Rattle.bpf_parts.specs.declared.operation.Operand.TheVariants.{FromRegister, Immediate}
 use Rattle.bpf_parts.specs.declared.distance.Distance.TheVariants.{Short, Long}
 use Rattle.bpf_insn.specs.declared.insn.Insn.{Insn}
-use Rattle.bpf_insn.specs.declared.insn.Insn.TheVariants.{Alu, Negate, MoveSigned, ByteSwap, Load, Store, Jump, Goto, Wide, LoadMap, LoadAddress, Call, Exit}
+use Rattle.bpf_insn.specs.declared.insn.Insn.TheVariants.{Alu, Negate, MoveSigned, ByteSwap, Load, Store, Jump, Goto}
+use Rattle.bpf_insn.specs.declared.insn.Insn.TheVariants.{Wide, LoadMap, LoadAddress, Call, Exit}
 use Rattle.bpf_parts.specs.Codes.{address_subtype, address_first, address_second}
 use Rattle.bpf_insn.specs.Spelling.{slots_of}
 use Rattle.bpf_insn.specs.Text.{insn_name}
 use Rattle.bpf.specs.declared.loops.Loop.{Loop}
+use Rattle.bpf.specs.declared.version.Version.{Version}
+use Rattle.bpf.specs.declared.version.Version.TheVariants as versions
 use Rattle.bpf.specs.Parts.{placed_slots}
 use Rattle.bpf.specs.Program.{Program, IsProgram}
+use Rattle.bpf.specs.Version.{version_number}
 use Rattle.basm_lex.specs.Lines.{IsLabel, operands_of, word_of}
 pub use Rattle.basm_lex.specs.Lines.{pieces_of, texts}
 use Rattle.basm_lex.specs.Names.{IsName}
 use Rattle.basm_lex.specs.Numbers.{WritesDistance, WritesNumber, WritesWide}
-use Rattle.basm_lex.specs.Places.{WritesPlace, WritesRegister}
+use Rattle.basm_lex.specs.Operands.{WritesMemoryOperand, WritesRegister}
 
 -- ---- one word
 
@@ -73,25 +78,31 @@ Four (a ∷ xs) P Q R S = P a × Three xs Q R S
 abbrev pub WritesOperands : (names : List ℕ → Option ℕ) (slot : ℕ) → List (List ℕ) → Insn → Type 0
 WritesOperands names slot xs (Alu op width dst src) = Two xs (λ a. WritesRegister a dst) (λ b. WritesOperand b src)
 WritesOperands names slot xs (Negate width dst) = One xs (λ a. WritesRegister a dst)
-WritesOperands names slot xs (MoveSigned extension dst src) = Two xs (λ a. WritesRegister a dst) (λ b. WritesRegister b src)
+WritesOperands names slot xs (MoveSigned extension dst src) =
+    Two xs (λ a. WritesRegister a dst) (λ b. WritesRegister b src)
 WritesOperands names slot xs (ByteSwap swap bits dst) = One xs (λ a. WritesRegister a dst)
-WritesOperands names slot xs (Load size dst place) = Two xs (λ a. WritesRegister a dst) (λ b. WritesPlace b place)
-WritesOperands names slot xs (Store size place src) = Two xs (λ a. WritesPlace a place) (λ b. WritesOperand b src)
+WritesOperands names slot xs (Load size dst place) =
+    Two xs (λ a. WritesRegister a dst) (λ b. WritesMemoryOperand b place)
+WritesOperands names slot xs (Store size place src) =
+    Two xs (λ a. WritesMemoryOperand a place) (λ b. WritesOperand b src)
 WritesOperands names slot xs (Jump comparison offset) =
-    Three xs (λ a. WritesRegister a comparison.dst) (λ b. WritesOperand b comparison.src) (λ c. WritesShortTarget names slot c offset)
+    Three xs (λ a. WritesRegister a comparison.dst) (λ b. WritesOperand b comparison.src)
+    (λ c. WritesShortTarget names slot c offset)
 WritesOperands names slot xs (Goto (Short offset)) = One xs (λ a. WritesShortTarget names slot a offset)
 WritesOperands names slot xs (Goto (Long distance)) = One xs (λ a. WritesLongTarget names slot a distance)
 WritesOperands names slot xs (Wide dst value) = Two xs (λ a. WritesRegister a dst) (λ b. WritesWide b value)
 WritesOperands names slot xs (LoadMap dst index) = Two xs (λ a. WritesRegister a dst) (λ b. WritesNumber b index)
 WritesOperands names slot xs (LoadAddress dst address) =
-    Four xs (λ a. WritesNumber a (pos (address_subtype address))) (λ b. WritesRegister b dst) (λ c. WritesNumber c (address_first address)) (λ d. WritesNumber d (address_second address))
+    Four xs (λ a. WritesNumber a (pos (address_subtype address))) (λ b. WritesRegister b dst)
+    (λ c. WritesNumber c (address_first address)) (λ d. WritesNumber d (address_second address))
 WritesOperands names slot xs (Call callee number) = One xs (λ a. WritesNumber a number)
 WritesOperands names slot xs Exit = xs ≡ []
 
 -- a word and operands write the instruction
-pub record WritesInsn (names : List ℕ → Option ℕ) (slot : ℕ) (word : List ℕ) (xs : List (List ℕ)) (insn : Insn) : Type 0 where
-  pub name : word ≡ insn_name insn
-  pub operands : WritesOperands names slot xs insn
+pub record WritesInsn (names : List ℕ → Option ℕ) (slot : ℕ) (word : List ℕ) (xs : List (List ℕ)) (insn : Insn) : Type 0
+  where
+    pub name : word ≡ insn_name insn
+    pub operands : WritesOperands names slot xs insn
 
 -- ---- lines
 
@@ -103,7 +114,7 @@ WritesEnd names word slot = (IsName word × (names word ≡ Some slot)) ⊎ Writ
 pub data Item : Type 0 where
   Nothing : Item
   Label : List ℕ → Item
-  Version : ℕ → Item
+  OneVersion : Version → Item
   Budget : ℕ → Item
   OneLoop : Loop → Item
   Code : Insn → Item
@@ -112,7 +123,7 @@ pub data Item : Type 0 where
 abbrev pub slots_in : Item → ℕ
 slots_in Nothing = 0
 slots_in (Label name) = 0
-slots_in (Version n) = 0
+slots_in (OneVersion version) = 0
 slots_in (Budget n) = 0
 slots_in (OneLoop l) = 0
 slots_in (Code insn) = slots_of insn
@@ -121,11 +132,14 @@ slots_in (Code insn) = slots_of insn
 abbrev pub IsLine : (names : List ℕ → Option ℕ) (slot : ℕ) → List ℕ → Item → Type 0
 IsLine names slot line Nothing = (word_of line ≡ []) × (operands_of line ≡ [])
 IsLine names slot line (Label name) = IsLabel line name
-IsLine names slot line (Version n) = (word_of line ≡ codes ".version") × One (operands_of line) (λ a. WritesNumber a (pos n))
-IsLine names slot line (Budget n) = (word_of line ≡ codes ".budget") × One (operands_of line) (λ a. WritesNumber a (pos n))
+IsLine names slot line (OneVersion version) =
+    (word_of line ≡ codes ".version") × One (operands_of line) (λ a. WritesNumber a (pos (version_number version)))
+IsLine names slot line (Budget n) =
+    (word_of line ≡ codes ".budget") × One (operands_of line) (λ a. WritesNumber a (pos n))
 IsLine names slot line (OneLoop l) =
     (word_of line ≡ codes ".loop")
-    × Four (operands_of line) (λ a. WritesEnd names a l.head) (λ b. WritesEnd names b l.back) (λ c. WritesNumber c (pos l.bound)) (λ d. WritesRegister d l.register)
+    × Four (operands_of line) (λ a. WritesEnd names a l.head) (λ b. WritesEnd names b l.back)
+    (λ c. WritesNumber c (pos l.bound)) (λ d. WritesRegister d l.register)
 IsLine names slot line (Code insn) = WritesInsn names slot (word_of line) (operands_of line) insn
 
 -- the lines say these items, each at the slot that the items before it leave
@@ -133,7 +147,8 @@ abbrev pub AreLines : (names : List ℕ → Option ℕ) (slot : ℕ) → List (L
 AreLines names slot [] [] = Unit {0}
 AreLines names slot [] (item ∷ items) = ⊥
 AreLines names slot (line ∷ lines) [] = ⊥
-AreLines names slot (line ∷ lines) (item ∷ items) = IsLine names slot line item × AreLines names (slot + slots_in item) lines items
+AreLines names slot (line ∷ lines) (item ∷ items) =
+    IsLine names slot line item × AreLines names (slot + slots_in item) lines items
 
 -- ---- the whole text
 
@@ -141,7 +156,7 @@ AreLines names slot (line ∷ lines) (item ∷ items) = IsLine names slot line i
 abbrev pub name_of : ℕ → Item → List (List ℕ × ℕ)
 name_of slot Nothing = []
 name_of slot (Label name) = (name, slot) ∷ []
-name_of slot (Version n) = []
+name_of slot (OneVersion version) = []
 name_of slot (Budget n) = []
 name_of slot (OneLoop l) = []
 name_of slot (Code insn) = []
@@ -152,25 +167,25 @@ names_from slot [] = []
 names_from slot (item ∷ items) = name_of slot item ++ names_from (slot + slots_in item) items
 
 -- the version that a line declares, if it does
-abbrev pub version_in : Item → List ℕ
+abbrev pub version_in : Item → List Version
 version_in Nothing = []
 version_in (Label name) = []
-version_in (Version n) = n ∷ []
+version_in (OneVersion version) = version ∷ []
 version_in (Budget n) = []
 version_in (OneLoop l) = []
 version_in (Code insn) = []
 
 -- the version of a text that declares these versions: the only one, and 1 where there is none
-abbrev pub IsVersionOf : List ℕ → ℕ → Type 0
-IsVersionOf [] version = version ≡ 1
-IsVersionOf (n ∷ []) version = version ≡ n
-IsVersionOf (n ∷ m ∷ more) version = ⊥
+abbrev pub IsVersionOf : List Version → Version → Type 0
+IsVersionOf [] version = version ≡ versions.One
+IsVersionOf (declared ∷ []) version = version ≡ declared
+IsVersionOf (declared ∷ second ∷ more) version = ⊥
 
 -- the budget that a line declares, if it does
 abbrev pub budget_in : Item → List ℕ
 budget_in Nothing = []
 budget_in (Label name) = []
-budget_in (Version n) = []
+budget_in (OneVersion version) = []
 budget_in (Budget n) = n ∷ []
 budget_in (OneLoop l) = []
 budget_in (Code insn) = []
@@ -179,7 +194,7 @@ budget_in (Code insn) = []
 abbrev pub loop_in : Item → List Loop
 loop_in Nothing = []
 loop_in (Label name) = []
-loop_in (Version n) = []
+loop_in (OneVersion version) = []
 loop_in (Budget n) = []
 loop_in (OneLoop l) = l ∷ []
 loop_in (Code insn) = []
@@ -188,7 +203,7 @@ loop_in (Code insn) = []
 abbrev pub insn_in : Item → List Insn
 insn_in Nothing = []
 insn_in (Label name) = []
-insn_in (Version n) = []
+insn_in (OneVersion version) = []
 insn_in (Budget n) = []
 insn_in (OneLoop l) = []
 insn_in (Code insn) = insn ∷ []

@@ -2,7 +2,9 @@
 
 ghost use Rattle.std.specs.Prelude.{◌≡◌, ◌≤◌, ◌<◌, ℕ, ℤ, pos, IfOk};
 ghost use Rattle.basm_lex.specs.Numbers.{WritesNumber};
-ghost use Rattle.bpf.specs.Program.{IsBudget, IsLoop, IsVersion};
+ghost use Rattle.bpf.specs.declared.header.TheConstants.{MAX_SLOTS};
+ghost use Rattle.bpf.specs.Program.{IsBudget, IsLoop};
+ghost use Rattle.bpf.specs.declared.version.Version.{Version as AVersion};
 ghost use Rattle.basm.specs.Draft.{WritesLoop, names_in};
 ghost use Rattle.basm.specs.Names.{slot_named};
 ghost use Rattle.basm.specs.Relation.{WritesEnd, texts};
@@ -13,23 +15,20 @@ use crate::instructions::reg;
 use crate::names::Names;
 use crate::survey::Survey;
 use basm_lex::{NumberFault, is_name, number};
-use bpf::{Loop, MAX_SLOTS, is_budget, is_version};
+use bpf::{Loop, MAX_SLOTS, Version, is_budget};
 
 /// The version that the operands of `.version` declare.
-pub fn read_version(operands: &[&str]) -> Result<u8, AsmCode>
+pub fn read_version(operands: &[&str]) -> Result<Version, AsmCode>
     ensures writes { IfOk result (WritesVersion operands.now) }
-    ensures exact { (n : ℕ) → IsVersion n → WritesVersion operands.now n → result ≡ Ok n }
+    ensures exact { (version : AVersion) → WritesVersion operands.now version
+        → result ≡ Ok version }
 {
-    let [version] = operands else {
+    let [number] = operands else {
         return Err(AsmCode::BadOperand);
     };
-    let version = field(version, AsmCode::BadVersion)?;
-    let version = u8::try_from(version).map_err(|_| AsmCode::BadVersion)?;
-    if is_version(version) {
-        Ok(version)
-    } else {
-        Err(AsmCode::BadVersion)
-    }
+    let number = field(number, AsmCode::BadVersion)?;
+    let number = u8::try_from(number).map_err(|_| AsmCode::BadVersion)?;
+    Version::from_number(number).ok_or(AsmCode::BadVersion)
 }
 
 /// The budget that the operands of `.budget` declare.
@@ -51,7 +50,7 @@ pub fn read_budget(operands: &[&str]) -> Result<u32, AsmCode>
 /// The loop that the operands of `.loop` declare.
 pub fn read_loop(operands: &[&str], survey: &Survey) -> Result<Loop, AsmCode>
     ensures writes { IfOk result (WritesLoop (names_in survey.now) (texts operands.now)) }
-    ensures exact { (l : Loop) → IsLoop survey.now.slots l → survey.now.slots ≤ 512
+    ensures exact { (l : Loop) → IsLoop survey.now.slots l → survey.now.slots ≤ MAX_SLOTS
         → WritesLoop (names_in survey.now) (texts operands.now) l → result ≡ Ok l }
 {
     let [head, back, bound, counter] = operands else {
@@ -87,7 +86,7 @@ fn field(word: &str, out_of_range: AsmCode) -> Result<i32, AsmCode>
 
 /// The slots of the program, where an image may have so many.
 fn most_slots(survey: &Survey) -> u16
-    ensures { survey.now.slots ≤ 512 → result ≡ survey.now.slots }
+    ensures { survey.now.slots ≤ MAX_SLOTS → result ≡ survey.now.slots }
 {
     survey.slots.min(u32::from(MAX_SLOTS)) as u16
 }

@@ -8,7 +8,7 @@ ghost use Rattle.basm.specs.Printed.{budget_line, loop_line, printed_image, slot
 ghost use Rattle.basm.specs.Relation.{IsText};
 
 use basm_lex::printed_words;
-use bpf::{Image, Loop};
+use bpf::{Image, Loop, Version};
 use bpf_insn::Insn;
 use std::alloc::{AllocError, Global};
 use std::fmt::Write;
@@ -42,13 +42,16 @@ fn print_image(alloc: Global, image: &Image) -> Result<String, AllocError>
     Ok(text)
 }
 
-fn print_version(text: &mut String, version: u8) -> Result<(), AllocError>
+fn print_version(text: &mut String, version: Version) -> Result<(), AllocError>
     ensures { OnOk result (string_bytes text.new ≡ string_bytes text.old ++ version_line version) }
 {
-    if version == 1 {
-        return Ok(());
+    match version {
+        Version::One => Ok(()),
+        Version::Two => {
+            let number = version.number();
+            writeln!(text, ".version {number}")
+        }
     }
-    writeln!(text, ".version {version}")
 }
 
 fn print_budget(text: &mut String, budget: u32) -> Result<(), AllocError>

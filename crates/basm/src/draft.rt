@@ -2,15 +2,17 @@
 
 ghost use Rattle.std.specs.Prelude.{◌≡◌, ◌+◌, ◌≤◌, ◌<◌, [], ℕ, List, length, None, IfOk};
 ghost use Rattle.std.specs.Option.{option_to_list};
+ghost use Rattle.bpf.specs.declared.header.TheConstants.{MAX_LOOPS, MAX_SLOTS};
 ghost use Rattle.bpf.specs.declared.loops.Loop.{Loop as ALoop};
-ghost use Rattle.bpf.specs.Program.{IsBudget, IsVersion, Program};
+ghost use Rattle.bpf.specs.declared.version.Version.{Version as AVersion};
+ghost use Rattle.bpf.specs.Program.{IsBudget, Program};
 ghost use Rattle.bpf_insn.specs.declared.insn.Insn.{Insn as AnInsn};
 ghost use Rattle.bpf_insn.specs.Spelling.{slots_of};
 ghost use Rattle.basm_lex.specs.Lines.{IsLabel};
 ghost use Rattle.basm.specs.Draft.{AddsLine, ArePartsOf, HasRoom, IsImageOf, WritesLoop, has_head, names_in};
 ghost use Rattle.basm_lex.specs.Mnemonics.{mnemonic_word};
 ghost use Rattle.basm.specs.Outcomes.{Makes};
-ghost use Rattle.basm.specs.Relation.{Budget, Code, IsLine, IsVersionOf, Item, OneLoop, Version, WritesInsn, texts};
+ghost use Rattle.basm.specs.Relation.{Budget, Code, IsLine, IsVersionOf, Item, OneLoop, OneVersion, WritesInsn, texts};
 ghost use Rattle.basm.specs.Readers.{WritesBudget, WritesVersion};
 ghost use Rattle.basm.specs.Additions.{AddsBudget, AddsInsn, AddsLoop, AddsVersion, IsAdded};
 
@@ -19,14 +21,14 @@ use crate::faults::{AsmCode, AsmFault, both};
 use crate::instructions::add_insn;
 use crate::survey::Survey;
 use basm_lex::{Mnemonic, label, read_mnemonic, read_statement};
-use bpf::{Image, Loop, MAX_LOOPS};
+use bpf::{Image, Loop, MAX_LOOPS, Version};
 use bpf_insn::Insn;
 use std::alloc::Global;
 
 /// The parts of an image that the lines so far declare.
 #[derive(Drop)]
 pub struct Draft {
-    version: Option<u8>,
+    version: Option<Version>,
     budget: Option<u32>,
     /// In the order of their lines.
     loops: Vec<Loop>,
@@ -74,9 +76,8 @@ impl Draft {
 
     fn add_version(&mut self, operands: &[&str]) -> Result<(), AsmCode>
         ensures adds { IfOk result (λ _. AddsVersion operands.now self.old self.new) }
-        ensures exact { (n : ℕ) → WritesVersion operands.now n
-            → IsVersion n → self.old.version ≡ None
-            → IsAdded (Version n) self.old self.new result }
+        ensures exact { (version : AVersion) → WritesVersion operands.now version
+            → self.old.version ≡ None → IsAdded (OneVersion version) self.old self.new result }
     {
         let version = read_version(operands)?;
         if self.version.is_some() {
@@ -123,7 +124,7 @@ impl Draft {
     }
 
     fn loop_room(&self) -> Result<(), AsmCode>
-        ensures { length self.now.loops.items < 8 → result ≡ Ok tt }
+        ensures { length self.now.loops.items < MAX_LOOPS → result ≡ Ok tt }
     {
         if self.loops.len() < MAX_LOOPS {
             Ok(())
@@ -142,20 +143,20 @@ impl Draft {
             (λ _. AddsInsn (names_in survey.now) found operands.now self.old self.new) }
         ensures exact { (insn : AnInsn)
             → WritesInsn (names_in survey.now) self.old.slots (mnemonic_word found)
-            (texts operands.now) insn → self.old.slots + slots_of insn ≤ 512
+            (texts operands.now) insn → self.old.slots + slots_of insn ≤ MAX_SLOTS
             → IsAdded (Code insn) self.old self.new result }
     {
         self.slots = add_insn(&mut self.insns, found, operands, &survey.names, self.slots)?;
         Ok(())
     }
 
-    /// The version that is declared, and 1 where none is.
-    fn version(&self) -> u8
+    /// The version that is declared, and the first where none is.
+    fn version(&self) -> Version
         ensures { IsVersionOf (option_to_list self.now.version) result }
     {
         match self.version {
             Some(version) => version,
-            None => 1,
+            None => Version::One,
         }
     }
 

@@ -48,7 +48,8 @@ Compare the fields with the slots of the text.";
 const BAD_VERSION: &str = "\
 A text declares at most once which version of the format its image has: a line `.version N` with N 1 or 2. Without
 it the version is 1.
-Keep one such line; version 2 is for programs that load from the stack what they have stored there.";
+Keep one such line; in version 2 a number that is loaded from the stack has the range with which it was stored,
+and there is helper 3.";
 
 const MEMORY: &str = "\
 The process was refused memory while the text was assembled.

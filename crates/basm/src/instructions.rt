@@ -3,9 +3,10 @@
 ghost use Rattle.std.specs.Prelude.{◌≡◌, ◌+◌, ◌≤◌, [], ℕ, ℤ, Option, pos, IfOk, IfSome};
 ghost use Rattle.bpf_parts.specs.Codes.{address_first, address_second, address_subtype};
 ghost use Rattle.bpf_insn.specs.declared.insn.Insn.{Insn as AnInsn};
+ghost use Rattle.bpf.specs.declared.header.TheConstants.{MAX_SLOTS};
 ghost use Rattle.bpf_insn.specs.Spelling.{slots_of};
 ghost use Rattle.basm_lex.specs.Numbers.{WritesNumber};
-ghost use Rattle.basm_lex.specs.Places.{WritesPlace, WritesRegister};
+ghost use Rattle.basm_lex.specs.Operands.{WritesMemoryOperand, WritesRegister};
 ghost use Rattle.basm.specs.Draft.{PushesInsn, UnlessMemory};
 ghost use Rattle.basm_lex.specs.Mnemonics.{mnemonic_word};
 ghost use Rattle.basm.specs.Names.{slot_named};
@@ -16,11 +17,11 @@ ghost use Rattle.basm.specs.Additions.{AppendsInsn};
 use crate::faults::{AsmCode, both};
 use crate::names::Names;
 use crate::targets::{read_long_target, read_short_target};
-use basm_lex::{Mnemonic, mnemonic_laws, number, read_place, register, wide_number};
+use basm_lex::{Mnemonic, mnemonic_laws, number, read_memory_operand, register, wide_number};
 use bpf::MAX_SLOTS;
 use bpf_insn::{
-    Address, AluOp, Callee, Comparison, Condition, Distance, Extension, Insn, LoadSize, Operand,
-    Place, Register, Size, Swap, SwapBits, Width,
+    Address, AluOp, Callee, Comparison, Condition, Distance, Extension, Insn, LoadSize,
+    MemoryOperand, Operand, Register, Size, Swap, SwapBits, Width,
 };
 
 /// Appends the instruction of this name with these operands, at the slot, and gives the slot after it.
@@ -36,7 +37,7 @@ pub fn add_insn(
         insns.old.items insns.new.items) }
     ensures exact { (insn : AnInsn)
         → WritesInsn (slot_named names.now) slot (mnemonic_word found) (texts operands.now) insn
-        → slot + slots_of insn ≤ 512
+        → slot + slots_of insn ≤ MAX_SLOTS
         → UnlessMemory result (PushesInsn insns.old.items insns.new.items slot insn) }
 {
     match read_insn(found, operands, names, slot) {
@@ -47,7 +48,7 @@ pub fn add_insn(
 
 fn push_insn(insns: &mut Vec<Insn>, slot: u32, insn: &Insn) -> Result<u32, AsmCode>
     ensures pushes { IfOk result (PushesInsn insns.old.items insns.new.items slot insn.now) }
-    ensures exact { slot + slots_of insn.now ≤ 512 → UnlessMemory result (λ _. Unit {0}) }
+    ensures exact { slot + slots_of insn.now ≤ MAX_SLOTS → UnlessMemory result (λ _. Unit {0}) }
 {
     let after = slot_after(slot, insn)?;
     // `push` of an instruction is not covered by the toolchain's borrow checker today.
@@ -56,8 +57,9 @@ fn push_insn(insns: &mut Vec<Insn>, slot: u32, insn: &Insn) -> Result<u32, AsmCo
 }
 
 fn slot_after(slot: u32, insn: &Insn) -> Result<u32, AsmCode>
-    ensures after { IfOk result (λ after. (after ≡ slot + slots_of insn.now) × (after ≤ 512)) }
-    ensures exact { slot + slots_of insn.now ≤ 512 → result ≡ Ok (slot + slots_of insn.now) }
+    ensures after { IfOk result
+        (λ after. (after ≡ slot + slots_of insn.now) × (after ≤ MAX_SLOTS)) }
+    ensures exact { slot + slots_of insn.now ≤ MAX_SLOTS → result ≡ Ok (slot + slots_of insn.now) }
 {
     let after = slot.saturating_add(u32::from(insn.slots()));
     if after > u32::from(MAX_SLOTS) {
@@ -109,11 +111,12 @@ fn immediate(word: &str) -> Result<i32, AsmCode>
     Ok(number(word)?)
 }
 
-fn memory(word: &str) -> Result<Place, AsmCode>
-    ensures writes { IfOk result (WritesPlace word.now) }
-    ensures exact { (place : Place) → WritesPlace word.now place → result ≡ Ok place }
+fn memory(word: &str) -> Result<MemoryOperand, AsmCode>
+    ensures writes { IfOk result (WritesMemoryOperand word.now) }
+    ensures exact { (place : MemoryOperand) → WritesMemoryOperand word.now place
+        → result ≡ Ok place }
 {
-    Ok(read_place(word)?)
+    Ok(read_memory_operand(word)?)
 }
 
 /// A register or a number.
@@ -183,7 +186,7 @@ fn byte_swap(swap: Swap, bits: SwapBits, operands: &[&str]) -> Result<Insn, AsmC
 
 fn load(size: LoadSize, operands: &[&str]) -> Result<Insn, AsmCode>
     ensures writes { Reads (Mnemonic.Loading size) operands.now result }
-    ensures exact { (dst : ℕ) (place : Place)
+    ensures exact { (dst : ℕ) (place : MemoryOperand)
         → IsRead operands.now (Insn.Load size dst place) result }
 {
     let [dst, place] = operands else {
@@ -195,7 +198,7 @@ fn load(size: LoadSize, operands: &[&str]) -> Result<Insn, AsmCode>
 
 fn store(size: Size, operands: &[&str]) -> Result<Insn, AsmCode>
     ensures writes { Reads (Mnemonic.Storing size) operands.now result }
-    ensures exact { (place : Place) (value : ℤ)
+    ensures exact { (place : MemoryOperand) (value : ℤ)
         → IsRead operands.now (Insn.Store size place (Operand.Immediate value)) result }
 {
     let [place, src] = operands else {
@@ -208,7 +211,7 @@ fn store(size: Size, operands: &[&str]) -> Result<Insn, AsmCode>
 
 fn store_register(size: Size, operands: &[&str]) -> Result<Insn, AsmCode>
     ensures writes { Reads (Mnemonic.StoringRegister size) operands.now result }
-    ensures exact { (place : Place) (src : ℕ)
+    ensures exact { (place : MemoryOperand) (src : ℕ)
         → IsRead operands.now (Insn.Store size place (Operand.FromRegister src)) result }
 {
     let [place, src] = operands else {

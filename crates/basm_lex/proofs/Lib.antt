@@ -1,8 +1,8 @@
 pub mod Spaces
 pub mod RegisterTexts
 pub mod Decimals
-pub mod PlaceTexts
-pub mod PlaceReadings
+pub mod MemoryOperandTexts
+pub mod MemoryOperandReadings
 pub mod Readings
 pub mod MnemonicWords
 pub mod WordSearch

@@ -3,7 +3,7 @@ use Rattle.std.proofs.Common.{◌≡◌, ℕ, zero, suc, ◌-◌, ◌≤◌, Lis
 use Rattle.std.specs.Prelude.{◌≢◌, codes}
 use Rattle.std.specs.Fmt.{digits}
 use Rattle.bpf_parts.specs.Text.{register_text}
-use Rattle.basm_lex.specs.Places.{WritesRegister}
+use Rattle.basm_lex.specs.Operands.{WritesRegister}
 
 pub text_0 : register_text 0 ≡ codes "r0"
 unfolding digits

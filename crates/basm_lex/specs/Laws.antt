@@ -3,16 +3,16 @@ use Rattle.std.specs.Prelude.{◌≡◌, ◌≤◌, ◌<◌, ◌^◌, ◌++◌, 
 use Rattle.std.specs.Fmt.{signed_decimal}
 use Rattle.std.specs.Int.{w16, w32}
 use Rattle.bpf_insn.specs.declared.insn.Insn.{Insn}
-use Rattle.bpf_parts.specs.declared.memory.Place.{Place}
+use Rattle.bpf_parts.specs.declared.memory.MemoryOperand.{MemoryOperand}
 use Rattle.bpf_insn.specs.Spelling.{IsInsn}
 use Rattle.bpf_insn.specs.Text.{bits_text, insn_name, insn_operands, name_with_operands}
-use Rattle.bpf_parts.specs.Text.{place_text, register_text, signed_text}
+use Rattle.bpf_parts.specs.Text.{memory_operand_text, register_text, signed_text}
 use Rattle.basm_lex.specs.Lines.{operands_of, pieces_of, word_of}
 use Rattle.basm_lex.specs.Numbers.{WritesDistance, WritesNumber, WritesWide}
-use Rattle.basm_lex.specs.Places.{WritesPlace}
+use Rattle.basm_lex.specs.Operands.{WritesMemoryOperand}
 use Rattle.basm_lex.specs.Printed.{AreWords, IsWord}
 
--- ---- printed numbers, distances, places and constants write what they are
+-- ---- printed numbers, distances, memory operands and constants write what they are
 
 -- a printed number without a sign writes the number
 abbrev pub NumbersAreWritten : Type 0
@@ -26,11 +26,11 @@ SignedAreWritten = (z : ℤ) → FitsSigned w32 z → WritesNumber (signed_decim
 abbrev pub DistancesAreWritten : Type 0
 DistancesAreWritten = (z : ℤ) → FitsSigned w32 z → WritesDistance (signed_text z) z
 
--- a printed place in memory writes the place
-abbrev pub PlacesAreWritten : Type 0
-PlacesAreWritten =
-    (place : Place) → place.base ≤ 10 → FitsSigned w16 place.offset
-    → WritesPlace (place_text place) place
+-- a printed memory operand writes the memory operand
+abbrev pub MemoryOperandsAreWritten : Type 0
+MemoryOperandsAreWritten =
+    (place : MemoryOperand) → place.base ≤ 10 → FitsSigned w16 place.offset
+    → WritesMemoryOperand (memory_operand_text place) place
 
 -- a printed constant of 64 bits writes the constant
 abbrev pub ConstantsAreWritten : Type 0

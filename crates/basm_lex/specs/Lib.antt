@@ -3,5 +3,5 @@ pub mod Lines
 pub mod Mnemonics
 pub mod Names
 pub mod Numbers
-pub mod Places
+pub mod Operands
 pub mod Printed

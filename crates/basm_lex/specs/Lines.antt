@@ -4,9 +4,7 @@ use Rattle.std.specs.Borrow.{Bor}
 use Rattle.std.specs.List.{before_first, after_first, slice_split}
 use Rattle.basm_lex.specs.Names.{IsName}
 
--- the texts of words that are lent
-abbrev pub texts : List (Bor (List ℕ)) → List (List ℕ)
-texts words = map (λ word. word.now) words
+-- ---- the statement
 
 -- the lines of a text: what stands between its line feeds (10)
 abbrev pub pieces_of : List ℕ → List (List ℕ)
@@ -67,6 +65,12 @@ operands_of line = parts_between_commas (rest_of line)
 -- the line is the label of the name, with nothing behind it
 abbrev pub IsLabel : List ℕ → List ℕ → Type 0
 IsLabel line name = IsName name × (word_of line ≡ name ++ codes ":") × (operands_of line ≡ [])
+
+-- ---- what else contracts and proofs say
+
+-- the texts of words that are lent
+abbrev pub texts : List (Bor (List ℕ)) → List (List ℕ)
+texts words = map (λ word. word.now) words
 
 -- the line is no label
 abbrev pub IsNoLabel : List ℕ → Type 0

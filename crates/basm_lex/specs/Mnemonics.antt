@@ -2,9 +2,13 @@
 use Rattle.std.specs.Prelude.{ℕ, List, ◌++◌, Option, codes}
 use Rattle.std.specs.List.{find}
 use Rattle.std.specs.Str.{bytes_eq}
-use Rattle.bpf_parts.specs.Text.{alu_name, callee_name, condition_name, extension_name, load_suffix, store_suffix, swap_bits_name, swap_name, width_suffix}
+use Rattle.bpf_parts.specs.Text.{alu_name, callee_name, condition_name, extension_name, load_suffix, store_suffix}
+use Rattle.bpf_parts.specs.Text.{swap_bits_name, swap_name, width_suffix}
 use Rattle.basm_lex.specs.declared.mnemonics.Mnemonic.{Mnemonic}
-use Rattle.basm_lex.specs.declared.mnemonics.Mnemonic.TheVariants.{Arithmetic, Negation, SignedMove, Swapping, Loading, Storing, StoringRegister, Jumping, ShortGoto, LongGoto, WideLoad, MapLoad, AddressLoad, Calling, Exiting}
+use Rattle.basm_lex.specs.declared.mnemonics.Mnemonic.TheVariants.{Arithmetic, Negation, SignedMove, Swapping}
+use Rattle.basm_lex.specs.declared.mnemonics.Mnemonic.TheVariants.{Loading, Storing, StoringRegister, Jumping}
+use Rattle.basm_lex.specs.declared.mnemonics.Mnemonic.TheVariants.{ShortGoto, LongGoto, WideLoad, MapLoad}
+use Rattle.basm_lex.specs.declared.mnemonics.Mnemonic.TheVariants.{AddressLoad, Calling, Exiting}
 use Rattle.basm_lex.specs.declared.mnemonics.TheConstants.{MNEMONICS}
 
 -- the word of a mnemonic

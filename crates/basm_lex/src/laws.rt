@@ -1,14 +1,14 @@
 //! Laws of printed words.
 
-ghost use Rattle.basm_lex.specs.Laws.{ConstantsAreWritten, DistancesAreWritten, FirstIsTheName, IsOneLine, NamesAreWords, NumbersAreWords, NumbersAreWritten, OperandsAreWords, PlacesAreWritten, RegistersAreWords, RestAreTheOperands, SignedAreWritten};
+ghost use Rattle.basm_lex.specs.Laws.{ConstantsAreWritten, DistancesAreWritten, FirstIsTheName, IsOneLine, NamesAreWords, NumbersAreWords, NumbersAreWritten, OperandsAreWords, MemoryOperandsAreWritten, RegistersAreWords, RestAreTheOperands, SignedAreWritten};
 
 /// What holds of the words that are printed: it does nothing, and its contract is the laws.
 pub fn printed_words()
-    // Printed numbers, distances, places and constants write what they are.
+    // Printed numbers, distances, memory operands and constants write what they are.
     ensures number { NumbersAreWritten }
     ensures signed { SignedAreWritten }
     ensures distance { DistancesAreWritten }
-    ensures place { PlacesAreWritten }
+    ensures place { MemoryOperandsAreWritten }
     ensures constant { ConstantsAreWritten }
 
     // Numbers and registers are words, and so are the name and the operands of an instruction.

@@ -1,7 +1,7 @@
 //! Registers in a text.
 
 ghost use Rattle.std.specs.Prelude.{◌≡◌, ℕ, MatchOption};
-ghost use Rattle.basm_lex.specs.Places.{IsNoRegister, WritesRegister};
+ghost use Rattle.basm_lex.specs.Operands.{IsNoRegister, WritesRegister};
 
 use bpf_insn::Register;
 

@@ -1,5 +1,5 @@
 -- The fault of an instruction that is named stands in the bytes.
-use Rattle.std.proofs.Common.{◌≡◌, ℕ, zero, suc, ◌+◌, ◌*◌, ◌<◌, Bool, true, false, List, [], ◌∷◌, Option, Result, Ok, Err, ◌⊎◌, inl, inr, refl, sym, ap, ◌∙◌, subst, arith, take, drop, slice_index, nat_eq, nat_lt, length, ◌&&◌, IfErr, if◌then◌else◌, lit<}
+use Rattle.std.proofs.Common.{◌≡◌, ℕ, zero, suc, ◌+◌, ◌*◌, ◌<◌, Bool, true, false, List, [], ◌∷◌, Option, Some, None, Result, Ok, Err, ◌⊎◌, inl, inr, refl, sym, ap, ◌∙◌, subst, arith, take, drop, slice_index, nat_eq, nat_lt, length, IfErr, if◌then◌else◌, lit<}
 use Rattle.std.specs.List.{starts_with}
 use Rattle.std.proofs.lemmas.List.{drop-drop}
 use Rattle.bpf_insn.specs.declared.insn.Insn.{Insn}
@@ -8,10 +8,12 @@ use Rattle.bpf_insn.specs.Faults.{IsFault}
 use Rattle.bpf_insn.specs.Reading.{reading}
 use Rattle.bpf.specs.declared.header.Header.{Header}
 use Rattle.bpf.specs.declared.loops.Loop.{Loop}
+use Rattle.bpf.specs.declared.version.Version.{Version}
+use Rattle.bpf.specs.Version.{version_of}
 use Rattle.bpf.specs.declared.fault.ImageFault.{ImageFault}
 use Rattle.bpf.specs.declared.fault.ImageFault.TheVariants as faults
 use Rattle.bpf.specs.Program.{Program, program}
-use Rattle.bpf.specs.Reading.{◌>>=◌, Gives, IsFaultAt, begins_two, bytes_at, counts_reading, slot_result, half_at, is_budget, is_count, is_version, magic, word_at, header_reading, image_reading, are_loops, loop_in, loops_in, loops_reading, slot_in, slot_reading, slots_reading}
+use Rattle.bpf.specs.Reading.{◌>>=◌, Gives, IsFaultAt, begins_two, bytes_at, counts_reading, slot_result, half_at, is_budget, is_count, known_version, magic, word_at, header_reading, version_reading, image_reading, are_loops, loop_in, loops_in, loops_reading, slot_in, slot_reading, slots_reading}
 
 -- the law of `bpf_insn` that is used: a fault that is read stands in the bytes
 abbrev pub IsExplained : Type 0
@@ -32,8 +34,8 @@ abbrev is_counted : List ℕ → Bool
 is_counted bytes = is_count (slice_index bytes 5) (half_at 6 bytes) (word_at 12 bytes)
 
 -- the header in the bytes
-abbrev header_at : List ℕ → Header
-header_at bytes = record { version = slice_index bytes 4; loops = slice_index bytes 5; slots = half_at 6 bytes; budget = word_at 8 bytes }
+abbrev header_at : Version → List ℕ → Header
+header_at version bytes = record { version = version; loops = slice_index bytes 5; slots = half_at 6 bytes; budget = word_at 8 bytes }
 
 declared_no_slot : (a b : Bool) (h : Header) (slot : ℕ) (fault : BadInsn) → (if a then (if b then Ok h else Err faults.Budget) else Err faults.Count) ≡ Err (faults.Insn slot fault) → ⊥
 declared_no_slot true true h slot fault e = cc
@@ -41,16 +43,17 @@ declared_no_slot true false h slot fault e = cc
 declared_no_slot false b h slot fault e = cc
 
 header_no_slot : (bytes : List ℕ) (slot : ℕ) (fault : BadInsn) → header_reading bytes ≡ Err (faults.Insn slot fault) → ⊥
-unfolding header_reading counts_reading
+unfolding header_reading counts_reading version_reading
 header_no_slot bytes slot fault e =
-    by_tests (starts_with nat_eq bytes magic) (nat_lt 4 (length bytes) && is_version (slice_index bytes 4)) (nat_lt (length bytes) 16) (counts_reading bytes)
-    (declared_no_slot (is_counted bytes) (is_budget (word_at 8 bytes)) (header_at bytes) slot fault) e
+    by_tests (starts_with nat_eq bytes magic) (nat_lt (length bytes) 5) (version_of (slice_index bytes 4)) (nat_lt (length bytes) 16) (λ version. counts_reading version bytes)
+    (λ version. declared_no_slot (is_counted bytes) (is_budget (word_at 8 bytes)) (header_at version bytes) slot fault) e
   where
-    by_tests : (a b c : Bool) (r : Result Header ImageFault) → (r ≡ Err (faults.Insn slot fault) → ⊥) → (if a then (if b then (if c then Err faults.Length else r) else Err faults.Version) else Err faults.Magic) ≡ Err (faults.Insn slot fault) → ⊥
-    by_tests true true true r never e = cc
-    by_tests true true false r never e = never e
-    by_tests true false c r never e = cc
-    by_tests false b c r never e = cc
+    by_tests : (a b : Bool) (found : Option Version) (c : Bool) (r : Version → Result Header ImageFault) → ((version : Version) → r version ≡ Err (faults.Insn slot fault) → ⊥) → (if a then ((if b then Err faults.Version else known_version found) >>= (λ version. if c then Err faults.Length else r version)) else Err faults.Magic) ≡ Err (faults.Insn slot fault) → ⊥
+    by_tests true true found c r never e = cc
+    by_tests true false None c r never e = cc
+    by_tests true false (Some version) true r never e = cc
+    by_tests true false (Some version) false r never e = never version e
+    by_tests false b found c r never e = cc
 
 declared_loops : (a b : Bool) (g h : Header) → (if a then (if b then Ok g else Err faults.Budget) else Err faults.Count) ≡ Ok h → g.loops ≡ h.loops
 declared_loops true true g h e =
@@ -61,16 +64,17 @@ declared_loops false b g h e = cc
 
 -- the loops that a header counts
 header_loops : (bytes : List ℕ) (h : Header) → header_reading bytes ≡ Ok h → slice_index bytes 5 ≡ h.loops
-unfolding header_reading counts_reading
+unfolding header_reading counts_reading version_reading
 header_loops bytes h e =
-    by_tests (starts_with nat_eq bytes magic) (nat_lt 4 (length bytes) && is_version (slice_index bytes 4)) (nat_lt (length bytes) 16) (counts_reading bytes)
-    (declared_loops (is_counted bytes) (is_budget (word_at 8 bytes)) (header_at bytes) h) e
+    by_tests (starts_with nat_eq bytes magic) (nat_lt (length bytes) 5) (version_of (slice_index bytes 4)) (nat_lt (length bytes) 16) (λ version. counts_reading version bytes)
+    (λ version. declared_loops (is_counted bytes) (is_budget (word_at 8 bytes)) (header_at version bytes) h) e
   where
-    by_tests : (a b c : Bool) (r : Result Header ImageFault) → (r ≡ Ok h → slice_index bytes 5 ≡ h.loops) → (if a then (if b then (if c then Err faults.Length else r) else Err faults.Version) else Err faults.Magic) ≡ Ok h → slice_index bytes 5 ≡ h.loops
-    by_tests true true true r is e = cc
-    by_tests true true false r is e = is e
-    by_tests true false c r is e = cc
-    by_tests false b c r is e = cc
+    by_tests : (a b : Bool) (found : Option Version) (c : Bool) (r : Version → Result Header ImageFault) → ((version : Version) → r version ≡ Ok h → slice_index bytes 5 ≡ h.loops) → (if a then ((if b then Err faults.Version else known_version found) >>= (λ version. if c then Err faults.Length else r version)) else Err faults.Magic) ≡ Ok h → slice_index bytes 5 ≡ h.loops
+    by_tests true true found c r is e = cc
+    by_tests true false None c r is e = cc
+    by_tests true false (Some version) true r is e = cc
+    by_tests true false (Some version) false r is e = is version e
+    by_tests false b found c r is e = cc
 
 -- ---- loops
 

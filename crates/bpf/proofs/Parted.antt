@@ -7,10 +7,11 @@ use Rattle.bpf_insn.specs.declared.insn.Insn.{Insn}
 use Rattle.bpf_insn.specs.Spelling.{IsInsn, second_immediate}
 use Rattle.bpf.specs.declared.header.Header.{Header}
 use Rattle.bpf.specs.declared.loops.Loop.{Loop}
+use Rattle.bpf.specs.declared.version.Version.{Version}
 use Rattle.bpf.specs.declared.fault.ImageFault.{ImageFault}
 use Rattle.bpf.specs.declared.fault.ImageFault.TheVariants as faults
-use Rattle.bpf.specs.Program.{program, AreLoops, AreSlots, IsBudget, IsLoop, IsProgram, IsSlotCount, IsVersion}
-use Rattle.bpf.specs.Reading.{are_loops, is_budget, is_count, is_loop, is_version}
+use Rattle.bpf.specs.Program.{program, AreLoops, AreSlots, IsBudget, IsLoop, IsProgram, IsSlotCount}
+use Rattle.bpf.specs.Reading.{are_loops, is_budget, is_count, is_loop}
 use Rattle.bpf.proofs.Again.{test_again}
 use Rattle.bpf.specs.Parts.{header_of, parts_fault, placed_slots, second_slots, unless}
 
@@ -46,7 +47,7 @@ long (i ∷ is) =
 -- ---- the tests
 
 -- the header of these parts
-abbrev made : (version : ℕ) → List Insn → List Loop → (budget : ℕ) → Header
+abbrev made : (version : Version) → List Insn → List Loop → (budget : ℕ) → Header
 made version insns loops budget =
     record { version = version; loops = length loops; slots = length (flat_map placed_slots insns); budget = budget }
 
@@ -58,30 +59,21 @@ count_over : (a : Bool) (b c : Bool) → b ≡ false → (a && b && c) ≡ false
 count_over true b c h = rw h refl
 count_over false b c h = refl
 
-if_so : (b : Bool) (x y : Option ImageFault) → b ≡ true → (if b then x else y) ≡ x
-if_so true x y h = refl
-if_so false x y h = cc
-
-pub other_version : (version : ℕ) (insns : List Insn) (loops : List Loop) (budget : ℕ) → is_version version ≡ false → header_of version insns loops budget ≡ Err faults.Version
+pub too_many : (version : Version) (insns : List Insn) (loops : List Loop) (budget : ℕ) → 512 < length insns → header_of version insns loops budget ≡ Err faults.Count
 unfolding parts_fault
-other_version version insns loops budget other =
-    ap (λ (f : Option ImageFault). unless f (made version insns loops budget)) (if_false (is_version version) _ _ other)
-
-pub too_many : (version : ℕ) (insns : List Insn) (loops : List Loop) (budget : ℕ) → is_version version ≡ true → 512 < length insns → header_of version insns loops budget ≡ Err faults.Count
-unfolding parts_fault
-too_many version insns loops budget known h =
+too_many version insns loops budget h =
     let more : 512 < length (flat_map placed_slots insns) = omega (arith, h, long insns) in
     let over : nat_le (length (flat_map placed_slots insns)) 512 ≡ false = grind (arith, nat_tests) in
-    ap (λ (f : Option ImageFault). unless f (made version insns loops budget)) (if_so (is_version version) _ _ known ∙ if_false (is_count (length loops) (length (flat_map placed_slots insns)) 0) _ _ (count_over _ _ _ over))
+    ap (λ (f : Option ImageFault). unless f (made version insns loops budget)) (if_false (is_count (length loops) (length (flat_map placed_slots insns)) 0) _ _ (count_over _ _ _ over))
 
 -- the parts of a header have no fault
 no_fault : {X : Type 0} (f : Option ImageFault) (x y : X) → Ok x ≡ unless f y → f ≡ None
 no_fault None x y h = refl
 no_fault (Some e) x y h = cc
 
-header_made : (version : ℕ) (insns : List Insn) (loops : List Loop) (budget : ℕ) (h : Header) → Ok h ≡ header_of version insns loops budget → parts_fault version (length (flat_map placed_slots insns)) loops budget ≡ None
+header_made : (version : Version) (insns : List Insn) (loops : List Loop) (budget : ℕ) (h : Header) → Ok h ≡ header_of version insns loops budget → parts_fault (length (flat_map placed_slots insns)) loops budget ≡ None
 header_made version insns loops budget h e =
-    no_fault (parts_fault version (length (flat_map placed_slots insns)) loops budget) h (made version insns loops budget) e
+    no_fault (parts_fault (length (flat_map placed_slots insns)) loops budget) h (made version insns loops budget) e
 
 and_true : (a b : Bool) → (a && b) ≡ true → (a ≡ true) × (b ≡ true)
 and_true true b h = (refl, h)
@@ -96,9 +88,6 @@ lt_true a b h = grind (arith, nat_tests)
 none_of : (b : Bool) (x : Option ImageFault) (e : ImageFault) → (if b then x else Some e) ≡ None → (b ≡ true) × (x ≡ None)
 none_of true x e h = (refl, h)
 none_of false x e h = cc
-
-version_kept : (version : ℕ) → is_version version ≡ true → IsVersion version
-version_kept version h = grind (arith, nat_tests)
 
 count_kept : (loops slots : ℕ) → is_count loops slots 0 ≡ true → (loops ≤ 8) × IsSlotCount slots
 count_kept loops slots h =
@@ -127,19 +116,18 @@ loops_kept slots least (l ∷ ls) h =
     let q = and_true _ _ p.0 in
     (le_true _ _ q.0, loop_kept slots l q.1, loops_kept slots (l.head + 1) ls p.1)
 
-kept : (version budget : ℕ) (loops : List Loop) (slots : List (Option Insn)) → parts_fault version (length slots) loops budget ≡ None → AreSlots false slots → IsProgram (program version budget loops slots)
+kept : (version : Version) (budget : ℕ) (loops : List Loop) (slots : List (Option Insn)) → parts_fault (length slots) loops budget ≡ None → AreSlots false slots → IsProgram (program version budget loops slots)
 unfolding parts_fault
 kept version budget loops slots h are =
-    let o = none_of (is_version version) _ _ h in
-    let p = none_of (is_count (length loops) (length slots) 0) _ _ o.1 in
+    let p = none_of (is_count (length loops) (length slots) 0) _ _ h in
     let q = none_of (is_budget budget) _ _ p.1 in
     let r = none_of (are_loops (length slots) 0 loops) _ _ q.1 in
     let counts = count_kept (length loops) (length slots) p.0 in
-    record { version = version_kept version o.0; budget = budget_kept budget q.0; slots = counts.1; few_loops = counts.0; loops = loops_kept (length slots) 0 loops r.0; code = are }
+    record { budget = budget_kept budget q.0; slots = counts.1; few_loops = counts.0; loops = loops_kept (length slots) 0 loops r.0; code = are }
 
-pub parts_kept : (version : ℕ) (insns : List Insn) (given loops : List Loop) (budget : ℕ) (h : Header) (slots : List (Option Insn)) → Ok h ≡ header_of version insns given budget → loops ≡ given → slots ≡ flat_map placed_slots insns → AreSlots false slots → IsProgram (program version budget loops slots)
+pub parts_kept : (version : Version) (insns : List Insn) (given loops : List Loop) (budget : ℕ) (h : Header) (slots : List (Option Insn)) → Ok h ≡ header_of version insns given budget → loops ≡ given → slots ≡ flat_map placed_slots insns → AreSlots false slots → IsProgram (program version budget loops slots)
 parts_kept version insns given loops budget h slots made same is are =
-    kept version budget loops slots (ap (λ (s : List (Option Insn)). parts_fault version (length s) loops budget) is ∙ ap (λ (ls : List Loop). parts_fault version (length (flat_map placed_slots insns)) ls budget) same ∙ header_made version insns given budget h made) are
+    kept version budget loops slots (ap (λ (s : List (Option Insn)). parts_fault (length s) loops budget) is ∙ ap (λ (ls : List Loop). parts_fault (length (flat_map placed_slots insns)) ls budget) same ∙ header_made version insns given budget h made) are
 
 -- ---- a loop that fits
 

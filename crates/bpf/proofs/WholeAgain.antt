@@ -1,13 +1,16 @@
 -- A whole image is read as the program that it spells.
-use Rattle.std.proofs.Common.{◌≡◌, ℕ, ◌+◌, ◌*◌, ◌/◌, ◌%◌, ◌≤◌, ◌<◌, Bool, true, false, List, [], ◌++◌, Option, Ok, inl, inr, refl, sym, ap, ◌∙◌, append_assoc, arith, length, take, nat_lt, nat_le, if◌then◌else◌, length-append}
+use Rattle.std.proofs.Common.{◌≡◌, ℕ, ◌+◌, ◌*◌, ◌/◌, ◌%◌, ◌≤◌, ◌<◌, Bool, true, false, List, [], ◌++◌, Option, Some, Ok, refl, sym, ap, ◌∙◌, append_assoc, arith, length, take, nat_lt, nat_le, if◌then◌else◌, length-append}
 use Rattle.std.proofs.lemmas.Bool.Decides.{nat_tests}
 use Rattle.std.proofs.lemmas.Nat.{from_le_bytes-to_le_bytes_4}
 use Rattle.std.specs.List.{flat_map}
 use Rattle.bpf_insn.specs.declared.insn.Insn.{Insn}
 use Rattle.bpf.specs.declared.header.Header.{Header}
 use Rattle.bpf.specs.declared.loops.Loop.{Loop}
-use Rattle.bpf.specs.Program.{Program, program, IsProgram, IsSlotCount, IsBudget, IsVersion, header_bytes, loop_bytes, slot_bytes, image_bytes}
-use Rattle.bpf.specs.Reading.{is_count, is_budget, is_version, header_reading, counts_reading, image_reading}
+use Rattle.bpf.specs.declared.version.Version.{Version}
+use Rattle.bpf.specs.declared.version.Version.TheVariants.{One, Two}
+use Rattle.bpf.specs.Version.{version_number, version_of}
+use Rattle.bpf.specs.Program.{Program, program, IsProgram, IsSlotCount, IsBudget, header_bytes, loop_bytes, slot_bytes, image_bytes}
+use Rattle.bpf.specs.Reading.{is_count, is_budget, header_reading, known_version, version_reading, counts_reading, image_reading}
 use Rattle.bpf.proofs.Whole.{Cut, is_read}
 use Rattle.bpf.proofs.Again.{IsRead, slots_again, slots_length, loops_again, loops_length, half_again, drop_front, take_front}
 
@@ -22,9 +25,9 @@ if_false : {X : Type 0} (b : Bool) (x y : X) → b ≡ false → (if b then x el
 if_false true x y h = cc
 if_false false x y h = refl
 
-version_again : (version : ℕ) → IsVersion version → is_version version ≡ true
-version_again version (inl one) = rw one refl
-version_again version (inr two) = rw two refl
+number_again : (version : Version) → version_of (version_number version) ≡ Some version
+number_again One = refl
+number_again Two = refl
 
 count_again : (loops slots : ℕ) → loops ≤ 8 → IsSlotCount slots → is_count loops slots 0 ≡ true
 count_again loops slots few many =
@@ -39,29 +42,35 @@ budget_again budget h =
     let b : nat_le budget 65536 ≡ true = grind (arith, nat_tests, h.1) in
     rw (a, b) refl
 
-counts_again : (version loops slots budget : ℕ) (rest : List ℕ) → loops ≤ 8 → IsSlotCount slots → IsBudget budget → counts_reading (header_bytes version loops slots budget ++ rest) ≡ Ok (record { version = version; loops = loops; slots = slots; budget = budget })
+counts_again : (version : Version) (loops slots budget : ℕ) (rest : List ℕ) → loops ≤ 8 → IsSlotCount slots → IsBudget budget → counts_reading version (header_bytes version loops slots budget ++ rest) ≡ Ok (record { version = version; loops = loops; slots = slots; budget = budget })
 unfolding counts_reading
 counts_again version loops slots budget rest few many limit =
     let s = half_again slots (omega (arith, many.1)) in
     let b = word_again budget (omega (arith, limit.1)) in
     rw (s, b) (if_true _ _ _ (count_again loops slots few many) ∙ if_true _ _ _ (budget_again budget limit))
 
-header_again : (version loops slots budget : ℕ) (rest : List ℕ) → IsVersion version → loops ≤ 8 → IsSlotCount slots → IsBudget budget → header_reading (header_bytes version loops slots budget ++ rest) ≡ Ok (record { version = version; loops = loops; slots = slots; budget = budget })
-unfolding header_reading
-header_again version loops slots budget rest known few many limit =
+version_again : (version : Version) (loops slots budget : ℕ) (rest : List ℕ) → version_reading (header_bytes version loops slots budget ++ rest) ≡ Ok version
+unfolding version_reading
+version_again version loops slots budget rest =
     let size : length (header_bytes version loops slots budget ++ rest) ≡ 16 + length rest = length-append (header_bytes version loops slots budget) rest in
-    let a : nat_lt 4 (length (header_bytes version loops slots budget ++ rest)) ≡ true = grind (arith, nat_tests) in
-    let b : nat_lt (length (header_bytes version loops slots budget ++ rest)) 16 ≡ false = grind (arith, nat_tests) in
-    rw (a, version_again version known) (rw b (counts_again version loops slots budget rest few many limit))
+    let long : nat_lt (length (header_bytes version loops slots budget ++ rest)) 5 ≡ false = grind (arith, nat_tests) in
+    if_false _ _ _ long ∙ ap known_version (number_again version)
 
-cut_again : (version budget : ℕ) (loops : List Loop) (slots : List (Option Insn)) → IsProgram (program version budget loops slots) → Cut (image_bytes (program version budget loops slots)) (record { version = version; loops = length loops; slots = length slots; budget = budget }) (header_bytes version (length loops) (length slots) budget ++ flat_map loop_bytes loops) (flat_map loop_bytes loops) (flat_map slot_bytes slots) (16 + 8 * length loops)
+header_again : (version : Version) (loops slots budget : ℕ) (rest : List ℕ) → loops ≤ 8 → IsSlotCount slots → IsBudget budget → header_reading (header_bytes version loops slots budget ++ rest) ≡ Ok (record { version = version; loops = loops; slots = slots; budget = budget })
+unfolding header_reading
+header_again version loops slots budget rest few many limit =
+    let size : length (header_bytes version loops slots budget ++ rest) ≡ 16 + length rest = length-append (header_bytes version loops slots budget) rest in
+    let b : nat_lt (length (header_bytes version loops slots budget ++ rest)) 16 ≡ false = grind (arith, nat_tests) in
+    rw (version_again version loops slots budget rest) (rw b (counts_again version loops slots budget rest few many limit))
+
+cut_again : (version : Version) (budget : ℕ) (loops : List Loop) (slots : List (Option Insn)) → IsProgram (program version budget loops slots) → Cut (image_bytes (program version budget loops slots)) (record { version = version; loops = length loops; slots = length slots; budget = budget }) (header_bytes version (length loops) (length slots) budget ++ flat_map loop_bytes loops) (flat_map loop_bytes loops) (flat_map slot_bytes slots) (16 + 8 * length loops)
 unfolding image_bytes
 cut_again version budget loops slots is =
     let head = header_bytes version (length loops) (length slots) budget in
     let size : length (head ++ flat_map loop_bytes loops) ≡ 16 + 8 * length loops = length-append head (flat_map loop_bytes loops) ∙ ap (λ (n : ℕ). 16 + n) (loops_length loops) in
     let code : length (flat_map slot_bytes slots) ≡ 8 * length slots = slots_length slots false [] refl is.code in
     record {
-      header = sym (ap header_reading (append_assoc head (flat_map loop_bytes loops) (flat_map slot_bytes slots)) ∙ header_again version (length loops) (length slots) budget (flat_map loop_bytes loops ++ flat_map slot_bytes slots) is.version is.few_loops is.slots is.budget);
+      header = sym (ap header_reading (append_assoc head (flat_map loop_bytes loops) (flat_map slot_bytes slots)) ∙ header_again version (length loops) (length slots) budget (flat_map loop_bytes loops ++ flat_map slot_bytes slots) is.few_loops is.slots is.budget);
       len = omega (arith, length-append (head ++ flat_map loop_bytes loops) (flat_map slot_bytes slots), size, code);
       at_code = refl;
       is_front = sym (take_front (head ++ flat_map loop_bytes loops) (flat_map slot_bytes slots) (16 + 8 * length loops) size);
@@ -69,7 +78,7 @@ cut_again version budget loops slots is =
       is_tail = sym (drop_front (head ++ flat_map loop_bytes loops) (flat_map slot_bytes slots) (16 + 8 * length loops) size);
     }
 
-program_again : IsRead → (version budget : ℕ) (loops : List Loop) (slots : List (Option Insn)) → IsProgram (program version budget loops slots) → image_reading (image_bytes (program version budget loops slots)) ≡ Ok (program version budget loops slots)
+program_again : IsRead → (version : Version) (budget : ℕ) (loops : List Loop) (slots : List (Option Insn)) → IsProgram (program version budget loops slots) → image_reading (image_bytes (program version budget loops slots)) ≡ Ok (program version budget loops slots)
 program_again law version budget loops slots is =
     is_read _ _ _ _ _ _ loops slots (cut_again version budget loops slots is)
     (loops_again (length slots) loops is.loops is.slots.1)
@@ -89,10 +98,10 @@ one_program law p q is_p is_q same =
 abbrev made : Program → Header
 made p = record { version = p.version; loops = length p.loops; slots = length p.slots; budget = p.budget }
 
-header_seen : (version budget : ℕ) (loops : List Loop) (slots : List (Option Insn)) (after : List ℕ) → IsProgram (program version budget loops slots) → header_reading (image_bytes (program version budget loops slots) ++ after) ≡ Ok (made (program version budget loops slots))
+header_seen : (version : Version) (budget : ℕ) (loops : List Loop) (slots : List (Option Insn)) (after : List ℕ) → IsProgram (program version budget loops slots) → header_reading (image_bytes (program version budget loops slots) ++ after) ≡ Ok (made (program version budget loops slots))
 unfolding image_bytes
 header_seen version budget loops slots after is =
-    header_again version (length loops) (length slots) budget ((flat_map loop_bytes loops ++ flat_map slot_bytes slots) ++ after) is.version is.few_loops is.slots is.budget
+    header_again version (length loops) (length slots) budget ((flat_map loop_bytes loops ++ flat_map slot_bytes slots) ++ after) is.few_loops is.slots is.budget
 
 header_in : (p : Program) (after : List ℕ) → IsProgram p → header_reading (image_bytes p ++ after) ≡ Ok (made p)
 header_in p after is = header_seen p.version p.budget p.loops p.slots after is

@@ -4,6 +4,8 @@ use Rattle.bpf_insn.specs.declared.decoder.BadInsn.TheVariants.{Opcode}
 use Rattle.bpf.specs.declared.fault.ImageFault.{ImageFault}
 use Rattle.bpf.specs.declared.fault.ImageFault.TheVariants.{Magic, Version, Length, Count, Budget, Loop, Insn, Memory}
 
+-- ---- the statement
+
 -- the number of a fault
 abbrev pub image_fault_code : ImageFault → ℕ
 image_fault_code Magic = 1
@@ -25,6 +27,8 @@ image_fault_slot Budget = 0
 image_fault_slot Loop = 0
 image_fault_slot (Insn slot fault) = slot
 image_fault_slot Memory = 0
+
+-- ---- what else contracts and proofs say
 
 -- a fault of a number, if it is the number of one; of the faults of instructions the first at slot 0
 abbrev pub image_fault_of_code : ℕ → Option ImageFault

@@ -1,8 +1,11 @@
 -- The weight of a program: how many instructions a run may take.
-use Rattle.std.specs.Prelude.{ℕ, ◌+◌, ◌-◌, ◌*◌, ◌^◌, min, ◌&&◌, nat_le, if◌then◌else◌, List, [], ◌∷◌, Option, Some, None}
+use Rattle.std.specs.Prelude.{ℕ, ◌+◌, ◌-◌, ◌*◌, ◌^◌, min, ◌&&◌, nat_le, if◌then◌else◌, List, [], ◌∷◌, Option, Some}
+use Rattle.std.specs.Prelude.{None}
 use Rattle.bpf_insn.specs.declared.insn.Insn.{Insn}
 use Rattle.bpf.specs.declared.loops.Loop.{Loop}
 use Rattle.bpf.specs.Program.{Program}
+
+-- ---- the statement
 
 -- how often a loop lets a slot be passed: its bound, where it holds the slot
 abbrev pub passes_of : Loop → ℕ → ℕ
@@ -27,6 +30,8 @@ weight_from loops slot (x ∷ xs) = part_of loops slot x + weight_from loops (sl
 -- each
 abbrev pub weight_of : Program → ℕ
 weight_of p = weight_from p.loops 0 p.slots
+
+-- ---- what else contracts and proofs say
 
 -- a number, or 2^64 - 1 where it is above
 abbrev pub saturated_weight : ℕ → ℕ

@@ -13,7 +13,7 @@ The file does not begin with BPFA. Is it a text, or a table?
 `rmapctl asm FILE OUT` makes an image of a text, `rmapctl policy FILE OUT` one of a table.";
 
 const VERSION: &str = "\
-The fifth byte is the version of the format, and this target reads version 1.
+The fifth byte is the version of the format, and this target reads versions 1 and 2.
 Assemble the program's text anew.";
 
 const LENGTH: &str = "\
@@ -49,8 +49,8 @@ pub enum ImageFault {
     /// The first four bytes are not `BPFA`.
     #[error("the image does not begin with BPFA")]
     Magic,
-    /// The version is not 1.
-    #[error("the image's version is not 1")]
+    /// The version is neither 1 nor 2.
+    #[error("the image's version is neither 1 nor 2")]
     Version,
     /// There are fewer bytes than the image declares, or more.
     #[error("the image has another length than it declares")]
@@ -90,8 +90,8 @@ impl ImageFault {
         }
     }
 
-    /// A fault of a number, as [`ImageFault::code`] gives it. `None` where no fault has it. Number 7 is that of each fault
-    /// of an instruction; of these it is `Opcode` at slot 0.
+    /// A fault of a number, as [`ImageFault::code`] gives it. `None` where no fault has it. Number 7 is that of each
+    /// fault of an instruction; of these it is `Opcode` at slot 0.
     pub fn from_code(code: u8) -> Option<ImageFault>
         ensures value { result ≡ image_fault_of_code code }
         ensures number { IfSome result (λ fault. image_fault_code fault ≡ code) }

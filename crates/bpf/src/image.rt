@@ -12,15 +12,17 @@ use crate::laws::image_laws;
 use crate::loops::{Loop, read_loops, write_loops};
 use crate::parts::{header_of, place_insns};
 use crate::slots::{read_slots, write_slots};
+use crate::version::Version;
 use crate::weight::weight;
 use bpf_insn::Insn;
 use std::alloc::{AllocError, Global};
 use std::marker::Model;
 
-/// A program as it is loaded: its version of the format, its budget, its loops and its slots. All limits of the format hold.
+/// A program as it is loaded: its version of the format, its budget, its loops and its slots. All limits of the
+/// format hold.
 #[derive(Debug, Drop)]
 pub struct Image {
-    version: u8,
+    version: Version,
     budget: u32,
     loops: Vec<Loop>,
     slots: Vec<Option<Insn>>,
@@ -75,15 +77,15 @@ impl Image {
         Ok(Image::of_parts(header.version, header.budget, loops, slots))
     }
 
-    /// The image of this version, 1 or 2, of these instructions, which take 1 to 512 slots, of at most 8
+    /// The image of this version, of these instructions, which take 1 to 512 slots, of at most 8
     /// loops by rising head, and of a budget of 1 to 65,536.
     ///
     /// # Errors
     ///
-    /// `Version`, `Count`, `Budget` or `Loop`, in this order, or `Memory`.
+    /// `Count`, `Budget` or `Loop`, in this order, or `Memory`.
     pub fn new(
         alloc: Global,
-        version: u8,
+        version: Version,
         insns: &[Insn],
         loops: &[Loop],
         budget: u32,
@@ -91,7 +93,8 @@ impl Image {
         ensures program { IfOk result IsProgram }
 
         // The first fault, or the image, unless memory is refused.
-        ensures exact { Gives (λ image. image) result (parts_reading version insns.now loops.now budget) }
+        ensures exact { Gives (λ image. image) result
+            (parts_reading version insns.now loops.now budget) }
     {
         let header = header_of(version, insns, loops, budget)?;
         let loops = Vec::from_slice(alloc, loops)?;
@@ -100,7 +103,7 @@ impl Image {
     }
 
     /// The image of these parts, which are in the limits of the format.
-    fn of_parts(version: u8, budget: u32, loops: Vec<Loop>, slots: Vec<Option<Insn>>) -> Image
+    fn of_parts(version: Version, budget: u32, loops: Vec<Loop>, slots: Vec<Option<Insn>>) -> Image
         requires { IsProgram (program version budget loops.items slots.items) }
         ensures { result ≡ program version budget loops.items slots.items }
     {
@@ -141,8 +144,8 @@ impl Image {
         Ok(bytes)
     }
 
-    /// The version of the format: 1 or 2.
-    pub fn version(&self) -> u8
+    /// The version of the format.
+    pub fn version(&self) -> Version
         ensures value { result ≡ self.now.version }
         ensures program { IsProgram self.now }
     {

@@ -11,11 +11,13 @@ mod laws;
 mod loops;
 mod parts;
 mod slots;
+mod version;
 mod weight;
 
 pub use bpf_insn;
 pub use fault::ImageFault;
-pub use header::{MAX_BUDGET, MAX_LOOPS, MAX_SLOTS, is_budget, is_version};
+pub use header::{MAX_BUDGET, MAX_LOOPS, MAX_SLOTS, is_budget};
 pub use image::Image;
 pub use laws::image_laws;
 pub use loops::{Loop, MAX_BOUND};
+pub use version::Version;

@@ -4,11 +4,13 @@ ghost use Rattle.std.specs.Prelude.{◌≡◌, ◌≤◌, ◌++◌, false, lengt
 ghost use Rattle.std.specs.List.{flat_map};
 ghost use Rattle.bpf_insn.specs.Spelling.{IsInsn};
 ghost use Rattle.bpf.specs.Program.{AreSlots};
+ghost use Rattle.bpf.specs.declared.header.TheConstants.{MAX_SLOTS};
 ghost use Rattle.bpf.specs.Parts.{header_of, placed_slots};
 
 use crate::fault::ImageFault;
-use crate::header::{Header, MAX_SLOTS, is_version};
+use crate::header::{Header, MAX_SLOTS};
 use crate::loops::{Loop, are_loops};
+use crate::version::Version;
 use bpf_insn::Insn;
 use std::alloc::{AllocError, Global};
 
@@ -16,19 +18,16 @@ use std::alloc::{AllocError, Global};
 ///
 /// # Errors
 ///
-/// `Version`, `Count`, `Budget` or `Loop`, the first of them.
+/// `Count`, `Budget` or `Loop`, the first of them.
 #[tactic(auto, unfolding(crate::specs::Parts::parts_fault))]
 pub fn header_of(
-    version: u8,
+    version: Version,
     insns: &[Insn],
     loops: &[Loop],
     budget: u32,
 ) -> Result<Header, ImageFault>
     ensures { result ≡ header_of version insns.now loops.now budget }
 {
-    if !is_version(version) {
-        return Err(ImageFault::Version);
-    }
     // Each instruction takes a slot at least, so that the sum of so many fits.
     if insns.len() > usize::from(MAX_SLOTS) {
         return Err(ImageFault::Count);
@@ -43,7 +42,7 @@ pub fn header_of(
 
 /// How many slots the instructions take.
 fn count_slots(insns: &[Insn]) -> usize
-    requires { length insns.now ≤ 512 }
+    requires { length insns.now ≤ MAX_SLOTS }
     ensures { result ≡ length (flat_map placed_slots insns.now) }
 {
     let mut count = 0;

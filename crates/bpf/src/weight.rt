@@ -1,6 +1,7 @@
 //! How many instructions a run of an image may take.
 
 ghost use Rattle.std.specs.Prelude.{◌≡◌, ◌≤◌, length};
+ghost use Rattle.bpf.specs.declared.header.TheConstants.{MAX_SLOTS};
 ghost use Rattle.bpf.specs.Weight.{part_of, passes_of, saturated_weight, times_at, weight_from};
 
 use crate::loops::Loop;
@@ -9,7 +10,7 @@ use bpf_insn::Insn;
 /// The sum over the instructions of the product of the bounds of the loops that hold it, or
 /// 2^64 - 1 where that is above.
 pub fn weight(loops: &[Loop], slots: &[Option<Insn>]) -> u64
-    requires { length slots.now ≤ 512 }
+    requires { length slots.now ≤ MAX_SLOTS }
     ensures { result ≡ saturated_weight (weight_from loops.now 0 slots.now) }
 {
     let mut weight = 0u64;

@@ -15,7 +15,7 @@ use Rattle.bpf_parts.specs.declared.operation.Swap.TheVariants.{ToLittle, ToBig,
 use Rattle.bpf_parts.specs.declared.operation.SwapBits.{SwapBits}
 use Rattle.bpf_parts.specs.declared.operation.Condition.{Condition}
 use Rattle.bpf_parts.specs.declared.operation.Condition.TheVariants.{Equal}
-use Rattle.bpf_parts.specs.declared.memory.Place.{Place}
+use Rattle.bpf_parts.specs.declared.memory.MemoryOperand.{MemoryOperand}
 use Rattle.bpf_parts.specs.declared.memory.Size.{Size}
 use Rattle.bpf_parts.specs.declared.memory.Size.TheVariants.{Byte}
 use Rattle.bpf_parts.specs.declared.memory.LoadSize.{LoadSize}
@@ -111,17 +111,17 @@ explained_swap ToLittle bits dst d s o m next = dst_read (ByteSwap ToLittle bits
 explained_swap ToBig bits dst d s o m next = dst_read (ByteSwap ToBig bits dst) d s next _ refl (λ p. selected (ByteSwap ToBig bits dst) d s next (swap_bits_of m) _ (rw p refl))
 explained_swap Reverse bits dst d s o m next = dst_read (ByteSwap Reverse bits dst) d s next _ refl (λ p. selected (ByteSwap Reverse bits dst) d s next (swap_bits_of m) _ (rw p refl))
 
-explained_load : (size : LoadSize) (dst : ℕ) (place : Place) (d s : ℕ) (o m : ℤ) (next : Option Fields) → explains (Load size dst place) d s next (meant_of (fields (opcode_of (Load size dst place)) d s o m) next) ≡ true
+explained_load : (size : LoadSize) (dst : ℕ) (place : MemoryOperand) (d s : ℕ) (o m : ℤ) (next : Option Fields) → explains (Load size dst place) d s next (meant_of (fields (opcode_of (Load size dst place)) d s o m) next) ≡ true
 unfolding meant_of load_of
 explained_load LoadByte dst place d s o m next = dst_read (Load LoadByte dst place) d s next _ refl (λ p. src_read (Load LoadByte dst place) d s next _ refl (λ q. rw (p, q) refl))
 explained_load e dst place d s o m next = dst_read (Load e dst place) d s next _ refl (λ p. src_read (Load e dst place) d s next _ refl (λ q. rw (p, q) refl))
 
-explained_store_k : (size : Size) (place : Place) (value : ℤ) (d s : ℕ) (o m : ℤ) (next : Option Fields) → explains (Store size place (Immediate value)) d s next (meant_of (fields (opcode_of (Store size place (Immediate value))) d s o m) next) ≡ true
+explained_store_k : (size : Size) (place : MemoryOperand) (value : ℤ) (d s : ℕ) (o m : ℤ) (next : Option Fields) → explains (Store size place (Immediate value)) d s next (meant_of (fields (opcode_of (Store size place (Immediate value))) d s o m) next) ≡ true
 unfolding meant_of store_of
 explained_store_k Byte place value d s o m next = dst_read (Store Byte place (Immediate value)) d s next _ refl (λ p. rw p refl)
 explained_store_k e place value d s o m next = dst_read (Store e place (Immediate value)) d s next _ refl (λ p. rw p refl)
 
-explained_store_x : (size : Size) (place : Place) (src : ℕ) (d s : ℕ) (o m : ℤ) (next : Option Fields) → explains (Store size place (FromRegister src)) d s next (meant_of (fields (opcode_of (Store size place (FromRegister src))) d s o m) next) ≡ true
+explained_store_x : (size : Size) (place : MemoryOperand) (src : ℕ) (d s : ℕ) (o m : ℤ) (next : Option Fields) → explains (Store size place (FromRegister src)) d s next (meant_of (fields (opcode_of (Store size place (FromRegister src))) d s o m) next) ≡ true
 unfolding meant_of store_of
 explained_store_x Byte place src d s o m next = dst_read (Store Byte place (FromRegister src)) d s next _ refl (λ p. operand_read (Store Byte place (FromRegister src)) d s next _ refl (λ q. rw (p, q) refl))
 explained_store_x e place src d s o m next = dst_read (Store e place (FromRegister src)) d s next _ refl (λ p. operand_read (Store e place (FromRegister src)) d s next _ refl (λ q. rw (p, q) refl))

@@ -17,7 +17,7 @@ use Rattle.bpf_parts.specs.declared.operation.SwapBits.{SwapBits}
 use Rattle.bpf_parts.specs.declared.operation.SwapBits.TheVariants.{Swap16}
 use Rattle.bpf_parts.specs.declared.operation.Condition.{Condition}
 use Rattle.bpf_parts.specs.declared.operation.Condition.TheVariants.{Equal}
-use Rattle.bpf_parts.specs.declared.memory.Place.{Place}
+use Rattle.bpf_parts.specs.declared.memory.MemoryOperand.{MemoryOperand}
 use Rattle.bpf_parts.specs.declared.memory.Size.{Size}
 use Rattle.bpf_parts.specs.declared.memory.Size.TheVariants.{Byte}
 use Rattle.bpf_parts.specs.declared.memory.LoadSize.{LoadSize}
@@ -74,17 +74,17 @@ swapped ToBig _ dst next p = rw p refl
 swapped Reverse Swap16 dst next p = rw p refl
 swapped Reverse _ dst next p = rw p refl
 
-loaded : (size : LoadSize) (dst : ℕ) (place : Place) (next : Option Fields) → nat_le dst 10 ≡ true → nat_le place.base 10 ≡ true → meant_of (first_fields (Load size dst place)) next ≡ Ok (Load size dst place)
+loaded : (size : LoadSize) (dst : ℕ) (place : MemoryOperand) (next : Option Fields) → nat_le dst 10 ≡ true → nat_le place.base 10 ≡ true → meant_of (first_fields (Load size dst place)) next ≡ Ok (Load size dst place)
 unfolding meant_of load_of
 loaded LoadByte dst place next p q = rw p (rw q refl)
 loaded _ dst place next p q = rw p (rw q refl)
 
-stored_k : (size : Size) (place : Place) (value : ℤ) (next : Option Fields) → nat_le place.base 10 ≡ true → meant_of (first_fields (Store size place (Immediate value))) next ≡ Ok (Store size place (Immediate value))
+stored_k : (size : Size) (place : MemoryOperand) (value : ℤ) (next : Option Fields) → nat_le place.base 10 ≡ true → meant_of (first_fields (Store size place (Immediate value))) next ≡ Ok (Store size place (Immediate value))
 unfolding meant_of store_of
 stored_k Byte place value next p = rw p refl
 stored_k _ place value next p = rw p refl
 
-stored_x : (size : Size) (place : Place) (src : ℕ) (next : Option Fields) → nat_le place.base 10 ≡ true → nat_le src 10 ≡ true → meant_of (first_fields (Store size place (FromRegister src))) next ≡ Ok (Store size place (FromRegister src))
+stored_x : (size : Size) (place : MemoryOperand) (src : ℕ) (next : Option Fields) → nat_le place.base 10 ≡ true → nat_le src 10 ≡ true → meant_of (first_fields (Store size place (FromRegister src))) next ≡ Ok (Store size place (FromRegister src))
 unfolding meant_of store_of
 stored_x Byte place src next p q = rw p (rw q refl)
 stored_x _ place src next p q = rw p (rw q refl)

@@ -1,5 +1,6 @@
 -- How bytes are read: the fields, what the used fields mean, and whether that has these bytes.
-use Rattle.std.specs.Prelude.{ℕ, ◌+◌, ◌-◌, ◌*◌, ◌/◌, ◌%◌, ℤ, pos, Bool, true, false, ◌&&◌, ◌==◌, nat_le, if◌then◌else◌, List, slice_index, Option, Some, None, Result, Ok, Err}
+use Rattle.std.specs.Prelude.{ℕ, ◌+◌, ◌-◌, ◌*◌, ◌/◌, ◌%◌, ℤ, pos, Bool, true, false, ◌&&◌, ◌==◌, nat_le}
+use Rattle.std.specs.Prelude.{if◌then◌else◌, List, slice_index, Option, Some, None, Result, Ok, Err}
 use Rattle.std.specs.Int.{w16, w32, cast_signed, cast_unsigned}
 use Rattle.std.specs.Option.{ok_or, option_map}
 use Rattle.std.specs.Ordering.{int_eq}
@@ -13,11 +14,13 @@ use Rattle.bpf_parts.specs.declared.operation.Operand.TheVariants.{FromRegister,
 use Rattle.bpf_parts.specs.declared.operation.Extension.{Extension}
 use Rattle.bpf_parts.specs.declared.distance.Distance.TheVariants.{Short, Long}
 use Rattle.bpf_insn.specs.declared.insn.Insn.{Insn}
-use Rattle.bpf_insn.specs.declared.insn.Insn.TheVariants.{Alu, Negate, MoveSigned, ByteSwap, Load, Store, Jump, Goto, Wide, LoadMap, LoadAddress, Call, Exit}
+use Rattle.bpf_insn.specs.declared.insn.Insn.TheVariants.{Alu, Negate, MoveSigned, ByteSwap, Load, Store, Jump, Goto}
+use Rattle.bpf_insn.specs.declared.insn.Insn.TheVariants.{Wide, LoadMap, LoadAddress, Call, Exit}
 use Rattle.bpf_insn.specs.declared.fields.Fields.{Fields}
 use Rattle.bpf_insn.specs.declared.decoder.BadInsn.{BadInsn}
 use Rattle.bpf_insn.specs.declared.decoder.BadInsn.TheVariants as faults
-use Rattle.bpf_parts.specs.Kinds.{alu_of, extension_of, swap_of, swap_bits_of, condition_of, size_of, load_size_of, address_of, callee_of}
+use Rattle.bpf_parts.specs.Kinds.{alu_of, extension_of, swap_of, swap_bits_of, condition_of, size_of, load_size_of}
+use Rattle.bpf_parts.specs.Kinds.{address_of, callee_of}
 use Rattle.bpf_insn.specs.Spelling.{fields, first_fields, second_immediate}
 
 -- the next step of a reading, unless a fault was found
@@ -31,7 +34,8 @@ abbrev pub fields_in : List ℕ → Fields
 fields_in bytes =
     fields (slice_index bytes 0) (slice_index bytes 1 % 16) (slice_index bytes 1 / 16)
     (cast_signed w16 (slice_index bytes 2 + slice_index bytes 3 * 256))
-    (cast_signed w32 (slice_index bytes 4 + slice_index bytes 5 * 256 + slice_index bytes 6 * 65536 + slice_index bytes 7 * 16777216))
+    (cast_signed w32 (slice_index bytes 4 + slice_index bytes 5 * 256 + slice_index bytes 6 * 65536
+    + slice_index bytes 7 * 16777216))
 
 -- a register, or the fault of a number over 10
 abbrev pub register_of : ℕ → Result ℕ BadInsn
@@ -138,7 +142,8 @@ unfoldable pub pair_of : Fields → ℕ → Fields → Result Insn BadInsn
 pair_of f dst second =
     if f.src == 0 then Ok (Wide dst (constant_of f.immediate second.immediate))
     else (if f.src == 5 then Ok (LoadMap dst f.immediate)
-    else (ok_or (address_of f.src f.immediate second.immediate) faults.Unused >>= (λ address. Ok (LoadAddress dst address))))
+    else (ok_or (address_of f.src f.immediate second.immediate) faults.Unused >>=
+    (λ address. Ok (LoadAddress dst address))))
 
 -- an instruction of the class LD: only the one of two slots, where the next slot is there
 unfoldable pub wide_of : Fields → Option Fields → Result Insn BadInsn
@@ -161,7 +166,9 @@ meant_of f next =
 
 -- whether two slots have the same fields
 abbrev pub same_fields : Fields → Fields → Bool
-same_fields f g = f.opcode == g.opcode && f.dst == g.dst && f.src == g.src && int_eq f.offset g.offset && int_eq f.immediate g.immediate
+same_fields f g =
+    f.opcode == g.opcode && f.dst == g.dst && f.src == g.src && int_eq f.offset g.offset
+    && int_eq f.immediate g.immediate
 
 -- the fields of the next slot, where there is one
 abbrev pub next_fields : Option (List ℕ) → Option Fields

@@ -16,13 +16,14 @@ use bpf_parts::opcode::{
     MAP_BY_INDEX, MOV, NEG, ST, STX,
 };
 use bpf_parts::{
-    Address, AluOp, Callee, Comparison, Condition, Distance, Extension, LoadSize, Operand, Place,
-    Register, Size, Swap, SwapBits, Width,
+    Address, AluOp, Callee, Comparison, Condition, Distance, Extension, LoadSize, MemoryOperand,
+    Operand, Register, Size, Swap, SwapBits, Width,
 };
 use thiserror::Error;
 
 const OPCODE: &str = "\
-No instruction of RFC 9669 has the opcode in the first byte of the slot.
+The first byte of the slot is the opcode of no instruction of RFC 9669's groups base32, base64, divmul32 and
+divmul64. No others are read: its atomic and its packet instructions are refused so.
 Look whether the slot before it has two slots, or the file holds something else than instructions.";
 
 const REGISTER: &str = "\
@@ -42,7 +43,7 @@ Look whether the image was cut off, or a slot taken out.";
 /// `Unused`.
 #[derive(Clone, Copy, Debug, PartialEq, Eq, Error)]
 pub enum BadInsn {
-    /// No instruction has the opcode.
+    /// No instruction has the opcode, of those that are read.
     #[error("no instruction has the opcode")]
     Opcode,
     /// A register's number is over 10.
@@ -344,7 +345,7 @@ fn load(fields: &Fields) -> Result<Insn, BadInsn>
 {
     let size = LoadSize::from_code(fields.opcode - fields.opcode % 8).ok_or(BadInsn::Opcode)?;
     let dst = register(fields.dst)?;
-    let place = Place {
+    let place = MemoryOperand {
         base: register(fields.src)?,
         offset: fields.offset,
     };
@@ -357,7 +358,7 @@ fn store(fields: &Fields, from_register: bool) -> Result<Insn, BadInsn>
     ensures insn { IfOk result IsInsn }
 {
     let size = Size::from_code(fields.opcode - fields.opcode % 8).ok_or(BadInsn::Opcode)?;
-    let place = Place {
+    let place = MemoryOperand {
         base: register(fields.dst)?,
         offset: fields.offset,
     };

@@ -12,8 +12,8 @@ use bpf_parts::opcode::{
     ST, STX, X,
 };
 use bpf_parts::{
-    Address, AluOp, Comparison, Distance, Extension, LoadSize, Operand, Place, Register, Size,
-    Swap, SwapBits, Width,
+    Address, AluOp, Comparison, Distance, Extension, LoadSize, MemoryOperand, Operand, Register,
+    Size, Swap, SwapBits, Width,
 };
 
 /// The bytes that spell the instruction: the first slot, and the second of an instruction that has
@@ -118,7 +118,7 @@ fn swap_fields(swap: Swap, bits: SwapBits, dst: Register) -> Fields
     Fields::new(opcode, dst.number(), 0, 0, bits.bits())
 }
 
-fn load_fields(size: LoadSize, dst: Register, place: Place) -> Fields
+fn load_fields(size: LoadSize, dst: Register, place: MemoryOperand) -> Fields
     ensures value { result ≡ first_fields (Insn.Load size dst place) }
     ensures registers { RegistersFit result }
 {
@@ -131,7 +131,7 @@ fn load_fields(size: LoadSize, dst: Register, place: Place) -> Fields
     )
 }
 
-fn store_fields(size: Size, place: Place, src: Operand) -> Fields
+fn store_fields(size: Size, place: MemoryOperand, src: Operand) -> Fields
     ensures value { result ≡ first_fields (Insn.Store size place src) }
     ensures registers { RegistersFit result }
 {

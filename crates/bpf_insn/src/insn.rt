@@ -4,8 +4,8 @@ ghost use Rattle.std.specs.Prelude.{◌≡◌, is_some};
 ghost use Rattle.bpf_insn.specs.Spelling.{IsInsn, second_immediate, slots_of};
 
 use bpf_parts::{
-    Address, AluOp, Callee, Comparison, Distance, Extension, LoadSize, Operand, Place, Register,
-    Size, Swap, SwapBits, Width,
+    Address, AluOp, Callee, Comparison, Distance, Extension, LoadSize, MemoryOperand, Operand,
+    Register, Size, Swap, SwapBits, Width,
 };
 
 /// An instruction of the conformance groups base32, base64, divmul32 and divmul64 (RFC 9669,
@@ -40,12 +40,12 @@ pub enum Insn {
     Load {
         size: LoadSize,
         dst: Register,
-        place: Place,
+        place: MemoryOperand,
     },
     /// The low bytes of `src` are written at the place.
     Store {
         size: Size,
-        place: Place,
+        place: MemoryOperand,
         src: Operand,
     },
     /// A jump by `offset` slots from the next one, where the comparison holds.

@@ -15,7 +15,7 @@ mod laws;
 
 pub use bpf_parts::{
     Address, AluOp, Callee, Comparison, Condition, Distance, Extension, FRAME_POINTER, LoadSize,
-    Operand, Place, REGISTERS, Register, Size, Swap, SwapBits, Width,
+    MemoryOperand, Operand, REGISTERS, Register, Size, Swap, SwapBits, Width,
 };
 pub use decoder::{BadInsn, decode};
 pub use display::text;

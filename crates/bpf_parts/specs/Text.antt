@@ -4,7 +4,8 @@ use Rattle.std.specs.Fmt.{signed_decimal}
 use Rattle.bpf_parts.specs.declared.operation.Width.{Width}
 use Rattle.bpf_parts.specs.declared.operation.Width.TheVariants.{Bits32, Bits64}
 use Rattle.bpf_parts.specs.declared.operation.AluOp.{AluOp}
-use Rattle.bpf_parts.specs.declared.operation.AluOp.TheVariants.{Add, Sub, Mul, Div, SignedDiv, Or, And, Lsh, Rsh, Mod, SignedMod, Xor, Mov, Arsh}
+use Rattle.bpf_parts.specs.declared.operation.AluOp.TheVariants.{Add, Sub, Mul, Div, SignedDiv, Or, And, Lsh, Rsh}
+use Rattle.bpf_parts.specs.declared.operation.AluOp.TheVariants.{Mod, SignedMod, Xor, Mov, Arsh}
 use Rattle.bpf_parts.specs.declared.operation.Operand.{Operand}
 use Rattle.bpf_parts.specs.declared.operation.Operand.TheVariants.{FromRegister, Immediate}
 use Rattle.bpf_parts.specs.declared.operation.Extension.{Extension}
@@ -14,34 +15,25 @@ use Rattle.bpf_parts.specs.declared.operation.Swap.TheVariants.{ToLittle, ToBig,
 use Rattle.bpf_parts.specs.declared.operation.SwapBits.{SwapBits}
 use Rattle.bpf_parts.specs.declared.operation.SwapBits.TheVariants.{Swap16, Swap32, Swap64}
 use Rattle.bpf_parts.specs.declared.operation.Condition.{Condition}
-use Rattle.bpf_parts.specs.declared.operation.Condition.TheVariants.{Equal, Greater, GreaterEqual, AnyBits, NotEqual, SignedGreater, SignedGreaterEqual, Less, LessEqual, SignedLess, SignedLessEqual}
-use Rattle.bpf_parts.specs.declared.memory.Place.{Place}
+use Rattle.bpf_parts.specs.declared.operation.Condition.TheVariants.{Equal, Greater, GreaterEqual, AnyBits, NotEqual}
+use Rattle.bpf_parts.specs.declared.operation.Condition.TheVariants.{SignedGreater, SignedGreaterEqual, Less}
+use Rattle.bpf_parts.specs.declared.operation.Condition.TheVariants.{LessEqual, SignedLess, SignedLessEqual}
+use Rattle.bpf_parts.specs.declared.memory.MemoryOperand.{MemoryOperand}
 use Rattle.bpf_parts.specs.declared.memory.Size.{Size}
 use Rattle.bpf_parts.specs.declared.memory.Size.TheVariants.{Byte, Half, Word, Double}
 use Rattle.bpf_parts.specs.declared.memory.LoadSize.{LoadSize}
-use Rattle.bpf_parts.specs.declared.memory.LoadSize.TheVariants.{LoadByte, LoadHalf, LoadWord, LoadDouble, SignedByte, SignedHalf, SignedWord}
+use Rattle.bpf_parts.specs.declared.memory.LoadSize.TheVariants.{LoadByte, LoadHalf, LoadWord, LoadDouble, SignedByte}
+use Rattle.bpf_parts.specs.declared.memory.LoadSize.TheVariants.{SignedHalf, SignedWord}
 use Rattle.bpf_parts.specs.declared.callee.Callee.{Callee}
 use Rattle.bpf_parts.specs.declared.callee.Callee.TheVariants.{Helper, Local, ByTypeId}
+
+-- ---- the statement
 
 -- ---- operands
 
 -- `r` and the number of a register
 abbrev pub register_text : ℕ → List ℕ
 register_text number = codes "r" ++ decimal number
-
--- a register, or a decimal number
-abbrev pub operand_text : Operand → List ℕ
-operand_text (FromRegister register) = register_text register
-operand_text (Immediate value) = signed_decimal value
-
--- a decimal number with its sign, plus or minus
-abbrev pub signed_text : ℤ → List ℕ
-signed_text (pos n) = codes "+" ++ decimal n
-signed_text (negsuc n) = codes "-" ++ decimal (suc n)
-
--- a place in memory
-abbrev pub place_text : Place → List ℕ
-place_text place = codes "[" ++ register_text place.base ++ signed_text place.offset ++ codes "]"
 
 -- ---- names
 
@@ -128,3 +120,21 @@ abbrev pub callee_name : Callee → List ℕ
 callee_name Helper = codes "call"
 callee_name Local = codes "calllocal"
 callee_name ByTypeId = codes "callbtf"
+
+-- ---- what else contracts and proofs say
+
+-- ---- operands
+
+-- a register, or a decimal number
+abbrev pub operand_text : Operand → List ℕ
+operand_text (FromRegister register) = register_text register
+operand_text (Immediate value) = signed_decimal value
+
+-- a decimal number with its sign, plus or minus
+abbrev pub signed_text : ℤ → List ℕ
+signed_text (pos n) = codes "+" ++ decimal n
+signed_text (negsuc n) = codes "-" ++ decimal (suc n)
+
+-- a memory operand
+abbrev pub memory_operand_text : MemoryOperand → List ℕ
+memory_operand_text place = codes "[" ++ register_text place.base ++ signed_text place.offset ++ codes "]"

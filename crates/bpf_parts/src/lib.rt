@@ -19,6 +19,6 @@ pub mod words;
 pub use address::Address;
 pub use callee::Callee;
 pub use distance::Distance;
-pub use memory::{LoadSize, Place, Size};
+pub use memory::{LoadSize, MemoryOperand, Size};
 pub use operation::{AluOp, Comparison, Condition, Extension, Operand, Swap, SwapBits, Width};
 pub use register::{FRAME_POINTER, REGISTERS, Register};

@@ -1,4 +1,4 @@
-//! The places, sizes and codes of loads and stores (RFC 9669, section 5).
+//! The memory operands, sizes and codes of loads and stores (RFC 9669, section 5).
 
 ghost use Rattle.std.specs.Prelude.{◌≡◌, ◌<◌, ◌≤◌};
 ghost use Rattle.bpf_parts.specs.Codes.{size_code, load_code};
@@ -8,9 +8,9 @@ ghost use Rattle.bpf_parts.specs.Sizes.{is_signed, load_bytes, size_bytes};
 use crate::opcode;
 use crate::register::Register;
 
-/// A place in memory: as many bytes from where the base register points.
+/// The memory operand of a load or store: the address `offset` bytes from where the base register points.
 #[derive(Clone, Copy, Debug, PartialEq, Eq)]
-pub struct Place {
+pub struct MemoryOperand {
     pub base: Register,
     pub offset: i16,
 }

@@ -1,12 +1,12 @@
-//! The text of the parts: a name, a number or a place.
+//! The text of the parts: a name, a number or a memory operand.
 
 ghost use Rattle.std.specs.Prelude.{◌≡◌, Some};
 ghost use Rattle.bpf_parts.specs.Operands.{distance_of};
-ghost use Rattle.bpf_parts.specs.Text.{alu_name, callee_name, condition_name, extension_name, load_suffix, operand_text, place_text, register_text, signed_text, store_prefix, store_suffix, swap_bits_name, swap_name, width_suffix};
+ghost use Rattle.bpf_parts.specs.Text.{alu_name, callee_name, condition_name, extension_name, load_suffix, operand_text, memory_operand_text, register_text, signed_text, store_prefix, store_suffix, swap_bits_name, swap_name, width_suffix};
 
 use crate::callee::Callee;
 use crate::distance::Distance;
-use crate::memory::{LoadSize, Place, Size};
+use crate::memory::{LoadSize, MemoryOperand, Size};
 use crate::operation::{AluOp, Condition, Extension, Operand, Swap, SwapBits, Width};
 use crate::register::Register;
 use crate::words::{REGISTER_STORE, STORE};
@@ -44,8 +44,8 @@ impl Operand {
     }
 }
 
-impl fmt::Display for Place {
-    ghost output = { λ place. Some (place_text place) };
+impl fmt::Display for MemoryOperand {
+    ghost output = { λ place. Some (memory_operand_text place) };
 
     fn fmt<W: fmt::Write>(&self, f: &mut fmt::Formatter<W>) -> fmt::Result {
         let base = self.base;

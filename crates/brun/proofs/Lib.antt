@@ -4,6 +4,5 @@ pub mod Values
 pub mod Following
 pub mod Effects
 pub mod Running
-pub mod Questions
 pub mod Pausing
 pub mod Cells

@@ -7,7 +7,7 @@ ghost use Rattle.machine.specs.Runs.{call};
 ghost use Rattle.machine.specs.Step.{question};
 ghost use Rattle.machine.specs.Sizes.{AreSizes, IsInside, Maps, kind_of_map};
 
-use machine::{MapKind, MapSizes};
+use machine::{Helper, MapKind, MapSizes};
 
 /// The cells that a program asks by its helpers. Each call appends itself, with the answer that it returns, to the
 /// calls so far; nothing else is known of the answers here, since others may ask too.
@@ -26,36 +26,37 @@ pub trait Counters {
         ensures sizes { result ≡ sizes self.now }
         ensures limits { AreSizes (sizes self.now) };
 
-    /// Helper 1: what the cell holds. In a counter map it is how many tickets were drawn from it, modulo 2^64; in a peak
-    /// map the greatest number that was shown to it.
+    /// [`Helper::Count`]: what the cell holds. In a counter map it is how many tickets were drawn from it, modulo 2^64;
+    /// in a peak map the greatest number that was shown to it.
     ///
     /// The map and the key have to be inside the sizes, which `MapSizes::contains` tests.
     fn count(&mut self, map: u8, key: u16) -> u64
         requires { IsInside (sizes self.old) map key }
-        ensures asked { asked self.new ≡ asked self.old ++ call (question 1 map key 0) result ∷ [] }
+        ensures asked { asked self.new ≡ asked self.old ++ call (question Helper.Count map key 0) result ∷ [] }
         ensures sizes { sizes self.new ≡ sizes self.old }
         ensures home { home self.new ≡ home self.old };
 
-    /// Helper 2: draws a ticket from the cell, and answers its number, which is how many were drawn before it,
-    /// modulo 2^64.
+    /// [`Helper::Ticket`]: draws a ticket from the cell, and answers its number, which is how many were drawn before
+    /// it, modulo 2^64.
     ///
     /// The map and the key have to be inside the sizes, which `MapSizes::contains` tests, and the map has to be a
     /// counter map, which `MapSizes::kind` tells.
     fn ticket(&mut self, map: u8, key: u16) -> u64
         requires inside { IsInside (sizes self.old) map key }
         requires kind { kind_of_map (sizes self.old) map ≡ MapKind.Counter }
-        ensures asked { asked self.new ≡ asked self.old ++ call (question 2 map key 0) result ∷ [] }
+        ensures asked { asked self.new ≡ asked self.old ++ call (question Helper.Ticket map key 0) result ∷ [] }
         ensures sizes { sizes self.new ≡ sizes self.old }
         ensures home { home self.new ≡ home self.old };
 
-    /// Helper 3: shows the cell a number, which raises it to the greater of both, and answers what it holds then.
+    /// [`Helper::Peak`]: shows the cell a number, which raises it to the greater of both, and answers what it holds
+    /// then.
     ///
     /// The map and the key have to be inside the sizes, which `MapSizes::contains` tests, and the map has to be a peak
     /// map, which `MapSizes::kind` tells.
     fn peak(&mut self, map: u8, key: u16, value: u64) -> u64
         requires inside { IsInside (sizes self.old) map key }
         requires kind { kind_of_map (sizes self.old) map ≡ MapKind.Peak }
-        ensures asked { asked self.new ≡ asked self.old ++ call (question 3 map key value) result ∷ [] }
+        ensures asked { asked self.new ≡ asked self.old ++ call (question Helper.Peak map key value) result ∷ [] }
         ensures sizes { sizes self.new ≡ sizes self.old }
         ensures home { home self.new ≡ home self.old };
 }

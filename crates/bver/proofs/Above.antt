@@ -10,23 +10,25 @@ use Rattle.bpf_insn.specs.declared.insn.Insn.TheVariants.{Alu, Negate, MoveSigne
 use Rattle.bpf_insn.specs.Spelling.{slots_of}
 use Rattle.bpf_parts.specs.Operands.{distance_of}
 use Rattle.machine.specs.Sizes.{Maps}
+use Rattle.machine.specs.declared.helpers.Helper.{Helper}
+use Rattle.machine.specs.Helpers.{helper_of}
 use Rattle.machine.specs.Step.{insn_at}
 use Rattle.absdom.specs.declared.cause.Cause.{Cause}
 use Rattle.absdom.specs.declared.kinds.AbsKind.{AbsKind}
 use Rattle.absdom.specs.declared.kinds.AbsKind.TheVariants.{Unset, Num, Ptr, Map}
 use Rattle.absdom.specs.Kinds.{IsKindBelow}
 use Rattle.absdom.specs.State.{StateValue, IsBelow, IsWhole, after_call, kind_at}
-use Rattle.absdom.specs.Places.{AreAllWhole, AreRangesWithin}
+use Rattle.absdom.specs.StackWords.{AreAllWhole, AreRangesWithin}
 use Rattle.absdom.specs.Effect.{after_insn}
 use Rattle.absdom.specs.Edges.{Edges, refined_edges}
 use Rattle.absdom.specs.Laws.{BelowIsTransitive, ApplyGrows, RefineGrows, CallGrows, IsGrown, IsEdgeBelow, AreEdgesGrown}
 use Rattle.absdom.specs.declared.spill.Spill.{Spill}
 use Rattle.bver_form.specs.Jumps.{first_slot, target}
 use Rattle.bver_form.specs.Lowered.{is_lowered}
-use Rattle.bver.specs.Heads.{AreRaisedRanges, AreUnset, BodyValue, Falls, IsRaised, IsRaisedKind, IsWithinBound, counts, opens, keeps, opened_kind, is_number, retains, widens}
+use Rattle.bver.specs.Heads.{AreWidenedRanges, AreUnset, BodyValue, Falls, IsWidened, IsWidenedKind, IsWithinBound, counts, opens, keeps, opened_kind, is_number, retains, forgets}
 use Rattle.bver.specs.Table.{TableValue, knowledge_in}
 use Rattle.bver.specs.Visit.{IsGrown as HasGrown, IsLeast, IsLeastOf}
-use Rattle.bver.specs.Justified.{AreEdgesCovered, AsksCell, HasStore, IsCovered, IsCoveredIfAny, IsHead, IsNumber, IsOpen, IsPermitted, IsResultCovered, Proceeds, knowledge_at, AsksKind, MayAsk}
+use Rattle.bver.specs.Justified.{AreEdgesCovered, AsksCell, HasStore, IsCovered, IsCoveredIfAny, IsHead, IsNumber, IsOpen, IsPermitted, IsResultCovered, Proceeds, knowledge_at, AsksKind, MayAsk, MayCall}
 use Rattle.bver.proofs.Rounds.{ranges_whole, words_of}
 
 -- ---- what a table permits of a state, it permits of a smaller one
@@ -60,48 +62,52 @@ number_less (Num a) (Num b) below h = tt
 number_less (Ptr r a) (Num b) below h = absurd below
 number_less (Map i) (Num b) below h = absurd below
 
-key_less : (sizes : Maps) (map : ℕ) (k l : AbsKind) → IsKindBelow k l → AsksCell sizes (Map map) l → AsksCell sizes (Map map) k
-key_less sizes map k Unset below h = absurd h
-key_less sizes map k (Ptr s b) below h = absurd h
-key_less sizes map k (Map j) below h = absurd h
-key_less sizes map Unset (Num b) below h = absurd below
-key_less sizes map (Num a) (Num b) below h = omega (arith, below.below, h)
-key_less sizes map (Ptr r a) (Num b) below h = absurd below
-key_less sizes map (Map i) (Num b) below h = absurd below
+key_less : (maps : Maps) (map : ℕ) (k l : AbsKind) → IsKindBelow k l → AsksCell maps (Map map) l → AsksCell maps (Map map) k
+key_less maps map k Unset below h = absurd h
+key_less maps map k (Ptr s b) below h = absurd h
+key_less maps map k (Map j) below h = absurd h
+key_less maps map Unset (Num b) below h = absurd below
+key_less maps map (Num a) (Num b) below h = omega (arith, below.below, h)
+key_less maps map (Ptr r a) (Num b) below h = absurd below
+key_less maps map (Map i) (Num b) below h = absurd below
 
-cell_less : (sizes : Maps) (m n k l : AbsKind) → IsKindBelow m n → IsKindBelow k l → AsksCell sizes n l → AsksCell sizes m k
-cell_less sizes m Unset k l map key h = absurd h
-cell_less sizes m (Num b) k l map key h = absurd h
-cell_less sizes m (Ptr s b) k l map key h = absurd h
-cell_less sizes Unset (Map j) k l map key h = absurd map
-cell_less sizes (Num a) (Map j) k l map key h = absurd map
-cell_less sizes (Ptr r a) (Map j) k l map key h = absurd map
-cell_less sizes (Map i) (Map j) k l map key h = subst (λ (n : ℕ). AsksCell sizes (Map n) k) (sym map) (key_less sizes j k l key h)
+cell_less : (maps : Maps) (m n k l : AbsKind) → IsKindBelow m n → IsKindBelow k l → AsksCell maps n l → AsksCell maps m k
+cell_less maps m Unset k l map key h = absurd h
+cell_less maps m (Num b) k l map key h = absurd h
+cell_less maps m (Ptr s b) k l map key h = absurd h
+cell_less maps Unset (Map j) k l map key h = absurd map
+cell_less maps (Num a) (Map j) k l map key h = absurd map
+cell_less maps (Ptr r a) (Map j) k l map key h = absurd map
+cell_less maps (Map i) (Map j) k l map key h = subst (λ (n : ℕ). AsksCell maps (Map n) k) (sym map) (key_less maps j k l key h)
 
-takes_less : (sizes : Maps) (helper : ℤ) (m n : AbsKind) → IsKindBelow m n → AsksKind sizes helper n → AsksKind sizes helper m
-takes_less sizes helper m Unset below h = absurd h
-takes_less sizes helper m (Num b) below h = absurd h
-takes_less sizes helper m (Ptr s b) below h = absurd h
-takes_less sizes helper Unset (Map j) below h = absurd below
-takes_less sizes helper (Num a) (Map j) below h = absurd below
-takes_less sizes helper (Ptr r a) (Map j) below h = absurd below
-takes_less sizes helper (Map i) (Map j) below h = subst (λ (n : ℕ). AsksKind sizes helper (Map n)) (sym below) h
+takes_less : (maps : Maps) (helper : Helper) (m n : AbsKind) → IsKindBelow m n → AsksKind maps helper n → AsksKind maps helper m
+takes_less maps helper m Unset below h = absurd h
+takes_less maps helper m (Num b) below h = absurd h
+takes_less maps helper m (Ptr s b) below h = absurd h
+takes_less maps helper Unset (Map j) below h = absurd below
+takes_less maps helper (Num a) (Map j) below h = absurd below
+takes_less maps helper (Ptr r a) (Map j) below h = absurd below
+takes_less maps helper (Map i) (Map j) below h = subst (λ (n : ℕ). AsksKind maps helper (Map n)) (sym below) h
 
 -- who knows more may ask the same
-may_less : (sizes : Maps) (helper : ℤ) (a b : StateValue) → IsBelow a b → MayAsk sizes helper b → MayAsk sizes helper a
-may_less sizes helper a b below h = record {
-  cell = cell_less sizes (kind_at a 1) (kind_at b 1) (kind_at a 2) (kind_at b 2) (below.kinds 1) (below.kinds 2) h.cell;
+may_less : (maps : Maps) (helper : Helper) (a b : StateValue) → IsBelow a b → MayAsk maps helper b → MayAsk maps helper a
+may_less maps helper a b below h = record {
+  cell = cell_less maps (kind_at a 1) (kind_at b 1) (kind_at a 2) (kind_at b 2) (below.kinds 1) (below.kinds 2) h.cell;
   given = λ takes. number_less (kind_at a 3) (kind_at b 3) (below.kinds 3) (h.given takes);
-  kind = takes_less sizes helper (kind_at a 1) (kind_at b 1) (below.kinds 1) h.kind;
+  kind = takes_less maps helper (kind_at a 1) (kind_at b 1) (below.kinds 1) h.kind;
 }
 
-pub permitted_less : ApplyGrows → RefineGrows → CallGrows → BelowIsTransitive → (spill : Spill) (sizes : Maps) (table : ℕ → Option StateValue) (slot : ℕ) (a b : StateValue) (insn : Insn) → IsWhole a → IsWhole b → IsBelow a b → IsPermitted spill sizes table slot b insn → IsPermitted spill sizes table slot a insn
-permitted_less applies refines calls transitive spill sizes table slot a b insn p q below h = by_insn insn h
+called_less : (maps : Maps) (called : Option Helper) (a b : StateValue) → IsBelow a b → MayCall maps called b → MayCall maps called a
+called_less maps None a b below h = absurd h
+called_less maps (Some helper) a b below h = may_less maps helper a b below h
+
+pub permitted_less : ApplyGrows → RefineGrows → CallGrows → BelowIsTransitive → (spill : Spill) (maps : Maps) (table : ℕ → Option StateValue) (slot : ℕ) (a b : StateValue) (insn : Insn) → IsWhole a → IsWhole b → IsBelow a b → IsPermitted spill maps table slot b insn → IsPermitted spill maps table slot a insn
+permitted_less applies refines calls transitive spill maps table slot a b insn p q below h = by_insn insn h
   where
     proceeds : (insn : Insn) → Proceeds spill table slot b insn → Proceeds spill table slot a insn
     proceeds insn h = result_covered_less transitive (after_insn spill a insn) (after_insn spill b insn) (table (slot + slots_of insn)) (applies spill a b insn p q below) h
 
-    by_insn : (insn : Insn) → IsPermitted spill sizes table slot b insn → IsPermitted spill sizes table slot a insn
+    by_insn : (insn : Insn) → IsPermitted spill maps table slot b insn → IsPermitted spill maps table slot a insn
     by_insn (Alu op width dst src) h = proceeds (Alu op width dst src) h
     by_insn (Negate width dst) h = proceeds (Negate width dst) h
     by_insn (MoveSigned extension dst src) h = proceeds (MoveSigned extension dst src) h
@@ -116,12 +122,12 @@ permitted_less applies refines calls transitive spill sizes table slot a b insn 
     by_insn (LoadMap dst index) h = (h.0, proceeds (LoadMap dst index) h.1)
     by_insn (LoadAddress dst address) h = absurd h
     by_insn (Call callee number) h = (
-      may_less sizes number a b below h.0,
+      called_less maps (helper_of number) a b below h.0,
       covered_less transitive (after_call a) (after_call b) (table (slot + 1)) (calls a b p q below) h.1,
     )
     by_insn Exit h = number_less (kind_at a 0) (kind_at b 0) (below.kinds 0) h
 
--- ---- what is raised at a head stays below a table that stands for every pass
+-- ---- what is widened at a head stays below a table that stands for every pass
 
 open_less : (lowered : Bool) (before above : AbsKind) → IsOpen above → IsKindBelow before above → (IsTrue lowered → above ≡ Unset) → IsKindBelow (opened_kind lowered before) above
 open_less lowered before Unset is_open below low = by_kind lowered before
@@ -143,34 +149,34 @@ open_less false (Num a) (Num b) is_open below low = rw is_open (record { above =
 open_less false (Ptr r a) (Num b) is_open below low = absurd below
 open_less false (Map i) (Num b) is_open below low = absurd below
 
-kind_less : (p : Program) (l : Loop) (lowered : List Bool) (place register : ℕ) (before after : AbsKind) (above : StateValue) → register ≤ 9 → IsHead p l above → AreUnset p l lowered place above → IsKindBelow before (kind_at above register) → IsRaisedKind p l lowered place register before after → IsKindBelow after (kind_at above register)
+kind_less : (p : Program) (l : Loop) (lowered : List Bool) (place register : ℕ) (before after : AbsKind) (above : StateValue) → register ≤ 9 → IsHead p l above → AreUnset p l lowered place above → IsKindBelow before (kind_at above register) → IsWidenedKind p l lowered place register before after → IsKindBelow after (kind_at above register)
 kind_less p l lowered place register before after above small head low below (counts at is) =
     rw (is, at, head.counter) (record { above = omega arith; below = omega arith })
 kind_less p l lowered place register before after above small head low below (opens other written is) =
     rw is (open_less (is_lowered lowered place register) before (kind_at above register) (head.others register other written) below (low register small other written))
 kind_less p l lowered place register before after above small head low below (keeps other unwritten is) = rw is below
 
--- the ranges of places: where the loop stores the table has whole ones, and else they are kept
-ranges_below : (p : Program) (l : Loop) (before after above : StateValue) → IsWhole after → (HasStore p l → AreAllWhole above.ranges) → AreRangesWithin before.ranges above.ranges → AreRaisedRanges p l before after → AreRangesWithin after.ranges above.ranges
-ranges_below p l before after above proper wide below (widens stored is) = ranges_whole after.ranges above.ranges (words_of after proper) (wide stored)
+-- the ranges of words: where the loop stores the table has whole ones, and else they are kept
+ranges_below : (p : Program) (l : Loop) (before after above : StateValue) → IsWhole after → (HasStore p l → AreAllWhole above.ranges) → AreRangesWithin before.ranges above.ranges → AreWidenedRanges p l before after → AreRangesWithin after.ranges above.ranges
+ranges_below p l before after above proper wide below (forgets stored is) = ranges_whole after.ranges above.ranges (words_of after proper) (wide stored)
 ranges_below p l before after above proper wide below (retains out is) = rw is below
 
-pub raised_less : (p : Program) (l : Loop) (lowered : List Bool) (place : ℕ) (before after above : StateValue) → IsWhole before → IsWhole after → IsHead p l above → (HasStore p l → AreAllWhole above.ranges) → AreUnset p l lowered place above → IsBelow before above → IsRaised p l lowered place before after → IsBelow after above
-raised_less p l lowered place before after above p_before p_after head wide low below raised = record {
+pub widened_less : (p : Program) (l : Loop) (lowered : List Bool) (place : ℕ) (before after above : StateValue) → IsWhole before → IsWhole after → IsHead p l above → (HasStore p l → AreAllWhole above.ranges) → AreUnset p l lowered place above → IsBelow before above → IsWidened p l lowered place before after → IsBelow after above
+widened_less p l lowered place before after above p_before p_after head wide low below widened = record {
   kinds = λ register.
       elim (cases_lt register 10) [
-        | inl small ↦ kind_less p l lowered place register (kind_at before register) (kind_at after register) above (omega (arith, small)) head low (below.kinds register) (raised.registers register (omega (arith, small)))
+        | inl small ↦ kind_less p l lowered place register (kind_at before register) (kind_at after register) above (omega (arith, small)) head low (below.kinds register) (widened.registers register (omega (arith, small)))
         | inr past ↦ elim (cases_lt 10 register) [
           | inl beyond ↦
               rw (get_or_past after.kinds register Unset (omega (arith, beyond, p_after.sizes.registers)))
               (rw (get_or_past before.kinds register Unset (omega (arith, beyond, p_before.sizes.registers))) at (below.kinds register))
           | inr at ↦
               let same : 10 ≡ register = omega (arith, past, at) in
-              subst (λ (r : ℕ). IsKindBelow (kind_at after r) (kind_at above r)) same (rw raised.frame (below.kinds 10))
+              subst (λ (r : ℕ). IsKindBelow (kind_at after r) (kind_at above r)) same (rw widened.frame (below.kinds 10))
         ]
       ];
-  marks = λ mark is. rw raised.marks (below.marks mark is);
-  ranges = ranges_below p l before after above p_after wide below.ranges raised.ranges;
+  marks = λ mark is. rw widened.marks (below.marks mark is);
+  ranges = ranges_below p l before after above p_after wide below.ranges widened.ranges;
 }
 
 -- a head that is entered outside its bound is in no such table

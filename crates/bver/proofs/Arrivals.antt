@@ -8,7 +8,8 @@ use Rattle.bpf_parts.specs.declared.memory.Size.{Size}
 use Rattle.bpf_insn.specs.declared.flow.Flow.{Flow}
 use Rattle.bpf_insn.specs.declared.flow.Flow.TheVariants.{GoesOn, Branches, Jumps, Calls, Ends}
 use Rattle.bpf_parts.specs.declared.callee.Callee.{Callee}
-use Rattle.bpf_parts.specs.declared.callee.Callee.TheVariants.{Helper, Local, ByTypeId}
+use Rattle.bpf_parts.specs.declared.callee.Callee.TheVariants.{Local, ByTypeId}
+use Rattle.bpf_parts.specs.declared.callee.Callee.TheVariants as callees
 use Rattle.bpf_insn.specs.declared.insn.Insn.{Insn}
 use Rattle.bpf_insn.specs.declared.insn.Insn.TheVariants.{Alu, Negate, MoveSigned, ByteSwap, Load, Store, Jump, Goto, Wide, LoadMap, LoadAddress, Exit}
 use Rattle.bpf_insn.specs.declared.insn.Insn.TheVariants as insns
@@ -22,7 +23,9 @@ use Rattle.machine.specs.Words.{holds_words}
 use Rattle.machine.specs.Memory.{Header, place_of}
 use Rattle.bpf_parts.specs.Sizes.{size_bytes}
 use Rattle.machine.specs.State.{State, state, register_after}
-use Rattle.machine.specs.Step.{Question, Outcome, Next, Ask, Verdict, Trap, perform, insn_at, operand, writes, puts, stores, compares, branches, lands, asks, calls, exits, map_at, is_helper, argument_of}
+use Rattle.machine.specs.declared.helpers.Helper.{Helper}
+use Rattle.machine.specs.Helpers.{helper_of}
+use Rattle.machine.specs.Step.{Question, Outcome, Next, Ask, Verdict, Trap, perform, insn_at, operand, writes, puts, stores, compares, branches, lands, asks, calls, exits, map_at, calls_helper, argument_of}
 use Rattle.bver_form.specs.Jumps.{target}
 use Rattle.bver_form.specs.Loops.{IsEdge, GoesTo}
 
@@ -108,7 +111,7 @@ exits_edge slot after (Num n) = tt
 exits_edge slot after (Ptr region offset) = tt
 exits_edge slot after (Map index) = tt
 
-asks_edge : (s : State) (callee : Callee) (number helper : ℤ) (map key : Value) (argument : Option ℕ) → IsOnEdge (Calls callee number) s.slot (s.slot + 1) (asks s helper map key argument)
+asks_edge : (s : State) (callee : Callee) (number : ℤ) (helper : Helper) (map key : Value) (argument : Option ℕ) → IsOnEdge (Calls callee number) s.slot (s.slot + 1) (asks s helper map key argument)
 asks_edge s callee number helper (Map map) (Num key) (Some argument) = λ answer. refl
 asks_edge s callee number helper (Map map) (Num key) None = tt
 asks_edge s callee number helper (Map map) Unset argument = tt
@@ -119,11 +122,11 @@ asks_edge s callee number helper (Num n) key argument = tt
 asks_edge s callee number helper (Ptr region offset) key argument = tt
 
 calls_edge : (s : State) (callee : Callee) (number : ℤ) → IsOnEdge (Calls callee number) s.slot (s.slot + 1) (calls s callee number)
-calls_edge s Helper number = by_helper (is_helper number)
+calls_edge s callees.Helper number = by_helper (helper_of number)
   where
-    by_helper : (is : Bool) → IsOnEdge (Calls Helper number) s.slot (s.slot + 1) (if is then asks s number (s.registers 1) (s.registers 2) (argument_of number (s.registers 3)) else Trap)
-    by_helper true = asks_edge s Helper number number (s.registers 1) (s.registers 2) (argument_of number (s.registers 3))
-    by_helper false = tt
+    by_helper : (called : Option Helper) → IsOnEdge (Calls callees.Helper number) s.slot (s.slot + 1) (calls_helper s called)
+    by_helper None = tt
+    by_helper (Some helper) = asks_edge s callees.Helper number helper (s.registers 1) (s.registers 2) (argument_of helper (s.registers 3))
 calls_edge s Local number = tt
 calls_edge s ByTypeId number = tt
 

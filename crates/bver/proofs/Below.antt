@@ -17,7 +17,7 @@ use Rattle.absdom.specs.declared.cause.Cause.{Cause}
 use Rattle.absdom.specs.Edges.{Edges}
 use Rattle.absdom.specs.Effect.{after_insn}
 use Rattle.absdom.specs.State.{StateValue, IsEntry, IsBelow, IsWhole, entry_kinds}
-use Rattle.absdom.specs.Places.{AreAllWhole}
+use Rattle.absdom.specs.StackWords.{AreAllWhole}
 use Rattle.absdom.specs.Laws.{ApplyGrows, BelowIsReflexive, BelowIsTransitive, CallGrows, RefineGrows}
 use Rattle.absdom.specs.declared.spill.Spill.{Spill}
 use Rattle.absdom.specs.Spill.{spill_of}
@@ -27,11 +27,11 @@ use Rattle.bver_form.specs.Targets.{IsKept, IsPlain}
 use Rattle.bver_form.specs.Lowered.{is_lowered}
 use Rattle.bver.specs.Heads.{AreUnset, Falls, HasLowered, IsDeclared, IsWithinBound}
 use Rattle.bver.specs.Justified.{AreEdgesCovered, HasStore, IsCovered, IsCoveredIfAny, IsEntered, IsHead, IsPermitted, IsPermittedAt, IsResultCovered, edges_of_comparison, knowledge_at}
-use Rattle.bver.specs.Leading.{AreLoweredBack, BranchesBelow, EntersOutsideIfAny, GivesBelow, IsFlowFault, IsFollowedBelow, IsRaisedAt, IsLeastVisit, IsLoweredBackIfAny, IsRaisedIfAny, IsUncovered, IsUncoveredIfAny, IsVisitFault, IsVisitFaultIfAny, LeadsBelow, enters, jumping_if_any, jumping_state, leads, raises, refutes, returns, stays}
+use Rattle.bver.specs.Leading.{AreLoweredBack, BranchesBelow, EntersOutsideIfAny, GivesBelow, IsFlowFault, IsFollowedBelow, IsWidenedAt, IsLeastVisit, IsLoweredBackIfAny, IsWidenedIfAny, IsUncovered, IsUncoveredIfAny, IsVisitFault, IsVisitFaultIfAny, LeadsBelow, enters, jumping_if_any, jumping_state, leads, widens, refutes, returns, stays}
 use Rattle.bver.specs.Table.{TableValue, knowledge_in}
 use Rattle.bver.specs.Unjustified.{IsRefuted, Justifies}
 use Rattle.bver.specs.Visit.{AreWhole, IsExtended, IsInsnVisit, IsLeastNext, IsLeastOf, VisitValue, visited_state}
-use Rattle.bver.proofs.Above.{entry_refuted, permitted_less, raised_less}
+use Rattle.bver.proofs.Above.{entry_refuted, permitted_less, widened_less}
 use Rattle.bver.proofs.Covering.{AreCovered}
 use Rattle.bver.proofs.Passing.{StandsAt}
 use Rattle.bver.proofs.Slots.{goes_further, none_between}
@@ -46,13 +46,13 @@ edges_lead : (r : Result Edges Cause) (taken next : Option StateValue) → AreEd
 edges_lead (Err cause) taken next h = absurd h
 edges_lead (Ok edges) taken next h = h
 
-pub permitted_leads : (spill : Spill) (sizes : Maps) (table : ℕ → Option StateValue) (slot : ℕ) (a : StateValue) (insn : Insn) → IsPermitted spill sizes table slot a insn → LeadsBelow spill table slot a insn
-permitted_leads spill sizes table slot a insn h = by_insn insn h
+pub permitted_leads : (spill : Spill) (maps : Maps) (table : ℕ → Option StateValue) (slot : ℕ) (a : StateValue) (insn : Insn) → IsPermitted spill maps table slot a insn → LeadsBelow spill table slot a insn
+permitted_leads spill maps table slot a insn h = by_insn insn h
   where
     proceeds : (insn : Insn) → IsResultCovered (after_insn spill a insn) (table (slot + slots_of insn)) → GivesBelow (after_insn spill a insn) (table (slot + slots_of insn))
     proceeds insn h = result_leads (after_insn spill a insn) (table (slot + slots_of insn)) h
 
-    by_insn : (insn : Insn) → IsPermitted spill sizes table slot a insn → LeadsBelow spill table slot a insn
+    by_insn : (insn : Insn) → IsPermitted spill maps table slot a insn → LeadsBelow spill table slot a insn
     by_insn (Alu op width dst src) h = proceeds (Alu op width dst src) h
     by_insn (Negate width dst) h = proceeds (Negate width dst) h
     by_insn (MoveSigned extension dst src) h = proceeds (MoveSigned extension dst src) h
@@ -94,10 +94,10 @@ result_refuted : (r : Result StateValue Cause) (there : Option StateValue) → I
 result_refuted (Err cause) there fails h = h
 result_refuted (Ok a) there fails h = absurd cc
 
-refuted_on : (spill : Spill) (sizes : Maps) (slot : ℕ) (a : StateValue) (insn : Insn) → flow_of insn ≡ GoesOn → IsErr (after_insn spill a insn) → IsRefuted spill sizes slot a insn
-refuted_on spill sizes slot a insn goes fails table h = by_insn insn goes fails h
+refuted_on : (spill : Spill) (maps : Maps) (slot : ℕ) (a : StateValue) (insn : Insn) → flow_of insn ≡ GoesOn → IsErr (after_insn spill a insn) → IsRefuted spill maps slot a insn
+refuted_on spill maps slot a insn goes fails table h = by_insn insn goes fails h
   where
-    by_insn : (insn : Insn) → flow_of insn ≡ GoesOn → IsErr (after_insn spill a insn) → IsPermitted spill sizes table slot a insn → ⊥
+    by_insn : (insn : Insn) → flow_of insn ≡ GoesOn → IsErr (after_insn spill a insn) → IsPermitted spill maps table slot a insn → ⊥
     by_insn (Alu op width dst src) goes fails h = result_refuted (after_insn spill a (Alu op width dst src)) _ fails h
     by_insn (Negate width dst) goes fails h = result_refuted (after_insn spill a (Negate width dst)) _ fails h
     by_insn (MoveSigned extension dst src) goes fails h = result_refuted (after_insn spill a (MoveSigned extension dst src)) _ fails h
@@ -115,7 +115,7 @@ refuted_on spill sizes slot a insn goes fails table h = by_insn insn goes fails 
 pub straight_fault : (r : Result Bool Refused) (v : VisitValue) (lowered : List Bool) (known : ℕ → Option StateValue) (a : StateValue) (insn : Insn) → flow_of insn ≡ GoesOn
     → IfErr r (λ refused. IsErr (after_insn (spill_of v.program.version) a insn)) → IfErr r (λ refused. IsFlowFault v lowered known a insn)
 straight_fault (Ok runs) v lowered known a insn goes fails = tt
-straight_fault (Err refused) v lowered known a insn goes fails = refutes (refuted_on (spill_of v.program.version) v.sizes v.slot a insn goes fails)
+straight_fault (Err refused) v lowered known a insn goes fails = refutes (refuted_on (spill_of v.program.version) v.maps v.slot a insn goes fails)
 
 -- ---- from one slot of a pass to the next
 
@@ -189,12 +189,12 @@ below_none p table state above known = record { known = known; running = λ on. 
 
 -- where nothing is known
 pub least_nothing : (v : VisitValue) (lowered now : List Bool) (old new : TableValue) (was : Bool) (before after : StateValue) (insn : Insn) → visited_state was before new v.slot ≡ None → now ≡ lowered
-    → IsRaisedIfAny v.program lowered v.slot (visited_state was before old v.slot) (visited_state was before new v.slot)
+    → IsWidenedIfAny v.program lowered v.slot (visited_state was before old v.slot) (visited_state was before new v.slot)
     → IsLeastOf (λ above. IsCoveredIfAny (visited_state was before new v.slot) (above v.slot)) old new
     → IsLeastVisit v lowered now old new was was before after insn
-least_nothing v lowered now old new true before after insn none unlowered raised least = absurd cc
-least_nothing v lowered now old new false before after insn none unlowered raised least = record {
-  raised = raised;
+least_nothing v lowered now old new true before after insn none unlowered widened least = absurd cc
+least_nothing v lowered now old new false before after insn none unlowered widened least = record {
+  widened = widened;
   least = λ above grown followed. (least above grown (subst (λ (o : Option StateValue). IsCoveredIfAny o (above v.slot)) (sym none) tt), λ on. absurd (false≢true on));
   marks = λ place register small. inl (ap (λ (marks : List Bool). is_lowered marks place register) unlowered);
 }
@@ -216,14 +216,14 @@ lowered_before p slot mid old edge lowered now same marks place register small =
 
 -- where something is
 pub least_insn : (v : VisitValue) (lowered now : List Bool) (old mid new : TableValue) (was runs : Bool) (before here after : StateValue) (insn : Insn) → visited_state was before mid v.slot ≡ Some here
-    → IsRaisedIfAny v.program lowered v.slot (visited_state was before old v.slot) (visited_state was before mid v.slot)
+    → IsWidenedIfAny v.program lowered v.slot (visited_state was before old v.slot) (visited_state was before mid v.slot)
     → IsLeastOf (λ above. IsCoveredIfAny (visited_state was before mid v.slot) (above v.slot)) old mid
     → IsLeastNext (λ above. LeadsBelow (spill_of v.program.version) above v.slot here insn) mid new runs (v.slot + slots_of insn) after
     → AreLoweredBack v.program v.slot (knowledge_in mid) (jumping_state here insn) lowered now
     → IsExtended v.slot old mid → IsExtended (v.slot + 1) mid new
     → IsLeastVisit v lowered now old new was runs before after insn
-least_insn v lowered now old mid new was runs before here after insn known raised first second marks entered extended = record {
-  raised = subst (λ (o : Option StateValue). IsRaisedIfAny v.program lowered v.slot (visited_state was before old v.slot) o) (sym same) raised;
+least_insn v lowered now old mid new was runs before here after insn known widened first second marks entered extended = record {
+  widened = subst (λ (o : Option StateValue). IsWidenedIfAny v.program lowered v.slot (visited_state was before old v.slot) o) (sym same) widened;
   least = λ above grown followed.
       let led : IsCovered here (above v.slot) × LeadsBelow (spill_of v.program.version) above v.slot here insn = subst (λ (o : Option StateValue). IsFollowedBelow (spill_of v.program.version) above v.slot o insn) (same ∙ known) followed in
       second above (first above grown (subst (λ (o : Option StateValue). IsCoveredIfAny o (above v.slot)) (sym known) led.0)) led.1;
@@ -264,15 +264,15 @@ enters_fault v lowered known None insn fault = fault
 enters_fault v lowered known (Some a) insn fault = enters fault
 
 pub leads_fault : (v : VisitValue) (lowered : List Bool) (old mid : TableValue) (was : Bool) (before here : StateValue) (insn : Insn) → visited_state was before mid v.slot ≡ Some here → IsWhole here
-    → IsRaisedIfAny v.program lowered v.slot (visited_state was before old v.slot) (visited_state was before mid v.slot)
+    → IsWidenedIfAny v.program lowered v.slot (visited_state was before old v.slot) (visited_state was before mid v.slot)
     → IsExtended v.slot old mid → IsFlowFault v lowered (knowledge_in mid) here insn
     → IsVisitFaultIfAny v lowered (knowledge_in old) (visited_state was before old v.slot) (Some insn)
-leads_fault v lowered old mid was before here insn known whole raised extended fault =
-    by_came (visited_state was before old v.slot) (subst (λ (o : Option StateValue). IsRaisedIfAny v.program lowered v.slot (visited_state was before old v.slot) o) known raised)
+leads_fault v lowered old mid was before here insn known whole widened extended fault =
+    by_came (visited_state was before old v.slot) (subst (λ (o : Option StateValue). IsWidenedIfAny v.program lowered v.slot (visited_state was before old v.slot) o) known widened)
   where
-    by_came : (came : Option StateValue) → IsRaisedIfAny v.program lowered v.slot came (Some here) → IsVisitFaultIfAny v lowered (knowledge_in old) came (Some insn)
-    by_came None raised = raised
-    by_came (Some a) raised = leads here whole raised (fault_before v lowered (knowledge_in mid) (knowledge_in old) here insn extended.kept fault)
+    by_came : (came : Option StateValue) → IsWidenedIfAny v.program lowered v.slot came (Some here) → IsVisitFaultIfAny v lowered (knowledge_in old) came (Some insn)
+    by_came None widened = widened
+    by_came (Some a) widened = leads here whole widened (fault_before v lowered (knowledge_in mid) (knowledge_in old) here insn extended.kept fault)
 
 -- ---- below a table under which the program is justified
 
@@ -285,37 +285,37 @@ pub record Order : Type 0 where
   pub calls : CallGrows
 
 -- what stands at the head of a loop in the table
-pub head_in : (p : Program) (sizes : Maps) (table : ℕ → Option StateValue) (l : Loop) (place : ℕ) → Justifies p sizes table → IsDeclared p l place → IfSome (table l.head) (IsHead p l)
-head_in p sizes table l place h declared = subst (λ (m : Loop). IfSome (table m.head) (IsHead p m)) (declared.is l) (h.heads place l declared.inside)
+pub head_in : (p : Program) (maps : Maps) (table : ℕ → Option StateValue) (l : Loop) (place : ℕ) → Justifies p maps table → IsDeclared p l place → IfSome (table l.head) (IsHead p l)
+head_in p maps table l place h declared = subst (λ (m : Loop). IfSome (table m.head) (IsHead p m)) (declared.is l) (h.heads place l declared.inside)
 
-places_in : (p : Program) (sizes : Maps) (table : ℕ → Option StateValue) (l : Loop) (place : ℕ) → Justifies p sizes table → IsDeclared p l place → IfSome (table l.head) (λ a. HasStore p l → AreAllWhole a.ranges)
-places_in p sizes table l place h declared =
-    subst (λ (m : Loop). IfSome (table m.head) (λ a. HasStore p m → AreAllWhole a.ranges)) (declared.is l) (h.places place l declared.inside)
+places_in : (p : Program) (maps : Maps) (table : ℕ → Option StateValue) (l : Loop) (place : ℕ) → Justifies p maps table → IsDeclared p l place → IfSome (table l.head) (λ a. HasStore p l → AreAllWhole a.ranges)
+places_in p maps table l place h declared =
+    subst (λ (m : Loop). IfSome (table m.head) (λ a. HasStore p m → AreAllWhole a.ranges)) (declared.is l) (h.words place l declared.inside)
 
--- what comes to a slot is covered there once it is raised
-raised_covered : (p : Program) (sizes : Maps) (table : ℕ → Option StateValue) (lowered : List Bool) (slot : ℕ) (before after : Option StateValue) → Justifies p sizes table → HasLowered p lowered table → IfSome before IsWhole → IfSome after IsWhole → IsCoveredIfAny before (table slot) → IsRaisedIfAny p lowered slot before after → IsCoveredIfAny after (table slot)
-raised_covered p sizes table lowered slot before None h low old new covered raised = tt
-raised_covered p sizes table lowered slot None (Some a) h low old new covered raised = absurd raised
-raised_covered p sizes table lowered slot (Some b) (Some a) h low old new covered (stays none same) = subst (λ (s : StateValue). IsCovered s (table slot)) (sym same) covered
-raised_covered p sizes table lowered slot (Some b) (Some a) h low old new covered (raises l place declared at raised) =
+-- what comes to a slot is covered there once it is widened
+widened_covered : (p : Program) (maps : Maps) (table : ℕ → Option StateValue) (lowered : List Bool) (slot : ℕ) (before after : Option StateValue) → Justifies p maps table → HasLowered p lowered table → IfSome before IsWhole → IfSome after IsWhole → IsCoveredIfAny before (table slot) → IsWidenedIfAny p lowered slot before after → IsCoveredIfAny after (table slot)
+widened_covered p maps table lowered slot before None h low old new covered widened = tt
+widened_covered p maps table lowered slot None (Some a) h low old new covered widened = absurd widened
+widened_covered p maps table lowered slot (Some b) (Some a) h low old new covered (stays none same) = subst (λ (s : StateValue). IsCovered s (table slot)) (sym same) covered
+widened_covered p maps table lowered slot (Some b) (Some a) h low old new covered (widens l place declared at widened) =
     by_there (table slot)
-    (subst (λ (k : ℕ). IfSome (table k) (IsHead p l)) at (head_in p sizes table l place h declared))
-    (subst (λ (k : ℕ). IfSome (table k) (λ d. HasStore p l → AreAllWhole d.ranges)) at (places_in p sizes table l place h declared))
+    (subst (λ (k : ℕ). IfSome (table k) (IsHead p l)) at (head_in p maps table l place h declared))
+    (subst (λ (k : ℕ). IfSome (table k) (λ d. HasStore p l → AreAllWhole d.ranges)) at (places_in p maps table l place h declared))
     (subst (λ (k : ℕ). IfSome (table k) (AreUnset p l lowered place)) at (low l place declared))
     covered
   where
     by_there : (there : Option StateValue) → IfSome there (IsHead p l) → IfSome there (λ d. HasStore p l → AreAllWhole d.ranges) → IfSome there (AreUnset p l lowered place) → IsCovered b there → IsCovered a there
     by_there None head wide unset below = absurd below
-    by_there (Some d) head wide unset below = raised_less p l lowered place b a d old new head wide unset below raised
+    by_there (Some d) head wide unset below = widened_less p l lowered place b a d old new head wide unset below widened
 
 -- what is known of a state that the table covers is permitted by it
-pub permitted_there : Order → (p : Program) (sizes : Maps) (table : ℕ → Option StateValue) (slot : ℕ) (a : StateValue) (insn : Insn) → Justifies p sizes table → insn_at p slot ≡ Some insn → IsWhole a → IsCovered a (table slot) → IsPermitted (spill_of p.version) sizes table slot a insn
-permitted_there order p sizes table slot a insn h begins whole covered =
-    by_there (table slot) (h.whole slot) covered (subst (λ (o : Option Insn). IsPermittedAt (spill_of p.version) sizes table slot (table slot) o) begins (h.permitted slot))
+pub permitted_there : Order → (p : Program) (maps : Maps) (table : ℕ → Option StateValue) (slot : ℕ) (a : StateValue) (insn : Insn) → Justifies p maps table → insn_at p slot ≡ Some insn → IsWhole a → IsCovered a (table slot) → IsPermitted (spill_of p.version) maps table slot a insn
+permitted_there order p maps table slot a insn h begins whole covered =
+    by_there (table slot) (h.whole slot) covered (subst (λ (o : Option Insn). IsPermittedAt (spill_of p.version) maps table slot (table slot) o) begins (h.permitted slot))
   where
-    by_there : (there : Option StateValue) → IfSome there IsWhole → IsCovered a there → IsPermittedAt (spill_of p.version) sizes table slot there (Some insn) → IsPermitted (spill_of p.version) sizes table slot a insn
+    by_there : (there : Option StateValue) → IfSome there IsWhole → IsCovered a there → IsPermittedAt (spill_of p.version) maps table slot there (Some insn) → IsPermitted (spill_of p.version) maps table slot a insn
     by_there None proper below permitted = absurd below
-    by_there (Some d) proper below permitted = permitted_less order.applies order.refines order.calls order.transitive (spill_of p.version) sizes table slot a d insn whole proper below permitted
+    by_there (Some d) proper below permitted = permitted_less order.applies order.refines order.calls order.transitive (spill_of p.version) maps table slot a d insn whole proper below permitted
 
 -- what comes to a slot is whole
 pub comes_whole : (runs : Bool) (state : StateValue) (table : TableValue) (slot : ℕ) → IsWhole state → AreWhole (knowledge_in table) → IfSome (visited_state runs state table slot) IsWhole
@@ -323,58 +323,58 @@ comes_whole false state table slot proper whole = whole slot
 comes_whole true state table slot proper whole = proper
 
 -- what is known at the slot of an instruction, where the table covers it, is followed below the table
-followed_there : Order → (p : Program) (sizes : Maps) (table : ℕ → Option StateValue) (slot : ℕ) (known : Option StateValue) (insn : Insn) → Justifies p sizes table → insn_at p slot ≡ Some insn → IfSome known IsWhole → IsCoveredIfAny known (table slot) → IsFollowedBelow (spill_of p.version) table slot known insn
-followed_there order p sizes table slot None insn h begins whole covered = tt
-followed_there order p sizes table slot (Some a) insn h begins whole covered =
-    (covered, permitted_leads (spill_of p.version) sizes table slot a insn (permitted_there order p sizes table slot a insn h begins whole covered))
+followed_there : Order → (p : Program) (maps : Maps) (table : ℕ → Option StateValue) (slot : ℕ) (known : Option StateValue) (insn : Insn) → Justifies p maps table → insn_at p slot ≡ Some insn → IfSome known IsWhole → IsCoveredIfAny known (table slot) → IsFollowedBelow (spill_of p.version) table slot known insn
+followed_there order p maps table slot None insn h begins whole covered = tt
+followed_there order p maps table slot (Some a) insn h begins whole covered =
+    (covered, permitted_leads (spill_of p.version) maps table slot a insn (permitted_there order p maps table slot a insn h begins whole covered))
 
--- what comes to the slot of an instruction, raised, is covered by a table under which the program is justified
+-- what comes to the slot of an instruction, widened, is covered by a table under which the program is justified
 pub here_covered : (v : VisitValue) (lowered : List Bool) (old new : TableValue) (was : Bool) (before : StateValue) (insn : Insn) (above : ℕ → Option StateValue)
     → insn_at v.program v.slot ≡ Some insn → (IsTrue was → IsKept v.program v.slot → ⊥)
     → IsWhole before → AreWhole (knowledge_in old) → AreWhole (knowledge_in new)
-    → Justifies v.program v.sizes above → HasLowered v.program lowered above
-    → IsRaisedIfAny v.program lowered v.slot (visited_state was before old v.slot) (visited_state was before new v.slot)
+    → Justifies v.program v.maps above → HasLowered v.program lowered above
+    → IsWidenedIfAny v.program lowered v.slot (visited_state was before old v.slot) (visited_state was before new v.slot)
     → StaysBelow v.program old was before v.slot above → IsCoveredIfAny (visited_state was before new v.slot) (above v.slot)
-here_covered v lowered old new was before insn above begins plain proper whole new_whole h low raised below =
-    raised_covered v.program v.sizes above lowered v.slot (visited_state was before old v.slot) (visited_state was before new v.slot) h low
+here_covered v lowered old new was before insn above begins plain proper whole new_whole h low widened below =
+    widened_covered v.program v.maps above lowered v.slot (visited_state was before old v.slot) (visited_state was before new v.slot) h low
     (comes_whole was before old v.slot proper whole) (comes_whole was before new v.slot proper new_whole)
-    (comes_below v.program old was before v.slot insn above begins plain below) raised
+    (comes_below v.program old was before v.slot insn above begins plain below) widened
 
 -- after the visit of an instruction
 pub justified_next : Order → (v : VisitValue) (lowered now : List Bool) (old new : TableValue) (was runs : Bool) (before after : StateValue) (settled : Type 0) (region : Option Region) (insn : Insn) (above : ℕ → Option StateValue)
     → IsProgram v.program → insn_at v.program v.slot ≡ Some insn → (IsTrue was → IsKept v.program v.slot → ⊥)
     → IsWhole before → AreWhole (knowledge_in old)
-    → Justifies v.program v.sizes above → HasLowered v.program lowered above
+    → Justifies v.program v.maps above → HasLowered v.program lowered above
     → IsInsnVisit v old new was runs before after settled region insn → IsLeastVisit v lowered now old new was runs before after insn
     → StaysBelow v.program old was before v.slot above → StaysBelow v.program new runs after (v.slot + 1) above
 justified_next order v lowered now old new was runs before after settled region insn above limits begins plain proper whole h low visit least below =
     below_next v lowered now old new was runs before after insn above limits begins visit.plain least
-    (followed_there order v.program v.sizes above v.slot (visited_state was before new v.slot) insn h begins (comes_whole was before new v.slot proper (visit.extended.whole whole))
-    (here_covered v lowered old new was before insn above begins plain proper whole (visit.extended.whole whole) h low least.raised below))
+    (followed_there order v.program v.maps above v.slot (visited_state was before new v.slot) insn h begins (comes_whole was before new v.slot proper (visit.extended.whole whole))
+    (here_covered v lowered old new was before insn above begins plain proper whole (visit.extended.whole whole) h low least.widened below))
     below
 
 -- an edge back that is refused
 abbrev pub IsRefusedBack : (v : VisitValue) (lowered : List Bool) (known : ℕ → Option StateValue) (insn : Insn) (before here edge : StateValue) → Type 0
 IsRefusedBack v lowered known insn before here edge =
-    IsWhole before × IsWhole here × IsRaisedAt v.program lowered v.slot before here × (jumping_state here insn ≡ Some edge) × IsUncovered v.program v.slot lowered known edge
+    IsWhole before × IsWhole here × IsWidenedAt v.program lowered v.slot before here × (jumping_state here insn ≡ Some edge) × IsUncovered v.program v.slot lowered known edge
 
 -- what a visit is refused for, a table under which the program is justified rules out, but for an edge back
 pub visit_refuted : Order → (v : VisitValue) (lowered : List Bool) (old : TableValue) (was : Bool) (before : StateValue) (known : ℕ → Option StateValue) (insn : Insn) (above : ℕ → Option StateValue)
     → insn_at v.program v.slot ≡ Some insn → (IsTrue was → IsKept v.program v.slot → ⊥)
     → IsWhole before → AreWhole (knowledge_in old)
-    → Justifies v.program v.sizes above → HasLowered v.program lowered above → StaysBelow v.program old was before v.slot above
+    → Justifies v.program v.maps above → HasLowered v.program lowered above → StaysBelow v.program old was before v.slot above
     → ((a here edge : StateValue) → visited_state was before old v.slot ≡ Some a → IsRefusedBack v lowered known insn a here edge → ⊥)
     → IsVisitFaultIfAny v lowered known (visited_state was before old v.slot) (Some insn) → ⊥
 visit_refuted order v lowered old was before known insn above begins plain proper whole h low below covers fault =
     by_state (visited_state was before old v.slot) refl (comes_whole was before old v.slot proper whole) (comes_below v.program old was before v.slot insn above begins plain below) fault
   where
-    by_flow : (a here : StateValue) → visited_state was before old v.slot ≡ Some a → IsWhole a → IsWhole here → IsRaisedAt v.program lowered v.slot a here → IsCovered here (above v.slot) → IsFlowFault v lowered known here insn → ⊥
-    by_flow a here came whole here_whole raised covered (refutes refuted) = refuted above (permitted_there order v.program v.sizes above v.slot here insn h begins here_whole covered)
-    by_flow a here came whole here_whole raised covered (returns uncovered) = by_edge (jumping_state here insn) refl uncovered
+    by_flow : (a here : StateValue) → visited_state was before old v.slot ≡ Some a → IsWhole a → IsWhole here → IsWidenedAt v.program lowered v.slot a here → IsCovered here (above v.slot) → IsFlowFault v lowered known here insn → ⊥
+    by_flow a here came whole here_whole widened covered (refutes refuted) = refuted above (permitted_there order v.program v.maps above v.slot here insn h begins here_whole covered)
+    by_flow a here came whole here_whole widened covered (returns uncovered) = by_edge (jumping_state here insn) refl uncovered
       where
         by_edge : (edge : Option StateValue) → jumping_state here insn ≡ edge → IsUncoveredIfAny v.program v.slot lowered known edge → ⊥
         by_edge None is uncovered = uncovered
-        by_edge (Some edge) is uncovered = covers a here edge came (whole, here_whole, raised, is, uncovered)
+        by_edge (Some edge) is uncovered = covers a here edge came (whole, here_whole, widened, is, uncovered)
 
     by_head : (l : Loop) (a : StateValue) (there : Option StateValue) → IfSome there (IsHead v.program l) → IsCovered a there → (IsWithinBound l a → ⊥) → ⊥
     by_head l a None head covered outside = covered
@@ -382,9 +382,9 @@ visit_refuted order v lowered old was before known insn above begins plain prope
 
     by_fault : (a : StateValue) → visited_state was before old v.slot ≡ Some a → IsWhole a → IsCovered a (above v.slot) → IsVisitFault v lowered known a insn → ⊥
     by_fault a came whole covered (enters f) =
-        by_head f.declared a (above v.slot) (subst (λ (k : ℕ). IfSome (above k) (IsHead v.program f.declared)) f.head (head_in v.program v.sizes above f.declared f.place h f.is)) covered f.outside
-    by_fault a came whole covered (leads here here_whole raised flow) =
-        by_flow a here came whole here_whole raised (raised_covered v.program v.sizes above lowered v.slot (Some a) (Some here) h low whole here_whole covered raised) flow
+        by_head f.declared a (above v.slot) (subst (λ (k : ℕ). IfSome (above k) (IsHead v.program f.declared)) f.head (head_in v.program v.maps above f.declared f.place h f.is)) covered f.outside
+    by_fault a came whole covered (leads here here_whole widened flow) =
+        by_flow a here came whole here_whole widened (widened_covered v.program v.maps above lowered v.slot (Some a) (Some here) h low whole here_whole covered widened) flow
 
     by_state : (came : Option StateValue) → visited_state was before old v.slot ≡ came → IfSome came IsWhole → IsCoveredIfAny came (above v.slot) → IsVisitFaultIfAny v lowered known came (Some insn) → ⊥
     by_state None is whole covered fault = fault

@@ -11,25 +11,25 @@ use Rattle.machine.specs.Step.{insn_at}
 use Rattle.absdom.specs.declared.kinds.AbsKind.{AbsKind}
 use Rattle.absdom.specs.declared.kinds.AbsKind.TheVariants.{Unset, Num, Ptr, Map}
 use Rattle.absdom.specs.State.{StateValue, IsBelow, IsWhole, kind_at}
-use Rattle.absdom.specs.Places.{AreAllWhole}
+use Rattle.absdom.specs.StackWords.{AreAllWhole}
 use Rattle.absdom.specs.Spill.{spill_of}
 use Rattle.bver_form.specs.Form.{IsFormed}
 use Rattle.bver_form.specs.Laws.{LoopsAreEntered}
 use Rattle.bver_form.specs.Loops.{ComesIn, IsEdge, IsInside, IsLoopFormed, IsNestedOrApart, holds, step_down}
 use Rattle.bver_form.specs.Lowered.{is_lowered}
 use Rattle.bver_form.specs.Targets.{IsKept}
-use Rattle.bver.specs.Heads.{IsDeclared, IsRaised, IsRaisedKind, counts, is_number, keeps, opened_kind, opens}
+use Rattle.bver.specs.Heads.{IsDeclared, IsWidened, IsWidenedKind, counts, is_number, keeps, opened_kind, opens}
 use Rattle.bver.specs.Justified.{HasStore, IsCovered, IsCoveredIfAny, IsEntered, IsHead, IsWrittenIn}
-use Rattle.bver.specs.Leading.{IsFollowedBelow, IsLeastVisit, IsRaisedIfAny, LeadsBelow, raises, stays}
+use Rattle.bver.specs.Leading.{IsFollowedBelow, IsLeastVisit, IsWidenedIfAny, LeadsBelow, widens, stays}
 use Rattle.bver.specs.Table.{TableValue, knowledge_in}
 use Rattle.bver.specs.Visit.{AreWhole, HasNext, IsInsnVisit, IsLeastEntry, VisitValue, visited_state}
 use Rattle.bver.proofs.Below.{StaysBelow, below_next, below_none, below_skip, comes_below, comes_whole}
 use Rattle.bver.proofs.Counters.{inside_of, same_place}
 use Rattle.bver.proofs.Keeping.{head_kept, kept_begins}
-use Rattle.bver.proofs.Raising.{wide_is}
+use Rattle.bver.proofs.Widening.{wide_is}
 use Rattle.bver.proofs.Rings.{IsBehind, ring, ring_any, ring_behind, ring_more}
 use Rattle.bver.proofs.Rounds.{IsRound, alone, below_all, below_alone, below_marked, below_ranged, counter_range, kind_alone, marked, marks_marked, ranged, ranges_ranged, words_all, words_of, words_whole}
-use Rattle.bver.proofs.Turns.{IsAround, Leaves, leads_around, leads_counted, leads_outside, round_head, round_raised}
+use Rattle.bver.proofs.Turns.{IsAround, Leaves, leads_around, leads_counted, leads_outside, round_head, round_widened}
 
 -- nothing is known
 abbrev pub nothing : ℕ → Option StateValue
@@ -91,7 +91,7 @@ comes_none p l table runs state slot insn begins plain behind below =
     by_state None covered = refl
     by_state (Some a) covered = absurd covered
 
--- ---- raised at a head
+-- ---- widened at a head
 
 -- a loop that has its head behind that of another, in it, lies inside
 lies_inside : (l m : Loop) → IsNestedOrApart l m → l.head < l.back → m.head < m.back → IsBehind l m.head → IsInside m l
@@ -108,16 +108,16 @@ nested_in : (p : Program) (l m : Loop) (place : ℕ) → IsLoopFormed p l → Is
 nested_in p l m place formed declared other =
     subst (λ (n : Loop). n.head ≢ l.head → IsNestedOrApart l n) (declared.is m) (formed.others place m declared.inside) other
 
--- what is raised behind the head stays so
-pub raised_round : (p : Program) (l : Loop) (place : ℕ) (lowered : List Bool) (slot : ℕ) (h : StateValue) (came here : Option StateValue) → IsFormed p → IsDeclared p l place → IsBehind l slot → IfSome came IsWhole → IfSome here IsWhole → IsRaisedIfAny p lowered slot came here → IfSome came (IsRound p l slot h) → IfSome here (IsRound p l slot h)
-raised_round p l place lowered slot h None None form declared behind old new raised round = tt
-raised_round p l place lowered slot h None (Some a) form declared behind old new raised round = absurd raised
-raised_round p l place lowered slot h (Some b) None form declared behind old new raised round = tt
-raised_round p l place lowered slot h (Some b) (Some a) form declared behind old new (stays none same) round = subst (λ (s : StateValue). IsRound p l slot h s) (sym same) round
-raised_round p l place lowered slot h (Some b) (Some a) form declared behind old new (raises m other inner at raised) round =
+-- what is widened behind the head stays so
+pub widened_round : (p : Program) (l : Loop) (place : ℕ) (lowered : List Bool) (slot : ℕ) (h : StateValue) (came here : Option StateValue) → IsFormed p → IsDeclared p l place → IsBehind l slot → IfSome came IsWhole → IfSome here IsWhole → IsWidenedIfAny p lowered slot came here → IfSome came (IsRound p l slot h) → IfSome here (IsRound p l slot h)
+widened_round p l place lowered slot h None None form declared behind old new widened round = tt
+widened_round p l place lowered slot h None (Some a) form declared behind old new widened round = absurd widened
+widened_round p l place lowered slot h (Some b) None form declared behind old new widened round = tt
+widened_round p l place lowered slot h (Some b) (Some a) form declared behind old new (stays none same) round = subst (λ (s : StateValue). IsRound p l slot h s) (sym same) round
+widened_round p l place lowered slot h (Some b) (Some a) form declared behind old new (widens m other inner at widened) round =
     let outer = formed_in p l place form declared in
     let inside : IsInside m l = lies_inside l m (nested_in p l m other outer inner (λ same. omega (arith, same, at, behind.0))) declared.limits.ordered inner.limits.ordered (omega (arith, at, behind.0), omega (arith, at, behind.1)) in
-    round_raised p l m lowered other slot h b a inner.limits.ordered outer (formed_in p m other form inner) inside old new raised round
+    round_widened p l m lowered other slot h b a inner.limits.ordered outer (formed_in p m other form inner) inside old new widened round
 
 -- ---- at the head of the loop
 
@@ -133,29 +133,29 @@ opened_none (Num range) = refl
 opened_none (Ptr region offsets) = refl
 opened_none (Map index) = refl
 
-lowered_none : (p : Program) (l : Loop) (lowered : List Bool) (place register : ℕ) (before after : AbsKind) → register ≢ l.register → IsWrittenIn p l register → is_lowered lowered place register ≡ true → IsRaisedKind p l lowered place register before after → is_number after ≡ false
+lowered_none : (p : Program) (l : Loop) (lowered : List Bool) (place register : ℕ) (before after : AbsKind) → register ≢ l.register → IsWrittenIn p l register → is_lowered lowered place register ≡ true → IsWidenedKind p l lowered place register before after → is_number after ≡ false
 lowered_none p l lowered place register before after other written low (counts at is) = absurd (other at)
 lowered_none p l lowered place register before after other written low (opens o w is) = rw (is, low) (opened_none before)
 lowered_none p l lowered place register before after other written low (keeps o w is) = absurd (w written)
 
--- what was lowered is no number where it was raised
-raised_unset : (p : Program) (l : Loop) (place : ℕ) (lowered : List Bool) (register : ℕ) (came : Option StateValue) (h : StateValue) → IsProgram p → IsDeclared p l place → register ≤ 9 → register ≢ l.register → IsWrittenIn p l register → is_lowered lowered place register ≡ true → IsRaisedIfAny p lowered l.head came (Some h) → is_number (kind_at h register) ≡ false
-raised_unset p l place lowered register None h limits declared small other written low raised = absurd raised
-raised_unset p l place lowered register (Some b) h limits declared small other written low (stays none same) =
+-- what was lowered is no number where it was widened
+widened_unset : (p : Program) (l : Loop) (place : ℕ) (lowered : List Bool) (register : ℕ) (came : Option StateValue) (h : StateValue) → IsProgram p → IsDeclared p l place → register ≤ 9 → register ≢ l.register → IsWrittenIn p l register → is_lowered lowered place register ≡ true → IsWidenedIfAny p lowered l.head came (Some h) → is_number (kind_at h register) ≡ false
+widened_unset p l place lowered register None h limits declared small other written low widened = absurd widened
+widened_unset p l place lowered register (Some b) h limits declared small other written low (stays none same) =
     absurd (none place l declared.inside (ap (λ (n : Loop). n.head) (declared.is l)))
-raised_unset p l place lowered register (Some b) h limits declared small other written low (raises m also inner at raised) =
+widened_unset p l place lowered register (Some b) h limits declared small other written low (widens m also inner at widened) =
     let one = one_loop p m l also place limits inner declared at in
-    let here : IsRaised p l lowered place b h = subst (λ (n : Loop). IsRaised p n lowered place b h) one.0 (subst (λ (i : ℕ). IsRaised p m lowered i b h) one.1 raised) in
+    let here : IsWidened p l lowered place b h = subst (λ (n : Loop). IsWidened p n lowered place b h) one.0 (subst (λ (i : ℕ). IsWidened p m lowered i b h) one.1 widened) in
     lowered_none p l lowered place register (kind_at b register) (kind_at h register) other written low (here.registers register small)
 
--- where the loop stores nothing is known of any place of the stack where it was raised
-raised_wide : (p : Program) (l : Loop) (place : ℕ) (lowered : List Bool) (came : Option StateValue) (h : StateValue) → IsProgram p → IsDeclared p l place → IsRaisedIfAny p lowered l.head came (Some h) → HasStore p l → AreAllWhole h.ranges
-raised_wide p l place lowered None h limits declared raised stored = absurd raised
-raised_wide p l place lowered (Some b) h limits declared (stays none same) stored =
+-- where the loop stores nothing is known of any word of the stack where it was widened
+widened_wide : (p : Program) (l : Loop) (place : ℕ) (lowered : List Bool) (came : Option StateValue) (h : StateValue) → IsProgram p → IsDeclared p l place → IsWidenedIfAny p lowered l.head came (Some h) → HasStore p l → AreAllWhole h.ranges
+widened_wide p l place lowered None h limits declared widened stored = absurd widened
+widened_wide p l place lowered (Some b) h limits declared (stays none same) stored =
     absurd (none place l declared.inside (ap (λ (n : Loop). n.head) (declared.is l)))
-raised_wide p l place lowered (Some b) h limits declared (raises m also inner at raised) stored =
+widened_wide p l place lowered (Some b) h limits declared (widens m also inner at widened) stored =
     let one = one_loop p m l also place limits inner declared at in
-    wide_is p m b h (subst (λ (n : Loop). HasStore p n) (sym one.0) stored) raised.ranges
+    wide_is p m b h (subst (λ (n : Loop). HasStore p n) (sym one.0) stored) widened.ranges
 
 -- ---- from one slot to the next
 
@@ -258,10 +258,10 @@ circle_next laws entered v lowered now start old new was runs before after settl
             none_some a same = cc
         by_known (Some h) is = record {
           head = head;
-          wide = raised_wide v.program l place lowered (visited_state was before old v.slot) h limits declared here_raised;
+          wide = widened_wide v.program l place lowered (visited_state was before old v.slot) h limits declared here_widened;
           unset = λ register small other written low.
-              raised_unset v.program l place lowered register (visited_state was before old v.slot) h limits declared small other written (same (omega (arith, at, declared.limits.ordered)) register small ∙ low)
-              here_raised;
+              widened_unset v.program l place lowered register (visited_state was before old v.slot) h limits declared small other written (same (omega (arith, at, declared.limits.ordered)) register small ∙ low)
+              here_widened;
           below = λ around covers. next_below (ring l (λ k. Some (around k)))
               (any_followed (ring l (λ k. Some (around k))) (λ a found.
               let one : h ≡ a = same_some h a (sym is ∙ found) in (
@@ -272,10 +272,10 @@ circle_next laws entered v lowered now start old new was runs before after settl
               (below_more v.program l (λ k. Some (around k)) old was before v.slot (circle.ahead (omega (arith, at))));
         }
           where
-            here_raised : IsRaisedIfAny v.program lowered l.head (visited_state was before old v.slot) (Some h)
-            here_raised =
-                subst (λ (k : ℕ). IsRaisedIfAny v.program lowered k (visited_state was before old v.slot) (Some h)) at
-                (subst (λ (o : Option StateValue). IsRaisedIfAny v.program lowered v.slot (visited_state was before old v.slot) o) is least.raised)
+            here_widened : IsWidenedIfAny v.program lowered l.head (visited_state was before old v.slot) (Some h)
+            here_widened =
+                subst (λ (k : ℕ). IsWidenedIfAny v.program lowered k (visited_state was before old v.slot) (Some h)) at
+                (subst (λ (o : Option StateValue). IsWidenedIfAny v.program lowered v.slot (visited_state was before old v.slot) o) is least.widened)
 
             same_some : (a b : StateValue) → Some a ≡ Some b → a ≡ b
             same_some a b is = cc
@@ -290,11 +290,11 @@ circle_next laws entered v lowered now start old new was runs before after settl
     by_within past upto None below =
         let none : visited_state was before old v.slot ≡ None = comes_none v.program l old was before v.slot insn begins plain (past, omega (arith, upto)) below in
         next_below (ring l nothing)
-        (any_followed (ring l nothing) (λ a found. absurd (never a (subst (λ (o : Option StateValue). IsRaisedIfAny v.program lowered v.slot o (Some a)) none (subst (λ (o : Option StateValue). IsRaisedIfAny v.program lowered v.slot (visited_state was before old v.slot) o) found least.raised)))))
+        (any_followed (ring l nothing) (λ a found. absurd (never a (subst (λ (o : Option StateValue). IsWidenedIfAny v.program lowered v.slot o (Some a)) none (subst (λ (o : Option StateValue). IsWidenedIfAny v.program lowered v.slot (visited_state was before old v.slot) o) found least.widened)))))
         below
       where
-        never : (a : StateValue) → IsRaisedIfAny v.program lowered v.slot None (Some a) → ⊥
-        never a raised = raised
+        never : (a : StateValue) → IsWidenedIfAny v.program lowered v.slot None (Some a) → ⊥
+        never a widened = widened
     by_within past upto (Some h) turning = record {
       head = turning.head;
       wide = turning.wide;
@@ -313,7 +313,7 @@ circle_next laws entered v lowered now start old new was runs before after settl
 
         rounds : IfSome here (IsRound v.program l v.slot h)
         rounds =
-            raised_round v.program l place lowered v.slot h (visited_state was before old v.slot) here form declared behind (comes_whole was before old v.slot proper whole) here_whole least.raised
+            widened_round v.program l place lowered v.slot h (visited_state was before old v.slot) here form declared behind (comes_whole was before old v.slot proper whole) here_whole least.widened
             (comes_round v.program l place start old was before v.slot h insn begins plain behind turning)
 
     by_place : (l.head < v.slot) ⊎ (v.slot ≤ l.head) → l.head < v.slot + 1 → v.slot + 1 ≤ l.back → IsTurningIfAny v.program l place start new runs after (v.slot + 1) (knowledge_in new l.head)

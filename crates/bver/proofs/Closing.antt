@@ -4,6 +4,7 @@ use Rattle.std.specs.Prelude.{IsTrue, IfSome, IfOk, ◌&&◌, ◌==◌, nat_lt, 
 use Rattle.std.proofs.lemmas.Bool.{cases_eq, cases_lt, false≢true}
 use Rattle.std.proofs.lemmas.Bool.Decides.{nat_tests}
 use Rattle.std.proofs.lemmas.List.{get_or_past}
+use Rattle.bpf.specs.declared.header.TheConstants.{MAX_SLOTS}
 use Rattle.bpf.specs.declared.loops.Loop.{Loop}
 use Rattle.bpf.specs.Program.{Program, IsLoop}
 use Rattle.bpf_insn.specs.declared.insn.Insn.{Insn}
@@ -23,7 +24,7 @@ use Rattle.absdom.specs.declared.kinds.AbsKind.{AbsKind}
 use Rattle.absdom.specs.declared.kinds.AbsKind.TheVariants.{Unset, Num, Ptr, Map}
 use Rattle.absdom.specs.Kinds.{IsKindBelow, number_of}
 use Rattle.absdom.specs.State.{StateValue, IsBelow, IsProper, IsWhole, kind_at, with_kind}
-use Rattle.absdom.specs.Places.{AreAllWhole}
+use Rattle.absdom.specs.StackWords.{AreAllWhole}
 use Rattle.absdom.specs.Edges.{Edges, compared_edges, edge_state, refined_edges}
 use Rattle.absdom.specs.Laws.{AreEdgesBelow, RefineShrinks}
 use Rattle.bver_form.specs.Form.{IsFormed}
@@ -33,7 +34,7 @@ use Rattle.bver.specs.Heads.{Falls, IsDeclared, is_number}
 use Rattle.bver.specs.Justified.{HasStore, IsHead, IsStoreAt, IsWrittenBy, IsWrittenIn}
 use Rattle.bver.specs.Leading.{jumping_state, taken_state}
 use Rattle.bver.proofs.Counters.{holds_at}
-use Rattle.bver.proofs.Raising.{frame_kept, unstored, unwritten}
+use Rattle.bver.proofs.Widening.{frame_kept, unstored, unwritten}
 use Rattle.bver.proofs.Rounds.{IsRound, closes, kind_less, ranges_less}
 use Rattle.bver.proofs.Turns.{Leaves, range_back}
 
@@ -124,7 +125,7 @@ back_within x y n new order within some few is = by_reach (nat_lt y (2 ^ 64)) re
     by_reach false low = absurd (let h : 2 ^ 64 ≤ y = grind (arith, nat_tests, low) in omega (arith, h, within, few))
 
 -- the counter on the edge back is one to the bound
-counter_back : (l : Loop) (a edge : StateValue) → IsLoop 512 l → IsWhole a → IsKindBelow (kind_at a l.register) (Num (0, l.bound - 1)) → jumping_state a (back_jump l) ≡ Some edge → IsKindBelow (kind_at edge l.register) (Num (1, l.bound))
+counter_back : (l : Loop) (a edge : StateValue) → IsLoop MAX_SLOTS l → IsWhole a → IsKindBelow (kind_at a l.register) (Num (0, l.bound - 1)) → jumping_state a (back_jump l) ≡ Some edge → IsKindBelow (kind_at edge l.register) (Num (1, l.bound))
 counter_back l a edge limits whole below is = by_kind (kind_at a l.register) below (whole.kinds l.register) is
   where
     by_new : (range : Range) → IsWithin range (0, l.bound - 1) → IsProper (Num range) → (o : Option Operands) → (refined_ranges NotEqual Bits64 range (single_range 0)).taken ≡ o → edge_state a l.register (Immediate (pos 0)) o ≡ Some edge → IsKindBelow (kind_at edge l.register) (Num (1, l.bound))

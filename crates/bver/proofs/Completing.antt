@@ -34,7 +34,7 @@ use Rattle.bver.specs.Unjustified.{Justifies}
 use Rattle.bver.specs.Visit.{AreWhole, IsInsnVisit, IsLeastEntry, IsVisit, VisitValue, visited_state}
 use Rattle.bver.proofs.Above.{falls_unset}
 use Rattle.bver.proofs.Below.{IsRefusedBack, Order, StaysBelow, below_none, below_skip, comes_whole, head_in, here_covered, justified_next, permitted_there, visit_refuted}
-use Rattle.bver.proofs.Circles.{IsCircle, IsTurningIfAny, circle_next, circle_none, circle_skip, comes_none, comes_round, formed_in, raised_round}
+use Rattle.bver.proofs.Circles.{IsCircle, IsTurningIfAny, circle_next, circle_none, circle_skip, comes_none, comes_round, formed_in, widened_round}
 use Rattle.bver.proofs.Closing.{back_covered}
 use Rattle.bver.proofs.Keeping.{to_head}
 use Rattle.bver.proofs.Rings.{IsBehind}
@@ -66,10 +66,10 @@ IsSameAhead p start lowered slot =
     (l : Loop) (place : ℕ) → IsDeclared p l place → slot ≤ l.back → (register : ℕ) → register ≤ 9 → is_lowered lowered place register ≡ is_lowered start place register
 
 -- the slots before this one were visited
-pub record IsCompleting (p : Program) (sizes : Maps) (start lowered : List Bool) (table : TableValue) (runs : Bool) (state : StateValue) (slot : ℕ) : Type 0 where
+pub record IsCompleting (p : Program) (maps : Maps) (start lowered : List Bool) (table : TableValue) (runs : Bool) (state : StateValue) (slot : ℕ) : Type 0 where
   pub same : IsSameAhead p start lowered slot
   pub circles : (l : Loop) (place : ℕ) → IsDeclared p l place → IsCircle p l place start table runs state slot
-  pub below : (above : ℕ → Option StateValue) → Justifies p sizes above → HasLowered p start above → StaysBelow p table runs state slot above × HasLowered p lowered above
+  pub below : (above : ℕ → Option StateValue) → Justifies p maps above → HasLowered p start above → StaysBelow p table runs state slot above × HasLowered p lowered above
 
 -- ---- what an edge back lowers
 
@@ -78,8 +78,8 @@ declared_once : (p : Program) (l m : Loop) (place : ℕ) → IsDeclared p l plac
 declared_once p l m place f g = sym (f.is l) ∙ g.is l
 
 -- what is known along the jump of a permitted instruction is covered where it leads
-back_leads : (spill : Spill) (sizes : Maps) (above : ℕ → Option StateValue) (l : Loop) (a edge : StateValue) → l.head ≤ l.back → IsPermitted spill sizes above l.back a (back_jump l) → jumping_state a (back_jump l) ≡ Some edge → IsCovered edge (above l.head)
-back_leads spill sizes above l a edge ordered permitted is =
+back_leads : (spill : Spill) (maps : Maps) (above : ℕ → Option StateValue) (l : Loop) (a edge : StateValue) → l.head ≤ l.back → IsPermitted spill maps above l.back a (back_jump l) → jumping_state a (back_jump l) ≡ Some edge → IsCovered edge (above l.head)
+back_leads spill maps above l a edge ordered permitted is =
     subst (λ (z : ℤ). IsCovered edge (knowledge_at above z)) (to_head l.head l.back ordered) (by_edges (refined_edges a NotEqual Bits64 l.register (Immediate (pos 0))) permitted is)
   where
     by_edges : (r : Result Edges Cause) → AreEdgesCovered r (knowledge_at above (target l.back (negsuc (l.back - l.head)))) (above (l.back + 1)) → taken_state r ≡ Some edge → IsCovered edge (knowledge_at above (target l.back (negsuc (l.back - l.head))))
@@ -95,7 +95,7 @@ jumps_back p l place slot insn form declared back begins =
 -- what was lowered, and what is lowered now, holds nothing at the heads of a table under which the program is justified
 keeps_lowered : Order → (v : VisitValue) (lowered now : List Bool) (known : ℕ → Option StateValue) (here : Option StateValue) (insn : Insn) (above : ℕ → Option StateValue)
     → IsFormed v.program → insn_at v.program v.slot ≡ Some insn → IfSome here IsWhole → IsCoveredIfAny here (above v.slot)
-    → Justifies v.program v.sizes above → HasLowered v.program lowered above
+    → Justifies v.program v.maps above → HasLowered v.program lowered above
     → AreLoweredBack v.program v.slot known (jumping_if_any here insn) lowered now → HasLowered v.program now above
 keeps_lowered order v lowered now known here insn above form begins whole covered h low marks l place declared = by_there (above l.head) refl
   where
@@ -105,12 +105,12 @@ keeps_lowered order v lowered now known here insn above form begins whole covere
         let one : l ≡ m = declared_once v.program l m place declared back.is in
         let here_is : above m.head ≡ Some d = ap (λ (n : Loop). above n.head) (sym one) ∙ there in
         let insn_is : insn ≡ back_jump m = jumps_back v.program m place v.slot insn form back.is back.back begins in
-        let permitted : IsPermitted (spill_of v.program.version) v.sizes above v.slot a insn = permitted_there order v.program v.sizes above v.slot a insn h begins proper below in
-        let back_permitted : IsPermitted (spill_of v.program.version) v.sizes above m.back a (back_jump m) = subst (λ (k : ℕ). IsPermitted (spill_of v.program.version) v.sizes above k a (back_jump m)) (sym back.back) (subst (λ (i : Insn). IsPermitted (spill_of v.program.version) v.sizes above v.slot a i) insn_is permitted) in
-        let leads : IsCovered edge (above m.head) = back_leads (spill_of v.program.version) v.sizes above m a edge (omega (arith, back.is.limits.ordered)) back_permitted (subst (λ (i : Insn). jumping_state a i ≡ Some edge) insn_is is) in
+        let permitted : IsPermitted (spill_of v.program.version) v.maps above v.slot a insn = permitted_there order v.program v.maps above v.slot a insn h begins proper below in
+        let back_permitted : IsPermitted (spill_of v.program.version) v.maps above m.back a (back_jump m) = subst (λ (k : ℕ). IsPermitted (spill_of v.program.version) v.maps above k a (back_jump m)) (sym back.back) (subst (λ (i : Insn). IsPermitted (spill_of v.program.version) v.maps above v.slot a i) insn_is permitted) in
+        let leads : IsCovered edge (above m.head) = back_leads (spill_of v.program.version) v.maps above m a edge (omega (arith, back.is.limits.ordered)) back_permitted (subst (λ (i : Insn). jumping_state a i ≡ Some edge) insn_is is) in
         falls_unset (record { program = v.program; declared = m; place = place }) (known m.head) edge d register
         (subst (λ (n : Loop). register ≢ n.register) one other)
-        (subst (λ (o : Option StateValue). IfSome o (IsHead v.program m)) here_is (head_in v.program v.sizes above m place h back.is))
+        (subst (λ (o : Option StateValue). IfSome o (IsHead v.program m)) here_is (head_in v.program v.maps above m place h back.is))
         (subst (λ (o : Option StateValue). IsCovered edge o) here_is leads)
         back.falls
 
@@ -143,7 +143,7 @@ complete_insn : Rules → (v : VisitValue) (start lowered now : List Bool) (old 
     → IsProgram v.program → IsFormed v.program → insn_at v.program v.slot ≡ Some insn → (IsTrue was → IsKept v.program v.slot → ⊥)
     → IsWhole before → AreWhole (knowledge_in old)
     → IsInsnVisit v old new was runs before after settled region insn → IsLeastVisit v lowered now old new was runs before after insn
-    → IsCompleting v.program v.sizes start lowered old was before v.slot → IsCompleting v.program v.sizes start now new runs after (v.slot + 1)
+    → IsCompleting v.program v.maps start lowered old was before v.slot → IsCompleting v.program v.maps start now new runs after (v.slot + 1)
 complete_insn rules v start lowered now old new was runs before after settled region insn limits form begins plain proper whole visit least h = record {
   same = λ l place declared upto register small. still l place declared upto register small (least.marks place register small);
   circles = λ l place declared.
@@ -154,7 +154,7 @@ complete_insn rules v start lowered now old new was runs before after settled re
         justified_next (order_of rules) v lowered now old new was runs before after settled region insn above limits begins plain proper whole justified was_below.1 visit least was_below.0,
         keeps_lowered (order_of rules) v lowered now (knowledge_in old) (visited_state was before new v.slot) insn above form begins
             (comes_whole was before new v.slot proper new_whole)
-            (here_covered v lowered old new was before insn above begins plain proper whole new_whole justified was_below.1 least.raised was_below.0)
+            (here_covered v lowered old new was before insn above begins plain proper whole new_whole justified was_below.1 least.widened was_below.0)
             justified was_below.1 least.marks,
       );
 }
@@ -172,8 +172,8 @@ complete_insn rules v start lowered now old new was runs before after settled re
     still l place declared upto register small (inr back) = absurd (no_back l place register declared upto (jumping_if_any (visited_state was before new v.slot) insn) back)
 
 -- at a second slot
-complete_skip : (p : Program) (sizes : Maps) (start lowered : List Bool) (table : TableValue) (runs : Bool) (state : StateValue) (slot : ℕ) → IsProgram p → IsFormed p → insn_at p slot ≡ None → IsCompleting p sizes start lowered table runs state slot → IsCompleting p sizes start lowered table runs state (slot + 1)
-complete_skip p sizes start lowered table runs state slot limits form none h = record {
+complete_skip : (p : Program) (maps : Maps) (start lowered : List Bool) (table : TableValue) (runs : Bool) (state : StateValue) (slot : ℕ) → IsProgram p → IsFormed p → insn_at p slot ≡ None → IsCompleting p maps start lowered table runs state slot → IsCompleting p maps start lowered table runs state (slot + 1)
+complete_skip p maps start lowered table runs state slot limits form none h = record {
   same = λ l place declared upto. h.same l place declared (omega (arith, upto));
   circles = λ l place declared. circle_skip p l place start table runs state slot limits form declared none (h.circles l place declared);
   below = λ above justified low.
@@ -182,36 +182,36 @@ complete_skip p sizes start lowered table runs state slot limits form none h = r
 }
 
 -- before the first slot
-pub complete_none : (p : Program) (sizes : Maps) (start : List Bool) (table : TableValue) (state : StateValue) → IsEntered (knowledge_in table 0) → IsLeastEntry (knowledge_in table) → IsCompleting p sizes start start table false state 0
-complete_none p sizes start table state entered least = record {
+pub complete_none : (p : Program) (maps : Maps) (start : List Bool) (table : TableValue) (state : StateValue) → IsEntered (knowledge_in table 0) → IsLeastEntry (knowledge_in table) → IsCompleting p maps start start table false state 0
+complete_none p maps start table state entered least = record {
   same = λ l place declared upto register small. refl;
   circles = λ l place declared. circle_none p l place start table state entered least;
   below = λ above justified low. (below_none p table state above (least above justified.entered), low);
 }
 
 -- after the visit of a slot
-pub complete_next : Rules → (v : VisitValue) (p : Program) (sizes : Maps) (slot : ℕ) (start lowered now : List Bool) (old new : TableValue) (was runs : Bool) (before after : StateValue) (settled : Type 0) (region : Option Region)
-    → v ≡ record { program = p; sizes = sizes; slot = slot } → IsProgram p → IsFormed p → (IsTrue was → IsKept p slot → ⊥)
+pub complete_next : Rules → (v : VisitValue) (p : Program) (maps : Maps) (slot : ℕ) (start lowered now : List Bool) (old new : TableValue) (was runs : Bool) (before after : StateValue) (settled : Type 0) (region : Option Region)
+    → v ≡ record { program = p; maps = maps; slot = slot } → IsProgram p → IsFormed p → (IsTrue was → IsKept p slot → ⊥)
     → IsWhole before → AreWhole (knowledge_in old)
     → IsVisit v old new was runs before after settled region (insn_at v.program v.slot) → IsLeastVisitIfAny v lowered now old new was runs before after (insn_at v.program v.slot)
-    → IsCompleting p sizes start lowered old was before slot → IsCompleting p sizes start now new runs after (slot + 1)
-complete_next rules v p sizes slot start lowered now old new was runs before after settled region same limits form plain proper whole visit least h =
+    → IsCompleting p maps start lowered old was before slot → IsCompleting p maps start now new runs after (slot + 1)
+complete_next rules v p maps slot start lowered now old new was runs before after settled region same limits form plain proper whole visit least h =
     by_insn (insn_at p slot) refl
     (subst (λ (u : VisitValue). IsVisit u old new was runs before after settled region (insn_at u.program u.slot)) same visit)
     (subst (λ (u : VisitValue). IsLeastVisitIfAny u lowered now old new was runs before after (insn_at u.program u.slot)) same least)
   where
-    by_insn : (o : Option Insn) → insn_at p slot ≡ o → IsVisit (record { program = p; sizes = sizes; slot = slot }) old new was runs before after settled region o → IsLeastVisitIfAny (record { program = p; sizes = sizes; slot = slot }) lowered now old new was runs before after o → IsCompleting p sizes start now new runs after (slot + 1)
+    by_insn : (o : Option Insn) → insn_at p slot ≡ o → IsVisit (record { program = p; maps = maps; slot = slot }) old new was runs before after settled region o → IsLeastVisitIfAny (record { program = p; maps = maps; slot = slot }) lowered now old new was runs before after o → IsCompleting p maps start now new runs after (slot + 1)
     by_insn None none visit least =
-        rw (visit.same_table, visit.same_runs, visit.same_state, least) (complete_skip p sizes start lowered old was before slot limits form none h)
+        rw (visit.same_table, visit.same_runs, visit.same_state, least) (complete_skip p maps start lowered old was before slot limits form none h)
     by_insn (Some insn) begins visit least =
-        complete_insn rules (record { program = p; sizes = sizes; slot = slot }) start lowered now old new was runs before after settled region insn limits form begins plain proper whole visit least h
+        complete_insn rules (record { program = p; maps = maps; slot = slot }) start lowered now old new was runs before after settled region insn limits form begins plain proper whole visit least h
 
 -- ---- no visit is refused
 
 -- an edge back is covered, or lowers what was not lowered before
 back_refuted : Rules → (v : VisitValue) (start lowered : List Bool) (old : TableValue) (was : Bool) (before : StateValue) (insn : Insn)
     → IsFormed v.program → insn_at v.program v.slot ≡ Some insn → (IsTrue was → IsKept v.program v.slot → ⊥) → AreWhole (knowledge_in old)
-    → IsCompleting v.program v.sizes start lowered old was before v.slot
+    → IsCompleting v.program v.maps start lowered old was before v.slot
     → (a here edge : StateValue) → visited_state was before old v.slot ≡ Some a → IsRefusedBack v lowered (knowledge_in old) insn a here edge → ⊥
 back_refuted rules v start lowered old was before insn form begins plain whole h a here edge came refused = by_uncovered refused.4
   where
@@ -223,7 +223,7 @@ back_refuted rules v start lowered old was before insn form begins plain whole h
         let l = u.declared in
         let insn_is : insn ≡ back_jump l = jumps_back v.program l u.place v.slot insn form u.is u.back begins in
         let round_came : IsRound v.program l v.slot d a = subst (λ (o : Option StateValue). IfSome o (IsRound v.program l v.slot d)) came (comes_round v.program l u.place start old was before v.slot d insn begins plain behind turning) in
-        let round_here : IsRound v.program l v.slot d here = raised_round v.program l u.place lowered v.slot d (Some a) (Some here) form u.is behind refused.0 refused.1 refused.2 round_came in
+        let round_here : IsRound v.program l v.slot d here = widened_round v.program l u.place lowered v.slot d (Some a) (Some here) form u.is behind refused.0 refused.1 refused.2 round_came in
         let d_whole : IsWhole d = subst (λ (o : Option StateValue). IfSome o IsWhole) is (whole l.head) in
         let below : IsBelow edge d = back_covered (leaves_of rules) v.program l u.place start lowered d here edge form u.is d_whole refused.1 u.whole turning.head turning.wide turning.unset
         (h.same l u.place u.is behind.1) (subst (λ (k : ℕ). IsRound v.program l k d here) (sym u.back) round_here) (subst (λ (i : Insn). jumping_state here i ≡ Some edge) insn_is refused.3)
@@ -236,20 +236,20 @@ back_refuted rules v start lowered old was before insn form begins plain whole h
         by_turn u behind (knowledge_in old u.declared.head) refl ((h.circles u.declared u.place u.is).within behind.0 behind.1)
 
 -- no visit of a slot is refused
-pub complete_refuted : Rules → (v : VisitValue) (p : Program) (sizes : Maps) (slot : ℕ) (start lowered : List Bool) (old : TableValue) (was : Bool) (before : StateValue) (above : ℕ → Option StateValue)
-    → v ≡ record { program = p; sizes = sizes; slot = slot } → IsFormed p → (IsTrue was → IsKept p slot → ⊥)
+pub complete_refuted : Rules → (v : VisitValue) (p : Program) (maps : Maps) (slot : ℕ) (start lowered : List Bool) (old : TableValue) (was : Bool) (before : StateValue) (above : ℕ → Option StateValue)
+    → v ≡ record { program = p; maps = maps; slot = slot } → IsFormed p → (IsTrue was → IsKept p slot → ⊥)
     → IsWhole before → AreWhole (knowledge_in old)
     → IsVisitFaultIfAny v lowered (knowledge_in old) (visited_state was before old v.slot) (insn_at v.program v.slot)
-    → IsCompleting p sizes start lowered old was before slot → Justifies p sizes above → HasLowered p start above → ⊥
-complete_refuted rules v p sizes slot start lowered old was before above same form plain proper whole fault h justified low =
+    → IsCompleting p maps start lowered old was before slot → Justifies p maps above → HasLowered p start above → ⊥
+complete_refuted rules v p maps slot start lowered old was before above same form plain proper whole fault h justified low =
     by_insn (insn_at p slot) refl (subst (λ (u : VisitValue). IsVisitFaultIfAny u lowered (knowledge_in old) (visited_state was before old u.slot) (insn_at u.program u.slot)) same fault)
   where
-    by_insn : (o : Option Insn) → insn_at p slot ≡ o → IsVisitFaultIfAny (record { program = p; sizes = sizes; slot = slot }) lowered (knowledge_in old) (visited_state was before old slot) o → ⊥
+    by_insn : (o : Option Insn) → insn_at p slot ≡ o → IsVisitFaultIfAny (record { program = p; maps = maps; slot = slot }) lowered (knowledge_in old) (visited_state was before old slot) o → ⊥
     by_insn None none fault = fault
     by_insn (Some insn) begins fault =
         let was_below = h.below above justified low in
-        visit_refuted (order_of rules) (record { program = p; sizes = sizes; slot = slot }) lowered old was before (knowledge_in old) insn above begins plain proper whole justified was_below.1 was_below.0
-        (back_refuted rules (record { program = p; sizes = sizes; slot = slot }) start lowered old was before insn form begins plain whole h) fault
+        visit_refuted (order_of rules) (record { program = p; maps = maps; slot = slot }) lowered old was before (knowledge_in old) insn above begins plain proper whole justified was_below.1 was_below.0
+        (back_refuted rules (record { program = p; maps = maps; slot = slot }) start lowered old was before insn form begins plain whole h) fault
 
 -- ---- at first nothing is lowered
 

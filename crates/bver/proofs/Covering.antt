@@ -49,25 +49,25 @@ proceeds_more transitive spill old new slot a insn grown h =
     result_covered_more transitive (after_insn spill a insn) (old (slot + slots_of insn)) (new (slot + slots_of insn)) h (grown (slot + slots_of insn))
 
 -- what is permitted stays so where the table knows more
-permitted_more : BelowIsTransitive → (spill : Spill) (sizes : Maps) (old new : ℕ → Option StateValue) (slot : ℕ) (a : StateValue) (insn : Insn) → AreCovered old new → IsPermitted spill sizes old slot a insn → IsPermitted spill sizes new slot a insn
-permitted_more transitive spill sizes old new slot a (Alu op width dst src) grown h = proceeds_more transitive spill old new slot a (Alu op width dst src) grown h
-permitted_more transitive spill sizes old new slot a (Negate width dst) grown h = proceeds_more transitive spill old new slot a (Negate width dst) grown h
-permitted_more transitive spill sizes old new slot a (MoveSigned extension dst src) grown h = proceeds_more transitive spill old new slot a (MoveSigned extension dst src) grown h
-permitted_more transitive spill sizes old new slot a (ByteSwap swap bits dst) grown h = proceeds_more transitive spill old new slot a (ByteSwap swap bits dst) grown h
-permitted_more transitive spill sizes old new slot a (Load size dst place) grown h = proceeds_more transitive spill old new slot a (Load size dst place) grown h
-permitted_more transitive spill sizes old new slot a (Store size place src) grown h = proceeds_more transitive spill old new slot a (Store size place src) grown h
-permitted_more transitive spill sizes old new slot a (Jump comparison offset) grown h =
+permitted_more : BelowIsTransitive → (spill : Spill) (maps : Maps) (old new : ℕ → Option StateValue) (slot : ℕ) (a : StateValue) (insn : Insn) → AreCovered old new → IsPermitted spill maps old slot a insn → IsPermitted spill maps new slot a insn
+permitted_more transitive spill maps old new slot a (Alu op width dst src) grown h = proceeds_more transitive spill old new slot a (Alu op width dst src) grown h
+permitted_more transitive spill maps old new slot a (Negate width dst) grown h = proceeds_more transitive spill old new slot a (Negate width dst) grown h
+permitted_more transitive spill maps old new slot a (MoveSigned extension dst src) grown h = proceeds_more transitive spill old new slot a (MoveSigned extension dst src) grown h
+permitted_more transitive spill maps old new slot a (ByteSwap swap bits dst) grown h = proceeds_more transitive spill old new slot a (ByteSwap swap bits dst) grown h
+permitted_more transitive spill maps old new slot a (Load size dst place) grown h = proceeds_more transitive spill old new slot a (Load size dst place) grown h
+permitted_more transitive spill maps old new slot a (Store size place src) grown h = proceeds_more transitive spill old new slot a (Store size place src) grown h
+permitted_more transitive spill maps old new slot a (Jump comparison offset) grown h =
     edges_covered_more transitive (refined_edges a comparison.condition comparison.width comparison.dst comparison.src) (knowledge_at old (target slot offset)) (knowledge_at new (target slot offset)) (old (slot + 1)) (new (slot + 1)) h (known_covered old new grown (target slot offset)) (grown (slot + 1))
-permitted_more transitive spill sizes old new slot a (Goto distance) grown h =
+permitted_more transitive spill maps old new slot a (Goto distance) grown h =
     covered_more transitive a (knowledge_at old (target slot (distance_of distance))) (knowledge_at new (target slot (distance_of distance))) h (known_covered old new grown (target slot (distance_of distance)))
-permitted_more transitive spill sizes old new slot a (Wide dst value) grown h = proceeds_more transitive spill old new slot a (Wide dst value) grown h
-permitted_more transitive spill sizes old new slot a (LoadMap dst index) grown h = (h.0, proceeds_more transitive spill old new slot a (LoadMap dst index) grown h.1)
-permitted_more transitive spill sizes old new slot a (LoadAddress dst address) grown h = absurd h
-permitted_more transitive spill sizes old new slot a (Call callee number) grown h =
+permitted_more transitive spill maps old new slot a (Wide dst value) grown h = proceeds_more transitive spill old new slot a (Wide dst value) grown h
+permitted_more transitive spill maps old new slot a (LoadMap dst index) grown h = (h.0, proceeds_more transitive spill old new slot a (LoadMap dst index) grown h.1)
+permitted_more transitive spill maps old new slot a (LoadAddress dst address) grown h = absurd h
+permitted_more transitive spill maps old new slot a (Call callee number) grown h =
     (h.0, covered_more transitive (after_call a) (old (slot + 1)) (new (slot + 1)) h.1 (grown (slot + 1)))
-permitted_more transitive spill sizes old new slot a Exit grown h = h
+permitted_more transitive spill maps old new slot a Exit grown h = h
 
-pub permitted_at_more : BelowIsTransitive → (spill : Spill) (sizes : Maps) (old new : ℕ → Option StateValue) (slot : ℕ) (o : Option StateValue) (i : Option Insn) → AreCovered old new → IsPermittedAt spill sizes old slot o i → IsPermittedAt spill sizes new slot o i
-permitted_at_more transitive spill sizes old new slot None i grown h = tt
-permitted_at_more transitive spill sizes old new slot (Some a) None grown h = absurd h
-permitted_at_more transitive spill sizes old new slot (Some a) (Some insn) grown h = permitted_more transitive spill sizes old new slot a insn grown h
+pub permitted_at_more : BelowIsTransitive → (spill : Spill) (maps : Maps) (old new : ℕ → Option StateValue) (slot : ℕ) (o : Option StateValue) (i : Option Insn) → AreCovered old new → IsPermittedAt spill maps old slot o i → IsPermittedAt spill maps new slot o i
+permitted_at_more transitive spill maps old new slot None i grown h = tt
+permitted_at_more transitive spill maps old new slot (Some a) None grown h = absurd h
+permitted_at_more transitive spill maps old new slot (Some a) (Some insn) grown h = permitted_more transitive spill maps old new slot a insn grown h

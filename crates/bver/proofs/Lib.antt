@@ -6,7 +6,7 @@ pub mod Passing
 pub mod Standing
 pub mod Arrivals
 pub mod Counters
-pub mod Raising
+pub mod Widening
 pub mod Lowering
 pub mod Safety
 pub mod Regions

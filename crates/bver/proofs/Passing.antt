@@ -31,12 +31,12 @@ pub record StandsAt (p : Program) (slot next : ℕ) : Type 0 where
   pub plain : IsKept p next → ⊥
 
 -- the slots before this one were visited, and the table and the running state say what is known from here on
-pub record IsPassing (p : Program) (sizes : Maps) (table : TableValue) (runs : Bool) (state : StateValue) (regions : List (Option Region)) (settled : Type 0) (slot : ℕ) : Type 0 where
+pub record IsPassing (p : Program) (maps : Maps) (table : TableValue) (runs : Bool) (state : StateValue) (regions : List (Option Region)) (settled : Type 0) (slot : ℕ) : Type 0 where
   pub known : ℕ → Option StateValue
   pub next : ℕ
   pub stands : IsTrue runs → StandsAt p slot next
   pub visited : AreVisited p known regions slot
-  pub permitted : settled → ArePermitted p sizes known slot
+  pub permitted : settled → ArePermitted p maps known slot
   pub whole : AreWhole (knowledge_in table)
   pub state_whole : IsWhole state
   pub ahead : (k : ℕ) → slot ≤ k → known k ≡ knowledge_beside table runs next state k
@@ -114,14 +114,14 @@ carried_covers reflexive t runs next state entries plain k =
 -- ---- a visit
 
 -- what the visit of the instruction at a slot tells, and where it stands
-pub record IsVisited (p : Program) (sizes : Maps) (old new : TableValue) (was runs : Bool) (before after : StateValue) (settled : Type 0) (region : Option Region) (slot : ℕ) (insn : Insn) : Type 0 where
+pub record IsVisited (p : Program) (maps : Maps) (old new : TableValue) (was runs : Bool) (before after : StateValue) (settled : Type 0) (region : Option Region) (slot : ℕ) (insn : Insn) : Type 0 where
   pub limits : IsProgram p
   pub own : old.program ≡ p
   pub entries : AreEntries new
   pub after_whole : IsWhole after
   pub begins : insn_at p slot ≡ Some insn
   pub before_plain : IsTrue was → IsKept p slot → ⊥
-  pub visit : IsInsnVisit (record { program = p; sizes = sizes; slot = slot }) old new was runs before after settled region insn
+  pub visit : IsInsnVisit (record { program = p; maps = maps; slot = slot }) old new was runs before after settled region insn
 
 -- the running state stands at the slot where an instruction begins
 pub stands_here : (p : Program) (slot next : ℕ) (insn : Insn) → insn_at p slot ≡ Some insn → StandsAt p slot next → next ≡ slot
@@ -134,11 +134,11 @@ stands_here p slot next insn begins h =
     some_none : Some insn ≡ None → ⊥
     some_none is = cc
 
-grows_next : BelowIsReflexive → BelowIsTransitive → (p : Program) (sizes : Maps) (old new : TableValue) (was runs : Bool) (before after : StateValue) (regions : List (Option Region)) (region : Option Region) (settled turn : Type 0) (slot : ℕ) (insn : Insn)
-    → (v : IsVisited p sizes old new was runs before after turn region slot insn)
-    → (h : IsPassing p sizes old was before regions settled slot)
+grows_next : BelowIsReflexive → BelowIsTransitive → (p : Program) (maps : Maps) (old new : TableValue) (was runs : Bool) (before after : StateValue) (regions : List (Option Region)) (region : Option Region) (settled turn : Type 0) (slot : ℕ) (insn : Insn)
+    → (v : IsVisited p maps old new was runs before after turn region slot insn)
+    → (h : IsPassing p maps old was before regions settled slot)
     → Grows p slot h.known (revised h.known slot (visited_state was before new slot) (knowledge_beside new runs (slot + slots_of insn) after))
-grows_next reflexive transitive p sizes old new was runs before after regions region settled turn slot insn v h = record {
+grows_next reflexive transitive p maps old new was runs before after regions region settled turn slot insn v h = record {
   grown = λ k.
       revised_any (λ o. IsCoveredIfAny (h.known k) o) h.known slot here onward k
       (λ below. covers_itself reflexive (h.known k))
@@ -197,11 +197,11 @@ grows_next reflexive transitive p sizes old new was runs before after regions re
         (λ on at. absurd (false≢true (sym off ∙ on)))
         (λ apart. subst (λ (i : ℕ). IsCoveredIfAny (knowledge_in old i) (knowledge_in new slot)) (sym same) (v.visit.extended.grown slot)))
 
-pub passing_next : BelowIsReflexive → BelowIsTransitive → (p : Program) (sizes : Maps) (old new : TableValue) (was runs : Bool) (before after : StateValue) (regions : List (Option Region)) (region : Option Region) (settled turn again : Type 0) (slot : ℕ) (insn : Insn)
-    → IsVisited p sizes old new was runs before after turn region slot insn
+pub passing_next : BelowIsReflexive → BelowIsTransitive → (p : Program) (maps : Maps) (old new : TableValue) (was runs : Bool) (before after : StateValue) (regions : List (Option Region)) (region : Option Region) (settled turn again : Type 0) (slot : ℕ) (insn : Insn)
+    → IsVisited p maps old new was runs before after turn region slot insn
     → (again → settled) → (again → turn) → slot < length regions
-    → IsPassing p sizes old was before regions settled slot → IsPassing p sizes new runs after (slice_set regions slot region) again (slot + 1)
-passing_next reflexive transitive p sizes old new was runs before after regions region settled turn again slot insn v earlier now inside h = record {
+    → IsPassing p maps old was before regions settled slot → IsPassing p maps new runs after (slice_set regions slot region) again (slot + 1)
+passing_next reflexive transitive p maps old new was runs before after regions region settled turn again slot insn v earlier now inside h = record {
   known = known;
   next = next;
   stands = λ on. record {
@@ -215,10 +215,10 @@ passing_next reflexive transitive p sizes old new was runs before after regions 
       (v.visit.accesses ∙ ap (λ (o : Option StateValue). region_at o (Some insn)) (sym at) ∙ ap (λ (i : Option Insn). region_at (known slot) i) (sym v.begins))
       inside;
   permitted = λ settles.
-      permitted_next transitive p sizes h.known known slot (h.permitted (earlier settles)) grows
-      (subst (λ (o : Option StateValue). IsPermittedAt (spill_of p.version) sizes known slot o (insn_at p slot)) (sym at)
-      (subst (λ (i : Option Insn). IsPermittedAt (spill_of p.version) sizes known slot here i) (sym v.begins)
-      (permitted_at_more transitive (spill_of p.version) sizes onward known slot here (Some insn) reaches (v.visit.permitted (now settles)))));
+      permitted_next transitive p maps h.known known slot (h.permitted (earlier settles)) grows
+      (subst (λ (o : Option StateValue). IsPermittedAt (spill_of p.version) maps known slot o (insn_at p slot)) (sym at)
+      (subst (λ (i : Option Insn). IsPermittedAt (spill_of p.version) maps known slot here i) (sym v.begins)
+      (permitted_at_more transitive (spill_of p.version) maps onward known slot here (Some insn) reaches (v.visit.permitted (now settles)))));
   whole = v.visit.extended.whole h.whole;
   state_whole = v.after_whole;
   ahead = λ k past. revised_after h.known slot here onward k (omega (arith, past));
@@ -241,7 +241,7 @@ passing_next reflexive transitive p sizes old new was runs before after regions 
     known = revised h.known slot here onward
 
     grows : Grows p slot h.known known
-    grows = grows_next reflexive transitive p sizes old new was runs before after regions region settled turn slot insn v h
+    grows = grows_next reflexive transitive p maps old new was runs before after regions region settled turn slot insn v h
 
     at : known slot ≡ here
     at = revised_here h.known slot here onward slot refl
@@ -273,10 +273,10 @@ passing_next reflexive transitive p sizes old new was runs before after regions 
         (λ beyond. subst (λ (o : Option StateValue). IsCoveredIfAny (onward k) o) (sym (revised_after h.known slot here onward k (omega (arith, beyond)))) (covers_itself reflexive (onward k)))
 
 -- at a second slot
-pub passing_skip : BelowIsReflexive → BelowIsTransitive → (p : Program) (sizes : Maps) (table : TableValue) (runs : Bool) (state : StateValue) (regions : List (Option Region)) (settled : Type 0) (slot : ℕ)
+pub passing_skip : BelowIsReflexive → BelowIsTransitive → (p : Program) (maps : Maps) (table : TableValue) (runs : Bool) (state : StateValue) (regions : List (Option Region)) (settled : Type 0) (slot : ℕ)
     → insn_at p slot ≡ None → slot < length regions
-    → IsPassing p sizes table runs state regions settled slot → IsPassing p sizes table runs state (slice_set regions slot None) settled (slot + 1)
-passing_skip reflexive transitive p sizes table runs state regions settled slot none inside h = record {
+    → IsPassing p maps table runs state regions settled slot → IsPassing p maps table runs state (slice_set regions slot None) settled (slot + 1)
+passing_skip reflexive transitive p maps table runs state regions settled slot none inside h = record {
   known = h.known;
   next = h.next;
   stands = λ on.
@@ -292,8 +292,8 @@ passing_skip reflexive transitive p sizes table runs state regions settled slot 
       (sym (ap (λ (o : Option StateValue). region_at o (insn_at p slot)) nothing))
       inside;
   permitted = λ settles.
-      permitted_next transitive p sizes h.known h.known slot (h.permitted settles) grows
-      (subst (λ (o : Option StateValue). IsPermittedAt (spill_of p.version) sizes h.known slot o (insn_at p slot)) (sym nothing) tt);
+      permitted_next transitive p maps h.known h.known slot (h.permitted settles) grows
+      (subst (λ (o : Option StateValue). IsPermittedAt (spill_of p.version) maps h.known slot o (insn_at p slot)) (sym nothing) tt);
   whole = h.whole;
   state_whole = h.state_whole;
   ahead = λ k past. h.ahead k (omega (arith, past));
@@ -335,8 +335,8 @@ passing_skip reflexive transitive p sizes table runs state regions settled slot 
     }
 
 -- where a running state stands, no jump leads
-pub passing_plain : (p : Program) (sizes : Maps) (table : TableValue) (runs : Bool) (state : StateValue) (regions : List (Option Region)) (settled : Type 0) (slot : ℕ) → IsProgram p → IsPassing p sizes table runs state regions settled slot → IsTrue runs → IsKept p slot → ⊥
-passing_plain p sizes table runs state regions settled slot limits h on kept =
+pub passing_plain : (p : Program) (maps : Maps) (table : TableValue) (runs : Bool) (state : StateValue) (regions : List (Option Region)) (settled : Type 0) (slot : ℕ) → IsProgram p → IsPassing p maps table runs state regions settled slot → IsTrue runs → IsKept p slot → ⊥
+passing_plain p maps table runs state regions settled slot limits h on kept =
     let was = h.stands on in
     by_order ⊥ slot h.next
     (λ below. false≢true (subst (λ (o : Option Insn). IsSome o) (was.between slot (omega arith) below) (kept_begins p slot limits kept)))
@@ -344,16 +344,16 @@ passing_plain p sizes table runs state regions settled slot limits h on kept =
     (λ beyond. omega (arith, beyond, was.from))
 
 -- after the visit of a slot
-pub passing_slot : BelowIsReflexive → BelowIsTransitive → (p : Program) (sizes : Maps) (old new : TableValue) (was runs : Bool) (before after : StateValue) (regions : List (Option Region)) (region : Option Region) (settled turn again : Type 0) (slot : ℕ) (o : Option Insn)
+pub passing_slot : BelowIsReflexive → BelowIsTransitive → (p : Program) (maps : Maps) (old new : TableValue) (was runs : Bool) (before after : StateValue) (regions : List (Option Region)) (region : Option Region) (settled turn again : Type 0) (slot : ℕ) (o : Option Insn)
     → insn_at p slot ≡ o → IsProgram p → old.program ≡ p → AreEntries new → IsWhole after
     → (again → settled) → (again → turn) → slot < length regions
-    → IsVisit (record { program = p; sizes = sizes; slot = slot }) old new was runs before after turn region o
-    → IsPassing p sizes old was before regions settled slot → IsPassing p sizes new runs after (slice_set regions slot region) again (slot + 1)
-passing_slot reflexive transitive p sizes old new was runs before after regions region settled turn again slot None none limits own entries whole earlier now inside visit h =
+    → IsVisit (record { program = p; maps = maps; slot = slot }) old new was runs before after turn region o
+    → IsPassing p maps old was before regions settled slot → IsPassing p maps new runs after (slice_set regions slot region) again (slot + 1)
+passing_slot reflexive transitive p maps old new was runs before after regions region settled turn again slot None none limits own entries whole earlier now inside visit h =
     rw (visit.same_table, visit.same_runs, visit.same_state, visit.no_region)
-    (passing_skip reflexive transitive p sizes old was before regions again slot none inside (eased h))
+    (passing_skip reflexive transitive p maps old was before regions again slot none inside (eased h))
   where
-    eased : IsPassing p sizes old was before regions settled slot → IsPassing p sizes old was before regions again slot
+    eased : IsPassing p maps old was before regions settled slot → IsPassing p maps old was before regions again slot
     eased g = record {
       known = g.known;
       next = g.next;
@@ -365,18 +365,18 @@ passing_slot reflexive transitive p sizes old new was runs before after regions 
       ahead = g.ahead;
       behind = g.behind;
     }
-passing_slot reflexive transitive p sizes old new was runs before after regions region settled turn again slot (Some insn) begins limits own entries whole earlier now inside visit h =
-    passing_next reflexive transitive p sizes old new was runs before after regions region settled turn again slot insn
-    (record { limits = limits; own = own; entries = entries; after_whole = whole; begins = begins; before_plain = passing_plain p sizes old was before regions settled slot limits h; visit = visit })
+passing_slot reflexive transitive p maps old new was runs before after regions region settled turn again slot (Some insn) begins limits own entries whole earlier now inside visit h =
+    passing_next reflexive transitive p maps old new was runs before after regions region settled turn again slot insn
+    (record { limits = limits; own = own; entries = entries; after_whole = whole; begins = begins; before_plain = passing_plain p maps old was before regions settled slot limits h; visit = visit })
     earlier now inside h
 
 -- the visit of an instruction: what comes to it, and what its flow does
 pub insn_visit : BelowIsTransitive → (v : VisitValue) (old mid new : TableValue) (was runs : Bool) (before here left : StateValue) (settled : Type 0) (region : Option Region) (insn : Insn)
-    → visited_state was before mid v.slot ≡ Some here → (settled → IsPermitted (spill_of v.program.version) v.sizes (knowledge_beside new runs (v.slot + slots_of insn) left) v.slot here insn) → region ≡ region_at (Some here) (Some insn)
+    → visited_state was before mid v.slot ≡ Some here → (settled → IsPermitted (spill_of v.program.version) v.maps (knowledge_beside new runs (v.slot + slots_of insn) left) v.slot here insn) → region ≡ region_at (Some here) (Some insn)
     → AreHeadsAt v.program v.slot (visited_state was before mid v.slot) → (IsTrue runs → IsPlain v.program (v.slot + slots_of insn)) → IsExtended v.slot old mid → IsExtended (v.slot + 1) mid new
     → IsInsnVisit v old new was runs before left settled region insn
 insn_visit transitive v old mid new was runs before here left settled region insn known permits accesses heads plain first second = record {
-  permitted = λ settles. subst (λ (o : Option StateValue). IsPermittedAt (spill_of v.program.version) v.sizes (knowledge_beside new runs (v.slot + slots_of insn) left) v.slot o (Some insn)) (sym there) (permits settles);
+  permitted = λ settles. subst (λ (o : Option StateValue). IsPermittedAt (spill_of v.program.version) v.maps (knowledge_beside new runs (v.slot + slots_of insn) left) v.slot o (Some insn)) (sym there) (permits settles);
   accesses = subst (λ (o : Option StateValue). region ≡ region_at o (Some insn)) (sym there) accesses;
   heads = subst (λ (o : Option StateValue). AreHeadsAt v.program v.slot o) (sym same) heads;
   plain = plain;
@@ -394,24 +394,24 @@ insn_visit transitive v old mid new was runs before here left settled region ins
     there = same ∙ known
 
 -- the visit of the slot of a program
-pub visit_of : (v : VisitValue) (p : Program) (sizes : Maps) (slot : ℕ) → v.program ≡ p → v.sizes ≡ sizes → v.slot ≡ slot → v ≡ record { program = p; sizes = sizes; slot = slot }
-visit_of v p sizes slot own for at =
-    ap (λ (q : Program). visit_value q v.sizes v.slot) own ∙ ap (λ (m : Maps). visit_value p m v.slot) for ∙ ap (λ (k : ℕ). visit_value p sizes k) at
+pub visit_of : (v : VisitValue) (p : Program) (maps : Maps) (slot : ℕ) → v.program ≡ p → v.maps ≡ maps → v.slot ≡ slot → v ≡ record { program = p; maps = maps; slot = slot }
+visit_of v p maps slot own for at =
+    ap (λ (q : Program). visit_value q v.maps v.slot) own ∙ ap (λ (m : Maps). visit_value p m v.slot) for ∙ ap (λ (k : ℕ). visit_value p maps k) at
   where
     visit_value : Program → Maps → ℕ → VisitValue
-    visit_value q m k = record { program = q; sizes = m; slot = k }
+    visit_value q m k = record { program = q; maps = m; slot = k }
 
 pub visited_program : (v : VisitValue) (old new : TableValue) (was runs : Bool) (before after : StateValue) (turn : Type 0) (region : Option Region) (o : Option Insn) → IsVisit v old new was runs before after turn region o → new.program ≡ old.program
 visited_program v old new was runs before after turn region None visit = ap (λ (t : TableValue). t.program) visit.same_table
 visited_program v old new was runs before after turn region (Some insn) visit = visit.extended.program
 
-pub visit_at : (v : VisitValue) (p : Program) (sizes : Maps) (slot : ℕ) (old new : TableValue) (was runs : Bool) (before after : StateValue) (turn : Type 0) (region : Option Region) → v ≡ record { program = p; sizes = sizes; slot = slot } → IsVisit v old new was runs before after turn region (insn_at v.program v.slot) → IsVisit (record { program = p; sizes = sizes; slot = slot }) old new was runs before after turn region (insn_at p slot)
-visit_at v p sizes slot old new was runs before after turn region same visit =
+pub visit_at : (v : VisitValue) (p : Program) (maps : Maps) (slot : ℕ) (old new : TableValue) (was runs : Bool) (before after : StateValue) (turn : Type 0) (region : Option Region) → v ≡ record { program = p; maps = maps; slot = slot } → IsVisit v old new was runs before after turn region (insn_at v.program v.slot) → IsVisit (record { program = p; maps = maps; slot = slot }) old new was runs before after turn region (insn_at p slot)
+visit_at v p maps slot old new was runs before after turn region same visit =
     subst (λ (w : VisitValue). IsVisit w old new was runs before after turn region (insn_at w.program w.slot)) same visit
 
 -- before the first slot
-pub passing_none : BelowIsReflexive → (p : Program) (sizes : Maps) (table : TableValue) (state : StateValue) (regions : List (Option Region)) (settled : Type 0) → AreEntered p (knowledge_in table) → IsWhole state → IsPassing p sizes table false state regions settled 0
-passing_none reflexive p sizes table state regions settled entry whole = record {
+pub passing_none : BelowIsReflexive → (p : Program) (maps : Maps) (table : TableValue) (state : StateValue) (regions : List (Option Region)) (settled : Type 0) → AreEntered p (knowledge_in table) → IsWhole state → IsPassing p maps table false state regions settled 0
+passing_none reflexive p maps table state regions settled entry whole = record {
   known = knowledge_in table;
   next = 0;
   stands = λ on. absurd (false≢true on);

@@ -14,7 +14,7 @@ use Rattle.absdom.specs.declared.kinds.AbsKind.{AbsKind}
 use Rattle.absdom.specs.declared.kinds.AbsKind.TheVariants.{Unset, Num, Ptr, Map}
 use Rattle.absdom.specs.Kinds.{IsKindBelow}
 use Rattle.absdom.specs.Marks.{AreMarkedIn}
-use Rattle.absdom.specs.Places.{AreAllWhole, AreRangesWithin}
+use Rattle.absdom.specs.StackWords.{AreAllWhole, AreRangesWithin}
 use Rattle.absdom.specs.State.{StateValue, IsBelow, IsWhole, IsProper, kind_at, kind_in}
 use Rattle.absdom.specs.Laws.{BelowIsTransitive, IsLeftBy}
 use Rattle.bver_form.specs.Loops.{holds}
@@ -37,7 +37,7 @@ pub record IsRound (p : Program) (l : Loop) (slot : ℕ) (head a : StateValue) :
   pub ranges : (HasStore p l → ⊥) → AreRangesWithin a.ranges head.ranges
   pub words : AreWords a.ranges
 
--- ---- ranges of places
+-- ---- ranges of words
 
 -- those of a whole state are of words
 pub words_of : (a : StateValue) → IsWhole a → AreWords a.ranges

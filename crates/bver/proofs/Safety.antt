@@ -16,7 +16,9 @@ use Rattle.machine.specs.declared.values.Value.{Value}
 use Rattle.machine.specs.declared.values.Value.TheVariants.{Unset as Nothing, Num as Number, Ptr as Pointer, Map as MapOf}
 use Rattle.machine.specs.Memory.{Header, IsHeader}
 use Rattle.machine.specs.State.{State, entry_state}
-use Rattle.machine.specs.Step.{Outcome, Trap, step, perform, perform_at, insn_at, finds_maps, is_cell, has_kind, takes_kind}
+use Rattle.machine.specs.declared.helpers.Helper.{Helper}
+use Rattle.machine.specs.Helpers.{helper_of, takes_kind}
+use Rattle.machine.specs.Step.{Outcome, Trap, step, perform, perform_at, insn_at, finds_maps, finds_cell, is_cell, has_kind}
 use Rattle.machine.specs.Laws.{AreLeftBy}
 use Rattle.machine.specs.Runs.{Path, entry, moves, answered, IsSafe}
 use Rattle.absdom.specs.declared.kinds.AbsKind.{AbsKind}
@@ -26,7 +28,7 @@ use Rattle.absdom.specs.Fits.{Fits, FitsKind}
 use Rattle.absdom.specs.declared.spill.Spill.{Spill}
 use Rattle.absdom.specs.Spill.{spill_of}
 use Rattle.bver_form.specs.Loops.{IsEdge, weight_left}
-use Rattle.bver.specs.Justified.{AsksCell, AsksKind, IsHead, IsPermittedAt, IsJustified}
+use Rattle.bver.specs.Justified.{AsksCell, AsksKind, MayCall, IsHead, IsPermittedAt, IsJustified}
 use Rattle.bver.proofs.Standing.{Laws, Stands, Continues, continues, performs_here, permitted_here, stands}
 use Rattle.bver.proofs.Arrivals.{LeadsTo, at_once, by_answer, edge_of}
 use Rattle.bver.proofs.Counters.{AreCounting, IsBegun, IsStepped, IsNumberIn, begun, begun_high, inside_of, loop_in, stepped, values_at, values_of}
@@ -42,8 +44,8 @@ number_in (MapOf index) bound fits = absurd fits
 head_of : (p : Program) (l : Loop) (o : Option StateValue) (a : StateValue) → o ≡ Some a → IfSome o (IsHead p l) → IsHead p l a
 head_of p l o a is h = subst (λ (x : Option StateValue). IfSome x (IsHead p l)) is h
 
-begun_at : (p : Program) (sizes : Maps) (h : IsJustified p sizes) (t : State) (at : Stands h.table t) (k : ℕ) (d : Loop) → k < length p.loops → IsBegun (slice_index_or p.loops k d) t
-begun_at p sizes h t at k d below same =
+begun_at : (p : Program) (maps : Maps) (h : IsJustified p maps) (t : State) (at : Stands h.table t) (k : ℕ) (d : Loop) → k < length p.loops → IsBegun (slice_index_or p.loops k d) t
+begun_at p maps h t at k d below same =
     let l = slice_index_or p.loops k d in
     let head : IsHead p l at.known = head_of p l (h.table l.head) at.known (ap h.table (sym same) ∙ at.is) (h.heads k d below) in
     number_in (t.registers l.register) l.bound (subst (λ (kind : AbsKind). FitsKind (t.registers l.register) kind) head.counter (at.fits.registers l.register))
@@ -56,21 +58,21 @@ record Counted (p : Program) (n : ℕ) (s : State) : Type 0 where
   pub within : n + weight_left p (values_of p.loops s) s.slot ≤ weight_of p
 
 -- an instruction begins where a path stands
-begins_here : (spill : Spill) (sizes : Maps) (table : ℕ → Option StateValue) (slot : ℕ) (a : StateValue) (o : Option Insn) → IsPermittedAt spill sizes table slot (Some a) o → IsSome o
-begins_here spill sizes table slot a None h = absurd h
-begins_here spill sizes table slot a (Some insn) h = refl
+begins_here : (spill : Spill) (maps : Maps) (table : ℕ → Option StateValue) (slot : ℕ) (a : StateValue) (o : Option Insn) → IsPermittedAt spill maps table slot (Some a) o → IsSome o
+begins_here spill maps table slot a None h = absurd h
+begins_here spill maps table slot a (Some insn) h = refl
 
-insn_here : (p : Program) (sizes : Maps) (h : IsJustified p sizes) (s : State) (at : Stands h.table s) → IsSome (insn_at p s.slot)
-insn_here p sizes h s at = begins_here (spill_of p.version) sizes h.table s.slot at.known (insn_at p s.slot) (permitted_here p sizes h s at)
+insn_here : (p : Program) (maps : Maps) (h : IsJustified p maps) (s : State) (at : Stands h.table s) → IsSome (insn_at p s.slot)
+insn_here p maps h s at = begins_here (spill_of p.version) maps h.table s.slot at.known (insn_at p s.slot) (permitted_here p maps h s at)
 
 -- a path begins
-counted_first : Laws → (p : Program) (sizes : Maps) (h : IsJustified p sizes) (port : ℕ) → Stands h.table (entry_state port) → Counted p 0 (entry_state port)
-counted_first laws p sizes h port at = record {
+counted_first : Laws → (p : Program) (maps : Maps) (h : IsJustified p maps) (port : ℕ) → Stands h.table (entry_state port) → Counted p 0 (entry_state port)
+counted_first laws p maps h port at = record {
   counting = λ k d below inside.
       let l = slice_index_or p.loops k d in
       let limits = (loop_in (length p.slots) 0 p.loops k d h.limits.loops below).1 in
       let here : 0 ≡ l.head = omega (arith, (inside_of l 0 inside).0) in
-      begun (length p.slots) l s limits here (begun_at p sizes h s at k d below here);
+      begun (length p.slots) l s limits here (begun_at p maps h s at k d below here);
   within = omega (arith, laws.begins p values h.limits h.formed low);
 }
   where
@@ -83,7 +85,7 @@ counted_first laws p sizes h port at = record {
     low : All (λ l. l.head ≡ 0 → values 0 ≤ l.bound) p.loops
     low k d below first =
         let l = slice_index_or p.loops k d in
-        let high = begun_high l (s.registers l.register) (begun_at p sizes h s at k d below (sym first)) in
+        let high = begun_high l (s.registers l.register) (begun_at p maps h s at k d below (sym first)) in
         subst (λ (head : ℕ). values head ≤ l.bound) first (rw (values_at (length p.slots) 0 p.loops s k d h.limits.loops below) high)
 
 -- an instruction that goes on leaves the registers that it does not write
@@ -94,8 +96,8 @@ left_by insn s t o (by_answer question on answer e is) left =
     (subst (λ (w : Outcome). AreLeftBy insn s w) e left answer).registers
 
 -- a step
-counted_next : Laws → (p : Program) (sizes : Maps) (h : IsJustified p sizes) (header : Header) (n : ℕ) (s t : State) (insn : Insn) → Stands h.table t → insn_at p s.slot ≡ Some insn → LeadsTo (perform header s insn) t → Counted p n s → Counted p (n + 1) t
-counted_next laws p sizes h header n s t insn at is e counted = record {
+counted_next : Laws → (p : Program) (maps : Maps) (h : IsJustified p maps) (header : Header) (n : ℕ) (s t : State) (insn : Insn) → Stands h.table t → insn_at p s.slot ≡ Some insn → LeadsTo (perform header s insn) t → Counted p n s → Counted p (n + 1) t
+counted_next laws p maps h header n s t insn at is e counted = record {
   counting = λ k d below. (each k d below).1;
   within = omega (
     arith,
@@ -109,7 +111,7 @@ counted_next laws p sizes h header n s t insn at is e counted = record {
     edge = edge_of p header s t insn is e
 
     begins : IsSome (insn_at p t.slot)
-    begins = insn_here p sizes h t at
+    begins = insn_here p maps h t at
 
     each : All (λ l. IsStepped l s t) p.loops
     each k d below =
@@ -117,24 +119,24 @@ counted_next laws p sizes h header n s t insn at is e counted = record {
         stepped (length p.slots) p header l s t insn
         (loop_in (length p.slots) 0 p.loops k d h.limits.loops below).1
         (h.formed.loops k d below) (laws.entered p s.slot t.slot h.limits h.formed edge begins k d below) is e
-        (left_by insn s t (perform header s insn) e (laws.leaves header insn s) l.register) (counted.counting k d below) (begun_at p sizes h t at k d below)
+        (left_by insn s t (perform header s insn) e (laws.leaves header insn s) l.register) (counted.counting k d below) (begun_at p maps h t at k d below)
 
-counted_from : Laws → (p : Program) (sizes : Maps) (h : IsJustified p sizes) (header : Header) (n : ℕ) (s t : State) (o : Option Insn) → Stands h.table t → insn_at p s.slot ≡ o → IsSome o → LeadsTo (perform_at header s o) t → Counted p n s → Counted p (n + 1) t
-counted_from laws p sizes h header n s t None at is some e counted = absurd cc
-counted_from laws p sizes h header n s t (Some insn) at is some e counted = counted_next laws p sizes h header n s t insn at is e counted
+counted_from : Laws → (p : Program) (maps : Maps) (h : IsJustified p maps) (header : Header) (n : ℕ) (s t : State) (o : Option Insn) → Stands h.table t → insn_at p s.slot ≡ o → IsSome o → LeadsTo (perform_at header s o) t → Counted p n s → Counted p (n + 1) t
+counted_from laws p maps h header n s t None at is some e counted = absurd cc
+counted_from laws p maps h header n s t (Some insn) at is some e counted = counted_next laws p maps h header n s t insn at is e counted
 
-counts : Laws → (p : Program) (sizes : Maps) (h : IsJustified p sizes) (header : Header) (port : ℕ) (calls : List Call) (n : ℕ) (s : State) → IsHeader header → port < 32 → Path p header port calls n s → Counted p n s
-counts laws p sizes h header port calls n s good low entry = counted_first laws p sizes h port (stands laws p sizes h header port calls n s good low entry)
-counts laws p sizes h header port calls n s good low (moves {n = m} {s = r} path e) =
-    let there = stands laws p sizes h header port calls m r good low path in
-    let here = stands laws p sizes h header port calls n s good low (moves path e) in
+counts : Laws → (p : Program) (maps : Maps) (h : IsJustified p maps) (header : Header) (port : ℕ) (calls : List Call) (n : ℕ) (s : State) → IsHeader header → port < 32 → Path p header port calls n s → Counted p n s
+counts laws p maps h header port calls n s good low entry = counted_first laws p maps h port (stands laws p maps h header port calls n s good low entry)
+counts laws p maps h header port calls n s good low (moves {n = m} {s = r} path e) =
+    let there = stands laws p maps h header port calls m r good low path in
+    let here = stands laws p maps h header port calls n s good low (moves path e) in
     rw (← add-one)
-    (counted_from laws p sizes h header m r s (insn_at p r.slot) here refl (insn_here p sizes h r there) (at_once (sym (performs_here laws.performs p sizes h header r) ∙ e)) (counts laws p sizes h header port calls m r good low path))
-counts laws p sizes h header port calls n s good low (answered {n = m} {s = r} {question = asked} {on = on} answer path e below) =
-    let there = stands laws p sizes h header port _ m r good low path in
-    let here = stands laws p sizes h header port calls n s good low (answered answer path e below) in
+    (counted_from laws p maps h header m r s (insn_at p r.slot) here refl (insn_here p maps h r there) (at_once (sym (performs_here laws.performs p maps h header r) ∙ e)) (counts laws p maps h header port calls m r good low path))
+counts laws p maps h header port calls n s good low (answered {n = m} {s = r} {question = asked} {on = on} answer path e below) =
+    let there = stands laws p maps h header port _ m r good low path in
+    let here = stands laws p maps h header port calls n s good low (answered answer path e below) in
     rw (← add-one)
-    (counted_from laws p sizes h header m r s (insn_at p r.slot) here refl (insn_here p sizes h r there) (by_answer asked on answer (sym (performs_here laws.performs p sizes h header r) ∙ e) refl) (counts laws p sizes h header port _ m r good low path))
+    (counted_from laws p maps h header m r s (insn_at p r.slot) here refl (insn_here p maps h r there) (by_answer asked on answer (sym (performs_here laws.performs p maps h header r) ∙ e) refl) (counts laws p maps h header port _ m r good low path))
 
 -- ---- safe
 
@@ -142,63 +144,69 @@ no_trap_of : (table : ℕ → Option StateValue) (o : Outcome) → Continues tab
 no_trap_of table o c e = subst (λ (w : Outcome). Continues table w) e c
 
 -- a permitted call finds its map and key
-finds_cell : (sizes : Maps) (map key : Value) (k q : AbsKind) → FitsKind map k → FitsKind key q → AsksCell sizes k q → is_cell sizes map key ≡ true
-finds_cell sizes map key Unset q is has cell = absurd cell
-finds_cell sizes map key (Num range) q is has cell = absurd cell
-finds_cell sizes map key (Ptr region offsets) q is has cell = absurd cell
-finds_cell sizes map key (Map index) Unset is has cell = absurd cell
-finds_cell sizes map key (Map index) (Ptr region offsets) is has cell = absurd cell
-finds_cell sizes map key (Map index) (Map other) is has cell = absurd cell
-finds_cell sizes Nothing key (Map index) (Num range) is has cell = absurd is
-finds_cell sizes (Number n) key (Map index) (Num range) is has cell = absurd is
-finds_cell sizes (Pointer region z) key (Map index) (Num range) is has cell = absurd is
-finds_cell sizes (MapOf own) Nothing (Map index) (Num range) is has cell = absurd has
-finds_cell sizes (MapOf own) (Pointer region z) (Map index) (Num range) is has cell = absurd has
-finds_cell sizes (MapOf own) (MapOf other) (Map index) (Num range) is has cell = absurd has
-finds_cell sizes (MapOf own) (Number n) (Map index) (Num range) is has cell =
-    let below : n < slice_index sizes.cells index = omega (arith, has.below, cell) in
-    lt-ltb n (slice_index sizes.cells own) (subst (λ (m : ℕ). n < slice_index sizes.cells m) (sym is) below)
+cell_found : (maps : Maps) (map key : Value) (k q : AbsKind) → FitsKind map k → FitsKind key q → AsksCell maps k q → is_cell maps map key ≡ true
+cell_found maps map key Unset q is has cell = absurd cell
+cell_found maps map key (Num range) q is has cell = absurd cell
+cell_found maps map key (Ptr region offsets) q is has cell = absurd cell
+cell_found maps map key (Map index) Unset is has cell = absurd cell
+cell_found maps map key (Map index) (Ptr region offsets) is has cell = absurd cell
+cell_found maps map key (Map index) (Map other) is has cell = absurd cell
+cell_found maps Nothing key (Map index) (Num range) is has cell = absurd is
+cell_found maps (Number n) key (Map index) (Num range) is has cell = absurd is
+cell_found maps (Pointer region z) key (Map index) (Num range) is has cell = absurd is
+cell_found maps (MapOf own) Nothing (Map index) (Num range) is has cell = absurd has
+cell_found maps (MapOf own) (Pointer region z) (Map index) (Num range) is has cell = absurd has
+cell_found maps (MapOf own) (MapOf other) (Map index) (Num range) is has cell = absurd has
+cell_found maps (MapOf own) (Number n) (Map index) (Num range) is has cell =
+    let below : n < slice_index maps.cells index = omega (arith, has.below, cell) in
+    lt-ltb n (slice_index maps.cells own) (subst (λ (m : ℕ). n < slice_index maps.cells m) (sym is) below)
 
 -- and a map of its kind
-finds_kind : (sizes : Maps) (helper : ℤ) (map : Value) (k : AbsKind) → FitsKind map k → AsksKind sizes helper k → has_kind sizes helper map ≡ true
-finds_kind sizes helper map Unset is kind = absurd kind
-finds_kind sizes helper map (Num range) is kind = absurd kind
-finds_kind sizes helper map (Ptr region offsets) is kind = absurd kind
-finds_kind sizes helper Nothing (Map index) is kind = absurd is
-finds_kind sizes helper (Number n) (Map index) is kind = absurd is
-finds_kind sizes helper (Pointer region z) (Map index) is kind = absurd is
-finds_kind sizes helper (MapOf own) (Map index) is kind = subst (λ (m : ℕ). takes_kind helper (kind_of_map sizes m) ≡ true) (sym is) kind
+kind_found : (maps : Maps) (helper : Helper) (map : Value) (k : AbsKind) → FitsKind map k → AsksKind maps helper k → has_kind maps helper map ≡ true
+kind_found maps helper map Unset is kind = absurd kind
+kind_found maps helper map (Num range) is kind = absurd kind
+kind_found maps helper map (Ptr region offsets) is kind = absurd kind
+kind_found maps helper Nothing (Map index) is kind = absurd is
+kind_found maps helper (Number n) (Map index) is kind = absurd is
+kind_found maps helper (Pointer region z) (Map index) is kind = absurd is
+kind_found maps helper (MapOf own) (Map index) is kind = subst (λ (m : ℕ). takes_kind helper (kind_of_map maps m) ≡ true) (sym is) kind
 
 both : (a b : Bool) → a ≡ true → b ≡ true → (a && b) ≡ true
 both a b h k = rw (h, k) refl
 
--- a permitted instruction finds its map
-finds : (spill : Spill) (sizes : Maps) (table : ℕ → Option StateValue) (s : State) (a : StateValue) (o : Option Insn) → Fits s a → IsPermittedAt spill sizes table s.slot (Some a) o → finds_maps sizes s o ≡ true
-finds spill sizes table s a None fits h = absurd h
-finds spill sizes table s a (Some (Alu op width dst src)) fits h = refl
-finds spill sizes table s a (Some (Negate width dst)) fits h = refl
-finds spill sizes table s a (Some (MoveSigned extension dst src)) fits h = refl
-finds spill sizes table s a (Some (ByteSwap swap bits dst)) fits h = refl
-finds spill sizes table s a (Some (Load size dst place)) fits h = refl
-finds spill sizes table s a (Some (Store size place src)) fits h = refl
-finds spill sizes table s a (Some (Jump comparison offset)) fits h = refl
-finds spill sizes table s a (Some (Goto distance)) fits h = refl
-finds spill sizes table s a (Some (Wide dst value)) fits h = refl
-finds spill sizes table s a (Some (LoadMap dst index)) fits h = h.0
-finds spill sizes table s a (Some (LoadAddress dst address)) fits h = absurd h
-finds spill sizes table s a (Some (insns.Call callee number)) fits h =
-    both (is_cell sizes (s.registers 1) (s.registers 2)) (has_kind sizes number (s.registers 1))
-    (finds_cell sizes (s.registers 1) (s.registers 2) (kind_at a 1) (kind_at a 2) (fits.registers 1) (fits.registers 2) h.0.cell)
-    (finds_kind sizes number (s.registers 1) (kind_at a 1) (fits.registers 1) h.0.kind)
-finds spill sizes table s a (Some Exit) fits h = refl
+-- a call that is permitted finds its cell
+called_found : (maps : Maps) (s : State) (a : StateValue) (called : Option Helper) → Fits s a → MayCall maps called a → finds_cell maps called (s.registers 1) (s.registers 2) ≡ true
+called_found maps s a None fits may = absurd may
+called_found maps s a (Some helper) fits may =
+    both (is_cell maps (s.registers 1) (s.registers 2)) (has_kind maps helper (s.registers 1))
+    (cell_found maps (s.registers 1) (s.registers 2) (kind_at a 1) (kind_at a 2) (fits.registers 1) (fits.registers 2) may.cell)
+    (kind_found maps helper (s.registers 1) (kind_at a 1) (fits.registers 1) may.kind)
 
-pub is_safe : Laws → (p : Program) (sizes : Maps) → IsJustified p sizes → IsSafe p sizes
-is_safe laws p sizes h = record {
+-- a permitted instruction finds its map
+finds : (spill : Spill) (maps : Maps) (table : ℕ → Option StateValue) (s : State) (a : StateValue) (o : Option Insn) → Fits s a → IsPermittedAt spill maps table s.slot (Some a) o → finds_maps maps s o ≡ true
+finds spill maps table s a None fits h = absurd h
+finds spill maps table s a (Some (Alu op width dst src)) fits h = refl
+finds spill maps table s a (Some (Negate width dst)) fits h = refl
+finds spill maps table s a (Some (MoveSigned extension dst src)) fits h = refl
+finds spill maps table s a (Some (ByteSwap swap bits dst)) fits h = refl
+finds spill maps table s a (Some (Load size dst place)) fits h = refl
+finds spill maps table s a (Some (Store size place src)) fits h = refl
+finds spill maps table s a (Some (Jump comparison offset)) fits h = refl
+finds spill maps table s a (Some (Goto distance)) fits h = refl
+finds spill maps table s a (Some (Wide dst value)) fits h = refl
+finds spill maps table s a (Some (LoadMap dst index)) fits h = h.0
+finds spill maps table s a (Some (LoadAddress dst address)) fits h = absurd h
+finds spill maps table s a (Some (insns.Call callee number)) fits h =
+    called_found maps s a (helper_of number) fits h.0
+finds spill maps table s a (Some Exit) fits h = refl
+
+pub is_safe : Laws → (p : Program) (maps : Maps) → IsJustified p maps → IsSafe p maps
+is_safe laws p maps h = record {
   ends = λ header port calls n s good low path.
-      let at = stands laws p sizes h header port calls n s good low path in
-      let counted = counts laws p sizes h header port calls n s good low path in
-      omega (arith, counted.within, laws.one p s.slot (values_of p.loops s) h.limits h.formed (insn_here p sizes h s at), h.formed.within_budget);
+      let at = stands laws p maps h header port calls n s good low path in
+      let counted = counts laws p maps h header port calls n s good low path in
+      omega (arith, counted.within, laws.one p s.slot (values_of p.loops s) h.limits h.formed (insn_here p maps h s at), h.formed.within_budget);
   no_trap = λ header port calls n s good low path.
-      let at = stands laws p sizes h header port calls n s good low path in
-      rw (finds (spill_of p.version) sizes h.table s at.known (insn_at p s.slot) at.fits (permitted_here p sizes h s at)) (no_trap_of h.table (step p header s) (continues laws p sizes h header s good at));
+      let at = stands laws p maps h header port calls n s good low path in
+      rw (finds (spill_of p.version) maps h.table s at.known (insn_at p s.slot) at.fits (permitted_here p maps h s at)) (no_trap_of h.table (step p header s) (continues laws p maps h header s good at));
 }

@@ -3,9 +3,11 @@ use Rattle.std.proofs.Common.{◌≡◌, ℕ, ◌+◌, ◌^◌, ◌<◌, ℤ, po
 use Rattle.std.specs.Prelude.{IsTrue, IsSome, ◌&&◌, ◌==◌, nat_le, if◌then◌else◌}
 use Rattle.std.proofs.lemmas.Bool.Decides.{nat_tests}
 use Rattle.bpf.specs.Program.{Program}
+use Rattle.bpf.specs.declared.version.Version.{Version}
 use Rattle.bpf_parts.specs.declared.distance.Distance.TheVariants.{Short, Long}
 use Rattle.bpf_parts.specs.declared.callee.Callee.{Callee}
-use Rattle.bpf_parts.specs.declared.callee.Callee.TheVariants.{Helper, Local, ByTypeId}
+use Rattle.bpf_parts.specs.declared.callee.Callee.TheVariants.{Local, ByTypeId}
+use Rattle.bpf_parts.specs.declared.callee.Callee.TheVariants as callees
 use Rattle.bpf_insn.specs.declared.insn.Insn.{Insn}
 use Rattle.bpf_insn.specs.declared.insn.Insn.TheVariants.{Alu, Negate, MoveSigned, ByteSwap, Load, Store, Jump, Goto, Wide, LoadMap, LoadAddress, Exit}
 use Rattle.bpf_insn.specs.declared.insn.Insn.TheVariants as insns
@@ -20,7 +22,9 @@ use Rattle.machine.specs.declared.values.Value.TheVariants.{Unset as Nothing, Nu
 use Rattle.machine.specs.Memory.{Header, IsHeader}
 use Rattle.machine.specs.Laws.{InstructionsLeave, StepPerforms}
 use Rattle.machine.specs.State.{State, state, entry_state}
-use Rattle.machine.specs.Step.{Outcome, Next, Ask, Verdict, Trap, step, perform, perform_at, insn_at, is_map, is_helper, has_helper, knows_flow, knows_insn, number, argument_of, takes_argument, after_answer as answer_to, asks, calls, exits, lands, branches}
+use Rattle.machine.specs.declared.helpers.Helper.{Helper}
+use Rattle.machine.specs.Helpers.{helper_of, takes_argument}
+use Rattle.machine.specs.Step.{Outcome, Next, Ask, Verdict, Trap, step, perform, perform_at, insn_at, is_map, knows_flow, knows_insn, number, argument_of, after_answer as answer_to, asks, calls, calls_helper, exits, lands, branches}
 use Rattle.machine.specs.Runs.{Path, entry, moves, answered}
 use Rattle.absdom.specs.declared.cause.Cause.{Cause}
 use Rattle.absdom.specs.declared.kinds.AbsKind.{AbsKind}
@@ -36,7 +40,7 @@ use Rattle.bver_form.specs.Form.{IsAllowed, IsFormed}
 use Rattle.bver_form.specs.Support.{IsSupportedCall, IsSupportedFlow}
 use Rattle.bver_form.specs.Jumps.{target}
 use Rattle.bver_form.specs.Laws.{BeginsWithinWeight, EachStepTakesOne, OneIsLeft, LoopsAreEntered}
-use Rattle.bver.specs.Justified.{AsksCell, MayAsk, IsCovered, IsCoveredIfAny, IsResultCovered, AreEdgesCovered, IsNumber, Proceeds, IsPermitted, IsPermittedAt, IsJustified, knowledge_at}
+use Rattle.bver.specs.Justified.{AsksCell, MayCall, IsCovered, IsCoveredIfAny, IsResultCovered, AreEdgesCovered, IsNumber, Proceeds, IsPermitted, IsPermittedAt, IsJustified, knowledge_at}
 use Rattle.bver.proofs.Slots.{insn_in}
 
 -- the laws of what is known, of steps, and of loops
@@ -85,7 +89,7 @@ goes_on below table next Trap (Ok a) sound covered = absurd sound
 
 -- the same registers and stack at another slot
 fits_at : (s : State) (a : StateValue) (slot : ℕ) → Fits s a → Fits (state slot s.registers s.stack) a
-fits_at s a slot fits = record { registers = fits.registers; bytes = fits.bytes; places = fits.places }
+fits_at s a slot fits = record { registers = fits.registers; bytes = fits.bytes; words = fits.words }
 
 steps_to : BelowFits → (table : ℕ → Option StateValue) (s : State) (next : ℕ) (a : StateValue) → Fits s a → IsCovered a (table next) → Stands table (state next s.registers s.stack)
 steps_to below table s next a fits covered =
@@ -138,44 +142,38 @@ argument_from true v k fits has = number_from v k fits (has refl)
     number_from (MapOf index) (Num range) fits h = absurd fits
 
 -- a helper's question, whatever is answered
-asks_on : BelowFits → CallFits → (sizes : Maps) (table : ℕ → Option StateValue) (s : State) (a : StateValue) (helper : ℤ) (map key : Value) (o : Option ℕ) (k q : AbsKind) → FitsKind map k → FitsKind key q → AsksCell sizes k q → IsSome o → Fits s a → IsCovered (after_call a) (table (s.slot + 1)) → Continues table (asks s helper map key o)
-asks_on below call sizes table s a helper map key o Unset q is has cell some fits covered = absurd cell
-asks_on below call sizes table s a helper map key o (Num range) q is has cell some fits covered = absurd cell
-asks_on below call sizes table s a helper map key o (Ptr region offsets) q is has cell some fits covered = absurd cell
-asks_on below call sizes table s a helper map key o (Map index) Unset is has cell some fits covered = absurd cell
-asks_on below call sizes table s a helper map key o (Map index) (Ptr region offsets) is has cell some fits covered = absurd cell
-asks_on below call sizes table s a helper map key o (Map index) (Map other) is has cell some fits covered = absurd cell
-asks_on below call sizes table s a helper Nothing key o (Map index) (Num range) is has cell some fits covered = absurd is
-asks_on below call sizes table s a helper (Number n) key o (Map index) (Num range) is has cell some fits covered = absurd is
-asks_on below call sizes table s a helper (Pointer region z) key o (Map index) (Num range) is has cell some fits covered = absurd is
-asks_on below call sizes table s a helper (MapOf own) Nothing o (Map index) (Num range) is has cell some fits covered = absurd has
-asks_on below call sizes table s a helper (MapOf own) (Pointer region z) o (Map index) (Num range) is has cell some fits covered = absurd has
-asks_on below call sizes table s a helper (MapOf own) (MapOf other) o (Map index) (Num range) is has cell some fits covered = absurd has
-asks_on below call sizes table s a helper (MapOf own) (Number n) None (Map index) (Num range) is has cell some fits covered = absurd cc
-asks_on below call sizes table s a helper (MapOf own) (Number n) (Some argument) (Map index) (Num range) is has cell some fits covered =
+asks_on : BelowFits → CallFits → (maps : Maps) (table : ℕ → Option StateValue) (s : State) (a : StateValue) (helper : Helper) (map key : Value) (o : Option ℕ) (k q : AbsKind) → FitsKind map k → FitsKind key q → AsksCell maps k q → IsSome o → Fits s a → IsCovered (after_call a) (table (s.slot + 1)) → Continues table (asks s helper map key o)
+asks_on below call maps table s a helper map key o Unset q is has cell some fits covered = absurd cell
+asks_on below call maps table s a helper map key o (Num range) q is has cell some fits covered = absurd cell
+asks_on below call maps table s a helper map key o (Ptr region offsets) q is has cell some fits covered = absurd cell
+asks_on below call maps table s a helper map key o (Map index) Unset is has cell some fits covered = absurd cell
+asks_on below call maps table s a helper map key o (Map index) (Ptr region offsets) is has cell some fits covered = absurd cell
+asks_on below call maps table s a helper map key o (Map index) (Map other) is has cell some fits covered = absurd cell
+asks_on below call maps table s a helper Nothing key o (Map index) (Num range) is has cell some fits covered = absurd is
+asks_on below call maps table s a helper (Number n) key o (Map index) (Num range) is has cell some fits covered = absurd is
+asks_on below call maps table s a helper (Pointer region z) key o (Map index) (Num range) is has cell some fits covered = absurd is
+asks_on below call maps table s a helper (MapOf own) Nothing o (Map index) (Num range) is has cell some fits covered = absurd has
+asks_on below call maps table s a helper (MapOf own) (Pointer region z) o (Map index) (Num range) is has cell some fits covered = absurd has
+asks_on below call maps table s a helper (MapOf own) (MapOf other) o (Map index) (Num range) is has cell some fits covered = absurd has
+asks_on below call maps table s a helper (MapOf own) (Number n) None (Map index) (Num range) is has cell some fits covered = absurd cc
+asks_on below call maps table s a helper (MapOf own) (Number n) (Some argument) (Map index) (Num range) is has cell some fits covered =
     λ answer low. arrives below table (answer_to s answer) (after_call a) (call s a answer low fits) covered
 
--- the helpers of a version are helpers
-is_helper_of : (version : ℕ) (number : ℤ) → IsTrue (has_helper version number) → is_helper number ≡ true
-is_helper_of version (negsuc n) h = absurd cc
-is_helper_of version (pos n) h = by_first (version == 1) (version == 2) h
-  where
-    by_first : (first second : Bool) → (nat_le 1 n && nat_le n (if first then 2 else (if second then 3 else 0))) ≡ true → (nat_le 1 n && nat_le n 3) ≡ true
-    by_first true second h = grind (arith, nat_tests)
-    by_first false true h = h
-    by_first false false h = grind (arith, nat_tests)
+-- a helper's call, where it may be asked
+helper_on : BelowFits → CallFits → (maps : Maps) (table : ℕ → Option StateValue) (s : State) (a : StateValue) (called : Option Helper) → MayCall maps called a → Fits s a → IsCovered (after_call a) (table (s.slot + 1)) → Continues table (calls_helper s called)
+helper_on below call maps table s a None may fits covered = absurd may
+helper_on below call maps table s a (Some helper) may fits covered =
+    asks_on below call maps table s a helper (s.registers 1) (s.registers 2) (argument_of helper (s.registers 3)) (kind_at a 1) (kind_at a 2) (fits.registers 1) (fits.registers 2) may.cell
+    (argument_from (takes_argument helper) (s.registers 3) (kind_at a 3) (fits.registers 3) may.given) fits covered
 
-calls_on : BelowFits → CallFits → (version : ℕ) (sizes : Maps) (table : ℕ → Option StateValue) (s : State) (a : StateValue) (callee : Callee) (number : ℤ) → IsSupportedCall version callee number → MayAsk sizes number a → Fits s a → IsCovered (after_call a) (table (s.slot + 1)) → Continues table (calls s callee number)
-calls_on below call version sizes table s a Helper number supported may fits covered =
-    rw (is_helper_of version number supported)
-    (asks_on below call sizes table s a number (s.registers 1) (s.registers 2) (argument_of number (s.registers 3)) (kind_at a 1) (kind_at a 2) (fits.registers 1) (fits.registers 2) may.cell
-    (argument_from (takes_argument number) (s.registers 3) (kind_at a 3) (fits.registers 3) may.given) fits covered)
-calls_on below call version sizes table s a Local number supported may fits covered = absurd supported
-calls_on below call version sizes table s a ByTypeId number supported may fits covered = absurd supported
+calls_on : BelowFits → CallFits → (version : Version) (maps : Maps) (table : ℕ → Option StateValue) (s : State) (a : StateValue) (callee : Callee) (number : ℤ) → IsSupportedCall version callee number → MayCall maps (helper_of number) a → Fits s a → IsCovered (after_call a) (table (s.slot + 1)) → Continues table (calls s callee number)
+calls_on below call version maps table s a callees.Helper number supported may fits covered = helper_on below call maps table s a (helper_of number) may fits covered
+calls_on below call version maps table s a Local number supported may fits covered = absurd supported
+calls_on below call version maps table s a ByTypeId number supported may fits covered = absurd supported
 
-index_of : (sizes : Maps) (index : ℤ) → IsTrue (is_map sizes index) → IsIndex index
-index_of sizes (pos n) h = tt
-index_of sizes (negsuc n) h = absurd cc
+index_of : (maps : Maps) (index : ℤ) → IsTrue (is_map maps index) → IsIndex index
+index_of maps (pos n) h = tt
+index_of maps (negsuc n) h = absurd cc
 
 -- ---- the step at an instruction
 
@@ -184,35 +182,35 @@ proceeds : Laws → (spill : Spill) (table : ℕ → Option StateValue) (header 
 proceeds laws spill table header s a insn good fits straight h =
     goes_on laws.below table (s.slot + slots_of insn) (perform header s insn) (after_insn spill a insn) (laws.apply spill header s a insn good straight fits) h
 
-continues_at : Laws → (spill : Spill) (p : Program) (sizes : Maps) (table : ℕ → Option StateValue) (header : Header) (s : State) (a : StateValue) (insn : Insn) → IsHeader header → Fits s a → IsAllowed p s.slot insn → IsInsn insn → IsPermitted spill sizes table s.slot a insn → Continues table (perform header s insn)
-continues_at laws spill p sizes table header s a (Alu op width dst src) good fits allowed is_insn h = proceeds laws spill table header s a (Alu op width dst src) good fits allowed.leaves_frame h
-continues_at laws spill p sizes table header s a (Negate width dst) good fits allowed is_insn h = proceeds laws spill table header s a (Negate width dst) good fits allowed.leaves_frame h
-continues_at laws spill p sizes table header s a (MoveSigned extension dst src) good fits allowed is_insn h = proceeds laws spill table header s a (MoveSigned extension dst src) good fits allowed.leaves_frame h
-continues_at laws spill p sizes table header s a (ByteSwap swap bits dst) good fits allowed is_insn h = proceeds laws spill table header s a (ByteSwap swap bits dst) good fits allowed.leaves_frame h
-continues_at laws spill p sizes table header s a (Load size dst place) good fits allowed is_insn h = proceeds laws spill table header s a (Load size dst place) good fits allowed.leaves_frame h
-continues_at laws spill p sizes table header s a (Store size place src) good fits allowed is_insn h = proceeds laws spill table header s a (Store size place src) good fits tt h
-continues_at laws spill p sizes table header s a (Jump comparison offset) good fits allowed is_insn h =
+continues_at : Laws → (spill : Spill) (p : Program) (maps : Maps) (table : ℕ → Option StateValue) (header : Header) (s : State) (a : StateValue) (insn : Insn) → IsHeader header → Fits s a → IsAllowed p s.slot insn → IsInsn insn → IsPermitted spill maps table s.slot a insn → Continues table (perform header s insn)
+continues_at laws spill p maps table header s a (Alu op width dst src) good fits allowed is_insn h = proceeds laws spill table header s a (Alu op width dst src) good fits allowed.leaves_frame h
+continues_at laws spill p maps table header s a (Negate width dst) good fits allowed is_insn h = proceeds laws spill table header s a (Negate width dst) good fits allowed.leaves_frame h
+continues_at laws spill p maps table header s a (MoveSigned extension dst src) good fits allowed is_insn h = proceeds laws spill table header s a (MoveSigned extension dst src) good fits allowed.leaves_frame h
+continues_at laws spill p maps table header s a (ByteSwap swap bits dst) good fits allowed is_insn h = proceeds laws spill table header s a (ByteSwap swap bits dst) good fits allowed.leaves_frame h
+continues_at laws spill p maps table header s a (Load size dst place) good fits allowed is_insn h = proceeds laws spill table header s a (Load size dst place) good fits allowed.leaves_frame h
+continues_at laws spill p maps table header s a (Store size place src) good fits allowed is_insn h = proceeds laws spill table header s a (Store size place src) good fits tt h
+continues_at laws spill p maps table header s a (Jump comparison offset) good fits allowed is_insn h =
     compares_on laws.below table s offset _ _ (laws.refine header s a comparison offset fits) h
-continues_at laws spill p sizes table header s a (Goto (Short offset)) good fits allowed is_insn h = lands_on laws.below table s (target s.slot offset) a fits h
-continues_at laws spill p sizes table header s a (Goto (Long immediate)) good fits allowed is_insn h = lands_on laws.below table s (target s.slot immediate) a fits h
-continues_at laws spill p sizes table header s a (Wide dst value) good fits allowed is_insn h = proceeds laws spill table header s a (Wide dst value) good fits (allowed.leaves_frame, is_insn.1) h
-continues_at laws spill p sizes table header s a (LoadMap dst index) good fits allowed is_insn h = proceeds laws spill table header s a (LoadMap dst index) good fits (allowed.leaves_frame, index_of sizes index h.0) h.1
-continues_at laws spill p sizes table header s a (LoadAddress dst address) good fits allowed is_insn h = absurd h
-continues_at laws spill p sizes table header s a (insns.Call callee number) good fits allowed is_insn h =
-    calls_on laws.below laws.call p.version sizes table s a callee number allowed.supported h.0 fits h.1
-continues_at laws spill p sizes table header s a Exit good fits allowed is_insn h = exits_with table (s.registers 0) (kind_at a 0) (fits.registers 0) h
+continues_at laws spill p maps table header s a (Goto (Short offset)) good fits allowed is_insn h = lands_on laws.below table s (target s.slot offset) a fits h
+continues_at laws spill p maps table header s a (Goto (Long immediate)) good fits allowed is_insn h = lands_on laws.below table s (target s.slot immediate) a fits h
+continues_at laws spill p maps table header s a (Wide dst value) good fits allowed is_insn h = proceeds laws spill table header s a (Wide dst value) good fits (allowed.leaves_frame, is_insn.1) h
+continues_at laws spill p maps table header s a (LoadMap dst index) good fits allowed is_insn h = proceeds laws spill table header s a (LoadMap dst index) good fits (allowed.leaves_frame, index_of maps index h.0) h.1
+continues_at laws spill p maps table header s a (LoadAddress dst address) good fits allowed is_insn h = absurd h
+continues_at laws spill p maps table header s a (insns.Call callee number) good fits allowed is_insn h =
+    calls_on laws.below laws.call p.version maps table s a callee number allowed.supported h.0 fits h.1
+continues_at laws spill p maps table header s a Exit good fits allowed is_insn h = exits_with table (s.registers 0) (kind_at a 0) (fits.registers 0) h
 
-continues_from : Laws → (p : Program) (sizes : Maps) (h : IsJustified p sizes) (header : Header) (s : State) (at : Stands h.table s) (o : Option Insn) → IsHeader header → insn_at p s.slot ≡ o → IsPermittedAt (spill_of p.version) sizes h.table s.slot (Some at.known) o → Continues h.table (perform_at header s o)
-continues_from laws p sizes h header s at None good is permitted = absurd permitted
-continues_from laws p sizes h header s at (Some insn) good is permitted =
-    continues_at laws (spill_of p.version) p sizes h.table header s at.known insn good at.fits (h.formed.allowed s.slot insn is) (insn_in false p.slots s.slot insn h.limits.code is) permitted
+continues_from : Laws → (p : Program) (maps : Maps) (h : IsJustified p maps) (header : Header) (s : State) (at : Stands h.table s) (o : Option Insn) → IsHeader header → insn_at p s.slot ≡ o → IsPermittedAt (spill_of p.version) maps h.table s.slot (Some at.known) o → Continues h.table (perform_at header s o)
+continues_from laws p maps h header s at None good is permitted = absurd permitted
+continues_from laws p maps h header s at (Some insn) good is permitted =
+    continues_at laws (spill_of p.version) p maps h.table header s at.known insn good at.fits (h.formed.allowed s.slot insn is) (insn_in false p.slots s.slot insn h.limits.code is) permitted
 
 -- what is supported in a version is known to it
-flow_known : (version : ℕ) (flow : Flow) → IsSupportedFlow version flow → knows_flow version flow ≡ true
+flow_known : (version : Version) (flow : Flow) → IsSupportedFlow version flow → knows_flow version flow ≡ true
 flow_known version GoesOn h = refl
 flow_known version (Branches distance) h = refl
 flow_known version (Jumps distance) h = refl
-flow_known version (Calls Helper number) h = h
+flow_known version (Calls callees.Helper number) h = h
 flow_known version (Calls Local number) h = absurd h
 flow_known version (Calls ByTypeId number) h = absurd h
 flow_known version Ends h = refl
@@ -223,27 +221,27 @@ insn_known p formed slot None is = refl
 insn_known p formed slot (Some insn) is = flow_known p.version (flow_of insn) (formed.allowed slot insn is).supported
 
 -- a step of a justified program is what its instruction does
-pub performs_here : StepPerforms → (p : Program) (sizes : Maps) → IsJustified p sizes → (header : Header) (s : State) → step p header s ≡ perform_at header s (insn_at p s.slot)
-performs_here performs p sizes h header s = performs p header s (insn_known p h.formed s.slot (insn_at p s.slot) refl)
+pub performs_here : StepPerforms → (p : Program) (maps : Maps) → IsJustified p maps → (header : Header) (s : State) → step p header s ≡ perform_at header s (insn_at p s.slot)
+performs_here performs p maps h header s = performs p header s (insn_known p h.formed s.slot (insn_at p s.slot) refl)
 
 -- what is known where a path stands permits its instruction
-pub permitted_here : (p : Program) (sizes : Maps) (h : IsJustified p sizes) (s : State) (at : Stands h.table s) → IsPermittedAt (spill_of p.version) sizes h.table s.slot (Some at.known) (insn_at p s.slot)
-permitted_here p sizes h s at =
-    subst (λ (k : Option StateValue). IsPermittedAt (spill_of p.version) sizes h.table s.slot k (insn_at p s.slot)) at.is (h.permitted s.slot)
+pub permitted_here : (p : Program) (maps : Maps) (h : IsJustified p maps) (s : State) (at : Stands h.table s) → IsPermittedAt (spill_of p.version) maps h.table s.slot (Some at.known) (insn_at p s.slot)
+permitted_here p maps h s at =
+    subst (λ (k : Option StateValue). IsPermittedAt (spill_of p.version) maps h.table s.slot k (insn_at p s.slot)) at.is (h.permitted s.slot)
 
-pub continues : Laws → (p : Program) (sizes : Maps) (h : IsJustified p sizes) (header : Header) (s : State) → IsHeader header → Stands h.table s → Continues h.table (step p header s)
-continues laws p sizes h header s good at =
-    rw (performs_here laws.performs p sizes h header s)
-    (continues_from laws p sizes h header s at (insn_at p s.slot) good refl (permitted_here p sizes h s at))
+pub continues : Laws → (p : Program) (maps : Maps) (h : IsJustified p maps) (header : Header) (s : State) → IsHeader header → Stands h.table s → Continues h.table (step p header s)
+continues laws p maps h header s good at =
+    rw (performs_here laws.performs p maps h header s)
+    (continues_from laws p maps h header s at (insn_at p s.slot) good refl (permitted_here p maps h s at))
 
 -- every path stands somewhere
-begins_at : Laws → (p : Program) (sizes : Maps) (h : IsJustified p sizes) (port : ℕ) → port < 32 → Stands h.table (entry_state port)
-begins_at laws p sizes h port low =
+begins_at : Laws → (p : Program) (maps : Maps) (h : IsJustified p maps) (port : ℕ) → port < 32 → Stands h.table (entry_state port)
+begins_at laws p maps h port low =
     arrives laws.below h.table (entry_state port) h.entered.known (laws.entry h.entered.known port h.entered.entry low) h.entered.covered
 
-pub stands : Laws → (p : Program) (sizes : Maps) (h : IsJustified p sizes) (header : Header) (port : ℕ) (calls : List Call) (n : ℕ) (s : State) → IsHeader header → port < 32 → Path p header port calls n s → Stands h.table s
-stands laws p sizes h header port calls n s good low entry = begins_at laws p sizes h port low
-stands laws p sizes h header port calls n s good low (moves {n = m} {s = r} path e) =
-    subst (λ (o : Outcome). Continues h.table o) e (continues laws p sizes h header r good (stands laws p sizes h header port calls m r good low path))
-stands laws p sizes h header port calls n s good low (answered {n = m} {s = r} answer path e below) =
-    subst (λ (o : Outcome). Continues h.table o) e (continues laws p sizes h header r good (stands laws p sizes h header port _ m r good low path)) answer below
+pub stands : Laws → (p : Program) (maps : Maps) (h : IsJustified p maps) (header : Header) (port : ℕ) (calls : List Call) (n : ℕ) (s : State) → IsHeader header → port < 32 → Path p header port calls n s → Stands h.table s
+stands laws p maps h header port calls n s good low entry = begins_at laws p maps h port low
+stands laws p maps h header port calls n s good low (moves {n = m} {s = r} path e) =
+    subst (λ (o : Outcome). Continues h.table o) e (continues laws p maps h header r good (stands laws p maps h header port calls m r good low path))
+stands laws p maps h header port calls n s good low (answered {n = m} {s = r} answer path e below) =
+    subst (λ (o : Outcome). Continues h.table o) e (continues laws p maps h header r good (stands laws p maps h header port _ m r good low path)) answer below

@@ -5,6 +5,7 @@ use Rattle.std.specs.Prelude.{IsTrue, IsSome, IfSome, ◌==◌, if◌then◌else
 use Rattle.std.proofs.lemmas.Bool.{cases_lt, false≢true}
 use Rattle.std.proofs.lemmas.Bool.Decides.{nat_tests}
 use Rattle.std.proofs.lemmas.List.{get_or_past}
+use Rattle.bpf.specs.declared.header.TheConstants.{MAX_SLOTS}
 use Rattle.bpf.specs.declared.loops.Loop.{Loop}
 use Rattle.bpf.specs.Program.{Program, IsLoop}
 use Rattle.bpf_insn.specs.declared.insn.Insn.{Insn}
@@ -19,18 +20,18 @@ use Rattle.absdom.specs.declared.kinds.AbsKind.{AbsKind}
 use Rattle.absdom.specs.declared.kinds.AbsKind.TheVariants.{Unset, Num, Ptr, Map}
 use Rattle.absdom.specs.Kinds.{IsKindBelow}
 use Rattle.absdom.specs.State.{StateValue, IsBelow, IsProper, IsWhole, kind_at, with_kind}
-use Rattle.absdom.specs.Places.{AreRangesWithin}
+use Rattle.absdom.specs.StackWords.{AreRangesWithin}
 use Rattle.absdom.specs.Effect.{sum_kind, with_result}
 use Rattle.absdom.specs.Laws.{ApplyLeaves, BelowIsReflexive, BelowIsTransitive, CallLeaves, IsLeftBy, RefineShrinks}
 use Rattle.absdom.specs.Spill.{spill_of}
 use Rattle.bver_form.specs.Form.{IsFormed}
 use Rattle.bver_form.specs.Loops.{ComesIn, IsEdge, IsInside, IsLoopFormed, holds, step_down}
-use Rattle.bver.specs.Heads.{AreRaisedRanges, IsRaised, IsRaisedKind, counts, keeps, opens, retains, widens}
+use Rattle.bver.specs.Heads.{AreWidenedRanges, IsWidened, IsWidenedKind, counts, keeps, opens, retains, forgets}
 use Rattle.bver.specs.Justified.{HasStore, IsCovered, IsHead, IsWrittenBy, IsWrittenIn}
 use Rattle.bver.specs.Leading.{GivesBelow, LeadsBelow}
 use Rattle.bver.specs.Visit.{HasNext, VisitValue}
 use Rattle.bver.proofs.Counters.{holds_at, inside_of}
-use Rattle.bver.proofs.Raising.{kind_below-refl}
+use Rattle.bver.proofs.Widening.{kind_below-refl}
 use Rattle.bver.proofs.Rings.{leads_by, ring, ring_any, ring_behind}
 use Rattle.bver.proofs.Rounds.{AreWords, IsRound, below_all, counter_range, ranges_less, ranges_same, round_left, round_less, round_there, words_of}
 use Rattle.bver.proofs.Steps.{step_within}
@@ -108,7 +109,7 @@ counter_apart p l m outer inner inside w = by_place (cases_lt (w.slot + 1) l.bac
         let last : w.slot ≡ m.back = omega (arith, past, within.1, inside.1) in
         false≢true (subst (λ (o : Option Insn). IsWrittenBy o l.register) inner.back (subst (λ (k : ℕ). IsWrittenBy (insn_at p k) l.register) last w.writes))
 
-kind_kept : (p : Program) (m : Loop) (lowered : List Bool) (place register : ℕ) (before after : AbsKind) → register ≢ m.register → (IsWrittenIn p m register → ⊥) → IsRaisedKind p m lowered place register before after → after ≡ before
+kind_kept : (p : Program) (m : Loop) (lowered : List Bool) (place register : ℕ) (before after : AbsKind) → register ≢ m.register → (IsWrittenIn p m register → ⊥) → IsWidenedKind p m lowered place register before after → after ≡ before
 kind_kept p m lowered place register before after other out (counts at is) = absurd (other at)
 kind_kept p m lowered place register before after other out (opens o written is) = absurd (out written)
 kind_kept p m lowered place register before after other out (keeps o w is) = is
@@ -119,42 +120,42 @@ stored_inside p l m inside s =
     let within = inside_of m s.slot s.inside in
     record { slot = s.slot; inside = holds_at l s.slot (omega (arith, inside.0, within.0)) (omega (arith, inside.1, within.1)); stores = s.stores }
 
--- the ranges of places are kept where the loop does not store
-ranges_kept : (p : Program) (m : Loop) (before after head : StateValue) → (HasStore p m → ⊥) → AreRaisedRanges p m before after → AreRangesWithin before.ranges head.ranges → AreRangesWithin after.ranges head.ranges
-ranges_kept p m before after head out (widens stored is) within = absurd (out stored)
+-- the ranges of words are kept where the loop does not store
+ranges_kept : (p : Program) (m : Loop) (before after head : StateValue) → (HasStore p m → ⊥) → AreWidenedRanges p m before after → AreRangesWithin before.ranges head.ranges → AreRangesWithin after.ranges head.ranges
+ranges_kept p m before after head out (forgets stored is) within = absurd (out stored)
 ranges_kept p m before after head out (retains o is) within = rw is within
 
 -- a register that the inner loop does not write is kept
-raised_kept : (p : Program) (m : Loop) (lowered : List Bool) (place register : ℕ) (before after : StateValue) → IsWhole before → IsWhole after → IsRaised p m lowered place before after → register ≢ m.register → (IsWrittenIn p m register → ⊥) → kind_at after register ≡ kind_at before register
-raised_kept p m lowered place register before after p_before p_after raised other out =
+widened_kept : (p : Program) (m : Loop) (lowered : List Bool) (place register : ℕ) (before after : StateValue) → IsWhole before → IsWhole after → IsWidened p m lowered place before after → register ≢ m.register → (IsWrittenIn p m register → ⊥) → kind_at after register ≡ kind_at before register
+widened_kept p m lowered place register before after p_before p_after widened other out =
     elim (cases_lt register 10) [
-      | inl small ↦ kind_kept p m lowered place register (kind_at before register) (kind_at after register) other out (raised.registers register (omega (arith, small)))
+      | inl small ↦ kind_kept p m lowered place register (kind_at before register) (kind_at after register) other out (widened.registers register (omega (arith, small)))
       | inr past ↦ elim (cases_lt 10 register) [
         | inl beyond ↦
             get_or_past after.kinds register Unset (omega (arith, beyond, p_after.sizes.registers))
             ∙ sym (get_or_past before.kinds register Unset (omega (arith, beyond, p_before.sizes.registers)))
         | inr at ↦
             let same : 10 ≡ register = omega (arith, past, at) in
-            subst (λ (r : ℕ). kind_at after r ≡ kind_at before r) same raised.frame
+            subst (λ (r : ℕ). kind_at after r ≡ kind_at before r) same widened.frame
       ]
     ]
 
-pub round_raised : (p : Program) (l m : Loop) (lowered : List Bool) (place slot : ℕ) (h before after : StateValue) → m.head < m.back → IsLoopFormed p l → IsLoopFormed p m → IsInside m l → IsWhole before → IsWhole after → IsRaised p m lowered place before after → IsRound p l slot h before → IsRound p l slot h after
-round_raised p l m lowered place slot h before after ordered outer inner inside p_before p_after raised round = record {
+pub round_widened : (p : Program) (l m : Loop) (lowered : List Bool) (place slot : ℕ) (h before after : StateValue) → m.head < m.back → IsLoopFormed p l → IsLoopFormed p m → IsInside m l → IsWhole before → IsWhole after → IsWidened p m lowered place before after → IsRound p l slot h before → IsRound p l slot h after
+round_widened p l m lowered place slot h before after ordered outer inner inside p_before p_after widened round = record {
   unwritten = λ register out.
       subst (λ (k : AbsKind). IsKindBelow k (kind_at h register))
-      (sym (raised_kept p m lowered place register before after p_before p_after raised
+      (sym (widened_kept p m lowered place register before after p_before p_after widened
       (λ same. out (subst (λ (r : ℕ). IsWrittenIn p l r) (sym same) (written_inside p l m m.register inside (counter_written p m ordered inner))))
       (λ written. out (written_inside p l m register inside written))))
       (round.unwritten register out);
   counter =
       subst (λ (k : AbsKind). IsKindBelow k (Num (counter_range l slot)))
-      (sym (raised_kept p m lowered place l.register before after p_before p_after raised
+      (sym (widened_kept p m lowered place l.register before after p_before p_after widened
       (λ same. counter_apart p l m outer inner inside (subst (λ (r : ℕ). IsWrittenIn p m r) (sym same) (counter_written p m ordered inner)))
       (λ written. counter_apart p l m outer inner inside written)))
       round.counter;
-  marks = λ mark is. rw raised.marks (round.marks mark is);
-  ranges = λ out. ranges_kept p m before after h (λ stored. out (stored_inside p l m inside stored)) raised.ranges (round.ranges out);
+  marks = λ mark is. rw widened.marks (round.marks mark is);
+  ranges = λ out. ranges_kept p m before after h (λ stored. out (stored_inside p l m inside stored)) widened.ranges (round.ranges out);
   words = words_of after p_after;
 }
 
@@ -208,7 +209,7 @@ leads_around laws v l h a around insn form next begins comes formed above before
     there k b other (inr below) = round_less laws.transitive v.program l k h b a below (round_there v.program l v.slot k h a (same k other) round)
 
 -- the instruction that counts takes one from the counter
-pub leads_counted : (v : VisitValue) (l : Loop) (h a : StateValue) (around : ℕ → StateValue) → IsLoop 512 l → IsLoopFormed v.program l → v.slot + 1 ≡ l.back → IsWhole a
+pub leads_counted : (v : VisitValue) (l : Loop) (h a : StateValue) (around : ℕ → StateValue) → IsLoop MAX_SLOTS l → IsLoopFormed v.program l → v.slot + 1 ≡ l.back → IsWhole a
     → IsAround v.program l h around → IsRound v.program l v.slot h a
     → LeadsBelow (spill_of v.program.version) (ring l (λ k. Some (around k))) v.slot a (step_down l)
 leads_counted v l h a around limits formed last whole covers round =

@@ -96,12 +96,12 @@ visited_next transitive p old new regions slot region v f heads accessed inside 
     differs : (k : ℕ) → k < slot → k ≢ slot
     differs k below same = omega arith
 
-pub permitted_next : BelowIsTransitive → (p : Program) (sizes : Maps) (old new : ℕ → Option StateValue) (slot : ℕ) → ArePermitted p sizes old slot → Grows p slot old new → IsPermittedAt (spill_of p.version) sizes new slot (new slot) (insn_at p slot) → ArePermitted p sizes new (slot + 1)
-permitted_next transitive p sizes old new slot v f permitted =
-    below_more (λ (k : ℕ). IsPermittedAt (spill_of p.version) sizes new k (new k) (insn_at p k)) slot
+pub permitted_next : BelowIsTransitive → (p : Program) (maps : Maps) (old new : ℕ → Option StateValue) (slot : ℕ) → ArePermitted p maps old slot → Grows p slot old new → IsPermittedAt (spill_of p.version) maps new slot (new slot) (insn_at p slot) → ArePermitted p maps new (slot + 1)
+permitted_next transitive p maps old new slot v f permitted =
+    below_more (λ (k : ℕ). IsPermittedAt (spill_of p.version) maps new k (new k) (insn_at p k)) slot
     (λ k below.
-    subst (λ (o : Option StateValue). IsPermittedAt (spill_of p.version) sizes new k o (insn_at p k)) (sym (f.kept k below))
-    (permitted_at_more transitive (spill_of p.version) sizes old new k (old k) (insn_at p k) f.grown (v k below)))
+    subst (λ (o : Option StateValue). IsPermittedAt (spill_of p.version) maps new k o (insn_at p k)) (sym (f.kept k below))
+    (permitted_at_more transitive (spill_of p.version) maps old new k (old k) (insn_at p k) f.grown (v k below)))
     permitted
 
 -- ---- after all visits
@@ -115,8 +115,8 @@ past_none p known slot placed past = by_known (known slot) (placed slot)
     by_known (Some a) begins =
         absurd (false≢true (subst (λ (i : Option Insn). IsSome i) (get_or_past p.slots slot None past) (begins refl)))
 
-pub judged : (p : Program) (sizes : Maps) (known : ℕ → Option StateValue) (regions : List (Option Region)) → IsProgram p → IsFormed p → length regions ≡ length p.slots → AreVisited p known regions (length p.slots) → ArePermitted p sizes known (length p.slots) → IsJudged p sizes regions
-judged p sizes known regions limits form size v permitted = record {
+pub judged : (p : Program) (maps : Maps) (known : ℕ → Option StateValue) (regions : List (Option Region)) → IsProgram p → IsFormed p → length regions ≡ length p.slots → AreVisited p known regions (length p.slots) → ArePermitted p maps known (length p.slots) → IsJudged p maps regions
+judged p maps known regions limits form size v permitted = record {
   justified = record {
     limits = limits;
     formed = form;
@@ -126,7 +126,7 @@ judged p sizes known regions limits form size v permitted = record {
     permitted = λ slot.
         elim (cases_lt slot (length p.slots)) [
           | inl below ↦ permitted slot below
-          | inr past ↦ subst (λ (o : Option StateValue). IsPermittedAt (spill_of p.version) sizes known slot o (insn_at p slot)) (sym (past_none p known slot v.entry.placed past)) tt
+          | inr past ↦ subst (λ (o : Option StateValue). IsPermittedAt (spill_of p.version) maps known slot o (insn_at p slot)) (sym (past_none p known slot v.entry.placed past)) tt
         ];
     heads = λ k d inside. v.heads k d inside (head_below k d inside);
   };

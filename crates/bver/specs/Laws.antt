@@ -9,8 +9,10 @@ use Rattle.bver.specs.Resolved.{IsResolved}
 
 -- a justified program is safe: no run of it traps, and each ends within the budget
 abbrev pub JustifiedIsSafe : Type 0
-JustifiedIsSafe = (program : Program) (sizes : Maps) → IsJustified program sizes → IsSafe program sizes
+JustifiedIsSafe = (program : Program) (maps : Maps) → IsJustified program maps → IsSafe program maps
 
 -- its regions are those of every access that a run makes
 abbrev pub JudgedIsResolved : Type 0
-JudgedIsResolved = (program : Program) (sizes : Maps) (regions : List (Option Region)) → IsJudged program sizes regions → IsResolved program regions
+JudgedIsResolved =
+    (program : Program) (maps : Maps) (regions : List (Option Region)) → IsJudged program maps regions
+    → IsResolved program regions

@@ -1,9 +1,41 @@
 -- Where an instruction leads, with what is known at its slot, and why its visit is refused.
-use Rattle.std.specs.Prelude.{◌≡◌, ◌≢◌, ℕ, ◌+◌, Bool, List, Option, Some, None, Result, Ok, Err, All, IfSome, ◌≤◌, ◌⊎◌, IsTrue}
+use Rattle.std.specs.Prelude.{
+  ◌≡◌,
+  ◌≢◌,
+  ℕ,
+  ◌+◌,
+  Bool,
+  List,
+  Option,
+  Some,
+  None,
+  Result,
+  Ok,
+  Err,
+  All,
+  IfSome,
+  ◌≤◌,
+  ◌⊎◌,
+  IsTrue,
+}
 use Rattle.bpf.specs.declared.loops.Loop.{Loop}
 use Rattle.bpf.specs.Program.{Program}
 use Rattle.bpf_insn.specs.declared.insn.Insn.{Insn}
-use Rattle.bpf_insn.specs.declared.insn.Insn.TheVariants.{Alu, Negate, MoveSigned, ByteSwap, Load, Store, Jump, Goto, Wide, LoadMap, LoadAddress, Call, Exit}
+use Rattle.bpf_insn.specs.declared.insn.Insn.TheVariants.{
+  Alu,
+  Negate,
+  MoveSigned,
+  ByteSwap,
+  Load,
+  Store,
+  Jump,
+  Goto,
+  Wide,
+  LoadMap,
+  LoadAddress,
+  Call,
+  Exit,
+}
 use Rattle.bpf_insn.specs.Spelling.{slots_of}
 use Rattle.bpf_parts.specs.Operands.{distance_of}
 use Rattle.absdom.specs.declared.cause.Cause.{Cause}
@@ -14,7 +46,7 @@ use Rattle.absdom.specs.declared.spill.Spill.{Spill}
 use Rattle.absdom.specs.Spill.{spill_of}
 use Rattle.bver_form.specs.Jumps.{target}
 use Rattle.bver_form.specs.Lowered.{is_lowered}
-use Rattle.bver.specs.Heads.{Falls, IsDeclared, IsRaised, IsWithinBound}
+use Rattle.bver.specs.Heads.{Falls, IsDeclared, IsWidened, IsWithinBound}
 use Rattle.bver.specs.Justified.{IsCovered, IsCoveredIfAny, edges_of_comparison, knowledge_at}
 use Rattle.bver.specs.Table.{TableValue, knowledge_in}
 use Rattle.bver.specs.Unjustified.{IsRefuted}
@@ -41,7 +73,8 @@ ProceedsBelow spill above slot a insn = GivesBelow (after_insn spill a insn) (ab
 abbrev pub LeadsBelow : Spill → (above : ℕ → Option StateValue) (slot : ℕ) → StateValue → Insn → Type 0
 LeadsBelow spill above slot a (Alu op width dst src) = ProceedsBelow spill above slot a (Alu op width dst src)
 LeadsBelow spill above slot a (Negate width dst) = ProceedsBelow spill above slot a (Negate width dst)
-LeadsBelow spill above slot a (MoveSigned extension dst src) = ProceedsBelow spill above slot a (MoveSigned extension dst src)
+LeadsBelow spill above slot a (MoveSigned extension dst src) =
+    ProceedsBelow spill above slot a (MoveSigned extension dst src)
 LeadsBelow spill above slot a (ByteSwap swap bits dst) = ProceedsBelow spill above slot a (ByteSwap swap bits dst)
 LeadsBelow spill above slot a (Load size dst place) = ProceedsBelow spill above slot a (Load size dst place)
 LeadsBelow spill above slot a (Store size place src) = ProceedsBelow spill above slot a (Store size place src)
@@ -84,44 +117,53 @@ jumping_if_any (Some a) insn = jumping_state a insn
 
 -- the slot is the back of the loop that is declared at the place, and the register falls on the edge from there to its
 -- head
-pub record IsLoweredBack (p : Program) (slot : ℕ) (known : ℕ → Option StateValue) (edge : StateValue) (place register : ℕ) : Type 0 where
+pub record IsLoweredBack (p : Program) (slot : ℕ) (known : ℕ → Option StateValue) (edge : StateValue)
+    (place register : ℕ) : Type 0 where
   pub declared : Loop
   pub is : IsDeclared p declared place
   pub back : declared.back ≡ slot
   pub falls : Falls (record { program = p; declared = declared; place = place }) (known declared.head) edge register
 
 -- there is such an edge
-abbrev pub IsLoweredBackIfAny : Program → (slot : ℕ) (known : ℕ → Option StateValue) → Option StateValue → (place register : ℕ) → Type 0
+abbrev pub IsLoweredBackIfAny : Program → (slot : ℕ) (known : ℕ → Option StateValue) → Option StateValue
+    → (place register : ℕ) → Type 0
 IsLoweredBackIfAny p slot known None place register = ⊥
 IsLoweredBackIfAny p slot known (Some edge) place register = IsLoweredBack p slot known edge place register
 
 -- each mark is as it was, or of a register that falls on the edge back, if there is one
-abbrev pub AreLoweredBack : Program → (slot : ℕ) (known : ℕ → Option StateValue) → Option StateValue → (old new : List Bool) → Type 0
+abbrev pub AreLoweredBack : Program → (slot : ℕ) (known : ℕ → Option StateValue) → Option StateValue
+    → (old new : List Bool) → Type 0
 AreLoweredBack p slot known edge old new =
     (place register : ℕ) → register ≤ 9
-    → (is_lowered new place register ≡ is_lowered old place register) ⊎ IsLoweredBackIfAny p slot known edge place register
+    → (is_lowered new place register ≡ is_lowered old place register)
+    ⊎ IsLoweredBackIfAny p slot known edge place register
 
 -- an edge from the slot goes back to the head of a declared loop, where it is not covered, and each register that falls
 -- on it was lowered before
-pub record IsUncovered (p : Program) (slot : ℕ) (lowered : List Bool) (known : ℕ → Option StateValue) (edge : StateValue) : Type 0 where
+pub record IsUncovered (p : Program) (slot : ℕ) (lowered : List Bool) (known : ℕ → Option StateValue)
+    (edge : StateValue) : Type 0 where
   pub declared : Loop
   pub place : ℕ
   pub is : IsDeclared p declared place
   pub back : declared.back ≡ slot
   pub whole : IsWhole edge
   pub uncovered : IsCovered edge (known declared.head) → ⊥
-  pub fallen : (register : ℕ) → register ≤ 9 → Falls (record { program = p; declared = declared; place = place }) (known declared.head) edge register → IsTrue (is_lowered lowered place register)
+  pub fallen : (register : ℕ) → register ≤ 9
+      → Falls (record { program = p; declared = declared; place = place }) (known declared.head) edge register
+      → IsTrue (is_lowered lowered place register)
 
 -- there is such an edge
-abbrev pub IsUncoveredIfAny : Program → (slot : ℕ) (lowered : List Bool) (known : ℕ → Option StateValue) → Option StateValue → Type 0
+abbrev pub IsUncoveredIfAny : Program → (slot : ℕ) (lowered : List Bool) (known : ℕ → Option StateValue)
+    → Option StateValue → Type 0
 IsUncoveredIfAny p slot lowered known None = ⊥
 IsUncoveredIfAny p slot lowered known (Some edge) = IsUncovered p slot lowered known edge
 
 -- ---- why it is refused
 
 -- with what is known at its slot an instruction is refused: no table permits it, or its edge back is not covered
-pub data IsFlowFault (v : VisitValue) (lowered : List Bool) (known : ℕ → Option StateValue) (a : StateValue) (insn : Insn) : Type 0 where
-  refutes : IsRefuted (spill_of v.program.version) v.sizes v.slot a insn → IsFlowFault v lowered known a insn
+pub data IsFlowFault (v : VisitValue) (lowered : List Bool) (known : ℕ → Option StateValue) (a : StateValue)
+    (insn : Insn) : Type 0 where
+  refutes : IsRefuted (spill_of v.program.version) v.maps v.slot a insn → IsFlowFault v lowered known a insn
   returns : IsUncoveredIfAny v.program v.slot lowered known (jumping_state a insn) → IsFlowFault v lowered known a insn
 
 -- a run may come to the head of a declared loop at the slot with a counter outside its bound, or with none
@@ -139,41 +181,54 @@ EntersOutsideIfAny p slot (Some a) = EntersOutside p slot a
 
 -- ---- a visit
 
--- what comes to a slot is raised at the head of a declared loop, and else stays as it is
-pub data IsRaisedAt (p : Program) (lowered : List Bool) (slot : ℕ) (before after : StateValue) : Type 0 where
-  raises : (l : Loop) (place : ℕ) → IsDeclared p l place → l.head ≡ slot → IsRaised p l lowered place before after → IsRaisedAt p lowered slot before after
-  stays : All (λ l. l.head ≢ slot) p.loops → after ≡ before → IsRaisedAt p lowered slot before after
+-- what comes to a slot is widened at the head of a declared loop, and else stays as it is
+pub data IsWidenedAt (p : Program) (lowered : List Bool) (slot : ℕ) (before after : StateValue) : Type 0 where
+  widens : (l : Loop) (place : ℕ) → IsDeclared p l place → l.head ≡ slot → IsWidened p l lowered place before after
+      → IsWidenedAt p lowered slot before after
+  stays : All (λ l. l.head ≢ slot) p.loops → after ≡ before → IsWidenedAt p lowered slot before after
 
 -- the same where anything comes there
-abbrev pub IsRaisedIfAny : Program → (lowered : List Bool) (slot : ℕ) → (before after : Option StateValue) → Type 0
-IsRaisedIfAny p lowered slot None None = Unit {0}
-IsRaisedIfAny p lowered slot None (Some after) = ⊥
-IsRaisedIfAny p lowered slot (Some before) None = ⊥
-IsRaisedIfAny p lowered slot (Some before) (Some after) = IsRaisedAt p lowered slot before after
+abbrev pub IsWidenedIfAny : Program → (lowered : List Bool) (slot : ℕ) → (before after : Option StateValue) → Type 0
+IsWidenedIfAny p lowered slot None None = Unit {0}
+IsWidenedIfAny p lowered slot None (Some after) = ⊥
+IsWidenedIfAny p lowered slot (Some before) None = ⊥
+IsWidenedIfAny p lowered slot (Some before) (Some after) = IsWidenedAt p lowered slot before after
 
 -- where anything is known at the slot, it is covered there, and so is what the instruction leads to
 abbrev pub IsFollowedBelow : Spill → (above : ℕ → Option StateValue) (slot : ℕ) → Option StateValue → Insn → Type 0
-IsFollowedBelow spill above slot known insn = IfSome known (λ a. IsCovered a (above slot) × LeadsBelow spill above slot a insn)
+IsFollowedBelow spill above slot known insn =
+    IfSome known (λ a. IsCovered a (above slot) × LeadsBelow spill above slot a insn)
 
--- after the visit of the instruction at the slot no more is known than what came there, raised, and what it leads to, and
+-- after the visit of the instruction at the slot no more is known than what came there, widened, and what it
+-- leads to, and
 -- no more is lowered than falls on its edge back
-pub record IsLeastVisit (v : VisitValue) (lowered now : List Bool) (old new : TableValue) (was runs : Bool) (before after : StateValue) (insn : Insn) : Type 0 where
-  pub raised : IsRaisedIfAny v.program lowered v.slot (visited_state was before old v.slot) (visited_state was before new v.slot)
-  pub least : IsLeastNext (λ above. IsFollowedBelow (spill_of v.program.version) above v.slot (visited_state was before new v.slot) insn) old new runs (v.slot + slots_of insn) after
-  pub marks : AreLoweredBack v.program v.slot (knowledge_in old) (jumping_if_any (visited_state was before new v.slot) insn) lowered now
+pub record IsLeastVisit (v : VisitValue) (lowered now : List Bool) (old new : TableValue) (was runs : Bool)
+    (before after : StateValue) (insn : Insn) : Type 0 where
+  pub widened : IsWidenedIfAny v.program lowered v.slot (visited_state was before old v.slot)
+      (visited_state was before new v.slot)
+  pub least : IsLeastNext
+      (λ above. IsFollowedBelow (spill_of v.program.version) above v.slot (visited_state was before new v.slot)
+      insn) old new runs (v.slot + slots_of insn) after
+  pub marks : AreLoweredBack v.program v.slot (knowledge_in old)
+      (jumping_if_any (visited_state was before new v.slot) insn) lowered now
 
 -- the same at a second slot, where nothing is lowered
-abbrev pub IsLeastVisitIfAny : (v : VisitValue) (lowered now : List Bool) (old new : TableValue) (was runs : Bool) (before after : StateValue) → Option Insn → Type 0
+abbrev pub IsLeastVisitIfAny : (v : VisitValue) (lowered now : List Bool) (old new : TableValue) (was runs : Bool)
+    (before after : StateValue) → Option Insn → Type 0
 IsLeastVisitIfAny v lowered now old new was runs before after None = now ≡ lowered
-IsLeastVisitIfAny v lowered now old new was runs before after (Some insn) = IsLeastVisit v lowered now old new was runs before after insn
+IsLeastVisitIfAny v lowered now old new was runs before after (Some insn) =
+    IsLeastVisit v lowered now old new was runs before after insn
 
 -- what comes to the slot is refused there: at the head of a loop, or with the instruction
-pub data IsVisitFault (v : VisitValue) (lowered : List Bool) (known : ℕ → Option StateValue) (before : StateValue) (insn : Insn) : Type 0 where
+pub data IsVisitFault (v : VisitValue) (lowered : List Bool) (known : ℕ → Option StateValue) (before : StateValue)
+    (insn : Insn) : Type 0 where
   enters : EntersOutside v.program v.slot before → IsVisitFault v lowered known before insn
-  leads : (here : StateValue) → IsWhole here → IsRaisedAt v.program lowered v.slot before here → IsFlowFault v lowered known here insn → IsVisitFault v lowered known before insn
+  leads : (here : StateValue) → IsWhole here → IsWidenedAt v.program lowered v.slot before here
+      → IsFlowFault v lowered known here insn → IsVisitFault v lowered known before insn
 
 -- there is an instruction, and what comes there is refused
-abbrev pub IsVisitFaultIfAny : (v : VisitValue) (lowered : List Bool) (known : ℕ → Option StateValue) → Option StateValue → Option Insn → Type 0
+abbrev pub IsVisitFaultIfAny : (v : VisitValue) (lowered : List Bool) (known : ℕ → Option StateValue)
+    → Option StateValue → Option Insn → Type 0
 IsVisitFaultIfAny v lowered known before None = ⊥
 IsVisitFaultIfAny v lowered known None (Some insn) = ⊥
 IsVisitFaultIfAny v lowered known (Some before) (Some insn) = IsVisitFault v lowered known before insn

@@ -5,7 +5,7 @@ use Rattle.bpf_insn.specs.declared.insn.Insn.{Insn}
 use Rattle.machine.specs.Sizes.{Maps}
 use Rattle.machine.specs.Step.{insn_at}
 use Rattle.absdom.specs.State.{StateValue, IsWhole}
-use Rattle.absdom.specs.Places.{AreAllWhole}
+use Rattle.absdom.specs.StackWords.{AreAllWhole}
 use Rattle.absdom.specs.declared.spill.Spill.{Spill}
 use Rattle.absdom.specs.Spill.{spill_of}
 use Rattle.bver_form.specs.declared.refusal.Refusal.TheVariants.{Memory}
@@ -14,18 +14,18 @@ use Rattle.bver.specs.Justified.{HasStore, IsEntered, IsHead, IsJustified, IsPer
 
 -- a program that has its form is justified by the table: it consists of whole states, covers the entry, permits the
 -- instruction at each of them, and at the head of each loop, where it has a state, stands for every pass; where the
--- loop stores nothing is known there of any place of the stack, in either version
-pub record Justifies (p : Program) (sizes : Maps) (table : ℕ → Option StateValue) : Type 0 where
+-- loop stores nothing is known there of any word of the stack, in either version
+pub record Justifies (p : Program) (maps : Maps) (table : ℕ → Option StateValue) : Type 0 where
   pub entered : IsEntered (table 0)
   pub whole : (slot : ℕ) → IfSome (table slot) IsWhole
-  pub permitted : (slot : ℕ) → IsPermittedAt (spill_of p.version) sizes table slot (table slot) (insn_at p slot)
+  pub permitted : (slot : ℕ) → IsPermittedAt (spill_of p.version) maps table slot (table slot) (insn_at p slot)
   pub heads : All (λ l. IfSome (table l.head) (IsHead p l)) p.loops
-  pub places : All (λ l. IfSome (table l.head) (λ a. HasStore p l → AreAllWhole a.ranges)) p.loops
+  pub words : All (λ l. IfSome (table l.head) (λ a. HasStore p l → AreAllWhole a.ranges)) p.loops
 
 -- no table permits the instruction with what is known at its slot
-abbrev pub IsRefuted : Spill → (sizes : Maps) (slot : ℕ) → StateValue → Insn → Type 0
-IsRefuted spill sizes slot a insn = (table : ℕ → Option StateValue) → IsPermitted spill sizes table slot a insn → ⊥
+abbrev pub IsRefuted : Spill → (maps : Maps) (slot : ℕ) → StateValue → Insn → Type 0
+IsRefuted spill maps slot a insn = (table : ℕ → Option StateValue) → IsPermitted spill maps table slot a insn → ⊥
 
 -- a refusal, but for one for want of memory, tells that the program is not justified
 abbrev pub TellsUnjustified : Program → Maps → Refused → Type 0
-TellsUnjustified p sizes refused = refused.code ≢ Memory → IsJustified p sizes → ⊥
+TellsUnjustified p maps refused = refused.code ≢ Memory → IsJustified p maps → ⊥

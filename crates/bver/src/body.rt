@@ -6,7 +6,7 @@ ghost use Rattle.machine.specs.Laws.{is_store};
 ghost use Rattle.bver.specs.Justified.{HasStore, IsCovered, IsStoreAt, IsWrittenBy, IsWrittenIn};
 ghost use Rattle.bver_form.specs.Lowered.{IsMore, IsSettled};
 ghost use Rattle.bver.specs.Table.{knowledge_in};
-ghost use Rattle.bver.specs.Heads.{AreLowered, AreRaisedRanges, BodyValue, Falls, IsClosingFault, IsDeclared, IsEntryFault, IsRaised, IsRaisedKind, IsWithinBound, opened_kind};
+ghost use Rattle.bver.specs.Heads.{AreLowered, AreWidenedRanges, BodyValue, Falls, IsClosingFault, IsDeclared, IsEntryFault, IsWidened, IsWidenedKind, IsWithinBound, opened_kind};
 
 use crate::table::{Table, is_number};
 use absdom::{AbsKind, State};
@@ -133,9 +133,9 @@ impl<'a> Body<'a> {
     }
 
     /// What is known of a register at the head, from what is known on the way there.
-    fn raised(&self, lowered: &Lowered, register: Register, kind: AbsKind) -> AbsKind
+    fn widened(&self, lowered: &Lowered, register: Register, kind: AbsKind) -> AbsKind
         requires { register ≤ 9 }
-        ensures { IsRaisedKind self.now.program self.now.declared lowered.now self.now.place
+        ensures { IsWidenedKind self.now.program self.now.declared lowered.now self.now.place
             register kind result }
     {
         if register.number() == self.declared.register.number() {
@@ -148,27 +148,27 @@ impl<'a> Body<'a> {
         }
     }
 
-    /// Raises the ranges of the stack's places. A program of version 1 has none, so there nothing changes.
-    fn raise_ranges(&self, state: &mut State)
+    /// Widens the ranges of the stack's words. A program of version 1 has none, so there nothing changes.
+    fn widen_ranges(&self, state: &mut State)
         ensures kinds { state.new.kinds ≡ state.old.kinds }
         ensures marks { state.new.marks ≡ state.old.marks }
-        ensures ranges { AreRaisedRanges self.now.program self.now.declared state.old state.new }
+        ensures ranges { AreWidenedRanges self.now.program self.now.declared state.old state.new }
     {
         if self.stores() {
-            state.forget_places();
+            state.forget_words();
         }
     }
 
-    /// Raises the ranges of places, and each register.
-    fn raise_all(&self, lowered: &Lowered, state: &mut State)
-        ensures { IsRaised self.now.program self.now.declared lowered.now self.now.place
+    /// Widens the ranges of words, and each register.
+    fn widen_all(&self, lowered: &Lowered, state: &mut State)
+        ensures { IsWidened self.now.program self.now.declared lowered.now self.now.place
             state.old state.new }
     {
-        self.raise_ranges(state);
+        self.widen_ranges(state);
         for number in 0..10 {
             match Register::new(number) {
                 Some(register) => {
-                    let kind = self.raised(lowered, register, state.kind(register));
+                    let kind = self.widened(lowered, register, state.kind(register));
                     state.stands_whole();
                     state.write(register, kind);
                 }
@@ -177,16 +177,16 @@ impl<'a> Body<'a> {
         }
     }
 
-    /// Raises what is known at the head to what stands for every pass: the counter is 1 to the bound, of
+    /// Widens what is known at the head to what stands for every pass: the counter is 1 to the bound, of
     /// each other register that the loop writes any number is known, and nothing where it was lowered or is
-    /// no number; where the loop stores, nothing is known of any place of the stack.
+    /// no number; where the loop stores, nothing is known of any word of the stack.
     ///
     /// # Errors
     ///
     /// `LoopEntry` where a run may come there with a counter outside its bound, or with none.
-    pub(crate) fn raise(&self, lowered: &Lowered, state: &mut State) -> Result<(), Refusal>
-        ensures raised { OnOk result
-            (IsRaised self.now.program self.now.declared lowered.now self.now.place
+    pub(crate) fn widen(&self, lowered: &Lowered, state: &mut State) -> Result<(), Refusal>
+        ensures widened { OnOk result
+            (IsWidened self.now.program self.now.declared lowered.now self.now.place
             state.old state.new) }
         ensures bound { MatchResult result (λ _. IsWithinBound self.now.declared state.old)
             (IsEntryFault self.now.declared state.old) }
@@ -195,7 +195,7 @@ impl<'a> Body<'a> {
         if !state.kind(self.declared.register).leq(&counter) {
             return Err(Refusal::LoopEntry);
         }
-        self.raise_all(lowered, state);
+        self.widen_all(lowered, state);
         Ok(())
     }
 

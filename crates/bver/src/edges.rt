@@ -2,7 +2,8 @@
 
 ghost use Rattle.std.specs.Prelude.{◌≡◌, ◌+◌, ◌⊎◌, IfErr, IfOk, IsErr, IsSome, IsTrue, MatchResult, OnOk, Ok, Some, false};
 ghost use Rattle.bpf_insn.specs.Spelling.{slots_of};
-ghost use Rattle.machine.specs.Step.{insn_at, is_map, takes_argument};
+ghost use Rattle.machine.specs.Helpers.{helper_of};
+ghost use Rattle.machine.specs.Step.{insn_at, is_map, knows_helper};
 ghost use Rattle.absdom.specs.Effect.{after_insn};
 ghost use Rattle.absdom.specs.Spill.{spill_of};
 ghost use Rattle.absdom.specs.Edges.{edge_state, edge_states};
@@ -11,7 +12,7 @@ ghost use Rattle.absdom.specs.State.{after_call, kind_at};
 ghost use Rattle.bver_form.specs.Form.{IsAllowed};
 ghost use Rattle.bver_form.specs.Jumps.{IsJump};
 ghost use Rattle.bver.specs.Codes.{refusal_of};
-ghost use Rattle.bver.specs.Justified.{HasArgument, IsCovered, IsCoveredIfAny, IsNumber, IsPermitted, IsResultCovered, MayAsk, accessed_region, edges_of_comparison, pointed_region};
+ghost use Rattle.bver.specs.Justified.{HasArgument, IsCovered, IsCoveredIfAny, IsNumber, IsPermitted, IsResultCovered, MayAsk, MayCall, accessed_region, edges_of_comparison, pointed_region};
 ghost use Rattle.bver_form.specs.Lowered.{IsMore, IsSettled};
 ghost use Rattle.bver.specs.Refusals.{IsValueFault, IsValueRefusal};
 ghost use Rattle.bver.specs.Table.{knowledge_beside, knowledge_in, knowledge_next};
@@ -23,11 +24,9 @@ use crate::table::Table;
 use crate::visit::Visit;
 use absdom::{AbsKind, Cause, Edges, Operands, Region, State, order_of_states, refine};
 use absdom_num::Range;
-use bpf_insn::{Comparison, Insn, Register};
+use bpf_insn::{Callee, Comparison, Insn, Register};
 use bver_form::{Lowered, Refusal, Refused};
-
-/// The number of the helper `peak`, which alone takes an argument.
-const PEAK: i32 = 3;
+use machine::Helper;
 
 /// The refusal for what an instruction may do wrong.
 fn refusal_of(cause: Cause) -> Refusal
@@ -332,8 +331,8 @@ fn straight(
 /// Tests that there is a map of the index.
 fn check_map(visit: &Visit, index: i32) -> Result<(), Refused>
     requires begins { IsSome (insn_at visit.now.program visit.now.slot) }
-    ensures map { MatchResult result (λ _. IsTrue (is_map visit.now.sizes index))
-        (λ _. is_map visit.now.sizes index ≡ false) }
+    ensures map { MatchResult result (λ _. IsTrue (is_map visit.now.maps index))
+        (λ _. is_map visit.now.maps index ≡ false) }
     ensures refused { IfErr result (IsValueFault visit.now.program) }
 {
     if index < 0 || index >= i32::from(visit.maps()) {
@@ -390,21 +389,14 @@ fn asked_keys(visit: &Visit, state: &State) -> Result<Range, Refused>
     }
 }
 
-/// Whether the helper of that number takes an argument.
-fn takes_argument(helper: i32) -> bool
-    ensures { result ≡ takes_argument helper }
-{
-    helper == PEAK
-}
-
 /// Tests that r3 is a number, where the helper takes it as its argument.
-fn check_argument(visit: &Visit, state: &State, helper: i32) -> Result<(), Refused>
+fn check_argument(visit: &Visit, state: &State, helper: Helper) -> Result<(), Refused>
     requires begins { IsSome (insn_at visit.now.program visit.now.slot) }
     ensures argument { MatchResult result (λ _. HasArgument helper (kind_at state.now 3))
         (λ _. HasArgument helper (kind_at state.now 3) → ⊥) }
     ensures refused { IfErr result (IsValueFault visit.now.program) }
 {
-    if !takes_argument(helper) {
+    if !helper.takes_argument() {
         return Ok(());
     }
     match Register::new(3) {
@@ -418,10 +410,10 @@ fn check_argument(visit: &Visit, state: &State, helper: i32) -> Result<(), Refus
 
 /// Tests that a helper may be asked: r1 is a map of its kind, r2 a key of it, and r3 its argument. The kind is tested
 /// last.
-fn check_asked(visit: &Visit, state: &State, helper: i32) -> Result<(), Refused>
+fn check_asked(visit: &Visit, state: &State, helper: Helper) -> Result<(), Refused>
     requires begins { IsSome (insn_at visit.now.program visit.now.slot) }
-    ensures asked { MatchResult result (λ _. MayAsk visit.now.sizes helper state.now)
-        (λ _. MayAsk visit.now.sizes helper state.now → ⊥) }
+    ensures asked { MatchResult result (λ _. MayAsk visit.now.maps helper state.now)
+        (λ _. MayAsk visit.now.maps helper state.now → ⊥) }
     ensures refused { IfErr result (IsValueFault visit.now.program) }
 {
     let map = asked_map(visit, state)?;
@@ -430,25 +422,40 @@ fn check_asked(visit: &Visit, state: &State, helper: i32) -> Result<(), Refused>
     if !visit.has_keys(map, keys.high()) {
         return Err(visit.refused(Refusal::MapKey));
     }
-    if !visit.takes_kind(map, helper) {
+    if !visit.takes(map, helper) {
         return Err(visit.refused(Refusal::MapKind));
     }
     Ok(())
 }
 
+/// Tests that the helper that is called by its number may be asked.
+fn check_called(visit: &Visit, state: &State, number: i32) -> Result<(), Refused>
+    requires begins { IsSome (insn_at visit.now.program visit.now.slot) }
+    requires known { IsTrue (knows_helper visit.now.program.version (helper_of number)) }
+    ensures called { MatchResult result (λ _. MayCall visit.now.maps (helper_of number) state.now)
+        (λ _. MayCall visit.now.maps (helper_of number) state.now → ⊥) }
+    ensures refused { IfErr result (IsValueFault visit.now.program) }
+{
+    match Helper::of_number(number) {
+        Some(helper) => check_asked(visit, state, helper),
+        None => unreachable!(),
+    }
+}
+
 /// A helper's call, which goes on with any answer. Tells whether the state is the running one at the next
 /// instruction.
-fn ask(
+fn call(
     visit: &Visit,
     table: &mut Table<'_>,
     state: &mut State,
-    helper: i32,
+    number: i32,
 ) -> Result<bool, Refused>
     requires begins { IsSome (insn_at visit.now.program visit.now.slot) }
+    requires known { IsTrue (knows_helper visit.now.program.version (helper_of number)) }
     requires table { IsTableOf visit.now table.old }
     requires next { IsNext visit.now 1 }
-    ensures asked { OnOk result (MayAsk visit.now.sizes helper state.old) }
-    ensures refuted { IfErr result (λ _. MayAsk visit.now.sizes helper state.old → ⊥) }
+    ensures called { OnOk result (MayCall visit.now.maps (helper_of number) state.old) }
+    ensures refuted { IfErr result (λ _. MayCall visit.now.maps (helper_of number) state.old → ⊥) }
     ensures left { OnOk result (state.new ≡ after_call state.old) }
     ensures covered { IfOk result
         (λ runs. IsCovered (after_call state.old)
@@ -462,7 +469,7 @@ fn ask(
     ensures refused { IfErr result (IsValueFault visit.now.program) }
 {
     order_of_states();
-    check_asked(visit, state, helper)?;
+    check_called(visit, state, number)?;
     state.call();
     Ok(go_on(visit, table, state, 1))
 }
@@ -514,7 +521,7 @@ pub(crate) fn flow(
     requires next { HasNext visit.now insn.now }
     ensures permitted { IfOk result
         (λ runs. IsSettled lowered.old lowered.new
-        → IsPermitted (spill_of visit.now.program.version) visit.now.sizes
+        → IsPermitted (spill_of visit.now.program.version) visit.now.maps
         (knowledge_beside table.new runs
         (visit.now.slot + slots_of insn.now) state.new) visit.now.slot state.old insn.now) }
     ensures least { IfOk result
@@ -556,7 +563,10 @@ pub(crate) fn flow(
             check_answer(visit, state)?;
             Ok(false)
         }
-        Insn::Call { number, .. } => ask(visit, table, state, *number),
+        Insn::Call { callee, number } => match callee {
+            Callee::Helper => call(visit, table, state, *number),
+            Callee::Local | Callee::ByTypeId => unreachable!(),
+        },
         Insn::LoadAddress { .. } => unreachable!(),
     }
 }

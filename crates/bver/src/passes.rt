@@ -3,10 +3,10 @@
 ghost use Rattle.std.specs.Prelude.{◌≡◌, ◌<◌, ℕ, IfErr, IfOk, IsSome, IsTrue, OnOk, Option, Some, None, length, if◌then◌else◌};
 ghost use Rattle.machine.specs.Step.{insn_at};
 ghost use Rattle.bver_form.specs.Form.{IsFormed};
-ghost use Rattle.bver.specs.Heads.{AreHeadsAt, HasLowered, IsRaised, IsWithinBound};
+ghost use Rattle.bver.specs.Heads.{AreHeadsAt, HasLowered, IsWidened, IsWithinBound};
 ghost use Rattle.absdom.specs.State.{StateValue};
 ghost use Rattle.bver.specs.Justified.{IsCovered, IsCoveredIfAny, IsJudged};
-ghost use Rattle.bver.specs.Leading.{EntersOutside, EntersOutsideIfAny, IsLeastVisit, IsLeastVisitIfAny, IsRaisedAt, IsRaisedIfAny, IsVisitFaultIfAny};
+ghost use Rattle.bver.specs.Leading.{EntersOutside, EntersOutsideIfAny, IsLeastVisit, IsLeastVisitIfAny, IsWidenedAt, IsWidenedIfAny, IsVisitFaultIfAny};
 ghost use Rattle.bver_form.specs.Lowered.{IsMore, IsSettled};
 ghost use Rattle.bver.specs.Refusals.{IsValueFault};
 ghost use Rattle.bver.specs.Table.{knowledge_in};
@@ -27,28 +27,28 @@ use bpf_insn::Insn;
 use bver_form::{Lowered, Refused, loops_are_counted};
 use machine::MapSizes;
 
-/// Raises what is known at a head, where the loop is entered within its bound.
-fn raise_head(
+/// Widens what is known at a head, where the loop is entered within its bound.
+fn widen_head(
     visit: &Visit,
     body: &Body<'_>,
     lowered: &Lowered,
     state: &mut State,
 ) -> Result<(), Refused>
     requires begins { IsSome (insn_at visit.now.program visit.now.slot) }
-    ensures raised { OnOk result
-        (IsRaised body.now.program body.now.declared lowered.now body.now.place
+    ensures widened { OnOk result
+        (IsWidened body.now.program body.now.declared lowered.now body.now.place
         state.old state.new) }
     ensures bound { OnOk result (IsWithinBound body.now.declared state.old) }
     ensures refused { IfErr result (IsValueFault visit.now.program) }
     ensures outside { IfErr result (λ _. IsWithinBound body.now.declared state.old → ⊥) }
 {
-    match body.raise(lowered, state) {
+    match body.widen(lowered, state) {
         Ok(()) => Ok(()),
         Err(code) => Err(visit.refused(code)),
     }
 }
 
-/// At the head of a loop, raises what is known there to what stands for every pass.
+/// At the head of a loop, widens what is known there to what stands for every pass.
 fn enter(
     visit: &Visit,
     table: &mut Table<'_>,
@@ -61,8 +61,8 @@ fn enter(
     requires inside { visit.now.slot < length visit.now.program.slots }
     ensures known { OnOk result (knowledge_in table.new visit.now.slot ≡ Some state.new) }
     ensures heads { OnOk result (AreHeadsAt visit.now.program visit.now.slot (Some state.new)) }
-    ensures raised { OnOk result
-        (IsRaisedAt visit.now.program lowered.now visit.now.slot state.old state.new) }
+    ensures widened { OnOk result
+        (IsWidenedAt visit.now.program lowered.now visit.now.slot state.old state.new) }
     ensures least { OnOk result
         (IsLeastOf (λ above. IsCovered state.new (above visit.now.slot)) table.old table.new) }
     ensures extended { IsExtended visit.now.slot table.old table.new }
@@ -75,9 +75,9 @@ fn enter(
     match visit.head() {
         Some(body) => {
             state.stands_whole();
-            raise_head(visit, &body, lowered, state)?;
+            widen_head(visit, &body, lowered, state)?;
             state.stands_whole();
-            table.raise(visit.slot(), state);
+            table.widen(visit.slot(), state);
             Ok(())
         }
         None => Ok(()),
@@ -103,8 +103,8 @@ fn arrive(
     ensures heads { OnOk result
         (AreHeadsAt visit.now.program visit.now.slot
         (visited_state runs state.old table.new visit.now.slot)) }
-    ensures raised { OnOk result
-        (IsRaisedIfAny visit.now.program lowered.now visit.now.slot
+    ensures widened { OnOk result
+        (IsWidenedIfAny visit.now.program lowered.now visit.now.slot
         (visited_state runs state.old table.old visit.now.slot)
         (visited_state runs state.old table.new visit.now.slot)) }
     ensures least { OnOk result
@@ -211,7 +211,7 @@ pub(crate) fn pass(
     table: &mut Table<'_>,
     lowered: &mut Lowered,
     image: &Image,
-    sizes: &MapSizes,
+    maps: &MapSizes,
     regions: &mut Vec<Option<Region>>,
 ) -> Result<(), Refused>
     requires formed { IsFormed image.now }
@@ -220,16 +220,16 @@ pub(crate) fn pass(
     requires least { IsLeastEntry (knowledge_in table.old) }
     requires regions { length regions.old.items ≡ length image.now.slots }
     ensures judged { OnOk result
-        (IsSettled lowered.old lowered.new → IsJudged image.now sizes.now regions.new.items) }
+        (IsSettled lowered.old lowered.new → IsJudged image.now maps.now regions.new.items) }
     ensures table { table.new.program ≡ image.now }
     ensures regions { length regions.new.items ≡ length image.now.slots }
     ensures more { IsMore lowered.old lowered.new }
     ensures refused { IfErr result (IsValueFault image.now) }
     ensures lowers { OnOk result
-        ((above : ℕ → Option StateValue) → Justifies image.now sizes.now above
+        ((above : ℕ → Option StateValue) → Justifies image.now maps.now above
         → HasLowered image.now lowered.old above → HasLowered image.now lowered.new above) }
     ensures refuted { IfErr result
-        (λ _. (above : ℕ → Option StateValue) → Justifies image.now sizes.now above
+        (λ _. (above : ℕ → Option StateValue) → Justifies image.now maps.now above
         → HasLowered image.now lowered.old above → ⊥) }
 {
     order_of_states();
@@ -243,7 +243,7 @@ pub(crate) fn pass(
     let mut spare = State::entry();
     let mut runs = false;
     for slot in 0..image.slots() {
-        let visit = Visit::new(image, sizes, slot);
+        let visit = Visit::new(image, maps, slot);
         let region = visit_slot(&visit, table, lowered, &mut state, &mut spare, &mut runs)?;
         regions[usize::from(slot)] = region;
         table.stands_at_targets();

@@ -236,7 +236,7 @@ impl<'a> Table<'a> {
     }
 
     /// Puts a state that covers what is known at a slot in its place.
-    pub(crate) fn raise(&mut self, slot: u16, state: &State)
+    pub(crate) fn widen(&mut self, slot: u16, state: &State)
         requires inside { slot < length self.old.program.slots }
         requires kept { IsKept self.old.program slot }
         requires covers { IsCoveredIfAny (knowledge_in self.old slot) (Some state.now) }

@@ -2,8 +2,9 @@
 
 ghost use Rattle.std.specs.Prelude.{◌≡◌, ◌≢◌, IfSome, IsSome, None, All, false, length, nat_lt, slice_index};
 ghost use Rattle.bpf.specs.Program.{IsProgram};
+ghost use Rattle.machine.specs.Helpers.{takes_kind};
 ghost use Rattle.machine.specs.Sizes.{kind_of_map};
-ghost use Rattle.machine.specs.Step.{insn_at, takes_kind};
+ghost use Rattle.machine.specs.Step.{insn_at};
 ghost use Rattle.absdom.specs.Spill.{spill_of};
 ghost use Rattle.bver_form.specs.Form.{IsFormed};
 ghost use Rattle.bver_form.specs.Jumps.{first_slot, is_loop_back, target};
@@ -16,14 +17,14 @@ use absdom::Spill;
 use bpf::Image;
 use bpf_insn::Insn;
 use bver_form::{Refusal, Refused};
-use machine::{MapKind, MapSizes};
+use machine::{Helper, MapKind, MapSizes};
 use std::marker::Model;
 
 /// A slot of a program that has its form, which is verified for a node with these maps.
 #[derive(Drop)]
 pub(crate) struct Visit<'a> {
     image: &'a Image,
-    sizes: &'a MapSizes,
+    maps: &'a MapSizes,
     slot: u16,
 }
 
@@ -33,20 +34,20 @@ impl<'a> Model for Visit<'a> {
 
     ghost Value = { VisitValue };
 
-    ghost view = { λ v. record { program = v.image.now; sizes = v.sizes.now; slot = v.slot } };
+    ghost view = { λ v. record { program = v.image.now; maps = v.maps.now; slot = v.slot } };
 
     ghost invariant = { λ v. IsFormed v.image.now };
 }
 
 impl<'a> Visit<'a> {
     /// The visit of a slot.
-    pub(crate) fn new(image: &'a Image, sizes: &'a MapSizes, slot: u16) -> Visit<'a>
+    pub(crate) fn new(image: &'a Image, maps: &'a MapSizes, slot: u16) -> Visit<'a>
         requires { IsFormed image.now }
         ensures program { result.program ≡ image.now }
-        ensures sizes { result.sizes ≡ sizes.now }
+        ensures maps { result.maps ≡ maps.now }
         ensures slot { result.slot ≡ slot }
     {
-        Visit { image, sizes, slot }
+        Visit { image, maps, slot }
     }
 
     /// The slot.
@@ -84,26 +85,26 @@ impl<'a> Visit<'a> {
 
     /// How many maps there are.
     pub(crate) fn maps(&self) -> u8
-        ensures { result ≡ length self.now.sizes.cells }
+        ensures { result ≡ length self.now.maps.cells }
     {
-        self.sizes.maps()
+        self.maps.maps()
     }
 
     /// Whether the map exists and has all keys up to the last.
     pub(crate) fn has_keys(&self, map: u8, last: u64) -> bool
-        ensures { result ≡ nat_lt last (slice_index self.now.sizes.cells map) }
+        ensures { result ≡ nat_lt last (slice_index self.now.maps.cells map) }
     {
-        match self.sizes.cells(map) {
+        match self.maps.cells(map) {
             Some(cells) => last < u64::from(cells),
             None => false,
         }
     }
 
-    /// Whether the helper of that number may be asked of the map.
-    pub(crate) fn takes_kind(&self, map: u8, helper: i32) -> bool
-        ensures { result ≡ takes_kind helper (kind_of_map self.now.sizes map) }
+    /// Whether the helper may be asked of the map.
+    pub(crate) fn takes(&self, map: u8, helper: Helper) -> bool
+        ensures { result ≡ takes_kind helper (kind_of_map self.now.maps map) }
     {
-        match self.sizes.kind(map) {
+        match self.maps.kind(map) {
             Some(kind) => kind.takes(helper),
             None => MapKind::Counter.takes(helper),
         }

@@ -5,6 +5,7 @@ use Rattle.std.specs.Prelude.{All, IfSome, IsSome, is_some, nat_lt, ◌||◌, �
 use Rattle.std.proofs.lemmas.Bool.{cases_lt, or_left, or_right, lt-ltb}
 use Rattle.bpf.specs.declared.loops.Loop.{Loop}
 use Rattle.bpf.specs.Program.{Program, IsProgram}
+use Rattle.bpf.specs.declared.version.Version.{Version}
 use Rattle.bpf_insn.specs.Flow.{flow_of, written_register}
 use Rattle.bpf_insn.specs.declared.flow.Flow.{Flow}
 use Rattle.bpf_insn.specs.declared.flow.Flow.TheVariants.{GoesOn, Branches, Jumps, Calls, Ends, Unsupported}
@@ -15,7 +16,8 @@ use Rattle.bpf_insn.specs.declared.insn.Insn.{Insn}
 use Rattle.bver_form.specs.declared.refusal.Refusal.{Refusal}
 use Rattle.bver_form.specs.declared.refusal.Refusal.TheVariants.{BackJump, Budget, FallOff, FrameWrite, Helper, LoopShape}
 use Rattle.bver_form.specs.declared.refusal.Refused.{Refused}
-use Rattle.machine.specs.Step.{has_helper}
+use Rattle.machine.specs.Helpers.{helper_of}
+use Rattle.machine.specs.Step.{knows_helper}
 use Rattle.bver_form.specs.Codes.{IsFormCode}
 use Rattle.bver_form.specs.Support.{IsSupportedCall, IsSupportedFlow, call_fault, support_fault, frame_fault}
 use Rattle.bver_form.specs.Jumps.{IsAfter, IsBackToHead, IsFirstSlot, IsJump, first_slot, is_loop_back, jump_distance, insn_at, target}
@@ -28,12 +30,12 @@ use Rattle.bver_form.proofs.Left.{by_eq}
 
 -- ---- what may stand at its slot has no fault there
 
-call_none : (version : ℕ) (callee : Callee) (number : ℤ) → IsSupportedCall version callee number → call_fault version callee number ≡ None
+call_none : (version : Version) (callee : Callee) (number : ℤ) → IsSupportedCall version callee number → call_fault version callee number ≡ None
 call_none version callees.Helper number h = rw h refl
 call_none version Local number h = absurd h
 call_none version ByTypeId number h = absurd h
 
-support_none : (version : ℕ) (f : Flow) → IsSupportedFlow version f → support_fault version f ≡ None
+support_none : (version : Version) (f : Flow) → IsSupportedFlow version f → support_fault version f ≡ None
 support_none version GoesOn h = refl
 support_none version (Branches distance) h = refl
 support_none version (Jumps distance) h = refl
@@ -165,8 +167,8 @@ form_fault : (o : Option Refusal) (code : Refusal) → MayBeForm o → o ≡ Som
 form_fault None code h e = absurd cc
 form_fault (Some own) code h e = let same : own ≡ code = cc in subst IsFormCode same h
 
-call_form : (version : ℕ) (callee : Callee) (number : ℤ) → MayBeForm (call_fault version callee number)
-call_form version callees.Helper number = by_helper (has_helper version number)
+call_form : (version : Version) (callee : Callee) (number : ℤ) → MayBeForm (call_fault version callee number)
+call_form version callees.Helper number = by_helper (knows_helper version (helper_of number))
   where
     by_helper : (t : Bool) → MayBeForm (if t then None else Some Helper)
     by_helper true = tt
@@ -174,7 +176,7 @@ call_form version callees.Helper number = by_helper (has_helper version number)
 call_form version Local number = tt
 call_form version ByTypeId number = tt
 
-support_form : (version : ℕ) (f : Flow) → MayBeForm (support_fault version f)
+support_form : (version : Version) (f : Flow) → MayBeForm (support_fault version f)
 support_form version GoesOn = tt
 support_form version (Branches distance) = tt
 support_form version (Jumps distance) = tt

@@ -1,11 +1,12 @@
 -- The loops of a program are within the limits of the format.
 use Rattle.std.proofs.Common.{◌≡◌, ℕ, zero, suc, ◌+◌, ◌<◌, ◌≤◌, List, [], ◌∷◌, length, refl, subst, ap, ◌∙◌, arith, below_more}
 use Rattle.std.specs.Prelude.{slice_index_or}
+use Rattle.bpf.specs.declared.header.TheConstants.{MAX_SLOTS}
 use Rattle.bpf.specs.declared.loops.Loop.{Loop}
 use Rattle.bver_form.specs.Loops.{IsLoopFormed}
 use Rattle.bpf.specs.Program.{Program, IsLoop, AreLoops, IsProgram}
 
-wider : (n : ℕ) (l : Loop) → IsLoop n l → n ≤ 512 → IsLoop 512 l
+wider : (n : ℕ) (l : Loop) → IsLoop n l → n ≤ MAX_SLOTS → IsLoop MAX_SLOTS l
 wider n l h most = let within = h.within in record { ordered = h.ordered; within = omega arith; low = h.low; high = h.high; register = h.register }
 
 -- each loop of a list that may follow a slot
@@ -17,7 +18,7 @@ each_loop n least (l ∷ ls) (suc k) d h below = each_loop n (l.head + 1) ls k d
 pub loop_at : (p : Program) (k : ℕ) (d : Loop) → IsProgram p → k < length p.loops → IsLoop (length p.slots) (slice_index_or p.loops k d)
 loop_at p k d h below = each_loop (length p.slots) 0 p.loops k d h.loops below
 
-pub small_loop : (p : Program) (k : ℕ) (d : Loop) → IsProgram p → k < length p.loops → IsLoop 512 (slice_index_or p.loops k d)
+pub small_loop : (p : Program) (k : ℕ) (d : Loop) → IsProgram p → k < length p.loops → IsLoop MAX_SLOTS (slice_index_or p.loops k d)
 small_loop p k d h below = wider (length p.slots) (slice_index_or p.loops k d) (loop_at p k d h below) h.slots.1
 
 -- an element is the same whatever stands in for those past the end

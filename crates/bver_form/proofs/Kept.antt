@@ -4,6 +4,7 @@ use Rattle.std.specs.Prelude.{slice_index_or, slice_set, IsSome, is_some, if◌t
 use Rattle.std.proofs.lemmas.Bool.{cases_lt, false≢true}
 use Rattle.std.proofs.lemmas.List.{get_or_default, get_or_past}
 use Rattle.std.proofs.Math.ListN.{length-set}
+use Rattle.bpf.specs.declared.header.TheConstants.{MAX_SLOTS}
 use Rattle.bpf.specs.Program.{Program, insn_at}
 use Rattle.bpf_insn.specs.declared.insn.Insn.{Insn}
 use Rattle.bver_form.specs.Jumps.{first_slot, jump_distance, target}
@@ -123,7 +124,7 @@ numbering_skip marks places count upto unmarked h = record {
   rising = h.rising;
 }
 
-pub numbering_next : (marks : List Bool) (places : List ℕ) (count upto : ℕ) → upto < length marks → length marks ≤ 512 → IsMarked marks upto → IsNumbering marks places count upto → IsNumbering marks (slice_set places upto count) (count + 1) (upto + 1)
+pub numbering_next : (marks : List Bool) (places : List ℕ) (count upto : ℕ) → upto < length marks → length marks ≤ MAX_SLOTS → IsMarked marks upto → IsNumbering marks places count upto → IsNumbering marks (slice_set places upto count) (count + 1) (upto + 1)
 numbering_next marks places count upto inside few marked h = record {
   size = length-set places upto count ∙ h.size;
   few = omega (arith, h.few);

@@ -1,7 +1,12 @@
 -- The numbers of the refusals, and which of them are for a program's form.
 use Rattle.std.specs.Prelude.{ℕ, ◌==◌, if◌then◌else◌, Option, Some, None}
 use Rattle.bver_form.specs.declared.refusal.Refusal.{Refusal}
-use Rattle.bver_form.specs.declared.refusal.Refusal.TheVariants.{Target, BackJump, LoopShape, LoopEntry, Unset, KindMismatch, OutOfRegion, UnsetStack, HeaderWrite, FrameWrite, PointerRange, MapKey, Helper, FallOff, Budget, Unsupported, Memory, MapKind}
+use Rattle.bver_form.specs.declared.refusal.Refusal.TheVariants.{Target, BackJump, LoopShape, LoopEntry, Unset}
+use Rattle.bver_form.specs.declared.refusal.Refusal.TheVariants.{KindMismatch, OutOfRegion, UnsetStack, HeaderWrite}
+use Rattle.bver_form.specs.declared.refusal.Refusal.TheVariants.{FrameWrite, PointerRange, MapKey, Helper, FallOff}
+use Rattle.bver_form.specs.declared.refusal.Refusal.TheVariants.{Budget, Unsupported, Memory, MapKind}
+
+-- ---- the statement
 
 -- the number of a refusal, 1 to 18
 abbrev pub refusal_code : Refusal → ℕ
@@ -23,6 +28,8 @@ refusal_code Budget = 15
 refusal_code Unsupported = 16
 refusal_code Memory = 17
 refusal_code MapKind = 18
+
+-- ---- what else contracts and proofs say
 
 -- the refusal of a number, if it is the number of one
 abbrev pub refusal_of_code : ℕ → Option Refusal

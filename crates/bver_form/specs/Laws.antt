@@ -18,21 +18,32 @@ FirstFaultIsOne = (p : Program) (one other : Refused) → IsFormFault p one → 
 
 -- it tells a refusal of the form, at a slot of the program
 abbrev pub FaultIsKnown : Type 0
-FaultIsKnown = (p : Program) (refused : Refused) → IsProgram p → IsFormFault p refused → IsFormCode refused.code × (refused.slot < length p.slots)
+FaultIsKnown =
+    (p : Program) (refused : Refused) → IsProgram p → IsFormFault p refused → IsFormCode refused.code
+    × (refused.slot < length p.slots)
 
 -- at slot 0 no more is left than the weight, where a loop that has its head there begins within its bound
 abbrev pub BeginsWithinWeight : Type 0
-BeginsWithinWeight = (p : Program) (values : ℕ → ℕ) → IsProgram p → IsFormed p → All (λ l. l.head ≡ 0 → values 0 ≤ l.bound) p.loops → weight_left p values 0 ≤ weight_of p
+BeginsWithinWeight =
+    (p : Program) (values : ℕ → ℕ) → IsProgram p → IsFormed p → All (λ l. l.head ≡ 0 → values 0 ≤ l.bound) p.loops
+    → weight_left p values 0 ≤ weight_of p
 
 -- each step takes at least one of what is left
 abbrev pub EachStepTakesOne : Type 0
-EachStepTakesOne = (p : Program) (slot next : ℕ) (values after : ℕ → ℕ) → IsProgram p → IsFormed p → IsEdge p slot next → IsSome (insn_at p next) → AreCounted p slot next values after → weight_left p after next + 1 ≤ weight_left p values slot
+EachStepTakesOne =
+    (p : Program) (slot next : ℕ) (values after : ℕ → ℕ) → IsProgram p → IsFormed p → IsEdge p slot next
+    → IsSome (insn_at p next) → AreCounted p slot next values after → weight_left p after next
+    + 1 ≤ weight_left p values slot
 
 -- one is left where a run stands, whatever the counters' values
 abbrev pub OneIsLeft : Type 0
-OneIsLeft = (p : Program) (slot : ℕ) (values : ℕ → ℕ) → IsProgram p → IsFormed p → IsSome (insn_at p slot) → 1 ≤ weight_left p values slot
+OneIsLeft =
+    (p : Program) (slot : ℕ) (values : ℕ → ℕ) → IsProgram p → IsFormed p → IsSome (insn_at p slot)
+    → 1 ≤ weight_left p values slot
 
 -- into a loop a run comes at its head alone, and to its back from the slot before. An instruction of two slots cannot
 -- step over the head, since the back jump leads there, and so an instruction begins there
 abbrev pub LoopsAreEntered : Type 0
-LoopsAreEntered = (p : Program) (slot next : ℕ) → IsProgram p → IsFormed p → IsEdge p slot next → IsSome (insn_at p next) → All (λ l. ComesIn l slot next) p.loops
+LoopsAreEntered =
+    (p : Program) (slot next : ℕ) → IsProgram p → IsFormed p → IsEdge p slot next → IsSome (insn_at p next)
+    → All (λ l. ComesIn l slot next) p.loops

@@ -1,7 +1,8 @@
 -- The loops that a program declares (a choice of this project): which form they have, and how many instructions
 -- a run may still take. A loop (head, back, bound, register) counts its register down to zero: slot `back - 1` takes
 -- one from it, and slot `back` goes back to `head` while it is not zero.
-use Rattle.std.specs.Prelude.{◌≡◌, ◌≢◌, ◌≤◌, ◌<◌, ◌⊎◌, ℕ, ◌+◌, ◌-◌, ◌*◌, ℤ, pos, negsuc, Bool, false, ◌&&◌, ◌==◌, nat_le, nat_lt, if◌then◌else◌, List, [], ◌∷◌, Option, None, Some, IfSome, IsTrue, All}
+use Rattle.std.specs.Prelude.{◌≡◌, ◌≢◌, ◌≤◌, ◌<◌, ◌⊎◌, ℕ, ◌+◌, ◌-◌, ◌*◌, ℤ, pos, negsuc, Bool, false, ◌&&◌, ◌==◌}
+use Rattle.std.specs.Prelude.{nat_le, nat_lt, if◌then◌else◌, List, [], ◌∷◌, Option, None, Some, IfSome, IsTrue, All}
 use Rattle.bpf.specs.declared.loops.Loop.{Loop}
 use Rattle.bpf.specs.Program.{Program, insn_at}
 use Rattle.bpf.specs.Weight.{times_at}
@@ -17,6 +18,8 @@ use Rattle.bpf_parts.specs.declared.operation.Operand.TheVariants.{Immediate}
 use Rattle.bpf_parts.specs.declared.operation.Width.TheVariants.{Bits64}
 use Rattle.bver_form.specs.Jumps.{jump_distance, target}
 
+-- ---- the statement
+
 -- ---- one loop
 
 -- whether the loop holds the slot: its head, its back, or one between
@@ -26,7 +29,8 @@ holds l slot = nat_le l.head slot && nat_le slot l.back
 -- what ends the loop: to its head, if its register is not zero (`jne r, 0`, all 64 bits)
 abbrev pub back_jump : Loop → Insn
 back_jump l =
-    Jump (record { condition = NotEqual; width = Bits64; dst = l.register; src = Immediate (pos 0) }) (negsuc (l.back - l.head))
+    Jump (record { condition = NotEqual; width = Bits64; dst = l.register; src = Immediate (pos 0) })
+    (negsuc (l.back - l.head))
 
 -- what counts: one is taken from its register (`add r, -1`, all 64 bits)
 abbrev pub step_down : Loop → Insn
@@ -43,7 +47,8 @@ IsStep p l = insn_at p (l.back - 1) ≡ Some (step_down l)
 -- an instruction at the slot of the loop leaves its register, unless it is the one that counts; a call writes r0 to
 -- r5
 abbrev pub LeavesCounterAt : Program → Loop → (slot : ℕ) → Type 0
-LeavesCounterAt p l slot = IfSome (insn_at p slot) (λ insn. IsTrue (holds l slot) → slot + 1 ≢ l.back → is_written insn l.register ≡ false)
+LeavesCounterAt p l slot =
+    IfSome (insn_at p slot) (λ insn. IsTrue (holds l slot) → slot + 1 ≢ l.back → is_written insn l.register ≡ false)
 
 -- no slot of the loop but the one before its back writes its register
 abbrev pub LeavesCounter : Program → Loop → Type 0
@@ -57,7 +62,9 @@ EntersAtHead l slot (negsuc n) = Unit {0}
 
 -- an instruction at the slot does so, if it jumps
 abbrev pub EntersAtHeadFrom : Program → Loop → (slot : ℕ) → Type 0
-EntersAtHeadFrom p l slot = IfSome (insn_at p slot) (λ insn. IfSome (jump_distance insn) (λ distance. EntersAtHead l slot (target slot distance)))
+EntersAtHeadFrom p l slot =
+    IfSome (insn_at p slot)
+    (λ insn. IfSome (jump_distance insn) (λ distance. EntersAtHead l slot (target slot distance)))
 
 -- no jump of the program leads to the loop's back, and none from outside into it but to its head
 abbrev pub IsEnteredAtHead : Program → Loop → Type 0
@@ -86,6 +93,8 @@ pub record IsLoopFormed (p : Program) (l : Loop) : Type 0 where
   pub counter : LeavesCounter p l
   pub entry : IsEnteredAtHead p l
   pub others : IsAmongOthers p l
+
+-- ---- what else contracts and proofs say
 
 -- ---- where a run goes on
 
@@ -130,7 +139,8 @@ executions_of_part loops values i slot (Some insn) = executions_left loops value
 -- the sum of that over the slots from one on
 unfoldable pub weight_left_from : List Loop → (values : ℕ → ℕ) → (slot i : ℕ) → List (Option Insn) → ℕ
 weight_left_from loops values slot i [] = 0
-weight_left_from loops values slot i (x ∷ xs) = executions_of_part loops values i slot x + weight_left_from loops values slot (i + 1) xs
+weight_left_from loops values slot i (x ∷ xs) =
+    executions_of_part loops values i slot x + weight_left_from loops values slot (i + 1) xs
 
 -- how many instructions a run may still take that stands at the slot with these values of the counters
 abbrev pub weight_left : Program → (values : ℕ → ℕ) → (slot : ℕ) → ℕ

@@ -1,5 +1,6 @@
 -- The slots at which the verifier keeps what is known: slot 0 and those to which a jump leads. They are numbered.
-use Rattle.std.specs.Prelude.{◌≡◌, ◌<◌, ◌≤◌, ℕ, ℤ, ◌⊎◌, false, List, Bool, length, Option, Some, None, IsSome, IsTrue, slice_index_or}
+use Rattle.std.specs.Prelude.{◌≡◌, ◌<◌, ◌≤◌, ℕ, ℤ, ◌⊎◌, false, List, Bool, length, Option, Some, None, IsSome, IsTrue}
+use Rattle.std.specs.Prelude.{slice_index_or}
 use Rattle.bpf.specs.Program.{Program, insn_at}
 use Rattle.bpf_insn.specs.declared.insn.Insn.{Insn}
 use Rattle.bver_form.specs.Jumps.{first_slot, jump_distance, target}
@@ -66,7 +67,8 @@ pub record IsNumbered (marks : List Bool) (places : List ℕ) (count : ℕ) : Ty
   pub all : (slot : ℕ) → IsMarked marks slot → place_at places slot < count
   pub only : (slot : ℕ) → place_at places slot < count → IsMarked marks slot
   pub used : (place : ℕ) → place < count → NumbersSlot places place
-  pub rising : (a b : ℕ) → a < b → place_at places a < count → place_at places b < count → place_at places a < place_at places b
+  pub rising : (a b : ℕ) → a < b → place_at places a < count → place_at places b < count
+      → place_at places a < place_at places b
 
 -- the marked slots before one are numbered, and no other
 pub record IsNumbering (marks : List Bool) (places : List ℕ) (count upto : ℕ) : Type 0 where
@@ -77,4 +79,5 @@ pub record IsNumbering (marks : List Bool) (places : List ℕ) (count upto : ℕ
   pub used : (place : ℕ) → place < count → NumbersSlot places place
   pub either : (slot : ℕ) → (place_at places slot < count) ⊎ (place_at places slot ≡ no_place)
   pub rest : (slot : ℕ) → upto ≤ slot → place_at places slot ≡ no_place
-  pub rising : (a b : ℕ) → a < b → place_at places a < count → place_at places b < count → place_at places a < place_at places b
+  pub rising : (a b : ℕ) → a < b → place_at places a < count → place_at places b < count
+      → place_at places a < place_at places b

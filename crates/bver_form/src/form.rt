@@ -46,10 +46,10 @@ fn check_slots(image: &Image) -> Result<(), Refused>
 ///
 /// # Errors
 ///
-/// The first that is met. By rising slot, for the instruction at the slot: `Unsupported`, `Helper` where a
-/// helper is called by a number that the version has not (1 and 2 are in both, 3 in version 2), `FrameWrite`, `Target`, `BackJump`. Then `FallOff` at
-/// the last instruction, `LoopShape` at the back of the first declared loop, by rising head, that has not
-/// its form, and `Budget` at slot 0.
+/// The first that is met. By rising slot, for the instruction at the slot: `Unsupported`, `Helper` where the number
+/// that is called is that of no helper which the version of the format has, `FrameWrite`, `Target`, `BackJump`. Then
+/// `FallOff` at the last instruction, `LoopShape` at the back of the first declared loop, by rising head, that has
+/// not its form, and `Budget` at slot 0.
 pub fn check(image: &Image) -> Result<(), Refused>
     ensures formed { OnOk result (IsFormed image.now) }
 

@@ -12,9 +12,9 @@ pub fn first_faults()
     ensures known { FaultIsKnown }
 {}
 
-/// A law and no work, in plain arithmetic: a run of a program that has its form takes no more
-/// instructions than the weight. What is left of a run is a function of its slot and of the loops'
-/// counters, and each step takes one from it.
+/// A law and no work, in plain arithmetic: a run of a program that has its form, whose loops begin with their counters
+/// from 1 to the bound, takes no more instructions than the weight. What is left of a run is a function of its slot and
+/// of the loops' counters, and each step takes at least one from it.
 pub fn loops_are_counted()
     ensures begins { BeginsWithinWeight }
     ensures steps { EachStepTakesOne }

@@ -1,6 +1,7 @@
 //! The form of the loops that a program declares.
 
 ghost use Rattle.std.specs.Prelude.{◌≡◌, ◌≢◌, ◌<◌, ◌+◌, ◌↔◌, ℕ, IsTrue, All, MatchResult, Some, IfSome, length, slice_index_or};
+ghost use Rattle.bpf.specs.declared.header.TheConstants.{MAX_SLOTS};
 ghost use Rattle.bpf.specs.Program.{IsLoop, insn_at};
 ghost use Rattle.bpf_insn.specs.Flow.{is_written};
 ghost use Rattle.bver_form.specs.Form.{IsLoopFault};
@@ -21,7 +22,7 @@ fn holds(declared: &Loop, slot: u16) -> bool
 
 /// The instruction that ends the loop.
 fn back_jump(declared: &Loop) -> Insn
-    requires { IsLoop 512 declared.now }
+    requires { IsLoop MAX_SLOTS declared.now }
     ensures { result ≡ back_jump declared.now }
 {
     let len = (declared.back - declared.head).cast_signed();
@@ -50,7 +51,7 @@ fn step_down(declared: &Loop) -> Insn
 
 /// Whether the loop ends with its back jump.
 fn check_back(image: &Image, declared: &Loop) -> bool
-    requires { IsLoop 512 declared.now }
+    requires { IsLoop MAX_SLOTS declared.now }
     ensures { IsTrue result ↔ IsBackJump image.now declared.now }
 {
     image.insn(declared.back) == Some(back_jump(declared))
@@ -58,7 +59,7 @@ fn check_back(image: &Image, declared: &Loop) -> bool
 
 /// Whether the slot before the back counts.
 fn check_step(image: &Image, declared: &Loop) -> bool
-    requires { IsLoop 512 declared.now }
+    requires { IsLoop MAX_SLOTS declared.now }
     ensures { IsTrue result ↔ IsStep image.now declared.now }
 {
     image.insn(declared.back - 1) == Some(step_down(declared))
@@ -66,7 +67,7 @@ fn check_step(image: &Image, declared: &Loop) -> bool
 
 /// Whether the instruction at the slot leaves the loop's register, if it has to.
 fn leaves_counter(image: &Image, declared: &Loop, slot: u16) -> bool
-    requires { IsLoop 512 declared.now }
+    requires { IsLoop MAX_SLOTS declared.now }
     ensures { IsTrue result ↔ LeavesCounterAt image.now declared.now slot }
 {
     if !holds(declared, slot) || slot == declared.back - 1 {
@@ -80,7 +81,7 @@ fn leaves_counter(image: &Image, declared: &Loop, slot: u16) -> bool
 
 /// Whether no other slot of the loop writes its register.
 fn check_counter(image: &Image, declared: &Loop) -> bool
-    requires { IsLoop 512 declared.now }
+    requires { IsLoop MAX_SLOTS declared.now }
     ensures { IsTrue result ↔ LeavesCounter image.now declared.now }
 {
     for slot in 0..image.slots() {
@@ -150,7 +151,7 @@ fn check_others(image: &Image, declared: &Loop) -> bool
 
 /// Whether the declared loop has its form.
 fn is_loop_formed(image: &Image, declared: &Loop) -> bool
-    requires { IsLoop 512 declared.now }
+    requires { IsLoop MAX_SLOTS declared.now }
     ensures { IsTrue result ↔ IsLoopFormed image.now declared.now }
 {
     check_back(image, declared)

@@ -83,8 +83,8 @@ for each round of them. It must not be above the budget that the program declare
 Raise `.budget` to the weight, at most 65,536, or make loops shorter.";
 
 const UNSUPPORTED: &str = "\
-This target runs no atomic operations, no calls within a program, no calls by a BTF number and no addresses of
-`ldimm`. Its maps are reached by `ldmap` and the helpers alone.
+This target runs no calls within a program, no calls by a BTF number and no addresses of `ldimm`. Its maps are
+reached by `ldmap` and the helpers alone.
 Write the program without them.";
 
 const MEMORY: &str = "\
@@ -135,7 +135,7 @@ pub enum Refusal {
     /// A map does not exist, or a key may lie outside its map.
     #[error("a map does not exist, or a key may lie outside it")]
     MapKey,
-    /// A call is to an unknown helper.
+    /// A call is to a number that is that of no helper, or of one that the version of the format has not.
     #[error("a call is to an unknown helper")]
     Helper,
     /// The last instruction is no exit.

@@ -2,21 +2,34 @@
 
 ghost use Rattle.std.specs.Prelude.{◌≡◌, OnOk};
 ghost use Rattle.bpf_insn.specs.Flow.{flow_of, written_register};
+ghost use Rattle.machine.specs.Helpers.{helper_of};
+ghost use Rattle.machine.specs.Step.{knows_helper};
 ghost use Rattle.bver_form.specs.Form.{Tells};
 ghost use Rattle.bver_form.specs.Support.{IsSupported, IsSupportedCall, LeavesFrame, call_fault, frame_fault, support_fault};
 
 use crate::refusal::Refusal;
+use bpf::Version;
 use bpf_insn::{Callee, FRAME_POINTER, Flow, Insn};
-use machine::has_helper;
+use machine::Helper;
+
+/// Whether the number is that of a helper which the version of the format has.
+fn knows_helper(version: Version, number: i32) -> bool
+    ensures { result ≡ knows_helper version (helper_of number) }
+{
+    match Helper::of_number(number) {
+        Some(helper) => helper.is_in(version),
+        None => false,
+    }
+}
 
 /// Tests that the call is of a helper that the version of the format has.
-fn check_call(version: u8, callee: Callee, number: i32) -> Result<(), Refusal>
+fn check_call(version: Version, callee: Callee, number: i32) -> Result<(), Refusal>
     ensures supported { OnOk result (IsSupportedCall version callee number) }
     ensures fault { Tells result (call_fault version callee number) }
 {
     match callee {
         Callee::Helper => {
-            if has_helper(version, number) {
+            if knows_helper(version, number) {
                 Ok(())
             } else {
                 Err(Refusal::Helper)
@@ -27,7 +40,7 @@ fn check_call(version: u8, callee: Callee, number: i32) -> Result<(), Refusal>
 }
 
 /// Tests that the instruction is supported in the version of the format.
-pub(crate) fn check_supported(version: u8, insn: &Insn) -> Result<(), Refusal>
+pub(crate) fn check_supported(version: Version, insn: &Insn) -> Result<(), Refusal>
     ensures supported { OnOk result (IsSupported version insn.now) }
     ensures fault { Tells result (support_fault version (flow_of insn.now)) }
 {

@@ -1,6 +1,7 @@
 //! The slots at which the verifier keeps what is known: slot 0 and those to which a jump leads. They are numbered.
 
 ghost use Rattle.std.specs.Prelude.{◌≡◌, ◌≤◌, ◌<◌, ◌+◌, ◌⊎◌, ℕ, IfOk, IsTrue, Some, false, length, slice_index_or};
+ghost use Rattle.bpf.specs.declared.header.TheConstants.{MAX_SLOTS};
 ghost use Rattle.bpf.specs.Program.{insn_at};
 ghost use Rattle.bver_form.specs.Targets.{AreKept, IsMarked, IsNumbered, IsNumbering, JumpsTo, landing_from, no_place, place_at};
 
@@ -56,7 +57,7 @@ fn unmarked(alloc: Global, slots: u16) -> Result<Vec<bool>, AllocError>
 /// Memory is refused.
 pub fn kept_slots(alloc: Global, image: &Image) -> Result<Vec<bool>, AllocError>
     ensures size { IfOk result (λ kept. length kept.items ≡ length image.now.slots) }
-    ensures few { IfOk result (λ kept. length kept.items ≤ 512) }
+    ensures few { IfOk result (λ kept. length kept.items ≤ MAX_SLOTS) }
     ensures kept { IfOk result (λ kept. AreKept image.now kept.items) }
 {
     let mut kept = unmarked(alloc, image.slots())?;
@@ -71,7 +72,7 @@ pub fn kept_slots(alloc: Global, image: &Image) -> Result<Vec<bool>, AllocError>
 fn number_slot(kept: &Vec<bool>, places: &mut Vec<u16>, slot: usize, count: u16) -> u16
     requires numbered { IsNumbering kept.now.items places.old.items count slot }
     requires inside { slot < length kept.now.items }
-    requires few { length kept.now.items ≤ 512 }
+    requires few { length kept.now.items ≤ MAX_SLOTS }
     ensures { IsNumbering kept.now.items places.new.items result (slot + 1) }
 {
     if kept[slot] {
@@ -86,7 +87,7 @@ fn number_slot(kept: &Vec<bool>, places: &mut Vec<u16>, slot: usize, count: u16)
 /// place is [`NOWHERE`].
 pub fn number_slots(kept: &Vec<bool>, places: &mut Vec<u16>) -> u16
     requires size { length places.old.items ≡ length kept.now.items }
-    requires few { length kept.now.items ≤ 512 }
+    requires few { length kept.now.items ≤ MAX_SLOTS }
     requires nowhere { (k : ℕ) → place_at places.old.items k ≡ no_place }
     ensures { IsNumbered kept.now.items places.new.items result }
 {

@@ -1,4 +1,4 @@
--- The cell of a word, and the calls of draws.
+-- The cell of a word, and the calls of answers.
 use Rattle.std.proofs.Common.{◌≡◌, ℕ, zero, suc, ◌+◌, ◌-◌, ◌%◌, ◌^◌, ◌≤◌, ◌<◌, Bool, true, false, List, [], ◌∷◌, ◌++◌, length, map, take, refl, sym, ap, ◌∙◌, subst, arith}
 use Rattle.std.specs.Prelude.{All, slice_index, sum, count_by, filter, cond, ◌==◌, ◌&&◌, nat_lt}
 use Rattle.std.specs.Bool.{Decides}
@@ -14,9 +14,10 @@ use Rattle.machine.specs.declared.kinds.MapKind.TheVariants.{Counter, Peak}
 use Rattle.machine.specs.declared.calls.Call.{Call}
 use Rattle.machine.specs.Runs.{call}
 use Rattle.machine.specs.Step.{question}
-use Rattle.cells.specs.declared.hands.Draw.{Draw}
-use Rattle.cells.specs.Draws.{word_of, cell_of, kind_at, draw, call_of, calls_of, tickets, tickets_of, is_ticket, asks_ticket, IsBehind, IsUnder, is_raise, IsCallUnder, asks_raise, IsGreatest, AreNumbersBelow}
-use Rattle.cells.specs.Counting.{IsCounted, IsPeak, IsDrawn}
+use Rattle.machine.specs.declared.helpers.Helper.{Helper}
+use Rattle.cells.specs.declared.logs.Answer.{Answer}
+use Rattle.cells.specs.Logs.{word_of, cell_of, kind_at, answer_of, draws_ticket, call_of, calls_of, tickets, tickets_of, is_ticket, asks_ticket, IsBehind, IsUnder, is_raise, IsCallUnder, asks_raise, IsGreatest, AreNumbersBelow}
+use Rattle.cells.specs.Counting.{IsCounted, IsPeak, IsAnswered}
 use Rattle.cells.specs.Seats.{CellSeatValue, CellsValue, IsOf, AreOf, IsSeatOf, calls, calls_back, cells_with}
 
 -- the word of a cell, by the sizes of the maps alone
@@ -72,72 +73,72 @@ cell_there maps m key h = cell_of_word maps.cells m key h.map_exists h.key_exist
 pub kind_there : (maps : Maps) (m key : ℕ) → IsInside maps m key → kind_at maps (word_of maps m key) ≡ kind_of_map maps m
 kind_there maps m key h = ap (λ (c : ℕ × ℕ). kind_of_map maps c.0) (cell_there maps m key h)
 
--- the draws with one more, whatever the kind of its word
-pub record HasDrawn (kind : MapKind) (helper word argument : ℕ) (before : List Draw) (answer : ℕ) (after : List Draw) : Type 0 where
+-- the answers with one more, whatever the kind of its word
+pub record HasAnswered (kind : MapKind) (helper : Helper) (word argument : ℕ) (before : List Answer) (answer : ℕ) (after : List Answer) : Type 0 where
   pub exact : ℕ
   pub wraps : kind ≡ Counter → answer ≡ exact % 2 ^ 64
-  pub draws : after ≡ before ++ draw helper word argument exact answer ∷ []
+  pub answers : after ≡ before ++ answer_of helper word argument exact answer ∷ []
 
-pub has_drawn : (kind : MapKind) (helper word argument : ℕ) (before : List Draw) (answer : ℕ) (after : List Draw)
-    → IsDrawn kind helper word argument before answer after → HasDrawn kind helper word argument before answer after
-has_drawn Counter helper word argument before answer after d = record { exact = d.exact; wraps = λ is. d.wraps; draws = d.draws }
-has_drawn Peak helper word argument before answer after d = record { exact = answer; wraps = λ is. absurd cc; draws = d.draws }
+pub has_answered : (kind : MapKind) (helper : Helper) (word argument : ℕ) (before : List Answer) (answer : ℕ) (after : List Answer)
+    → IsAnswered kind helper word argument before answer after → HasAnswered kind helper word argument before answer after
+has_answered Counter helper word argument before answer after d = record { exact = d.exact; wraps = λ is. d.wraps; answers = d.answers }
+has_answered Peak helper word argument before answer after d = record { exact = answer; wraps = λ is. absurd cc; answers = d.answers }
 
--- the calls with one draw more
-pub asked : (maps : Maps) (m key : ℕ) (kind : MapKind) (helper argument answer : ℕ) (before after : List Draw) → IsInside maps m key
-    → HasDrawn kind helper (word_of maps m key) argument before answer after
+-- the calls with one answer more
+pub asked : (maps : Maps) (m key : ℕ) (kind : MapKind) (helper : Helper) (argument answer : ℕ) (before after : List Answer) → IsInside maps m key
+    → HasAnswered kind helper (word_of maps m key) argument before answer after
     → calls_of maps after ≡ calls_of maps before ++ call (question helper m key argument) answer ∷ []
 asked maps m key kind helper argument answer before after h d =
-    ap (calls_of maps) d.draws ∙ map-append (call_of maps) before (draw helper (word_of maps m key) argument d.exact answer ∷ [])
+    ap (calls_of maps) d.answers ∙ map-append (call_of maps) before (answer_of helper (word_of maps m key) argument d.exact answer ∷ [])
     ∙ ap (λ (c : ℕ × ℕ). calls_of maps before ++ call (question helper c.0 c.1 argument) answer ∷ []) (cell_there maps m key h)
 
--- a draw is of the word of a cell where its call asked the cell
-draws_there : (maps : Maps) (m key : ℕ) (d : Draw) → d.word < sum maps.cells → (cell_of maps.cells d.word).0 ≡ m → (cell_of maps.cells d.word).1 ≡ key → d.word ≡ word_of maps m key
-draws_there maps m key d below first second =
+-- an answer is of the word of a cell where its call asked the cell
+answers_there : (maps : Maps) (m key : ℕ) (d : Answer) → d.word < sum maps.cells → (cell_of maps.cells d.word).0 ≡ m → (cell_of maps.cells d.word).1 ≡ key → d.word ≡ word_of maps m key
+answers_there maps m key d below first second =
     let c = cell_of maps.cells d.word in
     sym (word_of_cell maps.cells d.word below) ∙ ap (λ (k : ℕ). word_of maps k c.1) first ∙ ap (word_of maps m) second
 
-cell_is : (maps : Maps) (m key : ℕ) → IsInside maps m key → (d : Draw) → d.word < sum maps.cells
+cell_is : (maps : Maps) (m key : ℕ) → IsInside maps m key → (d : Answer) → d.word < sum maps.cells
     → ((cell_of maps.cells d.word).0 == m) && ((cell_of maps.cells d.word).1 == key) ≡ (d.word == word_of maps m key)
 cell_is maps m key h d below =
     let c = cell_of maps.cells d.word in
     let word = word_of maps m key in
     let both : Decides ((c.0 == m) && (c.1 == key)) ((c.0 ≡ m) × (c.1 ≡ key)) = Decides-and (c.0 == m) (c.1 == key) (Decides-eqb c.0 m) (Decides-eqb c.1 key) in
-    let there : (c.0 ≡ m) × (c.1 ≡ key) → d.word ≡ word = λ e. draws_there maps m key d below e.0 e.1 in
+    let there : (c.0 ≡ m) × (c.1 ≡ key) → d.word ≡ word = λ e. answers_there maps m key d below e.0 e.1 in
     let back : d.word ≡ word → (c.0 ≡ m) × (c.1 ≡ key) = λ e. let same : c ≡ (m, key) = ap (cell_of maps.cells) e ∙ cell_there maps m key h in (ap (λ (x : ℕ × ℕ). x.0) same, ap (λ (x : ℕ × ℕ). x.1) same) in
     same_from_decides _ _ (Decides-like ((c.0 == m) && (c.1 == key)) there back both) (Decides-eqb d.word word)
 
--- a draw is a ticket of the word where its call drew a ticket of the cell
-asks_is : (maps : Maps) (m key : ℕ) → IsInside maps m key → (d : Draw) → d.word < sum maps.cells → asks_ticket m key (call_of maps d) ≡ is_ticket (word_of maps m key) d
-asks_is maps m key h d below = ap (λ (b : Bool). (d.helper == 2) && b) (cell_is maps m key h d below)
+-- an answer is a ticket of the word where its call drew a ticket of the cell
+asks_is : (maps : Maps) (m key : ℕ) → IsInside maps m key → (d : Answer) → d.word < sum maps.cells → asks_ticket m key (call_of maps d) ≡ is_ticket (word_of maps m key) d
+asks_is maps m key h d below = ap (λ (b : Bool). draws_ticket d.helper && b) (cell_is maps m key h d below)
 
-abbrev answers : List Call → List ℕ
-answers cs = map (λ c. c.answer) cs
+abbrev answers_in : List Call → List ℕ
+answers_in cs = map (λ c. c.answer) cs
 
-abbrev numbers : List Draw → List ℕ
+abbrev numbers : List Answer → List ℕ
 numbers ds = map (λ d. d.exact) ds
 
-picks : (b : Bool) (c : Call) (d : Draw) (cs : List Call) (ds : List Draw) → (b ≡ true → c.answer ≡ d.exact) → answers cs ≡ numbers ds
-    → answers (cond b (c ∷ cs) cs) ≡ numbers (cond b (d ∷ ds) ds)
+picks : (b : Bool) (c : Call) (d : Answer) (cs : List Call) (ds : List Answer) → (b ≡ true → c.answer ≡ d.exact) → answers_in cs ≡ numbers ds
+    → answers_in (cond b (c ∷ cs) cs) ≡ numbers (cond b (d ∷ ds) ds)
 picks true c d cs ds first rest = let e = first refl in cc
 picks false c d cs ds first rest = rest
 
-as_many : (b : Bool) (c : Call) (d : Draw) (cs : List Call) (ds : List Draw) → length (answers cs) ≡ length (numbers ds)
-    → length (answers (cond b (c ∷ cs) cs)) ≡ length (numbers (cond b (d ∷ ds) ds))
+as_many : (b : Bool) (c : Call) (d : Answer) (cs : List Call) (ds : List Answer) → length (answers_in cs) ≡ length (numbers ds)
+    → length (answers_in (cond b (c ∷ cs) cs)) ≡ length (numbers (cond b (d ∷ ds) ds))
 as_many true c d cs ds rest = ap suc rest
 as_many false c d cs ds rest = rest
 
 -- a ticket whose number fits is answered as it is
-fits : (word n : ℕ) (d : Draw) → n < 2 ^ 64 → IsBehind word n d → (d.word ≡ word → d.answer ≡ d.exact % 2 ^ 64) → is_ticket word d ≡ true → d.answer ≡ d.exact
+fits : (word n : ℕ) (d : Answer) → n < 2 ^ 64 → IsBehind word n d → (d.word ≡ word → d.told ≡ d.exact % 2 ^ 64) → is_ticket word d ≡ true → d.told ≡ d.exact
 fits word n d small behind wraps is =
-    let helps : (d.helper == 2) ≡ true = grind arith in
+    let helps : draws_ticket d.helper ≡ true = grind arith in
     let here : d.word ≡ word = eqb-true d.word word (grind arith) in
-    let least : d.exact + cond (d.helper == 2) 1 0 ≤ n = behind here in
+    let least : d.exact + cond (draws_ticket d.helper) 1 0 ≤ n = behind here in
     let more : d.exact + 1 ≤ n = subst (λ (b : Bool). d.exact + cond b 1 0 ≤ n) helps least in
     wraps here ∙ mod-eq_of_lt (omega arith)
 
 -- where the numbers fit, the answers of the calls are the numbers of the tickets
-same_tickets : (maps : Maps) (m key n : ℕ) → IsInside maps m key → kind_at maps (word_of maps m key) ≡ Counter → n < 2 ^ 64 → (ds : List Draw) → AreOf maps ds → All (IsBehind (word_of maps m key) n) ds
+same_tickets : (maps : Maps) (m key n : ℕ) → IsInside maps m key → kind_at maps (word_of maps m key) ≡ Counter → n < 2 ^ 64 → (ds : List Answer) → AreOf maps ds → All (IsBehind (word_of maps m key) n) ds
     → tickets_of m key (calls_of maps ds) ≡ tickets (word_of maps m key) ds
 same_tickets maps m key n h kind small [] are behind = refl
 same_tickets maps m key n h kind small (d ∷ ds) are behind =
@@ -146,11 +147,11 @@ same_tickets maps m key n h kind small (d ∷ ds) are behind =
     let of : IsOf maps d = All-head (IsOf maps) d ds are in
     let rest = same_tickets maps m key n h kind small ds (All-tail (IsOf maps) d ds are) (All-tail (IsBehind word n) d ds behind) in
     let cs = filter (asks_ticket m key) (calls_of maps ds) in
-    ap (λ (b : Bool). answers (cond b (c ∷ cs) cs)) (asks_is maps m key h d of.0)
+    ap (λ (b : Bool). answers_in (cond b (c ∷ cs) cs)) (asks_is maps m key h d of.0)
     ∙ picks (is_ticket word d) c d cs (filter (is_ticket word) ds) (fits word n d small (All-head (IsBehind word n) d ds behind) (λ here. of.1 (ap (kind_at maps) here ∙ kind))) rest
 
 -- the calls drew as many tickets as there are
-same_length : (maps : Maps) (m key : ℕ) → IsInside maps m key → (ds : List Draw) → AreOf maps ds
+same_length : (maps : Maps) (m key : ℕ) → IsInside maps m key → (ds : List Answer) → AreOf maps ds
     → length (tickets_of m key (calls_of maps ds)) ≡ length (tickets (word_of maps m key) ds)
 same_length maps m key h [] are = refl
 same_length maps m key h (d ∷ ds) are =
@@ -158,11 +159,11 @@ same_length maps m key h (d ∷ ds) are =
     let c : Call = call_of maps d in
     let of : IsOf maps d = All-head (IsOf maps) d ds are in
     let cs = filter (asks_ticket m key) (calls_of maps ds) in
-    ap (λ (b : Bool). length (answers (cond b (c ∷ cs) cs))) (asks_is maps m key h d of.0)
+    ap (λ (b : Bool). length (answers_in (cond b (c ∷ cs) cs))) (asks_is maps m key h d of.0)
     ∙ as_many (is_ticket word d) c d cs (filter (is_ticket word) ds) (same_length maps m key h ds (All-tail (IsOf maps) d ds are))
 
--- whoever has all draws of a counter map's cell has the numbers below the word, each once
-pub told : (maps : Maps) (m key value : ℕ) (ds : List Draw) → IsInside maps m key → kind_of_map maps m ≡ Counter → AreOf maps ds → IsCounted (word_of maps m key) value ds
+-- whoever has all answers of a counter map's cell has the numbers below the word, each once
+pub told : (maps : Maps) (m key value : ℕ) (ds : List Answer) → IsInside maps m key → kind_of_map maps m ≡ Counter → AreOf maps ds → IsCounted (word_of maps m key) value ds
     → length (tickets_of m key (calls_of maps ds)) < 2 ^ 64 → AreNumbersBelow value (tickets_of m key (calls_of maps ds))
 told maps m key value ds h kind are counted small =
     let word = word_of maps m key in
@@ -172,17 +173,17 @@ told maps m key value ds h kind are counted small =
     let all : value ≡ n = counted.counts ∙ mod-eq_of_lt few in
     subst (λ (ns : List ℕ). AreNumbersBelow value ns) (sym same) (subst (λ (k : ℕ). AreNumbersBelow k (tickets word ds)) (sym all) counted.each_once)
 
--- the calls of draws that are under a number are under it
-calls_under : (maps : Maps) (m key value : ℕ) (ds : List Draw) → AreOf maps ds → All (IsUnder (word_of maps m key) value) ds → All (IsCallUnder m key value) (calls_of maps ds)
+-- the calls of answers that are under a number are under it
+calls_under : (maps : Maps) (m key value : ℕ) (ds : List Answer) → AreOf maps ds → All (IsUnder (word_of maps m key) value) ds → All (IsCallUnder m key value) (calls_of maps ds)
 calls_under maps m key value [] are under = All-nil (IsCallUnder m key value)
 calls_under maps m key value (d ∷ ds) are under =
     let of : IsOf maps d = All-head (IsOf maps) d ds are in
     let first : IsUnder (word_of maps m key) value d = All-head (IsUnder (word_of maps m key) value) d ds under in
-    All-cons (IsCallUnder m key value) (call_of maps d) (calls_of maps ds) (λ e f. first (draws_there maps m key d of.0 e f))
+    All-cons (IsCallUnder m key value) (call_of maps d) (calls_of maps ds) (λ e f. first (answers_there maps m key d of.0 e f))
     (calls_under maps m key value ds (All-tail (IsOf maps) d ds are) (All-tail (IsUnder (word_of maps m key) value) d ds under))
 
--- the calls raised a cell to a number as often as the draws did
-raises_alike : (maps : Maps) (m key value : ℕ) → IsInside maps m key → (ds : List Draw) → AreOf maps ds
+-- the calls raised a cell to a number as often as the answers did
+raises_alike : (maps : Maps) (m key value : ℕ) → IsInside maps m key → (ds : List Answer) → AreOf maps ds
     → count_by (asks_raise m key value) (calls_of maps ds) ≡ count_by (is_raise (word_of maps m key) value) ds
 raises_alike maps m key value h [] are = refl
 raises_alike maps m key value h (d ∷ ds) are =
@@ -190,10 +191,10 @@ raises_alike maps m key value h (d ∷ ds) are =
     let of : IsOf maps d = All-head (IsOf maps) d ds are in
     let rest = raises_alike maps m key value h ds (All-tail (IsOf maps) d ds are) in
     let first = ap {B = ℕ} (λ (b : Bool). cond (b && (d.argument == value)) 1 0) (cell_is maps m key h d of.0) in
-    omega (arith, first, rest, sum_by-cons (λ (c : Call). cond (asks_raise m key value c) 1 0) (call_of maps d) (calls_of maps ds), sum_by-cons (λ (x : Draw). cond (is_raise word value x) 1 0) d ds)
+    omega (arith, first, rest, sum_by-cons (λ (c : Call). cond (asks_raise m key value c) 1 0) (call_of maps d) (calls_of maps ds), sum_by-cons (λ (x : Answer). cond (is_raise word value x) 1 0) d ds)
 
--- whoever has all draws of a peak map's cell has the greatest argument of its calls
-pub told_peak : (maps : Maps) (m key value : ℕ) (ds : List Draw) → IsInside maps m key → AreOf maps ds → IsPeak (word_of maps m key) value ds → IsGreatest m key value (calls_of maps ds)
+-- whoever has all answers of a peak map's cell has the greatest argument of its calls
+pub told_peak : (maps : Maps) (m key value : ℕ) (ds : List Answer) → IsInside maps m key → AreOf maps ds → IsPeak (word_of maps m key) value ds → IsGreatest m key value (calls_of maps ds)
 told_peak maps m key value ds h are peak = record {
   under = calls_under maps m key value ds are peak.under;
   reached = λ p. let r = peak.reached p in let e = raises_alike maps m key value h ds are in omega arith;
@@ -201,4 +202,4 @@ told_peak maps m key value ds h are peak = record {
 
 -- the calls of the cells where a seat came back
 pub calls_joined : (it new : CellsValue) (s : CellSeatValue) → IsSeatOf it s → new ≡ cells_with it s → calls_back new ≡ calls_back it ++ calls s
-calls_joined it new s of is = ap calls_back is ∙ rw (of.sizes) (map-append _ it.draws s.draws)
+calls_joined it new s of is = ap calls_back is ∙ rw (of.sizes) (map-append _ it.answers s.answers)

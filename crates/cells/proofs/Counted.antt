@@ -1,4 +1,4 @@
--- What a word counts, and one draw more.
+-- What a word counts, and one answer more.
 use Rattle.std.proofs.Common.{◌≡◌, ◌≢◌, ℕ, ◌+◌, ◌%◌, ◌^◌, ◌≤◌, Bool, true, false, List, [], ◌∷◌, ◌++◌, length, map, refl, sym, ap, ◌∙◌, subst, arith}
 use Rattle.std.specs.Prelude.{All, sum_by, count_by, filter, cond, ◌==◌, ◌&&◌, nat_lt}
 use Rattle.std.proofs.lemmas.List.{length-map, map-append, length-append, append-nil}
@@ -8,45 +8,46 @@ use Rattle.std.proofs.lemmas.List.Elements.{All-push, All-weaker, filter-append}
 use Rattle.std.proofs.lemmas.Bool.{ne_eqb, eq-eqb}
 use Rattle.std.proofs.lemmas.Bool.Decides.{nat_tests}
 use Rattle.std.proofs.Math.Nat.{mod-add-mod}
-use Rattle.cells.specs.declared.hands.Draw.{Draw}
-use Rattle.cells.specs.Draws.{draw, tickets, is_ticket, IsBehind}
+use Rattle.machine.specs.declared.helpers.Helper.TheVariants as helpers
+use Rattle.cells.specs.declared.logs.Answer.{Answer}
+use Rattle.cells.specs.Logs.{answer_of, draws_ticket, tickets, is_ticket, IsBehind}
 use Rattle.cells.specs.Counting.{IsCounted}
 
 -- how often the number stands in the list
 abbrev times : ℕ → List ℕ → ℕ
 times number numbers = count_by (λ k. k == number) numbers
 
--- the tickets are as many as the draws that are tickets
-pub length_tickets : (word : ℕ) (ds : List Draw) → length (tickets word ds) ≡ count_by (is_ticket word) ds
-length_tickets word ds = length-map (filter (is_ticket word) ds) (λ (d : Draw). d.exact) ∙ length-filter (is_ticket word) ds
+-- the tickets are as many as the answers that are tickets
+pub length_tickets : (word : ℕ) (ds : List Answer) → length (tickets word ds) ≡ count_by (is_ticket word) ds
+length_tickets word ds = length-map (filter (is_ticket word) ds) (λ (d : Answer). d.exact) ∙ length-filter (is_ticket word) ds
 
 -- whether it is the ticket of that number
-abbrev is_numbered : (word number : ℕ) → Draw → Bool
+abbrev is_numbered : (word number : ℕ) → Answer → Bool
 is_numbered word number d = is_ticket word d && (d.exact == number)
 
-times_pick : (b : Bool) (d : Draw) (number : ℕ) (ds : List Draw)
-    → times number (map (λ (d : Draw). d.exact) (cond b (d ∷ ds) ds)) ≡ cond (b && (d.exact == number)) 1 0 + times number (map (λ (d : Draw). d.exact) ds)
-times_pick true d number ds = sum_by-cons (λ (k : ℕ). cond (k == number) 1 0) d.exact (map (λ (d : Draw). d.exact) ds)
+times_pick : (b : Bool) (d : Answer) (number : ℕ) (ds : List Answer)
+    → times number (map (λ (d : Answer). d.exact) (cond b (d ∷ ds) ds)) ≡ cond (b && (d.exact == number)) 1 0 + times number (map (λ (d : Answer). d.exact) ds)
+times_pick true d number ds = sum_by-cons (λ (k : ℕ). cond (k == number) 1 0) d.exact (map (λ (d : Answer). d.exact) ds)
 times_pick false d number ds = omega arith
 
--- a number stands among the tickets as often as in the draws
-pub times_tickets : (word number : ℕ) (ds : List Draw) → times number (tickets word ds) ≡ count_by (is_numbered word number) ds
+-- a number stands among the tickets as often as in the answers
+pub times_tickets : (word number : ℕ) (ds : List Answer) → times number (tickets word ds) ≡ count_by (is_numbered word number) ds
 times_tickets word number [] = refl
 times_tickets word number (d ∷ ds) =
     times_pick (is_ticket word d) d number (filter (is_ticket word) ds)
     ∙ ap (λ (n : ℕ). cond (is_numbered word number d) 1 0 + n) (times_tickets word number ds)
-    ∙ sym (sum_by-cons (λ (x : Draw). cond (is_numbered word number x) 1 0) d ds)
+    ∙ sym (sum_by-cons (λ (x : Answer). cond (is_numbered word number x) 1 0) d ds)
 
 -- whatever is counted, it is as often in both
-abbrev pub AreAlike : List Draw → List Draw → Type 0
-AreAlike ds es = (f : Draw → ℕ) → sum_by f es ≡ sum_by f ds
+abbrev pub AreAlike : List Answer → List Answer → Type 0
+AreAlike ds es = (f : Answer → ℕ) → sum_by f es ≡ sum_by f ds
 
-pub length_alike : (word : ℕ) (ds es : List Draw) → AreAlike ds es → length (tickets word es) ≡ length (tickets word ds)
+pub length_alike : (word : ℕ) (ds es : List Answer) → AreAlike ds es → length (tickets word es) ≡ length (tickets word ds)
 length_alike word ds es same = length_tickets word es ∙ same (λ d. cond (is_ticket word d) 1 0) ∙ sym (length_tickets word ds)
 
--- a word that counts some draws counts the same in another order
-pub counted_alike : (word value : ℕ) (ds es : List Draw) → AreAlike ds es
-    → ((P : Draw → Type 0) → All P ds → All P es) → IsCounted word value ds → IsCounted word value es
+-- a word that counts some answers counts the same in another order
+pub counted_alike : (word value : ℕ) (ds es : List Answer) → AreAlike ds es
+    → ((P : Answer → Type 0) → All P ds → All P es) → IsCounted word value ds → IsCounted word value es
 counted_alike word value ds es same facts h =
     let n : length (tickets word es) ≡ length (tickets word ds) = length_alike word ds es same in record {
       counts = h.counts ∙ ap (λ (k : ℕ). k % 2 ^ 64) (sym n);
@@ -55,19 +56,19 @@ counted_alike word value ds es same facts h =
       behind = subst (λ (k : ℕ). All (IsBehind word k) es) (sym n) (facts (IsBehind word (length (tickets word ds))) h.behind);
     }
 
--- the tickets with one draw more
-tickets_push : (word : ℕ) (ds : List Draw) (d : Draw) → tickets word (ds ++ d ∷ []) ≡ tickets word ds ++ tickets word (d ∷ [])
+-- the tickets with one answer more
+tickets_push : (word : ℕ) (ds : List Answer) (d : Answer) → tickets word (ds ++ d ∷ []) ≡ tickets word ds ++ tickets word (d ∷ [])
 tickets_push word ds d =
-    ap (map (λ (d : Draw). d.exact)) (filter-append (is_ticket word) ds (d ∷ []))
-    ∙ map-append (λ (d : Draw). d.exact) (filter (is_ticket word) ds) (filter (is_ticket word) (d ∷ []))
+    ap (map (λ (d : Answer). d.exact)) (filter-append (is_ticket word) ds (d ∷ []))
+    ∙ map-append (λ (d : Answer). d.exact) (filter (is_ticket word) ds) (filter (is_ticket word) (d ∷ []))
 
 -- one that is no ticket of the word
-tickets_same : (word : ℕ) (ds : List Draw) (d : Draw) → is_ticket word d ≡ false → tickets word (ds ++ d ∷ []) ≡ tickets word ds
+tickets_same : (word : ℕ) (ds : List Answer) (d : Answer) → is_ticket word d ≡ false → tickets word (ds ++ d ∷ []) ≡ tickets word ds
 tickets_same word ds d other =
-    tickets_push word ds d ∙ ap (λ (b : Bool). tickets word ds ++ map (λ (d : Draw). d.exact) (cond b (d ∷ []) [])) other ∙ append-nil (tickets word ds)
+    tickets_push word ds d ∙ ap (λ (b : Bool). tickets word ds ++ map (λ (d : Answer). d.exact) (cond b (d ∷ []) [])) other ∙ append-nil (tickets word ds)
 
 -- where the tickets stay as they were, so does the count
-counted_same : (word value : ℕ) (ds : List Draw) (d : Draw) → tickets word (ds ++ d ∷ []) ≡ tickets word ds
+counted_same : (word value : ℕ) (ds : List Answer) (d : Answer) → tickets word (ds ++ d ∷ []) ≡ tickets word ds
     → IsBehind word (length (tickets word ds)) d → IsCounted word value ds → IsCounted word value (ds ++ d ∷ [])
 counted_same word value ds d same new h =
     let n : length (tickets word (ds ++ d ∷ [])) ≡ length (tickets word ds) = ap length same in record {
@@ -76,18 +77,18 @@ counted_same word value ds d same new h =
       behind = subst (λ (k : ℕ). All (IsBehind word k) (ds ++ d ∷ [])) (sym n) (All-push (IsBehind word (length (tickets word ds))) ds d h.behind new);
     }
 
--- a draw of another word
-pub counted_other : (word value : ℕ) (ds : List Draw) (d : Draw) → d.word ≢ word → IsCounted word value ds → IsCounted word value (ds ++ d ∷ [])
+-- an answer of another word
+pub counted_other : (word value : ℕ) (ds : List Answer) (d : Answer) → d.word ≢ word → IsCounted word value ds → IsCounted word value (ds ++ d ∷ [])
 counted_other word value ds d apart h =
     let other : (d.word == word) ≡ false = ne_eqb d.word word apart in
-    let passed : is_ticket word d ≡ false = ap (λ (b : Bool). (d.helper == 2) && b) other ∙ and-false (d.helper == 2) in
+    let passed : is_ticket word d ≡ false = ap (λ (b : Bool). draws_ticket d.helper && b) other ∙ and-false (draws_ticket d.helper) in
     counted_same word value ds d (tickets_same word ds d passed) (λ here. absurd (apart here)) h
 
 -- an answer of `count`
-pub counted_count : (word value answer : ℕ) (ds : List Draw) → IsCounted word value ds
-    → IsCounted word value (ds ++ draw 1 word 0 (length (tickets word ds)) answer ∷ [])
+pub counted_count : (word value answer : ℕ) (ds : List Answer) → IsCounted word value ds
+    → IsCounted word value (ds ++ answer_of helpers.Count word 0 (length (tickets word ds)) answer ∷ [])
 counted_count word value answer ds h =
-    let d = draw 1 word 0 (length (tickets word ds)) answer in
+    let d = answer_of helpers.Count word 0 (length (tickets word ds)) answer in
     counted_same word value ds d (tickets_same word ds d refl) (λ here. omega arith) h
 
 one_more : (number n : ℕ) → cond (nat_lt number n) 1 0 + cond (n == number) 1 0 ≡ cond (nat_lt number (n + 1)) 1 0
@@ -97,13 +98,13 @@ later : {a n : ℕ} → a ≤ n → a ≤ n + 1
 later h = omega arith
 
 -- an answer of `ticket`
-pub counted_ticket : (word value answer : ℕ) (ds : List Draw) → IsCounted word value ds
-    → IsCounted word ((value + 1) % 2 ^ 64) (ds ++ draw 2 word 0 (length (tickets word ds)) answer ∷ [])
+pub counted_ticket : (word value answer : ℕ) (ds : List Answer) → IsCounted word value ds
+    → IsCounted word ((value + 1) % 2 ^ 64) (ds ++ answer_of helpers.Ticket word 0 (length (tickets word ds)) answer ∷ [])
 counted_ticket word value answer ds h =
     let n = length (tickets word ds) in
-    let d : Draw = draw 2 word 0 n answer in
+    let d : Answer = answer_of helpers.Ticket word 0 n answer in
     let more : tickets word (ds ++ d ∷ []) ≡ tickets word ds ++ n ∷ [] =
-    tickets_push word ds d ∙ ap (λ (b : Bool). tickets word ds ++ map (λ (d : Draw). d.exact) (cond b (d ∷ []) [])) (eq-eqb word word refl) in
+    tickets_push word ds d ∙ ap (λ (b : Bool). tickets word ds ++ map (λ (d : Answer). d.exact) (cond b (d ∷ []) [])) (eq-eqb word word refl) in
     let long : length (tickets word (ds ++ d ∷ [])) ≡ n + 1 = ap length more ∙ length-append (tickets word ds) (n ∷ []) in
     record {
       counts = ap (λ (k : ℕ). (k + 1) % 2 ^ 64) h.counts ∙ mod-add-mod n (2 ^ 64) 1 ∙ ap (λ (k : ℕ). k % 2 ^ 64) (sym long);

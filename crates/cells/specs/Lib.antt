@@ -1,3 +1,3 @@
-pub mod Draws
+pub mod Logs
 pub mod Counting
 pub mod Seats

@@ -5,35 +5,36 @@ use Rattle.atomic_table.specs.Seated.{TableId}
 use Rattle.atomic_table.specs.declared.shared.Seat.{Seat}
 use Rattle.machine.specs.Sizes.{Maps, AreSizes, kind_of_map}
 use Rattle.machine.specs.declared.calls.Call.{Call}
+use Rattle.machine.specs.declared.helpers.Helper.{Helper}
 use Rattle.machine.specs.declared.kinds.MapKind.TheVariants.{Counter}
 use Rattle.machine.specs.Runs.{call}
 use Rattle.machine.specs.Step.{question}
-use Rattle.cells.specs.declared.hands.Draw.{Draw}
-use Rattle.cells.specs.declared.hands.Hand.{Hand}
-use Rattle.cells.specs.Draws.{calls_of, tickets_of, word_of, kind_at, AreNumbersBelow, IsGreatest}
-use Rattle.cells.specs.Counting.{IsDrawn}
+use Rattle.cells.specs.declared.logs.Answer.{Answer}
+use Rattle.cells.specs.declared.logs.SeatLog.{SeatLog}
+use Rattle.cells.specs.Logs.{calls_of, tickets_of, word_of, kind_at, AreNumbersBelow, IsGreatest}
+use Rattle.cells.specs.Counting.{IsAnswered}
 
--- a seat: the maps, the name of its table, and what it drew
+-- a seat: the maps, the name of its table, and its answers
 pub record CellSeatValue : Type 0 where
   pub sizes : Maps
   pub home : Gv
-  pub draws : List Draw
+  pub answers : List Answer
 
--- a seat of that table, for those maps, with those draws
-abbrev pub seat : Maps → Gv → List Draw → CellSeatValue
-seat sizes home draws = record { sizes = sizes; home = home; draws = draws }
+-- a seat of that table, for those maps, with those answers
+abbrev pub seat : Maps → Gv → List Answer → CellSeatValue
+seat sizes home answers = record { sizes = sizes; home = home; answers = answers }
 
 -- the cells: the maps, the name of their table, how many of the 256 parts are not with seats, and
--- what the seats drew that came back
+-- the answers of the seats that came back
 pub record CellsValue : Type 0 where
   pub sizes : Maps
   pub home : Gv
   pub parts : ℕ
-  pub draws : List Draw
+  pub answers : List Answer
 
--- the cells of that table, for those maps, with so many parts and those draws
-abbrev pub cells : Maps → Gv → ℕ → List Draw → CellsValue
-cells sizes home parts draws = record { sizes = sizes; home = home; parts = parts; draws = draws }
+-- the cells of that table, for those maps, with so many parts and those answers
+abbrev pub cells : Maps → Gv → ℕ → List Answer → CellsValue
+cells sizes home parts answers = record { sizes = sizes; home = home; parts = parts; answers = answers }
 
 -- the seat is one of these cells
 pub record IsSeatOf (it : CellsValue) (s : CellSeatValue) : Type 0 where
@@ -46,22 +47,27 @@ IsWhole it = it.parts ≡ 256
 
 -- the calls of a seat
 abbrev pub calls : CellSeatValue → List Call
-calls s = calls_of s.sizes s.draws
+calls s = calls_of s.sizes s.answers
 
--- the seat asked once more: a helper answered it, and drew as the rule of the words says
-pub record Asks (helper map key argument : ℕ) (before : CellSeatValue) (answer : ℕ) (after : CellSeatValue) : Type 0 where
-  pub asked : calls after ≡ calls before ++ call (question helper map key argument) answer ∷ []
-  pub sizes : after.sizes ≡ before.sizes
-  pub home : after.home ≡ before.home
-  pub drawn : IsDrawn (kind_of_map before.sizes map) helper (word_of before.sizes map key) argument before.draws answer after.draws
+-- the seat asked once more: a helper answered it, as the rule of the words says
+pub record Asks (helper : Helper) (map key argument : ℕ) (before : CellSeatValue) (answer : ℕ) (after : CellSeatValue) :
+    Type 0
+  where
+    pub asked : calls after ≡ calls before ++ call (question helper map key argument) answer ∷ []
+    pub sizes : after.sizes ≡ before.sizes
+    pub home : after.home ≡ before.home
+    pub answered : IsAnswered (kind_of_map before.sizes map) helper (word_of before.sizes map key) argument
+        before.answers
+        answer
+        after.answers
 
 -- the cells where that seat came back
 abbrev pub cells_with : CellsValue → CellSeatValue → CellsValue
-cells_with it s = cells it.sizes it.home (it.parts + 1) (it.draws ++ s.draws)
+cells_with it s = cells it.sizes it.home (it.parts + 1) (it.answers ++ s.answers)
 
 -- the calls of the seats that came back
 abbrev pub calls_back : CellsValue → List Call
-calls_back it = calls_of it.sizes it.draws
+calls_back it = calls_of it.sizes it.answers
 
 -- the tickets of a cell that came back are the numbers below n, each once, where fewer than 2^64 came back
 abbrev pub AreNumbered : CellsValue → (map key n : ℕ) → Type 0
@@ -72,21 +78,21 @@ AreNumbered it map key n =
 abbrev pub IsHighest : CellsValue → (map key n : ℕ) → Type 0
 IsHighest it map key n = IsGreatest map key n (calls_back it)
 
--- the draw is of one of these cells, and its answer is its number modulo 2^64, where the cell counts
-abbrev pub IsOf : Maps → Draw → Type 0
-IsOf maps d = (d.word < sum maps.cells) × (kind_at maps d.word ≡ Counter → d.answer ≡ d.exact % 2 ^ 64)
+-- the answer is of one of these cells, and what it told is its number modulo 2^64, where the cell counts
+abbrev pub IsOf : Maps → Answer → Type 0
+IsOf maps a = (a.word < sum maps.cells) × (kind_at maps a.word ≡ Counter → a.told ≡ a.exact % 2 ^ 64)
 
--- each draw is of one of the cells, and its answer is its number modulo 2^64, where the cell counts
-abbrev pub AreOf : Maps → List Draw → Type 0
-AreOf maps draws = All (IsOf maps) draws
+-- each answer is of one of the cells, and what it told is its number modulo 2^64, where the cell counts
+abbrev pub AreOf : Maps → List Answer → Type 0
+AreOf maps answers = All (IsOf maps) answers
 
--- the place stands in a table of these cells, which has one word more; it has no slots, and its draws are of
+-- the place stands in a table of these cells, which has one word more; it has no slots, and its answers are of
 -- these cells
-pub record IsPlaced (maps about : Maps) (table : TableId) (place : Seat (Unit {0}) Hand) : Type 0 where
+pub record IsPlaced (maps about : Maps) (table : TableId) (place : Seat (Unit {0}) SeatLog) : Type 0 where
   pub limits : AreSizes maps
   pub key : about ≡ maps
   pub words : table.words ≡ sum maps.cells + 1
   pub home : place.table_id ≡ table
   pub slots : place.me.1 ≡ []
-  pub hand : place.me.0.maps ≡ maps
-  pub draws : AreOf maps place.me.0.draws
+  pub log : place.me.0.maps ≡ maps
+  pub answers : AreOf maps place.me.0.answers

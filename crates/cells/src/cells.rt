@@ -5,11 +5,11 @@ ghost use Rattle.std.specs.Arc.{arc_value};
 ghost use Rattle.atomic_table.specs.Seated.{table_id_coded};
 ghost use Rattle.machine.specs.Sizes.{IsInside, kind_of_map};
 ghost use Rattle.machine.specs.declared.kinds.MapKind.TheVariants.{Counter, Peak};
-ghost use Rattle.cells.specs.Counting.{hand, IsAhead, IsCounted, IsPeak};
-ghost use Rattle.cells.specs.Draws.{word_of, IsUnder};
+ghost use Rattle.cells.specs.Counting.{seat_log, IsCounted, IsPeak};
+ghost use Rattle.cells.specs.Logs.{word_of, IsUnder};
 ghost use Rattle.cells.specs.Seats.{seat, calls, calls_back, cells, cells_with, AreNumbered, IsHighest, IsPlaced, IsSeatOf, IsWhole};
 
-use crate::hands::Hand;
+use crate::logs::SeatLog;
 use crate::rule::{Heights, Parts, Totals, Words};
 use crate::seats::CellSeat;
 use crate::words::{first_word, word_at};
@@ -27,7 +27,7 @@ const MOST: usize = 257;
 pub struct Cells {
     sizes: MapSizes,
     words: Arc<Words>,
-    rest: Seat<(), Hand>,
+    rest: Seat<(), SeatLog>,
 }
 
 impl Model for Cells {
@@ -37,7 +37,7 @@ impl Model for Cells {
 
     ghost Value = { CellsValue };
 
-    ghost view = { λ s. cells s.sizes (table_id_coded.code s.rest.table_id) s.rest.me.0.parts s.rest.me.0.draws };
+    ghost view = { λ s. cells s.sizes (table_id_coded.code s.rest.table_id) s.rest.me.0.parts s.rest.me.0.answers };
 
     ghost invariant = { λ s. IsPlaced s.sizes (arc_value s.words).shared.key (arc_value s.words).shared.table_id s.rest };
 }
@@ -50,10 +50,10 @@ fn zeros() -> [u64; MOST]
 }
 
 /// The words of these maps, each 0, and the one place in them, which has all parts.
-fn words(alloc: Global, sizes: &MapSizes) -> Result<(Words, Seat<(), Hand>), AllocError>
+fn words(alloc: Global, sizes: &MapSizes) -> Result<(Words, Seat<(), SeatLog>), AllocError>
     ensures placed { IfOk result
         (λ made. IsPlaced sizes.now made.0.shared.key made.0.shared.table_id made.1) }
-    ensures whole { IfOk result (λ made. made.1.me.0 ≡ hand sizes.now 256 []) }
+    ensures whole { IfOk result (λ made. made.1.me.0 ≡ seat_log sizes.now 256 []) }
 {
     let zeros = zeros();
     let zeros: &[u64] = &zeros;
@@ -65,17 +65,17 @@ fn words(alloc: Global, sizes: &MapSizes) -> Result<(Words, Seat<(), Hand>), All
 fn new_seat(
     sizes: &MapSizes,
     words: &Arc<Words>,
-    rest: &mut Seat<(), Hand>,
+    rest: &mut Seat<(), SeatLog>,
 ) -> Result<CellSeat, AllocError>
     requires placed { IsPlaced sizes.now (arc_value words.now).shared.key
         (arc_value words.now).shared.table_id rest.old }
-    requires fresh { rest.old.me.0.draws ≡ [] }
+    requires fresh { rest.old.me.0.answers ≡ [] }
     requires part { 0 < rest.old.me.0.parts }
     ensures seat { IfOk result
         (λ s. s ≡ seat sizes.now (table_id_coded.code rest.old.table_id) []) }
     ensures home { rest.new.table_id ≡ rest.old.table_id }
     ensures slots { rest.new.me.1 ≡ [] }
-    ensures rest { IfOk result (λ s. rest.new.me.0 ≡ hand sizes.now (rest.old.me.0.parts - 1) []) }
+    ensures rest { IfOk result (λ s. rest.new.me.0 ≡ seat_log sizes.now (rest.old.me.0.parts - 1) []) }
 {
     let shared = Arc::try_clone(words)?;
     let place = words.shared.split_seat::<Parts>(rest);
@@ -116,7 +116,7 @@ impl Cells {
         Ok((cells, places))
     }
 
-    /// Takes back a seat of these cells, with what it drew.
+    /// Takes back a seat of these cells, with what it was told.
     #[tactic(auto, using(crate::proofs::CellsOfWords::calls_joined))]
     pub fn take_back(&mut self, seat: CellSeat)
         requires { IsSeatOf self.old seat }
@@ -136,9 +136,8 @@ impl Cells {
         requires inside { IsInside self.old.sizes map key }
         requires kind { kind_of_map self.old.sizes map ≡ Counter }
         ensures same { self.new ≡ self.old }
-        ensures ahead { IsAhead (word_of self.old.sizes map key) result self.old.draws }
         ensures counted { IsWhole self.old
-            → IsCounted (word_of self.old.sizes map key) result self.old.draws }
+            → IsCounted (word_of self.old.sizes map key) result self.old.answers }
         ensures tickets { IsWhole self.old → AreNumbered self.old map key result }
     {
         let word = word_at(&self.sizes, map, key);
@@ -154,9 +153,9 @@ impl Cells {
         requires inside { IsInside self.old.sizes map key }
         requires kind { kind_of_map self.old.sizes map ≡ Peak }
         ensures same { self.new ≡ self.old }
-        ensures above { All (IsUnder (word_of self.old.sizes map key) result) self.old.draws }
+        ensures above { All (IsUnder (word_of self.old.sizes map key) result) self.old.answers }
         ensures peak { IsWhole self.old
-            → IsPeak (word_of self.old.sizes map key) result self.old.draws }
+            → IsPeak (word_of self.old.sizes map key) result self.old.answers }
         ensures calls { IsWhole self.old → IsHighest self.old map key result }
     {
         let word = word_at(&self.sizes, map, key);

@@ -1,19 +1,22 @@
-//! Counter words that any number of threads count in, without a lock.
+//! The cells of a node's maps, as words that any number of threads ask, without a lock.
 //!
-//! [`Cells::new`] makes a word for each cell of a node's maps, and seats, one for each thread that counts. A
-//! [`CellSeat`] counts as `brun::Counters` says: `count` is one load of the cell's word, `ticket` one
-//! `fetch_add`, and neither waits for another thread. What a seat drew stands in proofs alone.
+//! [`Cells::new`] makes a word for each cell of a node's maps, and seats, one for each thread that asks. A
+//! [`CellSeat`] answers as `brun::Counters` says: `count` is one load of the cell's word, `ticket` one
+//! `fetch_add` and `peak` one `fetch_max`, and none waits for another thread. What a seat was told stands in
+//! proofs alone, in its [`SeatLog`].
 //!
 //! The tickets of all seats for a cell are the numbers below its word, each once (modulo 2^64 from 2^64 tickets
-//! on; `IsCounted` in `specs/`), whatever the threads do. [`Cells::take_back`] and [`Cells::drawn`] say so where every seat came back.
+//! on; `IsCounted` in `specs/`), whatever the threads do. [`Cells::take_back`] and [`Cells::drawn`] say so where
+//! every seat came back. The word of a peak map's cell is the greatest number that it was raised to (`IsPeak`), as
+//! [`Cells::highest`] says.
 #![tactic(auto)]
 
 mod cells;
-mod hands;
+mod logs;
 mod rule;
 mod seats;
 mod words;
 
 pub use cells::Cells;
-pub use hands::{Draw, Hand};
+pub use logs::{Answer, SeatLog};
 pub use seats::CellSeat;

@@ -1,47 +1,49 @@
 //! The rule of the words, and what the steps on them tell.
 
-use crate::hands::Hand;
+use crate::logs::SeatLog;
 use atomic_table::{Join, Play, Split, Table, TableRule};
 use machine::MapSizes;
 use std::alloc::Global;
 
 /// The words, in a table that has no slots.
-pub(crate) type Words = Table<(), Hand, MapSizes, Ruled, Global>;
+pub(crate) type Words = Table<(), SeatLog, MapSizes, Ruled, Global>;
 
 /// The rule of the words, for these maps.
 pub(crate) struct Ruled;
 
-impl TableRule<(), Hand, MapSizes> for Ruled {
+impl TableRule<(), SeatLog, MapSizes> for Ruled {
     ghost use Rattle.std.specs.Prelude.{[]};
-    ghost use Rattle.cells.specs.Counting.{IsTable, hand};
+    ghost use Rattle.cells.specs.Counting.{IsTable, seat_log};
 
     ghost holds = { IsTable };
 
-    ghost first = { λ maps. hand maps 256 [] };
+    ghost first = { λ maps. seat_log maps 256 [] };
 }
 
 /// A step that answers `count`.
 pub(crate) struct Counts;
 
-impl Play<(), Hand> for Counts {
+impl Play<(), SeatLog> for Counts {
+    ghost use Rattle.machine.specs.declared.helpers.Helper.TheVariants as helpers;
     ghost use Rattle.cells.specs.Counting.{Answers};
 
-    ghost then = { Answers 1 };
+    ghost then = { Answers helpers.Count };
 }
 
 /// A step that answers `ticket`.
 pub(crate) struct Tickets;
 
-impl Play<(), Hand> for Tickets {
+impl Play<(), SeatLog> for Tickets {
+    ghost use Rattle.machine.specs.declared.helpers.Helper.TheVariants as helpers;
     ghost use Rattle.cells.specs.Counting.{Answers};
 
-    ghost then = { Answers 2 };
+    ghost then = { Answers helpers.Ticket };
 }
 
 /// A step that answers `peak`.
 pub(crate) struct Peaks;
 
-impl Play<(), Hand> for Peaks {
+impl Play<(), SeatLog> for Peaks {
     ghost use Rattle.cells.specs.Counting.{Raises};
 
     ghost then = { Raises };
@@ -50,7 +52,7 @@ impl Play<(), Hand> for Peaks {
 /// A step that tells how many tickets were drawn.
 pub(crate) struct Totals;
 
-impl Play<(), Hand> for Totals {
+impl Play<(), SeatLog> for Totals {
     ghost use Rattle.cells.specs.Counting.{Tells};
 
     ghost then = { Tells };
@@ -59,7 +61,7 @@ impl Play<(), Hand> for Totals {
 /// A step that tells what a word was raised to.
 pub(crate) struct Heights;
 
-impl Play<(), Hand> for Heights {
+impl Play<(), SeatLog> for Heights {
     ghost use Rattle.cells.specs.Counting.{TellsPeak};
 
     ghost then = { TellsPeak };
@@ -68,20 +70,20 @@ impl Play<(), Hand> for Heights {
 /// A seat gives one of its parts to a new one.
 pub(crate) struct Parts;
 
-impl Split<Hand> for Parts {
+impl Split<SeatLog> for Parts {
     ghost use Rattle.std.specs.Prelude.{◌-◌, []};
-    ghost use Rattle.cells.specs.Counting.{hand};
+    ghost use Rattle.cells.specs.Counting.{seat_log};
 
-    ghost left = { λ h. hand h.maps (h.parts - 1) h.draws };
+    ghost left = { λ log. seat_log log.maps (log.parts - 1) log.answers };
 
-    ghost right = { λ h. hand h.maps 1 [] };
+    ghost right = { λ log. seat_log log.maps 1 [] };
 }
 
-impl Join<Hand> for Parts {
+impl Join<SeatLog> for Parts {
     ghost use Rattle.std.specs.Prelude.{◌+◌, ◌++◌};
-    ghost use Rattle.cells.specs.Counting.{hand, spent_hand};
+    ghost use Rattle.cells.specs.Counting.{seat_log, spent_log};
 
-    ghost both = { λ h other. hand h.maps (h.parts + other.parts) (h.draws ++ other.draws) };
+    ghost both = { λ log other. seat_log log.maps (log.parts + other.parts) (log.answers ++ other.answers) };
 
-    ghost spent = { spent_hand };
+    ghost spent = { spent_log };
 }

@@ -3,10 +3,11 @@
 ghost use Rattle.std.specs.Prelude.{◌≡◌, max};
 ghost use Rattle.std.specs.Arc.{arc_value};
 ghost use Rattle.machine.specs.Sizes.{AreSizes, IsInside, kind_of_map};
+ghost use Rattle.machine.specs.declared.helpers.Helper.TheVariants as helpers;
 ghost use Rattle.machine.specs.declared.kinds.MapKind.TheVariants.{Counter, Peak};
 ghost use Rattle.cells.specs.Seats.{Asks};
 
-use crate::hands::Hand;
+use crate::logs::SeatLog;
 use crate::rule::{Counts, Peaks, Tickets, Words};
 use crate::words::word_at;
 use atomic_table::Seat;
@@ -15,8 +16,8 @@ use machine::MapSizes;
 use std::marker::Model;
 use std::sync::Arc;
 
-/// A seat, by which a thread counts and raises. Contracts see it as the maps, the name of its table, and what it
-/// drew.
+/// A seat, by which a thread counts and raises. Contracts see it as the maps, the name of its table, and the answers
+/// that it was given.
 ///
 /// A seat that is dropped takes along what is known of its tickets: their numbers are simply missing among
 /// those of the others. What it raised stays in the words.
@@ -24,7 +25,7 @@ use std::sync::Arc;
 pub struct CellSeat {
     pub(crate) sizes: MapSizes,
     pub(crate) words: Arc<Words>,
-    pub(crate) place: Seat<(), Hand>,
+    pub(crate) place: Seat<(), SeatLog>,
 }
 
 impl Model for CellSeat {
@@ -36,7 +37,7 @@ impl Model for CellSeat {
 
     ghost Value = { CellSeatValue };
 
-    ghost view = { λ s. seat s.sizes (table_id_coded.code s.place.table_id) s.place.me.0.draws };
+    ghost view = { λ s. seat s.sizes (table_id_coded.code s.place.table_id) s.place.me.0.answers };
 
     ghost invariant = { λ s. IsPlaced s.sizes (arc_value s.words).shared.key (arc_value s.words).shared.table_id s.place × (s.place.me.0.parts ≡ 1) };
 }
@@ -45,7 +46,7 @@ impl CellSeat {
     /// One load of the word of a cell.
     fn load(&mut self, map: u8, key: u16) -> u64
         requires { IsInside self.old.sizes map key }
-        ensures asks { Asks 1 map key 0 self.old result self.new }
+        ensures asks { Asks helpers.Count map key 0 self.old result self.new }
     {
         let word = word_at(&self.sizes, map, key);
         self.words.shared.load::<Counts>(&mut self.place, word)
@@ -55,7 +56,7 @@ impl CellSeat {
     fn fetch_add(&mut self, map: u8, key: u16) -> u64
         requires inside { IsInside self.old.sizes map key }
         requires kind { kind_of_map self.old.sizes map ≡ Counter }
-        ensures asks { Asks 2 map key 0 self.old result self.new }
+        ensures asks { Asks helpers.Ticket map key 0 self.old result self.new }
     {
         let word = word_at(&self.sizes, map, key);
         self.words
@@ -67,7 +68,7 @@ impl CellSeat {
     fn fetch_max(&mut self, map: u8, key: u16, value: u64) -> u64
         requires inside { IsInside self.old.sizes map key }
         requires kind { kind_of_map self.old.sizes map ≡ Peak }
-        ensures asks { Asks 3 map key value self.old (max result value) self.new }
+        ensures asks { Asks helpers.Peak map key value self.old (max result value) self.new }
     {
         let word = word_at(&self.sizes, map, key);
         self.words
@@ -94,7 +95,7 @@ impl Counters for CellSeat {
 
     fn count(&mut self, map: u8, key: u16) -> u64
         requires { IsInside self.old.sizes map key }
-        ensures asks { Asks 1 map key 0 self.old result self.new }
+        ensures asks { Asks helpers.Count map key 0 self.old result self.new }
     {
         self.load(map, key)
     }
@@ -102,7 +103,7 @@ impl Counters for CellSeat {
     fn ticket(&mut self, map: u8, key: u16) -> u64
         requires inside { IsInside self.old.sizes map key }
         requires kind { kind_of_map self.old.sizes map ≡ Counter }
-        ensures asks { Asks 2 map key 0 self.old result self.new }
+        ensures asks { Asks helpers.Ticket map key 0 self.old result self.new }
     {
         self.fetch_add(map, key)
     }
@@ -110,7 +111,7 @@ impl Counters for CellSeat {
     fn peak(&mut self, map: u8, key: u16, value: u64) -> u64
         requires inside { IsInside self.old.sizes map key }
         requires kind { kind_of_map self.old.sizes map ≡ Peak }
-        ensures asks { Asks 3 map key value self.old result self.new }
+        ensures asks { Asks helpers.Peak map key value self.old result self.new }
     {
         let found = self.fetch_max(map, key, value);
         found.max(value)

@@ -2,7 +2,7 @@
 
 ghost use Rattle.std.specs.Prelude.{◌≡◌, ◌≤◌, ◌<◌, length, sum, take};
 ghost use Rattle.machine.specs.Sizes.{IsInside};
-ghost use Rattle.cells.specs.Draws.{word_of};
+ghost use Rattle.cells.specs.Logs.{word_of};
 
 use machine::MapSizes;
 

@@ -1,40 +1,26 @@
--- What the job `why` prints, by its exit status; and that no other job prints behind the line of a fault.
-use Rattle.std.proofs.Common.{◌≡◌, ◌∷◌, ◌++◌, ℕ, zero, suc, List, [], Option, Some, None, refl, sym, ap, subst, string_bytes}
+-- What stands behind the line of a fault, and what the job `why` prints.
+use Rattle.std.proofs.Common.{◌≡◌, ◌∷◌, ◌++◌, ℕ, zero, suc, Bool, true, false, List, [], Option, Some, None, refl, sym, subst, string_bytes}
+use Rattle.std.specs.Prelude.{Result, Ok, Err, IfErr}
 use Rattle.std.proofs.lemmas.List.{append-nil}
 use Rattle.std.specs.Io.KnownBytes.{Appends}
-use Rattle.bpf.specs.Program.{Program}
-use Rattle.commands.specs.Explained.{ExplainsFile, ExplainsProgram}
-use Rattle.commands.specs.Files.{Reads, Writes, HoldsImage}
+use Rattle.job_parts.specs.Files.{Reads, Writes}
+use Rattle.job_parts.specs.Printed.{PrintsMore}
+use Rattle.job_parts.specs.Stops.{StopsBy}
+use Rattle.job_parts.specs.declared.faults.Fault.{Fault}
+use Rattle.job_parts.specs.declared.stops.Halt.{Halt}
+use Rattle.job_parts.specs.declared.stops.Halt.TheVariants.{Ended, Unwritten}
+use Rattle.job_texts.specs.Explained.{ExplainsFile}
+use Rattle.job_texts.specs.MadePackets.{MakesFile}
+use Rattle.job_texts.specs.declared.packet.PacketWords.{PacketWords}
+use Rattle.job_texts.specs.declared.images.ImageArgs.{ImageArgs}
 use Rattle.commands.specs.Performed.{IsLeftBehind, Performs}
-use Rattle.commands.specs.Printed.{PrintsMore}
-use Rattle.commands.specs.declared.faults.Fault.TheVariants.{Unfit}
-use Rattle.commands.specs.declared.jobs.Job.{Job}
-use Rattle.commands.specs.declared.jobs.Job.TheVariants.{Judge, Assemble, Disassemble, Verify, Policy, Serve, Simulate, Explain, Why}
-use Rattle.commands.specs.declared.why.WhyWords.{WhyWords}
-
--- what was printed of the program in the file is what `why` prints of the file
-pub explains_file : {S : Type 0} (reads : Reads S) (words : WhyWords) (before after : S) (p : Program) (old new : Option (List ℕ)) (status : ℕ)
-    → HoldsImage reads before (string_bytes words.image) p after → ExplainsProgram p words.sizes old new status
-    → ExplainsFile reads words before after old new status
-explains_file reads words before after p old new zero held told = record {
-  program = p;
-  image = held;
-  justified = told.justified;
-  safe = told.safe;
-  line = told.line;
-}
-explains_file reads words before after p old new (suc zero) held told = record {
-  fault = Unfit told.0;
-  ended = (p, held);
-  told = told.1;
-}
-explains_file reads words before after p old new (suc (suc n)) held told = told
+use Rattle.commands.specs.declared.jobs.Job.TheVariants.{Packet, Why}
 
 -- what `why` prints of a file is what the job has to print
-pub performs_why : {S : Type 0} (reads : Reads S) (writes : Writes S) (words : WhyWords) (before after : S) (old new : Option (List ℕ)) (status : ℕ)
-    → ExplainsFile reads words before after old new status → Performs reads writes (Why words) before after old new status
-performs_why reads writes words before after old new zero told = told
-performs_why reads writes words before after old new (suc zero) told = record {
+pub performs_why : {S : Type 0} (reads : Reads S) (writes : Writes S) (args : ImageArgs) (before after : S) (old new : Option (List ℕ)) (status : ℕ)
+    → ExplainsFile reads args before after old new status → Performs reads writes (Why args) before after old new status
+performs_why reads writes args before after old new zero told = told
+performs_why reads writes args before after old new (suc zero) told = record {
   fault = told.fault;
   printed = old;
   ended = (told.ended, refl);
@@ -42,7 +28,23 @@ performs_why reads writes words before after old new (suc zero) told = record {
   line = told.told.line;
   behind = told.told.more;
 }
-performs_why reads writes words before after old new (suc (suc n)) told = told
+performs_why reads writes args before after old new (suc (suc zero)) told = told
+performs_why reads writes args before after old new (suc (suc (suc n))) told = told
+
+-- what `packet` does by its words is what the job has to do
+pub performs_packet : {S : Type 0} (reads : Reads S) (writes : Writes S) (words : PacketWords) (before after : S) (old new : Option (List ℕ)) (status : ℕ)
+    → MakesFile reads words before after old new status → Performs reads writes (Packet words) before after old new status
+performs_packet reads writes words before after old new zero made = made
+performs_packet reads writes words before after old new (suc zero) made = record {
+  fault = made.fault;
+  printed = old;
+  ended = (made.ended, refl);
+  told = new;
+  line = made.line;
+  behind = refl;
+}
+performs_packet reads writes words before after old new (suc (suc zero)) made = made
+performs_packet reads writes words before after old new (suc (suc (suc n))) made = made
 
 -- what holds as much as before holds no less
 same_more : (held : Option (List ℕ)) → Appends held held []
@@ -50,13 +52,15 @@ same_more None = tt
 same_more (Some bytes) = sym (append-nil bytes)
 
 -- where nothing was printed behind the line of a fault, that is right of every job
-pub left_behind : (job : Job) (told new : Option (List ℕ)) → new ≡ told → IsLeftBehind job told new
-left_behind (Judge words) told new same = same
-left_behind (Assemble words) told new same = same
-left_behind (Disassemble words) told new same = same
-left_behind (Verify words) told new same = same
-left_behind (Policy words) told new same = same
-left_behind (Serve words) told new same = same
-left_behind (Simulate words) told new same = same
-left_behind (Explain words) told new same = same
-left_behind (Why words) told new same = subst (λ (held : Option (List ℕ)). PrintsMore told held) (sym same) ([], same_more told)
+pub left_behind : (explains : Bool) (told new : Option (List ℕ)) → new ≡ told → IsLeftBehind explains told new
+left_behind true told new same = subst (λ (held : Option (List ℕ)). PrintsMore told held) (sym same) ([], same_more told)
+left_behind false told new same = same
+
+-- A job that stops for both.
+both_stop : (P Q : Fault → Type 0) (stop : Halt) → StopsBy P stop → StopsBy Q stop → StopsBy (λ fault. P fault × Q fault) stop
+both_stop P Q (Ended fault) p q = (p, q)
+both_stop P Q (Unwritten refused) p q = tt
+
+pub both_stops : {T : Type 0} (P Q : Fault → Type 0) (r : Result T Halt) → IfErr r (StopsBy P) → IfErr r (StopsBy Q) → IfErr r (StopsBy (λ fault. P fault × Q fault))
+both_stops P Q (Ok done) p q = tt
+both_stops P Q (Err stop) p q = both_stop P Q stop p q

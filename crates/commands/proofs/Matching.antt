@@ -1,6 +1,6 @@
 -- From what clap found to what the words name.
-use Rattle.std.proofs.Common.{◌≡◌, inl, inr, subst, List, [], true, refl}
-use Rattle.clap.specs.Walk.{Text}
+use Rattle.std.proofs.Common.{◌≡◌, inl, inr, subst, sym, List, [], Option, Some, true, refl, codes, rules}
+use Rattle.clap.specs.Walk.{Row, Text}
 use Rattle.clap.specs.Simple.{is_simple}
 use Rattle.clap.specs.Faults.{fault_of, is_simple_and_free}
 use Rattle.clap.specs.Kinds.{HasKind, IsAmong, Kinds}
@@ -8,9 +8,10 @@ use Rattle.clap.specs.Values.{kind_of}
 use Rattle.clap.proofs.OnLiterals.{clap_on_literals}
 use Rattle.clap.specs.declared.error.kind.ErrorKind.TheVariants.{OutOfMemory}
 use Rattle.clap.specs.declared.error.Error.{Error}
-use Rattle.commands.specs.CommandLine.{rmapctl_app, subcommand_in, AreTaken, NamesNone, LacksJob, TellsRefusal}
-use Rattle.commands.specs.declared.usage.UsageFault.{UsageFault}
-use Rattle.commands.specs.declared.usage.UsageFault.TheVariants.{Parse, BadOption, Memory}
+use Rattle.commands.specs.CommandLine.{rmapctl_app, subcommand_in, AreTaken, NamesNone, IsIncomplete, LacksJob, TellsRefusal}
+use Rattle.job_texts.specs.PacketJob.{RefusesPacket}
+use Rattle.job_parts.specs.declared.usage.UsageFault.{UsageFault}
+use Rattle.job_parts.specs.declared.usage.UsageFault.TheVariants.{Parse, BadOption, Memory}
 
 pub is_simple-rmapctl_app : is_simple rmapctl_app ≡ true
 unfolding clap_on_literals rmapctl_app
@@ -37,3 +38,22 @@ pub refused_words : (words : List Text) (e : Error) (fault : UsageFault) → Tel
 refused_words words e (Parse text) told h = has_kind _ e told h
 refused_words words e BadOption told h = absurd told
 refused_words words e Memory told h = told
+
+-- the matches of the words of no packet name no job
+pub lacks_packet : (found : Option (Text × List Row)) (rows : List Row) (fault : UsageFault)
+    → found ≡ Some (codes "packet", rows) → RefusesPacket rows fault → LacksJob found fault
+lacks_packet found rows Memory is refuses = tt
+lacks_packet found rows BadOption is refuses = subst IsIncomplete (sym is) (record {
+  asm = λ h. absurd (search rules);
+  dis = λ h. absurd (search rules);
+  verify = λ h. absurd (search rules);
+  judge = λ h. absurd (search rules);
+  policy = λ h. absurd (search rules);
+  serve = λ h. absurd (search rules);
+  sim = λ h. absurd (search rules);
+  explain = λ h. absurd (search rules);
+  why = λ h. absurd (search rules);
+  packet = λ h. refuses;
+  show = λ h. absurd (search rules);
+})
+lacks_packet found rows (Parse text) is refuses = refuses

@@ -5,19 +5,35 @@ use Rattle.clap.specs.Simple.{App, Shape, new_app, on_top, with_subcommand, subc
 use Rattle.clap.specs.Faults.{fault_of}
 use Rattle.clap.specs.declared.error.kind.ErrorKind.{ErrorKind}
 use Rattle.clap.specs.declared.error.kind.ErrorKind.TheVariants.{OutOfMemory}
-use Rattle.commands.specs.AsmJob.{asm_app, NamesAsm}
-use Rattle.commands.specs.DisJob.{dis_app, NamesDis}
-use Rattle.commands.specs.ExplainJob.{explain_app, NamesExplain, SpoilsExplain}
-use Rattle.commands.specs.VerifyJob.{verify_app, NamesVerify, SpoilsVerify}
-use Rattle.commands.specs.JudgeJob.{judge_app, NamesJudge, SpoilsJudge}
-use Rattle.commands.specs.PolicyJob.{policy_app, NamesPolicy, SpoilsPolicy}
-use Rattle.commands.specs.ServeJob.{serve_app, NamesServe, SpoilsServe}
-use Rattle.commands.specs.SimJob.{sim_app, NamesSim}
-use Rattle.commands.specs.WhyJob.{why_app, NamesWhy}
+use Rattle.job_parts.specs.Lines.{NamesLines, SpoilsLines}
+use Rattle.job_texts.specs.AsmJob.{asm_app, NamesAsm}
+use Rattle.job_texts.specs.DisJob.{dis_app, NamesDis}
+use Rattle.job_texts.specs.ExplainJob.{explain_app, NamesExplain, SpoilsExplain}
+use Rattle.job_texts.specs.Images.{NamesImage, SpoilsImage}
+use Rattle.job_texts.specs.PacketJob.{packet_app, NamesPacket, SpoilsPacket}
+use Rattle.job_texts.specs.PolicyJob.{policy_app, NamesPolicy, SpoilsPolicy}
+use Rattle.job_texts.specs.ShowJob.{show_app, NamesShow}
+use Rattle.job_texts.specs.VerifyJob.{verify_app}
+use Rattle.job_texts.specs.WhyJob.{why_app}
+use Rattle.job_nodes.specs.JudgeJob.{judge_app}
+use Rattle.job_nodes.specs.SimJob.{sim_app}
+use Rattle.job_ports.specs.ServeJob.{serve_app}
 use Rattle.commands.specs.declared.jobs.Job.{Job}
-use Rattle.commands.specs.declared.jobs.Job.TheVariants.{Assemble, Disassemble, Verify, Judge, Policy, Serve, Simulate, Explain, Why}
-use Rattle.commands.specs.declared.usage.UsageFault.{UsageFault}
-use Rattle.commands.specs.declared.usage.UsageFault.TheVariants.{Parse, BadOption, Memory}
+use Rattle.commands.specs.declared.jobs.Job.TheVariants.{
+  Assemble,
+  Disassemble,
+  Verify,
+  Judge,
+  Policy,
+  Serve,
+  Simulate,
+  Explain,
+  Why,
+  Packet,
+  Show,
+}
+use Rattle.job_parts.specs.declared.usage.UsageFault.{UsageFault}
+use Rattle.job_parts.specs.declared.usage.UsageFault.TheVariants.{Parse, BadOption, Memory}
 
 -- only subcommands are words of rmapctl itself, beside its help and its version
 abbrev pub rmapctl_shape : Shape → Shape
@@ -31,12 +47,21 @@ rmapctl_shape s = record s {
 -- a command with the jobs on programs and on packets in order
 abbrev pub with_first_jobs : App → App
 with_first_jobs app =
-    with_subcommand (with_subcommand (with_subcommand (with_subcommand (with_subcommand app asm_app.top) dis_app.top) verify_app.top) judge_app.top) policy_app.top
+    with_subcommand (with_subcommand
+    (with_subcommand (with_subcommand (with_subcommand app asm_app.top) dis_app.top) verify_app.top) judge_app.top)
+    policy_app.top
+
+-- a command with the jobs on packet lines in words behind others
+abbrev pub with_packet_jobs : App → App
+with_packet_jobs app = with_subcommand (with_subcommand app packet_app.top) show_app.top
 
 -- `rmapctl` with its subcommands
 unfoldable pub rmapctl_app : App
 rmapctl_app =
-    with_subcommand (with_subcommand (with_subcommand (with_subcommand (with_first_jobs (on_top rmapctl_shape (new_app (codes "rmapctl")))) serve_app.top) sim_app.top) explain_app.top) why_app.top
+    with_packet_jobs
+    (with_subcommand (with_subcommand
+    (with_subcommand (with_subcommand (with_first_jobs (on_top rmapctl_shape (new_app (codes "rmapctl"))))
+    serve_app.top) sim_app.top) explain_app.top) why_app.top)
 
 -- the subcommand that clap finds in the words, with its matches
 abbrev pub subcommand_in : List Text → Option (Text × List Row)
@@ -47,13 +72,15 @@ abbrev pub Names : Option (Text × List Row) → Job → Type 0
 Names None job = ⊥
 Names (Some found) (Assemble words) = (found.0 ≡ codes "asm") × NamesAsm found.1 words
 Names (Some found) (Disassemble words) = (found.0 ≡ codes "dis") × NamesDis found.1 words
-Names (Some found) (Verify words) = (found.0 ≡ codes "verify") × NamesVerify found.1 words
-Names (Some found) (Judge words) = (found.0 ≡ codes "judge") × NamesJudge found.1 words
+Names (Some found) (Verify args) = (found.0 ≡ codes "verify") × NamesImage found.1 args
+Names (Some found) (Judge args) = (found.0 ≡ codes "judge") × NamesLines found.1 args
 Names (Some found) (Policy words) = (found.0 ≡ codes "policy") × NamesPolicy found.1 words
-Names (Some found) (Serve words) = (found.0 ≡ codes "serve") × NamesServe found.1 words
-Names (Some found) (Simulate words) = (found.0 ≡ codes "sim") × NamesSim found.1 words
+Names (Some found) (Serve args) = (found.0 ≡ codes "serve") × NamesLines found.1 args
+Names (Some found) (Simulate args) = (found.0 ≡ codes "sim") × NamesLines found.1 args
 Names (Some found) (Explain words) = (found.0 ≡ codes "explain") × NamesExplain found.1 words
-Names (Some found) (Why words) = (found.0 ≡ codes "why") × NamesWhy found.1 words
+Names (Some found) (Why args) = (found.0 ≡ codes "why") × NamesImage found.1 args
+Names (Some found) (Packet words) = (found.0 ≡ codes "packet") × NamesPacket found.1 words
+Names (Some found) (Show words) = (found.0 ≡ codes "show") × NamesShow found.1 words
 
 -- what the user is told of a refusal by clap of this kind
 abbrev pub TellsRefusal : ErrorKind → UsageFault → Type 0
@@ -61,17 +88,20 @@ TellsRefusal kind Memory = Unit {0}
 TellsRefusal kind BadOption = ⊥
 TellsRefusal kind (Parse text) = kind ≢ OutOfMemory
 
--- the subcommand lacks a file that has to be given, or has an option or a code with a value that it may not have
+-- the subcommand lacks a file that has to be given, has an option or a code with a value that it may not have, or
+-- has words of no packet
 pub record IsSpoiled (found : Text × List Row) : Type 0 where
   pub asm : found.0 ≡ codes "asm" → (first_of (codes "text") found.1 ≡ None) ⊎ (first_of (codes "image") found.1 ≡ None)
   pub dis : found.0 ≡ codes "dis" → first_of (codes "image") found.1 ≡ None
-  pub verify : found.0 ≡ codes "verify" → SpoilsVerify found.1
-  pub judge : found.0 ≡ codes "judge" → SpoilsJudge found.1
+  pub verify : found.0 ≡ codes "verify" → SpoilsImage found.1
+  pub judge : found.0 ≡ codes "judge" → SpoilsLines found.1
   pub policy : found.0 ≡ codes "policy" → SpoilsPolicy found.1
-  pub serve : found.0 ≡ codes "serve" → SpoilsServe found.1
-  pub sim : found.0 ≡ codes "sim" → SpoilsJudge found.1
+  pub serve : found.0 ≡ codes "serve" → SpoilsLines found.1
+  pub sim : found.0 ≡ codes "sim" → SpoilsLines found.1
   pub explain : found.0 ≡ codes "explain" → SpoilsExplain found.1
-  pub why : found.0 ≡ codes "why" → SpoilsVerify found.1
+  pub why : found.0 ≡ codes "why" → SpoilsImage found.1
+  pub packet : found.0 ≡ codes "packet" → SpoilsPacket found.1
+  pub show : found.0 ≡ codes "show" → first_of (codes "lines") found.1 ≡ None
 
 -- clap found no subcommand, or one without what it needs
 abbrev pub IsIncomplete : Option (Text × List Row) → Type 0

@@ -1,65 +1,95 @@
 -- What each job does, with its fault and its exit status.
-use Rattle.std.specs.Prelude.{◌≡◌, ℕ, zero, suc, List, Option, string_bytes}
+use Rattle.std.specs.Prelude.{◌≡◌, ℕ, zero, suc, Bool, true, false, List, Option, string_bytes}
 use Rattle.std.specs.Io.KnownBytes.{Appends}
-use Rattle.commands.specs.Assembled.{Assembles, IsNotAssembled}
-use Rattle.commands.specs.Compiled.{CompilesTable, IsNotCompiled}
-use Rattle.commands.specs.Disassembled.{Disassembles, IsNotPrinted}
-use Rattle.commands.specs.Files.{Reads, Writes}
-use Rattle.commands.specs.Judged.{IsNotJudged, JudgesFile}
-use Rattle.commands.specs.Printed.{PrintsMore, fault_line}
-use Rattle.commands.specs.Reading.{IsNoProgram}
-use Rattle.commands.specs.ServedFile.{IsNotServed, ServesFile}
-use Rattle.commands.specs.Simulated.{IsNotSimulated, SimulatesFile}
-use Rattle.commands.specs.Verified.{Verifies}
-use Rattle.commands.specs.declared.faults.Fault.{Fault}
-use Rattle.commands.specs.declared.faults.Fault.TheVariants.{NoMemory}
+use Rattle.job_texts.specs.Assembled.{Assembles, IsNotAssembled}
+use Rattle.job_texts.specs.Compiled.{CompilesTable, IsNotCompiled}
+use Rattle.job_texts.specs.Disassembled.{Disassembles, IsNotPrinted}
+use Rattle.job_parts.specs.Files.{Reads, Writes}
+use Rattle.job_nodes.specs.Judged.{IsNotJudged, JudgesFile}
+use Rattle.job_parts.specs.Printed.{PrintsMore, fault_line}
+use Rattle.job_parts.specs.Reading.{IsNoProgram}
+use Rattle.job_ports.specs.ServedFile.{IsNotServed, ServesFile}
+use Rattle.job_nodes.specs.Simulated.{IsNotSimulated, SimulatesFile}
+use Rattle.job_texts.specs.MadePackets.{IsNotMade, MakesNone, MakesPackets}
+use Rattle.job_texts.specs.ShowJob.{IsNotShown, ShowsFile}
+use Rattle.job_texts.specs.Verified.{Verifies}
+use Rattle.job_parts.specs.declared.faults.Fault.{Fault}
+use Rattle.job_parts.specs.declared.faults.Fault.TheVariants.{NoMemory}
 use Rattle.commands.specs.declared.jobs.Job.{Job}
-use Rattle.commands.specs.declared.jobs.Job.TheVariants.{Assemble, Disassemble, Verify, Judge, Policy, Serve, Simulate, Explain, Why}
+use Rattle.commands.specs.declared.jobs.Job.TheVariants.{
+  Assemble,
+  Disassemble,
+  Verify,
+  Judge,
+  Policy,
+  Serve,
+  Simulate,
+  Explain,
+  Why,
+  Packet,
+  Show,
+}
 
--- what stands behind the line of the fault: `why` may print more, and all others end with the line
-abbrev pub IsLeftBehind : Job → (told new : Option (List ℕ)) → Type 0
-IsLeftBehind (Judge words) told new = new ≡ told
-IsLeftBehind (Assemble words) told new = new ≡ told
-IsLeftBehind (Disassemble words) told new = new ≡ told
-IsLeftBehind (Verify words) told new = new ≡ told
-IsLeftBehind (Policy words) told new = new ≡ told
-IsLeftBehind (Serve words) told new = new ≡ told
-IsLeftBehind (Simulate words) told new = new ≡ told
-IsLeftBehind (Explain words) told new = new ≡ told
-IsLeftBehind (Why words) told new = PrintsMore told new
+-- the job prints more behind the line of a fault: `why` does
+abbrev pub explains : Job → Bool
+explains (Why args) = true
+explains other = false
+
+-- the job makes packets, of which there may be none such: `packet` does
+abbrev pub makes_packets : Job → Bool
+makes_packets (Packet words) = true
+makes_packets other = false
+
+-- what stands behind the line of the fault: more of a job that explains it, and nothing of any other
+abbrev pub IsLeftBehind : (explains : Bool) → (told new : Option (List ℕ)) → Type 0
+IsLeftBehind true told new = PrintsMore told new
+IsLeftBehind false told new = new ≡ told
 
 module _ {S : Type 0} (reads : Reads S) (writes : Writes S) where
   -- the job was done: what it read and wrote led from one state of the files to the other, and
   -- what it prints was printed
   abbrev pub IsDone : Job → (before after : S) → (old new : Option (List ℕ)) → Type 0
-  IsDone (Judge words) before after old new = JudgesFile reads words before after old new
+  IsDone (Judge args) before after old new = JudgesFile reads args before after old new
   IsDone (Assemble words) before after old new =
       Assembles reads writes before (string_bytes words.text) (string_bytes words.image) after old new
   IsDone (Disassemble words) before after old new = Disassembles reads before (string_bytes words.image) after old new
-  IsDone (Verify words) before after old new = Verifies reads before (string_bytes words.image) words.sizes after old new
+  IsDone (Verify args) before after old new =
+      Verifies reads before (string_bytes args.image) args.sizes after old new
   IsDone (Policy words) before after old new =
       CompilesTable reads writes before (string_bytes words.table) (string_bytes words.image) words.sizes after old new
-  IsDone (Serve words) before after old new = ServesFile reads words before after old new
-  IsDone (Simulate words) before after old new = SimulatesFile reads words before after old new
+  IsDone (Serve args) before after old new = ServesFile reads args before after old new
+  IsDone (Simulate args) before after old new = SimulatesFile reads args before after old new
   IsDone (Explain words) before after old new = (after ≡ before) × PrintsMore old new
-  IsDone (Why words) before after old new = Verifies reads before (string_bytes words.image) words.sizes after old new
+  IsDone (Why args) before after old new =
+      Verifies reads before (string_bytes args.image) args.sizes after old new
+  IsDone (Packet words) before after old new = MakesPackets reads words before after old new
+  IsDone (Show words) before after old new = ShowsFile reads before (string_bytes words.lines) after old new
 
-  -- the fault ended the job; only `judge` and `sim` printed before it
+  -- the fault ended the job; only `judge`, `sim` and `show` printed before it
   abbrev pub IsEnded : Job → (before after : S) → (old new : Option (List ℕ)) → Fault → Type 0
-  IsEnded (Judge words) before after old new fault = IsNotJudged reads words before after old new fault
+  IsEnded (Judge args) before after old new fault = IsNotJudged reads args before after old new fault
   IsEnded (Assemble words) before after old new fault =
       IsNotAssembled reads writes before (string_bytes words.text) (string_bytes words.image) after fault × (new ≡ old)
   IsEnded (Disassemble words) before after old new fault =
       IsNotPrinted reads before (string_bytes words.image) after fault × (new ≡ old)
-  IsEnded (Verify words) before after old new fault =
-      IsNoProgram reads before (string_bytes words.image) after fault × (new ≡ old)
+  IsEnded (Verify args) before after old new fault =
+      IsNoProgram reads before (string_bytes args.image) args.sizes after fault × (new ≡ old)
   IsEnded (Policy words) before after old new fault =
-      IsNotCompiled reads writes before (string_bytes words.table) (string_bytes words.image) words.sizes after fault × (new ≡ old)
-  IsEnded (Serve words) before after old new fault = IsNotServed reads words before after fault × (new ≡ old)
-  IsEnded (Simulate words) before after old new fault = IsNotSimulated reads words before after old new fault
+      IsNotCompiled reads writes before (string_bytes words.table) (string_bytes words.image) words.sizes after fault
+      × (new ≡ old)
+  IsEnded (Serve args) before after old new fault = IsNotServed reads args before after fault × (new ≡ old)
+  IsEnded (Simulate args) before after old new fault = IsNotSimulated reads args before after old new fault
   IsEnded (Explain words) before after old new fault = (fault ≡ NoMemory) × (after ≡ before) × (new ≡ old)
-  IsEnded (Why words) before after old new fault =
-      IsNoProgram reads before (string_bytes words.image) after fault × (new ≡ old)
+  IsEnded (Why args) before after old new fault =
+      IsNoProgram reads before (string_bytes args.image) args.sizes after fault × (new ≡ old)
+  IsEnded (Packet words) before after old new fault = IsNotMade reads words before after fault × (new ≡ old)
+  IsEnded (Show words) before after old new fault =
+      IsNotShown reads before (string_bytes words.lines) after old new fault
+
+  -- there are no packets such as the job was to make, which was told
+  abbrev pub TellsNone : Job → (before after : S) → (old new : Option (List ℕ)) → Type 0
+  TellsNone (Packet words) before after old new = MakesNone reads words before after old new
+  TellsNone other before after old new = ⊥
 
   -- a fault ended the job, and its line was printed after what came before, with what `why` tells behind it
   pub record TellsFault (job : Job) (before after : S) (old new : Option (List ℕ)) : Type 0 where
@@ -68,10 +98,12 @@ module _ {S : Type 0} (reads : Reads S) (writes : Writes S) where
     pub ended : IsEnded job before after old printed fault
     pub told : Option (List ℕ)
     pub line : Appends printed told (fault_line fault)
-    pub behind : IsLeftBehind job told new
+    pub behind : IsLeftBehind (explains job) told new
 
-  -- the exit status of the job is 0 where it was done, and 1 where a fault ended it
+  -- the exit status of the job is 0 where it was done, 1 where a fault ended it, and 2 where there are no packets such
+  -- as it was to make
   abbrev pub Performs : Job → (before after : S) → (old new : Option (List ℕ)) → (status : ℕ) → Type 0
   Performs job before after old new zero = IsDone job before after old new
   Performs job before after old new (suc zero) = TellsFault job before after old new
-  Performs job before after old new (suc (suc n)) = ⊥
+  Performs job before after old new (suc (suc zero)) = TellsNone job before after old new
+  Performs job before after old new (suc (suc (suc n))) = ⊥

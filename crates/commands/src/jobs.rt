@@ -1,21 +1,27 @@
 //! The jobs of `rmapctl`.
 
-ghost use Rattle.std.specs.Prelude.{◌≡◌, IfErr, IfOk, OnOk};
-ghost use Rattle.commands.specs.Performed.{IsDone, IsEnded, Performs};
-ghost use Rattle.commands.specs.Stops.{StopsBy};
+ghost use Rattle.std.specs.Prelude.{◌≡◌, IfErr, IfOk, MatchOption, OnOk, false};
+ghost use Rattle.commands.specs.Performed.{IsDone, IsEnded, Performs, makes_packets};
+ghost use Rattle.commands.specs.declared.jobs.Job.TheVariants.{Packet};
+ghost use Rattle.job_parts.specs.Stops.{StopsBy};
 
-use crate::asm::{AsmWords, assemble_file};
-use crate::dis::{DisWords, disassemble_file};
-use crate::explain::{ExplainWords, explain};
-use crate::judge::{JudgeWords, judge_file};
-use crate::policies::{PolicyWords, compile_file};
-use crate::serve::{ServeWords, serve_file};
-use crate::sim::{SimWords, sim_file};
-use crate::stops::{Halt, WriteFault};
-use crate::storage::Files;
-use crate::verify::{VerifyWords, verify_file};
-use crate::why::{WhyWords, why_file};
-use publish::{Opened, Room};
+use job_nodes::judge::judge_file;
+use job_nodes::sim::sim_file;
+use job_parts::lines::LinesArgs;
+use job_parts::stops::{Halt, WriteFault};
+use job_parts::storage::Files;
+use job_ports::serve::serve_file;
+use job_texts::asm::{AsmWords, assemble_file};
+use job_texts::dis::{DisWords, disassemble_file};
+use job_texts::explain::{ExplainWords, explain};
+use job_texts::images::ImageArgs;
+use job_texts::made_packets::packet_file;
+use job_texts::packet::PacketWords;
+use job_texts::policies::{PolicyWords, compile_file};
+use job_texts::show::{ShowWords, show_file};
+use job_texts::verify::verify_file;
+use job_texts::why::why_file;
+use publish::{Opened, ProgramFamily};
 use std::alloc::Global;
 use std::io::Write;
 use std::marker::Brand;
@@ -26,27 +32,45 @@ use std::thread::Threads;
 #[derive(Debug, Drop)]
 pub enum Job {
     /// Judges each packet line of a file, and prints what comes of it.
-    Judge(JudgeWords),
+    Judge(LinesArgs),
     /// Serves the packet lines of a file on all ports at once, and prints the replies by port.
-    Serve(ServeWords),
+    Serve(LinesArgs),
     /// Steps through the events of a file, and prints what each comes to.
-    Simulate(SimWords),
+    Simulate(LinesArgs),
     /// Assembles a text, and writes the image.
     Assemble(AsmWords),
     /// Prints the text of a BPF image.
     Disassemble(DisWords),
     /// Verifies a BPF image, and prints whether it may judge.
-    Verify(VerifyWords),
+    Verify(ImageArgs),
     /// Compiles a policy table, and writes the image.
     Policy(PolicyWords),
     /// Prints what is to be said of a code, or a line for each code.
     Explain(ExplainWords),
     /// Verifies a BPF image, and prints whether it may judge, and the reason why not.
-    Why(WhyWords),
+    Why(ImageArgs),
+    /// Makes packet lines: of a command, or of a load.
+    Packet(PacketWords),
+    /// Prints in words what packet lines are.
+    Show(ShowWords),
 }
 
-/// Does a job, up to its end or the fault that ends it, which is still to be printed. Up to there `why` is `verify`.
-fn attempt<'a, J: Room + Send + 'static, R: Threads + Wait + Sync, F: Files, W: Write>(
+impl Job {
+    /// The words of the job `packet`.
+    fn packet(&self) -> Option<&PacketWords>
+        ensures { MatchOption result (makes_packets self.now ≡ false)
+            (λ words. self.now ≡ Packet words.now) }
+    {
+        match self {
+            Job::Packet(words) => Some(words),
+            _ => None,
+        }
+    }
+}
+
+/// Does a job but `packet`, up to its end or the fault that ends it, which is still to be printed. Up to there `why` is
+/// `verify`.
+fn attempt<'a, J: ProgramFamily + Send + 'static, R: Threads + Wait + Sync, F: Files, W: Write>(
     rt: &R,
     alloc: Global,
     opened: Opened,
@@ -54,30 +78,33 @@ fn attempt<'a, J: Room + Send + 'static, R: Threads + Wait + Sync, F: Files, W: 
     files: &mut F,
     out: &mut W,
 ) -> Result<(), Halt<'a>>
-    requires { opened ≡ J.book }
+    requires opened { opened ≡ J.book }
+    requires other { makes_packets job.now ≡ false }
     ensures done { OnOk result (IsDone F.reads F.writes job.now files.old files.new
         (W.contents out.old) (W.contents out.new)) }
     ensures stops { IfErr result (StopsBy (IsEnded F.reads F.writes job.now files.old files.new
         (W.contents out.old) (W.contents out.new))) }
 {
     match job {
-        Job::Judge(words) => judge_file::<J, _, _, _>(rt, alloc, opened, words, files, out),
-        Job::Serve(words) => serve_file::<J, _, _, _>(rt, alloc, opened, words, files, out),
-        Job::Simulate(words) => sim_file(alloc, words, files, out),
+        Job::Judge(args) => judge_file::<J, _, _, _>(rt, alloc, opened, args, files, out),
+        Job::Serve(args) => serve_file::<J, _, _, _>(rt, alloc, opened, args, files, out),
+        Job::Simulate(args) => sim_file(alloc, args, files, out),
         Job::Assemble(words) => {
             assemble_file(alloc, words.text.as_str(), words.image.as_str(), files, out)
         }
         Job::Disassemble(words) => disassemble_file(alloc, words.image.as_str(), files, out),
-        Job::Verify(words) => verify_file(alloc, words.image.as_str(), words.sizes, files, out),
+        Job::Verify(args) => verify_file(alloc, args.image.as_str(), args.sizes, files, out),
         Job::Policy(words) => compile_file(alloc, words, files, out),
         Job::Explain(words) => explain(alloc, words, out),
-        Job::Why(words) => verify_file(alloc, words.image.as_str(), words.sizes, files, out),
+        Job::Why(args) => verify_file(alloc, args.image.as_str(), args.sizes, files, out),
+        Job::Packet(_) => unreachable!(),
+        Job::Show(words) => show_file(alloc, words.lines.as_str(), files, out),
     }
 }
 
 /// Does a job, where a node that it makes has that history of programs.
-#[tactic(auto, using(crate::proofs::Explaining::left_behind, crate::proofs::Explaining::performs_why))]
-fn perform_opened<J: Room + Send + 'static, R: Threads + Wait + Sync, F: Files, W: Write>(
+#[tactic(auto, using(crate::proofs::Explaining::left_behind, crate::proofs::Explaining::performs_why, crate::proofs::Explaining::performs_packet))]
+fn perform_opened<J: ProgramFamily + Send + 'static, R: Threads + Wait + Sync, F: Files, W: Write>(
     rt: &R,
     alloc: Global,
     opened: Opened,
@@ -89,8 +116,11 @@ fn perform_opened<J: Room + Send + 'static, R: Threads + Wait + Sync, F: Files, 
     ensures { IfOk result (Performs F.reads F.writes job.now files.old files.new
         (W.contents out.old) (W.contents out.new)) }
 {
-    if let Job::Why(words) = job {
-        return why_file(alloc, words, files, out);
+    if let Job::Why(args) = job {
+        return why_file(alloc, args, files, out);
+    }
+    if let Some(words) = job.packet() {
+        return packet_file(alloc, words, files, out);
     }
     match attempt::<J, _, _, _>(rt, alloc, opened, job, files, out) {
         Ok(()) => Ok(0),
@@ -103,7 +133,7 @@ fn perform_opened<J: Room + Send + 'static, R: Threads + Wait + Sync, F: Files, 
 }
 
 /// Does a job over any files and any writer, and gives the exit status: 1 where an image was
-/// refused or a fault was printed, else 0. What the writer holds back is not flushed. It may wait: `judge` and
+/// refused or a fault was printed, 2 where there are no packets such as `packet` was to make, else 0. What the writer holds back is not flushed. It may wait: `judge` and
 /// `serve` have a node, whose end does, and `serve` starts threads and waits for them.
 ///
 /// `WriteFault` where the writer failed; nothing is written after that.

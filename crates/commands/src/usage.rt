@@ -4,69 +4,29 @@ ghost use Rattle.std.specs.Prelude.{◌≡◌, IfOk, IfErr};
 ghost use Rattle.clap.specs.Simple.{app_of, subcommand_rows_of};
 ghost use Rattle.clap.specs.Values.{kind_of};
 ghost use Rattle.clap.specs.Walk.{texts};
-ghost use Rattle.commands.specs.CommandLine.{rmapctl_app, with_first_jobs, Names, NamesJob, NamesNone, LacksJob, TellsRefusal};
-ghost use Rattle.commands.specs.Statuses.{usage_status};
-ghost use Rattle.commands.specs.declared.usage.UsageFault.TheVariants.{Memory};
+ghost use Rattle.commands.specs.CommandLine.{rmapctl_app, with_first_jobs, with_packet_jobs, Names, NamesJob, NamesNone, LacksJob, TellsRefusal};
 
-use crate::asm::{asm_command, asm_job};
-use crate::dis::{dis_command, dis_job};
-use crate::explain::{explain_command, explain_job};
 use crate::jobs::Job;
-use crate::judge::{judge_command, judge_job};
-use crate::policies::{policy_command, policy_job};
-use crate::serve::{serve_command, serve_job};
-use crate::sim::{sim_command, sim_job};
-use crate::verify::{verify_command, verify_job};
-use crate::why::{why_command, why_job};
 use clap::error::ErrorKind;
 use clap::{ArgMatches, Command, Error};
-use std::alloc::{AllocError, AllocFailed, Global};
-use thiserror::Error as ThisError;
+use job_nodes::judge::judge_command;
+use job_nodes::sim::sim_command;
+use job_parts::lines::lines_args;
+use job_parts::usage::UsageFault;
+use job_ports::serve::serve_command;
+use job_texts::asm::{asm_command, asm_job};
+use job_texts::dis::{dis_command, dis_job};
+use job_texts::explain::{explain_command, explain_job};
+use job_texts::images::image_args;
+use job_texts::packet::{packet_command, packet_job};
+use job_texts::policies::{policy_command, policy_job};
+use job_texts::show::{show_command, show_job};
+use job_texts::verify::verify_command;
+use job_texts::why::why_command;
+use std::alloc::{AllocError, Global};
 
 /// What `rmapctl --version` tells.
 const VERSION: &str = "1.0";
-
-/// Why a command line names no job.
-#[derive(Debug, PartialEq, Eq, Drop, ThisError)]
-pub enum UsageFault {
-    /// The words fit no subcommand, or ask for help: the text for the user, with its line feeds.
-    #[error("{0}")]
-    Parse(String),
-    /// The value of an option is none that it may have.
-    #[error("bad option")]
-    BadOption,
-    /// Memory was refused.
-    #[error("no memory")]
-    Memory,
-}
-
-impl UsageFault {
-    /// The exit status of a program whose command line has this fault.
-    pub fn status(&self) -> u8
-        ensures { result ≡ usage_status self.now }
-    {
-        match self {
-            UsageFault::Parse(_) | UsageFault::BadOption => 2,
-            UsageFault::Memory => 1,
-        }
-    }
-}
-
-impl From<AllocError> for UsageFault {
-    ghost from_gives = { λ _ fault. fault ≡ Memory };
-
-    fn from(_refused: AllocError) -> UsageFault {
-        UsageFault::Memory
-    }
-}
-
-impl<T: Drop> From<AllocFailed<T>> for UsageFault {
-    ghost from_gives = { λ _ fault. fault ≡ Memory };
-
-    fn from(_refused: AllocFailed<T>) -> UsageFault {
-        UsageFault::Memory
-    }
-}
 
 /// The command line with the jobs on programs and on packets in order.
 fn with_first_jobs<'a>(alloc: Global, rmapctl: Command<'a>) -> Result<Command<'a>, AllocError>
@@ -85,6 +45,15 @@ fn with_first_jobs<'a>(alloc: Global, rmapctl: Command<'a>) -> Result<Command<'a
         .subcommand(policy)
 }
 
+/// The command line with the jobs on packet lines in words behind others.
+fn with_packet_jobs<'a>(alloc: Global, rmapctl: Command<'a>) -> Result<Command<'a>, AllocError>
+    ensures { IfOk result (λ c. app_of c ≡ with_packet_jobs (app_of rmapctl.entry)) }
+{
+    let packet = packet_command(alloc)?;
+    let show = show_command(alloc)?;
+    rmapctl.subcommand(packet)?.subcommand(show)
+}
+
 /// The whole command line.
 fn command_line<'a>(alloc: Global) -> Result<Command<'a>, AllocError>
     ensures { IfOk result (λ c. app_of c ≡ rmapctl_app) }
@@ -101,11 +70,12 @@ fn command_line<'a>(alloc: Global) -> Result<Command<'a>, AllocError>
         .no_binary_name(true)
         .disable_help_subcommand(true)
         .subcommand_required(true);
-    with_first_jobs(alloc, top)?
+    let all = with_first_jobs(alloc, top)?
         .subcommand(serve)?
         .subcommand(sim)?
         .subcommand(explain)?
-        .subcommand(why)
+        .subcommand(why)?;
+    with_packet_jobs(alloc, all)
 }
 
 /// What the user is told of words that `clap` refuses.
@@ -122,6 +92,7 @@ fn told(alloc: Global, refusal: &Error) -> UsageFault
 }
 
 /// The job of the subcommand that was found.
+#[tactic(auto, using(crate::proofs::Matching::lacks_packet))]
 fn job_of(alloc: Global, found: &ArgMatches) -> Result<Job, UsageFault>
     ensures ok { IfOk result (Names (subcommand_rows_of found.now)) }
     ensures err { IfErr result (LacksJob (subcommand_rows_of found.now)) }
@@ -133,25 +104,31 @@ fn job_of(alloc: Global, found: &ArgMatches) -> Result<Job, UsageFault>
         return Ok(Job::Disassemble(dis_job(alloc, dis)?));
     }
     if let Some(verify) = found.subcommand_matches("verify") {
-        return Ok(Job::Verify(verify_job(alloc, verify)?));
+        return Ok(Job::Verify(image_args(alloc, verify)?));
     }
     if let Some(judge) = found.subcommand_matches("judge") {
-        return Ok(Job::Judge(judge_job(alloc, judge)?));
+        return Ok(Job::Judge(lines_args(alloc, judge)?));
     }
     if let Some(policy) = found.subcommand_matches("policy") {
         return Ok(Job::Policy(policy_job(alloc, policy)?));
     }
     if let Some(serve) = found.subcommand_matches("serve") {
-        return Ok(Job::Serve(serve_job(alloc, serve)?));
+        return Ok(Job::Serve(lines_args(alloc, serve)?));
     }
     if let Some(sim) = found.subcommand_matches("sim") {
-        return Ok(Job::Simulate(sim_job(alloc, sim)?));
+        return Ok(Job::Simulate(lines_args(alloc, sim)?));
     }
     if let Some(explain) = found.subcommand_matches("explain") {
         return Ok(Job::Explain(explain_job(alloc, explain)?));
     }
-    match found.subcommand_matches("why") {
-        Some(why) => Ok(Job::Why(why_job(alloc, why)?)),
+    if let Some(why) = found.subcommand_matches("why") {
+        return Ok(Job::Why(image_args(alloc, why)?));
+    }
+    if let Some(packet) = found.subcommand_matches("packet") {
+        return Ok(Job::Packet(packet_job(alloc, packet)?));
+    }
+    match found.subcommand_matches("show") {
+        Some(show) => Ok(Job::Show(show_job(alloc, show)?)),
         None => Err(UsageFault::BadOption),
     }
 }

@@ -17,6 +17,7 @@ use Rattle.bpf_parts.specs.declared.operation.Operand.{Operand}
 use Rattle.bpf_parts.specs.declared.operation.Operand.TheVariants.{FromRegister, Immediate}
 use Rattle.bpf_parts.specs.declared.memory.LoadSize.{LoadSize}
 use Rattle.bpf_parts.specs.declared.memory.LoadSize.TheVariants.{LoadByte, LoadHalf, LoadWord, LoadDouble, SignedByte, SignedHalf, SignedWord}
+use Rattle.bpf.specs.declared.version.Version.{Version}
 use Rattle.bpf_insn.specs.declared.insn.Insn.{Insn}
 use Rattle.bpf_insn.specs.declared.insn.Insn.TheVariants as insns
 use Rattle.bpf_insn.specs.Flow.{flow_of}
@@ -290,7 +291,7 @@ insn_in false (None ∷ xs) slot h = absurd h
 insn_in false (Some insn ∷ xs) zero h = h.0
 insn_in false (Some insn ∷ xs) (suc slot) h = insn_in (is_some (second_immediate insn)) xs slot h.1
 
-perform_in_fits : (version : ℕ) (header : Header) (s : State) (insn : Option Insn) → IsHeader header → IsBounded s → IsInsnAt insn → IsBoundedAfter (perform_in version header s insn)
+perform_in_fits : (version : Version) (header : Header) (s : State) (insn : Option Insn) → IsHeader header → IsBounded s → IsInsnAt insn → IsBoundedAfter (perform_in version header s insn)
 perform_in_fits version header s None is_header bounded i = tt
 perform_in_fits version header s (Some insn) is_header bounded i =
     where_so IsBoundedAfter tt (knows_flow version (flow_of insn)) _ (perform_fits header s is_header bounded insn i)

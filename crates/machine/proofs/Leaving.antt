@@ -3,6 +3,7 @@ use Rattle.std.proofs.Common.{◌≡◌, ℕ, ◌+◌, refl, subst, arith, Bool,
 use Rattle.std.specs.Prelude.{◌||◌}
 use Rattle.std.proofs.lemmas.Bool.Decides.{nat_tests}
 use Rattle.bpf_parts.specs.declared.callee.Callee.{Callee}
+use Rattle.bpf.specs.declared.version.Version.{Version}
 use Rattle.bpf_insn.specs.declared.insn.Insn.{Insn}
 use Rattle.bpf_insn.specs.declared.insn.Insn.TheVariants as insns
 use Rattle.bpf_insn.specs.Flow.{is_written, flow_of}
@@ -105,7 +106,7 @@ module _ (s : State) where
   goes_on header (insns.Call callee number) = calls_so (GoesOn s) tt s (λ helper map key argument. refl) callee number
   goes_on header insns.Exit = exits_so (GoesOn s) tt _ (λ verdict. tt)
 
-  goes_in : (version : ℕ) (header : Header) (insn : Option Insn) → GoesOn s (perform_in version header s insn)
+  goes_in : (version : Version) (header : Header) (insn : Option Insn) → GoesOn s (perform_in version header s insn)
   goes_in version header None = tt
   goes_in version header (Some insn) = where_so (GoesOn s) tt (knows_flow version (flow_of insn)) _ (goes_on header insn)
 

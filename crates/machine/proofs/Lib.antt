@@ -4,5 +4,6 @@ mod Results
 mod Fitting
 mod Filled
 mod Leaving
+mod Asking
 mod Reading
 mod Front

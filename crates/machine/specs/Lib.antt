@@ -4,5 +4,6 @@ pub mod State
 pub mod Step
 pub mod Runs
 pub mod Sizes
+pub mod Helpers
 pub mod Padding
 pub mod Laws

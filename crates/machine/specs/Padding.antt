@@ -14,12 +14,15 @@ pub record IsPadded {X : Type 0} (blank : X) (count : ℕ) (xs : List X) : Type 
   pub blanks : drop count xs ≡ replicate (8 - count) blank
 
 -- those in front are as many as the count says
-pub length-front : {X : Type 0} (blank : X) (count : ℕ) (xs : List X) → IsPadded blank count xs → length (take count xs) ≡ count
+pub length-front : {X : Type 0} (blank : X) (count : ℕ) (xs : List X) → IsPadded blank count xs → length (take count xs)
+    ≡ count
 length-front blank count xs h = let few = h.few in let len = h.len in omega (arith, length-take count xs)
 
 -- with blanks up to eight, those in front are all of them
-pub padded-front : {X : Type 0} (blank : X) (count : ℕ) (xs : List X) → IsPadded blank count xs → padded blank (take count xs) ≡ xs
+pub padded-front : {X : Type 0} (blank : X) (count : ℕ) (xs : List X) → IsPadded blank count xs
+    → padded blank (take count xs) ≡ xs
 padded-front blank count xs h =
     let len = length-front blank count xs h in
-    let blanks : replicate (8 - length (take count xs)) blank ≡ drop count xs = ap (λ (n : ℕ). replicate (8 - n) blank) len ∙ sym h.blanks in
+    let blanks : replicate (8 - length (take count xs)) blank ≡ drop count xs =
+    ap (λ (n : ℕ). replicate (8 - n) blank) len ∙ sym h.blanks in
     rw blanks (take-append-drop count xs)

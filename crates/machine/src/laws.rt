@@ -1,7 +1,7 @@
 //! Laws of the machine: what its definition comes to. These functions do nothing; their contracts are
 //! the laws.
 
-ghost use Rattle.machine.specs.Laws.{AnswersDecide, RunsAgree, RunsFromTheFront, HaltsAgree, SizesOnlyTrap, StepPerforms, InstructionsLeave, StepsLeave, InstructionsGoOn, QuestionsGoOn, BytesAreRead, SameBytes, ResultsFit, NumbersFit, VerdictsFit};
+ghost use Rattle.machine.specs.Laws.{AnswersDecide, RunsAgree, RunsFromTheFront, HaltsAgree, SizesOnlyTrap, StepPerforms, InstructionsLeave, StepsLeave, InstructionsAsk, StepsAsk, QuestionsAreAnswerable, InstructionsGoOn, QuestionsGoOn, BytesAreRead, SameBytes, ResultsFit, NumbersFit, ArgumentsFit, VerdictsFit};
 
 /// A run has one verdict, and one number of steps, for a header, a port and a list of helper calls.
 pub fn runs_agree()
@@ -36,6 +36,20 @@ pub fn steps_perform()
 pub fn steps_leave()
     ensures instructions { InstructionsLeave }
     ensures steps { StepsLeave }
+{}
+
+/// A step that asks calls the helper that asks: of the map in r1, for the key in r2, and with the number in r3 where the
+/// helper takes an argument. So the argument is a word.
+pub fn steps_ask()
+    ensures instructions { InstructionsAsk }
+    ensures steps { StepsAsk }
+    ensures arguments { ArgumentsFit }
+{}
+
+/// What is asked can be answered by whoever has the maps: a step that is no trap with them asks for a cell that is there,
+/// in a map of a kind of which the helper may be asked.
+pub fn questions_are_answerable()
+    ensures { QuestionsAreAnswerable }
 {}
 
 /// A question goes on with the answer in r0, r1 to r5 unset, and all else as it was, at the next slot.

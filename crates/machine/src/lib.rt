@@ -1,11 +1,12 @@
 //! The machine: what a BPF program does (RFC 9669), as a definition.
 //!
 //! The definitions are in `specs/`: `Words` has the arithmetic, `Memory` the regions, `State` what the
-//! machine remembers, `Step` what each instruction does, `Runs` whole runs, and `Sizes` which maps a node
-//! may have. All that is promised of programs elsewhere is a statement about them.
+//! machine remembers, `Helpers` the helpers, `Step` what each instruction does, `Runs` whole runs, and `Sizes`
+//! which maps a node may have. All that is promised of programs elsewhere is a statement about them.
 #![tactic(auto)]
 
 mod calls;
+mod helpers;
 mod kinds;
 mod laws;
 mod memory;
@@ -14,11 +15,13 @@ mod sizes;
 mod values;
 mod words;
 
-pub use calls::{Call, has_helper, takes_argument};
+pub use calls::Call;
+pub use helpers::Helper;
 pub use kinds::MapKind;
 pub use laws::{
-    halts_agree, numbers_fit, questions_go_on, results_fit, runs_agree, runs_from_the_front,
-    same_bytes, sizes_only_trap, steps_leave, steps_perform, stored_bytes_are_read,
+    halts_agree, numbers_fit, questions_are_answerable, questions_go_on, results_fit, runs_agree,
+    runs_from_the_front, same_bytes, sizes_only_trap, steps_ask, steps_leave, steps_perform,
+    stored_bytes_are_read,
 };
 pub use memory::loaded_value;
 pub use regions::{Region, STACK_SIZE};

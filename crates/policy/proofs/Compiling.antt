@@ -3,6 +3,7 @@ use Rattle.std.specs.Prelude.{◌≢◌, pos, ◌&&◌, ◌==◌, not, bit_and, 
 use Rattle.std.proofs.Common.{◌≡◌, ◌<◌, ◌^◌, ◌+◌, ◌-◌, ◌%◌, ℕ, suc, Bool, true, false, List, [], ◌∷◌, ◌++◌, length, Option, Some, None, refl, sym, ap, ◌∙◌, subst, arith, append_assoc}
 use Rattle.std.specs.Prelude.{All}
 use Rattle.std.proofs.lemmas.List.Elements.{All-head, All-tail}
+use Rattle.bpf.specs.declared.version.Version.TheVariants.{One}
 use Rattle.bpf.specs.Program.{Program, insn_at, program}
 use Rattle.bpf_insn.specs.declared.insn.Insn.{Insn}
 use Rattle.bpf_insn.specs.Spelling.{slots_of}
@@ -24,7 +25,7 @@ use Rattle.machine.specs.Step.{Next, alu, knows_insn, loads, perform, perform_at
 use Rattle.machine.specs.Words.{swapped_bytes}
 use Rattle.rmap.specs.Command.{address_of, extended_of, increments, command_kind, initiator_of, key_of, length_of}
 use Rattle.policy.specs.Code.{address_code, applied, behind_extended, behind_initiator, behind_key, behind_kind, behind_range, field_slots, field_test, kind_slots, kind_test, last_address_code, loaded, quota_slots, quota_test, range_test, rule_code, rules_code, skips_if, swapped, table_code, verdict_code}
-use Rattle.policy.specs.Codes.{ruling_code}
+use Rattle.rmap.specs.Verdict.{verdict_number}
 use Rattle.policy.specs.Compiled.{HasMeaning}
 use Rattle.policy.specs.Laws.{DrawsAreAnswered}
 use Rattle.policy.specs.Limits.{FitsFields}
@@ -34,8 +35,8 @@ use Rattle.policy.specs.declared.rules.Quota.{Quota}
 use Rattle.policy.specs.declared.rules.Rule.{Rule}
 use Rattle.policy.specs.declared.rules.RuleKind.{RuleKind}
 use Rattle.policy.specs.declared.rules.RuleKind.TheVariants.{Read, Write, Rmw, Any}
-use Rattle.policy.specs.declared.rules.Ruling.{Ruling}
-use Rattle.policy.specs.declared.rules.Ruling.TheVariants.{Yes, Key, No, Address}
+use Rattle.rmap.specs.declared.verdict.Verdict.{Verdict}
+use Rattle.rmap.specs.declared.verdict.Verdict.TheVariants.{Authorised, InvalidKey, NotAuthorised, InvalidLogicalAddress}
 use Rattle.policy.proofs.Finishing.{Decision, Finishes, StandAt, branched, next, slot_after, split, stand}
 use Rattle.policy.proofs.Headers.{big_three, big_word, front_byte, front_loaded, high_first, is_increment, low_first, tail_byte, tail_loaded, word_loaded, word_swapped}
 use Rattle.policy.proofs.Testing.{EndsFrom, Setting, Stands, field_tested, in_front, in_tail, kind_tested, quota_tested, range_tested, verdict_given}
@@ -75,11 +76,11 @@ after_both slot other (x ∷ xs) ys same = after_both (slot + slots_of x) other 
 
 -- ---- a rule
 
-small_code : (ruling : Ruling) → ruling_code ruling < 2 ^ 64
-small_code Yes = omega arith
-small_code Key = omega arith
-small_code No = omega arith
-small_code Address = omega arith
+small_code : (verdict : Verdict) → verdict_number verdict < 2 ^ 64
+small_code Authorised = omega arith
+small_code InvalidKey = omega arith
+small_code NotAuthorised = omega arith
+small_code InvalidLogicalAddress = omega arith
 
 -- the conditions one behind the other are all of them
 all_five : (a b c d e : Bool) (met unmet : Decision)
@@ -93,7 +94,7 @@ all_five false b c d e met unmet = refl
 
 -- the tests of a rule from one of them on
 abbrev from_quota : Rule → List Insn
-from_quota rule = quota_test rule.quota 2 ++ verdict_code (ruling_code rule.ruling)
+from_quota rule = quota_test rule.quota 2 ++ verdict_code (verdict_number rule.verdict)
 
 abbrev from_range : Rule → List Insn
 from_range rule = range_test rule.low rule.high (behind_range rule) ++ from_quota rule
@@ -136,7 +137,7 @@ behind_each_other a b c d e f g = simp append_assoc
 
 pub in_turn : (rule : Rule) → rule_code rule ≡ kind_test rule.kind (behind_kind rule) ++ from_key rule
 in_turn rule =
-    behind_each_other (kind_test rule.kind (behind_kind rule)) (field_test rule.key 6 3 (behind_key rule)) (field_test rule.initiator 7 0 (behind_initiator rule)) (field_test rule.extended 7 3 (behind_extended rule)) (range_test rule.low rule.high (behind_range rule)) (quota_test rule.quota 2) (verdict_code (ruling_code rule.ruling))
+    behind_each_other (kind_test rule.kind (behind_kind rule)) (field_test rule.key 6 3 (behind_key rule)) (field_test rule.initiator 7 0 (behind_initiator rule)) (field_test rule.extended 7 3 (behind_extended rule)) (range_test rule.low rule.high (behind_range rule)) (quota_test rule.quota 2) (verdict_code (verdict_number rule.verdict))
 
 rule_after : (slot : ℕ) (rule : Rule) → slot_after slot (rule_code rule) ≡ end_of slot rule
 rule_after slot rule =
@@ -146,8 +147,8 @@ rule_after slot rule =
     ∙ after_both (initiator_at slot rule) (extended_at slot rule) (field_test rule.initiator 7 0 (behind_initiator rule)) (from_extended rule) (field_after (initiator_at slot rule) rule.initiator 7 0 (behind_initiator rule))
     ∙ after_both (extended_at slot rule) (range_at slot rule) (field_test rule.extended 7 3 (behind_extended rule)) (from_range rule) (field_after (extended_at slot rule) rule.extended 7 3 (behind_extended rule))
     ∙ after_both (range_at slot rule) (quota_at slot rule) (range_test rule.low rule.high (behind_range rule)) (from_quota rule) (range_after (range_at slot rule) rule.low rule.high (behind_range rule))
-    ∙ after_both (quota_at slot rule) (verdict_at slot rule) (quota_test rule.quota 2) (verdict_code (ruling_code rule.ruling)) (quota_after (quota_at slot rule) rule.quota 2)
-    ∙ verdict_after (verdict_at slot rule) (ruling_code rule.ruling)
+    ∙ after_both (quota_at slot rule) (verdict_at slot rule) (quota_test rule.quota 2) (verdict_code (verdict_number rule.verdict)) (quota_after (quota_at slot rule) rule.quota 2)
+    ∙ verdict_after (verdict_at slot rule) (verdict_number rule.verdict)
 
 -- the tests of a rule, each where it begins
 record StandsThere (program : Program) (slot : ℕ) (rule : Rule) : Type 0 where
@@ -157,7 +158,7 @@ record StandsThere (program : Program) (slot : ℕ) (rule : Rule) : Type 0 where
   extended : StandAt program (extended_at slot rule) (field_test rule.extended 7 3 (behind_extended rule))
   range : StandAt program (range_at slot rule) (range_test rule.low rule.high (behind_range rule))
   quota : StandAt program (quota_at slot rule) (quota_test rule.quota 2)
-  verdict : StandAt program (verdict_at slot rule) (verdict_code (ruling_code rule.ruling))
+  verdict : StandAt program (verdict_at slot rule) (verdict_code (verdict_number rule.verdict))
 
 rule_stands : (program : Program) (slot : ℕ) (rule : Rule) → StandAt program slot (rule_code rule) → StandsThere program slot rule
 rule_stands program slot rule whole =
@@ -167,7 +168,7 @@ rule_stands program slot rule whole =
     let initiator = cut_at program (initiator_at slot rule) (extended_at slot rule) (field_test rule.initiator 7 0 (behind_initiator rule)) (from_extended rule) (field_after (initiator_at slot rule) rule.initiator 7 0 (behind_initiator rule)) key.1 in
     let extended = cut_at program (extended_at slot rule) (range_at slot rule) (field_test rule.extended 7 3 (behind_extended rule)) (from_range rule) (field_after (extended_at slot rule) rule.extended 7 3 (behind_extended rule)) initiator.1 in
     let range = cut_at program (range_at slot rule) (quota_at slot rule) (range_test rule.low rule.high (behind_range rule)) (from_quota rule) (range_after (range_at slot rule) rule.low rule.high (behind_range rule)) extended.1 in
-    let quota = cut_at program (quota_at slot rule) (verdict_at slot rule) (quota_test rule.quota 2) (verdict_code (ruling_code rule.ruling)) (quota_after (quota_at slot rule) rule.quota 2) range.1 in
+    let quota = cut_at program (quota_at slot rule) (verdict_at slot rule) (quota_test rule.quota 2) (verdict_code (verdict_number rule.verdict)) (quota_after (quota_at slot rule) rule.quota 2) range.1 in
     record { kind = kind.0; key = key.0; initiator = initiator.0; extended = extended.0; range = range.0; quota = quota.0; verdict = quota.1 }
 
 -- from a slot on, the rules decide, by all answers
@@ -180,7 +181,7 @@ rule_decides m slot rule rules fits code others = record {
   ends = λ told words.
       let end : ℕ = end_of slot rule in
       let header : Header = m.header in
-      let code_of : ℕ = ruling_code rule.ruling in
+      let code_of : ℕ = verdict_number rule.verdict in
       let later : Decision = decision rules header (λ k. told (suc k)) in
       let unmet : Decision = decision rules header told in
       let met : Decision = ruled rule.quota code_of told later in
@@ -194,7 +195,7 @@ rule_decides m slot rule rules fits code others = record {
       let extended_is = in_tail m 3 (extended_of (fields_of header)) (tail_loaded header m.is_header 3 (omega arith) refl) in
       let there : EndsFrom m end unmet = others.ends told words in
       let behind : EndsFrom m end later = others.ends (λ k. told (suc k)) (λ k. words (suc k)) in
-      let verdict : EndsFrom m (verdict_at slot rule) ([], code_of) = verdict_given m (verdict_at slot rule) code_of (small_code rule.ruling) code.verdict in
+      let verdict : EndsFrom m (verdict_at slot rule) ([], code_of) = verdict_given m (verdict_at slot rule) code_of (small_code rule.verdict) code.verdict in
       let quota : EndsFrom m (quota_at slot rule) met = quota_tested m (quota_at slot rule) end code_of rule.quota told later (words 0) fits.quota code.quota refl verdict behind in
       let range : EndsFrom m (range_at slot rule) (if last then met else unmet) = range_tested m (range_at slot rule) rule.low rule.high (behind_range rule) end met unmet fits.low fits.high code.range (omega arith) quota there in
       let with_range : Decision = if last then met else unmet in
@@ -379,7 +380,7 @@ whole_ends : StepPerforms → (rules : List Rule) (budget : ℕ) → All FitsFie
     → Finishes (table_program budget rules) header (entry_state port) (decision rules header told)
 whole_ends performs rules budget fits header port told is_header words =
     let p : Program = table_program budget rules in
-    let m : Setting = record { program = p; header = header; performs = λ h s insn here known. performs p h s (subst (λ (o : Option Insn). knows_insn 1 o ≡ true) (sym here) known) ∙ ap (λ (o : Option Insn). perform_at h s o) here; is_header = is_header } in
+    let m : Setting = record { program = p; header = header; performs = λ h s insn here known. performs p h s (subst (λ (o : Option Insn). knows_insn One o ≡ true) (sym here) known) ∙ ap (λ (o : Option Insn). perform_at h s o) here; is_header = is_header } in
     let d : Decision = decision rules header told in
     let code : StandAt p 0 (table_code rules) = stand p [] (table_code rules) refl in
     let apart : StandAt p 0 (address_code ++ (last_address_code ++ rules_code rules)) = subst (λ (insns : List Insn). StandAt p 0 insns) (append_assoc address_code last_address_code (rules_code rules)) code in

@@ -3,6 +3,7 @@ use Rattle.std.proofs.Common.{◌≡◌, ◌<◌, ◌^◌, ◌+◌, ℕ, suc, Bo
 use Rattle.std.specs.Prelude.{ℤ, pos, is_some}
 use Rattle.std.specs.List.{flat_map}
 use Rattle.std.proofs.Math.Seq.{get_or-append_seam}
+use Rattle.bpf.specs.declared.version.Version.TheVariants.{One}
 use Rattle.bpf.specs.Program.{Program, insn_at}
 use Rattle.bpf.specs.Parts.{placed_slots, second_slots}
 use Rattle.bpf_insn.specs.declared.insn.Insn.{Insn}
@@ -21,7 +22,7 @@ Decision = List Call × ℕ
 
 -- an instruction of version 1 of the format
 abbrev pub IsOfFirst : Insn → Type 0
-IsOfFirst insn = knows_flow 1 (flow_of insn) ≡ true
+IsOfFirst insn = knows_flow One (flow_of insn) ≡ true
 
 -- each step of a program whose instruction is one of version 1 is what it does
 abbrev pub Performs : Program → Type 0

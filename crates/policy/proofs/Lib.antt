@@ -1,6 +1,5 @@
 mod Outcomes
 mod Readings
-mod TextLines
 mod Numerals
 mod Finishing
 mod Headers
@@ -10,3 +9,4 @@ mod Weighing
 mod Fitting
 mod Refused
 mod Justified
+mod VerdictWords

@@ -6,7 +6,7 @@ use Rattle.std.proofs.lemmas.List.Elements.{All-head, All-tail}
 use Rattle.machine.specs.declared.calls.Call.{Call}
 use Rattle.machine.specs.Memory.{Header}
 use Rattle.machine.specs.Runs.{AreAnswered}
-use Rattle.policy.specs.Codes.{ruling_code}
+use Rattle.rmap.specs.Verdict.{verdict_number}
 use Rattle.policy.specs.Laws.{DrawsAreAnswered, DrawsAreFew, FirstRuleDecides, HeadersHaveFields, NoRuleRefuses}
 use Rattle.policy.specs.Meaning.{decision, draw, holds, ruled}
 use Rattle.policy.specs.declared.rules.Quota.{Quota}
@@ -48,8 +48,8 @@ few_if false held other n h g = omega (arith, g)
 pub draws_are_few : DrawsAreFew
 draws_are_few [] header told = omega arith
 draws_are_few (rule ∷ rules) header told =
-    few_if (holds rule header) (ruled rule.quota (ruling_code rule.ruling) told (decision rules header (λ k. told (suc k)))) (decision rules header told) (length rules)
-    (few_ruled rule.quota (ruling_code rule.ruling) told (decision rules header (λ k. told (suc k))) (length rules) (draws_are_few rules header (λ k. told (suc k))))
+    few_if (holds rule header) (ruled rule.quota (verdict_number rule.verdict) told (decision rules header (λ k. told (suc k)))) (decision rules header told) (length rules)
+    (few_ruled rule.quota (verdict_number rule.verdict) told (decision rules header (λ k. told (suc k))) (length rules) (draws_are_few rules header (λ k. told (suc k))))
     (draws_are_few rules header told)
 
 -- ---- their answers
@@ -72,8 +72,8 @@ answered_if false told held other h g = g
 pub draws_are_answered : DrawsAreAnswered
 draws_are_answered [] header told = tt
 draws_are_answered (rule ∷ rules) header told =
-    answered_if (holds rule header) told (ruled rule.quota (ruling_code rule.ruling) told (decision rules header (λ k. told (suc k)))) (decision rules header told)
-    (answered_ruled rule.quota (ruling_code rule.ruling) told (decision rules header (λ k. told (suc k))) (draws_are_answered rules header (λ k. told (suc k))))
+    answered_if (holds rule header) told (ruled rule.quota (verdict_number rule.verdict) told (decision rules header (λ k. told (suc k)))) (decision rules header told)
+    (answered_ruled rule.quota (verdict_number rule.verdict) told (decision rules header (λ k. told (suc k))) (draws_are_answered rules header (λ k. told (suc k))))
     (draws_are_answered rules header told)
 
 -- ---- which rule decides
@@ -95,17 +95,17 @@ unlimited (Some quota) code told rest e = cc
 pub passes_over : (rule : Rule) (rules : List Rule) (header : Header) (told : ℕ → ℕ) → holds rule header ≡ false
     → decision (rule ∷ rules) header told ≡ decision rules header told
 passes_over rule rules header told e =
-    skipped (holds rule header) (ruled rule.quota (ruling_code rule.ruling) told (decision rules header (λ k. told (suc k)))) (decision rules header told) e
+    skipped (holds rule header) (ruled rule.quota (verdict_number rule.verdict) told (decision rules header (λ k. told (suc k)))) (decision rules header told) e
 
 -- a rule whose conditions hold rules
 pub rules_by : (rule : Rule) (rules : List Rule) (header : Header) (told : ℕ → ℕ) → holds rule header ≡ true
-    → decision (rule ∷ rules) header told ≡ ruled rule.quota (ruling_code rule.ruling) told (decision rules header (λ k. told (suc k)))
+    → decision (rule ∷ rules) header told ≡ ruled rule.quota (verdict_number rule.verdict) told (decision rules header (λ k. told (suc k)))
 rules_by rule rules header told e =
-    taken (holds rule header) (ruled rule.quota (ruling_code rule.ruling) told (decision rules header (λ k. told (suc k)))) (decision rules header told) e
+    taken (holds rule header) (ruled rule.quota (verdict_number rule.verdict) told (decision rules header (λ k. told (suc k)))) (decision rules header told) e
 
 pub first_rule : FirstRuleDecides
 first_rule [] after rule header told all held none =
-    rules_by rule after header told held ∙ unlimited rule.quota (ruling_code rule.ruling) told (decision after header (λ k. told (suc k))) none
+    rules_by rule after header told held ∙ unlimited rule.quota (verdict_number rule.verdict) told (decision after header (λ k. told (suc k))) none
 first_rule (other ∷ before) after rule header told all held none =
     let P : Rule → Type 0 = λ r. holds r header ≡ false in
     passes_over other (before ++ rule ∷ after) header told (All-head P other before all)
@@ -151,7 +151,7 @@ draws_on rule later header answers drawn answer quota held is first spent =
     let behind : rest ≡ decision later header (told_from answers (drawn + 1)) = decision_same later header (λ k. told (suc k)) (told_from answers (drawn + 1)) (λ k. ap (λ (i : ℕ). slice_index answers i) (omega arith)) in
     let pair : List Call × ℕ → List Call × ℕ = λ d. (draw quota answer ∷ d.0, d.1) in
     let over : nat_lt (told 0) quota.limit ≡ false = ap (λ (a : ℕ). nat_lt a quota.limit) here ∙ spent in
-    rules_by rule later header told held ∙ limited rule.quota quota (ruling_code rule.ruling) told rest is over
+    rules_by rule later header told held ∙ limited rule.quota quota (verdict_number rule.verdict) told rest is over
     ∙ ap (λ (a : ℕ). (draw quota a ∷ rest.0, rest.1)) here ∙ ap pair behind
 
 -- what is left to decide after a draw, with the draw behind the calls before it

@@ -1,16 +1,16 @@
 -- A line writes one rule at most, and lines in turn write rules in turn.
-use Rattle.std.proofs.Common.{◌≡◌, ◌+◌, ◌*◌, ◌<◌, ℕ, zero, suc, List, [], ◌∷◌, ◌++◌, length, take, drop, get_or, Option, Some, None, refl, sym, ap, subst, ◌∙◌, arith}
+use Rattle.std.proofs.Common.{◌≡◌, ◌+◌, ◌*◌, ℕ, List, [], ◌∷◌, ◌++◌, length, get_or, Option, Some, None, refl, sym, ap, subst, ◌∙◌, arith}
 use Rattle.std.specs.Prelude.{min}
 use Rattle.std.specs.Str.Parse.{digits_value}
 use Rattle.spw.specs.Line.{lines_of}
-use Rattle.policy.specs.Fields.{IsAddress, IsField, IsKind, IsQuota, IsRuling, WritesQuota, parts_of}
+use Rattle.policy.specs.Fields.{IsAddress, IsField, IsKind, IsQuota, IsVerdict, WritesQuota, parts_of}
 use Rattle.policy.specs.Lines.{AreRules, IsRule, TableIsUnambiguous}
 use Rattle.policy.specs.declared.rules.Quota.{Quota}
 use Rattle.policy.specs.declared.rules.Rule.{Rule}
 use Rattle.policy.specs.declared.rules.RuleKind.{RuleKind}
 use Rattle.policy.specs.declared.rules.RuleKind.TheVariants.{Read, Write, Rmw, Any}
-use Rattle.policy.specs.declared.rules.Ruling.{Ruling}
-use Rattle.policy.specs.declared.rules.Ruling.TheVariants.{Yes, Key, No, Address}
+use Rattle.rmap.specs.declared.verdict.Verdict.{Verdict}
+use Rattle.policy.proofs.VerdictWords.{one_verdict}
 
 -- ---- the fields
 
@@ -35,24 +35,6 @@ one_kind word Any Read h g = absurd (omega (arith, ap front_of (sym h ∙ g)))
 one_kind word Any Write h g = absurd (omega (arith, ap front_of (sym h ∙ g)))
 one_kind word Any Rmw h g = absurd (omega (arith, ap front_of (sym h ∙ g)))
 one_kind word Any Any h g = refl
-
-pub one_ruling : (word : List ℕ) (a b : Ruling) → IsRuling word a → IsRuling word b → a ≡ b
-one_ruling word Yes Yes h g = refl
-one_ruling word Yes Key h g = absurd (omega (arith, ap front_of (sym h ∙ g)))
-one_ruling word Yes No h g = absurd (omega (arith, ap front_of (sym h ∙ g)))
-one_ruling word Yes Address h g = absurd (omega (arith, ap front_of (sym h ∙ g)))
-one_ruling word Key Yes h g = absurd (omega (arith, ap front_of (sym h ∙ g)))
-one_ruling word Key Key h g = refl
-one_ruling word Key No h g = absurd (omega (arith, ap front_of (sym h ∙ g)))
-one_ruling word Key Address h g = absurd (omega (arith, ap front_of (sym h ∙ g)))
-one_ruling word No Yes h g = absurd (omega (arith, ap front_of (sym h ∙ g)))
-one_ruling word No Key h g = absurd (omega (arith, ap front_of (sym h ∙ g)))
-one_ruling word No No h g = refl
-one_ruling word No Address h g = absurd (omega (arith, ap front_of (sym h ∙ g)))
-one_ruling word Address Yes h g = absurd (omega (arith, ap front_of (sym h ∙ g)))
-one_ruling word Address Key h g = absurd (omega (arith, ap front_of (sym h ∙ g)))
-one_ruling word Address No h g = absurd (omega (arith, ap front_of (sym h ∙ g)))
-one_ruling word Address Address h g = refl
 
 pub one_field : (word : List ℕ) (a b : Option ℕ) → IsField word a → IsField word b → a ≡ b
 one_field word None None h g = refl
@@ -93,8 +75,8 @@ one_quota word (Some x) (Some y) h g = ap Some (same_quota word x y h g)
 
 -- ---- a line
 
-abbrev rule_with : RuleKind → (key initiator extended : Option ℕ) → (low high : ℕ) → Option Quota → Ruling → Rule
-rule_with kind key initiator extended low high quota ruling = record {
+abbrev rule_with : RuleKind → (key initiator extended : Option ℕ) → (low high : ℕ) → Option Quota → Verdict → Rule
+rule_with kind key initiator extended low high quota verdict = record {
   kind = kind;
   key = key;
   initiator = initiator;
@@ -102,23 +84,23 @@ rule_with kind key initiator extended low high quota ruling = record {
   low = low;
   high = high;
   quota = quota;
-  ruling = ruling;
+  verdict = verdict;
 }
 
-same_rule : (a b : Rule) → a.kind ≡ b.kind → a.key ≡ b.key → a.initiator ≡ b.initiator → a.extended ≡ b.extended → a.low ≡ b.low → a.high ≡ b.high → a.quota ≡ b.quota → a.ruling ≡ b.ruling → a ≡ b
-same_rule a b kind key initiator extended low high quota ruling =
-    ap (λ (x : RuleKind). rule_with x a.key a.initiator a.extended a.low a.high a.quota a.ruling) kind
-    ∙ ap (λ (x : Option ℕ). rule_with b.kind x a.initiator a.extended a.low a.high a.quota a.ruling) key
-    ∙ ap (λ (x : Option ℕ). rule_with b.kind b.key x a.extended a.low a.high a.quota a.ruling) initiator
-    ∙ ap (λ (x : Option ℕ). rule_with b.kind b.key b.initiator x a.low a.high a.quota a.ruling) extended
-    ∙ ap (λ (x : ℕ). rule_with b.kind b.key b.initiator b.extended x a.high a.quota a.ruling) low
-    ∙ ap (λ (x : ℕ). rule_with b.kind b.key b.initiator b.extended b.low x a.quota a.ruling) high
-    ∙ ap (λ (x : Option Quota). rule_with b.kind b.key b.initiator b.extended b.low b.high x a.ruling) quota
-    ∙ ap (λ (x : Ruling). rule_with b.kind b.key b.initiator b.extended b.low b.high b.quota x) ruling
+same_rule : (a b : Rule) → a.kind ≡ b.kind → a.key ≡ b.key → a.initiator ≡ b.initiator → a.extended ≡ b.extended → a.low ≡ b.low → a.high ≡ b.high → a.quota ≡ b.quota → a.verdict ≡ b.verdict → a ≡ b
+same_rule a b kind key initiator extended low high quota verdict =
+    ap (λ (x : RuleKind). rule_with x a.key a.initiator a.extended a.low a.high a.quota a.verdict) kind
+    ∙ ap (λ (x : Option ℕ). rule_with b.kind x a.initiator a.extended a.low a.high a.quota a.verdict) key
+    ∙ ap (λ (x : Option ℕ). rule_with b.kind b.key x a.extended a.low a.high a.quota a.verdict) initiator
+    ∙ ap (λ (x : Option ℕ). rule_with b.kind b.key b.initiator x a.low a.high a.quota a.verdict) extended
+    ∙ ap (λ (x : ℕ). rule_with b.kind b.key b.initiator b.extended x a.high a.quota a.verdict) low
+    ∙ ap (λ (x : ℕ). rule_with b.kind b.key b.initiator b.extended b.low x a.quota a.verdict) high
+    ∙ ap (λ (x : Option Quota). rule_with b.kind b.key b.initiator b.extended b.low b.high x a.verdict) quota
+    ∙ ap (λ (x : Verdict). rule_with b.kind b.key b.initiator b.extended b.low b.high b.quota x) verdict
 
 pub one_rule : (line : List ℕ) (a b : Rule) → IsRule line a → IsRule line b → a ≡ b
 one_rule line a b h g =
-    let same : h.kind ∷ h.key ∷ h.initiator ∷ h.extended ∷ h.low ∷ h.high ∷ h.quota ∷ h.ruling ∷ [] ≡ g.kind ∷ g.key ∷ g.initiator ∷ g.extended ∷ g.low ∷ g.high ∷ g.quota ∷ g.ruling ∷ [] = sym h.words ∙ g.words in
+    let same : h.kind ∷ h.key ∷ h.initiator ∷ h.extended ∷ h.low ∷ h.high ∷ h.quota ∷ h.verdict ∷ [] ≡ g.kind ∷ g.key ∷ g.initiator ∷ g.extended ∷ g.low ∷ g.high ∷ g.quota ∷ g.verdict ∷ [] = sym h.words ∙ g.words in
     let kind : h.kind ≡ g.kind = ap (λ (w : List (List ℕ)). get_or w 0 []) same in
     let key : h.key ≡ g.key = ap (λ (w : List (List ℕ)). get_or w 1 []) same in
     let initiator : h.initiator ≡ g.initiator = ap (λ (w : List (List ℕ)). get_or w 2 []) same in
@@ -126,7 +108,7 @@ one_rule line a b h g =
     let low : h.low ≡ g.low = ap (λ (w : List (List ℕ)). get_or w 4 []) same in
     let high : h.high ≡ g.high = ap (λ (w : List (List ℕ)). get_or w 5 []) same in
     let quota : h.quota ≡ g.quota = ap (λ (w : List (List ℕ)). get_or w 6 []) same in
-    let ruling : h.ruling ≡ g.ruling = ap (λ (w : List (List ℕ)). get_or w 7 []) same in
+    let verdict : h.verdict ≡ g.verdict = ap (λ (w : List (List ℕ)). get_or w 7 []) same in
     same_rule a b
     (one_kind g.kind a.kind b.kind (subst (λ (w : List ℕ). IsKind w a.kind) kind h.is_kind) g.is_kind)
     (one_field g.key a.key b.key (subst (λ (w : List ℕ). IsField w a.key) key h.is_key) g.is_key)
@@ -135,7 +117,7 @@ one_rule line a b h g =
     (one_address g.low a.low b.low (subst (λ (w : List ℕ). IsAddress w a.low) low h.is_low) g.is_low)
     (one_address g.high a.high b.high (subst (λ (w : List ℕ). IsAddress w a.high) high h.is_high) g.is_high)
     (one_quota g.quota a.quota b.quota (subst (λ (w : List ℕ). IsQuota w a.quota) quota h.is_quota) g.is_quota)
-    (one_ruling g.ruling a.ruling b.ruling (subst (λ (w : List ℕ). IsRuling w a.ruling) ruling h.is_ruling) g.is_ruling)
+    (one_verdict g.verdict a.verdict b.verdict (subst (λ (w : List ℕ). IsVerdict w a.verdict) verdict h.is_verdict) g.is_verdict)
 
 -- ---- lines
 
@@ -165,9 +147,3 @@ no_rules [] after line none [] are = are
 no_rules [] after line none (rule ∷ rules) are = none rule are.0
 no_rules (first ∷ before) after line none [] are = are
 no_rules (first ∷ before) after line none (rule ∷ rules) are = no_rules before after line none rules are.1
-
--- the lines round one of them
-pub around : (lines : List (List ℕ)) (n : ℕ) (line : List ℕ) → n < length lines → lines ≡ take n lines ++ get_or lines n line ∷ drop (suc n) lines
-around [] n line low = absurd (omega (arith, low))
-around (first ∷ lines) zero line low = refl
-around (first ∷ lines) (suc n) line low = ap (λ (l : List (List ℕ)). first ∷ l) (around lines n line (omega (arith, low)))

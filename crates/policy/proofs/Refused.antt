@@ -6,11 +6,12 @@ use Rattle.std.proofs.Math.Seq.{drop-cons}
 use Rattle.std.proofs.lemmas.Bool.{ltb-false, ltb-true, and_parts}
 use Rattle.std.proofs.lemmas.List.Elements.{All-cons, All-nil}
 use Rattle.machine.specs.declared.calls.Call.{Call}
+use Rattle.machine.specs.Helpers.{takes_kind}
+use Rattle.machine.specs.declared.helpers.Helper.TheVariants.{Ticket}
 use Rattle.machine.specs.Sizes.{IsInside, Maps, kind_of_map}
-use Rattle.machine.specs.Step.{is_counter}
 use Rattle.machine.specs.declared.kinds.MapKind.{MapKind}
 use Rattle.machine.specs.declared.kinds.MapKind.TheVariants.{Counter, Peak}
-use Rattle.policy.specs.Codes.{ruling_code}
+use Rattle.rmap.specs.Verdict.{verdict_number}
 use Rattle.policy.specs.Compiled.{HasCells, IsCompileFault, IsOfCounter, compile_fault, has_cell, quota_fault, rule_fault, rules_fault}
 use Rattle.policy.specs.Meaning.{decision, draw, holds, ruled}
 use Rattle.policy.specs.declared.faults.PolicyFault.{PolicyFault}
@@ -97,13 +98,13 @@ none_second : (f g : Option PolicyFault) → option_or f g ≡ None → g ≡ No
 none_second None g is = is
 none_second (Some fault) g is = cc
 
-counts : (kind : MapKind) → is_counter kind ≡ true → kind ≡ Counter
+counts : (kind : MapKind) → takes_kind Ticket kind ≡ true → kind ≡ Counter
 counts Counter is = refl
 counts Peak is = absurd cc
 
 inside : (sizes : Maps) (quota : Quota) → has_cell sizes quota ≡ true → IsInside sizes quota.map quota.cell × (kind_of_map sizes quota.map ≡ Counter)
 inside sizes quota is =
-    let whole = and_parts (nat_lt quota.map (length sizes.cells) && nat_lt quota.cell (slice_index sizes.cells quota.map)) (is_counter (kind_of_map sizes quota.map)) is in
+    let whole = and_parts (nat_lt quota.map (length sizes.cells) && nat_lt quota.cell (slice_index sizes.cells quota.map)) (takes_kind Ticket (kind_of_map sizes quota.map)) is in
     let parts = and_parts (nat_lt quota.map (length sizes.cells)) (nat_lt quota.cell (slice_index sizes.cells quota.map)) whole.0 in
     (record { map_exists = ltb-true _ _ parts.0; key_exists = ltb-true _ _ parts.1 }, counts (kind_of_map sizes quota.map) whole.1)
 
@@ -137,8 +138,8 @@ decision_inside sizes [] none header told = All-nil (IsOfCounter sizes)
 decision_inside sizes (rule ∷ rules) none header told =
     let later : List Call × ℕ = decision rules header (λ k. told (suc k)) in
     let faults = no_faults sizes rule rules none in
-    either_inside (holds rule header) sizes (ruled rule.quota (ruling_code rule.ruling) told later) (decision rules header told)
-    (ruled_inside sizes rule.quota (ruling_code rule.ruling) told later faults.0 (decision_inside sizes rules faults.1 header (λ k. told (suc k))))
+    either_inside (holds rule header) sizes (ruled rule.quota (verdict_number rule.verdict) told later) (decision rules header told)
+    (ruled_inside sizes rule.quota (verdict_number rule.verdict) told later faults.0 (decision_inside sizes rules faults.1 header (λ k. told (suc k))))
     (decision_inside sizes rules faults.1 header told)
 
 -- the rules of a table without a fault have none

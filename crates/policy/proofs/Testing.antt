@@ -2,7 +2,9 @@
 -- first slot, and where not, what ends from the end of its rule.
 use Rattle.std.proofs.Common.{◌≡◌, ◌<◌, ◌^◌, ◌+◌, ℕ, Bool, true, false, [], ◌∷◌, Option, Some, None, refl, sym, ap, ◌∙◌, subst, arith}
 use Rattle.std.specs.Prelude.{pos, ◌&&◌, ◌==◌, not, nat_lt, nat_le, bit_and, if◌then◌else◌, slice_index}
-use Rattle.bpf_parts.specs.declared.callee.Callee.TheVariants.{Helper}
+use Rattle.bpf_parts.specs.declared.callee.Callee.TheVariants as callees
+use Rattle.machine.specs.declared.helpers.Helper.TheVariants.{Ticket}
+use Rattle.machine.specs.Helpers.{helper_number}
 use Rattle.bpf_parts.specs.declared.memory.LoadSize.TheVariants.{LoadByte}
 use Rattle.bpf_parts.specs.declared.operation.AluOp.TheVariants.{And}
 use Rattle.bpf_parts.specs.declared.operation.Condition.TheVariants.{Greater, GreaterEqual, Less, NotEqual}
@@ -285,7 +287,7 @@ drawn m slot end code answer quota rest small limited insns target behind there 
       let on : EndsFrom m (slot + 2 + 1 + 1 + 1) ([], code) = from_slot m (slot + 5) (slot + 2 + 1 + 1 + 1) ([], code) five behind in
       let stand_three : StandsOn m.header three = record { front = stands.front; tail = stands.tail; first_address = stands.first_address; last_address = stands.last_address } in
       let last : Finishes m.program m.header v d = turned m (slot + 2 + 1 + 1) 2 end three stack jump ([], code) rest holds insns.1.1.1.0 refl done aim stand_three on there in
-      let call_done : Finishes m.program m.header u whole = asked m.program m.header u (question 2 quota.map quota.cell 0) (after_answer u) (Call Helper (pos 2)) answer d m.performs insns.1.1.0 refl refl small last in
+      let call_done : Finishes m.program m.header u whole = asked m.program m.header u (question Ticket quota.map quota.cell 0) (after_answer u) (Call callees.Helper (pos (helper_number Ticket))) answer d m.performs insns.1.1.0 refl refl small last in
       let key : Finishes m.program m.header t whole = number_next m (slot + 2) 2 quota.cell one stack whole cell_small refl insns.1.0 call_done in
       let map : Finishes m.program m.header s whole = next m.program m.header s t (LoadMap 1 (pos quota.map)) whole m.performs insns.0 refl refl key in
       subst (λ (e : Decision). Finishes m.program m.header s e) (drawn_first holds (draw quota answer) ([], code) rest) map;

@@ -3,6 +3,7 @@ use Rattle.std.specs.Prelude.{is_some}
 use Rattle.std.specs.List.{flat_map}
 use Rattle.std.proofs.Common.{◌≡◌, ◌≤◌, ◌+◌, ◌*◌, ℕ, Bool, true, false, List, [], ◌∷◌, ◌++◌, length, Option, Some, None, Ok, refl, ap, arith, add-zero, length-append}
 use Rattle.std.proofs.lemmas.Bool.{le-leb}
+use Rattle.bpf.specs.declared.version.Version.TheVariants.{One}
 use Rattle.bpf.specs.Parts.{parts_fault, parts_reading, placed_slots, second_slots, unless}
 use Rattle.bpf.specs.Program.{program}
 use Rattle.bpf.specs.Reading.{is_budget, is_count}
@@ -11,7 +12,7 @@ use Rattle.bpf.specs.declared.fault.ImageFault.{ImageFault}
 use Rattle.bpf_insn.specs.declared.insn.Insn.{Insn}
 use Rattle.bpf_insn.specs.Spelling.{second_immediate}
 use Rattle.policy.specs.Code.{address_code, behind_extended, behind_initiator, behind_key, behind_kind, behind_range, field_test, kind_test, last_address_code, quota_test, range_test, rule_code, rules_code, table_code, verdict_code}
-use Rattle.policy.specs.Codes.{ruling_code}
+use Rattle.rmap.specs.Verdict.{verdict_number}
 use Rattle.policy.specs.declared.rules.Quota.{Quota}
 use Rattle.policy.specs.declared.rules.Rule.{Rule}
 use Rattle.policy.specs.declared.rules.RuleKind.{RuleKind}
@@ -38,7 +39,7 @@ all_lengths a b c d e f g = simp length-append
 
 rule_few : (rule : Rule) → length (rule_code rule) ≤ 19
 rule_few rule =
-    let all = all_lengths (kind_test rule.kind (behind_kind rule)) (field_test rule.key 6 3 (behind_key rule)) (field_test rule.initiator 7 0 (behind_initiator rule)) (field_test rule.extended 7 3 (behind_extended rule)) (range_test rule.low rule.high (behind_range rule)) (quota_test rule.quota 2) (verdict_code (ruling_code rule.ruling)) in
+    let all = all_lengths (kind_test rule.kind (behind_kind rule)) (field_test rule.key 6 3 (behind_key rule)) (field_test rule.initiator 7 0 (behind_initiator rule)) (field_test rule.extended 7 3 (behind_extended rule)) (range_test rule.low rule.high (behind_range rule)) (quota_test rule.quota 2) (verdict_code (verdict_number rule.verdict)) in
     omega (arith, all, kind_few rule.kind (behind_kind rule), field_few rule.key 6 3 (behind_key rule), field_few rule.initiator 7 0 (behind_initiator rule), field_few rule.extended 7 3 (behind_extended rule), quota_few rule.quota 2)
 
 rules_few : (rules : List Rule) → length (rules_code rules) ≤ 2 + 19 * length rules
@@ -101,21 +102,21 @@ weight_is (insn ∷ insns) slot =
     omega (arith, both, first, rest)
 
 -- a program without a loop weighs as many as its instructions
-pub weighs : (insns : List Insn) (budget : ℕ) → weight_of (program 1 budget [] (flat_map placed_slots insns)) ≡ length insns
+pub weighs : (insns : List Insn) (budget : ℕ) → weight_of (program One budget [] (flat_map placed_slots insns)) ≡ length insns
 weighs insns budget = weight_is insns 0
 
 -- ---- parts of an image
 
-counted : (slots budget : ℕ) → is_count 0 slots 0 ≡ true → is_budget budget ≡ true → parts_fault 1 slots [] budget ≡ None
+counted : (slots budget : ℕ) → is_count 0 slots 0 ≡ true → is_budget budget ≡ true → parts_fault slots [] budget ≡ None
 unfolding parts_fault
 counted slots budget count small = rw (count, small) refl
 
 -- so many instructions are a program
-pub are_parts : (insns : List Insn) → 1 ≤ length insns → length insns ≤ 256 → parts_reading 1 insns [] (length insns) ≡ Ok (program 1 (length insns) [] (flat_map placed_slots insns))
+pub are_parts : (insns : List Insn) → 1 ≤ length insns → length insns ≤ 256 → parts_reading One insns [] (length insns) ≡ Ok (program One (length insns) [] (flat_map placed_slots insns))
 are_parts insns some few =
     let n : ℕ = length (flat_map placed_slots insns) in
     let up : n ≤ 512 = omega (arith, slots_few insns) in
     let down : 1 ≤ n = omega (arith, slots_many insns) in
     let count : is_count 0 n 0 ≡ true = rw (le-leb 1 n down, le-leb n 512 up) refl in
     let budget : is_budget (length insns) ≡ true = rw (le-leb 1 (length insns) some, le-leb (length insns) 65536 (omega arith)) refl in
-    ap (λ (o : Option ImageFault). unless o (program 1 (length insns) [] (flat_map placed_slots insns))) (counted n (length insns) count budget)
+    ap (λ (o : Option ImageFault). unless o (program One (length insns) [] (flat_map placed_slots insns))) (counted n (length insns) count budget)

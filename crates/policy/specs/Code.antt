@@ -3,7 +3,7 @@
 -- r0 is what is compared.
 use Rattle.std.specs.Prelude.{ℕ, ◌+◌, pos, List, [], ◌∷◌, ◌++◌, Option, Some, None}
 use Rattle.std.specs.Int.{w32, cast_signed}
-use Rattle.bpf_parts.specs.declared.callee.Callee.TheVariants.{Helper}
+use Rattle.bpf_parts.specs.declared.callee.Callee.TheVariants as callees
 use Rattle.bpf_parts.specs.declared.memory.LoadSize.{LoadSize}
 use Rattle.bpf_parts.specs.declared.memory.LoadSize.TheVariants.{LoadByte, LoadWord}
 use Rattle.bpf_parts.specs.declared.operation.AluOp.{AluOp}
@@ -17,7 +17,20 @@ use Rattle.bpf_parts.specs.declared.operation.SwapBits.TheVariants.{Swap32}
 use Rattle.bpf_parts.specs.declared.operation.Width.TheVariants.{Bits32, Bits64}
 use Rattle.bpf_insn.specs.declared.insn.Insn.{Insn}
 use Rattle.bpf_insn.specs.declared.insn.Insn.TheVariants.{Alu, ByteSwap, Load, Jump, LoadMap, Call, Exit}
-use Rattle.policy.specs.Codes.{ruling_code}
+use Rattle.machine.specs.declared.helpers.Helper.TheVariants.{Ticket}
+use Rattle.machine.specs.Helpers.{helper_number}
+use Rattle.rmap.specs.declared.field.TheConstants.{INSTRUCTION, KEY, INITIATOR, EXTENDED, ADDRESS, LENGTH}
+use Rattle.rmap.specs.declared.instruction.TheConstants.{
+  READ_MASK,
+  READ_BITS,
+  WRITE_MASK,
+  WRITE_BITS,
+  RMW_MASK,
+  RMW_BITS,
+  INCREMENT_BIT,
+}
+use Rattle.rmap.specs.declared.verdict.Verdict.TheVariants.{NotAuthorised}
+use Rattle.rmap.specs.Verdict.{verdict_number}
 use Rattle.policy.specs.declared.rules.Quota.{Quota}
 use Rattle.policy.specs.declared.rules.Rule.{Rule}
 use Rattle.policy.specs.declared.rules.RuleKind.{RuleKind}
@@ -55,16 +68,16 @@ skips_if condition dst src skipped =
 -- the instruction byte under a mask is that number
 abbrev pub masked_test : (mask wanted behind : ℕ) → List Insn
 masked_test mask wanted behind =
-    loaded LoadByte 0 6 2 ∷ applied And 0 (Immediate (pos mask))
+    loaded LoadByte 0 6 INSTRUCTION ∷ applied And 0 (Immediate (pos mask))
     ∷ skips_if NotEqual 0 (Immediate (pos wanted)) behind ∷ []
 
 -- the command is of the kind: packet type and command code of the instruction byte (ECSS-E-ST-50-52C, instruction
 -- field)
 abbrev pub kind_test : RuleKind → (behind : ℕ) → List Insn
 kind_test Any behind = []
-kind_test Read behind = masked_test 248 72 behind
-kind_test Write behind = masked_test 224 96 behind
-kind_test Rmw behind = masked_test 252 92 behind
+kind_test Read behind = masked_test READ_MASK READ_BITS behind
+kind_test Write behind = masked_test WRITE_MASK WRITE_BITS behind
+kind_test Rmw behind = masked_test RMW_MASK RMW_BITS behind
 
 -- a byte of the header is that of the field
 abbrev pub field_test : Option ℕ → (base offset behind : ℕ) → List Insn
@@ -82,12 +95,12 @@ range_test low high behind =
 abbrev pub quota_test : Option Quota → (behind : ℕ) → List Insn
 quota_test None behind = []
 quota_test (Some quota) behind =
-    LoadMap 1 (pos quota.map) ∷ set_to 2 quota.cell ∷ Call Helper (pos 2)
+    LoadMap 1 (pos quota.map) ∷ set_to 2 quota.cell ∷ Call callees.Helper (pos (helper_number Ticket))
     ∷ skips_if GreaterEqual 0 (Immediate (pos quota.limit)) behind ∷ []
 
--- the end of a run with the verdict
-abbrev pub verdict_code : (code : ℕ) → List Insn
-verdict_code code = set_to 0 code ∷ Exit ∷ []
+-- the end of a run with the number of a verdict
+abbrev pub verdict_code : (number : ℕ) → List Insn
+verdict_code number = set_to 0 number ∷ Exit ∷ []
 
 -- ---- rules
 
@@ -132,12 +145,12 @@ behind_kind rule = behind_key rule + field_slots rule.key
 abbrev pub rule_code : Rule → List Insn
 rule_code rule =
     kind_test rule.kind (behind_kind rule)
-    ++ field_test rule.key 6 3 (behind_key rule)
-    ++ field_test rule.initiator 7 0 (behind_initiator rule)
-    ++ field_test rule.extended 7 3 (behind_extended rule)
+    ++ field_test rule.key 6 KEY (behind_key rule)
+    ++ field_test rule.initiator 7 INITIATOR (behind_initiator rule)
+    ++ field_test rule.extended 7 EXTENDED (behind_extended rule)
     ++ range_test rule.low rule.high (behind_range rule)
     ++ quota_test rule.quota 2
-    ++ verdict_code (ruling_code rule.ruling)
+    ++ verdict_code (verdict_number rule.verdict)
 
 -- ---- tables
 
@@ -145,20 +158,21 @@ rule_code rule =
 abbrev pub address_code : List Insn
 address_code =
     applied Mov 6 (FromRegister 1) ∷ applied Mov 7 (FromRegister 2)
-    ∷ loaded LoadWord 8 7 4 ∷ swapped 8 ∷ applied Mov 9 (FromRegister 8) ∷ []
+    ∷ loaded LoadWord 8 7 ADDRESS ∷ swapped 8 ∷ applied Mov 9 (FromRegister 8) ∷ []
 
 -- the last address: with the increment bit and a data length that is not zero it is as many bytes behind the first
 -- as the length says, less one
 abbrev pub last_address_code : List Insn
 last_address_code =
-    loaded LoadByte 0 6 2 ∷ applied And 0 (Immediate (pos 4)) ∷ skips_if Equal 0 (Immediate (pos 0)) 6
-    ∷ loaded LoadWord 0 7 8 ∷ swapped 0 ∷ applied Rsh 0 (Immediate (pos 8))
+    loaded LoadByte 0 6 INSTRUCTION ∷ applied And 0 (Immediate (pos INCREMENT_BIT))
+    ∷ skips_if Equal 0 (Immediate (pos 0)) 6
+    ∷ loaded LoadWord 0 7 LENGTH ∷ swapped 0 ∷ applied Rsh 0 (Immediate (pos 8))
     ∷ skips_if Equal 0 (Immediate (pos 0)) 2
     ∷ applied Add 9 (FromRegister 0) ∷ applied Sub 9 (Immediate (pos 1)) ∷ []
 
 -- the rules in order, and behind them the verdict where none matches
 abbrev pub rules_code : List Rule → List Insn
-rules_code [] = verdict_code 10
+rules_code [] = verdict_code (verdict_number NotAuthorised)
 rules_code (rule ∷ rules) = rule_code rule ++ rules_code rules
 
 -- the program of a table

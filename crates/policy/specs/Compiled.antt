@@ -1,13 +1,32 @@
 -- What a policy table is compiled to: its first fault, or a program that has its meaning.
-use Rattle.std.specs.Prelude.{◌≡◌, ◌<◌, ℕ, Bool, ◌&&◌, nat_lt, if◌then◌else◌, List, [], ◌∷◌, length, slice_index, Option, Some, None, All}
+use Rattle.std.specs.Prelude.{
+  ◌≡◌,
+  ◌<◌,
+  ℕ,
+  Bool,
+  ◌&&◌,
+  nat_lt,
+  if◌then◌else◌,
+  List,
+  [],
+  ◌∷◌,
+  length,
+  slice_index,
+  Option,
+  Some,
+  None,
+  All,
+}
 use Rattle.std.specs.Option.{option_or}
 use Rattle.bpf.specs.Program.{Program}
+use Rattle.bpf.specs.declared.version.Version.TheVariants.{One}
 use Rattle.bpf.specs.Weight.{weight_of}
 use Rattle.machine.specs.declared.calls.Call.{Call}
 use Rattle.machine.specs.Memory.{Header, IsHeader}
 use Rattle.machine.specs.Runs.{AreAnswered, Runs}
+use Rattle.machine.specs.Helpers.{takes_kind}
 use Rattle.machine.specs.Sizes.{IsInside, Maps, kind_of_map}
-use Rattle.machine.specs.Step.{is_counter}
+use Rattle.machine.specs.declared.helpers.Helper.TheVariants.{Ticket}
 use Rattle.machine.specs.declared.kinds.MapKind.TheVariants.{Counter}
 use Rattle.policy.specs.Meaning.{AreWords, decision}
 use Rattle.policy.specs.declared.faults.PolicyFault.{PolicyFault}
@@ -17,11 +36,11 @@ use Rattle.policy.specs.declared.rules.Rule.{Rule}
 
 -- ---- faults
 
--- whether the maps have the cell of a quota, in a counter map
+-- whether the maps have the cell of a quota, in a map of which tickets are drawn
 abbrev pub has_cell : Maps → Quota → Bool
 has_cell sizes quota =
     nat_lt quota.map (length sizes.cells) && nat_lt quota.cell (slice_index sizes.cells quota.map)
-    && is_counter (kind_of_map sizes quota.map)
+    && takes_kind Ticket (kind_of_map sizes quota.map)
 
 -- the fault of a quota: its cell is not there, or in a peak map
 abbrev pub quota_fault : Maps → Option Quota → Option PolicyFault
@@ -51,7 +70,7 @@ IsCompileFault first BadLine = ⊥
 
 -- ---- meaning
 
--- On every header and port, and for all answers of the counters, the program has a run with the table's draws and
+-- On every header and port, and for all answers of the cells, the program has a run with the table's draws and
 -- its verdict, and no other run.
 pub record HasMeaning (rules : List Rule) (program : Program) : Type 0 where
   pub runs : (header : Header) (port : ℕ) (told : ℕ → ℕ) → IsHeader header → port < 32 → AreWords told
@@ -71,11 +90,12 @@ abbrev pub HasCells : Maps → List Rule → Type 0
 HasCells sizes rules =
     (header : Header) (told : ℕ → ℕ) → All (IsOfCounter sizes) (decision rules header told).0
 
--- a program of a table: it has the table's meaning, no loop, and its weight as its budget, and the maps have the
--- cells that are drawn from
+-- a program of a table: it has the table's meaning, version 1, no loop, and its weight as its budget, and the maps have
+-- the cells that are drawn from
 pub record IsCompiled (sizes : Maps) (rules : List Rule) (program : Program) : Type 0 where
   pub faultless : compile_fault sizes rules ≡ None
   pub meaning : HasMeaning rules program
+  pub version : program.version ≡ One
   pub no_loop : program.loops ≡ []
   pub budget : program.budget ≡ weight_of program
   pub cells : HasCells sizes rules

@@ -1,12 +1,29 @@
 -- What each word of a rule writes.
-use Rattle.std.specs.Prelude.{◌≡◌, ◌≤◌, ◌==◌, ◌-◌, ◌^◌, ℕ, min, List, [], ◌∷◌, length, codes, Option, Some, None}
+use Rattle.std.specs.Prelude.{
+  ◌≡◌,
+  ◌≤◌,
+  ◌==◌,
+  ◌-◌,
+  ◌^◌,
+  ℕ,
+  min,
+  List,
+  [],
+  ◌∷◌,
+  length,
+  codes,
+  decimal,
+  Option,
+  Some,
+  None,
+}
 use Rattle.std.specs.List.{slice_split}
 use Rattle.std.specs.Str.Parse.{AllDigits, IsNumeral, digits_value}
 use Rattle.policy.specs.declared.rules.Quota.{Quota}
 use Rattle.policy.specs.declared.rules.RuleKind.{RuleKind}
 use Rattle.policy.specs.declared.rules.RuleKind.TheVariants.{Read, Write, Rmw, Any}
-use Rattle.policy.specs.declared.rules.Ruling.{Ruling}
-use Rattle.policy.specs.declared.rules.Ruling.TheVariants.{Yes, Key, No, Address}
+use Rattle.rmap.specs.declared.verdict.Verdict.{Verdict}
+use Rattle.rmap.specs.Verdict.{verdict_number}
 
 -- the word for a kind
 abbrev pub kind_word : RuleKind → List ℕ
@@ -64,13 +81,6 @@ abbrev pub IsQuota : List ℕ → Option Quota → Type 0
 IsQuota word None = word ≡ codes "-"
 IsQuota word (Some quota) = WritesQuota word quota
 
--- the word for a verdict
-abbrev pub ruling_word : Ruling → List ℕ
-ruling_word Yes = codes "0"
-ruling_word Key = codes "3"
-ruling_word No = codes "10"
-ruling_word Address = codes "12"
-
--- the word is that of the verdict
-abbrev pub IsRuling : List ℕ → Ruling → Type 0
-IsRuling word ruling = word ≡ ruling_word ruling
+-- the word is the number of the verdict in decimal (ECSS-E-ST-50-52C, error and status codes)
+abbrev pub IsVerdict : List ℕ → Verdict → Type 0
+IsVerdict word verdict = word ≡ decimal (verdict_number verdict)

@@ -2,8 +2,18 @@
 use Rattle.std.specs.Prelude.{◌≡◌, ◌≤◌, ℕ, true, false, List, [], ◌∷◌, ◌++◌, length, None, All}
 use Rattle.machine.specs.Memory.{Header, header}
 use Rattle.machine.specs.Runs.{AreAnswered}
-use Rattle.rmap.specs.Command.{CommandValue, key_of, initiator_of, extended_of, address_of, length_of, command_kind, increments}
-use Rattle.policy.specs.Codes.{ruling_code}
+use Rattle.rmap.specs.Command.{
+  CommandValue,
+  key_of,
+  initiator_of,
+  extended_of,
+  address_of,
+  length_of,
+  command_kind,
+  increments,
+}
+use Rattle.rmap.specs.Verdict.{verdict_number}
+use Rattle.rmap.specs.declared.verdict.Verdict.TheVariants.{NotAuthorised}
 use Rattle.policy.specs.declared.rules.Rule.{Rule}
 use Rattle.policy.specs.Meaning.{decision, fields_of, holds}
 
@@ -36,10 +46,11 @@ abbrev pub FirstRuleDecides : Type 0
 FirstRuleDecides =
     (before after : List Rule) (rule : Rule) (header : Header) (told : ℕ → ℕ)
     → All (λ other. holds other header ≡ false) before → holds rule header ≡ true → rule.quota ≡ None
-    → decision (before ++ rule ∷ after) header told ≡ ([], ruling_code rule.ruling)
+    → decision (before ++ rule ∷ after) header told ≡ ([], verdict_number rule.verdict)
 
--- where the conditions of no rule hold, nothing is drawn, and the verdict is 10
+-- where the conditions of no rule hold, nothing is drawn, and the command is not authorised
 abbrev pub NoRuleRefuses : Type 0
 NoRuleRefuses =
     (rules : List Rule) (header : Header) (told : ℕ → ℕ)
-    → All (λ rule. holds rule header ≡ false) rules → decision rules header told ≡ ([], 10)
+    → All (λ rule. holds rule header ≡ false) rules → decision rules header told
+    ≡ ([], verdict_number NotAuthorised)

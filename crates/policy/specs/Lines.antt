@@ -1,11 +1,10 @@
 -- The lines of a policy table: one rule a line, as words between spaces.
-use Rattle.std.specs.Prelude.{◌≡◌, ◌==◌, ℕ, List, [], ◌∷◌}
-use Rattle.std.specs.List.{slice_split}
+use Rattle.std.specs.Prelude.{◌≡◌, ℕ, List, [], ◌∷◌}
 use Rattle.spw.specs.Line.{lines_of, words_of}
 use Rattle.policy.specs.declared.faults.PolicyFault.{PolicyFault}
 use Rattle.policy.specs.declared.faults.PolicyFault.TheVariants.{TooLong, BadRange, Memory, NoCell, BadLine}
 use Rattle.policy.specs.declared.rules.Rule.{Rule}
-use Rattle.policy.specs.Fields.{IsKind, IsField, IsAddress, IsQuota, IsRuling}
+use Rattle.policy.specs.Fields.{IsKind, IsField, IsAddress, IsQuota, IsVerdict}
 
 -- the line has eight words, and each is that of its field: kind, key, initiator logical address, extended address,
 -- first and last address, quota and verdict
@@ -17,8 +16,8 @@ pub record IsRule (line : List ℕ) (rule : Rule) : Type 0 where
   pub low : List ℕ
   pub high : List ℕ
   pub quota : List ℕ
-  pub ruling : List ℕ
-  pub words : words_of line ≡ kind ∷ key ∷ initiator ∷ extended ∷ low ∷ high ∷ quota ∷ ruling ∷ []
+  pub verdict : List ℕ
+  pub words : words_of line ≡ kind ∷ key ∷ initiator ∷ extended ∷ low ∷ high ∷ quota ∷ verdict ∷ []
   pub is_kind : IsKind kind rule.kind
   pub is_key : IsField key rule.key
   pub is_initiator : IsField initiator rule.initiator
@@ -26,15 +25,11 @@ pub record IsRule (line : List ℕ) (rule : Rule) : Type 0 where
   pub is_low : IsAddress low rule.low
   pub is_high : IsAddress high rule.high
   pub is_quota : IsQuota quota rule.quota
-  pub is_ruling : IsRuling ruling rule.ruling
+  pub is_verdict : IsVerdict verdict rule.verdict
 
 -- the fault of a line that is no rule
 abbrev pub IsNoRule : List ℕ → PolicyFault → Type 0
 IsNoRule line fault = (fault ≡ BadLine) × ((rule : Rule) → ¬ IsRule line rule)
-
--- the pieces of a text between its line feeds (10)
-abbrev pub pieces_of : List ℕ → List (List ℕ)
-pieces_of text = slice_split (λ code. code == 10) text
 
 -- the lines are the rules, one for one
 abbrev pub AreRules : List (List ℕ) → List Rule → Type 0
@@ -61,4 +56,5 @@ IsReadFault lines BadLine = AreNoRules lines
 
 -- a text is one table at most
 abbrev pub TableIsUnambiguous : Type 0
-TableIsUnambiguous = (text : List ℕ) (rules others : List Rule) → IsTable text rules → IsTable text others → rules ≡ others
+TableIsUnambiguous =
+    (text : List ℕ) (rules others : List Rule) → IsTable text rules → IsTable text others → rules ≡ others

@@ -6,7 +6,8 @@ use Rattle.policy.specs.Meaning.{decision, holds}
 use Rattle.policy.specs.declared.rules.Quota.{Quota}
 use Rattle.policy.specs.declared.rules.Rule.{Rule}
 
--- the quota of a rule whose conditions hold, where its ticket is below the limit; one without a quota has none, and where
+-- the quota of a rule whose conditions hold, where its ticket is below the limit; one without a quota has
+-- none, and where
 -- the ticket is not below the limit the rest decides
 abbrev pub matched_by : Option Quota → (told : ℕ → ℕ) → (rest : Option Quota) → Option Quota
 matched_by None told rest = None

@@ -1,12 +1,46 @@
 -- What a policy table means for the header of a command: the tickets that it draws, and its verdict.
-use Rattle.std.specs.Prelude.{◌<◌, ◌^◌, ℕ, suc, ◌+◌, ◌-◌, Bool, true, false, ◌&&◌, ◌==◌, not, nat_le, nat_lt, if◌then◌else◌, List, [], ◌∷◌, slice_index, Option, Some, None}
+use Rattle.std.specs.Prelude.{
+  ◌<◌,
+  ◌^◌,
+  ℕ,
+  suc,
+  ◌+◌,
+  ◌-◌,
+  Bool,
+  true,
+  false,
+  ◌&&◌,
+  ◌==◌,
+  not,
+  nat_le,
+  nat_lt,
+  if◌then◌else◌,
+  List,
+  [],
+  ◌∷◌,
+  slice_index,
+  Option,
+  Some,
+  None,
+}
 use Rattle.machine.specs.declared.calls.Call.{Call}
+use Rattle.machine.specs.declared.helpers.Helper.TheVariants.{Ticket}
 use Rattle.machine.specs.Memory.{Header}
 use Rattle.spw.specs.declared.packets.End.TheVariants.{Eop}
 use Rattle.rmap.specs.declared.kind.Kind.{Kind}
 use Rattle.rmap.specs.declared.kind.Kind.TheVariants as kinds
-use Rattle.rmap.specs.Command.{CommandValue, key_of, initiator_of, extended_of, address_of, length_of, command_kind, increments}
-use Rattle.policy.specs.Codes.{ruling_code}
+use Rattle.rmap.specs.Command.{
+  CommandValue,
+  key_of,
+  initiator_of,
+  extended_of,
+  address_of,
+  length_of,
+  command_kind,
+  increments,
+}
+use Rattle.rmap.specs.Verdict.{verdict_number}
+use Rattle.rmap.specs.declared.verdict.Verdict.TheVariants.{NotAuthorised}
 use Rattle.policy.specs.declared.rules.Quota.{Quota}
 use Rattle.policy.specs.declared.rules.Rule.{Rule}
 use Rattle.policy.specs.declared.rules.RuleKind.{RuleKind}
@@ -57,9 +91,9 @@ holds_of rule c =
 abbrev pub holds : Rule → Header → Bool
 holds rule header = holds_of rule (fields_of header)
 
--- the ticket of a quota that is drawn, with its answer: helper 2
+-- the ticket of a quota that is drawn, with its answer
 abbrev pub draw : Quota → (answer : ℕ) → Call
-draw quota answer = record { helper = 2; map = quota.map; key = quota.cell; argument = 0; answer = answer }
+draw quota answer = record { helper = Ticket; map = quota.map; key = quota.cell; argument = 0; answer = answer }
 
 -- a rule whose conditions hold: without a quota it matches, with one it draws a ticket and matches where that is
 -- below the limit; else the rest decides
@@ -70,13 +104,13 @@ ruled (Some quota) code told rest =
     then (draw quota (told 0) ∷ [], code)
     else (draw quota (told 0) ∷ rest.0, rest.1)
 
--- the draws of a table on a header, each with its answer, and the verdict, 10 where no rule matches; `told` are the
--- answers in order
+-- the draws of a table on a header, each with its answer, and the number of the verdict, which is not authorised where
+-- no rule matches; `told` are the answers in order
 abbrev pub decision : List Rule → Header → (told : ℕ → ℕ) → List Call × ℕ
-decision [] header told = ([], 10)
+decision [] header told = ([], verdict_number NotAuthorised)
 decision (rule ∷ rules) header told =
     if holds rule header
-    then ruled rule.quota (ruling_code rule.ruling) told (decision rules header (λ k. told (suc k)))
+    then ruled rule.quota (verdict_number rule.verdict) told (decision rules header (λ k. told (suc k)))
     else decision rules header told
 
 -- the answers are words

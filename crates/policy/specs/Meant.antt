@@ -3,6 +3,7 @@ use Rattle.std.specs.Prelude.{◌≡◌, ◌≤◌, ℕ, List, [], length, None,
 use Rattle.std.specs.List.{flat_map}
 use Rattle.bpf.specs.Parts.{placed_slots}
 use Rattle.bpf.specs.Program.{IsProgram, Program, program}
+use Rattle.bpf.specs.declared.version.Version.TheVariants.{One}
 use Rattle.bpf.specs.Weight.{weight_of}
 use Rattle.bpf_insn.specs.declared.insn.Insn.{Insn}
 use Rattle.machine.specs.Sizes.{Maps}
@@ -14,7 +15,7 @@ use Rattle.policy.specs.declared.rules.Rule.{Rule}
 
 -- the program of these instructions, without a loop, in version 1 of the format
 abbrev pub straight_program : (budget : ℕ) → List Insn → Program
-straight_program budget insns = program 1 budget [] (flat_map placed_slots insns)
+straight_program budget insns = program One budget [] (flat_map placed_slots insns)
 
 -- a program is these instructions, without a loop, and each is performed once at most: their number is its budget
 pub record IsMadeOf (insns : List Insn) (program : Program) : Type 0 where

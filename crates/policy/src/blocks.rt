@@ -4,11 +4,16 @@
 ghost use Rattle.std.specs.Prelude.{◌≡◌, ◌≤◌, ◌<◌, ◌++◌, OnOk};
 ghost use Rattle.policy.specs.Code.{address_code, field_slots, field_test, kind_test, last_address_code, masked_test, quota_slots, quota_test, range_test, verdict_code};
 ghost use Rattle.policy.specs.Limits.{IsLimited};
+ghost use Rattle.rmap.specs.Verdict.{verdict_number};
 
 use crate::insns::{apply, load, register, set, set_bits, skip_if, source, swap};
-use crate::places::{ADDRESS, INSTRUCTION, LENGTH};
 use crate::rules::{Quota, RuleKind};
 use bpf_insn::{AluOp, Callee, Condition, Insn, LoadSize, Operand};
+use machine::Helper;
+use rmap::field::{ADDRESS, INSTRUCTION, LENGTH};
+use rmap::{
+    INCREMENT_BIT, READ_BITS, READ_MASK, RMW_BITS, RMW_MASK, Verdict, WRITE_BITS, WRITE_MASK,
+};
 use std::alloc::AllocError;
 
 /// r0: what is compared, the answer of a helper, and the verdict.
@@ -37,12 +42,6 @@ const FIRST: u8 = 8;
 
 /// r9: the last address of the command, which may pass the last of 32 bits.
 const LAST: u8 = 9;
-
-/// The helper that draws a ticket.
-const TICKET: i32 = 2;
-
-/// The increment bit of the instruction (ECSS-E-ST-50-52C, instruction field).
-const INCREMENT: i32 = 0b0000_0100;
 
 /// How many slots a test of the field has.
 pub fn field_slots(field: Option<u8>) -> u8
@@ -78,9 +77,9 @@ pub fn push_kind(insns: &mut Vec<Insn>, kind: RuleKind, behind: u8) -> Result<()
 {
     match kind {
         RuleKind::Any => Ok(()),
-        RuleKind::Read => push_masked(insns, 0b1111_1000, 0b0100_1000, behind),
-        RuleKind::Write => push_masked(insns, 0b1110_0000, 0b0110_0000, behind),
-        RuleKind::Rmw => push_masked(insns, 0b1111_1100, 0b0101_1100, behind),
+        RuleKind::Read => push_masked(insns, READ_MASK, READ_BITS, behind),
+        RuleKind::Write => push_masked(insns, WRITE_MASK, WRITE_BITS, behind),
+        RuleKind::Rmw => push_masked(insns, RMW_MASK, RMW_BITS, behind),
     }
 }
 
@@ -134,7 +133,7 @@ pub fn push_quota(insns: &mut Vec<Insn>, quota: Option<Quota>, behind: u8) -> Re
     };
     let ticket = Insn::Call {
         callee: Callee::Helper,
-        number: TICKET,
+        number: i32::from(Helper::Ticket.number()),
     };
     let limit = Operand::Immediate(quota.limit as i32);
     insns.extend_from_slice(&[
@@ -146,10 +145,11 @@ pub fn push_quota(insns: &mut Vec<Insn>, quota: Option<Quota>, behind: u8) -> Re
 }
 
 /// Ends a run with the verdict.
-pub fn push_verdict(insns: &mut Vec<Insn>, code: u8) -> Result<(), AllocError>
-    ensures { OnOk result (insns.new.items ≡ insns.old.items ++ verdict_code code) }
+pub fn push_verdict(insns: &mut Vec<Insn>, verdict: Verdict) -> Result<(), AllocError>
+    ensures { OnOk result
+        (insns.new.items ≡ insns.old.items ++ verdict_code (verdict_number verdict)) }
 {
-    insns.extend_from_slice(&[set(VALUE, u16::from(code)), Insn::Exit])
+    insns.extend_from_slice(&[set(VALUE, u16::from(verdict.number())), Insn::Exit])
 }
 
 /// Finds the parts of the header and the first address.
@@ -172,7 +172,11 @@ pub fn push_last_address(insns: &mut Vec<Insn>) -> Result<(), AllocError>
 {
     insns.extend_from_slice(&[
         load(LoadSize::LoadByte, VALUE, FRONT, INSTRUCTION),
-        apply(AluOp::And, VALUE, Operand::Immediate(INCREMENT)),
+        apply(
+            AluOp::And,
+            VALUE,
+            Operand::Immediate(i32::from(INCREMENT_BIT)),
+        ),
         skip_if(Condition::Equal, VALUE, Operand::Immediate(0), 6),
         load(LoadSize::LoadWord, VALUE, TAIL, LENGTH),
         swap(VALUE),

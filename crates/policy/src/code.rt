@@ -9,9 +9,10 @@ use crate::blocks::{
     FRONT, TAIL, field_slots, push_address, push_field, push_kind, push_last_address, push_quota,
     push_range, push_verdict, quota_slots,
 };
-use crate::places::{EXTENDED, INITIATOR, KEY};
-use crate::rules::{Rule, Ruling};
+use crate::rules::Rule;
 use bpf_insn::Insn;
+use rmap::Verdict;
+use rmap::field::{EXTENDED, INITIATOR, KEY};
 use std::alloc::{AllocError, Global};
 
 /// The most instructions of a rule.
@@ -42,7 +43,7 @@ fn push_rule(insns: &mut Vec<Insn>, rule: &Rule) -> Result<(), AllocError>
     push_field(insns, rule.extended, TAIL, EXTENDED, behind_extended)?;
     push_range(insns, rule.low, rule.high, behind_range)?;
     push_quota(insns, rule.quota, VERDICT_SLOTS)?;
-    push_verdict(insns, rule.ruling.code())
+    push_verdict(insns, rule.verdict)
 }
 
 /// The instructions of a table with these rules, at most 12.
@@ -57,6 +58,6 @@ pub fn table_insns(alloc: Global, rules: &[Rule]) -> Result<Vec<Insn>, AllocErro
     for rule in rules {
         push_rule(&mut insns, rule)?;
     }
-    push_verdict(&mut insns, Ruling::No.code())?;
+    push_verdict(&mut insns, Verdict::NotAuthorised)?;
     Ok(insns)
 }

@@ -4,8 +4,8 @@ ghost use Rattle.std.specs.Prelude.{◌≡◌, ◌≤◌, length, IfErr, IfOk};
 ghost use Rattle.bpf.specs.Program.{IsProgram};
 ghost use Rattle.bver.specs.Justified.{IsJustified};
 ghost use Rattle.policy.specs.Compiled.{IsCompiled, IsCompileFault, compile_fault, quota_fault, rule_fault, rules_fault};
+ghost use Rattle.machine.specs.Helpers.{takes_kind};
 ghost use Rattle.machine.specs.Sizes.{kind_of_map};
-ghost use Rattle.machine.specs.Step.{is_counter};
 ghost use Rattle.policy.specs.Meant.{CodeHasMeaning, CodeIsJustified, IsMadeOf};
 ghost use Rattle.policy.specs.declared.faults.PolicyFault.TheVariants.{Memory};
 
@@ -15,23 +15,21 @@ use crate::laws::decisions;
 use crate::rules::{Quota, Rule};
 use crate::tables::Table;
 use absdom::{order_of_states, refine_shrinks};
-use bpf::{Image, ImageFault};
+use bpf::{Image, ImageFault, Version};
 use bpf_insn::Insn;
-use machine::{MapKind, MapSizes, runs_from_the_front, steps_perform};
+use machine::{Helper, MapSizes, runs_from_the_front, steps_perform};
 use std::alloc::Global;
 
-/// The most rules of a table that is compiled.
+/// The most rules of a table that is compiled, a choice: twelve with every field and a quota have 256 of the 512 slots
+/// of an image.
 const MAX_RULES: usize = 12;
 
-/// The version of the format that a compiled image has.
-const VERSION: u8 = 1;
-
-/// Whether the map counts. One that is not there does.
-fn is_counter(sizes: &MapSizes, map: u8) -> bool
-    ensures { result ≡ is_counter (kind_of_map sizes.now map) }
+/// Whether tickets are drawn from cells of the map: a map that is not there is taken for a counter map.
+fn gives_tickets(sizes: &MapSizes, map: u8) -> bool
+    ensures { result ≡ takes_kind Helper.Ticket (kind_of_map sizes.now map) }
 {
     match sizes.kind(map) {
-        Some(kind) => matches!(kind, MapKind::Counter),
+        Some(kind) => kind.takes(Helper::Ticket),
         None => true,
     }
 }
@@ -41,7 +39,7 @@ fn quota_fault(quota: Option<Quota>, sizes: &MapSizes) -> Option<PolicyFault>
     ensures { result ≡ quota_fault sizes.now quota }
 {
     let quota = quota?;
-    if sizes.contains(quota.map, quota.cell) && is_counter(sizes, quota.map) {
+    if sizes.contains(quota.map, quota.cell) && gives_tickets(sizes, quota.map) {
         None
     } else {
         Some(PolicyFault::NoCell)
@@ -108,7 +106,7 @@ fn image_of(alloc: Global, insns: &[Insn]) -> Result<Image, PolicyFault>
     ensures limits { IfOk result IsProgram }
     ensures fault { IfErr result (λ fault. fault ≡ Memory) }
 {
-    match Image::new(alloc, VERSION, insns, &[], insns.len() as u32) {
+    match Image::new(alloc, Version::One, insns, &[], insns.len() as u32) {
         Ok(image) => Ok(image),
         Err(fault) => match fault {
             ImageFault::Memory => Err(PolicyFault::Memory),
@@ -118,8 +116,8 @@ fn image_of(alloc: Global, insns: &[Insn]) -> Result<Image, PolicyFault>
 }
 
 /// The image of a table: a run of it on any header makes exactly the table's draws and gives its verdict, whatever
-/// the counters answer. It has no loop, and its budget is its weight. A node with these maps accepts it, whatever the
-/// table.
+/// the cells answer. It is of version 1 and has no loop, and its budget is its weight. A node with these maps accepts
+/// it, whatever the table.
 ///
 /// # Errors
 ///

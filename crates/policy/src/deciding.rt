@@ -7,9 +7,9 @@ ghost use Rattle.rmap.specs.Command.{address_of as address_in};
 ghost use Rattle.rmap.specs.Instruction.{has_increment_bit, kind_of};
 ghost use Rattle.policy.specs.Meaning.{agrees, fields_of, has_kind, holds, last_address_of, lies_between};
 
-use crate::places::{ADDRESS, EXTENDED, INITIATOR, INSTRUCTION, KEY, LENGTH};
 use crate::rules::{Rule, RuleKind};
 use byteorder::{BigEndian, ByteOrder};
+use rmap::field::{ADDRESS, EXTENDED, INITIATOR, INSTRUCTION, KEY, LENGTH};
 use rmap::{Instruction, Kind};
 
 /// Whether a rule's kind agrees with what a command asks for.

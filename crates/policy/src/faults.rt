@@ -8,7 +8,8 @@ use std::alloc::AllocError;
 use thiserror::Error;
 
 const TOO_LONG: &str = "\
-A table has at most 12 rules: the program of more would not fit into an image.
+A table has at most 12 rules. The number is a choice: twelve with every field and a quota have 256 of an image's
+512 slots.
 Join rules that differ in their range alone, or write the program by hand.";
 
 const BAD_RANGE: &str = "\
@@ -32,7 +33,7 @@ Compare the line with the table in docs/POLICIES.md.";
 /// Why a policy table is refused.
 #[derive(Clone, Copy, Debug, PartialEq, Eq, Error)]
 pub enum PolicyFault {
-    /// More rules than a program of 512 slots has room for.
+    /// More than 12 rules, the most that are compiled.
     #[error("more than 12 rules")]
     TooLong,
     /// A rule's last address lies before its first.

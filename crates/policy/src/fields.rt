@@ -3,12 +3,13 @@
 ghost use Rattle.std.specs.Prelude.{◌≡◌, ℕ, MatchOption, Option, [], ◌∷◌, length};
 ghost use Rattle.std.specs.Char.{is_ascii_digit};
 ghost use Rattle.std.specs.List.{list_all};
-ghost use Rattle.policy.specs.Fields.{IsAddress, IsDecimal, IsField, IsKind, IsQuota, IsRuling, WritesCount, WritesHex, parts_of};
+ghost use Rattle.policy.specs.Fields.{IsAddress, IsDecimal, IsField, IsKind, IsQuota, IsVerdict, WritesCount, WritesHex, parts_of};
 ghost use Rattle.policy.specs.declared.rules.Quota.{Quota};
 ghost use Rattle.policy.specs.declared.rules.RuleKind.{RuleKind};
-ghost use Rattle.policy.specs.declared.rules.Ruling.{Ruling};
+ghost use Rattle.rmap.specs.declared.verdict.Verdict.{Verdict};
 
-use crate::rules::{Quota, RuleKind, Ruling};
+use crate::rules::{Quota, RuleKind};
+use rmap::Verdict;
 
 /// The greatest limit of a quota: what an instruction compares a ticket with is a signed number of 32 bits.
 const MAX_LIMIT: u32 = i32::MAX as u32;
@@ -109,16 +110,19 @@ pub fn quota_of(word: &str) -> Option<Option<Quota>>
     Some(Some(Quota { map, cell, limit }))
 }
 
-/// The verdict that a word writes.
-pub fn ruling_of(word: &str) -> Option<Ruling>
-    ensures { MatchOption result ((ruling : Ruling) → ¬ IsRuling word.now ruling)
-        (IsRuling word.now) }
+/// The verdict whose number a word writes in decimal, without a leading zero.
+pub fn verdict_of(word: &str) -> Option<Verdict>
+    ensures { MatchOption result ((verdict : Verdict) → ¬ IsVerdict word.now verdict)
+        (IsVerdict word.now) }
 {
-    match word {
-        "0" => Some(Ruling::Yes),
-        "3" => Some(Ruling::Key),
-        "10" => Some(Ruling::No),
-        "12" => Some(Ruling::Address),
-        _ => None,
+    if word.len() > 1 && word.starts_with('0') {
+        return None;
+    }
+    let number = count_of(word)?;
+    let verdict = Verdict::of_word(u64::from(number));
+    if number == u32::from(verdict.number()) {
+        Some(verdict)
+    } else {
+        None
     }
 }

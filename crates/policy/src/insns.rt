@@ -5,7 +5,8 @@ ghost use Rattle.bpf_parts.specs.declared.operation.Operand.TheVariants.{FromReg
 ghost use Rattle.policy.specs.Code.{applied, loaded, set_to, set_to_bits, skips_if, swapped};
 
 use bpf_insn::{
-    AluOp, Comparison, Condition, Insn, LoadSize, Operand, Place, Register, Swap, SwapBits, Width,
+    AluOp, Comparison, Condition, Insn, LoadSize, MemoryOperand, Operand, Register, Swap, SwapBits,
+    Width,
 };
 
 /// The register of this number, 0 to 10.
@@ -34,7 +35,7 @@ pub fn load(size: LoadSize, dst: u8, base: u8, offset: usize) -> Insn
     requires inside { offset < 12 }
     ensures { result ≡ loaded size dst base offset }
 {
-    let place = Place {
+    let place = MemoryOperand {
         base: register(base),
         offset: offset as i16,
     };

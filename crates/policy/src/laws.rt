@@ -5,7 +5,7 @@ ghost use Rattle.policy.specs.Lines.{TableIsUnambiguous};
 
 /// A table draws at most once a rule, and its draws are answered by what is told, in order. Where the first
 /// rule whose conditions hold has no quota, nothing is drawn, and the verdict is that rule's; where those of
-/// no rule hold, nothing is drawn, and the verdict is 10.
+/// no rule hold, nothing is drawn, and the command is not authorised.
 pub fn decisions()
     ensures few { DrawsAreFew }
     ensures answered { DrawsAreAnswered }

@@ -1,4 +1,4 @@
-//! Policy tables: rules that say which commands an application lets pass (ECSS-E-ST-50-52C,
+//! Policy tables: rules that say which verdict an application gives to a command (ECSS-E-ST-50-52C,
 //! authorisation), as text, as their meaning and as programs.
 //!
 //! A [`Table`] is read from text, one [`Rule`] a line. [`Table::decide`] says what a table means for the
@@ -14,12 +14,11 @@ mod fields;
 mod insns;
 mod laws;
 mod lines;
-mod places;
 mod rules;
 mod tables;
 
 pub use compiler::compile;
 pub use faults::PolicyFault;
 pub use laws::{decisions, headers_have_fields, table_is_unambiguous};
-pub use rules::{Quota, Rule, RuleKind, Ruling};
+pub use rules::{Quota, Rule, RuleKind};
 pub use tables::Table;

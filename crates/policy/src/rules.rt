@@ -1,7 +1,6 @@
 //! The rules of a policy table.
 
-ghost use Rattle.std.specs.Prelude.{◌≡◌};
-ghost use Rattle.policy.specs.Codes.{ruling_code};
+use rmap::Verdict;
 
 /// What a rule wants a command to ask for (ECSS-E-ST-50-52C, instruction field).
 #[derive(Clone, Copy, Debug, PartialEq, Eq)]
@@ -16,8 +15,8 @@ pub enum RuleKind {
     Any,
 }
 
-/// A limit on how often a rule may match: it draws a ticket of a counter cell, and matches where the
-/// ticket is below the limit.
+/// A limit on how often a rule may match, whatever its verdict: it draws a ticket of a counter cell, and matches where
+/// the ticket is below the limit. Where it does not match a later rule may, and let the command pass.
 #[derive(Clone, Copy, Debug, PartialEq, Eq)]
 pub struct Quota {
     /// The index of the counter map.
@@ -26,34 +25,6 @@ pub struct Quota {
     pub cell: u16,
     /// How many tickets match: 0 to 2,147,483,647.
     pub limit: u32,
-}
-
-/// The verdict of a rule that matches: what an application answers to an authorisation request.
-#[derive(Clone, Copy, Debug, PartialEq, Eq)]
-pub enum Ruling {
-    /// The command is authorised.
-    Yes,
-    /// The key is wrong.
-    Key,
-    /// The command is not authorised.
-    No,
-    /// The target logical address is wrong.
-    Address,
-}
-
-impl Ruling {
-    /// The verdict as a number: the status that the command's reply then has (ECSS-E-ST-50-52C, error and
-    /// status codes), 0, 3, 10 or 12.
-    pub fn code(self) -> u8
-        ensures { result ≡ ruling_code self }
-    {
-        match self {
-            Ruling::Yes => 0,
-            Ruling::Key => 3,
-            Ruling::No => 10,
-            Ruling::Address => 12,
-        }
-    }
 }
 
 /// One rule of a policy table: what it wants of a command's header, and its verdict. `None` in a field of
@@ -74,6 +45,6 @@ pub struct Rule {
     pub high: u32,
     /// The tickets that the rule draws, if it has a limit.
     pub quota: Option<Quota>,
-    /// The verdict where the rule matches.
-    pub ruling: Ruling,
+    /// The verdict where the rule matches: what an application answers to an authorisation request.
+    pub verdict: Verdict,
 }

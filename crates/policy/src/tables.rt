@@ -10,13 +10,11 @@ ghost use Rattle.policy.specs.Meaning.{decision, draw as draw_of, told_by};
 
 use crate::faults::PolicyFault;
 use crate::lines::read_rules;
-use crate::rules::{Quota, Rule, Ruling};
-use machine::Call;
+use crate::rules::{Quota, Rule};
+use machine::{Call, Helper};
+use rmap::Verdict;
 use std::alloc::{AllocError, Global};
 use std::marker::Model;
-
-/// The number of the helper that draws a ticket.
-const TICKET: u8 = 2;
 
 /// A policy table: rules in order, of which the first that matches gives the verdict.
 #[derive(Debug, Drop)]
@@ -50,7 +48,7 @@ fn draw(quota: &Quota, answer: u64) -> Call
     ensures { result ≡ draw_of quota.now answer }
 {
     Call {
-        helper: TICKET,
+        helper: Helper::Ticket,
         map: quota.map,
         key: quota.cell,
         argument: 0,
@@ -80,16 +78,16 @@ fn decide_by(
             continue;
         }
         let Some(quota) = rule.quota else {
-            return u64::from(rule.ruling.code());
+            return u64::from(rule.verdict.number());
         };
         let answer = answer_at(answers, drawn);
         drawn += 1;
         calls.push_reserved(draw(&quota, answer));
         if answer < u64::from(quota.limit) {
-            return u64::from(rule.ruling.code());
+            return u64::from(rule.verdict.number());
         }
     }
-    u64::from(Ruling::No.code())
+    u64::from(Verdict::NotAuthorised.number())
 }
 
 impl Table {

@@ -1,13 +1,13 @@
 -- Sums of reports.
-use Rattle.std.proofs.Common.{◌≡◌, ℕ, List, [], ◌∷◌, ◌++◌, ◌+◌, refl, sym, ap, ◌∙◌, subst, arith, Option, Some, None}
-use Rattle.std.specs.Prelude.{map, IfSome}
+use Rattle.std.proofs.Common.{◌≡◌, ℕ, List, [], ◌∷◌, ◌++◌, ◌+◌, refl, sym, ap, ◌∙◌, ◌⊎◌, subst, arith, inl, inr, Option, Some, None}
+use Rattle.std.specs.Prelude.{map, IfSome, IfNone}
 use Rattle.std.specs.List.{sum_by}
 use Rattle.std.proofs.lemmas.List.{map_push}
 use Rattle.std.proofs.lemmas.List.Sums.{sum_by-append}
 use Rattle.ports.specs.declared.worker.Report.{Report}
 use Rattle.ports.specs.Sinks.{cut}
 use Rattle.ports.specs.Worked.{report_sum}
-use Rattle.ports.specs.Serves.{total_of, IsSumOf, IsTotalOf}
+use Rattle.ports.specs.Serves.{total_of, IsOneMissing, IsSumOf, IsTotalOf}
 
 pub none : IsTotalOf [] (record { discarded = 0; lost = 0 })
 none = record { reports = []; all = refl; added = refl }
@@ -34,3 +34,19 @@ sums told old new sum was is =
 pub one_more : (told : List (Option Report)) (report old new : Option Report) → IfSome old (IsTotalOf told) → IfSome new (IsSumOf old report) → IfSome new (IsTotalOf (told ++ report ∷ []))
 one_more told report old None was is = is
 one_more told report old (Some sum) was is = sums told old report sum was is
+
+missing_before : (told more : List (Option Report)) → IsOneMissing told → IsOneMissing (told ++ more)
+missing_before [] more is = absurd is
+missing_before (None ∷ told) more is = tt
+missing_before (Some report ∷ told) more is = missing_before told more is
+
+missing_at_end : (told : List (Option Report)) → IsOneMissing (told ++ None ∷ [])
+missing_at_end [] = tt
+missing_at_end (None ∷ told) = tt
+missing_at_end (Some report ∷ told) = missing_at_end told
+
+-- One more report, where the sum is missing.
+pub one_missing : (told : List (Option Report)) (report old new : Option Report) → IfNone old (IsOneMissing told) → IfNone new ((old ≡ None) ⊎ (report ≡ None)) → IfNone new (IsOneMissing (told ++ report ∷ []))
+one_missing told report old (Some sum) was is = tt
+one_missing told report old None was (inl none) = missing_before told (report ∷ []) (subst (λ o. IfNone o (IsOneMissing told)) none was)
+one_missing told report old None was (inr none) = subst (λ o. IsOneMissing (told ++ o ∷ [])) (sym none) (missing_at_end told)

@@ -1,5 +1,5 @@
 -- Workers that came back from their threads.
-use Rattle.std.proofs.Common.{◌≡◌, ◌+◌, ◌-◌, ◌<◌, ◌≤◌, ℕ, List, [], ◌++◌, Option, None, Some, refl, sym, ap, ◌∙◌, subst, ⊎_elim, arith}
+use Rattle.std.proofs.Common.{◌≡◌, ◌+◌, ◌-◌, ◌<◌, ◌≤◌, ℕ, suc, List, [], ◌∷◌, ◌++◌, Option, None, Some, refl, sym, ap, ◌∙◌, subst, ⊎_elim, inl, inr, arith}
 use Rattle.std.specs.Prelude.{map, length, slice_index_or}
 use Rattle.std.proofs.lemmas.Bool.{cases_lt}
 use Rattle.std.proofs.lemmas.List.{get_or-map, get_or_append_left, get_or-append-add, length-append, length-map}
@@ -9,13 +9,20 @@ use Rattle.ports.specs.declared.port.ServePass.{ServePass}
 use Rattle.ports.specs.declared.starts.Ended.{Ended}
 use Rattle.ports.specs.declared.worker.Worker.{Worker}
 use Rattle.ports.specs.declared.worker.Report.{Report}
-use Rattle.ports.specs.Serves.{IsWorkerOf, AreLast, AreServed, HasReturned, HaveComeBack, IsBack, IsTotalOf, HaveServed}
+use Rattle.ports.specs.Sinks.{SentReply}
+use Rattle.ports.specs.Serves.{IsWorkerOf, AreLast, AreServed, HasReturned, HaveComeBack, IsBack, IsOneMissing, IsShort, IsTotalOf, HaveServed}
 
 -- A pass that is the port's is so later.
 same_port : (port : Port) (old new : ServePass) → IsServePassOf port old → IsServePassAfter old new → IsServePassOf port new
 same_port port old new of after = ((after.0.0 ∙ of.0.0, after.0.2 ∙ of.0.1), after.1)
 
-module _ {J S : Type 0} (sent : S → List (List ℕ)) (failed : S → ℕ) (banks : ℕ) where
+-- the place of a report that is missing
+missing_at : (told : List (Option Report)) → IsOneMissing told → (k : ℕ) × (k < length told) × ((other : Option Report) → slice_index_or told k other ≡ None)
+missing_at [] missing = absurd missing
+missing_at (None ∷ told) missing = (0, omega arith, λ other. refl)
+missing_at (Some report ∷ told) missing = let (k, low, none) = missing_at told missing in (suc k, omega (arith, low), none)
+
+module _ {J S : Type 0} (sent : S → List SentReply) (failed : S → ℕ) (banks : ℕ) where
   -- A worker that comes back can serve its port again.
   still : (port : Port) (old new : Worker J S) (report : Option Report) → IsWorkerOf banks port old → IsBack sent failed old new report → IsWorkerOf banks port new
   still port old new None of back = subst (IsWorkerOf banks port) (sym back) of
@@ -84,6 +91,28 @@ module _ {J S : Type 0} (sent : S → List (List ℕ)) (failed : S → ℕ) (ban
           sum = told.added;
         }
 
+    -- Where a thread could not be made, fewer workers came back than went in.
+    pub one_is_gone : length ended + length rest < length old → IsShort old (returned ++ rest)
+    one_is_gone fewer =
+        let many : length returned ≡ length ended = length-map ended (λ (e : Ended J S). e.worker) in
+        inl (omega (arith, many, length-append returned rest, fewer))
+
+    -- Where a report is missing, its worker came back as it went in.
+    pub one_is_same : AreBack → length ended ≡ length old → IsOneMissing (map (λ (e : Ended J S). e.report) ended) → IsShort old (returned ++ rest)
+    one_is_same each long missing =
+        let (k, told, none) = missing_at (map (λ (e : Ended J S). e.report) ended) missing in
+        let low : k < length ended = subst (λ n. k < n) (length-map ended (λ (e : Ended J S). e.report)) told in
+        inr (inr (
+          k,
+          subst (λ n. k < n) long low,
+          λ worker.
+              let end : Ended J S = record { worker = worker; report = None } in
+              let first : length returned ≡ length ended = length-map ended (λ (e : Ended J S). e.worker) in
+              let report : (slice_index_or ended k end).report ≡ None = sym (get_or-map (λ (e : Ended J S). e.report) ended k end None low) ∙ none None in
+              get_or_append_left returned rest worker k (subst (λ n. k < n) (sym first) low) ∙ get_or-map (λ (e : Ended J S). e.worker) ended k end worker low
+              ∙ subst (IsBack sent failed (slice_index_or old k worker) (slice_index_or ended k end).worker) report (each k end worker low),
+        ))
+
     -- Where a thread could not be made, the workers of the others came back, and behind them the rest, as they went in.
     pub have_come_back : AreBack → AreLast rest old → length ended + length rest ≤ length old → length old ≤ length ended + length rest + 1 → HaveComeBack sent failed old (returned ++ rest)
     have_come_back each last most few =
@@ -106,7 +135,7 @@ module _ {J S : Type 0} (sent : S → List (List ℕ)) (failed : S → ℕ) (ban
         }
 
 -- Where no thread was started, all came back as they went in.
-pub all_came_back : {J S : Type 0} (sent : S → List (List ℕ)) (failed : S → ℕ) (old : List (Worker J S)) → HaveComeBack sent failed old old
+pub all_came_back : {J S : Type 0} (sent : S → List SentReply) (failed : S → ℕ) (old : List (Worker J S)) → HaveComeBack sent failed old old
 all_came_back {J} {S} sent failed old = record {
   first = [];
   last = old;
@@ -116,3 +145,8 @@ all_came_back {J} {S} sent failed old = record {
   most = omega arith;
   few = omega arith;
 }
+
+-- Where no thread was started, the first came back as it went in, if there is one.
+pub none_served : {J S : Type 0} (old : List (Worker J S)) → IsShort old old
+none_served [] = inr (inl refl)
+none_served (worker ∷ workers) = inr (inr (0, omega arith, λ other. refl))

@@ -12,17 +12,17 @@ use Rattle.ports.specs.declared.worker.Worker.{Worker}
 use Rattle.ports.specs.Due.{Deed, HasDealt, due_of, is_dropped, discarded}
 use Rattle.ports.specs.Due.Deed.{Dropped, Answered, Judged}
 use Rattle.ports.specs.Queue.{taken_of}
-use Rattle.ports.specs.Sinks.{cut}
+use Rattle.ports.specs.Sinks.{SentReply, cut, sent_at}
 use Rattle.ports.specs.Worked.{HasTaken, HasServed, report_sum}
 use Rattle.ports.proofs.Joining.{served_join}
 
 -- a worker took these packets, and served each
-pub record IsUnderWay {J S : Type 0} (sent : S → List (List ℕ)) (failed : S → ℕ) (old new : Worker J S) (report : Report) : Type 0 where
+pub record IsUnderWay {J S : Type 0} (sent : S → List SentReply) (failed : S → ℕ) (old new : Worker J S) (report : Report) : Type 0 where
   pub packets : List Cargo
   pub took : taken_of new.serve_pass ≡ taken_of old.serve_pass ++ map Data packets
   pub served : HasServed sent failed old.pass new.pass old.sink new.sink packets report
 
-pub none_yet : {J S : Type 0} (sent : S → List (List ℕ)) (failed : S → ℕ) (w : Worker J S) → IsUnderWay sent failed w w (record { discarded = 0; lost = 0 })
+pub none_yet : {J S : Type 0} (sent : S → List SentReply) (failed : S → ℕ) (w : Worker J S) → IsUnderWay sent failed w w (record { discarded = 0; lost = 0 })
 none_yet sent failed w = record {
   packets = [];
   took = sym (append-nil (taken_of w.serve_pass));
@@ -42,18 +42,18 @@ dropped_count (Answered reply) = refl
 dropped_count (Judged judging) = refl
 
 -- one packet was served
-pub one_served : {S : Type 0} (sent : S → List (List ℕ)) (failed : S → ℕ) (h after : PassValue) (s t : S) (p : Cargo) (reply : List ℕ) (dropped : Bool) (count lost : ℕ) → HasDealt p h after reply dropped → count ≡ bool_byte dropped → HasTaken (sent s) (sent t) (failed s) (failed t) (due_of (reply ∷ [])) lost → lost < 18446744073709551616 → HasServed sent failed h after s t (p ∷ []) (record { discarded = count; lost = lost })
+pub one_served : {S : Type 0} (sent : S → List SentReply) (failed : S → ℕ) (h after : PassValue) (s t : S) (p : Cargo) (reply : List ℕ) (dropped : Bool) (count lost : ℕ) → HasDealt p h after reply dropped → count ≡ bool_byte dropped → HasTaken (sent s) (sent t) (failed s) (failed t) (sent_at h.port (due_of (reply ∷ []))) lost → lost < 18446744073709551616 → HasServed sent failed h after s t (p ∷ []) (record { discarded = count; lost = lost })
 one_served sent failed h after s t p reply dropped count lost dealt is taken few = record {
   deeds = dealt.deed ∷ [];
   lost = lost;
   worked = (after, dealt.dealt, refl);
-  replies = subst (λ r. HasTaken (sent s) (sent t) (failed s) (failed t) (due_of (r ∷ [])) lost) dealt.reply_is taken;
+  replies = subst (λ r. HasTaken (sent s) (sent t) (failed s) (failed t) (sent_at h.port (due_of (r ∷ []))) lost) dealt.reply_is taken;
   lost_count = omega (arith, few);
   discarded_count = is ∙ ap bool_byte dealt.dropped_is ∙ dropped_count dealt.deed;
 }
 
 -- one packet more was taken and served
-pub one_more : {J S : Type 0} (sent : S → List (List ℕ)) (failed : S → ℕ) (old mid new : Worker J S) (p : Cargo) (a b all : Report) → IsUnderWay sent failed old mid a → taken_of new.serve_pass ≡ taken_of mid.serve_pass ++ Data p ∷ [] → HasServed sent failed mid.pass new.pass mid.sink new.sink (p ∷ []) b → all ≡ report_sum a b → IsUnderWay sent failed old new all
+pub one_more : {J S : Type 0} (sent : S → List SentReply) (failed : S → ℕ) (old mid new : Worker J S) (p : Cargo) (a b all : Report) → IsUnderWay sent failed old mid a → taken_of new.serve_pass ≡ taken_of mid.serve_pass ++ Data p ∷ [] → HasServed sent failed mid.pass new.pass mid.sink new.sink (p ∷ []) b → all ≡ report_sum a b → IsUnderWay sent failed old new all
 one_more sent failed old mid new p a b all way took served sum = record {
   packets = way.packets ++ p ∷ [];
   took = took ∙ ap (λ l. l ++ Data p ∷ []) way.took ∙ append_assoc (taken_of old.serve_pass) (map Data way.packets) (Data p ∷ []) ∙ ap (λ l. taken_of old.serve_pass ++ l) (sym (map-append Data way.packets (p ∷ [])));

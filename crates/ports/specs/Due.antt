@@ -27,7 +27,8 @@ pub record Judging : Type 0 where
   pub entered : Bool
   pub reply : List ℕ
 
--- what became of a packet: it was no command; or no program judged it, and that reply is due; or it was judged
+-- what became of a packet: it was no command; or it was answered without a verdict, and that reply is due; or it was
+-- judged
 pub data Deed : Type 0 where
   Dropped : Deed
   Answered : List ℕ → Deed
@@ -75,7 +76,8 @@ pub record IsDropped (p : Cargo) (h after : PassValue) : Type 0 where
   pub discarded : discard_of p.bytes ≡ Some discard
   pub same : after ≡ h
 
--- a check of the header answered the packet, or there was no program to judge it; the port is as it was
+-- a check of the header answered the packet, or none did and the reply is the general error of a packet that no program
+-- judged; the port is as it was
 pub record IsUnjudged (reply : List ℕ) (p : Cargo) (h after : PassValue) : Type 0 where
   pub answered : ((status : Status) × IsStopped (stops.Answered status) p h.windows reply) ⊎ IsUnread p h.windows reply
   pub same : after ≡ h
@@ -88,12 +90,14 @@ pub record HasFinished (holder after : PassValue) (j : JudgedValue) (reply : Lis
   pub bank : IsBank before
   pub finished : IsFinished before behind holder after j result reply
 
--- the same, where the bank is the command's place; it left an entry where it was applied and there was room
+-- the command's place is a bank, and it ended at some bank, where it left an entry if it was applied and there was room
 pub record IsBanked (judging : Judging) (holder after : PassValue) : Type 0 where
   pub number : ℕ
   pub place : judging.judged.place ≡ Bank number
   pub ended : HasFinished holder after judging.judged judging.reply
-  pub entered : judging.entered ≡ (fits ended.before (share_of holder judging.judged.place) judging.judged && has_room ended.before judging.judged.port)
+  pub entered : judging.entered
+      ≡ (fits ended.before (share_of holder judging.judged.place) judging.judged
+      && has_room ended.before judging.judged.port)
 
 -- a judged control write ended, where some list had been published
 pub record HasLoadEnd (holder after : PassValue) (j : JudgedValue) (reply : List ℕ) : Type 0 where
@@ -110,7 +114,7 @@ pub record IsWindowed (judging : Judging) (holder after : PassValue) : Type 0 wh
   pub ended : EndsAtWindow judging.judged.place holder after old new judging.judged result judging.reply
   pub entered : judging.entered ≡ false
 
--- the command of the packet was judged in one run, which left the port so, and ended at a bank or in the boot window
+-- the command of the packet was judged in one run, which left the port so, and ended at some bank or in the boot window
 pub record IsJudged (judging : Judging) (p : Cargo) (h after : PassValue) : Type 0 where
   pub between : PassValue
   pub judgement : IsJudgement h between p judging.judged

@@ -20,7 +20,8 @@ use Rattle.ports.specs.Due.{Judging, Deed, Worked, judgings}
 pub record IsByPublished (published : List Publish) (port : ℕ) (judging : Judging) : Type 0 where
   pub seen : List Publish
   pub begins : IsPrefix seen published
-  pub shown : judging_program seen (slot_of (command_kind (command_of judging.judged.packet)) judging.judged.place) ≡ Some (judging.program, judging.judged.generation)
+  pub shown : judging_program seen (slot_of (command_kind (command_of judging.judged.packet)) judging.judged.place)
+      ≡ Some (judging.program, judging.judged.generation)
   pub verdict : IsVerdict judging.program port judging.calls judging.judged.packet judging.judged.verdict
 
 -- each verdict is that of a run of a program that was published: one that the port has seen in the end
@@ -33,7 +34,7 @@ WorkersProgramsWerePublished =
 abbrev pub calls_of : List Deed → List Call
 calls_of deeds = flat_map (λ (judging : Judging). judging.calls) (judgings deeds)
 
--- a port asked its counters what the runs of its judged commands asked, each run once and in order, and nothing else
+-- a port asked the cells what the runs of its judged commands asked, each run once and in order, and nothing else
 abbrev pub WorkersAskOnce : Type 0
 WorkersAskOnce =
     (h after : PassValue) (packets : List Cargo) (deeds : List Deed) → Worked h packets deeds after

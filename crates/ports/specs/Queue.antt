@@ -1,9 +1,8 @@
 -- A port's queue: what was put is what was taken, and then what the queue holds. One pass puts, and one takes.
-use Rattle.std.specs.Prelude.{◌≡◌, ◌≤◌, ◌⊎◌, ◌^◌, ℕ, Bool, true, List, ◌++◌, length, min}
+use Rattle.std.specs.Prelude.{◌≡◌, ◌≤◌, ◌^◌, ℕ, Bool, true, List, ◌++◌, length, min}
 use mathlib.Core.Option.{some}
 use lib.ListN.{get_elem?}
 use Rattle.crossbeam_queue.specs.Passes.{view, IsPassOf, IsSamePass, ruled_capacity}
-use Rattle.crossbeam_queue.specs.Fifo.{Held}
 use Rattle.ports.specs.declared.item.Item.{Item}
 use Rattle.ports.specs.declared.item.Log.{Log}
 use Rattle.ports.specs.declared.port.Port.{Port}
@@ -17,7 +16,8 @@ log puts takes put taken = record { puts = puts; takes = takes; put = put; taken
 -- a pass that may put is the writer's and has what was put, and a pass that may take is the reader's and has what was
 -- taken
 abbrev pub Fits : (writer reader : ℕ) → (put taken : List Item) → ℕ → Log → Type 0
-Fits writer reader put taken pass v = (v.puts ≡ true → (pass ≡ writer) × (v.put ≡ put)) × (v.takes ≡ true → (pass ≡ reader) × (v.taken ≡ taken))
+Fits writer reader put taken pass v =
+    (v.puts ≡ true → (pass ≡ writer) × (v.put ≡ put)) × (v.takes ≡ true → (pass ≡ reader) × (v.taken ≡ taken))
 
 -- in order: what was put is what was taken, then what the queue holds; one pass at most puts, and one at most takes
 abbrev pub InOrder : List Item → List Log → Type 0
@@ -52,8 +52,6 @@ IsServePassAfter old new = IsSamePass old.pass new.pass × ((view new.pass).take
 abbrev pub capacity_of : Port → ℕ
 capacity_of port = ruled_capacity port.queue
 
--- at one moment of the call the queue held as many items as it has room for, the end of what was put; or 2^62 items
--- were put. So that many were put
-pub record IsFullOf (port : Port) (p : PutPass) : Type 0 where
-  pub full : Held (capacity_of port) (λ items. IsEnd items (put_of p)) ⊎ (2 ^ 62 ≤ length (put_of p))
-  pub many : min (capacity_of port) (2 ^ 62) ≤ length (put_of p)
+-- as many items were put as the queue has room for, or 2^62: with fewer it was never full
+abbrev pub MayBeFull : Port → PutPass → Type 0
+MayBeFull port p = min (capacity_of port) (2 ^ 62) ≤ length (put_of p)

@@ -1,8 +1,28 @@
 -- Workers that serve ports side by side: worker k serves port k.
-use Rattle.std.specs.Prelude.{◌≡◌, ◌<◌, ◌≤◌, ◌+◌, ℕ, List, ◌++◌, length, map, slice_index_or, Option, Some, MatchOption, vec_len, vec_capacity}
+use Rattle.std.specs.Prelude.{
+  ◌≡◌,
+  ◌<◌,
+  ◌≤◌,
+  ◌+◌,
+  ◌⊎◌,
+  ℕ,
+  List,
+  [],
+  ◌∷◌,
+  ◌++◌,
+  length,
+  map,
+  slice_index_or,
+  Option,
+  Some,
+  None,
+  MatchOption,
+  vec_len,
+  vec_capacity,
+}
 use Rattle.std.specs.List.{sum_by}
 use Rattle.ports.specs.Queue.{IsServePassOf, IsServePassAfter}
-use Rattle.ports.specs.Sinks.{cut}
+use Rattle.ports.specs.Sinks.{SentReply, cut}
 use Rattle.ports.specs.Worked.{report_sum, IsWorked}
 use Rattle.std.specs.declared.thread.PromisedHandle.{PromisedHandle}
 use Rattle.std.specs.declared.vec.Vec.{Vec}
@@ -12,7 +32,8 @@ use Rattle.ports.specs.declared.starts.Start.{Start}
 use Rattle.ports.specs.declared.worker.Worker.{Worker}
 use Rattle.ports.specs.declared.worker.Report.{Report}
 
--- the worker is that of the port, at a node of so many banks: it takes from the port's queue and has a share of each bank
+-- the worker is that of the port, at a node of so many banks: it takes from the port's queue and has a share
+-- of each bank
 pub record IsWorkerOf {J S : Type 0} (banks : ℕ) (port : Port) (worker : Worker J S) : Type 0 where
   pub pass : IsServePassOf port worker.serve_pass
   pub shares : length worker.pass.shares ≡ banks
@@ -20,21 +41,26 @@ pub record IsWorkerOf {J S : Type 0} (banks : ℕ) (port : Port) (worker : Worke
 -- there are so many ports, and below that number each worker is that of the port at its place
 pub record AreServed {J S : Type 0} (banks n : ℕ) (ports : List Port) (workers : List (Worker J S)) : Type 0 where
   pub len : length ports ≡ n
-  pub each : (k : ℕ) (port : Port) (worker : Worker J S) → k < n → IsWorkerOf banks (slice_index_or ports k port) (slice_index_or workers k worker)
+  pub each : (k : ℕ) (port : Port) (worker : Worker J S) → k < n
+      → IsWorkerOf banks (slice_index_or ports k port) (slice_index_or workers k worker)
 
 -- the worker served its port until the end mark, with that report, and can serve it again
-pub record HasReturned {J S : Type 0} (sent : S → List (List ℕ)) (failed : S → ℕ) (old new : Worker J S) (report : Report) : Type 0 where
+pub record HasReturned {J S : Type 0} (sent : S → List SentReply) (failed : S → ℕ) (old new : Worker J S)
+    (report : Report) : Type 0 where
   pub worked : IsWorked sent failed old new report
   pub pass : IsServePassAfter old.serve_pass new.serve_pass
   pub shares : length new.pass.shares ≡ length old.pass.shares
 
 -- what a thread gives back of its worker: the worker as it went in, or with a report, where it served its port
-abbrev pub IsBack : {J S : Type 0} → (S → List (List ℕ)) → (S → ℕ) → Worker J S → Worker J S → Option Report → Type 0
+abbrev pub IsBack : {J S : Type 0} → (S → List SentReply) → (S → ℕ) → Worker J S → Worker J S → Option Report → Type 0
 IsBack sent failed old new report = MatchOption report (new ≡ old) (HasReturned sent failed old new)
 
 -- the sum of reports
 abbrev pub total_of : List Report → Report
-total_of reports = record { discarded = cut (sum_by (λ (r : Report). r.discarded) reports); lost = cut (sum_by (λ (r : Report). r.lost) reports) }
+total_of reports = record {
+  discarded = cut (sum_by (λ (r : Report). r.discarded) reports);
+  lost = cut (sum_by (λ (r : Report). r.lost) reports);
+}
 
 -- the sum of two reports that are there
 pub record IsSumOf (a b : Option Report) (sum : Report) : Type 0 where
@@ -44,6 +70,12 @@ pub record IsSumOf (a b : Option Report) (sum : Report) : Type 0 where
   pub b_is : b ≡ Some second
   pub added : sum ≡ report_sum first second
 
+-- one of the reports is missing
+abbrev pub IsOneMissing : List (Option Report) → Type 0
+IsOneMissing [] = ⊥
+IsOneMissing (None ∷ told) = Unit {0}
+IsOneMissing (Some report ∷ told) = IsOneMissing told
+
 -- each report is there, and that is their sum
 pub record IsTotalOf (told : List (Option Report)) (total : Report) : Type 0 where
   pub reports : List Report
@@ -51,30 +83,41 @@ pub record IsTotalOf (told : List (Option Report)) (total : Report) : Type 0 whe
   pub added : total ≡ total_of reports
 
 -- the worker came back: as it went in, or behind its port's end mark
-abbrev pub HasComeBack : {J S : Type 0} → (S → List (List ℕ)) → (S → ℕ) → Worker J S → Worker J S → Type 0
+abbrev pub HasComeBack : {J S : Type 0} → (S → List SentReply) → (S → ℕ) → Worker J S → Worker J S → Type 0
 HasComeBack sent failed old new = (report : Option Report) × IsBack sent failed old new report
+
+-- not all served: fewer workers came back than went in, or the one at some place is as it went in, or there are none
+abbrev pub IsShort : {J S : Type 0} → (old new : List (Worker J S)) → Type 0
+IsShort {J} {S} old new = (length new < length old) ⊎ (length old ≡ 0)
+    ⊎ ((place : ℕ) × (place < length old) × ((worker : Worker J S)
+    → slice_index_or new place worker ≡ slice_index_or old place worker))
 
 -- the second list ends with the first
 abbrev pub AreLast : {X : Type 0} → List X → List X → Type 0
 AreLast {X} last all = (front : List X) × (all ≡ front ++ last)
 
--- what came back of workers that could not all be started: first those that had a thread, each come back, then the last ones, as they went in; at most one is missing, the one between them
-pub record HaveComeBack {J S : Type 0} (sent : S → List (List ℕ)) (failed : S → ℕ) (old new : List (Worker J S)) : Type 0 where
+-- what came back of workers that could not all be started: first those that had a thread, each come back,
+-- then the last ones, as they went in; at most one is missing, the one between them
+pub record HaveComeBack {J S : Type 0} (sent : S → List SentReply) (failed : S → ℕ)
+    (old new : List (Worker J S)) : Type 0 where
   pub first : List (Worker J S)
   pub last : List (Worker J S)
   pub all : new ≡ first ++ last
-  pub each : (k : ℕ) (worker : Worker J S) → k < length first → HasComeBack sent failed (slice_index_or old k worker) (slice_index_or first k worker)
+  pub each : (k : ℕ) (worker : Worker J S) → k < length first
+      → HasComeBack sent failed (slice_index_or old k worker) (slice_index_or first k worker)
   pub rest : AreLast last old
   pub most : length new ≤ length old
   pub few : length old ≤ length new + 1
 
 -- each worker served its port until the end mark and stands at its place again; that report is the sum of theirs
-pub record HaveServed {J S : Type 0} (sent : S → List (List ℕ)) (failed : S → ℕ) (banks : ℕ) (ports : List Port) (old new : List (Worker J S)) (total : Report) : Type 0 where
+pub record HaveServed {J S : Type 0} (sent : S → List SentReply) (failed : S → ℕ) (banks : ℕ) (ports : List Port)
+    (old new : List (Worker J S)) (total : Report) : Type 0 where
   pub reports : List Report
   pub told : length reports ≡ length old
   pub len : length new ≡ length old
   pub each : (k : ℕ) (worker : Worker J S) (report : Report) → k < length old
-      → IsWorked sent failed (slice_index_or old k worker) (slice_index_or new k worker) (slice_index_or reports k report)
+      → IsWorked sent failed (slice_index_or old k worker) (slice_index_or new k worker)
+      (slice_index_or reports k report)
   pub served : AreServed banks (length old) ports new
   pub sum : total ≡ total_of reports
 
@@ -83,7 +126,8 @@ abbrev pub HasRoomFor : {X Z : Type 0} → ℕ → Vec X Z → Type 0
 HasRoomFor n list = (vec_len list ≡ 0) × (n ≤ vec_capacity list)
 
 -- each of the first n threads is that of the worker at its place
-abbrev pub AreThreadsOf : {J S : Type 0} → ℕ → List (PromisedHandle (Ended J S) (Start J S)) → List (Worker J S) → Type 0
+abbrev pub AreThreadsOf : {J S : Type 0} → ℕ → List (PromisedHandle (Ended J S) (Start J S)) → List (Worker J S)
+    → Type 0
 AreThreadsOf {J} {S} n threads workers =
     (k : ℕ) (thread : PromisedHandle (Ended J S) (Start J S)) (worker : Worker J S) → k < n
     → (slice_index_or threads k thread).promise.0.value ≡ slice_index_or workers k worker

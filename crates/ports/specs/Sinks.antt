@@ -1,21 +1,33 @@
 -- What a sink does with a reply.
-use Rattle.std.specs.Prelude.{◌≡◌, ℕ, ◌+◌, List, [], ◌∷◌, ◌++◌, min}
+use Rattle.std.specs.Prelude.{◌≡◌, ℕ, ◌+◌, List, [], ◌∷◌, ◌++◌, map, min}
 
--- the replies that a sink has taken, in order, and how many it has not taken
+-- a reply, behind the number of the port at which it was due
+abbrev pub SentReply : Type 0
+SentReply = ℕ × List ℕ
+
+-- these replies, due at that port
+abbrev pub sent_at : ℕ → List (List ℕ) → List SentReply
+sent_at port replies = map (λ reply. (port, reply)) replies
+
+-- the replies, without their ports
+abbrev pub replies_in : List SentReply → List (List ℕ)
+replies_in sent = map (λ s. s.1) sent
+
+-- the replies that a sink has taken, in order, each with its port, and how many it has not taken
 pub record SinkValue : Type 0 where
-  pub sent : List (List ℕ)
+  pub sent : List SentReply
   pub failed : ℕ
 
 -- a count stays at 2^64 - 1
 abbrev pub cut : ℕ → ℕ
 cut n = min n 18446744073709551615
 
--- the reply was taken
-pub record IsSent (sent sent' : List (List ℕ)) (failed failed' : ℕ) (reply : List ℕ) : Type 0 where
-  pub taken : sent' ≡ sent ++ reply ∷ []
+-- the reply was taken, of that port
+pub record IsSent (sent sent' : List SentReply) (failed failed' : ℕ) (port : ℕ) (reply : List ℕ) : Type 0 where
+  pub taken : sent' ≡ sent ++ (port, reply) ∷ []
   pub failures : failed' ≡ failed
 
 -- the reply was not taken, and counts
-pub record IsUnsent (sent sent' : List (List ℕ)) (failed failed' : ℕ) : Type 0 where
+pub record IsUnsent (sent sent' : List SentReply) (failed failed' : ℕ) : Type 0 where
   pub same : sent' ≡ sent
   pub failures : failed' ≡ cut (failed + 1)

@@ -8,7 +8,7 @@ pub fn workers_programs_were_published()
     ensures { WorkersProgramsWerePublished }
 {}
 
-/// The calls that a worker's pass asked its counters are those of the runs of its judged commands, each run once and in
+/// The calls that a worker's pass asked the cells are those of the runs of its judged commands, each run once and in
 /// order, and no others.
 pub fn workers_ask_once()
     ensures { WorkersAskOnce }

@@ -4,10 +4,10 @@
 //! beginning of what was put, in order, each once.
 #![tactic(auto)]
 
-mod deal;
 mod gate;
 mod item;
 mod laws;
+mod packet;
 mod port;
 mod serves;
 mod sink;

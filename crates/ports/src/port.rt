@@ -3,7 +3,7 @@
 ghost use Rattle.std.specs.Prelude.{◌≡◌, ◌∷◌, ◌++◌, ◌<◌, ◌≤◌, [], List, IfOk, MatchResult};
 ghost use Rattle.ports.specs.declared.item.Item.{Item};
 ghost use Rattle.ports.specs.declared.item.Item.TheVariants.{Data, Mark};
-ghost use Rattle.ports.specs.Queue.{put_of, taken_of, IsPutPassOf, IsServePassOf, IsFullOf, IsServePassAfter, capacity_of};
+ghost use Rattle.ports.specs.Queue.{put_of, taken_of, IsPutPassOf, IsServePassOf, MayBeFull, IsServePassAfter, capacity_of};
 
 use crate::item::{Item, Log};
 use crossbeam_queue::protocol::{Join, Lesson, Outcome, Protocol, Split};
@@ -83,7 +83,7 @@ impl Lesson<Item, Log> for Total {
     ghost fact = { λ v items. v.put ≡ v.taken ++ items };
 }
 
-/// Why an item was not put: the queue was full at some moment of the call, or 2^62 items were put.
+/// Why an item was not put: the queue was full, or 2^62 items were put.
 #[derive(Clone, Copy, Debug, PartialEq, Eq)]
 pub struct Full;
 
@@ -150,7 +150,7 @@ impl Port {
         ensures put { MatchResult result
             (λ _. put_of pass.new ≡ put_of pass.old ++ item ∷ [])
             (λ back. (back ≡ item) × (put_of pass.new ≡ put_of pass.old)
-            × IsFullOf self.now pass.old) }
+            × MayBeFull self.now pass.old) }
     {
         if pass.puts >= MOST {
             return Err(item);
@@ -166,8 +166,8 @@ impl Port {
     ///
     /// # Errors
     ///
-    /// [`Full`], with the packet as it came: the queue was full at some moment of the call, or 2^62 items were
-    /// put. The queue holds what it held.
+    /// [`Full`], with the packet as it came, where the queue is full or 2^62 items were put: proved is that as many were
+    /// put as it has room for, and that it was full at some moment of the call is tested. Nothing was put.
     pub fn put<R: Wait>(
         &self,
         rt: &R,
@@ -179,7 +179,7 @@ impl Port {
         ensures put { MatchResult result
             (λ _. put_of pass.new ≡ put_of pass.old ++ Data packet ∷ [])
             (λ back. (back.1 ≡ packet) × (put_of pass.new ≡ put_of pass.old)
-            × IsFullOf self.now pass.old) }
+            × MayBeFull self.now pass.old) }
     {
         match self.push(rt, pass, Item::Data(packet)) {
             Ok(()) => Ok(()),
@@ -193,14 +193,13 @@ impl Port {
     ///
     /// # Errors
     ///
-    /// [`Full`]: the queue was full at some moment of the call, or 2^62 items were put. The queue holds what it
-    /// held.
+    /// [`Full`], as of [`Port::put`]. No end mark was put.
     pub fn close<R: Wait>(&self, rt: &R, pass: &mut PutPass) -> Result<(), Full>
         requires { IsPutPassOf self.now pass.old }
         ensures pass { IsPutPassOf self.now pass.new }
         ensures put { MatchResult result
             (λ _. put_of pass.new ≡ put_of pass.old ++ Mark ∷ [])
-            (λ _. (put_of pass.new ≡ put_of pass.old) × IsFullOf self.now pass.old) }
+            (λ _. (put_of pass.new ≡ put_of pass.old) × MayBeFull self.now pass.old) }
     {
         match self.push(rt, pass, Item::Mark) {
             Ok(()) => Ok(()),

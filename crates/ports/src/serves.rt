@@ -1,15 +1,15 @@
 //! All ports of a node at once, each in a thread of its own.
 
-ghost use Rattle.std.specs.Prelude.{◌≡◌, ◌+◌, ◌≤◌, ◌++◌, IfOk, IfSome, OnErr, length, map, vec_len, vec_capacity};
+ghost use Rattle.std.specs.Prelude.{◌≡◌, ◌+◌, ◌≤◌, ◌++◌, ◌⊎◌, true, false, IfNone, IfOk, IfSome, None, Some, OnErr, length, map, vec_len, vec_capacity};
 ghost use Rattle.std.specs.PromisedHandle.{KeepsEach};
-ghost use Rattle.ports.specs.Serves.{AreServed, HasRoomFor, HaveComeBack, HaveServed, IsSumOf, IsTotalOf};
+ghost use Rattle.ports.specs.Serves.{AreServed, HasRoomFor, HaveComeBack, HaveServed, IsOneMissing, IsShort, IsSumOf, IsTotalOf};
 
 use crate::gate::Gate;
 use crate::port::Port;
 use crate::sink::Sink;
 use crate::starts::{Ended, start_each};
 use crate::worker::{Report, Worker};
-use publish::Room;
+use publish::ProgramFamily;
 use std::alloc::Global;
 use std::sync::{Mutex, Wait};
 use std::thread::{Promise, PromisedHandle, Threads};
@@ -55,19 +55,21 @@ fn join_each<R: Threads, T: Drop, P: Promise<T>>(
 
 /// The sum of two reports, where both are there.
 fn both(total: Option<Report>, report: Option<Report>) -> Option<Report>
-    ensures { IfSome result (IsSumOf total report) }
+    ensures sum { IfSome result (IsSumOf total report) }
+    ensures none { IfNone result ((total ≡ None) ⊎ (report ≡ None)) }
 {
     Some(total?.plus(report?))
 }
 
 /// The workers that came back, in order, in a list that has the room, and the sum of their reports where each served.
-fn gather<J: Room, S: Sink + Drop>(
+fn gather<J: ProgramFamily, S: Sink + Drop>(
     ended: Vec<Ended<J, S>>,
     mut workers: Vec<Worker<J, S>>,
 ) -> (Vec<Worker<J, S>>, Option<Report>)
     requires { HasRoomFor (vec_len ended) workers }
     ensures workers { result.0.items ≡ map (λ e. e.worker) ended.items }
     ensures total { IfSome result.1 (IsTotalOf (map (λ e. e.report) ended.items)) }
+    ensures missing { IfNone result.1 (IsOneMissing (map (λ e. e.report) ended.items)) }
     ensures space { vec_capacity workers ≤ vec_capacity result.0 }
 {
     let mut total = Some(Report {
@@ -81,6 +83,14 @@ fn gather<J: Room, S: Sink + Drop>(
         };
     }
     (workers, total)
+}
+
+/// The sum of the reports, where all workers were started.
+fn of_all(all: bool, total: Option<Report>) -> Option<Report>
+    ensures sum { IfSome result (λ report. (all ≡ true) × (total ≡ Some report)) }
+    ensures none { IfNone result ((all ≡ false) ⊎ (total ≡ None)) }
+{
+    if all { total } else { None }
 }
 
 /// The workers, and behind them the rest, for which there is room.
@@ -104,12 +114,13 @@ fn with_rest<T: Drop>(mut workers: Vec<T>, rest: Vec<T>) -> Vec<T>
 ///
 /// # Errors
 ///
-/// [`ServeFault::Memory`]: memory was refused, or a thread could not be made. No packet was taken, and each worker
-/// that comes back is as it went in, in order; the worker whose thread could not be made is missing. Where none is,
-/// they may serve their ports again.
+/// [`ServeFault::Memory`]: memory was refused, or a thread could not be made. The workers come back in order, each as it
+/// went in or behind its port's end mark; at most one is missing, the one whose thread could not be made. Where none is,
+/// they may serve their ports again. It comes only where fewer workers come back than went in, or one of them is as it
+/// went in, or there are none. That no packet was taken then is tested.
 pub fn serve<
     R: Threads + Wait + Sync,
-    J: Room + Send + 'static,
+    J: ProgramFamily + Send + 'static,
     Q: Wait + Drop + Send,
     S: Sink + Drop + Send + 'static,
     G: Gate + Sync,
@@ -125,6 +136,7 @@ pub fn serve<
     ensures served { IfOk result.1
         (HaveServed S.sent S.failed node.now ports.now workers.items result.0.items) }
     ensures kept { OnErr result.1 (HaveComeBack S.sent S.failed workers.items result.0.items) }
+    ensures short { OnErr result.1 (IsShort workers.items result.0.items) }
     ensures back { length result.0.items ≡ length workers.items
         → AreServed node.now (length workers.items) ports.now result.0.items }
 {
@@ -137,11 +149,21 @@ pub fn serve<
     ) else {
         return (workers, Err(ServeFault::Memory));
     };
-    let word = Mutex::new(false);
-    let started = start_each(rt, alloc, &word, node, ports, workers, gate, threads, rest);
+    let all_started = Mutex::new(false);
+    let started = start_each(
+        rt,
+        alloc,
+        &all_started,
+        node,
+        ports,
+        workers,
+        gate,
+        threads,
+        rest,
+    );
     let (workers, total) = gather(join_each(rt, started.threads, ended), back);
-    match total {
-        Some(report) if started.all => (workers, Ok(report)),
-        _ => (with_rest(workers, started.rest), Err(ServeFault::Memory)),
+    match of_all(started.all, total) {
+        Some(report) => (workers, Ok(report)),
+        None => (with_rest(workers, started.rest), Err(ServeFault::Memory)),
     }
 }

@@ -2,7 +2,7 @@
 
 ghost use Rattle.std.specs.Prelude.{◌≡◌, ◌++◌, ◌∷◌, [], ℕ, List, MatchResult, OnErr, OnOk, map};
 ghost use Rattle.std.specs.Vec.{vec_items};
-ghost use Rattle.ports.specs.Sinks.{IsSent, IsUnsent};
+ghost use Rattle.ports.specs.Sinks.{IsSent, IsUnsent, replies_in};
 
 use std::alloc::{AllocError, Global};
 use std::marker::Model;
@@ -16,8 +16,8 @@ pub trait Sink {
     ghost use Rattle.std.specs.Prelude.{List, ℕ};
     ghost use Rattle.ports.specs.Sinks.{IsSent, IsUnsent};
 
-    /// The replies taken, in order.
-    ghost sent: { Self → List (List ℕ) };
+    /// The replies taken, in order, each behind the number of its port.
+    ghost sent: { Self → List (ℕ × List ℕ) };
 
     /// How many replies were not taken, at most 2^64 - 1.
     ghost failed: { Self → ℕ };
@@ -29,7 +29,7 @@ pub trait Sink {
     /// The reply was not taken, and counts among the failures.
     fn send(&mut self, port: u8, reply: &[u8]) -> Result<(), SinkFault>
         ensures sent { MatchResult result
-            (λ _. IsSent (sent self.old) (sent self.new) (failed self.old) (failed self.new) reply.now)
+            (λ _. IsSent (sent self.old) (sent self.new) (failed self.old) (failed self.new) port reply.now)
             (λ _. IsUnsent (sent self.old) (sent self.new) (failed self.old) (failed self.new)) };
 
     /// How many replies were not taken; it stays at 2^64 - 1.
@@ -37,10 +37,11 @@ pub trait Sink {
         ensures failures { result ≡ failed self.now };
 }
 
-/// A sink that keeps the replies in memory.
+/// A sink that keeps the replies of one port in memory. It takes none of another port.
 #[derive(Debug, Drop)]
 pub struct Replies {
     alloc: Global,
+    port: u8,
     replies: Vec<Vec<u8>>,
     failed: u64,
 }
@@ -48,11 +49,14 @@ pub struct Replies {
 impl Model for Replies {
     ghost use Rattle.std.specs.Prelude.{map};
     ghost use Rattle.std.specs.Vec.{vec_items};
-    ghost use Rattle.ports.specs.Sinks.{SinkValue};
+    ghost use Rattle.ports.specs.Sinks.{SinkValue, sent_at};
 
     ghost Value = { SinkValue };
 
-    ghost view = { λ r. record { sent = map vec_items r.replies.items; failed = r.failed } };
+    ghost view = { λ r. record {
+      sent = sent_at r.port (map vec_items r.replies.items);
+      failed = r.failed;
+    } };
 }
 
 /// The bytes of a reply, as their own list behind the others.
@@ -66,12 +70,13 @@ fn keep(alloc: Global, replies: &mut Vec<Vec<u8>>, reply: &[u8]) -> Result<(), A
 }
 
 impl Replies {
-    /// A sink that has taken nothing yet.
-    pub fn new(alloc: Global) -> Replies
+    /// A sink of that port, which has taken nothing yet.
+    pub fn new(alloc: Global, port: u8) -> Replies
         ensures { result ≡ record { sent = []; failed = 0 } }
     {
         Replies {
             alloc,
+            port,
             replies: Vec::new(alloc),
             failed: 0,
         }
@@ -79,7 +84,7 @@ impl Replies {
 
     /// The replies taken, in order.
     pub fn replies(&self) -> &[Vec<u8>]
-        ensures { map vec_items result.now ≡ self.now.sent }
+        ensures { map vec_items result.now ≡ replies_in self.now.sent }
     {
         self.replies.as_slice()
     }
@@ -94,9 +99,9 @@ impl Sink for Replies {
     ///
     /// # Errors
     ///
-    /// Memory was refused: the list is as it was.
-    fn send(&mut self, _port: u8, reply: &[u8]) -> Result<(), SinkFault> {
-        if keep(self.alloc, &mut self.replies, reply).is_err() {
+    /// The port is another, or memory was refused: the list is as it was.
+    fn send(&mut self, port: u8, reply: &[u8]) -> Result<(), SinkFault> {
+        if port != self.port || keep(self.alloc, &mut self.replies, reply).is_err() {
             self.failed = self.failed.saturating_add(1);
             return Err(SinkFault);
         }

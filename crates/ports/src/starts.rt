@@ -1,6 +1,6 @@
 //! A thread for each worker.
 
-ghost use Rattle.std.specs.Prelude.{◌≡◌, ◌+◌, ◌<◌, ◌≤◌, true, length, slice_index_or, vec_len};
+ghost use Rattle.std.specs.Prelude.{◌≡◌, ◌+◌, ◌<◌, ◌≤◌, true, false, length, slice_index_or, vec_len};
 ghost use Rattle.ports.specs.Serves.{AreLast, AreServed, AreThreadsOf, HasRoomFor, IsBack, IsWorkerOf};
 
 use crate::gate::Gate;
@@ -8,7 +8,7 @@ use crate::port::Port;
 use crate::sink::Sink;
 use crate::worker::{Report, Worker};
 use crate::works::work;
-use publish::Room;
+use publish::ProgramFamily;
 use std::alloc::Global;
 use std::snapshot::Snapshot;
 use std::sync::{Mutex, MutexGuard, Wait};
@@ -18,7 +18,7 @@ use target::Node;
 
 /// What a thread gives back: its worker, and the worker's report where it served.
 #[derive(Drop)]
-pub(crate) struct Ended<J: Room, S: Sink + Drop> {
+pub(crate) struct Ended<J: ProgramFamily, S: Sink + Drop> {
     pub worker: Worker<J, S>,
     pub report: Option<Report>,
 }
@@ -28,19 +28,19 @@ pub(crate) type Thread<J, S> = PromisedHandle<Ended<J, S>, Start<J, S>>;
 
 /// What a thread promises: the worker that comes back, with a report, is this one behind its end mark.
 #[derive(Drop)]
-pub(crate) struct Start<J: Room, S: Sink + Drop>(Snapshot<Worker<J, S>>);
+pub(crate) struct Start<J: ProgramFamily, S: Sink + Drop>(Snapshot<Worker<J, S>>);
 
-impl<J: Room, S: Sink + Drop> Promise<Ended<J, S>> for Start<J, S> {
+impl<J: ProgramFamily, S: Sink + Drop> Promise<Ended<J, S>> for Start<J, S> {
     ghost use Rattle.ports.specs.Serves.{IsBack};
 
     ghost kept_by = { λ p r. IsBack S.sent S.failed p.0.value r.worker r.report };
 }
 
-/// Serves the port where the word is to go, and else hands the worker back as it came.
-fn worked_on<R: Wait, J: Room, Q: Wait + Drop, S: Sink + Drop, G: Gate>(
+/// Serves the port where all threads were started, and else hands the worker back as it came.
+fn worked_on<R: Wait, J: ProgramFamily, Q: Wait + Drop, S: Sink + Drop, G: Gate>(
     rt: &R,
     alloc: Global,
-    word: &Mutex<bool>,
+    all_started: &Mutex<bool>,
     node: &Node<J, Q>,
     port: &Port,
     mut worker: Worker<J, S>,
@@ -49,10 +49,10 @@ fn worked_on<R: Wait, J: Room, Q: Wait + Drop, S: Sink + Drop, G: Gate>(
     requires { IsWorkerOf node.now port.now worker }
     ensures { IsBack S.sent S.failed worker result.worker result.report }
 {
-    let guard = word.lock(rt);
-    let go = *guard;
+    let guard = all_started.lock(rt);
+    let serves = *guard;
     MutexGuard::unlock(guard);
-    if !go {
+    if !serves {
         return Ended {
             worker,
             report: None,
@@ -66,7 +66,7 @@ fn worked_on<R: Wait, J: Room, Q: Wait + Drop, S: Sink + Drop, G: Gate>(
 }
 
 /// The port of a worker, which stands at this place.
-fn port_of<'a, J: Room, S: Sink + Drop, Q: Wait + Drop>(
+fn port_of<'a, J: ProgramFamily, S: Sink + Drop, Q: Wait + Drop>(
     node: &Node<J, Q>,
     ports: &'a [Port],
     place: usize,
@@ -82,7 +82,7 @@ fn port_of<'a, J: Room, S: Sink + Drop, Q: Wait + Drop>(
 /// The threads that were started, in order, the workers that were not, and whether all were. A worker whose thread
 /// could not be made is in neither list.
 #[derive(Drop)]
-pub(crate) struct Started<J: Room, S: Sink + Drop> {
+pub(crate) struct Started<J: ProgramFamily, S: Sink + Drop> {
     pub threads: Vec<Thread<J, S>>,
     pub rest: Vec<Worker<J, S>>,
     pub all: bool,
@@ -92,14 +92,14 @@ pub(crate) struct Started<J: Room, S: Sink + Drop> {
 /// ended when this returns.
 pub(crate) fn start_each<
     R: Threads + Wait + Sync,
-    J: Room + Send + 'static,
+    J: ProgramFamily + Send + 'static,
     Q: Wait + Drop + Send,
     S: Sink + Drop + Send + 'static,
     G: Gate + Sync,
 >(
     rt: &R,
     alloc: Global,
-    word: &Mutex<bool>,
+    all_started: &Mutex<bool>,
     node: &Node<J, Q>,
     ports: &[Port],
     workers: Vec<Worker<J, S>>,
@@ -113,6 +113,8 @@ pub(crate) fn start_each<
     ensures len { result.all ≡ true → vec_len result.threads ≡ vec_len workers }
     ensures most { vec_len result.threads + vec_len result.rest ≤ vec_len workers }
     ensures few { vec_len workers ≤ vec_len result.threads + vec_len result.rest + 1 }
+    ensures missing { result.all ≡ false
+        → vec_len result.threads + vec_len result.rest < vec_len workers }
     ensures rest { AreLast result.rest.items workers.items }
     ensures each { AreThreadsOf (vec_len result.threads) result.threads.items workers.items }
 {
@@ -126,13 +128,15 @@ pub(crate) fn start_each<
             ensures len { result.all ≡ true → vec_len result.threads ≡ vec_len workers }
             ensures most { vec_len result.threads + vec_len result.rest ≤ vec_len workers }
             ensures few { vec_len workers ≤ vec_len result.threads + vec_len result.rest + 1 }
+            ensures missing { result.all ≡ false
+                → vec_len result.threads + vec_len result.rest < vec_len workers }
             ensures rest { AreLast result.rest.items workers.items }
             ensures each { AreThreadsOf (vec_len result.threads) result.threads.items workers.items }
         {
             let mut threads = threads;
             let mut rest = rest;
             let mut all = true;
-            let mut guard = word.lock(rt);
+            let mut guard = all_started.lock(rt);
             for worker in workers {
                 if !all {
                     let Ok(()) = rest.push(worker) else {
@@ -144,7 +148,7 @@ pub(crate) fn start_each<
                 let start = Start(Snapshot::of(&worker));
                 match scope.spawn_with(
                     start,
-                    move || worked_on(rt, alloc, word, node, port, worker, gate),
+                    move || worked_on(rt, alloc, all_started, node, port, worker, gate),
                 ) {
                     Ok(thread) => {
                         let Ok(()) = threads.push(thread) else {

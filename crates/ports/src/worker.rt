@@ -5,12 +5,12 @@ ghost use Rattle.ports.specs.Worked.{report_sum};
 
 use crate::port::ServePass;
 use crate::sink::Sink;
-use publish::Room;
+use publish::ProgramFamily;
 use target::Pass;
 
 /// What serves a port: what the port has of its node, what takes from its queue, and where its replies go.
 #[derive(Drop)]
-pub struct Worker<J: Room, S: Sink + Drop> {
+pub struct Worker<J: ProgramFamily, S: Sink + Drop> {
     /// What the port has of its node.
     pub pass: Pass<J>,
     /// What takes from the port's queue.

@@ -3,15 +3,16 @@
 ghost use Rattle.std.specs.Prelude.{◌≡◌, ◌∷◌, [], length};
 ghost use Rattle.ports.specs.Queue.{IsServePassOf, IsServePassAfter};
 ghost use Rattle.ports.specs.Due.{due_of};
+ghost use Rattle.ports.specs.Sinks.{sent_at};
 ghost use Rattle.ports.specs.Worked.{HasServed, HasTaken, IsWorked};
 
-use crate::deal::deal;
 use crate::gate::Gate;
 use crate::item::Item;
+use crate::packet::serve_packet;
 use crate::port::Port;
 use crate::sink::Sink;
 use crate::worker::{Report, Worker};
-use publish::Room;
+use publish::ProgramFamily;
 use rmap::ReplyBuf;
 use spw::Packet;
 use std::alloc::Global;
@@ -22,7 +23,7 @@ use target::{Node, Pass};
 #[tactic(auto, using(crate::proofs::Sending::lost_one))]
 fn send<S: Sink>(sink: &mut S, port: u8, reply: &[u8]) -> u64
     ensures { HasTaken (S.sent sink.old) (S.sent sink.new) (S.failed sink.old) (S.failed sink.new)
-        (due_of (reply.now ∷ [])) result }
+        (sent_at port (due_of (reply.now ∷ []))) result }
 {
     if reply.is_empty() {
         return 0;
@@ -33,9 +34,9 @@ fn send<S: Sink>(sink: &mut S, port: u8, reply: &[u8]) -> u64
     }
 }
 
-/// Serves one packet: deals with it, and hands the reply that is due to the sink. The report of this packet alone.
-/// `reply` is where the reply is written. The condition is a pass with a share of each bank of the node.
-fn one_more<R: Wait, J: Room, Q: Wait + Drop, S: Sink>(
+/// Serves one packet, and hands the reply that is due to the sink. The report of this packet alone. `reply` is where the
+/// reply is written. The condition is a pass with a share of each bank of the node.
+fn one_more<R: Wait, J: ProgramFamily, Q: Wait + Drop, S: Sink>(
     rt: &R,
     alloc: Global,
     node: &Node<J, Q>,
@@ -49,17 +50,21 @@ fn one_more<R: Wait, J: Room, Q: Wait + Drop, S: Sink>(
         (packet ∷ []) result }
     ensures banks { length pass.new.shares ≡ length pass.old.shares }
 {
-    let discarded = u64::from(deal(rt, alloc, node, pass, packet, reply));
-    let lost = send(sink, pass.port(), reply.bytes());
+    let port = pass.port();
+    let discarded = u64::from(serve_packet(rt, alloc, node, pass, packet, reply));
+    let lost = send(sink, port, reply.bytes());
     Report { discarded, lost }
 }
 
-/// Serves a port until the end mark: takes packet after packet, deals with each, and hands the reply that is due to the
+/// Serves a port until the end mark: takes packet after packet, serves each, and hands the reply that is due to the
 /// worker's sink. Round each packet it calls the gate, with the port and the number of the packet, which wraps past
 /// 2^64 - 1. It waits for packets, and for the locks of banks and of the publisher, and holds none while it calls the
 /// gate or the sink, or while a program runs. The condition is a worker of that port, whose pass has a share of each
 /// bank of the node.
-pub fn work<R: Wait, J: Room, Q: Wait + Drop, S: Sink + Drop, G: Gate>(
+///
+/// What it ensures of a command at a bank is said of some memory and journal of it, and of a load of some list of
+/// publishes: a lock hides which. What the gate is told, and that no lock is held meanwhile, is tested.
+pub fn work<R: Wait, J: ProgramFamily, Q: Wait + Drop, S: Sink + Drop, G: Gate>(
     rt: &R,
     alloc: Global,
     node: &Node<J, Q>,

@@ -1,6 +1,6 @@
-pub mod Adding
+pub mod Turns
 pub mod Fronts
 pub mod Shelves
-pub mod Rooms
+pub mod Families
 pub mod Lasts
 pub mod Later

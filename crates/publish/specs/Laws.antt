@@ -9,7 +9,8 @@ use Rattle.publish.specs.Published.{judging_program}
 -- one publish more sets its own slot, with its place for a generation, and leaves the others
 abbrev pub IsSetByNext : Type 0
 IsSetByNext = (history : List Publish) (slot : ℕ) (program : AcceptedValue) (k : ℕ) → 0 < length history
-    → judging_program (longer_history history slot program) k ≡ cond (slot == k) (Some (program, length history)) (judging_program history k)
+    → judging_program (longer_history history slot program) k
+    ≡ cond (slot == k) (Some (program, length history)) (judging_program history k)
 
 -- none of these was published for the slot
 abbrev pub AreOthers : ℕ → List Publish → Type 0
@@ -29,11 +30,15 @@ pub record IsLast (history : List Publish) (k : ℕ) (judge : AcceptedValue) (pl
 
 -- what is published for a slot is the last of it
 abbrev pub IsLastFor : Type 0
-IsLastFor = (history : List Publish) (slot : ℕ) (program : AcceptedValue) (generation : ℕ) → judging_program history slot ≡ Some (program, generation) → IsLast history slot program generation
+IsLastFor =
+    (history : List Publish) (slot : ℕ) (program : AcceptedValue) (generation : ℕ) → judging_program history slot
+    ≡ Some (program, generation) → IsLast history slot program generation
 
 -- its generation is a place in the history
 abbrev pub IsBelow : Type 0
-IsBelow = (history : List Publish) (slot : ℕ) (program : AcceptedValue) (generation : ℕ) → judging_program history slot ≡ Some (program, generation) → generation < length history
+IsBelow =
+    (history : List Publish) (slot : ℕ) (program : AcceptedValue) (generation : ℕ) → judging_program history slot
+    ≡ Some (program, generation) → generation < length history
 
 -- the program with its generation is that one with that place, or one of a later place
 abbrev pub IsThatOrLater : AcceptedValue → ℕ → AcceptedValue × ℕ → Type 0

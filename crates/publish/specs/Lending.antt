@@ -10,4 +10,6 @@ overlaid_bytes old left = take (length old) (left ++ drop (length left) old)
 
 -- the staging ends with the bytes as they were left
 abbrev pub LendsBytes : MutBor Staged → MutBor (List ℕ) → Fml
-LendsBytes staging bytes = Lends the_row (Array u8 0) staging bytes (λ left. staged (overlaid_bytes staging.now.bytes left) staging.now.load_result)
+LendsBytes staging bytes =
+    Lends the_row (Array u8 0) staging bytes
+    (λ left. staged (overlaid_bytes staging.now.bytes left) staging.now.load_result)

@@ -1,4 +1,5 @@
 pub mod Histories
+pub mod Chains
 pub mod Reached
 pub mod Published
 pub mod Tables

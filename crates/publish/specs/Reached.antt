@@ -3,14 +3,14 @@ use Rattle.std.specs.Prelude.{◌≡◌, List, Option, Some}
 use Rattle.logbook.specs.Pages.{Book}
 use Rattle.publish.specs.declared.history.Publish.{Publish}
 
--- a room, and the programs with which its history begins
+-- a family, and the programs with which its history begins
 pub record Reached : Type 0 where
-  pub room : Book
+  pub family : Book
   pub programs : List Publish
 
--- a room, and the programs with which its history begins
+-- a family, and the programs with which its history begins
 abbrev pub reached : Book → List Publish → Reached
-reached room programs = record { room = room; programs = programs }
+reached family programs = record { family = family; programs = programs }
 
 -- what a reader knows of the history, and the programs of the table in which it is, if it is in one
 pub record Known : Type 0 where

@@ -7,13 +7,13 @@ use Rattle.logbook.specs.Pages.{Book}
 use Rattle.publish.specs.declared.history.Publish.{Publish}
 use Rattle.publish.specs.Reached.{Reached}
 
--- the table is of that room, and what each reader saw begins its programs
-pub record IsInRoom (home : Book) (table : Reached) (sights : List (List Publish)) : Type 0 where
-  pub room : table.room ≡ home
+-- the table is of that family, and what each reader saw begins its programs
+pub record IsInFamily (home : Book) (table : Reached) (sights : List (List Publish)) : Type 0 where
+  pub family : table.family ≡ home
   pub seen : (seat : ℕ) (sight : List Publish) → get_elem? sights seat ≡ some sight → IsPrefix sight table.programs
 
 -- the reader saw the programs of the table, which what it had seen begins
 pub record Sees (home : Book) (before : List Publish) (old new : Reached) (after : List Publish) : Type 0 where
-  pub room : old.room ≡ home
+  pub family : old.family ≡ home
   pub longer : IsPrefix before old.programs
   pub seen : after ≡ old.programs

@@ -16,5 +16,6 @@ shown_programs slots = map (λ s. Some (shown_program s)) slots
 
 -- each slot has the program that is published for it, and all programs have the sizes of the first
 pub record IsTable (shelf : List Shown) (history : List Publish) : Type 0 where
-  pub slots : shown_programs shelf ≡ judging_program history 0 ∷ judging_program history 1 ∷ judging_program history 2 ∷ judging_program history 3 ∷ []
+  pub slots : shown_programs shelf ≡ judging_program history 0 ∷ judging_program history 1 ∷ judging_program history 2
+      ∷ judging_program history 3 ∷ []
   pub sizes : AreFor (sizes_of history) history

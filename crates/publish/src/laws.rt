@@ -1,10 +1,10 @@
 //! Laws of histories.
 
-ghost use Rattle.std.specs.Prelude.{◌⊎◌};
+ghost use Rattle.std.specs.Prelude.{◌≡◌};
 ghost use mathlib.Core.List.{IsPrefix};
 ghost use Rattle.publish.specs.Laws.{IsSetByNext, IsLastFor, IsBelow, IsKeptOrLater};
 
-use crate::history::Room;
+use crate::history::ProgramFamily;
 use crate::publisher::Publisher;
 use crate::reader::Reader;
 use std::sync::Wait;
@@ -19,11 +19,13 @@ pub fn published_programs()
     ensures later { IsKeptOrLater }
 {}
 
-/// What a reader knows and what was published are beginnings of one history: one begins the other.
-pub fn one_history<J: Room, R: Wait + Drop>(reader: &Reader<J>, publisher: &Publisher<J, R>)
-    ensures { IsPrefix reader.now.programs publisher.now
-        ⊎ IsPrefix publisher.now reader.now.programs }
+/// What a reader knows is a beginning of what was published.
+pub fn readers_know_a_beginning<J: ProgramFamily, R: Wait + Drop>(
+    reader: &Reader<J>,
+    publisher: &mut Publisher<J, R>,
+)
+    ensures begins { IsPrefix reader.now.programs publisher.old }
+    ensures same { publisher.new ≡ publisher.old }
 {
-    let mut longer = reader.front().again();
-    longer.advance(publisher.front());
+    publisher.begins_with(reader.front());
 }

@@ -19,8 +19,8 @@ mod table;
 mod told;
 
 pub use faults::PublishFault;
-pub use history::{Opened, Publish, Room};
-pub use laws::{one_history, published_programs};
+pub use history::{Opened, ProgramFamily, Publish};
+pub use laws::{published_programs, readers_know_a_beginning};
 pub use programs::Programs;
 pub use publisher::{LAST_SLOT, Publisher};
 pub use reader::{Reader, Taken};

@@ -5,10 +5,10 @@ ghost use Rattle.publish.specs.Histories.{entry};
 ghost use Rattle.publish.specs.Published.{sizes_of};
 ghost use Rattle.publish.specs.Reached.{known};
 
-use crate::history::{Front, Opened, Room};
+use crate::history::{Front, Opened, ProgramFamily};
 use crate::publisher::Publisher;
 use crate::reader::Reader;
-use crate::rule::{InRoom, Sight};
+use crate::rule::{InFamily, Sight};
 use crate::table::Table;
 use bver::{Accepted, MapSizes};
 use left_right::writer::Writer;
@@ -24,8 +24,8 @@ impl Programs {
     ///
     /// # Errors
     ///
-    /// Memory is refused, or the history takes no program (no test met that).
-    pub fn new<J: Room, R: Wait + Drop>(
+    /// Memory is refused, or the history has begun already (no test met that).
+    pub fn new<J: ProgramFamily, R: Wait + Drop>(
         alloc: Global,
         rt: R,
         opened: Opened,
@@ -38,14 +38,14 @@ impl Programs {
             (λ made. made.1.items ≡ replicate readers (known (entry 0 factory ∷ []) None)) }
     {
         let sizes = factory.sizes();
-        let (history, mut front) = opened.parts();
         let first = (0u8, Arc::new(alloc, factory)?);
-        if !front.add(&history, &first) {
+        let Some(history) = opened.begin(&first) else {
             return Err(AllocError);
-        }
+        };
+        let front = history.front();
         let table = Table::first(first.1, front.again())?;
         let spare = table.copy()?;
-        let writer: Writer<Table, Table, Sight, InRoom<J>> = Writer::new(
+        let writer: Writer<Table, Table, Sight, InFamily<J>> = Writer::new(
             alloc,
             table,
             spare,
@@ -64,14 +64,14 @@ impl Programs {
 }
 
 /// So many readers of a table.
-fn entrances<J: Room>(
+fn entrances<J: ProgramFamily>(
     alloc: Global,
-    writer: &Writer<Table, Table, Sight, InRoom<J>>,
+    writer: &Writer<Table, Table, Sight, InFamily<J>>,
     front: &Front,
     sizes: MapSizes,
     readers: u8,
 ) -> Result<Vec<Reader<J>>, AllocError>
-    requires room { front.now.room ≡ J.book }
+    requires family { front.now.family ≡ J.book }
     requires some { 0 < length front.now.programs }
     requires sizes { sizes ≡ sizes_of front.now.programs }
     ensures { IfOk result (λ made. made.items ≡ replicate readers (known front.now.programs None)) }

@@ -7,8 +7,8 @@ ghost use Rattle.publish.specs.Published.{sizes_of};
 ghost use Rattle.publish.specs.Reached.{reached};
 
 use crate::faults::PublishFault;
-use crate::history::{Front, History, Publish, Room};
-use crate::rule::{InRoom, Shows, Sight};
+use crate::history::{Front, History, ProgramFamily, Publish};
+use crate::rule::{InFamily, Shows, Sight};
 use crate::table::Table;
 use crate::told::Told;
 use bver::{Accepted, MapSizes};
@@ -23,14 +23,14 @@ pub const LAST_SLOT: u8 = 3;
 
 /// What changes the table of programs. Contracts see it as the list of what was published, which begins
 /// with the factory program. Its end waits for readers.
-pub struct Publisher<J: Room, R: Wait + Drop> {
+pub struct Publisher<J: ProgramFamily, R: Wait + Drop> {
     pub(crate) alloc: Global,
-    pub(crate) writer: Writer<Table, Table, Sight, InRoom<J>>,
+    pub(crate) writer: Writer<Table, Table, Sight, InFamily<J>>,
     pub(crate) history: History,
     pub(crate) rt: R,
 }
 
-impl<J: Room, R: Wait + Drop> Model for Publisher<J, R> {
+impl<J: ProgramFamily, R: Wait + Drop> Model for Publisher<J, R> {
     ghost use Rattle.std.specs.Prelude.{◌≡◌, List, [], drop};
     ghost use Rattle.publish.specs.declared.history.Publish.{Publish};
 
@@ -38,10 +38,10 @@ impl<J: Room, R: Wait + Drop> Model for Publisher<J, R> {
 
     ghost view = { λ p. p.writer.desk.shown.value.programs };
 
-    ghost invariant = { λ p. (p.history ≡ J.book) × (p.writer.desk.shown.value.room ≡ J.book) × (drop p.writer.behind p.writer.log.items ≡ []) };
+    ghost invariant = { λ p. (p.history ≡ p.writer.desk.shown.value) × (p.writer.desk.shown.value.family ≡ J.book) × (drop p.writer.behind p.writer.log.items ≡ []) };
 }
 
-impl<J: Room, R: Wait + Drop> Drop for Publisher<J, R> {
+impl<J: ProgramFamily, R: Wait + Drop> Drop for Publisher<J, R> {
     fn drop(self) {
         let Self {
             alloc: _,
@@ -53,7 +53,7 @@ impl<J: Room, R: Wait + Drop> Drop for Publisher<J, R> {
     }
 }
 
-impl<J: Room, R: Wait + Drop> Publisher<J, R> {
+impl<J: ProgramFamily, R: Wait + Drop> Publisher<J, R> {
     /// The maps for which each program was accepted, with their kinds: those of the factory program.
     pub fn sizes(&self) -> MapSizes
         ensures { result ≡ sizes_of self.now }
@@ -67,7 +67,7 @@ impl<J: Room, R: Wait + Drop> Publisher<J, R> {
     /// # Errors
     ///
     /// `Slot` for a slot above 3; `GenerationsFull` after 4,294,967,295 publishes; `Memory` where memory was
-    /// refused, or the history takes no more (no test met that). What is published stays as it was.
+    /// refused. What is published stays as it was.
     pub fn install(&mut self, slot: u8, program: Accepted) -> Result<Told<J>, PublishFault>
         requires { program.sizes ≡ sizes_of self.old }
         ensures published { OnOk result (self.new ≡ longer_history self.old slot program) }
@@ -85,16 +85,15 @@ impl<J: Room, R: Wait + Drop> Publisher<J, R> {
         if self.front().len() > u64::from(u32::MAX) {
             return Err(PublishFault::GenerationsFull);
         }
-        let mut front = self.front().again();
         let mut table = self.writer.published().copy()?;
         let publish = (slot, Arc::new(self.alloc, program)?);
-        // From here on nothing asks for memory.
-        if !front.add(&self.history, &publish) {
-            return Err(PublishFault::Memory);
-        }
-        let told = Told::new(front.again());
-        table.put(slot, publish.1, front);
-        self.show(table);
+        // From here on nothing asks for memory, and nothing is refused.
+        self.history.add(&publish);
+        let told = Told::new(self.history.front());
+        table.put(slot, publish.1, self.history.front());
+        replace_with(&mut self.writer, (table, &self.rt), |writer, (table, rt)| {
+            shown(rt, writer, table)
+        });
         Ok(told)
     }
 
@@ -119,25 +118,23 @@ impl<J: Room, R: Wait + Drop> Publisher<J, R> {
         Ok(())
     }
 
-    /// Shows readers a table.
-    fn show(&mut self, table: Table)
-        requires room { table.room ≡ J.book }
-        requires longer { IsPrefix self.old table.programs }
-        ensures { self.new ≡ table.programs }
+    /// What was reached of the history is a beginning of what was published.
+    pub(crate) fn begins_with(&mut self, front: &Front)
+        requires { front.now.family ≡ J.book }
+        ensures begins { IsPrefix front.now.programs self.old }
+        ensures same { self.new ≡ self.old }
     {
-        replace_with(&mut self.writer, (table, &self.rt), |writer, (table, rt)| {
-            shown(rt, writer, table)
-        })
+        self.history.begins_with(front);
     }
 }
 
 /// The writer once readers see what is pending.
-fn flushed<J: Room, R: Wait>(
+fn flushed<J: ProgramFamily, R: Wait>(
     rt: &R,
-    writer: Writer<Table, Table, Sight, InRoom<J>>,
-) -> (Writer<Table, Table, Sight, InRoom<J>>, ())
-    requires room { (fold (λ _ t. t) writer.desk.shown.value
-        (drop writer.behind writer.log.items)).room
+    writer: Writer<Table, Table, Sight, InFamily<J>>,
+) -> (Writer<Table, Table, Sight, InFamily<J>>, ())
+    requires family { (fold (λ _ t. t) writer.desk.shown.value
+        (drop writer.behind writer.log.items)).family
         ≡ J.book }
     requires longer { IsPrefix writer.desk.shown.value.programs
         (fold (λ _ t. t) writer.desk.shown.value (drop writer.behind writer.log.items)).programs }
@@ -157,13 +154,13 @@ fn flushed<J: Room, R: Wait>(
 }
 
 /// The writer once readers see the table.
-fn shown<J: Room, R: Wait>(
+fn shown<J: ProgramFamily, R: Wait>(
     rt: &R,
-    writer: Writer<Table, Table, Sight, InRoom<J>>,
+    writer: Writer<Table, Table, Sight, InFamily<J>>,
     table: Table,
-) -> (Writer<Table, Table, Sight, InRoom<J>>, ())
+) -> (Writer<Table, Table, Sight, InFamily<J>>, ())
     requires pending { drop writer.behind writer.log.items ≡ [] }
-    requires room { table.room ≡ J.book }
+    requires family { table.family ≡ J.book }
     requires longer { IsPrefix writer.desk.shown.value.programs table.programs }
     ensures shown { result.0.desk.shown.value ≡ table }
     ensures pending { drop result.0.behind result.0.log.items ≡ [] }

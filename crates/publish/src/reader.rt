@@ -11,8 +11,8 @@ ghost use Rattle.publish.specs.Reached.{IsInside, known, reached};
 ghost use Rattle.publish.specs.Tables.{shown_program};
 ghost use Rattle.publish.specs.contracts.reader.Reader.{the_row};
 
-use crate::history::{Front, Room};
-use crate::rule::{InRoom, Looks, Sight};
+use crate::history::{Front, ProgramFamily};
+use crate::rule::{InFamily, Looks, Sight};
 use crate::table::{Shown, Table};
 use crate::told::Told;
 use bver::{Accepted, MapSizes};
@@ -20,17 +20,18 @@ use left_right::reader::{Reader as Entrance, Reading};
 use std::marker::Model;
 use std::mem;
 
-/// What a port has of the table of programs: how it enters, and how far the history is known to it.
-/// Contracts see it as the programs that it knows, and those of the table in which it is.
-pub struct Reader<J: Room> {
-    outside: Option<Entrance<Table, Sight, InRoom<J>>>,
-    inside: Option<Reading<Table, Sight, InRoom<J>>>,
+/// What a port has of the table of programs: how it enters, and how far the history is known to it. It is outside of the
+/// table or inside, and always can enter again. Contracts see it as the programs that it knows, and those of the table in
+/// which it is.
+pub struct Reader<J: ProgramFamily> {
+    outside: Option<Entrance<Table, Sight, InFamily<J>>>,
+    inside: Option<Reading<Table, Sight, InFamily<J>>>,
     known: Front,
     sizes: MapSizes,
 }
 
-impl<J: Room> Model for Reader<J> {
-    ghost use Rattle.std.specs.Prelude.{◌≡◌, ◌<◌, IfSome, length};
+impl<J: ProgramFamily> Model for Reader<J> {
+    ghost use Rattle.std.specs.Prelude.{◌≡◌, ◌<◌, ◌⊎◌, IfSome, IsSome, length};
     ghost use Rattle.core.specs.Option.{option_map};
     ghost use mathlib.Core.List.{IsPrefix};
     ghost use Rattle.left_right.specs.Sides.{view as sight};
@@ -41,10 +42,10 @@ impl<J: Room> Model for Reader<J> {
 
     ghost view = { λ r. knows r.known.programs (option_map (λ s. s.part.value.programs) r.inside) };
 
-    ghost invariant = { λ r. (r.known.room ≡ J.book) × (0 < length r.known.programs) × (r.sizes ≡ first_sizes r.known.programs) × IfSome r.outside (λ e. IsPrefix (sight e.place) r.known.programs) × IfSome r.inside (λ e. IsPrefix (sight e.place) r.known.programs) };
+    ghost invariant = { λ r. (r.known.family ≡ J.book) × (0 < length r.known.programs) × (r.sizes ≡ first_sizes r.known.programs) × IfSome r.outside (λ e. IsPrefix (sight e.place) r.known.programs) × IfSome r.inside (λ e. IsPrefix (sight e.place) r.known.programs) × (IsSome r.outside ⊎ IsSome r.inside) };
 }
 
-impl<J: Room> Drop for Reader<J> {
+impl<J: ProgramFamily> Drop for Reader<J> {
     fn drop(self) {
         let Self {
             outside: _outside,
@@ -59,20 +60,20 @@ impl<J: Room> Drop for Reader<J> {
 }
 
 /// The program of a slot, as it was taken. The table keeps it for as long as this is held.
-pub struct Taken<'a, J: Room> {
+pub struct Taken<'a, J: ProgramFamily> {
     reader: &'a mut Reader<J>,
     slot: u8,
     ghost few: { slot < 4 },
 }
 
-impl<J: Room> Reader<J> {
+impl<J: ProgramFamily> Reader<J> {
     /// A reader that knows so much.
     pub(crate) fn new(
-        entrance: Entrance<Table, Sight, InRoom<J>>,
+        entrance: Entrance<Table, Sight, InFamily<J>>,
         front: Front,
         sizes: MapSizes,
     ) -> Reader<J>
-        requires room { front.room ≡ J.book }
+        requires family { front.family ≡ J.book }
         requires some { 0 < length front.programs }
         requires sizes { sizes ≡ sizes_of front.programs }
         requires sight { IsPrefix (view entrance.place) front.programs }
@@ -118,7 +119,7 @@ impl<J: Room> Reader<J> {
     pub fn take(&mut self, slot: u8) -> Option<Taken<'_, J>>
         requires slot { slot < 4 }
         ensures* unchanged { sem 𝓛
-            (RestsIfNone (the_row J.row J.Room) self.entry (λ t. t.reader.ghost_name) result
+            (RestsIfNone (the_row J.row J.ProgramFamily) self.entry (λ t. t.reader.ghost_name) result
             (λ n. n ≡ self.old)) }
         ensures same_reference { IfSome result (λ t. t.reader.ghost_name ≡ self.entry.ghost_name) }
         ensures seen { IfSome result (λ t. IsPrefix self.old.programs t.reader.now.programs) }
@@ -189,7 +190,7 @@ impl<J: Room> Reader<J> {
     }
 }
 
-impl<J: Room> Taken<'_, J> {
+impl<J: ProgramFamily> Taken<'_, J> {
     /// The program. The condition is one that [`Reader::take`] ensures of what it gives.
     pub fn accepted(&self) -> &Accepted
         requires { IsInside self.now.reader.now }
@@ -211,7 +212,7 @@ impl<J: Room> Taken<'_, J> {
     }
 }
 
-impl<'a, J: Room> Drop for Taken<'a, J> {
+impl<'a, J: ProgramFamily> Drop for Taken<'a, J> {
     fn drop(self)
         ensures { self.exit.0.now ≡ known self.entry.reader.now.programs None }
     {

@@ -1,6 +1,6 @@
 //! The rule of the table of programs, and what the steps on it tell.
 
-use crate::history::{Publish, Room};
+use crate::history::{ProgramFamily, Publish};
 use crate::table::Table;
 use crossbeam_utils::rule::{Outcome, Protocol};
 use std::collections::LinkedList;
@@ -9,26 +9,26 @@ use std::marker::PhantomData;
 /// What a reader saw of the history. No value of it is made.
 pub(crate) type Sight = LinkedList<Publish>;
 
-/// The rule: the table is of one room, and each reader saw a beginning of its programs.
-pub(crate) struct InRoom<J: Room> {
+/// The rule: the table is of one family, and each reader saw a beginning of its programs.
+pub(crate) struct InFamily<J: ProgramFamily> {
     of: PhantomData<J>,
 }
 
-impl<J: Room> Protocol<Table, Sight> for InRoom<J> {
+impl<J: ProgramFamily> Protocol<Table, Sight> for InFamily<J> {
     ghost use Rattle.std.specs.Prelude.{[]};
-    ghost use Rattle.publish.specs.Sights.{IsInRoom};
+    ghost use Rattle.publish.specs.Sights.{IsInFamily};
 
-    ghost holds = { IsInRoom J.book };
+    ghost holds = { IsInFamily J.book };
 
     ghost first = { [] };
 }
 
 /// A step of a reader, which sees the programs of the table.
-pub(crate) struct Looks<J: Room> {
+pub(crate) struct Looks<J: ProgramFamily> {
     of: PhantomData<J>,
 }
 
-impl<J: Room> Outcome<Table, Sight> for Looks<J> {
+impl<J: ProgramFamily> Outcome<Table, Sight> for Looks<J> {
     ghost use Rattle.publish.specs.Sights.{Sees};
 
     ghost then = { Sees J.book };

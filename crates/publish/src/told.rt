@@ -3,17 +3,17 @@
 ghost use Rattle.std.specs.Prelude.{◌≡◌, ◌<◌, ◌≤◌, ◌+◌, ◌^◌, length};
 ghost use Rattle.publish.specs.Reached.{reached};
 
-use crate::history::{Front, Room};
+use crate::history::{Front, ProgramFamily};
 use std::marker::{Model, PhantomData};
 
 /// How far the history went when a program was published. Contracts see it as the programs.
 #[derive(Drop)]
-pub struct Told<J: Room> {
+pub struct Told<J: ProgramFamily> {
     front: Front,
     of: PhantomData<J>,
 }
 
-impl<J: Room> Model for Told<J> {
+impl<J: ProgramFamily> Model for Told<J> {
     ghost use Rattle.std.specs.Prelude.{◌≡◌, ◌<◌, ◌≤◌, ◌^◌, List, length};
     ghost use Rattle.publish.specs.declared.history.Publish.{Publish};
 
@@ -21,13 +21,13 @@ impl<J: Room> Model for Told<J> {
 
     ghost view = { λ t. t.front.programs };
 
-    ghost invariant = { λ t. (t.front.room ≡ J.book) × (0 < length t.front.programs) × (length t.front.programs ≤ 2 ^ 32) };
+    ghost invariant = { λ t. (t.front.family ≡ J.book) × (0 < length t.front.programs) × (length t.front.programs ≤ 2 ^ 32) };
 }
 
-impl<J: Room> Told<J> {
+impl<J: ProgramFamily> Told<J> {
     /// What tells so much.
     pub(crate) fn new(front: Front) -> Told<J>
-        requires room { front.room ≡ J.book }
+        requires family { front.family ≡ J.book }
         requires some { 0 < length front.programs }
         requires few { length front.programs ≤ 2 ^ 32 }
         ensures { result ≡ front.programs }

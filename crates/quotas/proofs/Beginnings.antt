@@ -2,14 +2,15 @@
 use Rattle.std.specs.Prelude.{◌&&◌, ◌==◌, if◌then◌else◌, ◌%◌, ◌^◌}
 use Rattle.std.proofs.Common.{◌≡◌, ◌<◌, ◌≤◌, ◌+◌, ◌⊎◌, ℕ, Bool, true, false, Option, Some, None, refl, sym, ap, ap₂, ◌∙◌, arith, inl, inr}
 use Rattle.std.proofs.lemmas.Bool.{and_from, and_parts, cases_lt, eqb-true}
+use Rattle.machine.specs.declared.helpers.Helper.TheVariants as helpers
 use Rattle.sched.specs.declared.event.Event.{Event}
 use Rattle.sched.specs.declared.event.Event.TheVariants.{Take, Count, Ticket, Peak, Effect, Publish}
 use Rattle.sched.specs.declared.event.Outcome.{Outcome}
 use Rattle.sched.specs.declared.event.Outcome.TheVariants.{Told}
 use Rattle.sched.specs.Headline.{Begins, whole, longer}
 use Rattle.sched.specs.History.{History, Then, port_of}
-use Rattle.sched.specs.Lawful.{IsLawful, ticket_on}
-use Rattle.sched.specs.Looking.{Node, cell_asked, draws, is_cell, is_told, tickets, turn_at}
+use Rattle.sched.specs.Lawful.{IsLawful, told_on}
+use Rattle.sched.specs.Looking.{Node, argument_asked, cell_asked, draws, is_cell, is_told, tickets, turn_at}
 use Rattle.quotas.specs.Matches.{IsDraw}
 
 pub ordered : {a b h : History} → Begins a h → Begins b h → Begins a b ⊎ Begins b a
@@ -45,9 +46,9 @@ ticket_counts n h event outcome map key answer draw =
 
 -- ---- what a draw is told
 
-told_there : (n : Node) (h : History) (map key : ℕ) (cell : Option (ℕ × ℕ)) → is_cell cell map key ≡ true → ticket_on n h cell ≡ Told (tickets n h map key % 2 ^ 64)
-told_there n h map key None is = cc
-told_there n h map key (Some cell) is =
+told_there : (n : Node) (h : History) (map key argument : ℕ) (cell : Option (ℕ × ℕ)) → is_cell cell map key ≡ true → told_on n h helpers.Ticket argument cell ≡ Told (tickets n h map key % 2 ^ 64)
+told_there n h map key argument None is = cc
+told_there n h map key argument (Some cell) is =
     let parts = and_parts (cell.0 == map) (cell.1 == key) is in
     ap₂ (λ (m k : ℕ). Told (tickets n h m k % 2 ^ 64)) (eqb-true _ _ parts.0) (eqb-true _ _ parts.1)
 
@@ -64,5 +65,5 @@ told_tickets n h (Publish port) outcome map key answer lawful draw = let no_draw
 told_tickets n h (Ticket port) outcome map key answer lawful draw = by (cases_lt port n.ports)
   where
     by : (port < n.ports) ⊎ (n.ports ≤ port) → answer ≡ tickets n h map key % 2 ^ 64
-    by (inl there) = told-is _ _ (sym draw.told ∙ lawful.1.here there ∙ told_there n h map key (cell_asked 2 (turn_at n h port)) draw.asked)
+    by (inl there) = told-is _ _ (sym draw.told ∙ lawful.1.here there ∙ told_there n h map key (argument_asked (turn_at n h port)) (cell_asked helpers.Ticket (turn_at n h port)) draw.asked)
     by (inr nowhere) = let refused = lawful.1.nowhere nowhere in let told = draw.told in cc

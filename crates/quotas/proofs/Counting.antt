@@ -6,6 +6,7 @@ use Rattle.bpf.specs.Program.{Program}
 use Rattle.brun.specs.declared.turns.Turn.{Turn}
 use Rattle.brun.specs.declared.turns.Turn.TheVariants as turns
 use Rattle.machine.specs.declared.calls.Call.{Call}
+use Rattle.machine.specs.declared.helpers.Helper.TheVariants as helpers
 use Rattle.machine.specs.Memory.{Header, IsHeader}
 use Rattle.machine.specs.Runs.{AreAnswered, IsSafe, Path, entry, moves, answered, call}
 use Rattle.machine.specs.State.{State}
@@ -21,7 +22,7 @@ use Rattle.sched.specs.declared.event.Outcome.{Outcome}
 use Rattle.sched.specs.declared.event.Outcome.TheVariants.{Refused, Discarded, Answered, Taken, Told, Done}
 use Rattle.sched.specs.Headline.{Begins, EveryScheduleJudgesOnce, IsJudgedOnce, whole, longer}
 use Rattle.sched.specs.History.{History, Start, Then, Open, after_answer, opened, opened_by, port_of, taken_by, with_answer}
-use Rattle.sched.specs.Lawful.{IsLawful, IsOutcomeAt, IsPublishOutcome, IsPublishedBy, effect_at_turn, effect_outcome, take_outcome, count_on, peak_at}
+use Rattle.sched.specs.Lawful.{IsLawful, IsOutcomeAt, IsPublishOutcome, IsPublishedBy, effect_at_turn, effect_outcome, take_outcome, helper_outcome}
 use Rattle.sched.specs.Looking.{Node, cell_asked, draws, header_in, is_cell, program_of, turn_at, turn_by, turn_of}
 use Rattle.sched.specs.Turns.{AreWords, HasAsked, HasEnded, TurnsArePaths, answers_of, asking}
 use Rattle.quotas.specs.Matches.{IsMatched, MatchesAreCounted, from_take}
@@ -129,26 +130,26 @@ asked_for program header port before c (answered {calls = calls} {n = n} {s = s}
 
 -- ---- the event that told it
 
--- an event that is told something where the program asks helper 2 for a cell draws a ticket of that
+-- an event that is told something where the program asks `ticket` for a cell draws a ticket of that
 ticket_asked : (n : Node) (h : History) (event : Event) (told map key : ℕ) (o : Open) → IsOutcomeAt n h event (Told told) → opened h (port_of event) ≡ Some o
-    → turn_at n h (port_of event) ≡ Some (turns.Ask 2 map key 0) → draws (turn_at n h (port_of event)) event map key ≡ true
+    → turn_at n h (port_of event) ≡ Some (turns.Ask helpers.Ticket map key 0) → draws (turn_at n h (port_of event)) event map key ≡ true
 ticket_asked n h (Take port packet) told map key o at is_open asks =
     let refused : take_outcome n h packet (opened h port) ≡ Refused = ap (λ (x : Option Open). take_outcome n h packet x) is_open in
     let no : Told told ≡ Refused = at ∙ refused in cc
 ticket_asked n h (Count port) told map key o at is_open asks =
-    let refused : count_on n h (cell_asked 1 (turn_at n h port)) ≡ Refused = ap (λ (t : Option Turn). count_on n h (cell_asked 1 t)) asks in
+    let refused : helper_outcome n h helpers.Count (turn_at n h port) ≡ Refused = ap (helper_outcome n h helpers.Count) asks in
     let no : Told told ≡ Refused = at ∙ refused in cc
 ticket_asked n h (Peak port) told map key o at is_open asks =
-    let refused : peak_at n h (turn_at n h port) ≡ Refused = ap (peak_at n h) asks in
+    let refused : helper_outcome n h helpers.Peak (turn_at n h port) ≡ Refused = ap (helper_outcome n h helpers.Peak) asks in
     let no : Told told ≡ Refused = at ∙ refused in cc
 ticket_asked n h (Ticket port) told map key o at is_open asks =
-    ap (λ (t : Option Turn). is_cell (cell_asked 2 t) map key) asks ∙ and_from (map == map) (key == key) (eq-eqb map map refl) (eq-eqb key key refl)
+    ap (λ (t : Option Turn). is_cell (cell_asked helpers.Ticket t) map key) asks ∙ and_from (map == map) (key == key) (eq-eqb map map refl) (eq-eqb key key refl)
 ticket_asked n h (Effect port) told map key o at is_open asks =
-    let stands : turn_of n port o ≡ Some (turns.Ask 2 map key 0) = sym (ap (λ (x : Option Open). turn_by n port x) is_open) ∙ asks in
+    let stands : turn_of n port o ≡ Some (turns.Ask helpers.Ticket map key 0) = sym (ap (λ (x : Option Open). turn_by n port x) is_open) ∙ asks in
     let refused : effect_outcome n h port (opened h port) ≡ Refused = ap (λ (x : Option Open). effect_outcome n h port x) is_open ∙ ap (λ (t : Option Turn). effect_at_turn n h port o t) stands in
     let no : Told told ≡ Refused = at ∙ refused in cc
 ticket_asked n h (Publish port) told map key o at is_open asks =
-    let stands : turn_of n port o ≡ Some (turns.Ask 2 map key 0) = sym (ap (λ (x : Option Open). turn_by n port x) is_open) ∙ asks in
+    let stands : turn_of n port o ≡ Some (turns.Ask helpers.Ticket map key 0) = sym (ap (λ (x : Option Open). turn_by n port x) is_open) ∙ asks in
     let by_open : IsPublishedBy n h port o (turn_of n port o) (Told told) = subst (λ (x : Option Open). IsPublishOutcome n h port x (Told told)) is_open at in
     let no : Told told ≡ Refused = subst (λ (t : Option Turn). IsPublishedBy n h port o t (Told told)) stands by_open in cc
 
@@ -198,9 +199,9 @@ module _ (paths : TurnsArePaths) (n : Node) (h : History) (port : ℕ) (o : Open
       let words : AreWords front = front_words front last.answer (subst (λ (xs : List ℕ). All (λ answer. answer < 2 ^ 64) xs) answers ran.words) in
       let by_path : HasAsked program header port front asked.question = record { calls = last.before; answered = refl; steps = asked.steps; last = asked.last; on = asked.on; path = asked.path; asks = asked.asks } in
       let stands : turn_of n port command ≡ Some (asking asked.question) = ((paths program n.sizes header port front ran.safe ran.header low words).asks asked.question).1 by_path in
-      let question : asking asked.question ≡ turns.Ask 2 quota.map quota.cell 0 = ap (λ (c : Call). turns.Ask c.helper c.map c.key c.argument) asked.is in
-      let at_port : turn_at n was.before port ≡ Some (turns.Ask 2 quota.map quota.cell 0) = ap (λ (x : Option Open). turn_by n port x) was.is_open ∙ stands ∙ ap (λ (t : Turn). Some t) question in
-      let there : turn_at n was.before (port_of was.event) ≡ Some (turns.Ask 2 quota.map quota.cell 0) = ap (λ (p : ℕ). turn_at n was.before p) was.own ∙ at_port in
+      let question : asking asked.question ≡ turns.Ask helpers.Ticket quota.map quota.cell 0 = ap (λ (c : Call). turns.Ask c.helper c.map c.key c.argument) asked.is in
+      let at_port : turn_at n was.before port ≡ Some (turns.Ask helpers.Ticket quota.map quota.cell 0) = ap (λ (x : Option Open). turn_by n port x) was.is_open ∙ stands ∙ ap (λ (t : Turn). Some t) question in
+      let there : turn_at n was.before (port_of was.event) ≡ Some (turns.Ask helpers.Ticket quota.map quota.cell 0) = ap (λ (p : ℕ). turn_at n was.before p) was.own ∙ at_port in
       let open_there : opened was.before (port_of was.event) ≡ Some command = ap (λ (p : ℕ). opened was.before p) was.own ∙ was.is_open in
       let told = told_there n was.before was.event last.answer (lawful_before n was.within lawful) in
       record {

@@ -4,7 +4,7 @@ use Rattle.std.proofs.Common.{◌≡◌, ◌<◌, ℕ, suc, Bool, true, false, L
 use Rattle.std.proofs.lemmas.Bool.{ltb-true}
 use Rattle.machine.specs.declared.calls.Call.{Call}
 use Rattle.machine.specs.Memory.{Header}
-use Rattle.policy.specs.Codes.{ruling_code}
+use Rattle.rmap.specs.Verdict.{verdict_number}
 use Rattle.policy.specs.Matching.{EndsByMatch, matched_by, matching_quota}
 use Rattle.policy.specs.Meaning.{decision, draw, holds, ruled}
 use Rattle.policy.specs.declared.rules.Quota.{Quota}
@@ -48,7 +48,7 @@ by_conditions false quota mine other ours others here there e = there e
 pub ends_in_draw : (rules : List Rule) (header : Header) (told : ℕ → ℕ) (quota : Quota) → matching_quota rules header told ≡ Some quota → EndsInDraw (decision rules header told).0 quota
 ends_in_draw [] header told quota e = cc
 ends_in_draw (rule ∷ rules) header told quota e =
-    let code : ℕ = ruling_code rule.ruling in
+    let code : ℕ = verdict_number rule.verdict in
     let further : ℕ → ℕ = λ k. told (suc k) in
     let later : List Call × ℕ = decision rules header further in
     by_conditions (holds rule header) quota (matched_by rule.quota told (matching_quota rules header further)) (matching_quota rules header told) (ruled rule.quota code told later) (decision rules header told)

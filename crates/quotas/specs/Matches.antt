@@ -1,4 +1,4 @@
--- Which commands the rules of a quota let pass in a history of a node.
+-- Which commands the rules of a quota match in a history of a node, whatever the verdict of such a rule is.
 use Rattle.std.specs.Prelude.{◌≡◌, ◌≢◌, ◌≤◌, ◌<◌, ◌^◌, ℕ, true, List, [], ◌∷◌, ◌++◌, length, Option, Some, All}
 use Rattle.machine.specs.declared.calls.Call.{Call}
 use Rattle.policy.specs.Compiled.{HasMeaning}
@@ -22,8 +22,8 @@ pub record IsDraw (n : Node) (h : History) (event : Event) (outcome : Outcome) (
   pub asked : draws (turn_at n h (port_of event)) event map key ≡ true
   pub told : outcome ≡ Told answer
 
--- with that answer the calls that a program made since its command was taken are a decision which ends by the match of a
--- rule with this quota: the program has the meaning of some rules
+-- with that answer the calls that a program made since its command was taken are a decision which ends by the match of
+-- a rule with this quota: the program has the meaning of some rules
 pub record EndsWith (n : Node) (o : Open) (map key limit answer : ℕ) : Type 0 where
   pub rules : List Rule
   pub meaning : HasMeaning rules (program_of n o)
@@ -44,8 +44,8 @@ pub record IsMatchAt (n : Node) (h : History) (event : Event) (outcome : Outcome
 abbrev pub from_take : (port : ℕ) → Open → History
 from_take port o = Then o.before (Take port o.packet) (Taken o.generation)
 
--- a command of the history, by where it was taken, one of whose draws there is a match of a rule on the cell with at most
--- that limit
+-- a command of the history, by where it was taken, one of whose draws there is a match of a rule on the cell with at
+-- most that limit
 pub record IsMatched (n : Node) (h : History) (map key limit : ℕ) (take : History) : Type 0 where
   pub before : History
   pub event : Event
@@ -61,25 +61,26 @@ abbrev pub AreApart : List History → Type 0
 AreApart [] = Unit {0}
 AreApart (h ∷ hs) = All (λ other. h ≢ other) hs × AreApart hs
 
--- some commands of the history, each once, that rules on the cell with at most that limit let pass
+-- some commands of the history, each once, that rules on the cell with at most that limit match
 pub record Matches (n : Node) (h : History) (map key limit : ℕ) (takes : List History) : Type 0 where
   pub apart : AreApart takes
   pub each : All (λ take. IsMatched n h map key limit take) takes
 
 -- ---- the law
 
--- in every lawful history, while fewer than 2^64 tickets of a cell were drawn, at most as many commands match by rules on
--- it as the greatest of their limits says, over all ports and all programs
+-- in every lawful history, while fewer than 2^64 tickets of a cell were drawn, at most as many commands match by rules
+-- on it as the greatest of their limits says, over all ports and all programs
 abbrev pub QuotasHold : Type 0
 QuotasHold =
     (n : Node) (h : History) (map key limit : ℕ) (takes : List History) → IsLawful n h → tickets n h map key < 2 ^ 64
     → Matches n h map key limit takes → length takes ≤ limit
 
--- where the program of a command that is done has the meaning of rules, and their decision on its header, by what it was
--- told, ends by the match of a rule with a quota, the command matched in the history, by that quota
+-- where the program of a command that is done has the meaning of rules, and their decision on its header, by what it
+-- was told, ends by the match of a rule with a quota, the command matched in the history, by that quota
 abbrev pub MatchesAreCounted : Type 0
 MatchesAreCounted =
-    (n : Node) (h : History) (event : Event) (status : Status) (reply : List ℕ) (loaded : Option (List ℕ)) (o : Open) (rules : List Rule) (quota : Quota)
+    (n : Node) (h : History) (event : Event) (status : Status) (reply : List ℕ) (loaded : Option (List ℕ)) (o : Open)
+    (rules : List Rule) (quota : Quota)
     → IsNode n → HasBytes h → IsLawful n (Then h event (Done status reply loaded)) → opened h (port_of event) ≡ Some o
     → HasMeaning rules (program_of n o) → matching_quota rules (header_in o.packet) (told_by o.answers) ≡ Some quota
     → IsMatched n h quota.map quota.cell quota.limit (from_take (port_of event) o)

@@ -2,7 +2,8 @@
 //!
 //! A rule of a policy table may draw a ticket of a counter cell, and match only where that is below its limit
 //! ([`policy::Quota`]). The law of this crate says of every lawful history of a node, over all its ports and all the
-//! programs that judge there, how many commands such rules let pass.
+//! programs that judge there, how many commands such rules match, whatever their verdict. It says nothing of how many
+//! commands pass: a later rule may let more pass.
 #![tactic(auto)]
 
 mod laws;

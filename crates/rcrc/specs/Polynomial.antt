@@ -1,6 +1,9 @@
 -- Polynomials over two elements, each the list of its coefficients, that of x^0 first, and the CRC
 -- as the remainder of one of them.
-use Rattle.std.specs.Prelude.{◌≡◌, ℕ, zero, suc, ◌*◌, ◌/◌, ◌%◌, ◌^◌, ◌<◌, ◌==◌, Bool, true, false, not, List, [], ◌∷◌, length, slice_index_or, if◌then◌else◌}
+use Rattle.std.specs.Prelude.{◌≡◌, ℕ, zero, suc, ◌*◌, ◌/◌, ◌%◌, ◌^◌, ◌<◌, ◌==◌, Bool, true, false, not, List, [], ◌∷◌}
+use Rattle.std.specs.Prelude.{length, slice_index_or, if◌then◌else◌}
+
+-- ---- the statement
 
 -- the coefficient of x^k, which is 0 past the end of the list
 abbrev pub coefficient : List Bool → ℕ → Bool
@@ -47,7 +50,8 @@ bit_of byte k = byte / 2 ^ k % 2 == 1
 -- the polynomial of a byte: bit 0 is the coefficient of x^7 (ECSS-E-ST-50-52C, 8-bit CRC)
 abbrev pub of_byte : ℕ → List Bool
 of_byte byte =
-    bit_of byte 7 ∷ bit_of byte 6 ∷ bit_of byte 5 ∷ bit_of byte 4 ∷ bit_of byte 3 ∷ bit_of byte 2 ∷ bit_of byte 1 ∷ bit_of byte 0 ∷ []
+    bit_of byte 7 ∷ bit_of byte 6 ∷ bit_of byte 5 ∷ bit_of byte 4 ∷ bit_of byte 3 ∷ bit_of byte 2 ∷ bit_of byte 1
+    ∷ bit_of byte 0 ∷ []
 
 -- the polynomial of some bytes: the lowest bit of the first byte is the highest coefficient
 -- (ECSS-E-ST-50-52C, 8-bit CRC)
@@ -60,6 +64,8 @@ of_bytes (byte ∷ bytes) = plus (times_power (8 * length bytes) (of_byte byte))
 pub record IsRemainder (bytes : List ℕ) (r : ℕ) : Type 0 where
   pub is_byte : r < 256
   pub divides : IsMultiple (plus (times_power 8 (of_bytes bytes)) (of_byte r))
+
+-- ---- what else contracts and proofs say
 
 -- no bytes have two remainders
 abbrev pub RemainderIsUnique : Type 0

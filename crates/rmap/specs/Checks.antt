@@ -1,16 +1,19 @@
 -- The checks of a command, in the order in which they decide. The standard names the errors
 -- (ECSS-E-ST-50-52C, write action, read action, read-modify-write action, error and status codes);
 -- their order is a choice of this target.
-use Rattle.std.specs.Prelude.{◌≡◌, ℕ, ◌+◌, Bool, false, ◌==◌, ◌&&◌, ◌||◌, not, nat_lt, if◌then◌else◌, List, length, take, slice_index, Option, None, Some, is_none}
+use Rattle.std.specs.Prelude.{◌≡◌, ℕ, ◌+◌, Bool, false, ◌==◌, ◌&&◌, ◌||◌, not, nat_lt, if◌then◌else◌, List, length}
+use Rattle.std.specs.Prelude.{take, slice_index, Option, None, Some, is_none}
 use Rattle.rcrc.specs.Crc.{crc_of}
 use Rattle.spw.specs.declared.packets.End.{End}
 use Rattle.spw.specs.declared.packets.End.TheVariants.{Eop, Eep}
-use Rattle.rmap.specs.declared.checks.TheConstants.{MAX_DATA}
+use Rattle.rmap.specs.declared.checks.TheConstants.{MAX_DATA, VERIFY_BUFFER}
 use Rattle.rmap.specs.declared.kind.Kind.{Kind}
 use Rattle.rmap.specs.declared.kind.Kind.TheVariants.{Read, Write, Rmw, Unused}
 use Rattle.rmap.specs.declared.places.Place.{Place}
 use Rattle.rmap.specs.declared.status.Status.{Status}
-use Rattle.rmap.specs.declared.status.Status.TheVariants.{UnusedCode, InvalidDataCrc, EarlyEndOfPacket, TooMuchData, ErrorEndOfPacket, VerifyBufferOverrun, NotAuthorised, RmwDataLength, InvalidLogicalAddress}
+use Rattle.rmap.specs.declared.status.Status.TheVariants.{UnusedCode, InvalidDataCrc, EarlyEndOfPacket, TooMuchData}
+use Rattle.rmap.specs.declared.status.Status.TheVariants.{ErrorEndOfPacket, VerifyBufferOverrun, NotAuthorised}
+use Rattle.rmap.specs.declared.status.Status.TheVariants.{RmwDataLength, InvalidLogicalAddress}
 use Rattle.rmap.specs.Instruction.{is_used, carries_data}
 use Rattle.rmap.specs.Command.{CommandValue, target_of, length_of, command_kind, verifies}
 use Rattle.rmap.specs.Windows.{WindowsValue, place_of}
@@ -34,7 +37,7 @@ header_line c w =
     if not (is_used (command_kind c)) then Some UnusedCode
     else if not (target_of c == w.node_address) then Some InvalidLogicalAddress
     else if has_wrong_rmw_length (command_kind c) (length_of c) then Some RmwDataLength
-    else if verifies c && nat_lt 1024 (length_of c) then Some VerifyBufferOverrun
+    else if verifies c && nat_lt VERIFY_BUFFER (length_of c) then Some VerifyBufferOverrun
     else if nat_lt MAX_DATA (length_of c) || is_none (place_of c w) then Some NotAuthorised
     else None
 

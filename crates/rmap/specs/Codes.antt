@@ -4,7 +4,10 @@ use Rattle.std.specs.Prelude.{ℕ, ◌==◌, if◌then◌else◌, Option, Some, 
 use Rattle.rmap.specs.declared.discard.Discard.{Discard}
 use Rattle.rmap.specs.declared.discard.Discard.TheVariants.{Short, Protocol, Reply, HeaderCrc}
 use Rattle.rmap.specs.declared.status.Status.{Status}
-use Rattle.rmap.specs.declared.status.Status.TheVariants.{Success, GeneralError, UnusedCode, InvalidKey, InvalidDataCrc, EarlyEndOfPacket, TooMuchData, ErrorEndOfPacket, VerifyBufferOverrun, NotAuthorised, RmwDataLength, InvalidLogicalAddress}
+use Rattle.rmap.specs.declared.status.Status.TheVariants.{Success, GeneralError, UnusedCode, InvalidKey}
+use Rattle.rmap.specs.declared.status.Status.TheVariants.{InvalidDataCrc, EarlyEndOfPacket, TooMuchData}
+use Rattle.rmap.specs.declared.status.Status.TheVariants.{ErrorEndOfPacket, VerifyBufferOverrun, NotAuthorised}
+use Rattle.rmap.specs.declared.status.Status.TheVariants.{RmwDataLength, InvalidLogicalAddress}
 
 -- the number of a reason to discard
 abbrev pub discard_code : Discard → ℕ

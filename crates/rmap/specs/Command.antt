@@ -1,6 +1,7 @@
 -- Commands as bytes (ECSS-E-ST-50-52C, write command format, read command format and
 -- read-modify-write command format). Fields of several bytes have the most significant byte first.
-use Rattle.std.specs.Prelude.{◌≡◌, ◌≤◌, ℕ, ◌+◌, ◌-◌, Bool, ◌==◌, not, nat_lt, if◌then◌else◌, List, [], ◌∷◌, ◌++◌, length, take, drop, slice_index, Option, None, Some, Result, Ok}
+use Rattle.std.specs.Prelude.{◌≡◌, ◌≤◌, ℕ, ◌+◌, ◌-◌, Bool, ◌==◌, not, nat_lt, if◌then◌else◌, List, [], ◌∷◌, ◌++◌}
+use Rattle.std.specs.Prelude.{length, take, drop, slice_index, Option, None, Some, Result, Ok}
 use Rattle.byteorder.specs.Endian.{big_bytes, big_number}
 use Rattle.rcrc.specs.Crc.{crc_of}
 use Rattle.spw.specs.declared.packets.End.{End}
@@ -8,7 +9,8 @@ use Rattle.spw.specs.Cargo.{Cargo}
 use Rattle.rmap.specs.declared.kind.Kind.{Kind}
 use Rattle.rmap.specs.declared.discard.Discard.{Discard}
 use Rattle.rmap.specs.declared.discard.Discard.TheVariants.{Short, Protocol, Reply, HeaderCrc}
-use Rattle.rmap.specs.Instruction.{packet_type, kind_of, has_write_bit, has_verify_bit, has_reply_bit, has_increment_bit, reply_address_length}
+use Rattle.rmap.specs.Instruction.{packet_type, kind_of, has_write_bit, has_verify_bit, has_reply_bit}
+use Rattle.rmap.specs.Instruction.{has_increment_bit, reply_address_length}
 
 -- the parts of a command in the order of its bytes, and how its packet ended
 pub record CommandValue : Type 0 where

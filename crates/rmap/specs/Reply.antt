@@ -6,7 +6,8 @@ use Rattle.rcrc.specs.Crc.{crc_of}
 use Rattle.rcrc.specs.Polynomial.{IsRemainder}
 use Rattle.rmap.specs.declared.status.Status.{Status}
 use Rattle.rmap.specs.Codes.{status_code}
-use Rattle.rmap.specs.Command.{CommandValue, target_of, instruction_of, initiator_of, transaction_of, writes, wants_reply}
+use Rattle.rmap.specs.Command.{CommandValue, target_of, instruction_of, initiator_of, transaction_of, writes}
+use Rattle.rmap.specs.Command.{wants_reply}
 
 -- some bytes without the zeros that they begin with
 abbrev pub without_leading_zeros : List ℕ → List ℕ
@@ -62,6 +63,7 @@ pub record HasRemainders (c : CommandValue) (bytes reply : List ℕ) : Type 0 wh
   pub header : List ℕ
   pub header_crc : ℕ
   pub data_crc : ℕ
-  pub layout : reply ≡ reply_path_of c.reply_address ++ (header ++ header_crc ∷ []) ++ (if writes c then [] else bytes ++ data_crc ∷ [])
+  pub layout : reply ≡ reply_path_of c.reply_address ++ (header ++ header_crc ∷ [])
+      ++ (if writes c then [] else bytes ++ data_crc ∷ [])
   pub header_remainder : IsRemainder header header_crc
   pub data_remainder : writes c ≡ false → IsRemainder bytes data_crc

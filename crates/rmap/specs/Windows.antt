@@ -1,7 +1,9 @@
 -- Where the bytes of a command lie. The standard leaves open what is behind the addresses
 -- (ECSS-E-ST-50-52C, extended address field and address field): this is a choice of this target.
-use Rattle.std.specs.Prelude.{ℕ, ◌+◌, Bool, ◌==◌, ◌&&◌, ◌||◌, not, nat_le, nat_lt, if◌then◌else◌, List, slice_get, Option, None, Some}
-use Rattle.rmap.specs.declared.boot.TheConstants.{STAGING_SIZE}
+use Rattle.std.specs.Prelude.{ℕ, ◌+◌, Bool, ◌==◌, ◌&&◌, ◌||◌, not, nat_le, nat_lt, if◌then◌else◌, List, slice_get}
+use Rattle.std.specs.Prelude.{Option, None, Some}
+use Rattle.rmap.specs.declared.boot.TheConstants.{BOOT_WINDOW, STAGING_SIZE, LOAD_REGISTER, LOAD_RESULT_SIZE}
+use Rattle.rmap.specs.declared.boot.TheConstants.{CONTROL_SIZE}
 use Rattle.rmap.specs.declared.kind.Kind.{Kind}
 use Rattle.rmap.specs.declared.kind.Kind.TheVariants.{Read, Write, Rmw, Unused}
 use Rattle.rmap.specs.declared.places.Place.{Place}
@@ -24,14 +26,14 @@ lies_inside base size c =
 abbrev pub is_staged : CommandValue → Bool
 is_staged c = is_used (command_kind c) && lies_inside 0 STAGING_SIZE c
 
--- exactly that many bytes at 0x10000, with increment
+-- exactly that many bytes at the address of the load register, 0x10000, with increment
 abbrev pub is_register : ℕ → CommandValue → Bool
-is_register size c = address_of c == 0x10000 && length_of c == size && increments c
+is_register size c = address_of c == LOAD_REGISTER && length_of c == size && increments c
 
 -- at 0x10000 the load result is read whole, and a control write written whole
 abbrev pub register_of : Kind → CommandValue → Option Place
-register_of Read c = if is_register 8 c then Some LoadResult else None
-register_of Write c = if is_register 4 c then Some Control else None
+register_of Read c = if is_register LOAD_RESULT_SIZE c then Some LoadResult else None
+register_of Write c = if is_register CONTROL_SIZE c then Some Control else None
 register_of Rmw c = None
 register_of Unused c = None
 
@@ -42,7 +44,7 @@ boot_place c =
 
 -- the bank of the extended address, where the command's bytes lie in it, or else the boot window
 abbrev pub bank_place : Option (ℕ × ℕ) → CommandValue → Option Place
-bank_place None c = if extended_of c == 0xFF then boot_place c else None
+bank_place None c = if extended_of c == BOOT_WINDOW then boot_place c else None
 bank_place (Some bank) c = if lies_inside bank.0 bank.1 c then Some (Bank (extended_of c)) else None
 
 -- the extended address names a bank, or the boot window; nothing else is allowed

@@ -15,7 +15,7 @@ use rcrc::crc;
 use spw::End;
 
 /// The most bytes that a command with the verify bit may have.
-const VERIFY_BUFFER: u32 = 1024;
+pub const VERIFY_BUFFER: u32 = 1024;
 
 /// The most bytes of data that a command may have.
 pub const MAX_DATA: u32 = 4096;

@@ -14,7 +14,8 @@ The second byte is the protocol identifier, and 01 is that of RMAP. Packets of o
 Put 01 behind the target's logical address.";
 
 const REPLY: &str = "\
-Bit 6 of the instruction is clear, and so the packet is a reply. Bit 7 is reserved.
+Bits 7 and 6 of the instruction are clear, and so the packet is a reply. The types 10 and 11 are reserved:
+such a command is answered with status 2.
 Set bit 6: a write is 60, a read 40, with the bits for verify, reply and increment added.";
 
 const HEADER_CRC: &str = "\

@@ -7,6 +7,31 @@ ghost use Rattle.rmap.specs.Reply.{reply_instruction};
 
 use crate::kind::Kind;
 
+/// The bits of an instruction by which a read is known: packet type, write bit, verify bit and reply bit. The increment
+/// bit may be either (ECSS-E-ST-50-52C, instruction field).
+pub const READ_MASK: u8 = 0b1111_1000;
+
+/// What an instruction is under [`READ_MASK`] where it is a read, and nowhere else: packet type 01 and code 001x.
+pub const READ_BITS: u8 = 0b0100_1000;
+
+/// The bits of an instruction by which a write is known: packet type and write bit (ECSS-E-ST-50-52C, instruction
+/// field).
+pub const WRITE_MASK: u8 = 0b1110_0000;
+
+/// What an instruction is under [`WRITE_MASK`] where it is a write, and nowhere else: packet type 01 and code 1xxx.
+pub const WRITE_BITS: u8 = 0b0110_0000;
+
+/// The bits of an instruction by which a read-modify-write is known: packet type and the whole command code
+/// (ECSS-E-ST-50-52C, instruction field).
+pub const RMW_MASK: u8 = 0b1111_1100;
+
+/// What an instruction is under [`RMW_MASK`] where it is a read-modify-write, and nowhere else: packet type 01 and code
+/// 0111.
+pub const RMW_BITS: u8 = 0b0101_1100;
+
+/// The increment bit of an instruction, bit 2 (ECSS-E-ST-50-52C, instruction field).
+pub const INCREMENT_BIT: u8 = 0b0000_0100;
+
 /// The instruction byte of a command or a reply (ECSS-E-ST-50-52C, instruction field).
 #[derive(Clone, Copy, Debug, PartialEq, Eq)]
 pub struct Instruction(pub u8);

@@ -11,6 +11,7 @@ ghost use Rattle.rmap.specs.Reply.{HasRemainder, HasRemainders, reply_of, reply_
 use crate::checks::MAX_DATA;
 use crate::command::{Command, PROTOCOL};
 use crate::status::Status;
+use arrayvec::ArrayVec;
 use byteorder::{BigEndian, ByteOrder};
 use rcrc::crc;
 use std::marker::Model;
@@ -21,20 +22,15 @@ pub const MAX_REPLY: usize = 4121;
 /// Room for one reply.
 #[derive(Debug, Drop)]
 pub struct ReplyBuf {
-    bytes: [u8; MAX_REPLY],
-    length: usize,
+    bytes: ArrayVec<u8, MAX_REPLY>,
 }
 
 impl Model for ReplyBuf {
-    ghost use Rattle.std.specs.Prelude.{◌≡◌, ◌≤◌, List, ℕ, take};
-    ghost use Rattle.std.specs.Prelude.{length as list_length};
-    ghost use Rattle.rmap.specs.declared.reply.TheConstants.{MAX_REPLY};
+    ghost use Rattle.std.specs.Prelude.{List, ℕ};
 
     ghost Value = { List ℕ };
 
-    ghost view = { λ b. take b.length b.bytes };
-
-    ghost invariant = { λ b. (b.length ≤ MAX_REPLY) × (list_length b.bytes ≡ MAX_REPLY) };
+    ghost view = { λ b. b.bytes.items };
 }
 
 impl ReplyBuf {
@@ -43,8 +39,7 @@ impl ReplyBuf {
         ensures { result ≡ [] }
     {
         ReplyBuf {
-            bytes: [0; MAX_REPLY],
-            length: 0,
+            bytes: ArrayVec::new(),
         }
     }
 
@@ -53,32 +48,28 @@ impl ReplyBuf {
         ensures value { result.now ≡ self.now }
         ensures bound { length result.now ≤ MAX_REPLY }
     {
-        let bytes: &[u8] = &self.bytes;
-        &bytes[..self.length]
+        self.bytes.as_slice()
     }
 
     /// Forgets the reply.
     pub fn clear(&mut self)
         ensures { self.new ≡ [] }
     {
-        self.length = 0;
+        self.bytes.clear();
     }
 
     fn extend(&mut self, bytes: &[u8])
         requires { length self.old + length bytes.now ≤ MAX_REPLY }
         ensures { self.new ≡ self.old ++ bytes.now }
     {
-        let end = self.length + bytes.len();
-        self.bytes[self.length..end].copy_from_slice(bytes);
-        self.length = end;
+        self.bytes.try_extend_from_slice(bytes).unwrap();
     }
 
     fn push(&mut self, byte: u8)
         requires { length self.old < MAX_REPLY }
         ensures { self.new ≡ self.old ++ byte ∷ [] }
     {
-        self.bytes[self.length] = byte;
-        self.length += 1;
+        self.bytes.push(byte);
     }
 
     /// Adds the header of a reply without its CRC, for `bytes` as its data.

@@ -12,7 +12,8 @@ Nothing is to be done.";
 const GENERAL_ERROR: &str = "\
 There is no room for the command in the journal of its bank, or a load was refused, or the port was given no
 program.
-Hand the journal out, or read the load result, whose first byte tells why.";
+No command hands a journal out, and that of a node of rmapctl has room for 1,024 commands: begin anew. Or read
+the load result, whose first byte tells why.";
 
 const UNUSED_CODE: &str = "\
 The packet type is reserved, or the four bits of command codes are none of a read, a write or a read-modify-

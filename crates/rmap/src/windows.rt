@@ -2,6 +2,7 @@
 
 ghost use Rattle.std.specs.Prelude.{◌≡◌, ◌≤◌, length, slice_get};
 
+use arrayvec::ArrayVec;
 use std::marker::Model;
 
 /// The most banks that a node has.
@@ -12,35 +13,28 @@ pub const MAX_BANKS: usize = 8;
 #[derive(Debug, Drop)]
 pub struct Windows {
     node_address: u8,
-    count: usize,
-    banks: [(u32, u32); MAX_BANKS],
+    banks: ArrayVec<(u32, u32), MAX_BANKS>,
 }
 
 impl Model for Windows {
-    ghost use Rattle.std.specs.Prelude.{◌≡◌, ◌≤◌, take, length};
     ghost use Rattle.rmap.specs.Windows.{WindowsValue};
 
     ghost Value = { WindowsValue };
 
-    ghost view = { λ w. record { node_address = w.node_address; banks = take w.count w.banks } };
-
-    ghost invariant = { λ w. (w.count ≤ 8) × (length w.banks ≡ 8) };
+    ghost view = { λ w. record { node_address = w.node_address; banks = w.banks.items } };
 }
 
 impl Windows {
     /// The windows of a node with that logical address and those banks, each a base and a size in
     /// bytes, at most eight. The extended address of a bank is its place in the list, from 0 on.
     pub fn new(node_address: u8, banks: &[(u32, u32)]) -> Windows
-        requires { length banks.now ≤ 8 }
+        requires { length banks.now ≤ MAX_BANKS }
         ensures node { result.node_address ≡ node_address }
         ensures banks { result.banks ≡ banks.now }
     {
-        let mut all = [(0, 0); MAX_BANKS];
-        all[..banks.len()].copy_from_slice(banks);
         Windows {
             node_address,
-            count: banks.len(),
-            banks: all,
+            banks: ArrayVec::try_from(banks).unwrap(),
         }
     }
 
@@ -55,7 +49,6 @@ impl Windows {
     pub fn bank(&self, number: u8) -> Option<(u32, u32)>
         ensures { result ≡ slice_get self.now.banks number }
     {
-        let banks: &[(u32, u32)] = &self.banks;
-        banks[..self.count].get(usize::from(number)).copied()
+        self.banks.as_slice().get(usize::from(number)).copied()
     }
 }

@@ -2,7 +2,7 @@
 //! standard streams of this machine. docs/COMMANDS.md says what it does.
 #![tactic(auto)]
 
-use commands::{HostFiles, Job, UsageFault, WriteFault, perform, words};
+use commands::{HostFiles, Job, UsageFault, perform, words};
 use std::alloc::Global;
 use std::io::{BufWriter, Write};
 use std::process::ExitCode;
@@ -17,16 +17,35 @@ const WITHOUT_WORDS: [&str; 2] = ["judge", "-"];
 /// The exit status where standard output cannot be written.
 const FAILED: u8 = 1;
 
+/// Tells the user that standard output cannot be written, but where it is a pipe that its reader closed, and gives the
+/// exit status.
+fn lose_output<R: Eprint>(rt: &R, flushed: io::Result<()>) -> u8 {
+    let is_closed = match flushed {
+        Ok(()) => false,
+        Err(refused) => refused.kind() == io::ErrorKind::BrokenPipe,
+    };
+    if !is_closed {
+        let _ = rt.eprintln(&"cannot write standard output");
+    }
+    FAILED
+}
+
 /// Does a job over this machine's files and standard output, and gives the exit status.
-fn do_job<R: rt::Files + Input + Print + Threads + Wait + Sync>(
+fn do_job<R: rt::Files + Input + Print + Eprint + Threads + Wait + Sync>(
     rt: &R,
     alloc: Global,
     job: &Job,
-) -> Result<u8, WriteFault> {
-    let mut out = BufWriter::new(alloc, io::writer(rt))?;
-    let status = perform(rt, alloc, job, &mut HostFiles { rt }, &mut out)?;
-    out.flush()?;
-    Ok(status)
+) -> u8 {
+    let mut out = match BufWriter::new(alloc, io::writer(rt)) {
+        Ok(out) => out,
+        Err(refused) => return lose_output(rt, Err(refused)),
+    };
+    let done = perform(rt, alloc, job, &mut HostFiles { rt }, &mut out);
+    // What was held back fails again where it failed before, with the reason.
+    match (done, out.flush()) {
+        (Ok(status), Ok(())) => status,
+        (_, flushed) => lose_output(rt, flushed),
+    }
 }
 
 /// What an error of the arguments is: want of memory, or an argument that is no text.
@@ -62,7 +81,7 @@ fn refuse<R: Print + Eprint>(rt: &R, fault: &UsageFault) -> u8 {
 
 fn main(rt: HostRuntime) -> ExitCode {
     let status = match job_given(&rt) {
-        Ok(job) => do_job(&rt, rt.alloc(), &job).unwrap_or(FAILED),
+        Ok(job) => do_job(&rt, rt.alloc(), &job),
         Err(fault) => refuse(&rt, &fault),
     };
     ExitCode::from(status)

@@ -6,12 +6,15 @@ use Rattle.std.proofs.lemmas.List.Elements.{filter-append}
 use Rattle.std.proofs.lemmas.List.Sums.{fold-append}
 use Rattle.rmap.specs.declared.places.Place.{Place}
 use Rattle.rmap.specs.declared.status.Status.{Status}
-use Rattle.rmap.specs.declared.status.Status.TheVariants.{InvalidKey, NotAuthorised, InvalidLogicalAddress, InvalidDataCrc, EarlyEndOfPacket, TooMuchData}
+use Rattle.rmap.specs.declared.status.Status.TheVariants.{InvalidDataCrc, EarlyEndOfPacket, TooMuchData}
+use Rattle.rmap.specs.declared.verdict.Verdict.{Verdict}
+use Rattle.rmap.specs.declared.verdict.Verdict.TheVariants as verdicts
+use Rattle.rmap.specs.Verdict.{verdict_of}
 use Rattle.rmap.specs.Command.{CommandValue, command_of}
 use Rattle.rmap.specs.Checks.{body_line, body_line_at}
 use Rattle.spw.specs.declared.packets.End.{End}
 use Rattle.spw.specs.declared.packets.End.TheVariants.{Eop, Eep}
-use Rattle.bank.specs.Answer.{answer, effect_at, first_line, is_success, judged_line, status_of, status_with}
+use Rattle.bank.specs.Answer.{answer, effect_at, first_line, is_success, judged_line, status_of, status_with, verdict_line}
 use Rattle.bank.specs.Effect.{Memory}
 use Rattle.bank.specs.Records.{EntryValue, after_entry, numbers_of, replay}
 use Rattle.target.specs.declared.config.BankConfig.{BankConfig}
@@ -53,7 +56,7 @@ entered_other n bank port o status es q apart =
 
 -- no check before the room gives success
 pub no_success : (c : CommandValue) (v : ℕ) (status : Status) → judged_line c v ≡ Some status → is_success status ≡ false
-no_success c v status e = first (v == 0) (v == 3) (v == 12) e
+no_success c v status e = by (verdict_of v) e
   where
     some-is : (x y : Status) → ◌≡◌ {A = Option Status} (Some x) (Some y) → x ≡ y
     some-is x y is = cc
@@ -77,17 +80,11 @@ no_success c v status e = first (v == 0) (v == 3) (v == 12) e
     body Eep is = ap is_success (sym (some-is _ _ is))
     body Eop is = few _ _ _ is
 
-    third : (none : Bool) → first_line (if none then Some InvalidLogicalAddress else Some NotAuthorised) (body_line c) ≡ Some status → is_success status ≡ false
-    third true is = ap is_success (sym (some-is _ _ is))
-    third false is = ap is_success (sym (some-is _ _ is))
-
-    second : (three twelve : Bool) → first_line (if three then Some InvalidKey else if twelve then Some InvalidLogicalAddress else Some NotAuthorised) (body_line c) ≡ Some status → is_success status ≡ false
-    second true twelve is = ap is_success (sym (some-is _ _ is))
-    second false twelve is = third twelve is
-
-    first : (yes three twelve : Bool) → first_line (if yes then None else if three then Some InvalidKey else if twelve then Some InvalidLogicalAddress else Some NotAuthorised) (body_line c) ≡ Some status → is_success status ≡ false
-    first true three twelve is = body c.end is
-    first false three twelve is = second three twelve is
+    by : (verdict : Verdict) → first_line (verdict_line verdict) (body_line c) ≡ Some status → is_success status ≡ false
+    by verdicts.Authorised is = body c.end is
+    by verdicts.InvalidKey is = ap is_success (sym (some-is _ _ is))
+    by verdicts.NotAuthorised is = ap is_success (sym (some-is _ _ is))
+    by verdicts.InvalidLogicalAddress is = ap is_success (sym (some-is _ _ is))
 
 -- a command for which there is no room leaves memory
 no_room_line : (line : Option Status) → ((status : Status) → line ≡ Some status → is_success status ≡ false) → is_success (status_with false line) ≡ false

@@ -1,21 +1,21 @@
 -- What an event of a port does to the world, by what the world's calls say.
-use Rattle.std.proofs.Common.{◌≡◌, ◌<◌, ◌≤◌, ◌+◌, ◌%◌, ◌^◌, max, ℕ, List, [], length, get_or, true, false, pos, Option, Some, None, is_none, refl, sym, ap, subst, ◌∙◌, arith}
+use Rattle.std.proofs.Common.{◌≡◌, ◌<◌, ◌≤◌, ℕ, List, [], length, get_or, true, false, Option, Some, None, is_none, refl, sym, ap, subst, ◌∙◌, arith}
 use Rattle.std.specs.Prelude.{IsTrue, slice_get, slice_set, slice_index_or}
 use Rattle.std.proofs.lemmas.Option.{slice_get_read}
 use Rattle.spw.specs.Cargo.{Cargo}
 use Rattle.rmap.specs.declared.places.Place.{Place}
 use Rattle.rmap.specs.Windows.{WindowsValue}
 use Rattle.machine.specs.Sizes.{Maps, IsInside, kind_of_map}
-use Rattle.machine.specs.Step.{takes_kind}
-use Rattle.machine.specs.declared.kinds.MapKind.{MapKind}
-use Rattle.machine.specs.declared.kinds.MapKind.TheVariants as kinds
 use Rattle.bank.specs.Admission.{IsPlacedBy}
 use Rattle.target.specs.declared.stop.Stop.{Stop}
 use Rattle.target.specs.Steps.{IsStopped}
+use Rattle.machine.specs.declared.helpers.Helper.{Helper}
+use Rattle.machine.specs.Helpers.{takes_kind}
 use Rattle.sched.specs.declared.event.Event.{Event}
-use Rattle.sched.specs.declared.event.Event.TheVariants.{Take, Count, Ticket, Peak}
+use Rattle.sched.specs.declared.event.Event.TheVariants.{Take}
 use Rattle.sched.specs.declared.event.Outcome.{Outcome}
 use Rattle.sched.specs.declared.event.Outcome.TheVariants.{Refused, Taken, Told}
+use Rattle.sched.specs.Answers.{answering, told_of_word, word_behind}
 use Rattle.sched.specs.Begins.{IsBegun}
 use Rattle.sched.specs.History.{port_of}
 use Rattle.sched.specs.Lawful.{stop_outcome}
@@ -24,7 +24,7 @@ use Rattle.sched.specs.Worlds.{RunValue, PortValue, WorldValue, GoesOn, IsPortIn
 use Rattle.sched.proofs.Growth.{left_all}
 use Rattle.sched.proofs.Keeping.{cells_keep, cell_there, port_keeps, same_under_if_any, world_with_port}
 use Rattle.sched.proofs.Taking.{take_refused, take_stopped, take_taken}
-use Rattle.sched.proofs.Telling.{IsTold, count_goes_on, count_refused, ticket_goes_on, ticket_refused, peak_goes_on, peak_refused}
+use Rattle.sched.proofs.Telling.{IsAskedOf, IsTold, helper_goes_on, helper_refused}
 
 -- ---- a port that was read
 
@@ -98,33 +98,35 @@ begun_goes_on old w place port packet lies p q r run is placed =
 -- ---- Count, Ticket and Peak
 
 -- what a helper asks of a world
-pub record IsAsked (old w : WorldValue) (place port helper map key : ℕ) (p : PortValue) : Type 0 where
+pub record IsAsked (old w : WorldValue) (place port map key : ℕ) (helper : Helper) (p : PortValue) : Type 0 where
   pub read : IsRead old w place port p
   pub asked : Some (map, key) ≡ cell_asked helper (turn_in p.run)
   pub inside : (windows : WindowsValue) (sizes : Maps) → IsRunUnderIfAny windows sizes p.run → IsInside sizes map key
-  pub kind : (windows : WindowsValue) (sizes : Maps) → IsRunUnderIfAny windows sizes p.run → IsTrue (takes_kind (pos helper) (kind_of_map sizes map))
-
-asked_inside : (old w : WorldValue) (place port helper map key : ℕ) (p : PortValue) → IsAsked old w place port helper map key p → IsWorld w → IsInside w.sizes map key
-asked_inside old w place port helper map key p is fits =
-    is.inside w.windows w.sizes (fits.ports port p (there old w place port p is.read)).run
-
--- helper 2 asks counter maps alone, and helper 3 peak maps
-counter_alone : (kind : MapKind) → IsTrue (takes_kind (pos 2) kind) → kind ≡ kinds.Counter
-counter_alone kinds.Counter is = refl
-counter_alone kinds.Peak is = absurd cc
-
-peak_alone : (kind : MapKind) → IsTrue (takes_kind (pos 3) kind) → kind ≡ kinds.Peak
-peak_alone kinds.Counter is = absurd cc
-peak_alone kinds.Peak is = refl
-
-asked_kind : (old w : WorldValue) (place port helper map key : ℕ) (p : PortValue) → IsAsked old w place port helper map key p → IsWorld w → IsTrue (takes_kind (pos helper) (kind_of_map w.sizes map))
-asked_kind old w place port helper map key p is fits =
-    is.kind w.windows w.sizes (fits.ports port p (there old w place port p is.read)).run
+  pub kind : (windows : WindowsValue) (sizes : Maps) → IsRunUnderIfAny windows sizes p.run → IsTrue (takes_kind helper (kind_of_map sizes map))
 
 -- the cell that is asked for is there
-pub asked_there : (old w : WorldValue) (place port helper map key : ℕ) (p : PortValue) → IsAsked old w place port helper map key p → IsWorld w → (map < length w.words) × (key < length (slice_index_or w.words map []))
-asked_there old w place port helper map key p is fits =
-    cell_there w.sizes w.words map key (asked_inside old w place port helper map key p is fits) fits.cells
+pub asked_there : (old w : WorldValue) (place port map key : ℕ) (helper : Helper) (p : PortValue) → IsAsked old w place port map key helper p → IsWorld w → (map < length w.words) × (key < length (slice_index_or w.words map []))
+asked_there old w place port map key helper p is fits =
+    cell_there w.sizes w.words map key (is.inside w.windows w.sizes (fits.ports port p (there old w place port p is.read)).run) fits.cells
+
+-- what the port asks of the world
+asked_of : (old w : WorldValue) (place port map key argument : ℕ) (helper : Helper) (p : PortValue) → IsAsked old w place port map key helper p → argument ≡ argument_asked (turn_in p.run) → IsWorld w → IsAskedOf w port map key argument helper p
+asked_of old w place port map key argument helper p is number fits =
+    let here = there old w place port p is.read in
+    let inside = below old w place port p is.read in
+    let run = (fits.ports port p here).run in
+    let cell = asked_there old w place port map key helper p is fits in
+    record {
+      there = here;
+      below = inside;
+      low = low w port inside fits;
+      asked = is.asked;
+      argument_is = number;
+      inside = is.inside w.windows w.sizes run;
+      kind = is.kind w.windows w.sizes run;
+      map_there = cell.0;
+      key_there = cell.1;
+    }
 
 -- the port behind an answer fits still
 told_fits : (w : WorldValue) (port told : ℕ) (p q : PortValue) → slice_get w.ports port ≡ Some p → IsTold told p q → IsSameRunIfAny p.run q.run → IsWorld w → IsPortIn w.windows w.sizes w.banks port q
@@ -138,7 +140,7 @@ pub record IsToldAt (old w : WorldValue) (place port told : ℕ) (p q : PortValu
   pub told_as : IsTold told p q
   pub same : IsSameRunIfAny p.run q.run
 
-pub told_world : (old w : WorldValue) (place port told : ℕ) (p q : PortValue) → IsToldAt old w place port told p q → IsWorld w → IsWorld (record w { ports = slice_set w.ports place q })
+told_world : (old w : WorldValue) (place port told : ℕ) (p q : PortValue) → IsToldAt old w place port told p q → IsWorld w → IsWorld (record w { ports = slice_set w.ports place q })
 told_world old w place port told p q is fits =
     let read = there old w place port p is.read in
     subst (λ (k : ℕ). IsWorld (record w { ports = slice_set w.ports k q })) (sym is.read.place_is)
@@ -156,50 +158,27 @@ written_world old w place port told map key next p q is map_there fits =
       ports = made.ports;
     }
 
--- Count, where no helper asks
-pub count_none : (old w : WorldValue) (place port : ℕ) (p : PortValue) → IsRead old w place port p → None ≡ cell_asked 1 (turn_in p.run) → GoesOn (Count port) Refused old old
-count_none old w place port p is none =
-    subst (λ (v : WorldValue). GoesOn (Count port) Refused v v) is.is (count_refused w port p (there old w place port p is) (below old w place port p is) none)
+-- the event of a helper, where the program does not ask it
+pub helper_none : (old w : WorldValue) (place port : ℕ) (helper : Helper) (p : PortValue) → IsRead old w place port p → None ≡ cell_asked helper (turn_in p.run) → GoesOn (answering helper port) Refused old old
+helper_none old w place port helper p is none =
+    subst (λ (v : WorldValue). GoesOn (answering helper port) Refused v v) is.is (helper_refused w port helper p (there old w place port p is) (below old w place port p is) none)
 
--- Ticket, where no helper asks
-pub ticket_none : (old w : WorldValue) (place port : ℕ) (p : PortValue) → IsRead old w place port p → None ≡ cell_asked 2 (turn_in p.run) → GoesOn (Ticket port) Refused old old
-ticket_none old w place port p is none =
-    subst (λ (v : WorldValue). GoesOn (Ticket port) Refused v v) is.is (ticket_refused w port p (there old w place port p is) (below old w place port p is) none)
+-- what the helper tells, and the word behind that
+pub record IsAnswered (helper : Helper) (word argument told next : ℕ) : Type 0 where
+  pub told_is : told ≡ told_of_word helper word argument
+  pub next_is : next ≡ word_behind helper word argument
 
--- Peak, where no helper asks
-pub peak_none : (old w : WorldValue) (place port : ℕ) (p : PortValue) → IsRead old w place port p → None ≡ cell_asked 3 (turn_in p.run) → GoesOn (Peak port) Refused old old
-peak_none old w place port p is none =
-    subst (λ (v : WorldValue). GoesOn (Peak port) Refused v v) is.is (peak_refused w port p (there old w place port p is) (below old w place port p is) none)
-
--- Count, where helper 1 asks
-pub count_told : (old w : WorldValue) (place port map key told : ℕ) (p q : PortValue) → IsAsked old w place port 1 map key p → told ≡ word_at w.words map key → IsToldAt old w place port told p q → IsWorld w
-    → GoesOn (Count port) (Told told) old (record w { ports = slice_set w.ports place q })
-count_told old w place port map key told p q asks word is fits =
-    let inside = below old w place port p is.read in
-    let made = count_goes_on w port map key told p q (there old w place port p is.read) inside (low w port inside fits) (asked_inside old w place port 1 map key p asks fits) word asks.asked is.told_as in
-    subst (λ (v : WorldValue). GoesOn (Count port) (Told told) v (record w { ports = slice_set w.ports place q })) is.read.is
-    (subst (λ (k : ℕ). GoesOn (Count port) (Told told) w (record w { ports = slice_set w.ports k q })) (sym is.read.place_is) made)
-
--- Ticket, where helper 2 asks
-pub ticket_told : (old w : WorldValue) (place port map key told next : ℕ) (p q : PortValue) → IsAsked old w place port 2 map key p → told ≡ word_at w.words map key → next ≡ (told + 1) % 2 ^ 64 → IsToldAt old w place port told p q → IsWorld w
-    → GoesOn (Ticket port) (Told told) old (record w { words = with_word w.words map key next; ports = slice_set w.ports place q })
-ticket_told old w place port map key told next p q asks word counts is fits =
-    let inside = below old w place port p is.read in
-    let cell = asked_there old w place port 2 map key p asks fits in
-    let made = ticket_goes_on w port map key told next p q (there old w place port p is.read) inside (low w port inside fits) (asked_inside old w place port 2 map key p asks fits) cell.0 cell.1 (counter_alone (kind_of_map w.sizes map) (asked_kind old w place port 2 map key p asks fits)) word counts asks.asked is.told_as in
-    subst (λ (v : WorldValue). GoesOn (Ticket port) (Told told) v (record w { words = with_word w.words map key next; ports = slice_set w.ports place q })) is.read.is
-    (subst (λ (k : ℕ). GoesOn (Ticket port) (Told told) w (record w { words = with_word w.words map key next; ports = slice_set w.ports k q })) (sym is.read.place_is) made)
-
--- Peak, where helper 3 asks
-pub peak_told : (old w : WorldValue) (place port map key argument next : ℕ) (p q : PortValue) → IsAsked old w place port 3 map key p → argument ≡ argument_asked (turn_in p.run) → next ≡ max (word_at w.words map key) argument → IsToldAt old w place port next p q → IsWorld w
-    → GoesOn (Peak port) (Told next) old (record w { words = with_word w.words map key next; ports = slice_set w.ports place q })
-peak_told old w place port map key argument next p q asks number raised is fits =
-    let inside = below old w place port p is.read in
-    let cell = asked_there old w place port 3 map key p asks fits in
-    let kind = peak_alone (kind_of_map w.sizes map) (asked_kind old w place port 3 map key p asks fits) in
-    let made = peak_goes_on w port map key argument next p q (there old w place port p is.read) inside (low w port inside fits) (asked_inside old w place port 3 map key p asks fits) cell.0 cell.1 kind number raised asks.asked is.told_as in
-    subst (λ (v : WorldValue). GoesOn (Peak port) (Told next) v (record w { words = with_word w.words map key next; ports = slice_set w.ports place q })) is.read.is
-    (subst (λ (k : ℕ). GoesOn (Peak port) (Told next) w (record w { words = with_word w.words map key next; ports = slice_set w.ports k q })) (sym is.read.place_is) made)
+-- the event of a helper, where the program asks it
+pub helper_told : (old w : WorldValue) (place port map key argument told next : ℕ) (helper : Helper) (p q : PortValue) → IsAsked old w place port map key helper p → argument ≡ argument_asked (turn_in p.run)
+    → IsAnswered helper (word_at w.words map key) argument told next → IsToldAt old w place port told p q → IsWorld w
+    → GoesOn (answering helper port) (Told told) old (record w { words = with_word w.words map key next; ports = slice_set w.ports place q })
+helper_told old w place port map key argument told next helper p q asks number answered is fits =
+    let told_as = subst (λ (x : ℕ). IsTold x p q) answered.told_is is.told_as in
+    let made = helper_goes_on w port map key argument helper p q (asked_of old w place port map key argument helper p asks number fits) told_as in
+    subst (λ (v : WorldValue). GoesOn (answering helper port) (Told told) v (record w { words = with_word w.words map key next; ports = slice_set w.ports place q })) is.read.is
+    (subst (λ (k : ℕ). GoesOn (answering helper port) (Told told) w (record w { words = with_word w.words map key next; ports = slice_set w.ports k q })) (sym is.read.place_is)
+    (subst (λ (x : ℕ). GoesOn (answering helper port) (Told x) w (record w { words = with_word w.words map key next; ports = slice_set w.ports port q })) (sym answered.told_is)
+    (subst (λ (x : ℕ). GoesOn (answering helper port) (Told (told_of_word helper (word_at w.words map key) argument)) w (record w { words = with_word w.words map key x; ports = slice_set w.ports port q })) (sym answered.next_is) made)))
 
 -- ---- nowhere
 

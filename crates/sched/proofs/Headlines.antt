@@ -10,7 +10,7 @@ use Rattle.rmap.specs.Reply.{reply_of}
 use Rattle.bpf.specs.Laws.{ImagesAreRead}
 use Rattle.bpf.specs.Program.{Program}
 use Rattle.bver.specs.Laws.{JustifiedIsSafe}
-use Rattle.machine.specs.Laws.{NumbersFit}
+use Rattle.machine.specs.Laws.{ArgumentsFit, NumbersFit}
 use Rattle.bank.specs.Answer.{Answer, effect_at, judged_line}
 use Rattle.bank.specs.Effect.{memory_at}
 use Rattle.bank.specs.Records.{numbers_of, replay}
@@ -181,8 +181,8 @@ ends_by law n h (Peak port) outcome done end = absurd end.ended
 ends_by law n h (Effect port) outcome done end = effect_ends n h port end.verdict end.command outcome end.is_open done end.ended
 ends_by law n h (Publish port) outcome done end = write_left law n h port end.command (judged_line (command_of end.command.packet) end.verdict) outcome end.is_open end.ended.0 end.ended.1
 
-judged_once : ImagesAreRead → JustifiedIsSafe → TurnsArePaths → NumbersFit → (n : Node) (h : History) (event : Event) (outcome : Outcome) → IsNode n → HasBytes h → IsLawful n (Then h event outcome) → IsDone outcome → IsJudgedOnce n h event outcome
-judged_once law safety paths fit n h event outcome node bytes lawful done =
+judged_once : ImagesAreRead → JustifiedIsSafe → TurnsArePaths → NumbersFit → ArgumentsFit → (n : Node) (h : History) (event : Event) (outcome : Outcome) → IsNode n → HasBytes h → IsLawful n (Then h event outcome) → IsDone outcome → IsJudgedOnce n h event outcome
+judged_once law safety paths fit asks n h event outcome node bytes lawful done =
     let end = lawful_end n h event outcome done lawful.1 in
     let o = end.command in
     let leads = opened_taken h (port_of event) o end.is_open in
@@ -190,7 +190,7 @@ judged_once law safety paths fit n h event outcome node bytes lawful done =
     let justified = published_justified law n o.before (slot_in n o.packet) node.factory first.0 in
     let safe = safety (program_of n o) n.sizes justified in
     let told = generation_told n o.before (port_of event) o.packet o.generation first.1 in
-    let words = open_words law safety paths fit n node h (port_of event) o bytes lawful.0 end.is_open in
+    let words = open_words law safety paths fit asks n node h (port_of event) o bytes lawful.0 end.is_open in
     let kept = taken_kept n o.before (port_of event) o.packet o.generation first.1 in
     let header = header_of_command o.packet kept (began_bytes (port_of event) _ h leads bytes).1 in
     let low : port_of event < 32 = omega (arith, end.there, node.few_ports) in
@@ -211,9 +211,9 @@ judged_once law safety paths fit n h event outcome node bytes lawful done =
       ended = ends_by law n h event outcome done end;
     }
 
-pub every_schedule_judges_once : ImagesAreRead → JustifiedIsSafe → TurnsArePaths → NumbersFit → EveryScheduleJudgesOnce
-every_schedule_judges_once law safety paths fit n h event status reply loaded node bytes lawful =
-    judged_once law safety paths fit n h event (Done status reply loaded) node bytes lawful tt
+pub every_schedule_judges_once : ImagesAreRead → JustifiedIsSafe → TurnsArePaths → NumbersFit → ArgumentsFit → EveryScheduleJudgesOnce
+every_schedule_judges_once law safety paths fit asks n h event status reply loaded node bytes lawful =
+    judged_once law safety paths fit asks n h event (Done status reply loaded) node bytes lawful tt
 
 -- ---- whole histories
 

@@ -20,13 +20,15 @@ use Rattle.bank.specs.Answer.{judged_line}
 use Rattle.target.specs.Loads.{control_of, published_result}
 use Rattle.target.specs.Outcomes.{Load, IsLoad}
 use Rattle.target.specs.Outcomes as loads
+use Rattle.machine.specs.declared.helpers.Helper.{Helper}
+use Rattle.machine.specs.declared.helpers.Helper.TheVariants as helpers
 use Rattle.sched.specs.declared.event.Event.{Event}
 use Rattle.sched.specs.declared.event.Event.TheVariants.{Take, Count, Ticket, Peak, Effect, Publish}
 use Rattle.sched.specs.declared.event.Outcome.{Outcome}
 use Rattle.sched.specs.declared.event.Outcome.TheVariants.{Refused, Discarded, Answered, Taken, Told, Done}
 use Rattle.sched.specs.Headline.{HasBytes, LeadsTo, same, further}
 use Rattle.sched.specs.History.{History, Start, Then, Open, port_of, taken_by, after_answer, opened_by, opened}
-use Rattle.sched.specs.Lawful.{IsLawful, IsOutcome, IsOutcomeAt, IsControlled, IsDecided, IsLoaded, IsPublishedAt, IsPublishedBy, IsPublishOutcome, effect_at_place, effect_at_turn, effect_outcome, header_outcome, packet_outcome, take_outcome, count_on, ticket_on, peak_on}
+use Rattle.sched.specs.Lawful.{IsLawful, IsOutcome, IsOutcomeAt, IsControlled, IsDecided, IsLoaded, IsPublishedAt, IsPublishedBy, IsPublishOutcome, effect_at_place, effect_at_turn, effect_outcome, header_outcome, packet_outcome, take_outcome, told_on}
 use Rattle.sched.specs.Looking.{Node, windows_in, place_in, slot_in, argument_asked, cell_asked, turn_at, turn_of, staging, published_at, published_behind, publishes, published}
 use Rattle.sched.proofs.Publishing.{loaded_program}
 
@@ -55,17 +57,9 @@ no_take_end n h p None is = no_packet_end n h p (discard_of p.bytes) is
 no_take_end n h p (Some o) is = is
 
 -- nor is an answer
-no_count_end : (n : Node) (h : History) (cell : Option (ℕ × ℕ)) → IsDone (count_on n h cell) → ⊥
-no_count_end n h None is = is
-no_count_end n h (Some cell) is = is
-
-no_ticket_end : (n : Node) (h : History) (cell : Option (ℕ × ℕ)) → IsDone (ticket_on n h cell) → ⊥
-no_ticket_end n h None is = is
-no_ticket_end n h (Some cell) is = is
-
-no_peak_end : (n : Node) (h : History) (argument : ℕ) (cell : Option (ℕ × ℕ)) → IsDone (peak_on n h argument cell) → ⊥
-no_peak_end n h argument None is = is
-no_peak_end n h argument (Some cell) is = is
+no_helper_end : (n : Node) (h : History) (helper : Helper) (argument : ℕ) (cell : Option (ℕ × ℕ)) → IsDone (told_on n h helper argument cell) → ⊥
+no_helper_end n h helper argument None is = is
+no_helper_end n h helper argument (Some cell) is = is
 
 -- ---- how a command is done
 
@@ -115,10 +109,9 @@ publish_end n h port outcome there done (Some o) is told = publish_turn n h port
 
 end_at : (n : Node) (h : History) (event : Event) (outcome : Outcome) → port_of event < n.ports → IsDone outcome → IsOutcomeAt n h event outcome → IsEnd n h event outcome
 end_at n h (Take port p) outcome there done told = absurd (no_take_end n h p (opened h port) (subst IsDone told done))
-end_at n h (Count port) outcome there done told = absurd (no_count_end n h (cell_asked 1 (turn_at n h port)) (subst IsDone told done))
-end_at n h (Ticket port) outcome there done told = absurd (no_ticket_end n h (cell_asked 2 (turn_at n h port)) (subst IsDone told done))
-end_at n h (Peak port) outcome there done told =
-    absurd (no_peak_end n h (argument_asked (turn_at n h port)) (cell_asked 3 (turn_at n h port)) (subst IsDone told done))
+end_at n h (Count port) outcome there done told = absurd (no_helper_end n h helpers.Count (argument_asked (turn_at n h port)) (cell_asked helpers.Count (turn_at n h port)) (subst IsDone told done))
+end_at n h (Ticket port) outcome there done told = absurd (no_helper_end n h helpers.Ticket (argument_asked (turn_at n h port)) (cell_asked helpers.Ticket (turn_at n h port)) (subst IsDone told done))
+end_at n h (Peak port) outcome there done told = absurd (no_helper_end n h helpers.Peak (argument_asked (turn_at n h port)) (cell_asked helpers.Peak (turn_at n h port)) (subst IsDone told done))
 end_at n h (Effect port) outcome there done told = effect_end n h port outcome there done (opened h port) refl told
 end_at n h (Publish port) outcome there done told = publish_end n h port outcome there done (opened h port) refl told
 

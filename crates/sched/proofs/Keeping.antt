@@ -4,10 +4,11 @@ use Rattle.std.specs.Prelude.{slice_get, slice_set, slice_index_or}
 use Rattle.std.proofs.lemmas.Bool.{eqb-false}
 use Rattle.std.proofs.lemmas.Grind.{get_or-set_at}
 use Rattle.std.proofs.lemmas.List.{length-set, get_or-set_other}
+use Rattle.std.proofs.lemmas.Option.{slice_get-get_or}
 use Rattle.rmap.specs.Windows.{WindowsValue}
 use Rattle.machine.specs.Sizes.{Maps, IsInside}
 use Rattle.bank.specs.Records.{BankValue}
-use Rattle.sched.specs.Worlds.{RunValue, PortValue, WorldValue, IsSameRun, IsSameRunIfAny, IsRunUnder, IsRunUnderIfAny, AreCells, IsPortIn, ArePortsIn, IsWorld, with_word}
+use Rattle.sched.specs.Worlds.{RunValue, PortValue, WorldValue, IsSameRun, IsSameRunIfAny, IsRunUnder, IsRunUnderIfAny, AreCells, IsPortIn, ArePortsIn, IsWorld, with_word, word_at, word_in, word_of}
 use Rattle.sched.proofs.Growth.{at_written, at_other}
 
 -- the same command is judged under the same windows
@@ -76,3 +77,9 @@ cells_keep sizes words map key word below is = record {
 pub cell_there : (sizes : Maps) (words : List (List ℕ)) (map key : ℕ) → IsInside sizes map key → AreCells sizes words → (map < length words) × (key < length (slice_index_or words map []))
 cell_there sizes words map key inside is =
     (rw is.maps inside.map_exists, rw (is.cells map inside.map_exists) inside.key_exists)
+
+-- and its word is found
+pub word_inside : (sizes : Maps) (words : List (List ℕ)) (map key : ℕ) → AreCells sizes words → IsInside sizes map key → word_in words map key ≡ Some (word_at words map key)
+word_inside sizes words map key are inside =
+    let there = cell_there sizes words map key inside are in
+    ap (λ (row : Option (List ℕ)). word_of row key) (slice_get-get_or words map [] there.0) ∙ slice_get-get_or (get_or words map []) key 0 there.1

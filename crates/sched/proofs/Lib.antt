@@ -11,7 +11,6 @@ pub mod Publishing
 pub mod Opened
 pub mod Headers
 pub mod Judging
-pub mod Arguments
 pub mod Small
 pub mod Headlines
 pub mod Events

@@ -1,5 +1,5 @@
 -- The world as it is made: its parts fit together, and it is that of no event.
-use Rattle.std.proofs.Common.{◌≡◌, ◌<◌, ◌≤◌, ◌⊎◌, ℕ, zero, suc, [], length, replicate, Bool, true, false, Option, Some, None, refl, sym, ap, subst, ◌∙◌, arith, inl, inr}
+use Rattle.std.proofs.Common.{◌≡◌, ◌≢◌, ◌<◌, ◌≤◌, ◌⊎◌, ℕ, zero, suc, [], length, replicate, Bool, true, false, Option, Some, None, refl, sym, ap, subst, ◌∙◌, arith, inl, inr}
 use Rattle.std.specs.Prelude.{map, slice_get, if◌then◌else◌, not, option_map}
 use Rattle.std.specs.List.{range_with_len}
 use Rattle.std.proofs.lemmas.List.{length-map, length-replicate, get_or-replicate}
@@ -9,10 +9,12 @@ use base.Stored.{gnil}
 use Rattle.bpf.specs.Program.{Program}
 use Rattle.machine.specs.declared.kinds.MapKind.{MapKind}
 use Rattle.machine.specs.declared.kinds.MapKind.TheVariants as kinds
-use Rattle.machine.specs.Sizes.{kind_of_map}
+use Rattle.machine.specs.Sizes.{Maps, kind_of_map}
+use Rattle.bver_form.specs.declared.refusal.Refusal.TheVariants as refusals
 use Rattle.bver_form.specs.declared.refusal.Refused.{Refused}
 use Rattle.bver.specs.Justified.{AcceptedValue, IsJustified}
 use Rattle.bver.specs.Refusals.{IsRefusal}
+use Rattle.bver.specs.Unjustified.{TellsUnjustified}
 use Rattle.bank.specs.Limits.{is_ports}
 use Rattle.bank.specs.Records.{BankValue, first_share}
 use Rattle.target.specs.declared.config.BankConfig.{BankConfig}
@@ -27,7 +29,7 @@ use Rattle.sched.specs.declared.faults.WorldFault.TheVariants.{Memory as NoMemor
 use Rattle.sched.specs.Codes.{fault_of_node, fault_of_refusal}
 use Rattle.sched.specs.History.{Start}
 use Rattle.sched.specs.Looking.{entries, memory, room_of, first_memory, word_by_kind}
-use Rattle.sched.specs.Worlds.{PortValue, WorldValue, AreBanksOf, AreCells, ArePortsOf, AreZeros, IsBankOf, IsPortIn, IsWorld, IsFactoryRefused, IsWorldOf, IsWorldFault, first_port, node_of, shown_in_all}
+use Rattle.sched.specs.Worlds.{PortValue, WorldValue, AreBanksOf, AreCells, ArePortsOf, AreZeros, IsBankOf, IsPortIn, IsWorld, IsFactoryRefused, IsUnmade, IsWorldOf, IsWorldFault, first_port, node_of, shown_in_all}
 
 -- ---- lists by their number
 
@@ -148,13 +150,13 @@ made_of config factory w a is = record {
 -- ---- faults
 
 -- what a limit of a node is to a world
-limited : (limit : Option NodeFault) (refused : NodeFault) (factory : Program) (fault : WorldFault) → limit ≡ Some nodes.Ports ⊎ (limit ≡ Some nodes.Banks ⊎ limit ≡ None) → IsNodeFault limit refused → fault ≡ fault_of_node refused → IsWorldFault limit factory fault
-limited None refused factory fault which is told = inl (told ∙ ap fault_of_node is)
-limited (Some nodes.Ports) refused factory fault which is told = told ∙ ap fault_of_node is
-limited (Some nodes.Banks) refused factory fault which is told = told ∙ ap fault_of_node is
-limited (Some nodes.Memory) refused factory fault (inl is_ports) is told = absurd cc
-limited (Some nodes.Memory) refused factory fault (inr (inl is_banks)) is told = absurd cc
-limited (Some nodes.Memory) refused factory fault (inr (inr none)) is told = absurd cc
+limited : (limit : Option NodeFault) (refused : NodeFault) (fault : WorldFault) → limit ≡ Some nodes.Ports ⊎ (limit ≡ Some nodes.Banks ⊎ limit ≡ None) → IsNodeFault limit refused → fault ≡ fault_of_node refused → IsUnmade limit fault
+limited None refused fault which is told = told ∙ ap fault_of_node is
+limited (Some nodes.Ports) refused fault which is told = told ∙ ap fault_of_node is
+limited (Some nodes.Banks) refused fault which is told = told ∙ ap fault_of_node is
+limited (Some nodes.Memory) refused fault (inl is_ports) is told = absurd cc
+limited (Some nodes.Memory) refused fault (inr (inl is_banks)) is told = absurd cc
+limited (Some nodes.Memory) refused fault (inr (inr none)) is told = absurd cc
 
 limits : (config : NodeConfig) → limit_fault config ≡ Some nodes.Ports ⊎ (limit_fault config ≡ Some nodes.Banks ⊎ limit_fault config ≡ None)
 limits config = by (not (is_ports config.ports)) (not (are_within config.banks.now))
@@ -165,17 +167,26 @@ limits config = by (not (is_ports config.ports)) (not (are_within config.banks.n
     by false false = inr (inr refl)
 
 -- why there are no banks is why there is no world
-pub limit_of_world : (config : NodeConfig) (refused : NodeFault) (factory : Program) (fault : WorldFault) → IsNodeFault (limit_fault config) refused → fault ≡ fault_of_node refused → IsWorldFault (limit_fault config) factory fault
-limit_of_world config refused factory fault is told = limited (limit_fault config) refused factory fault (limits config) is told
+pub limit_unmade : (config : NodeConfig) (refused : NodeFault) (fault : WorldFault) → IsNodeFault (limit_fault config) refused → fault ≡ fault_of_node refused → IsUnmade (limit_fault config) fault
+limit_unmade config refused fault is told = limited (limit_fault config) refused fault (limits config) is told
+
+pub unmade_world : (limit : Option NodeFault) (maps : Maps) (factory : Program) (fault : WorldFault) → IsUnmade limit fault → IsWorldFault limit maps factory fault
+unmade_world None maps factory fault is = inl is
+unmade_world (Some limit) maps factory fault is = is
+
+pub limit_of_world : (config : NodeConfig) (refused : NodeFault) (factory : Program) (fault : WorldFault) → IsNodeFault (limit_fault config) refused → fault ≡ fault_of_node refused → IsWorldFault (limit_fault config) config.sizes factory fault
+limit_of_world config refused factory fault is told = unmade_world (limit_fault config) config.sizes factory fault (limit_unmade config refused fault is told)
 
 -- what comes behind the limits is why there is no world
-pub behind_limits : (limit : Option NodeFault) (factory : Program) (fault : WorldFault) → limit ≡ None → IsWorldFault None factory fault → IsWorldFault limit factory fault
-behind_limits limit factory fault none is = subst (λ (l : Option NodeFault). IsWorldFault l factory fault) (sym none) is
+pub behind_limits : (limit : Option NodeFault) (maps : Maps) (factory : Program) (fault : WorldFault) → limit ≡ None → IsWorldFault None maps factory fault → IsWorldFault limit maps factory fault
+behind_limits limit maps factory fault none is = subst (λ (l : Option NodeFault). IsWorldFault l maps factory fault) (sym none) is
 
 -- a refusal of the verifier is why there is no world
-pub refused_world : (factory : Program) (refused : Refused) (fault : WorldFault) → IsRefusal factory refused → fault ≡ fault_of_refusal refused.code → IsWorldFault None factory fault
-refused_world factory refused fault why told = by (wants_verifier_memory refused.code) refl told
+pub refused_world : (maps : Maps) (factory : Program) (refused : Refused) (fault : WorldFault) → IsRefusal factory refused → TellsUnjustified factory maps refused → fault ≡ fault_of_refusal refused.code → IsWorldFault None maps factory fault
+refused_world maps factory refused fault why unjustified told = by (wants_verifier_memory refused.code) refl told
   where
-    by : (wants : Bool) → wants_verifier_memory refused.code ≡ wants → fault ≡ (if wants then NoMemory else Image) → (fault ≡ NoMemory) ⊎ ((fault ≡ Image) × IsFactoryRefused factory)
+    by : (wants : Bool) → wants_verifier_memory refused.code ≡ wants → fault ≡ (if wants then NoMemory else Image) → (fault ≡ NoMemory) ⊎ ((fault ≡ Image) × IsFactoryRefused maps factory)
     by true wants is = inl is
-    by false wants is = inr (is, record { refused = refused; why = why; no_want = λ e. let clash : true ≡ false = sym (ap wants_verifier_memory e) ∙ wants in absurd cc })
+    by false wants is =
+        let no_want : refused.code ≢ refusals.Memory = λ e. let clash : true ≡ false = sym (ap wants_verifier_memory e) ∙ wants in absurd cc in
+        inr (is, record { refused = refused; why = why; no_want = no_want; unjustified = unjustified no_want })

@@ -13,7 +13,7 @@ use Rattle.rmap.specs.Command.{CommandValue, command_of, discard_of}
 use Rattle.bpf.specs.Laws.{ImagesAreRead}
 use Rattle.machine.specs.declared.kinds.MapKind.{MapKind}
 use Rattle.machine.specs.declared.kinds.MapKind.TheVariants as kinds
-use Rattle.machine.specs.Laws.{NumbersFit}
+use Rattle.machine.specs.Laws.{ArgumentsFit, NumbersFit}
 use Rattle.machine.specs.Sizes.{kind_of_map}
 use Rattle.machine.specs.Step.{question}
 use Rattle.bver.specs.Laws.{JustifiedIsSafe}
@@ -22,16 +22,17 @@ use Rattle.brun.specs.declared.turns.Turn.TheVariants as turns
 use Rattle.bank.specs.Answer.{judged_line}
 use Rattle.target.specs.Outcomes.{Load}
 use Rattle.target.specs.Outcomes as loads
+use Rattle.machine.specs.declared.helpers.Helper.{Helper}
+use Rattle.machine.specs.declared.helpers.Helper.TheVariants as helpers
 use Rattle.sched.specs.declared.event.Event.{Event}
 use Rattle.sched.specs.declared.event.Event.TheVariants.{Take, Count, Ticket, Peak, Effect, Publish}
 use Rattle.sched.specs.declared.event.Outcome.{Outcome}
 use Rattle.sched.specs.declared.event.Outcome.TheVariants.{Refused, Discarded, Answered, Taken, Told, Done}
 use Rattle.sched.specs.Headline.{HasBytes, IsNode}
 use Rattle.sched.specs.History.{History, Start, Then, Open, port_of, taken_by, after_answer, opened_by, opened}
-use Rattle.sched.specs.Lawful.{IsLawful, IsOutcome, IsOutcomeAt, IsControlled, IsLoaded, IsPublishedAt, IsPublishedBy, IsPublishOutcome, count_on, ticket_on, peak_on, peak_at, effect_at_place, effect_at_turn, effect_outcome, header_outcome, packet_outcome, take_outcome}
+use Rattle.sched.specs.Lawful.{IsLawful, IsOutcome, IsOutcomeAt, IsControlled, IsLoaded, IsPublishedAt, IsPublishedBy, IsPublishOutcome, told_of_cell, told_on, effect_at_place, effect_at_turn, effect_outcome, header_outcome, packet_outcome, take_outcome}
 use Rattle.sched.specs.Looking.{Node, windows_in, place_in, slot_in, header_in, argument_asked, cell_asked, is_told, raises, turn_at, turn_by, turn_of, tickets, peaks, word_by_kind, cell_word, program_of}
 use Rattle.sched.specs.Turns.{AreWords, HasAsked, TurnsArePaths}
-use Rattle.sched.proofs.Arguments.{argument_fits}
 use Rattle.sched.proofs.Headers.{header_of_command}
 use Rattle.sched.proofs.Judging.{at_a_port, began_bytes, began_lawful, published_justified, taken_kept}
 use Rattle.sched.proofs.Opened.{opened_taken}
@@ -103,24 +104,20 @@ word_small : (kind : MapKind) (tickets peak : ℕ) → peak < 2 ^ 64 → word_by
 word_small kinds.Counter tickets peak small = omega arith
 word_small kinds.Peak tickets peak small = small
 
-count_word : (n : Node) (h : History) → ((map key : ℕ) → peaks n h map key < 2 ^ 64) → (cell : Option (ℕ × ℕ)) → TellsWord (count_on n h cell)
-count_word n h small None = tt
-count_word n h small (Some cell) = word_small (kind_of_map n.sizes cell.0) (tickets n h cell.0 cell.1) (peaks n h cell.0 cell.1) (small cell.0 cell.1)
+told_word : (n : Node) (h : History) (helper : Helper) (map key argument : ℕ) → ((map key : ℕ) → peaks n h map key < 2 ^ 64) → argument < 2 ^ 64 → told_of_cell n h helper map key argument < 2 ^ 64
+told_word n h helpers.Count map key argument small fits = word_small (kind_of_map n.sizes map) (tickets n h map key) (peaks n h map key) (small map key)
+told_word n h helpers.Ticket map key argument small fits = omega arith
+told_word n h helpers.Peak map key argument small fits = let before = small map key in omega (arith, before, fits)
 
-ticket_word : (n : Node) (h : History) (cell : Option (ℕ × ℕ)) → TellsWord (ticket_on n h cell)
-ticket_word n h None = tt
-ticket_word n h (Some cell) = omega arith
-
-peak_word : (n : Node) (h : History) (argument : ℕ) → ((map key : ℕ) → peaks n h map key < 2 ^ 64) → argument < 2 ^ 64 → (cell : Option (ℕ × ℕ)) → TellsWord (peak_on n h argument cell)
-peak_word n h argument small fits None = tt
-peak_word n h argument small fits (Some cell) = let before = small cell.0 cell.1 in omega (arith, before, fits)
+helper_word : (n : Node) (h : History) (helper : Helper) (argument : ℕ) → ((map key : ℕ) → peaks n h map key < 2 ^ 64) → argument < 2 ^ 64 → (cell : Option (ℕ × ℕ)) → TellsWord (told_on n h helper argument cell)
+helper_word n h helper argument small fits None = tt
+helper_word n h helper argument small fits (Some cell) = told_word n h helper cell.0 cell.1 argument small fits
 
 word_at_port : (n : Node) (h : History) (event : Event) (outcome : Outcome) → ((map key : ℕ) → peaks n h map key < 2 ^ 64) → argument_asked (turn_at n h (port_of event)) < 2 ^ 64 → IsOutcomeAt n h event outcome → TellsWord outcome
 word_at_port n h (Take port p) outcome small fits told = subst TellsWord (sym told) (take_word n h p (opened h port))
-word_at_port n h (Count port) outcome small fits told = subst TellsWord (sym told) (count_word n h small (cell_asked 1 (turn_at n h port)))
-word_at_port n h (Ticket port) outcome small fits told = subst TellsWord (sym told) (ticket_word n h (cell_asked 2 (turn_at n h port)))
-word_at_port n h (Peak port) outcome small fits told =
-    subst TellsWord (sym told) (peak_word n h (argument_asked (turn_at n h port)) small fits (cell_asked 3 (turn_at n h port)))
+word_at_port n h (Count port) outcome small fits told = subst TellsWord (sym told) (helper_word n h helpers.Count (argument_asked (turn_at n h port)) small fits (cell_asked helpers.Count (turn_at n h port)))
+word_at_port n h (Ticket port) outcome small fits told = subst TellsWord (sym told) (helper_word n h helpers.Ticket (argument_asked (turn_at n h port)) small fits (cell_asked helpers.Ticket (turn_at n h port)))
+word_at_port n h (Peak port) outcome small fits told = subst TellsWord (sym told) (helper_word n h helpers.Peak (argument_asked (turn_at n h port)) small fits (cell_asked helpers.Peak (turn_at n h port)))
 word_at_port n h (Effect port) outcome small fits told = subst TellsWord (sym told) (effect_word n h port (opened h port))
 word_at_port n h (Publish port) outcome small fits told = publish_word n h port (opened h port) outcome told
 
@@ -175,7 +172,7 @@ record AreWordsIn (n : Node) (h : History) : Type 0 where
   pub answers : (port : ℕ) → HaveWords (opened h port)
   pub small : (map key : ℕ) → peaks n h map key < 2 ^ 64
 
-module _ (law : ImagesAreRead) (safety : JustifiedIsSafe) (paths : TurnsArePaths) (fit : NumbersFit) (n : Node) (node : IsNode n) where
+module _ (law : ImagesAreRead) (safety : JustifiedIsSafe) (paths : TurnsArePaths) (fit : NumbersFit) (asks : ArgumentsFit) (n : Node) (node : IsNode n) where
   -- the number to which the program of an open command raises a cell is a word
   turn_argument : (h : History) (port : ℕ) (o : Open) (turn : Option Turn) → port < n.ports → HasBytes h → IsLawful n h → opened h port ≡ Some o → AreWords o.answers → turn_of n port o ≡ turn → argument_asked turn < 2 ^ 64
   turn_argument h port o None there bytes lawful is words stands = omega arith
@@ -189,7 +186,8 @@ module _ (law : ImagesAreRead) (safety : JustifiedIsSafe) (paths : TurnsArePaths
       let low : port < 32 = omega (arith, there, node.few_ports) in
       let by = paths (program_of n o) n.sizes (header_in o.packet) port o.answers (safety (program_of n o) n.sizes justified) header low words in
       let asked = (by.asks (question helper map key argument)).0 stands in
-      argument_fits (program_of n o) (header_in o.packet) asked.last (question helper map key argument) asked.on (fit (program_of n o) (header_in o.packet) port asked.calls asked.steps asked.last justified.limits header low asked.path) asked.asks
+      let bounded = fit (program_of n o) (header_in o.packet) port asked.calls asked.steps asked.last justified.limits header low asked.path in
+      asks (program_of n o) (header_in o.packet) asked.last (question helper map key argument) asked.on (bounded.registers 3) asked.asks
 
   last_argument : (h : History) (port : ℕ) (last : Option Open) → port < n.ports → HasBytes h → IsLawful n h → opened h port ≡ last → HaveWords last → argument_asked (turn_by n port last) < 2 ^ 64
   last_argument h port None there bytes lawful is words = omega arith

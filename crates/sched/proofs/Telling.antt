@@ -1,18 +1,22 @@
--- Count, Ticket and Peak: what a helper is told is lawful, and the world goes on.
+-- Count, Ticket and Peak: what a helper tells is lawful, and the world goes on.
 use Rattle.std.proofs.Common.{◌≡◌, ◌<◌, ◌+◌, ◌%◌, ◌^◌, ◌&&◌, ◌==◌, max, ℕ, List, [], length, get_or, Bool, true, false, Option, Some, None, refl, sym, ap, subst, ◌∙◌, arith, eqb-true}
-use Rattle.std.specs.Prelude.{slice_get, slice_set, if◌then◌else◌}
+use Rattle.std.specs.Prelude.{IsTrue, slice_get, slice_set, if◌then◌else◌}
 use Rattle.std.proofs.lemmas.Bool.{eqb-false}
 use Rattle.std.proofs.lemmas.Grind.{get_or-set_at}
 use Rattle.std.proofs.lemmas.List.{get_or-set_other}
 use Rattle.machine.specs.Sizes.{Maps, IsInside, kind_of_map}
 use Rattle.machine.specs.declared.kinds.MapKind.{MapKind}
 use Rattle.machine.specs.declared.kinds.MapKind.TheVariants as kinds
+use Rattle.machine.specs.declared.helpers.Helper.{Helper}
+use Rattle.machine.specs.Helpers.{takes_kind}
+use Rattle.machine.specs.declared.helpers.Helper.TheVariants as helpers
 use Rattle.sched.specs.declared.event.Event.{Event}
 use Rattle.sched.specs.declared.event.Event.TheVariants.{Count, Ticket, Peak}
 use Rattle.sched.specs.declared.event.Outcome.{Outcome}
 use Rattle.sched.specs.declared.event.Outcome.TheVariants.{Refused, Told}
+use Rattle.sched.specs.Answers.{answering, told_of_word, word_behind}
 use Rattle.sched.specs.History.{History, Then, Open, port_of, after_answer, opened}
-use Rattle.sched.specs.Lawful.{IsOutcome, IsOutcomeAt, count_on, ticket_on, peak_on, peak_at}
+use Rattle.sched.specs.Lawful.{IsOutcome, IsOutcomeAt, helper_outcome, told_of_cell, told_on}
 use Rattle.sched.specs.Looking.{Node, argument_asked, cell_asked, is_cell, turn_by, turn_at, staging, tickets, peaks, word_by_kind, cell_word, entries}
 use Rattle.sched.specs.Worlds.{RunValue, PortValue, WorldValue, AreWordsOf, GoesOn, IsJudging, IsPortOf, IsWorldOf, turn_in, with_word, word_at}
 use Rattle.sched.proofs.Growth.{IsPortBehind, ports_changed, left_all}
@@ -47,13 +51,13 @@ told_port n h event told port p q low is before = record {
 }
 
 -- what stands at a port's question is what looking back finds there
-asked_here : (n : Node) (h : History) (port helper map key : ℕ) (p : PortValue) → Some (map, key) ≡ cell_asked helper (turn_in p.run)
+asked_here : (n : Node) (h : History) (port map key : ℕ) (helper : Helper) (p : PortValue) → Some (map, key) ≡ cell_asked helper (turn_in p.run)
     → IsPortOf n port (staging n h port) (opened h port) (entries n h) p → cell_asked helper (turn_at n h port) ≡ Some (map, key)
-asked_here n h port helper map key p asked is =
+asked_here n h port map key helper p asked is =
     ap (cell_asked helper) (judging_turn n port (opened h port) p.run is.judging) ∙ sym asked
 
 -- where a port asks no such helper, looking back finds none asked
-none_here : (n : Node) (h : History) (port helper : ℕ) (p : PortValue) → None ≡ cell_asked helper (turn_in p.run)
+none_here : (n : Node) (h : History) (port : ℕ) (helper : Helper) (p : PortValue) → None ≡ cell_asked helper (turn_in p.run)
     → IsPortOf n port (staging n h port) (opened h port) (entries n h) p → cell_asked helper (turn_at n h port) ≡ None
 none_here n h port helper p asked is =
     ap (cell_asked helper) (judging_turn n port (opened h port) p.run is.judging) ∙ sym asked
@@ -64,15 +68,14 @@ read_word n h map key word w inside read is =
     let inside_here = subst (λ (sizes : Maps). IsInside sizes map key) is.sizes_are inside in
     read ∙ is.words_are map key inside_here
 
--- a map of the world is of a kind in its node
-kind_here : (n : Node) (h : History) (map : ℕ) (kind : MapKind) (w : WorldValue) → kind_of_map w.sizes map ≡ kind → IsWorldOf n h w → kind_of_map n.sizes map ≡ kind
-kind_here n h map kind w is world = ap (λ (sizes : Maps). kind_of_map sizes map) (sym world.sizes_are) ∙ is
+-- `ticket` takes counter maps alone, and `peak` peak maps
+counter_alone : (kind : MapKind) → IsTrue (takes_kind helpers.Ticket kind) → kind ≡ kinds.Counter
+counter_alone kinds.Counter is = refl
+counter_alone kinds.Peak is = absurd cc
 
--- what Count is told
-count_told_there : (n : Node) (h : History) (port map key told : ℕ) (p : PortValue) (w : WorldValue) → IsInside w.sizes map key → told ≡ word_at w.words map key → Some (map, key) ≡ cell_asked 1 (turn_in p.run)
-    → IsPortOf n port (staging n h port) (opened h port) (entries n h) p → IsWorldOf n h w → Told told ≡ count_on n h (cell_asked 1 (turn_at n h port))
-count_told_there n h port map key told p w inside read asked here is =
-    ap (λ (x : ℕ). Told x) (read_word n h map key told w inside read is) ∙ sym (ap (count_on n h) (asked_here n h port 1 map key p asked here))
+peak_alone : (kind : MapKind) → IsTrue (takes_kind helpers.Peak kind) → kind ≡ kinds.Peak
+peak_alone kinds.Counter is = absurd cc
+peak_alone kinds.Peak is = refl
 
 -- the word of a cell of a counter map is how many tickets were told, modulo 2^64
 counter_word : (n : Node) (h : History) (map key word : ℕ) → word ≡ cell_word n h map key → kind_of_map n.sizes map ≡ kinds.Counter → word ≡ tickets n h map key % 2 ^ 64
@@ -82,26 +85,7 @@ counter_word n h map key word is kind = is ∙ ap (λ (k : MapKind). word_by_kin
 peak_word : (n : Node) (h : History) (map key word : ℕ) → word ≡ cell_word n h map key → kind_of_map n.sizes map ≡ kinds.Peak → word ≡ peaks n h map key
 peak_word n h map key word is kind = is ∙ ap (λ (k : MapKind). word_by_kind k (tickets n h map key) (peaks n h map key)) kind
 
--- what a Count of a port comes to and leaves
-pub count_goes_on : (w : WorldValue) (port map key told : ℕ) (p q : PortValue) → slice_get w.ports port ≡ Some p → port < length w.ports → port < 32 → IsInside w.sizes map key → told ≡ word_at w.words map key
-    → Some (map, key) ≡ cell_asked 1 (turn_in p.run) → IsTold told p q → GoesOn (Count port) (Told told) w (record w { ports = slice_set w.ports port q })
-count_goes_on w port map key told p q there below low inside read asked is n h world =
-    let old = world.world in
-    let here = old.ports_are.each port p there in
-    record {
-      lawful = (world.lawful, outcome_here n h (Count port) (Told told) w.ports below old.ports_are.count (count_told_there n h port map key told p w inside read asked here old));
-      world = record {
-        windows_are = old.windows_are;
-        sizes_are = old.sizes_are;
-        banks_are = old.banks_are;
-        words_are = old.words_are;
-        programs_are = old.programs_are;
-        count_is = old.count_is;
-        ports_are = ports_changed n h (Count port) (Told told) w.ports p q there (told_port n h (Count port) told port p q low is here) (λ other k apart. refl) old.ports_are;
-      };
-    }
-
--- ---- tickets
+-- ---- words
 
 -- the words with one of them written, cell by cell
 word_written : (words : List (List ℕ)) (map key word m k : ℕ) → map < length words → key < length (get_or words map []) → (same_map same_key : Bool) → (map == m) ≡ same_map → (key == k) ≡ same_key
@@ -137,6 +121,11 @@ say_raised : (kind : MapKind) (here : Bool) (tickets peak new : ℕ) → (if her
 say_raised kind true tickets peak new = refl
 say_raised kind false tickets peak new = refl
 
+-- the same either way
+either : (here : Bool) (x : ℕ) → (if here then x else x) ≡ x
+either true x = refl
+either false x = refl
+
 -- the words where one of them was written, and the cell's alone says something new
 words_written : (sizes : Maps) (words : List (List ℕ)) (say now : ℕ → ℕ → ℕ) (map key next : ℕ) → map < length words → key < length (get_or words map []) → next ≡ now map key
     → AreWordsOf sizes say words → (m k : ℕ) → IsInside sizes m k → word_at (with_word words map key next) m k ≡ (if (map == m) && (key == k) then now m k else say m k)
@@ -145,7 +134,13 @@ words_written sizes words say now map key next there inside new are m k here =
     (λ at_map at_key. new ∙ ap (λ (x : ℕ). now x key) (eqb-true map m at_map) ∙ ap (now m) (eqb-true key k at_key))
     (word_written words map key next m k there inside (map == m) (key == k) refl refl)
 
-ticket_words : (n : Node) (h : History) (port map key told next : ℕ) (words : List (List ℕ)) → cell_asked 2 (turn_at n h port) ≡ Some (map, key) → map < length words → key < length (get_or words map [])
+-- the words behind a Count, a Ticket and a Peak that were told
+count_words : (n : Node) (h : History) (port map key told next : ℕ) (words : List (List ℕ)) → map < length words → key < length (get_or words map [])
+    → next ≡ cell_word n h map key → AreWordsOf n.sizes (cell_word n h) words → AreWordsOf n.sizes (cell_word n (Then h (Count port) (Told told))) (with_word words map key next)
+count_words n h port map key told next words there inside same are = λ m k here.
+    words_written n.sizes words (cell_word n h) (cell_word n h) map key next there inside same are m k here ∙ either ((map == m) && (key == k)) (cell_word n h m k)
+
+ticket_words : (n : Node) (h : History) (port map key told next : ℕ) (words : List (List ℕ)) → cell_asked helpers.Ticket (turn_at n h port) ≡ Some (map, key) → map < length words → key < length (get_or words map [])
     → kind_of_map n.sizes map ≡ kinds.Counter → told ≡ tickets n h map key % 2 ^ 64 → next ≡ (told + 1) % 2 ^ 64 → AreWordsOf n.sizes (cell_word n h) words
     → AreWordsOf n.sizes (cell_word n (Then h (Ticket port) (Told told))) (with_word words map key next)
 ticket_words n h port map key told next words asked there inside kind read counts are = λ m k here.
@@ -154,7 +149,7 @@ ticket_words n h port map key told next words asked there inside kind read count
     let drawn = words_written n.sizes words (cell_word n h) now map key next there inside new are m k here ∙ say_drawn (kind_of_map n.sizes m) ((map == m) && (key == k)) (tickets n h m k) (peaks n h m k) in
     subst (λ (c : Option (ℕ × ℕ)). word_at (with_word words map key next) m k ≡ word_by_kind (kind_of_map n.sizes m) (if is_cell c m k then tickets n h m k + 1 else tickets n h m k) (peaks n h m k)) (sym asked) drawn
 
-raised_words : (n : Node) (h : History) (port map key next : ℕ) (words : List (List ℕ)) → cell_asked 3 (turn_at n h port) ≡ Some (map, key) → map < length words → key < length (get_or words map [])
+raised_words : (n : Node) (h : History) (port map key next : ℕ) (words : List (List ℕ)) → cell_asked helpers.Peak (turn_at n h port) ≡ Some (map, key) → map < length words → key < length (get_or words map [])
     → kind_of_map n.sizes map ≡ kinds.Peak → next ≡ max (peaks n h map key) (argument_asked (turn_at n h port)) → AreWordsOf n.sizes (cell_word n h) words
     → AreWordsOf n.sizes (cell_word n (Then h (Peak port) (Told next))) (with_word words map key next)
 raised_words n h port map key next words asked there inside kind raised are = λ m k here.
@@ -165,86 +160,122 @@ raised_words n h port map key next words asked there inside kind raised are = λ
     ∙ say_raised (kind_of_map n.sizes m) ((map == m) && (key == k)) (tickets n h m k) (peaks n h m k) (max (peaks n h m k) argument) in
     subst (λ (c : Option (ℕ × ℕ)). word_at (with_word words map key next) m k ≡ word_by_kind (kind_of_map n.sizes m) (tickets n h m k) (if is_cell c m k then max (peaks n h m k) argument else peaks n h m k)) (sym asked) drawn
 
--- what a Ticket of a port comes to and leaves
-pub ticket_goes_on : (w : WorldValue) (port map key told next : ℕ) (p q : PortValue) → slice_get w.ports port ≡ Some p → port < length w.ports → port < 32 → IsInside w.sizes map key → map < length w.words → key < length (get_or w.words map [])
-    → kind_of_map w.sizes map ≡ kinds.Counter → told ≡ word_at w.words map key → next ≡ (told + 1) % 2 ^ 64 → Some (map, key) ≡ cell_asked 2 (turn_in p.run) → IsTold told p q
-    → GoesOn (Ticket port) (Told told) w (record w { words = with_word w.words map key next; ports = slice_set w.ports port q })
-ticket_goes_on w port map key told next p q there below low inside map_there key_there kind read counts asked is n h world =
-    let old = world.world in
-    let here = old.ports_are.each port p there in
-    let counter = kind_here n h map kinds.Counter w kind old in
-    let drawn = counter_word n h map key told (read_word n h map key told w inside read old) counter in
-    record {
-      lawful = (
-        world.lawful,
-        outcome_here n h (Ticket port) (Told told) w.ports below old.ports_are.count
-            (ap (λ (x : ℕ). Told x) drawn ∙ sym (ap (ticket_on n h) (asked_here n h port 2 map key p asked here))),
-      );
-      world = record {
-        windows_are = old.windows_are;
-        sizes_are = old.sizes_are;
-        banks_are = old.banks_are;
-        words_are = ticket_words n h port map key told next w.words (asked_here n h port 2 map key p asked here) map_there key_there counter drawn counts old.words_are;
-        programs_are = old.programs_are;
-        count_is = old.count_is;
-        ports_are = ports_changed n h (Ticket port) (Told told) w.ports p q there (told_port n h (Ticket port) told port p q low is here) (λ other k apart. refl) old.ports_are;
-      };
-    }
-
--- ---- peaks
-
 -- the number to which a port raises is what looking back finds there
 argument_here : (n : Node) (h : History) (port argument : ℕ) (p : PortValue) → argument ≡ argument_asked (turn_in p.run)
     → IsPortOf n port (staging n h port) (opened h port) (entries n h) p → argument ≡ argument_asked (turn_at n h port)
 argument_here n h port argument p asked is = asked ∙ sym (ap argument_asked (judging_turn n port (opened h port) p.run is.judging))
 
--- what a Peak of a port comes to and leaves
-pub peak_goes_on : (w : WorldValue) (port map key argument next : ℕ) (p q : PortValue) → slice_get w.ports port ≡ Some p → port < length w.ports → port < 32 → IsInside w.sizes map key → map < length w.words → key < length (get_or w.words map [])
-    → kind_of_map w.sizes map ≡ kinds.Peak → argument ≡ argument_asked (turn_in p.run) → next ≡ max (word_at w.words map key) argument → Some (map, key) ≡ cell_asked 3 (turn_in p.run) → IsTold next p q
-    → GoesOn (Peak port) (Told next) w (record w { words = with_word w.words map key next; ports = slice_set w.ports port q })
-peak_goes_on w port map key argument next p q there below low inside map_there key_there kind number raised asked is n h world =
-    let old = world.world in
-    let here = old.ports_are.each port p there in
-    let peak = kind_here n h map kinds.Peak w kind old in
-    let found = peak_word n h map key (word_at w.words map key) (read_word n h map key (word_at w.words map key) w inside refl old) peak in
-    let greater : next ≡ max (peaks n h map key) (argument_asked (turn_at n h port)) =
-    raised ∙ ap (λ (x : ℕ). max x argument) found ∙ ap (max (peaks n h map key)) (argument_here n h port argument p number here) in
+-- ---- helpers
+
+-- what a helper tells of a cell by its word is what it tells by looking back, where the map is of a kind that it takes
+told_by_kind : (n : Node) (h : History) (helper : Helper) (map key word argument : ℕ) → word ≡ cell_word n h map key → IsTrue (takes_kind helper (kind_of_map n.sizes map))
+    → told_of_word helper word argument ≡ told_of_cell n h helper map key argument
+told_by_kind n h helpers.Count map key word argument is kind = is
+told_by_kind n h helpers.Ticket map key word argument is kind = counter_word n h map key word is (counter_alone (kind_of_map n.sizes map) kind)
+told_by_kind n h helpers.Peak map key word argument is kind = ap (λ (x : ℕ). max x argument) (peak_word n h map key word is (peak_alone (kind_of_map n.sizes map) kind))
+
+-- what a port asks of a world: it stands at a helper's question, with that argument, for a cell that is there, of a map that
+-- the helper takes
+pub record IsAskedOf (w : WorldValue) (port map key argument : ℕ) (helper : Helper) (p : PortValue) : Type 0 where
+  pub there : slice_get w.ports port ≡ Some p
+  pub below : port < length w.ports
+  pub low : port < 32
+  pub asked : Some (map, key) ≡ cell_asked helper (turn_in p.run)
+  pub argument_is : argument ≡ argument_asked (turn_in p.run)
+  pub inside : IsInside w.sizes map key
+  pub kind : IsTrue (takes_kind helper (kind_of_map w.sizes map))
+  pub map_there : map < length w.words
+  pub key_there : key < length (get_or w.words map [])
+
+-- what looking back finds of it
+record IsFound (n : Node) (h : History) (port map key argument word : ℕ) (helper : Helper) : Type 0 where
+  pub asked : cell_asked helper (turn_at n h port) ≡ Some (map, key)
+  pub argument_is : argument ≡ argument_asked (turn_at n h port)
+  pub word_is : word ≡ cell_word n h map key
+  pub kind : IsTrue (takes_kind helper (kind_of_map n.sizes map))
+
+found : (n : Node) (h : History) (w : WorldValue) (port map key argument : ℕ) (helper : Helper) (p : PortValue) → IsAskedOf w port map key argument helper p → IsWorldOf n h w → IsFound n h port map key argument (word_at w.words map key) helper
+found n h w port map key argument helper p is old =
+    let here = old.ports_are.each port p is.there in
     record {
-      lawful = (
-        world.lawful,
-        outcome_here n h (Peak port) (Told next) w.ports below old.ports_are.count
-            (ap (λ (x : ℕ). Told x) greater ∙ sym (ap (peak_on n h (argument_asked (turn_at n h port))) (asked_here n h port 3 map key p asked here))),
-      );
-      world = record {
-        windows_are = old.windows_are;
-        sizes_are = old.sizes_are;
-        banks_are = old.banks_are;
-        words_are = raised_words n h port map key next w.words (asked_here n h port 3 map key p asked here) map_there key_there peak greater old.words_are;
-        programs_are = old.programs_are;
-        count_is = old.count_is;
-        ports_are = ports_changed n h (Peak port) (Told next) w.ports p q there (told_port n h (Peak port) next port p q low is here) (λ other k apart. refl) old.ports_are;
-      };
+      asked = asked_here n h port map key helper p is.asked here;
+      argument_is = argument_here n h port argument p is.argument_is here;
+      word_is = read_word n h map key (word_at w.words map key) w is.inside refl old;
+      kind = subst (λ (sizes : Maps). IsTrue (takes_kind helper (kind_of_map sizes map))) old.sizes_are is.kind;
+    }
+
+-- what the helper tells is lawful
+told_lawful : (n : Node) (h : History) (port map key argument word : ℕ) (helper : Helper) → IsFound n h port map key argument word helper → Told (told_of_word helper word argument) ≡ helper_outcome n h helper (turn_at n h port)
+told_lawful n h port map key argument word helper is =
+    ap (λ (x : ℕ). Told x) (told_by_kind n h helper map key word argument is.word_is is.kind ∙ ap (told_of_cell n h helper map key) is.argument_is)
+    ∙ sym (ap (told_on n h helper (argument_asked (turn_at n h port))) is.asked)
+
+-- the words behind what it told
+helper_words : (n : Node) (h : History) (port map key argument : ℕ) (helper : Helper) (words : List (List ℕ)) → map < length words → key < length (get_or words map [])
+    → IsFound n h port map key argument (word_at words map key) helper → AreWordsOf n.sizes (cell_word n h) words
+    → AreWordsOf n.sizes (cell_word n (Then h (answering helper port) (Told (told_of_word helper (word_at words map key) argument)))) (with_word words map key (word_behind helper (word_at words map key) argument))
+helper_words n h port map key argument helpers.Count words there inside is are = count_words n h port map key (word_at words map key) (word_at words map key) words there inside is.word_is are
+helper_words n h port map key argument helpers.Ticket words there inside is are =
+    let counter = counter_alone (kind_of_map n.sizes map) is.kind in
+    ticket_words n h port map key (word_at words map key) ((word_at words map key + 1) % 2 ^ 64) words is.asked there inside counter (counter_word n h map key (word_at words map key) is.word_is counter) refl are
+helper_words n h port map key argument helpers.Peak words there inside is are =
+    let peak = peak_alone (kind_of_map n.sizes map) is.kind in
+    let raised : max (word_at words map key) argument ≡ max (peaks n h map key) (argument_asked (turn_at n h port)) =
+    ap (λ (x : ℕ). max x argument) (peak_word n h map key (word_at words map key) is.word_is peak) ∙ ap (max (peaks n h map key)) is.argument_is in
+    raised_words n h port map key (max (word_at words map key) argument) words is.asked there inside peak raised are
+
+-- a world of which one port was told something, and the words were written
+told_world_of : (n : Node) (h : History) (event : Event) (told : ℕ) (w : WorldValue) (words : List (List ℕ)) (p q : PortValue) → slice_get w.ports (port_of event) ≡ Some p → port_of event < 32 → IsTold told p q
+    → AreWordsOf n.sizes (cell_word n (Then h event (Told told))) words → IsWorldOf n h w → IsWorldOf n (Then h event (Told told)) (record w { words = words; ports = slice_set w.ports (port_of event) q })
+told_world_of n h event told w words p q there low is are old = record {
+  windows_are = old.windows_are;
+  sizes_are = old.sizes_are;
+  banks_are = old.banks_are;
+  words_are = are;
+  programs_are = old.programs_are;
+  count_is = old.count_is;
+  ports_are = ports_changed n h event (Told told) w.ports p q there (told_port n h event told (port_of event) p q low is (old.ports_are.each (port_of event) p there)) (λ other k apart. refl) old.ports_are;
+}
+
+-- what the event of a helper comes to at a port, and leaves
+pub helper_goes_on : (w : WorldValue) (port map key argument : ℕ) (helper : Helper) (p q : PortValue) → IsAskedOf w port map key argument helper p → IsTold (told_of_word helper (word_at w.words map key) argument) p q
+    → GoesOn (answering helper port) (Told (told_of_word helper (word_at w.words map key) argument)) w (record w { words = with_word w.words map key (word_behind helper (word_at w.words map key) argument); ports = slice_set w.ports port q })
+helper_goes_on w port map key argument helpers.Count p q is told n h world =
+    let old = world.world in
+    let at = found n h w port map key argument helpers.Count p is old in
+    record {
+      lawful = (world.lawful, outcome_here n h (Count port) (Told (word_at w.words map key)) w.ports is.below old.ports_are.count (told_lawful n h port map key argument (word_at w.words map key) helpers.Count at));
+      world = told_world_of n h (Count port) _ w _ p q is.there is.low told (helper_words n h port map key argument helpers.Count w.words is.map_there is.key_there at old.words_are) old;
+    }
+helper_goes_on w port map key argument helpers.Ticket p q is told n h world =
+    let old = world.world in
+    let at = found n h w port map key argument helpers.Ticket p is old in
+    record {
+      lawful = (world.lawful, outcome_here n h (Ticket port) (Told (word_at w.words map key)) w.ports is.below old.ports_are.count (told_lawful n h port map key argument (word_at w.words map key) helpers.Ticket at));
+      world = told_world_of n h (Ticket port) _ w _ p q is.there is.low told (helper_words n h port map key argument helpers.Ticket w.words is.map_there is.key_there at old.words_are) old;
+    }
+helper_goes_on w port map key argument helpers.Peak p q is told n h world =
+    let old = world.world in
+    let at = found n h w port map key argument helpers.Peak p is old in
+    record {
+      lawful = (world.lawful, outcome_here n h (Peak port) (Told (max (word_at w.words map key) argument)) w.ports is.below old.ports_are.count (told_lawful n h port map key argument (word_at w.words map key) helpers.Peak at));
+      world = told_world_of n h (Peak port) _ w _ p q is.there is.low told (helper_words n h port map key argument helpers.Peak w.words is.map_there is.key_there at old.words_are) old;
     }
 
 -- a helper that is not asked for is refused, and the world stays
-pub count_refused : (w : WorldValue) (port : ℕ) (p : PortValue) → slice_get w.ports port ≡ Some p → port < length w.ports → None ≡ cell_asked 1 (turn_in p.run) → GoesOn (Count port) Refused w w
-count_refused w port p there below asked n h world = record {
-  lawful = (world.lawful, outcome_here n h (Count port) Refused w.ports below world.world.ports_are.count (sym (ap (count_on n h) (none_here n h port 1 p asked (world.world.ports_are.each port p there)))));
-  world = left_all n h (Count port) Refused w tt world.world;
+refused_here : (w : WorldValue) (event : Event) → port_of event < length w.ports → ((n : Node) (h : History) → IsWorldOf n h w → IsOutcomeAt n h event Refused) → GoesOn event Refused w w
+refused_here w event below is n h world = record {
+  lawful = (world.lawful, outcome_here n h event Refused w.ports below world.world.ports_are.count (is n h world.world));
+  world = left_all n h event Refused w tt world.world;
 }
 
-pub ticket_refused : (w : WorldValue) (port : ℕ) (p : PortValue) → slice_get w.ports port ≡ Some p → port < length w.ports → None ≡ cell_asked 2 (turn_in p.run) → GoesOn (Ticket port) Refused w w
-ticket_refused w port p there below asked n h world = record {
-  lawful = (world.lawful, outcome_here n h (Ticket port) Refused w.ports below world.world.ports_are.count (sym (ap (ticket_on n h) (none_here n h port 2 p asked (world.world.ports_are.each port p there)))));
-  world = left_all n h (Ticket port) Refused w tt world.world;
-}
+pub helper_refused : (w : WorldValue) (port : ℕ) (helper : Helper) (p : PortValue) → slice_get w.ports port ≡ Some p → port < length w.ports → None ≡ cell_asked helper (turn_in p.run) → GoesOn (answering helper port) Refused w w
+helper_refused w port helper p there below asked = by helper refused
+  where
+    refused : (n : Node) (h : History) → IsWorldOf n h w → Refused ≡ helper_outcome n h helper (turn_at n h port)
+    refused n h old = sym (ap (told_on n h helper (argument_asked (turn_at n h port))) (none_here n h port helper p asked (old.ports_are.each port p there)))
 
-pub peak_refused : (w : WorldValue) (port : ℕ) (p : PortValue) → slice_get w.ports port ≡ Some p → port < length w.ports → None ≡ cell_asked 3 (turn_in p.run) → GoesOn (Peak port) Refused w w
-peak_refused w port p there below asked n h world = record {
-  lawful = (
-    world.lawful,
-    outcome_here n h (Peak port) Refused w.ports below world.world.ports_are.count
-        (sym (ap (peak_on n h (argument_asked (turn_at n h port))) (none_here n h port 3 p asked (world.world.ports_are.each port p there)))),
-  );
-  world = left_all n h (Peak port) Refused w tt world.world;
-}
+    by : (which : Helper) → ((n : Node) (h : History) → IsWorldOf n h w → Refused ≡ helper_outcome n h which (turn_at n h port)) → GoesOn (answering which port) Refused w w
+    by helpers.Count is = refused_here w (Count port) below is
+    by helpers.Ticket is = refused_here w (Ticket port) below is
+    by helpers.Peak is = refused_here w (Peak port) below is

@@ -24,7 +24,8 @@ slot_and_program p = (p.slot, p.program.program)
 -- a list of publishes has the factory program first, and behind it the slots and the programs that were published
 abbrev pub ArePublishesOf : Node → History → List Publish → Type 0
 ArePublishesOf n h [] = ⊥
-ArePublishesOf n h (first ∷ publishes) = (first.program.program ≡ n.factory) × (map slot_and_program publishes ≡ all_published n h)
+ArePublishesOf n h (first ∷ publishes) =
+    (first.program.program ≡ n.factory) × (map slot_and_program publishes ≡ all_published n h)
 
 -- the program of an accepted one, with its generation
 abbrev pub program_and_generation : AcceptedValue × ℕ → Program × ℕ

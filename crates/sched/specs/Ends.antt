@@ -1,5 +1,20 @@
 -- How a judged command of a world ends, whatever the history.
-use Rattle.std.specs.Prelude.{◌≡◌, ◌<◌, ℕ, ◌+◌, true, List, [], length, slice_get, slice_index_or, slice_set, Option, Some, None}
+use Rattle.std.specs.Prelude.{
+  ◌≡◌,
+  ◌<◌,
+  ℕ,
+  ◌+◌,
+  true,
+  List,
+  [],
+  length,
+  slice_get,
+  slice_index_or,
+  slice_set,
+  Option,
+  Some,
+  None,
+}
 use Rattle.rmap.specs.declared.places.Place.{Place}
 use Rattle.rmap.specs.declared.places.Place.TheVariants as places
 use Rattle.rmap.specs.declared.status.Status.{Status}
@@ -11,7 +26,17 @@ use Rattle.machine.specs.Sizes.{Maps}
 use Rattle.bver.specs.Justified.{AcceptedValue}
 use Rattle.bank.specs.Admission.{IsPlacedBy}
 use Rattle.bank.specs.Answer.{judged_line}
-use Rattle.bank.specs.Records.{BankValue, JudgedValue, ShareValue, answer_of, after_command, first_share, fits, memory_of, next_share}
+use Rattle.bank.specs.Records.{
+  BankValue,
+  JudgedValue,
+  ShareValue,
+  answer_of,
+  after_command,
+  first_share,
+  fits,
+  memory_of,
+  next_share,
+}
 use Rattle.publish.specs.Staged.{Staged, staged}
 use Rattle.target.specs.declared.control.ControlData.{ControlData}
 use Rattle.target.specs.Loads.{control_of, published_result, refused_result}
@@ -55,7 +80,8 @@ CanEnd places.LoadResult banks p judged = Unit {0}
 CanEnd places.Control banks p judged = ⊥
 
 -- it ended at bank k: status and reply are those of its answer there, the bank and the port's share count its entry
-pub record EndsAtBank (k : ℕ) (old new : List BankValue) (p q : PortValue) (judged : JudgedValue) (status : Status) (reply : List ℕ) : Type 0 where
+pub record EndsAtBank (k : ℕ) (old new : List BankValue) (p q : PortValue) (judged : JudgedValue) (status : Status)
+    (reply : List ℕ) : Type 0 where
   pub bank : BankValue
   pub there : slice_get old k ≡ Some bank
   pub status_is : status ≡ (answer_of bank judged).status
@@ -65,13 +91,15 @@ pub record EndsAtBank (k : ℕ) (old new : List BankValue) (p q : PortValue) (ju
   pub port_is : q ≡ with_share_in p k (next_share bank (share_in p k judged.port) judged)
 
 -- it ended at the staging of its port, and no bank changed
-pub record EndsAtStaging (old new : List BankValue) (p q : PortValue) (judged : JudgedValue) (status : Status) (reply : List ℕ) : Type 0 where
+pub record EndsAtStaging (old new : List BankValue) (p q : PortValue) (judged : JudgedValue) (status : Status)
+    (reply : List ℕ) : Type 0 where
   pub staged : IsStaged p.staging q.staging judged status reply
   pub banks_are : new ≡ old
   pub port_is : q ≡ record p { staging = q.staging }
 
 -- how a judged command ends at that place by an Effect
-abbrev pub EndsAt : Place → (old new : List BankValue) → (p q : PortValue) → JudgedValue → Status → (reply : List ℕ) → Type 0
+abbrev pub EndsAt : Place → (old new : List BankValue) → (p q : PortValue) → JudgedValue → Status → (reply : List ℕ)
+    → Type 0
 EndsAt (places.Bank k) old new p q judged status reply = EndsAtBank k old new p q judged status reply
 EndsAt places.Staging old new p q judged status reply = EndsAtStaging old new p q judged status reply
 EndsAt places.LoadResult old new p q judged status reply = EndsAtStaging old new p q judged status reply
@@ -84,7 +112,8 @@ CanFinish windows banks port verdict p (Some r) =
     IsPlacedBy windows r.packet r.place × CanEnd r.place banks (record p { run = None }) (judged_with port verdict r)
 
 -- the command that a port judged ended, with that verdict, and none is judged any more
-abbrev pub HasFinished : (old new : List BankValue) → (port verdict : ℕ) → (p q : PortValue) → Option RunValue → Status → (reply : List ℕ) → Type 0
+abbrev pub HasFinished : (old new : List BankValue) → (port verdict : ℕ) → (p q : PortValue) → Option RunValue → Status
+    → (reply : List ℕ) → Type 0
 HasFinished old new port verdict p q None status reply = ⊥
 HasFinished old new port verdict p q (Some r) status reply =
     EndsAt r.place old new (record p { run = None }) q (judged_with port verdict r) status reply
@@ -119,7 +148,8 @@ IsDecisionBy None control staged sizes count decision = IsLoadDecision control s
 abbrev pub IsDecisionOf : Option RunValue → (staged : List ℕ) → (verdict : ℕ) → Maps → (count : ℕ) → Decision → Type 0
 IsDecisionOf None staged verdict sizes count decision = ⊥
 IsDecisionOf (Some r) staged verdict sizes count decision =
-    IsDecisionBy (judged_line (command_of r.packet) verdict) (control_of (command_of r.packet).body) staged sizes count decision
+    IsDecisionBy (judged_line (command_of r.packet) verdict) (control_of (command_of r.packet).body) staged sizes count
+    decision
 
 -- the status of a control write
 abbrev pub status_of_decision : Decision → Status

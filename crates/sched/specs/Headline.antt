@@ -1,5 +1,22 @@
 -- What lawful histories say of each command that was judged.
-use Rattle.std.specs.Prelude.{◌≡◌, ◌<◌, ◌≤◌, ℕ, ◌+◌, ◌==◌, if◌then◌else◌, Bool, true, false, List, [], All, Option, Some, None}
+use Rattle.std.specs.Prelude.{
+  ◌≡◌,
+  ◌<◌,
+  ◌≤◌,
+  ℕ,
+  ◌+◌,
+  ◌==◌,
+  if◌then◌else◌,
+  Bool,
+  true,
+  false,
+  List,
+  [],
+  All,
+  Option,
+  Some,
+  None,
+}
 use Rattle.bpf.specs.Program.{Program}
 use Rattle.rmap.specs.declared.places.Place.{Place}
 use Rattle.rmap.specs.declared.places.Place.TheVariants as places
@@ -22,7 +39,18 @@ use Rattle.sched.specs.declared.event.Outcome.{Outcome}
 use Rattle.sched.specs.declared.event.Outcome.TheVariants.{Refused, Discarded, Answered, Taken, Told, Done}
 use Rattle.sched.specs.History.{History, Start, Then, Open, port_of, opened}
 use Rattle.sched.specs.Lawful.{IsLawful, IsLoaded, bank_answer, staging_answer, effect_at_place}
-use Rattle.sched.specs.Looking.{Node, place_in, slot_in, header_in, staging, publishes, published, program_of, turn_of, memory}
+use Rattle.sched.specs.Looking.{
+  Node,
+  place_in,
+  slot_in,
+  header_in,
+  staging,
+  publishes,
+  published,
+  program_of,
+  turn_of,
+  memory,
+}
 use Rattle.sched.specs.Turns.{AreWords, HasEnded}
 
 -- ---- premises
@@ -60,7 +88,8 @@ is_turning (Done status reply loaded) = true
 -- the first history begins the second, and behind it no command of the port was taken and none done
 pub data LeadsTo (port : ℕ) (first : History) : History → Type 0 where
   same : LeadsTo port first first
-  further : {h : History} {event : Event} {outcome : Outcome} → LeadsTo port first h → (port_of event ≡ port → is_turning outcome ≡ false) → LeadsTo port first (Then h event outcome)
+  further : {h : History} {event : Event} {outcome : Outcome} → LeadsTo port first h
+      → (port_of event ≡ port → is_turning outcome ≡ false) → LeadsTo port first (Then h event outcome)
 
 -- the open command of a port was taken, and behind that none of the port was taken and none done
 abbrev pub OpenedAreTaken : Type 0
@@ -83,13 +112,15 @@ OpenedBehindDone =
 -- each command of the port that was done in the history was done in that beginning of it
 abbrev pub AreDoneWithin : (port : ℕ) → (h first : History) → Type 0
 AreDoneWithin port h first =
-    (earlier : History) (event : Event) (status : Status) (reply : List ℕ) (loaded : Option (List ℕ)) → port_of event ≡ port
-    → Begins (Then earlier event (Done status reply loaded)) h → Begins (Then earlier event (Done status reply loaded)) first
+    (earlier : History) (event : Event) (status : Status) (reply : List ℕ) (loaded : Option (List ℕ)) → port_of event
+    ≡ port
+    → Begins (Then earlier event (Done status reply loaded)) h
+    → Begins (Then earlier event (Done status reply loaded)) first
 
 -- ---- what an effect leaves
 
--- the memory of bank k behind an effect of the port at that place: the answer's where the command is the bank's, else what
--- it was
+-- the memory of bank k behind an effect of the port at that place: the answer's where the command is the bank's, else
+-- what it was
 abbrev pub memory_left : Node → History → (port : ℕ) → CommandValue → (verdict : ℕ) → Option Place → (k : ℕ) → Memory
 memory_left n h port c verdict None k = memory n h k
 memory_left n h port c verdict (Some (places.Bank j)) k =
@@ -98,8 +129,8 @@ memory_left n h port c verdict (Some places.Staging) k = memory n h k
 memory_left n h port c verdict (Some places.LoadResult) k = memory n h k
 memory_left n h port c verdict (Some places.Control) k = memory n h k
 
--- the staging of port q behind an effect of the port at that place: with the answer's bytes where it is the port's own and
--- the command is its, else what it was
+-- the staging of port q behind an effect of the port at that place: with the answer's bytes where it is the port's own
+-- and the command is its, else what it was
 abbrev pub staging_left : Node → History → (port : ℕ) → CommandValue → (verdict : ℕ) → Option Place → (q : ℕ) → Staged
 staging_left n h port c verdict None q = staging n h q
 staging_left n h port c verdict (Some (places.Bank k)) q = staging n h q
@@ -112,7 +143,8 @@ staging_left n h port c verdict (Some places.Control) q = staging n h q
 
 -- a command ended by an Effect as the definition says for its verdict: outcome, each bank's memory and each staging; no
 -- program changed
-pub record IsEffectOf (n : Node) (h : History) (port : ℕ) (c : CommandValue) (verdict : ℕ) (place : Option Place) (outcome : Outcome) (after : History) : Type 0 where
+pub record IsEffectOf (n : Node) (h : History) (port : ℕ) (c : CommandValue) (verdict : ℕ) (place : Option Place)
+    (outcome : Outcome) (after : History) : Type 0 where
   pub told : outcome ≡ effect_at_place n h port c verdict place
   pub memories : (k : ℕ) → memory n after k ≡ memory_left n h port c verdict place k
   pub stagings : (q : ℕ) → staging n after q ≡ staging_left n h port c verdict place q
@@ -132,23 +164,27 @@ program_left n h (loads.Published asked program) slot =
 program_left n h (loads.Refused refusal) slot = published n h slot
 
 -- a control write that something stops ended with that status, and changed nothing
-pub record IsStoppedWrite (n : Node) (h : History) (c : CommandValue) (status : Status) (outcome : Outcome) (after : History) : Type 0 where
+pub record IsStoppedWrite (n : Node) (h : History) (c : CommandValue) (status : Status) (outcome : Outcome)
+    (after : History) : Type 0 where
   pub told : outcome ≡ Done status (reply_of c status []) None
   pub memories : (k : ℕ) → memory n after k ≡ memory n h k
   pub stagings : (q : ℕ) → staging n after q ≡ staging n h q
   pub programs : (slot : ℕ) → published n after slot ≡ published n h slot
 
 -- a load decided, and left its result with its port, and where it succeeded the staged program in its slot
-pub record IsLoadOf (n : Node) (h : History) (port : ℕ) (c : CommandValue) (outcome : Outcome) (after : History) : Type 0 where
+pub record IsLoadOf (n : Node) (h : History) (port : ℕ) (c : CommandValue) (outcome : Outcome) (after : History) : Type
+    0 where
   pub load : Load
   pub decides : IsLoad (control_of c.body) (staging n h port).bytes n.sizes (publishes n h + 1) load
   pub told : IsLoaded n h c load outcome
   pub memories : (k : ℕ) → memory n after k ≡ memory n h k
-  pub stagings : (q : ℕ) → staging n after q ≡ (if port == q then staged (staging n h q).bytes (load_result_left n h load) else staging n h q)
+  pub stagings : (q : ℕ) → staging n after q
+      ≡ (if port == q then staged (staging n h q).bytes (load_result_left n h load) else staging n h q)
   pub programs : (slot : ℕ) → published n after slot ≡ program_left n h load slot
 
 -- a control write ended by a Publish as the definition says for its verdict, by what stops it
-abbrev pub IsWriteEnd : Node → History → (port : ℕ) → CommandValue → Option Status → Outcome → (after : History) → Type 0
+abbrev pub IsWriteEnd : Node → History → (port : ℕ) → CommandValue → Option Status → Outcome → (after : History)
+    → Type 0
 IsWriteEnd n h port c (Some status) outcome after = IsStoppedWrite n h c status outcome after
 IsWriteEnd n h port c None outcome after = IsLoadOf n h port c outcome after
 
@@ -163,13 +199,14 @@ EndsBy n h port o verdict (Peak at_port) outcome = ⊥
 EndsBy n h port o verdict (Effect at_port) outcome =
     IsEffectOf n h port (command_of o.packet) verdict (place_in n o.packet) outcome (Then h (Effect at_port) outcome)
 EndsBy n h port o verdict (Publish at_port) outcome =
-    IsWriteEnd n h port (command_of o.packet) (judged_line (command_of o.packet) verdict) outcome (Then h (Publish at_port) outcome)
+    IsWriteEnd n h port (command_of o.packet) (judged_line (command_of o.packet) verdict) outcome
+    (Then h (Publish at_port) outcome)
 
--- A command that is done was taken once and is done once: behind its Take none of its port was taken and none done, and all
--- that were done there before were done before that Take. It was judged by the program that was published in its slot when
--- it was taken, whose generation was told then. That program is justified, so it is safe; what it saw is a header, what it
--- was told are words, and its run on them ended with the verdict, within its budget. Outcome, memories, stagings and
--- programs are what the definition gives for that verdict.
+-- A command that is done was taken once and is done once: behind its Take none of its port was taken and none done, and
+-- all that were done there before were done before that Take. It was judged by the program that was published in its
+-- slot when it was taken, whose generation was told then. That program is justified, so it is safe; what it saw is a
+-- header, what it was told are words, and its run on them ended with the verdict, within its budget. Outcome, memories,
+-- stagings and programs are what the definition gives for that verdict.
 pub record IsJudgedOnce (n : Node) (h : History) (event : Event) (outcome : Outcome) : Type 0 where
   pub there : port_of event < n.ports
   pub taken : Open

@@ -9,6 +9,8 @@ use Rattle.rmap.specs.declared.status.Status.TheVariants.{Success, GeneralError}
 use Rattle.rmap.specs.Checks.{header_line}
 use Rattle.rmap.specs.Command.{CommandValue, command_of, discard_of}
 use Rattle.rmap.specs.Reply.{reply_of}
+use Rattle.machine.specs.declared.helpers.Helper.{Helper}
+use Rattle.machine.specs.declared.helpers.Helper.TheVariants as helpers
 use Rattle.brun.specs.declared.turns.Turn.{Turn}
 use Rattle.brun.specs.declared.turns.Turn.TheVariants as turns
 use Rattle.bank.specs.Answer.{Answer, answer, judged_line}
@@ -23,7 +25,25 @@ use Rattle.sched.specs.declared.event.Event.TheVariants.{Take, Count, Ticket, Pe
 use Rattle.sched.specs.declared.event.Outcome.{Outcome}
 use Rattle.sched.specs.declared.event.Outcome.TheVariants.{Refused, Discarded, Answered, Taken, Told, Done}
 use Rattle.sched.specs.History.{History, Start, Then, Open, port_of, opened}
-use Rattle.sched.specs.Looking.{Node, windows_in, place_in, slot_in, staging, publishes, published, turn_of, turn_at, cell_asked, argument_asked, tickets, peaks, cell_word, has_room, entries, memory}
+use Rattle.sched.specs.Looking.{
+  Node,
+  windows_in,
+  place_in,
+  slot_in,
+  staging,
+  publishes,
+  published,
+  turn_of,
+  turn_at,
+  cell_asked,
+  argument_asked,
+  tickets,
+  peaks,
+  cell_word,
+  has_room,
+  entries,
+  memory,
+}
 
 -- ---- Take
 
@@ -50,24 +70,21 @@ take_outcome n h p (Some o) = Refused
 
 -- ---- Count, Ticket and Peak
 
--- what Count tells of a cell, where a program asks for one: what its word says
-abbrev pub count_on : Node → History → Option (ℕ × ℕ) → Outcome
-count_on n h None = Refused
-count_on n h (Some cell) = Told (cell_word n h cell.0 cell.1)
+-- what a helper tells of a cell, asked with that argument: `count` what its word says, `ticket` how many tickets of it
+-- were told, modulo 2^64, `peak` the greater of its peak and the argument
+abbrev pub told_of_cell : Node → History → Helper → (map key argument : ℕ) → ℕ
+told_of_cell n h helpers.Count map key argument = cell_word n h map key
+told_of_cell n h helpers.Ticket map key argument = tickets n h map key % 2 ^ 64
+told_of_cell n h helpers.Peak map key argument = max (peaks n h map key) argument
 
--- what Ticket tells of a cell, where a program asks for one: how many tickets of it were told, modulo 2^64
-abbrev pub ticket_on : Node → History → Option (ℕ × ℕ) → Outcome
-ticket_on n h None = Refused
-ticket_on n h (Some cell) = Told (tickets n h cell.0 cell.1 % 2 ^ 64)
-
--- what Peak tells of a cell, where a program raises one to a number: the greater of its peak and that
-abbrev pub peak_on : Node → History → (argument : ℕ) → Option (ℕ × ℕ) → Outcome
-peak_on n h argument None = Refused
-peak_on n h argument (Some cell) = Told (max (peaks n h cell.0 cell.1) argument)
+-- what the event of a helper comes to, where a program asks it for that cell, if it does
+abbrev pub told_on : Node → History → Helper → (argument : ℕ) → Option (ℕ × ℕ) → Outcome
+told_on n h helper argument None = Refused
+told_on n h helper argument (Some cell) = Told (told_of_cell n h helper cell.0 cell.1 argument)
 
 -- the same at a port, where its program stands
-abbrev pub peak_at : Node → History → Option Turn → Outcome
-peak_at n h turn = peak_on n h (argument_asked turn) (cell_asked 3 turn)
+abbrev pub helper_outcome : Node → History → Helper → Option Turn → Outcome
+helper_outcome n h helper turn = told_on n h helper (argument_asked turn) (cell_asked helper turn)
 
 -- ---- Effect
 
@@ -154,9 +171,9 @@ IsPublishOutcome n h port (Some o) outcome = IsPublishedBy n h port o (turn_of n
 -- what an event comes to at a port of the node
 abbrev pub IsOutcomeAt : Node → History → Event → Outcome → Type 0
 IsOutcomeAt n h (Take port p) outcome = outcome ≡ take_outcome n h p (opened h port)
-IsOutcomeAt n h (Count port) outcome = outcome ≡ count_on n h (cell_asked 1 (turn_at n h port))
-IsOutcomeAt n h (Ticket port) outcome = outcome ≡ ticket_on n h (cell_asked 2 (turn_at n h port))
-IsOutcomeAt n h (Peak port) outcome = outcome ≡ peak_at n h (turn_at n h port)
+IsOutcomeAt n h (Count port) outcome = outcome ≡ helper_outcome n h helpers.Count (turn_at n h port)
+IsOutcomeAt n h (Ticket port) outcome = outcome ≡ helper_outcome n h helpers.Ticket (turn_at n h port)
+IsOutcomeAt n h (Peak port) outcome = outcome ≡ helper_outcome n h helpers.Peak (turn_at n h port)
 IsOutcomeAt n h (Effect port) outcome = outcome ≡ effect_outcome n h port (opened h port)
 IsOutcomeAt n h (Publish port) outcome = IsPublishOutcome n h port (opened h port) outcome
 

@@ -1,4 +1,5 @@
 pub mod Codes
+pub mod Answers
 pub mod History
 pub mod Turns
 pub mod Looking

@@ -1,6 +1,34 @@
 -- What looking back on a history of a node finds: stagings, programs, tickets, peaks, and what each bank's journal and
 -- memory have. All of it comes from what the outcomes told.
-use Rattle.std.specs.Prelude.{ℕ, ◌+◌, ◌-◌, ◌^◌, ◌%◌, ◌==◌, ◌&&◌, Bool, true, false, max, nat_lt, if◌then◌else◌, List, [], ◌∷◌, ◌++◌, length, replicate, slice_get, Option, Some, None, is_some, Result, Ok, Err}
+use Rattle.std.specs.Prelude.{
+  ℕ,
+  ◌+◌,
+  ◌-◌,
+  ◌^◌,
+  ◌%◌,
+  ◌==◌,
+  ◌&&◌,
+  Bool,
+  true,
+  false,
+  max,
+  nat_lt,
+  if◌then◌else◌,
+  List,
+  [],
+  ◌∷◌,
+  ◌++◌,
+  length,
+  replicate,
+  slice_get,
+  Option,
+  Some,
+  None,
+  is_some,
+  Result,
+  Ok,
+  Err,
+}
 use Rattle.bpf.specs.Program.{Program}
 use Rattle.bpf.specs.Reading.{image_reading}
 use Rattle.bpf.specs.declared.fault.ImageFault.{ImageFault}
@@ -13,6 +41,9 @@ use Rattle.machine.specs.Memory.{Header}
 use Rattle.machine.specs.Sizes.{Maps, kind_of_map}
 use Rattle.machine.specs.declared.kinds.MapKind.{MapKind}
 use Rattle.machine.specs.declared.kinds.MapKind.TheVariants as kinds
+use Rattle.machine.specs.declared.helpers.Helper.{Helper}
+use Rattle.machine.specs.declared.helpers.Helper.TheVariants as helpers
+use Rattle.machine.specs.Helpers.{helper_number}
 use Rattle.brun.specs.declared.turns.Turn.{Turn}
 use Rattle.brun.specs.declared.turns.Turn.TheVariants as turns
 use Rattle.brun.specs.Runs.{header}
@@ -103,7 +134,8 @@ abbrev pub for_slot : ℕ → Result Program ImageFault → Option (ℕ × Progr
 for_slot slot (Ok program) = Some (slot, program)
 for_slot slot (Err fault) = None
 
--- what a control write with those data publishes of staged bytes: what its first bytes spell, for the slot that it names
+-- what a control write with those data publishes of staged bytes: what its first bytes spell, for the slot that it
+-- names
 abbrev pub program_loaded : (body staged : List ℕ) → Option (ℕ × Program)
 program_loaded body staged =
     for_slot (control_of body).slot (image_reading (loaded_bytes (control_of body) staged))
@@ -168,10 +200,15 @@ turn_at n h port = turn_by n port (opened h port)
 
 -- ---- tickets and peaks
 
+-- whether it is that helper
+abbrev pub is_helper : (asked helper : Helper) → Bool
+is_helper asked helper = helper_number asked == helper_number helper
+
 -- the cell, by map and key, for which a program that stands so asks that helper
-abbrev pub cell_asked : (helper : ℕ) → Option Turn → Option (ℕ × ℕ)
+abbrev pub cell_asked : Helper → Option Turn → Option (ℕ × ℕ)
 cell_asked helper None = None
-cell_asked helper (Some (turns.Ask asked map key argument)) = if asked == helper then Some (map, key) else None
+cell_asked helper (Some (turns.Ask asked map key argument)) =
+    if is_helper asked helper then Some (map, key) else None
 cell_asked helper (Some (turns.Verdict verdict)) = None
 
 -- whether it is that cell
@@ -188,11 +225,11 @@ is_told (Taken generation) = false
 is_told (Told told) = true
 is_told (Done status reply loaded) = false
 
--- whether an event draws a ticket of the cell, where its port stands so: helper 2 does
+-- whether an event draws a ticket of the cell, where its port stands so: `ticket` does
 abbrev pub draws : Option Turn → Event → (map key : ℕ) → Bool
 draws turn (Take port packet) map key = false
 draws turn (Count port) map key = false
-draws turn (Ticket port) map key = is_cell (cell_asked 2 turn) map key
+draws turn (Ticket port) map key = is_cell (cell_asked helpers.Ticket turn) map key
 draws turn (Peak port) map key = false
 draws turn (Effect port) map key = false
 draws turn (Publish port) map key = false
@@ -205,12 +242,12 @@ tickets n (Then h event outcome) map key =
     then tickets n h map key + 1
     else tickets n h map key
 
--- whether an event raises the cell, where its port stands so: helper 3 does
+-- whether an event raises the cell, where its port stands so: `peak` does
 abbrev pub raises : Option Turn → Event → (map key : ℕ) → Bool
 raises turn (Take port packet) map key = false
 raises turn (Count port) map key = false
 raises turn (Ticket port) map key = false
-raises turn (Peak port) map key = is_cell (cell_asked 3 turn) map key
+raises turn (Peak port) map key = is_cell (cell_asked helpers.Peak turn) map key
 raises turn (Effect port) map key = false
 raises turn (Publish port) map key = false
 

@@ -46,14 +46,15 @@ abbrev pub AreWords : List ℕ → Type 0
 AreWords answers = All (λ answer. answer < 2 ^ 64) answers
 
 -- a path with those answers leads to a state whose step asks the question
-pub record HasAsked (program : Program) (header : Header) (port : ℕ) (answers : List ℕ) (question : Question) : Type 0 where
-  pub calls : List Call
-  pub answered : answers_of calls ≡ answers
-  pub steps : ℕ
-  pub last : State
-  pub on : ℕ → State
-  pub path : Path program header port calls steps last
-  pub asks : step program header last ≡ Ask question on
+pub record HasAsked (program : Program) (header : Header) (port : ℕ) (answers : List ℕ) (question : Question) : Type 0
+  where
+    pub calls : List Call
+    pub answered : answers_of calls ≡ answers
+    pub steps : ℕ
+    pub last : State
+    pub on : ℕ → State
+    pub path : Path program header port calls steps last
+    pub asks : step program header last ≡ Ask question on
 
 -- a run with those answers ends with the verdict, within the budget
 pub record HasEnded (program : Program) (header : Header) (port : ℕ) (answers : List ℕ) (verdict : ℕ) : Type 0 where
@@ -64,8 +65,10 @@ pub record HasEnded (program : Program) (header : Header) (port : ℕ) (answers 
 -- the program stands at a question exactly where a path with those answers asks it, and at a verdict exactly where a
 -- run with them ends so
 pub record StandsByPaths (program : Program) (header : Header) (port : ℕ) (answers : List ℕ) : Type 0 where
-  pub asks : (question : Question) → (turn_after program header port answers ≡ Some (asking question)) ↔ HasAsked program header port answers question
-  pub ends : (verdict : ℕ) → (turn_after program header port answers ≡ Some (turns.Verdict verdict)) ↔ HasEnded program header port answers verdict
+  pub asks : (question : Question) → (turn_after program header port answers ≡ Some (asking question))
+      ↔ HasAsked program header port answers question
+  pub ends : (verdict : ℕ) → (turn_after program header port answers ≡ Some (turns.Verdict verdict))
+      ↔ HasEnded program header port answers verdict
 
 -- where a safe program stands is where its paths lead
 abbrev pub TurnsArePaths : Type 0

@@ -1,5 +1,24 @@
 -- What a world is, and of which history it is the world.
-use Rattle.std.specs.Prelude.{◌≡◌, ◌≢◌, ◌<◌, ◌≤◌, ◌⊎◌, ℕ, List, [], ◌∷◌, length, replicate, slice_get, slice_index, slice_index_or, slice_set, Option, Some, None}
+use Rattle.std.specs.Prelude.{
+  ◌≡◌,
+  ◌≢◌,
+  ◌<◌,
+  ◌≤◌,
+  ◌⊎◌,
+  ℕ,
+  List,
+  [],
+  ◌∷◌,
+  length,
+  replicate,
+  slice_get,
+  slice_index,
+  slice_index_or,
+  slice_set,
+  Option,
+  Some,
+  None,
+}
 use base.Stored.{gnil}
 use Rattle.spw.specs.Cargo.{Cargo}
 use Rattle.rmap.specs.declared.places.Place.{Place}
@@ -32,7 +51,21 @@ use Rattle.sched.specs.declared.event.Outcome.{Outcome}
 use Rattle.sched.specs.declared.faults.WorldFault.{WorldFault}
 use Rattle.sched.specs.declared.faults.WorldFault.TheVariants.{Memory as NoMemory, Config, Image}
 use Rattle.sched.specs.History.{History, Then, Open, opened}
-use Rattle.sched.specs.Looking.{Node, windows_in, header_in, staging, published, publishes, program_of, turn_of, cell_word, room_of, entries, first_memory, memory}
+use Rattle.sched.specs.Looking.{
+  Node,
+  windows_in,
+  header_in,
+  staging,
+  published,
+  publishes,
+  program_of,
+  turn_of,
+  cell_word,
+  room_of,
+  entries,
+  first_memory,
+  memory,
+}
 use Rattle.sched.specs.Lawful.{IsLawful}
 use Rattle.sched.specs.Turns.{answers_of}
 
@@ -48,8 +81,8 @@ node_of config factory = record {
 
 -- ---- what a world has
 
--- a command that is judged: its packet and place, the program that judges it with its generation, and where that stands,
--- with its registers and its stack
+-- a command that is judged: its packet and place, the program that judges it with its generation, and where that
+-- stands, with its registers and its stack
 pub record RunValue : Type 0 where
   pub packet : Cargo
   pub place : Place
@@ -65,8 +98,8 @@ pub record PortValue : Type 0 where
   pub staging : Staged
   pub run : Option RunValue
 
--- a world: the windows and the maps of its node, its banks, the words of its cells by map, the program of each slot with
--- its generation, how many were published, and its ports
+-- a world: the windows and the maps of its node, its banks, the words of its cells by map, the program of each slot
+-- with its generation, how many were published, and its ports
 pub record WorldValue : Type 0 where
   pub windows : WindowsValue
   pub sizes : Maps
@@ -101,25 +134,27 @@ staging_in (Some p) = Some p.staging
 -- ---- what is known of a world without a history
 
 -- a run of the program stands there, at some port and with some calls
-pub record StandsThere (program : Program) (header : Header) (turn : Turn) (frame : Frame) (stack : List ℕ) : Type 0 where
-  pub port : ℕ
-  pub low : port < 32
-  pub calls : List Call
-  pub turns : Turns program header port calls turn frame stack
+pub record StandsThere (program : Program) (header : Header) (turn : Turn) (frame : Frame) (stack : List ℕ) : Type 0
+  where
+    pub port : ℕ
+    pub low : port < 32
+    pub calls : List Call
+    pub turns : Turns program header port calls turn frame stack
 
--- the packet is a command, its program stands where its turn says, and where it asks a helper, it is for a cell of the maps
--- for which it was accepted
+-- the packet is a command, its program stands where its turn says, and where it asks a helper, it is for a cell of the
+-- maps for which it was accepted
 pub record IsHeld (r : RunValue) : Type 0 where
   pub command : discard_of r.packet.bytes ≡ None
   pub stands : StandsThere r.program.program (header_in r.packet) r.turn r.frame r.stack
   pub within : AsksWithin r.program.sizes r.turn
 
 -- that command is judged, by that program of that generation
-pub record IsRunWith (packet : Cargo) (place : Place) (program : AcceptedValue) (generation : ℕ) (r : RunValue) : Type 0 where
-  pub packet_is : r.packet ≡ packet
-  pub place_is : r.place ≡ place
-  pub program_is : r.program ≡ program
-  pub generation_is : r.generation ≡ generation
+pub record IsRunWith (packet : Cargo) (place : Place) (program : AcceptedValue) (generation : ℕ) (r : RunValue) : Type 0
+  where
+    pub packet_is : r.packet ≡ packet
+    pub place_is : r.place ≡ place
+    pub program_is : r.program ≡ program
+    pub generation_is : r.generation ≡ generation
 
 -- the same command is judged by the same program
 abbrev pub IsSameRun : (old new : RunValue) → Type 0
@@ -212,7 +247,7 @@ pub record AreCells (sizes : Maps) (words : List (List ℕ)) : Type 0 where
   pub maps : length words ≡ length sizes.cells
   pub cells : (map : ℕ) → map < length sizes.cells → length (slice_index_or words map []) ≡ slice_index sizes.cells map
 
--- what a port of a world has, as the pass of a port of a node: of the node's counters and programs it knows nothing
+-- what a port of a world has, as the pass of a port of a node: of the node's cells and programs it knows nothing
 abbrev pub pass_of_port : WindowsValue → Maps → (port : ℕ) → PortValue → PassValue
 pass_of_port windows sizes port p = record {
   port = port;
@@ -223,11 +258,12 @@ pass_of_port windows sizes port p = record {
   staging = p.staging;
 }
 
--- the port has its share of each of those banks, and the command that it judges lies under those windows, and is judged by
--- a program for maps of those sizes
-pub record IsPortIn (windows : WindowsValue) (sizes : Maps) (banks : List BankValue) (port : ℕ) (p : PortValue) : Type 0 where
-  pub paired : IsPaired banks (pass_of_port windows sizes port p)
-  pub run : IsRunUnderIfAny windows sizes p.run
+-- the port has its share of each of those banks, and the command that it judges lies under those windows, and is judged
+-- by a program for maps of those sizes
+pub record IsPortIn (windows : WindowsValue) (sizes : Maps) (banks : List BankValue) (port : ℕ) (p : PortValue) : Type 0
+  where
+    pub paired : IsPaired banks (pass_of_port windows sizes port p)
+    pub run : IsRunUnderIfAny windows sizes p.run
 
 -- each port is such a port
 abbrev pub ArePortsIn : WindowsValue → Maps → List BankValue → List PortValue → Type 0
@@ -239,8 +275,8 @@ abbrev pub AreAcceptedFor : Maps → List (AcceptedValue × ℕ) → Type 0
 AreAcceptedFor sizes programs =
     (slot : ℕ) (shown : AcceptedValue × ℕ) → slice_get programs slot ≡ Some shown → shown.0.sizes ≡ sizes
 
--- the parts of a world fit together, whatever happened: a word for each cell, four programs for the maps, and at most 32
--- ports, each with its shares
+-- the parts of a world fit together, whatever happened: a word for each cell, four programs for the maps, and at most
+-- 32 ports, each with its shares
 pub record IsWorld (w : WorldValue) : Type 0 where
   pub cells : AreCells w.sizes w.words
   pub slots : length w.programs ≡ 4
@@ -280,16 +316,19 @@ pub record IsShareWith (port number : ℕ) (share : ShareValue) : Type 0 where
   pub next : share.number ≡ number
 
 -- the port has that staging, that open command, and of each bank a share with the number behind its entries there
-pub record IsPortOf (n : Node) (port : ℕ) (staged : Staged) (last : Option Open) (entries_of : ℕ → List EntryValue) (p : PortValue) : Type 0 where
+pub record IsPortOf (n : Node) (port : ℕ) (staged : Staged) (last : Option Open) (entries_of : ℕ → List EntryValue)
+    (p : PortValue) : Type 0 where
   pub staging_is : p.staging ≡ staged
   pub judging : IsJudging n port last p.run
   pub count : length p.shares ≡ length n.banks
-  pub shares : (k : ℕ) (share : ShareValue) → slice_get p.shares k ≡ Some share → IsShareWith port (length (numbers_of port (entries_of k))) share
+  pub shares : (k : ℕ) (share : ShareValue) → slice_get p.shares k ≡ Some share
+      → IsShareWith port (length (numbers_of port (entries_of k))) share
 
 -- there are the ports of the node, each with what looking back gives
 pub record ArePortsOf (n : Node) (h : History) (ports : List PortValue) : Type 0 where
   pub count : length ports ≡ n.ports
-  pub each : (port : ℕ) (p : PortValue) → slice_get ports port ≡ Some p → IsPortOf n port (staging n h port) (opened h port) (entries n h) p
+  pub each : (port : ℕ) (p : PortValue) → slice_get ports port ≡ Some p
+      → IsPortOf n port (staging n h port) (opened h port) (entries n h) p
 
 -- bank k has those entries and that memory, began with zeros, has the room of its configuration, and counts the entries
 -- of each port
@@ -302,7 +341,8 @@ pub record IsBankOf (n : Node) (k : ℕ) (entries : List EntryValue) (memory : M
   pub counts : (port : ℕ) → port < n.ports → slice_index b.counts port ≡ length (numbers_of port entries)
 
 -- there are the banks of the node, each with its entries and its memory
-pub record AreBanksOf (n : Node) (entries_of : ℕ → List EntryValue) (memory_in : ℕ → Memory) (banks : List BankValue) : Type 0 where
+pub record AreBanksOf (n : Node) (entries_of : ℕ → List EntryValue) (memory_in : ℕ → Memory) (banks : List BankValue) :
+    Type 0 where
   pub count : length banks ≡ length n.banks
   pub each : (k : ℕ) (b : BankValue) → slice_get banks k ≡ Some b → IsBankOf n k (entries_of k) (memory_in k) b
 
@@ -337,22 +377,28 @@ pub record IsLawfulWorld (n : Node) (h : History) (w : WorldValue) : Type 0 wher
   pub lawful : IsLawful n h
   pub world : IsWorldOf n h w
 
--- behind every lawful history of which the old world is the world, the outcome is lawful, and the new world is that of the
--- history with the event and its outcome
+-- behind every lawful history of which the old world is the world, the outcome is lawful, and the new world is that of
+-- the history with the event and its outcome
 abbrev pub GoesOn : Event → Outcome → (old new : WorldValue) → Type 0
 GoesOn event outcome old new =
     (n : Node) (h : History) → IsLawfulWorld n h old → IsLawfulWorld n (Then h event outcome) new
 
 -- ---- faults
 
--- the verifier refused the factory program, and not for want of memory
-pub record IsFactoryRefused (factory : Program) : Type 0 where
+-- the verifier refused the factory program for these maps, and not for want of memory: nothing justifies it
+pub record IsFactoryRefused (maps : Maps) (factory : Program) : Type 0 where
   pub refused : Refused
   pub why : IsRefusal factory refused
   pub no_want : refused.code ≢ refusals.Memory
+  pub unjustified : IsJustified factory maps → ⊥
 
--- why there is no world: a limit that the node passes, which comes first; else the verifier refused the factory program,
--- or memory was wanted
-abbrev pub IsWorldFault : (limit : Option NodeFault) → (factory : Program) → WorldFault → Type 0
-IsWorldFault (Some limit) factory fault = fault ≡ Config
-IsWorldFault None factory fault = (fault ≡ NoMemory) ⊎ ((fault ≡ Image) × IsFactoryRefused factory)
+-- why there is no world: a limit that the node passes, which comes first; else the verifier refused the factory
+-- program, or memory was wanted
+abbrev pub IsWorldFault : (limit : Option NodeFault) → Maps → (factory : Program) → WorldFault → Type 0
+IsWorldFault (Some limit) maps factory fault = fault ≡ Config
+IsWorldFault None maps factory fault = (fault ≡ NoMemory) ⊎ ((fault ≡ Image) × IsFactoryRefused maps factory)
+
+-- the same where the factory program was accepted before
+abbrev pub IsUnmade : (limit : Option NodeFault) → WorldFault → Type 0
+IsUnmade (Some limit) fault = fault ≡ Config
+IsUnmade None fault = fault ≡ NoMemory

@@ -17,7 +17,7 @@ use bank::judged_fault;
 use bpf::image_laws;
 use machine::MapSizes;
 use publish::Staging;
-use rmap::{ReplyBuf, Status};
+use rmap::Status;
 use std::alloc::Global;
 use std::sync::Arc;
 use target::{LoadRefusal, load_result_of, prepare, read_control};
@@ -148,10 +148,9 @@ impl World {
         let room = reply_room(alloc)?;
         let decision = self.ports[at].decide(alloc, verdict, &self.sizes, self.count)?;
         let told = decision.told();
-        let mut reply = ReplyBuf::new();
-        self.ports[at].end_write(&self.windows, port, verdict, told, &mut reply);
+        self.ports[at].end_write(&self.windows, port, verdict, told, &mut self.reply);
         decision.show(&mut self.programs, &mut self.count);
         let (status, loaded) = told;
-        Ok(Outcome::Done(status, Reply::of(room, &reply), loaded))
+        Ok(Outcome::Done(status, Reply::of(room, &self.reply), loaded))
     }
 }

@@ -9,7 +9,6 @@ use crate::event::Outcome;
 use crate::faults::WorldFault;
 use crate::reply::{Reply, reply_room};
 use crate::world::World;
-use rmap::ReplyBuf;
 use std::alloc::Global;
 use target::{paired_commands_fit, pairs_stay};
 
@@ -32,14 +31,13 @@ impl World {
             return Ok(Outcome::Refused);
         };
         let room = reply_room(alloc)?;
-        let mut reply = ReplyBuf::new();
         let status = self.ports[at].finish(
             &self.windows,
             &mut self.banks,
             port,
             verdict,
-            &mut reply,
+            &mut self.reply,
         );
-        Ok(Outcome::Done(status, Reply::of(room, &reply), None))
+        Ok(Outcome::Done(status, Reply::of(room, &self.reply), None))
     }
 }

@@ -12,11 +12,11 @@ use spw::Packet;
 pub enum Event {
     /// A packet is taken at the port.
     Take(u8, Packet),
-    /// The port's program is told a counter.
+    /// The port's program is told what the word of a cell says.
     Count(u8),
     /// The port's program draws a ticket.
     Ticket(u8),
-    /// The port's program raises a peak.
+    /// The port's program raises the peak of a cell.
     Peak(u8),
     /// The port's judged command takes its effect, at a bank or in the port's staging.
     Effect(u8),

@@ -10,10 +10,10 @@ ghost use Rattle.sched.specs.Turns.{TurnsArePaths};
 use crate::event::Event;
 use bpf::image_laws;
 use bver::justified_programs;
-use machine::numbers_fit;
+use machine::{numbers_fit, steps_ask};
 use publish::published_programs;
 
-/// A law and no work: where a safe program stands after some answers is where its paths lead.
+/// A law and no work: where a safe program stands after some answers, which are words, is where its paths lead.
 pub fn turns_are_paths()
     ensures { TurnsArePaths }
 {}
@@ -59,9 +59,11 @@ pub fn every_schedule_judges_once()
     justified_programs();
     image_laws();
     numbers_fit();
+    steps_ask();
 }
 
-/// A law and no work: what is published in a slot is what judges there by the list of publishes of a running node.
+/// A law and no work: what is published in a slot is what judges there, with its generation, by each list of publishes that
+/// has the factory program first and behind it what was published, in order.
 pub fn published_agrees()
     ensures { PublishedAgrees }
 {

@@ -1,9 +1,9 @@
 //! What a port has.
 
-ghost use Rattle.std.specs.Prelude.{◌≡◌, ◌<◌, ℕ, Option, None, Some, IfSome, IsTrue, is_none, length, pos, true};
+ghost use Rattle.std.specs.Prelude.{◌≡◌, ◌<◌, ℕ, Option, None, Some, IfSome, IsTrue, is_none, length, true};
 ghost use Rattle.rmap.specs.Windows.{WindowsValue};
+ghost use Rattle.machine.specs.Helpers.{takes_kind};
 ghost use Rattle.machine.specs.Sizes.{IsInside, Maps, kind_of_map};
-ghost use Rattle.machine.specs.Step.{takes_kind};
 ghost use Rattle.bank.specs.Records.{after_command, answer_of, fits, memory_of, next_share};
 ghost use Rattle.target.specs.Stagings.{IsStaged, IsStagingPlace};
 ghost use Rattle.sched.specs.Ends.{CanEnd, CanFinish, EndsAt, HasFinished, IsReplyTo, IsWriteUnder, after_write, load_result_kept, share_in, with_share_in};
@@ -13,6 +13,7 @@ ghost use Rattle.sched.specs.Worlds.{Asks, IsJudging, IsRunUnderIfAny, IsSameRun
 
 use crate::run::Run;
 use bank::{Bank, Judged, Share};
+use machine::Helper;
 use publish::Staging;
 use rmap::{Place, ReplyBuf, Status, Windows};
 use std::marker::Model;
@@ -68,14 +69,14 @@ impl Port {
     }
 
     /// The cell for which the program asks that helper, if it does.
-    pub fn asked(&self, helper: u8) -> Option<(u8, u16)>
+    pub fn asked(&self, helper: Helper) -> Option<(u8, u16)>
         ensures value { result ≡ cell_asked helper (turn_in self.now.run) }
         ensures inside { (windows : WindowsValue) (sizes : Maps)
             → IsRunUnderIfAny windows sizes self.now.run
             → IfSome result (λ cell. IsInside sizes cell.0 cell.1) }
         ensures kind { (windows : WindowsValue) (sizes : Maps)
             → IsRunUnderIfAny windows sizes self.now.run
-            → IfSome result (λ cell. IsTrue (takes_kind (pos helper) (kind_of_map sizes cell.0))) }
+            → IfSome result (λ cell. IsTrue (takes_kind helper (kind_of_map sizes cell.0))) }
         ensures asks { IfSome result (λ _. Asks self.now.run) }
     {
         match &self.run {

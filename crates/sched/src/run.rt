@@ -1,12 +1,12 @@
 //! A command that is judged, from its Take to its end.
 
-ghost use Rattle.std.specs.Prelude.{◌≡◌, ◌<◌, ℕ, List, Some, IfSome, IsTrue, length, pos};
+ghost use Rattle.std.specs.Prelude.{◌≡◌, ◌<◌, ℕ, List, Some, IfSome, IsTrue, length};
 ghost use Rattle.std.specs.Arc.{arc_value};
 ghost use Rattle.rmap.specs.Command.{command_of, discard_of};
 ghost use Rattle.machine.specs.declared.calls.Call.{Call};
 ghost use Rattle.machine.specs.Memory.{IsHeader};
+ghost use Rattle.machine.specs.Helpers.{takes_kind};
 ghost use Rattle.machine.specs.Sizes.{IsInside, kind_of_map};
-ghost use Rattle.machine.specs.Step.{takes_kind};
 ghost use Rattle.bank.specs.Admission.{IsPlacedBy};
 ghost use Rattle.brun.specs.Pauses.{AsksWithin, IsAt, IsPaused, Turns};
 ghost use Rattle.sched.specs.Ends.{judged_with};
@@ -18,7 +18,7 @@ use crate::laws::{arrays_are_headers, turns_are_paths};
 use bank::{Admitted, Judged};
 use brun::{Paused, Turn, advance, answer, start};
 use bver::{Accepted, justified_programs};
-use machine::STACK_SIZE;
+use machine::{Helper, STACK_SIZE};
 use rmap::{Command, Place, Windows};
 use spw::Packet;
 use std::marker::Model;
@@ -118,15 +118,15 @@ impl Run {
     }
 
     /// The cell for which the program asks that helper, if it does.
-    pub fn asked(&self, helper: u8) -> Option<(u8, u16)>
+    pub fn asked(&self, helper: Helper) -> Option<(u8, u16)>
         ensures value { result ≡ cell_asked helper (Some self.now.turn) }
         ensures inside { IfSome result (λ cell. IsInside self.now.program.sizes cell.0 cell.1) }
         ensures kind { IfSome result (λ cell.
-            IsTrue (takes_kind (pos helper) (kind_of_map self.now.program.sizes cell.0))) }
+            IsTrue (takes_kind helper (kind_of_map self.now.program.sizes cell.0))) }
         ensures asks { IfSome result (λ _. IsAsk self.now.turn) }
     {
         match self.turn {
-            Turn::Ask(asked, map, key, _) if asked == helper => Some((map, key)),
+            Turn::Ask(asked, map, key, _) if asked.number() == helper.number() => Some((map, key)),
             Turn::Ask(_, _, _, _) | Turn::Verdict(_) => None,
         }
     }

@@ -13,6 +13,7 @@ use crate::faults::WorldFault;
 use crate::laws::{event_brings_bytes, every_schedule_judges_once};
 use crate::world::World;
 use bpf::Image;
+use machine::Helper;
 use std::alloc::Global;
 use target::NodeConfig;
 
@@ -31,9 +32,9 @@ pub fn step(alloc: Global, world: &mut World, event: Event) -> Result<Outcome, W
     }
     match event {
         Event::Take(port, packet) => world.take(alloc, port, packet),
-        Event::Count(port) => Ok(world.count(port)),
-        Event::Ticket(port) => Ok(world.ticket(port)),
-        Event::Peak(port) => Ok(world.peak(port)),
+        Event::Count(port) => Ok(world.answer(port, Helper::Count)),
+        Event::Ticket(port) => Ok(world.answer(port, Helper::Ticket)),
+        Event::Peak(port) => Ok(world.answer(port, Helper::Peak)),
         Event::Effect(port) => world.effect(alloc, port),
         Event::Publish(port) => world.publish(alloc, port),
     }
@@ -58,7 +59,7 @@ pub fn run_schedule(
         (history_from Start events.items ran.1.items)) }
 
     ensures count { IfOk result (λ ran. length ran.1.items ≡ length events.items) }
-    ensures fault { IfErr result (IsWorldFault (limit_fault config.now) factory.now) }
+    ensures fault { IfErr result (IsWorldFault (limit_fault config.now) config.now.sizes factory.now) }
 {
     every_schedule_judges_once();
     let mut world = World::new(alloc, config, factory)?;

@@ -67,9 +67,8 @@ impl World {
         if !self.ports[at].is_free() {
             return Ok(Outcome::Refused);
         }
-        let mut reply = ReplyBuf::new();
-        match admit(packet, &self.windows, &mut reply) {
-            Err((stop, _packet)) => Ok(stopped(alloc, stop, &reply)?),
+        match admit(packet, &self.windows, &mut self.reply) {
+            Err((stop, _packet)) => Ok(stopped(alloc, stop, &self.reply)?),
             Ok(admitted) => {
                 let run = self.begin(port, admitted)?;
                 let generation = run.generation();

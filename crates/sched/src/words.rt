@@ -1,4 +1,4 @@
-//! The counter words of a node.
+//! The words of a node's cells.
 
 ghost use Rattle.std.specs.Prelude.{◌≡◌, ◌<◌, IfOk, ℕ, List, [], length, replicate, slice_get, slice_index, slice_index_or, slice_set};
 ghost use Rattle.sched.specs.Worlds.{AreCells, AreZeros, with_word, word_at, word_in};
@@ -55,13 +55,13 @@ impl Words {
     }
 }
 
-/// The counter words of a node, by map and key: plain values.
+/// The words of a node's cells, by map and key: plain values.
 #[derive(Debug, Drop)]
-pub(crate) struct Counters {
+pub(crate) struct CellWords {
     maps: Vec<Words>,
 }
 
-impl Model for Counters {
+impl Model for CellWords {
     ghost use Rattle.std.specs.Prelude.{List, ℕ};
 
     ghost Value = { List (List ℕ) };
@@ -69,9 +69,9 @@ impl Model for Counters {
     ghost view = { λ c. c.maps.items };
 }
 
-impl Counters {
+impl CellWords {
     /// A word of 0 for each cell of maps of those sizes.
-    pub fn new(alloc: Global, sizes: &MapSizes) -> Result<Counters, AllocError>
+    pub fn new(alloc: Global, sizes: &MapSizes) -> Result<CellWords, AllocError>
         ensures cells { IfOk result (AreCells sizes.now) }
         ensures zeros { IfOk result AreZeros }
     {
@@ -80,7 +80,7 @@ impl Counters {
             let count = sizes.cells(map).unwrap();
             maps.push(Words::zeros(alloc, count)?)?;
         }
-        Ok(Counters { maps })
+        Ok(CellWords { maps })
     }
 
     /// The word of a cell, if there is one.

@@ -3,38 +3,41 @@
 ghost use Rattle.std.specs.Prelude.{◌≡◌, ◌<◌, ◌≤◌, ℕ, length, map, replicate, option_map, slice_get, Some, None, IfOk, IfErr};
 ghost use Rattle.std.specs.Arc.{arc_value};
 ghost use Rattle.std.specs.List.{range_with_len};
-ghost use Rattle.bver.specs.Justified.{IsJustified};
-ghost use Rattle.target.specs.Nodes.{ArePortShares, limit_fault};
+ghost use Rattle.machine.specs.Sizes.{IsInside};
+ghost use Rattle.target.specs.Nodes.{ArePortShares, AreSharesOf, fresh_banks, limit_fault};
 ghost use Rattle.sched.specs.Headline.{IsNode};
 ghost use Rattle.sched.specs.History.{Start};
-ghost use Rattle.sched.specs.Worlds.{IsWorldFault, IsWorldOf, first_port, generation_in, node_of, shown_in_all, staging_in, word_in};
+ghost use Rattle.sched.specs.Worlds.{IsUnmade, IsWorldFault, IsWorldOf, first_port, generation_in, node_of, shown_in_all, staging_in, word_at, word_in};
 
 use crate::faults::WorldFault;
 use crate::port::Port;
 use crate::shown::Shown;
-use crate::words::Counters;
+use crate::words::CellWords;
 use bank::Bank;
 use bpf::Image;
 use bver::{Accepted, verify};
 use machine::MapSizes;
 use publish::Staging;
-use rmap::Windows;
+use rmap::{MAX_BANKS, ReplyBuf, Windows};
+use spw::PORTS;
 use std::alloc::{AllocError, Global};
 use std::marker::Model;
 use std::sync::Arc;
 use target::{Banks, NodeConfig, PortShares, made_are_paired};
 
-/// The state of a node as plain values, between two events: its banks, its counter words, the program of each slot, and
-/// what each of its ports has. [`step`](crate::step) takes it from one event to the next.
+/// The state of a node as plain values, between two events: its banks, the words of its cells, the program of each slot,
+/// and what each of its ports has. [`step`](crate::step) takes it from one event to the next. `reply` is room for the
+/// reply of an event, and no part of the state.
 #[derive(Drop)]
 pub struct World {
     pub(crate) windows: Windows,
     pub(crate) sizes: MapSizes,
     pub(crate) banks: Banks,
-    pub(crate) words: Counters,
+    pub(crate) words: CellWords,
     pub(crate) programs: [Shown; 4],
     pub(crate) count: u32,
     pub(crate) ports: Vec<Port>,
+    pub(crate) reply: ReplyBuf,
 }
 
 impl Model for World {
@@ -47,15 +50,14 @@ impl Model for World {
     ghost invariant = { λ w. IsWorld (record { windows = w.windows; sizes = w.sizes; banks = w.banks; words = w.words; programs = w.programs; count = w.count; ports = w.ports.items }) };
 }
 
-/// The factory program, accepted for maps of those sizes.
-fn accepted(alloc: Global, factory: &Image, sizes: &MapSizes) -> Result<Accepted, WorldFault>
+/// The factory program, accepted for those maps.
+fn accepted(alloc: Global, factory: &Image, maps: &MapSizes) -> Result<Accepted, WorldFault>
     ensures program { IfOk result (λ a. a.program ≡ factory.now) }
-    ensures sizes { IfOk result (λ a. a.sizes ≡ sizes.now) }
-    ensures justified { IfOk result (λ a. IsJustified a.program sizes.now) }
-    ensures fault { IfErr result (IsWorldFault None factory.now) }
+    ensures sizes { IfOk result (λ a. a.sizes ≡ maps.now) }
+    ensures fault { IfErr result (IsWorldFault None maps.now factory.now) }
 {
     let image = factory.copy()?;
-    Ok(verify(alloc, image, sizes)?)
+    Ok(verify(alloc, image, maps)?)
 }
 
 /// The program in each slot, of generation 0.
@@ -84,30 +86,75 @@ fn free_ports(alloc: Global, mut by_port: Vec<PortShares>) -> Result<Vec<Port>, 
 }
 
 impl World {
-    /// The world of a node behind no event: banks of zero bytes, counter words of 0, and the factory program in each slot,
-    /// with generation 0.
+    /// The world of a node behind no event: banks of zero bytes, words of 0, and the factory program in each slot, with
+    /// generation 0.
     ///
     /// # Errors
     ///
     /// `Config` where ports or banks are outside their limits, which is tested first; `Image` where the verifier refuses the
-    /// factory program; `Memory` where memory was refused.
+    /// factory program, which nothing justifies then for those maps; `Memory` where memory was refused.
     pub fn new(alloc: Global, config: &NodeConfig, factory: &Image) -> Result<World, WorldFault>
         ensures world { IfOk result (IsWorldOf (node_of config.now factory.now) Start) }
         ensures limits { IfOk result (λ _. limit_fault config.now ≡ None) }
         ensures node { IfOk result (λ _. IsNode (node_of config.now factory.now)) }
-        ensures fault { IfErr result (IsWorldFault (limit_fault config.now) factory.now) }
+        ensures fault { IfErr result
+            (IsWorldFault (limit_fault config.now) config.now.sizes factory.now) }
+    {
+        let (banks, by_port) = Banks::new(alloc, config)?;
+        let factory = accepted(alloc, factory, &config.sizes)?;
+        World::of(alloc, config, banks, by_port, factory)
+    }
+
+    /// The world of a node behind no event, as [`World::new`] makes it, with a factory program that the verifier accepted
+    /// before. The condition is a program that was accepted for the maps of the configuration.
+    ///
+    /// # Errors
+    ///
+    /// `Config` where ports or banks are outside their limits; `Memory` where memory was refused.
+    pub fn with_factory(
+        alloc: Global,
+        config: &NodeConfig,
+        factory: Accepted,
+    ) -> Result<World, WorldFault>
+        requires { factory.sizes ≡ config.now.sizes }
+        ensures world { IfOk result (IsWorldOf (node_of config.now factory.program) Start) }
+        ensures limits { IfOk result (λ _. limit_fault config.now ≡ None) }
+        ensures node { IfOk result (λ _. IsNode (node_of config.now factory.program)) }
+        ensures fault { IfErr result (IsUnmade (limit_fault config.now)) }
+    {
+        let (banks, by_port) = Banks::new(alloc, config)?;
+        World::of(alloc, config, banks, by_port, factory)
+    }
+
+    /// The world of a node behind no event, of its banks, its ports' shares of them, and its factory program.
+    fn of(
+        alloc: Global,
+        config: &NodeConfig,
+        banks: Banks,
+        by_port: Vec<PortShares>,
+        factory: Accepted,
+    ) -> Result<World, WorldFault>
+        requires banks { banks ≡ fresh_banks config.now }
+        requires by_port { AreSharesOf config.now by_port.items }
+        requires few_ports { config.now.ports ≤ PORTS }
+        requires few_banks { length config.now.banks.now ≤ MAX_BANKS }
+        requires factory { factory.sizes ≡ config.now.sizes }
+        ensures world { IfOk result (IsWorldOf (node_of config.now factory.program) Start) }
+        ensures node { IfOk result (λ _. IsNode (node_of config.now factory.program)) }
+        ensures fault { IfErr result (λ fault. fault ≡ WorldFault.Memory) }
     {
         made_are_paired();
-        let (banks, by_port) = Banks::new(alloc, config)?;
-        let factory = Arc::new(alloc, accepted(alloc, factory, &config.sizes)?)?;
+        let _justified = factory.image();
+        let factory = Arc::new(alloc, factory)?;
         Ok(World {
             windows: config.windows(),
             sizes: config.sizes,
             banks,
-            words: Counters::new(alloc, &config.sizes)?,
+            words: CellWords::new(alloc, &config.sizes)?,
             programs: in_all_slots(factory)?,
             count: 0,
             ports: free_ports(alloc, by_port)?,
+            reply: ReplyBuf::new(),
         })
     }
 
@@ -134,9 +181,11 @@ impl World {
         self.banks.bank(k)
     }
 
-    /// The counter word of a cell, or `None` where the map has no such key, or there is no such map.
+    /// The word of a cell, or `None` where the map has no such key, or there is no such map.
     pub fn word(&self, map: u8, key: u16) -> Option<u64>
-        ensures { result ≡ word_in self.now.words map key }
+        ensures value { result ≡ word_in self.now.words map key }
+        ensures inside { IsInside self.now.sizes map key
+            → result ≡ Some (word_at self.now.words map key) }
     {
         self.words.get(map, key)
     }

@@ -1,3 +1,5 @@
 pub mod Feeding
 pub mod HexWords
 pub mod LineLemmas
+pub mod WrittenLines
+pub mod CutLines

@@ -2,3 +2,4 @@ pub mod Cargo
 pub mod Fault
 pub mod Feeding
 pub mod Line
+pub mod Written

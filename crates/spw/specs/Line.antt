@@ -1,10 +1,12 @@
 -- Lines of a text, and packet lines: their words, what the words write, and which fault a line has.
-use Rattle.std.specs.Prelude.{◌≡◌, ◌≢◌, ℕ, ◌+◌, ◌*◌, ◌%◌, ◌<◌, ◌≤◌, ◌==◌, ◌⊎◌, not, cond, List, [], ◌∷◌, ◌++◌, length, filter, codes, All, Option, Some, None, Result, Err, IfOk, IfErr, MatchResult}
+use Rattle.std.specs.Prelude.{◌≡◌, ◌≢◌, ℕ, ◌+◌, ◌*◌, ◌%◌, ◌<◌, ◌≤◌, ◌==◌, ◌⊎◌, not, cond, List, [], ◌∷◌, ◌++◌, length}
+use Rattle.std.specs.Prelude.{filter, codes, All, Option, Some, None, Result, Err, IfOk, IfErr, MatchResult}
 use Rattle.std.specs.Borrow.{Bor}
 use Rattle.std.specs.Char.{digit_value}
 use Rattle.std.specs.List.{slice_split, flat_map, onto_first}
 use Rattle.std.specs.Str.Parse.{AllDigits, IsNumeral, digits_value}
 use Rattle.spw.specs.Cargo.{Cargo}
+use Rattle.spw.specs.declared.packets.TheConstants.{MAX_PACKET}
 use Rattle.spw.specs.declared.faults.LineFault.{LineFault}
 use Rattle.spw.specs.declared.faults.LineFault.TheVariants.{NoPort, BadHex, BadMarker, TooLong, Memory}
 use Rattle.spw.specs.declared.packets.End.{End}
@@ -71,12 +73,13 @@ IsHexFault hexadecimal fault = (fault ≡ Memory) ⊎ ((fault ≡ BadHex) × ¬ 
 pub record AreTooMany (words : List (Bor (List ℕ))) : Type 0 where
   pub bytes : List ℕ
   pub written : WriteBytes words bytes
-  pub long : 4200 < length bytes
+  pub long : MAX_PACKET < length bytes
 
 -- why some words write the bytes of no packet: memory was refused, they are not hexadecimal, or there are too
 -- many
 abbrev pub IsBytesFault : List (Bor (List ℕ)) → LineFault → Type 0
-IsBytesFault words fault = IsHexFault (All (λ word. IsHex word.now) words) fault ⊎ ((fault ≡ TooLong) × AreTooMany words)
+IsBytesFault words fault =
+    IsHexFault (All (λ word. IsHex word.now) words) fault ⊎ ((fault ≡ TooLong) × AreTooMany words)
 
 -- the words are one of a port, which writes this number, others, and a last one
 pub record AreParts (words : List (List ℕ)) (port : ℕ) (between : List (List ℕ)) (last : List ℕ) : Type 0 where
@@ -92,14 +95,15 @@ AreNoParts words fault =
 
 -- the words of a line are a port, hexadecimal words and the word of a mark, and they write this port,
 -- these bytes and this mark
-pub record IsMarkedLine {M : Type 0} (word : M → List ℕ) (line : List ℕ) (port : ℕ) (bytes : List ℕ) (mark : M) : Type 0 where
-  pub first : List ℕ
-  pub between : List (List ℕ)
-  pub words : words_of line ≡ first ∷ (between ++ word mark ∷ [])
-  pub is_port : IsPort first
-  pub is_hex : All IsHex between
-  pub port_written : port ≡ digits_value 10 first
-  pub bytes_joined : bytes ≡ flat_map bytes_written between
+pub record IsMarkedLine {M : Type 0} (word : M → List ℕ) (line : List ℕ) (port : ℕ) (bytes : List ℕ) (mark : M) : Type 0
+  where
+    pub first : List ℕ
+    pub between : List (List ℕ)
+    pub words : words_of line ≡ first ∷ (between ++ word mark ∷ [])
+    pub is_port : IsPort first
+    pub is_hex : All IsHex between
+    pub port_written : port ≡ digits_value 10 first
+    pub bytes_joined : bytes ≡ flat_map bytes_written between
 
 -- the line is a packet line: its mark is an end marker, and it writes this port and this cargo
 abbrev pub IsPacketLine : List ℕ → ℕ → Cargo → Type 0
@@ -137,7 +141,7 @@ pub record IsTooLong {M : Type 0} (word : M → List ℕ) (line : List ℕ) : Ty
   pub bytes : List ℕ
   pub mark : M
   pub reading : IsMarkedLine word line port bytes mark
-  pub long : 4200 < length bytes
+  pub long : MAX_PACKET < length bytes
 
 -- the fault of a line: the first of no port, bad marker, bad digits and too long
 abbrev pub HasFault : {M : Type 0} → (M → List ℕ) → List ℕ → LineFault → Type 0
@@ -149,15 +153,17 @@ HasFault word line Memory = ⊥
 
 -- what reading a line answers, with its value seen as port, bytes and mark: where memory is not refused,
 -- these exactly where the line is of the form with at most 4,200 bytes, and else exactly its fault
-pub record IsReading {M X : Type 0} (word : M → List ℕ) (line : List ℕ) (seen : X → ℕ × List ℕ × M) (answer : Result X LineFault) : Type 0 where
-  pub ok : IfOk answer (λ x. IsMarkedLine word line (seen x).0 (seen x).1 (seen x).2 × (length (seen x).1 ≤ 4200))
+pub record IsReading {M X : Type 0} (word : M → List ℕ) (line : List ℕ) (seen : X → ℕ × List ℕ × M)
+    (answer : Result X LineFault) : Type 0 where
+  pub ok : IfOk answer (λ x. IsMarkedLine word line (seen x).0 (seen x).1 (seen x).2 × (length (seen x).1 ≤ MAX_PACKET))
   pub err : IfErr answer (λ fault. (fault ≡ Memory) ⊎ HasFault word line fault)
-  pub reads : (port : ℕ) (bytes : List ℕ) (mark : M) → IsMarkedLine word line port bytes mark → length bytes ≤ 4200
+  pub reads : (port : ℕ) (bytes : List ℕ) (mark : M) → IsMarkedLine word line port bytes mark → length bytes ≤ MAX_PACKET
       → MatchResult answer (λ x. seen x ≡ (port, bytes, mark)) (λ fault. fault ≡ Memory)
   pub refuses : (fault : LineFault) → HasFault word line fault → (answer ≡ Err fault) ⊎ (answer ≡ Err Memory)
 
 -- no line writes two ports, two lists of bytes or two marks
 abbrev pub IsUnambiguous : {M : Type 0} → (M → List ℕ) → Type 0
 IsUnambiguous {M} word =
-    (line : List ℕ) (port other : ℕ) (bytes another : List ℕ) (mark last : M) → IsMarkedLine word line port bytes mark → IsMarkedLine word line other another last
+    (line : List ℕ) (port other : ℕ) (bytes another : List ℕ) (mark last : M) → IsMarkedLine word line port bytes mark
+    → IsMarkedLine word line other another last
     → (port ≡ other) × (bytes ≡ another) × (mark ≡ last)

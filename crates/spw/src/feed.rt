@@ -19,12 +19,13 @@ pub struct Feed {
 
 impl Model for Feed {
     ghost use Rattle.std.specs.Prelude.{ℕ, List, ◌≤◌, ◌+◌, length};
+    ghost use Rattle.spw.specs.declared.packets.TheConstants.{MAX_PACKET};
 
     ghost Value = { List ℕ };
 
     ghost view = { λ f. f.held.items };
 
-    ghost invariant = { λ f. (length f.held.items ≤ 4200) × (4200 ≤ length f.held.items + f.held.spare) };
+    ghost invariant = { λ f. (length f.held.items ≤ MAX_PACKET) × (MAX_PACKET ≤ length f.held.items + f.held.spare) };
 }
 
 impl Feed {
@@ -41,7 +42,7 @@ impl Feed {
     /// [`MAX_PACKET`] bytes; then what is held stays.
     pub fn piece(&mut self, bytes: &[u8]) -> Result<(), LineFault>
         ensures ok { OnOk result (self.new ≡ self.old ++ bytes.now) }
-        ensures too_long { IsErrOf result LineFault.TooLong ↔ (4200 < length self.old + length bytes.now) }
+        ensures too_long { IsErrOf result LineFault.TooLong ↔ (MAX_PACKET < length self.old + length bytes.now) }
         ensures err { IfErr result (λ fault. fault ≡ LineFault.TooLong) }
         ensures kept { OnErr result (self.new ≡ self.old) }
     {

@@ -1,6 +1,6 @@
 //! Packet lines: text that writes a port, the bytes of a packet and its end marker.
 
-ghost use Rattle.std.specs.Prelude.{◌≡◌, ◌≤◌, map, length, All, IfOk, IfErr, MatchResult};
+ghost use Rattle.std.specs.Prelude.{◌≡◌, ◌≤◌, ◌++◌, map, length, All, IfOk, IfErr, OnOk, MatchResult};
 ghost use Rattle.spw.specs.Line.{words_of as words_in, AreNoParts, AreParts, IsBytesFault, IsHex, IsHexFault, IsNoMark, IsNoPort, IsReading, IsUnambiguous, WriteBytes, WritesBytes, WritesPort, mark_word, marker_word};
 
 use crate::faults::LineFault;
@@ -84,6 +84,17 @@ fn bytes_of_word(alloc: Global, word: &str) -> Result<Vec<u8>, LineFault>
     Ok(hex::decode(alloc, word)?)
 }
 
+/// Puts bytes behind others. Behind none they are taken as they are, so that a packet of one word is not copied.
+fn append(bytes: &mut Vec<u8>, more: Vec<u8>) -> Result<(), AllocError>
+    ensures { OnOk result (bytes.new.items ≡ bytes.old.items ++ more.items) }
+{
+    if bytes.is_empty() {
+        *bytes = more;
+        return Ok(());
+    }
+    bytes.extend_from_slice(more.as_slice())
+}
+
 /// The bytes that some words write, joined.
 fn bytes_of(alloc: Global, words: &[&str]) -> Result<Vec<u8>, LineFault>
     ensures ok { IfOk result (λ bytes. WriteBytes words.now bytes.items) }
@@ -91,8 +102,7 @@ fn bytes_of(alloc: Global, words: &[&str]) -> Result<Vec<u8>, LineFault>
 {
     let mut bytes = Vec::new(alloc);
     for word in words {
-        let decoded = bytes_of_word(alloc, word)?;
-        bytes.extend_from_slice(decoded.as_slice())?;
+        append(&mut bytes, bytes_of_word(alloc, word)?)?;
     }
     Ok(bytes)
 }
@@ -100,7 +110,7 @@ fn bytes_of(alloc: Global, words: &[&str]) -> Result<Vec<u8>, LineFault>
 /// The bytes of a packet, or of a piece of one, that some words write: at most [`MAX_PACKET`].
 fn packet_bytes(alloc: Global, hex: &[&str]) -> Result<Vec<u8>, LineFault>
     ensures { MatchResult result
-        (λ bytes. WriteBytes hex.now bytes.items × (length bytes.items ≤ 4200)) (IsBytesFault hex.now) }
+        (λ bytes. WriteBytes hex.now bytes.items × (length bytes.items ≤ MAX_PACKET)) (IsBytesFault hex.now) }
 {
     let bytes = bytes_of(alloc, hex)?;
     if bytes.len() > MAX_PACKET {

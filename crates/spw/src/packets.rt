@@ -28,12 +28,13 @@ pub struct Packet {
 impl Model for Packet {
     ghost use Rattle.std.specs.Prelude.{◌≤◌, vec_len};
     ghost use Rattle.spw.specs.Cargo.{Cargo};
+    ghost use Rattle.spw.specs.declared.packets.TheConstants.{MAX_PACKET};
 
     ghost Value = { Cargo };
 
     ghost view = { λ p. record { bytes = p.bytes.items; end = p.end } };
 
-    ghost invariant = { λ p. vec_len p.bytes ≤ 4200 };
+    ghost invariant = { λ p. vec_len p.bytes ≤ MAX_PACKET };
 }
 
 impl Packet {
@@ -41,7 +42,7 @@ impl Packet {
     /// [`MAX_PACKET`] bytes.
     pub fn new(bytes: Vec<u8>, end: End) -> Result<Packet, LineFault>
         ensures ok { IfOk result (λ p. p ≡ record { bytes = bytes.items; end = end }) }
-        ensures too_long { IsErrOf result LineFault.TooLong ↔ (4200 < length bytes.items) }
+        ensures too_long { IsErrOf result LineFault.TooLong ↔ (MAX_PACKET < length bytes.items) }
         ensures err { IfErr result (λ fault. fault ≡ LineFault.TooLong) }
     {
         if bytes.len() > MAX_PACKET {
@@ -53,7 +54,7 @@ impl Packet {
     /// The bytes, in the order of arrival.
     pub fn bytes(&self) -> &[u8]
         ensures bytes { result.now ≡ self.now.bytes }
-        ensures short { length result.now ≤ 4200 }
+        ensures short { length result.now ≤ MAX_PACKET }
     {
         self.bytes.as_slice()
     }

@@ -11,7 +11,7 @@ use Rattle.publish.specs.declared.history.Publish.{Publish}
 use Rattle.publish.specs.Published.{judging_program, program_at, generation_at}
 use Rattle.publish.specs.Staged.{Staged}
 use Rattle.target.specs.Slots.{slot_of}
-use Rattle.target.specs.Passes.{BearingValue, pass_of}
+use Rattle.target.specs.Passes.{RunContextValue, pass_of}
 use Rattle.target.specs.Steps.{IsAdmission, IsJudgedByTaken, IsJudgedOnce, IsJudgement, IsTaken, IsVerdict}
 
 some_same : {A : Type 0} (x y : A) → Some x ≡ Some y → x ≡ y
@@ -23,7 +23,7 @@ both_shown None a n first second = absurd cc
 both_shown (Some x) a n first second =
     ap₂ (λ (a : AcceptedValue) (n : ℕ). Some (a, n)) (some_same x.0 a first) (some_same x.1 n second)
 
-pub judged_by_taken : (known seen taken : List Publish) (old new : BearingValue) (admitted : AdmittedValue) (j : JudgedValue) (program : AcceptedValue) (generation slot : ℕ)
+pub judged_by_taken : (known seen taken : List Publish) (old new : RunContextValue) (admitted : AdmittedValue) (j : JudgedValue) (program : AcceptedValue) (generation slot : ℕ)
     → seen ≡ taken → IsPrefix known taken → slot ≡ slot_of (command_kind (command_of admitted.packet)) admitted.place
     → program_at taken slot ≡ Some program → generation_at taken slot ≡ Some generation
     → IsJustified program.program program.sizes
@@ -43,7 +43,7 @@ judged_by_taken known seen taken old new admitted j program generation slot same
     }
 
 -- the command of a packet that was admitted, and then judged by the program that was taken
-pub judgement_of : (b left : BearingValue) (known seen : List Publish) (shares : List ShareValue) (staging : Staged) (admitted : AdmittedValue) (p : Cargo) (j : JudgedValue)
+pub judgement_of : (b left : RunContextValue) (known seen : List Publish) (shares : List ShareValue) (staging : Staged) (admitted : AdmittedValue) (p : Cargo) (j : JudgedValue)
     → IsAdmission admitted p b.windows → IsJudgedByTaken known seen b left admitted j
     → IsJudgement (pass_of b known shares staging) (pass_of left seen shares staging) p j
 judgement_of b left known seen shares staging admitted p j admission by =
@@ -57,7 +57,7 @@ judgement_of b left known seen shares staging admitted p j admission by =
       calls = once.calls;
       taken = subst (λ (x : Cargo). IsTaken known seen (command_of x) j.place by.program j.generation) admission.packet
           (subst (λ (x : Place). IsTaken known seen (command_of admitted.packet) x by.program j.generation) (sym place) by.taken);
-      asked = ap (λ (x : BearingValue). pass_of x seen shares staging) once.asked;
+      asked = ap (λ (x : RunContextValue). pass_of x seen shares staging) once.asked;
       judged_for = record {
         packet = packet;
         placed = rw place (admission.placed);

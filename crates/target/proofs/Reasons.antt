@@ -17,7 +17,7 @@ use Rattle.bver_form.specs.declared.refusal.Refused.{Refused}
 use Rattle.target.specs.declared.control.ControlData.{ControlData}
 use Rattle.target.specs.declared.refusal.LoadRefusal.{LoadRefusal}
 use Rattle.target.specs.declared.refusal.LoadRefusal.TheVariants.{Control, Slot, Image, Program as Unverified, GenerationsFull}
-use Rattle.target.specs.Loads.{IsUnpreparedBy, IsUnspelled, IsUnverified, control_fault, load_refusal_code, load_refusal_place, loaded_bytes, wants_image_memory, wants_verifier_memory}
+use Rattle.target.specs.Loads.{IsUnpreparedBy, IsUnspelled, IsUnverified, control_fault, load_refusal_code, load_refusal_slot, loaded_bytes, wants_image_memory, wants_verifier_memory}
 use Rattle.target.specs.Laws.{IsControlCode, IsVerifierCode, RefusalsTellWhy, TellsWhy}
 use Rattle.target.proofs.Refusals.{control_faults, image_codes_few}
 

@@ -6,7 +6,18 @@ use Rattle.rmap.specs.declared.status.Status.TheVariants.{GeneralError}
 use Rattle.rmap.specs.Command.{command_of}
 use Rattle.rmap.specs.Reply.{reply_of}
 use Rattle.bank.specs.declared.bank.Applied.{Applied}
-use Rattle.bank.specs.Records.{BankValue, ShareValue, JudgedValue, first_share, fits, memory_of, answer_of, after_command, number_left, next_share}
+use Rattle.bank.specs.Records.{
+  BankValue,
+  ShareValue,
+  JudgedValue,
+  first_share,
+  fits,
+  memory_of,
+  answer_of,
+  after_command,
+  number_left,
+  next_share,
+}
 use Rattle.target.specs.Passes.{PassValue}
 
 -- the port's share of the bank of that place
@@ -25,7 +36,8 @@ with_share h Control share = h
 
 -- the command was applied: status, memory and reply are those of its answer, bank and share count the
 -- entry that it left, and the other entries stay
-pub record IsApplied (old new : BankValue) (share : ShareValue) (holder after : PassValue) (judged : JudgedValue) (result : Applied) (bytes : List ℕ) : Type 0 where
+pub record IsApplied (old new : BankValue) (share : ShareValue) (holder after : PassValue) (judged : JudgedValue)
+    (result : Applied) (bytes : List ℕ) : Type 0 where
   pub status : result.status ≡ (answer_of old judged).status
   pub memory : memory_of new ≡ (answer_of old judged).memory
   pub reply : bytes ≡ (answer_of old judged).reply
@@ -34,7 +46,8 @@ pub record IsApplied (old new : BankValue) (share : ShareValue) (holder after : 
   pub shares : after ≡ with_share holder judged.place (next_share old share judged)
 
 -- the command was not applied: a general error, and nothing else
-pub record IsRefused (old new : BankValue) (holder after : PassValue) (judged : JudgedValue) (result : Applied) (bytes : List ℕ) : Type 0 where
+pub record IsRefused (old new : BankValue) (holder after : PassValue) (judged : JudgedValue) (result : Applied)
+    (bytes : List ℕ) : Type 0 where
   pub status : result.status ≡ GeneralError
   pub number : result.number ≡ None
   pub reply : bytes ≡ reply_of (command_of judged.packet) GeneralError []
@@ -42,7 +55,8 @@ pub record IsRefused (old new : BankValue) (holder after : PassValue) (judged : 
   pub shares : after ≡ holder
 
 -- how a judged command ends at a bank: it is applied where that share fits, else refused
-pub record IsEnded (old new : BankValue) (share : ShareValue) (holder after : PassValue) (judged : JudgedValue) (result : Applied) (bytes : List ℕ) : Type 0 where
+pub record IsEnded (old new : BankValue) (share : ShareValue) (holder after : PassValue) (judged : JudgedValue)
+    (result : Applied) (bytes : List ℕ) : Type 0 where
   pub applied : fits old share judged ≡ true → IsApplied old new share holder after judged result bytes
   pub refused : fits old share judged ≡ false → IsRefused old new holder after judged result bytes
 

@@ -1,5 +1,26 @@
 -- How a node is made of its configuration.
-use Rattle.std.specs.Prelude.{◌≡◌, ◌<◌, ℕ, List, [], ◌∷◌, ◌++◌, map, length, slice_index, slice_index_or, replicate, Bool, ◌&&◌, not, nat_le, Option, None, Some, if◌then◌else◌}
+use Rattle.std.specs.Prelude.{
+  ◌≡◌,
+  ◌<◌,
+  ℕ,
+  List,
+  [],
+  ◌∷◌,
+  ◌++◌,
+  map,
+  length,
+  slice_index,
+  slice_index_or,
+  replicate,
+  Bool,
+  ◌&&◌,
+  not,
+  nat_le,
+  Option,
+  None,
+  Some,
+  if◌then◌else◌,
+}
 use Rattle.rmap.specs.Windows.{WindowsValue}
 use Rattle.std.specs.List.{list_all, range_with_len}
 use Rattle.bver.specs.Justified.{AcceptedValue}
@@ -9,6 +30,7 @@ use Rattle.publish.specs.declared.history.Publish.{Publish}
 use Rattle.publish.specs.Histories.{entry}
 use Rattle.publish.specs.Reached.{Known, known}
 use Rattle.cells.specs.Seats.{CellSeatValue, seat}
+use Rattle.publish.specs.declared.staging.TheConstants.{STAGING_BYTES}
 use Rattle.publish.specs.Staged.{Staged, staged}
 use base.Stored.{Gv}
 use Rattle.target.specs.Passes.{PassValue}
@@ -26,9 +48,11 @@ abbrev pub windows_of : ℕ → List BankConfig → WindowsValue
 windows_of address banks = record { node_address = address; banks = map range_of banks }
 
 -- each port has its share of the next bank after those that it had
-pub record AreDistributed (old : List (List ShareValue)) (shares : List ShareValue) (new : List (List ShareValue)) : Type 0 where
+pub record AreDistributed (old : List (List ShareValue)) (shares : List ShareValue)
+    (new : List (List ShareValue)) : Type 0 where
   pub count : length new ≡ length old
-  pub by_port : (k : ℕ) → k < length old → slice_index_or new k [] ≡ slice_index_or old k [] ++ slice_index_or shares k (first_share k) ∷ []
+  pub by_port : (k : ℕ) → k < length old → slice_index_or new k [] ≡ slice_index_or old k []
+      ++ slice_index_or shares k (first_share k) ∷ []
 
 -- for each port, by its number, a first share of each of n banks
 pub record ArePortShares (n ports : ℕ) (by_port : List (List ShareValue)) : Type 0 where
@@ -53,10 +77,11 @@ first_programs factory = entry 0 factory ∷ []
 
 -- a staging at first: zero bytes, and a load result of zeros
 abbrev pub first_staging : Staged
-first_staging = staged (replicate 16384 0) (replicate 8 0)
+first_staging = staged (replicate STAGING_BYTES 0) (replicate 8 0)
 
 -- so many seats at the cells of that name, for the program's maps, and readers that know of the program
-pub record AreFirst (factory : AcceptedValue) (home : Gv) (ports : ℕ) (seats : List CellSeatValue) (readers : List Known) : Type 0 where
+pub record AreFirst (factory : AcceptedValue) (home : Gv) (ports : ℕ) (seats : List CellSeatValue)
+    (readers : List Known) : Type 0 where
   pub seats_are : seats ≡ replicate ports (seat factory.sizes home [])
   pub readers_are : readers ≡ replicate ports (known (first_programs factory) None)
 

@@ -19,13 +19,16 @@ IsLoad control staged sizes count (Published slot program) =
     IsPrepared control staged sizes slot program × (count < 2 ^ 32)
 IsLoad control staged sizes count (Refused refusal) =
     IsUnprepared control staged sizes refusal
-    ⊎ ((slot : ℕ) × (program : AcceptedValue) × IsPrepared control staged sizes slot program × (2 ^ 32 ≤ count) × (refusal ≡ load_refusals.GenerationsFull))
+    ⊎ ((slot : ℕ) × (program : AcceptedValue) × IsPrepared control staged sizes slot program × (2 ^ 32 ≤ count)
+    × (refusal ≡ load_refusals.GenerationsFull))
 
 -- memory was refused to a running load: to what comes before publishing, or to publishing, where generations are
 -- not full
-pub data WantsMemory (control : ControlData) (staged : List ℕ) (sizes : Maps) (count : ℕ) (refusal : LoadRefusal) : Type 0 where
+pub data WantsMemory (control : ControlData) (staged : List ℕ) (sizes : Maps) (count : ℕ) (refusal : LoadRefusal) : Type
+    0 where
   preparing : WantsToPrepare control staged refusal → WantsMemory control staged sizes count refusal
-  publishing : (slot : ℕ) → (program : AcceptedValue) → IsPrepared control staged sizes slot program → count < 2 ^ 32 → refusal ≡ load_refusals.Memory → WantsMemory control staged sizes count refusal
+  publishing : (slot : ℕ) → (program : AcceptedValue) → IsPrepared control staged sizes slot program → count < 2 ^ 32
+      → refusal ≡ load_refusals.Memory → WantsMemory control staged sizes count refusal
 
 -- why a running load is refused: as a load is, or for want of memory
 abbrev pub IsLoadRefusal : ControlData → (staged : List ℕ) → Maps → (count : ℕ) → LoadRefusal → Type 0

@@ -45,7 +45,8 @@ abbrev pub OwnStaysPaired : Type 0
 OwnStaysPaired =
     (banks : List BankValue) (h : PassValue) (k : ℕ) (j : JudgedValue) (b : BankValue)
     → IsPaired banks h → j.port ≡ h.port → j.place ≡ Bank k → slice_get banks k ≡ Some b
-    → IsPaired (slice_set banks k (after_command b (share_of h j.place) j)) (with_share h j.place (next_share b (share_of h j.place) j))
+    → IsPaired (slice_set banks k (after_command b (share_of h j.place) j))
+    (with_share h j.place (next_share b (share_of h j.place) j))
 
 -- a command of another port leaves the port paired
 abbrev pub OthersStayPaired : Type 0

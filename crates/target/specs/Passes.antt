@@ -24,18 +24,18 @@ seat_of s = record { sizes = s.sizes; home = s.home; asked = calls s }
 abbrev pub seat_after : SeatValue → List Call → SeatValue
 seat_after s more = record { sizes = s.sizes; home = s.home; asked = s.asked ++ more }
 
--- what a run needs of a port: its number, the windows of its node, and the counters that are asked
-pub record BearingValue : Type 0 where
+-- what a run needs of a port: its number, the windows of its node, and the cells that are asked
+pub record RunContextValue : Type 0 where
   pub port : ℕ
   pub windows : WindowsValue
   pub seat : SeatValue
 
--- a bearing after more calls
-abbrev pub bearing_after : BearingValue → List Call → BearingValue
-bearing_after b more = record { port = b.port; windows = b.windows; seat = seat_after b.seat more }
+-- a context after more calls
+abbrev pub context_after : RunContextValue → List Call → RunContextValue
+context_after b more = record { port = b.port; windows = b.windows; seat = seat_after b.seat more }
 
--- what a port has of its node: the node's windows, what it knows of the programs that were published, the
--- counters, a share of each bank, and its own staging with the result of its last load
+-- what a port has of its node: the node's windows, what it knows of the programs that were published, its seat at the
+-- cells, a share of each bank, and its own staging with the result of its last load
 pub record PassValue : Type 0 where
   pub port : ℕ
   pub windows : WindowsValue
@@ -44,8 +44,8 @@ pub record PassValue : Type 0 where
   pub shares : List ShareValue
   pub staging : Staged
 
--- what a port has, by its bearing
-abbrev pub pass_of : BearingValue → List Publish → List ShareValue → Staged → PassValue
+-- what a port has, by its context
+abbrev pub pass_of : RunContextValue → List Publish → List ShareValue → Staged → PassValue
 pass_of b programs shares staging = record {
   port = b.port;
   windows = b.windows;
@@ -63,8 +63,8 @@ pass_after h seen more = record h { programs = seen; seat = seat_after h.seat mo
 abbrev pub with_staging : PassValue → Staged → PassValue
 with_staging h staging = record h { staging = staging }
 
--- a port's number is below 32, it has a share of each bank of its node, and the programs of its node
--- are accepted for the maps of its counters
+-- a port's number is below 32, it has a share of each bank of its node, and the programs of its node are accepted
+-- for the maps at which it has its seat
 pub record IsPass (p : PassValue) : Type 0 where
   pub port : p.port < 32
   pub sizes : p.seat.sizes ≡ sizes_of p.programs

@@ -34,7 +34,8 @@ abbrev pub Ending : Type 1
 Ending = BankValue → BankValue → ShareValue → PassValue → PassValue → JudgedValue → Applied → List ℕ → Type 0
 
 -- the command was judged in one run, which left the port so, and ended at the bank of its place alone
-pub record IsDone (Ends : Ending) (old new : PartsValue) (holder after : PassValue) (p : Cargo) (result : Applied) (bytes : List ℕ) : Type 0 where
+pub record IsDone (Ends : Ending) (old new : PartsValue) (holder after : PassValue) (p : Cargo) (result : Applied)
+    (bytes : List ℕ) : Type 0 where
   pub judged : JudgedValue
   pub between : PassValue
   pub number : ℕ
@@ -47,19 +48,24 @@ pub record IsDone (Ends : Ending) (old new : PartsValue) (holder after : PassVal
   pub ended : Ends before behind (share_of between judged.place) between after judged result bytes
 
 -- the command ended at the port's own staging, and nothing else of the port changed
-pub record IsStagedAt (holder after : PassValue) (judged : JudgedValue) (result : Status) (bytes : List ℕ) : Type 0 where
+pub record IsStagedAt (holder after : PassValue) (judged : JudgedValue) (result : Status)
+    (bytes : List ℕ) : Type 0 where
   pub staged : IsStaged holder.staging after.staging judged result bytes
   pub rest : after ≡ with_staging holder after.staging
 
 -- how a command ends in the boot window, by its place, and what is published then: only a control write publishes
-abbrev pub EndsAtWindow : Place → (holder after : PassValue) → (old new : List Publish) → JudgedValue → Status → List ℕ → Type 0
+abbrev pub EndsAtWindow : Place → (holder after : PassValue) → (old new : List Publish) → JudgedValue → Status → List ℕ
+    → Type 0
 EndsAtWindow (Bank k) holder after old new judged result bytes = ⊥
-EndsAtWindow Staging holder after old new judged result bytes = IsStagedAt holder after judged result bytes × (new ≡ old)
-EndsAtWindow LoadResult holder after old new judged result bytes = IsStagedAt holder after judged result bytes × (new ≡ old)
+EndsAtWindow Staging holder after old new judged result bytes =
+    IsStagedAt holder after judged result bytes × (new ≡ old)
+EndsAtWindow LoadResult holder after old new judged result bytes =
+    IsStagedAt holder after judged result bytes × (new ≡ old)
 EndsAtWindow Control holder after old new judged result bytes = IsLoadEnd holder after old new judged result bytes
 
 -- the command was judged in one run, which left the port so, and ended in the boot window; no bank changed
-pub record IsWindowed (old new : PartsValue) (holder after : PassValue) (p : Cargo) (result : Status) (bytes : List ℕ) : Type 0 where
+pub record IsWindowed (old new : PartsValue) (holder after : PassValue) (p : Cargo) (result : Status)
+    (bytes : List ℕ) : Type 0 where
   pub judged : JudgedValue
   pub between : PassValue
   pub judgement : IsJudgement holder between p judged

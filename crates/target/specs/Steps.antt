@@ -18,7 +18,7 @@ use Rattle.machine.specs.declared.calls.Call.{Call}
 use Rattle.publish.specs.declared.history.Publish.{Publish}
 use Rattle.publish.specs.Published.{judging_program}
 use Rattle.target.specs.Slots.{slot_of}
-use Rattle.target.specs.Passes.{PassValue, BearingValue, bearing_after, pass_after}
+use Rattle.target.specs.Passes.{PassValue, RunContextValue, context_after, pass_after}
 use Rattle.target.specs.declared.step.Step.{Step}
 use Rattle.target.specs.declared.step.Step.TheVariants.{Discarded, Answered, Unread, Judged}
 use Rattle.target.specs.declared.stop.Stop.{Stop}
@@ -63,27 +63,30 @@ IsVerdictOn program port calls c verdict =
 abbrev pub IsVerdict : AcceptedValue → ℕ → List Call → Cargo → ℕ → Type 0
 IsVerdict program port calls p verdict = IsVerdictOn program port calls (command_of p) verdict
 
--- the program had one run on the command's header, which asked what the bearing's port asked more, and
+-- the program had one run on the command's header, which asked what the context's port asked more, and
 -- ended with that verdict
-pub record HasRun (program : AcceptedValue) (old new : BearingValue) (c : CommandValue) (verdict : ℕ) : Type 0 where
+pub record HasRun (program : AcceptedValue) (old new : RunContextValue) (c : CommandValue) (verdict : ℕ) : Type 0 where
   pub calls : List Call
-  pub asked : new ≡ bearing_after old calls
+  pub asked : new ≡ context_after old calls
   pub run : IsVerdictOn program old.port calls c verdict
 
 -- the admitted command, judged for that port by the program of that generation, in a run with those calls
-pub record IsJudgedBy (program : AcceptedValue) (generation port : ℕ) (calls : List Call) (admitted : AdmittedValue) (j : JudgedValue) : Type 0 where
+pub record IsJudgedBy (program : AcceptedValue) (generation port : ℕ) (calls : List Call) (admitted : AdmittedValue)
+    (j : JudgedValue) : Type 0 where
   pub judged : j ≡ judgement admitted port generation j.verdict
   pub verdict : IsVerdict program port calls admitted.packet j.verdict
 
--- the admitted command was judged in one run, and the bearing's port asked what that run asked
-pub record IsJudgedOnce (program : AcceptedValue) (generation : ℕ) (old new : BearingValue) (admitted : AdmittedValue) (j : JudgedValue) : Type 0 where
+-- the admitted command was judged in one run, and the context's port asked what that run asked
+pub record IsJudgedOnce (program : AcceptedValue) (generation : ℕ) (old new : RunContextValue)
+    (admitted : AdmittedValue) (j : JudgedValue) : Type 0 where
   pub calls : List Call
-  pub asked : new ≡ bearing_after old calls
+  pub asked : new ≡ context_after old calls
   pub judged : IsJudgedBy program generation old.port calls admitted j
 
 -- the command of the packet as it came, with its place under those windows, judged for that port by
 -- the program of that generation, in a run with those calls
-pub record IsJudgedFor (program : AcceptedValue) (generation port : ℕ) (w : WindowsValue) (calls : List Call) (p : Cargo) (j : JudgedValue) : Type 0 where
+pub record IsJudgedFor (program : AcceptedValue) (generation port : ℕ) (w : WindowsValue) (calls : List Call)
+    (p : Cargo) (j : JudgedValue) : Type 0 where
   pub packet : j.packet ≡ p
   pub placed : IsPlacedBy w p j.place
   pub port_of : j.port ≡ port
@@ -92,13 +95,15 @@ pub record IsJudgedFor (program : AcceptedValue) (generation port : ℕ) (w : Wi
 
 -- in a list of publishes that begins with what was known, the program of that generation is published in the
 -- slot of the command's place, and it is justified
-pub record IsTaken (known seen : List Publish) (c : CommandValue) (place : Place) (program : AcceptedValue) (generation : ℕ) : Type 0 where
+pub record IsTaken (known seen : List Publish) (c : CommandValue) (place : Place) (program : AcceptedValue)
+    (generation : ℕ) : Type 0 where
   pub longer : IsPrefix known seen
   pub shown : judging_program seen (slot_of (command_kind c) place) ≡ Some (program, generation)
   pub accepted : IsJustified program.program program.sizes
 
 -- the admitted command was judged once, by the program that was taken in the slot of its place
-pub record IsJudgedByTaken (known seen : List Publish) (old new : BearingValue) (admitted : AdmittedValue) (j : JudgedValue) : Type 0 where
+pub record IsJudgedByTaken (known seen : List Publish) (old new : RunContextValue) (admitted : AdmittedValue)
+    (j : JudgedValue) : Type 0 where
   pub program : AcceptedValue
   pub taken : IsTaken known seen (command_of admitted.packet) admitted.place program j.generation
   pub once : IsJudgedOnce program j.generation old new admitted j

@@ -7,11 +7,11 @@ ghost use Rattle.target.specs.Applied.{IsFinished, share_of};
 
 use crate::pass::Pass;
 use bank::{Applied, Bank, Judged};
-use publish::Room;
+use publish::ProgramFamily;
 use rmap::{Place, ReplyBuf};
 
 /// How a judged command ends at the bank of its place.
-fn end<J: Room>(
+fn end<J: ProgramFamily>(
     pass: &mut Pass<J>,
     bank: &mut Bank,
     judged: Judged,
@@ -38,7 +38,7 @@ fn end<J: Room>(
 /// reply. Where [`Bank::fits`] says no, it is a general error, and nothing changes: that does not
 /// happen where bank and pass were made together ([`paired_commands_fit`](crate::paired_commands_fit)). The condition
 /// is the place of a bank of which the port has a share ([`Pass::banks`]).
-pub fn finish<J: Room>(
+pub fn finish<J: ProgramFamily>(
     pass: &mut Pass<J>,
     bank: &mut Bank,
     judged: Judged,

@@ -3,6 +3,8 @@
 ghost use Rattle.std.specs.Prelude.{◌≡◌, slice_index};
 ghost use Rattle.target.specs.Loads.{control_of};
 
+use byteorder::{BigEndian, ByteOrder};
+
 /// The data of a control write.
 #[derive(Clone, Copy, Debug)]
 pub struct ControlData {
@@ -26,11 +28,9 @@ fn byte_at(bytes: &[u8], place: usize) -> u8
 pub fn read_control(bytes: &[u8]) -> ControlData
     ensures { result ≡ control_of bytes.now }
 {
-    let high = u16::from(byte_at(bytes, 2));
-    let low = u16::from(byte_at(bytes, 3));
     ControlData {
         slot: byte_at(bytes, 0),
         zero: byte_at(bytes, 1),
-        length: high * 256 + low,
+        length: BigEndian::read_u16(&[byte_at(bytes, 2), byte_at(bytes, 3)]),
     }
 }

@@ -1,11 +1,13 @@
-//! Laws about banks and ports, and about loads. Each function does no work: its contract is the law.
+//! Laws about banks and ports, about staging, and about loads. Each function does no work: its contract is the law.
 
+ghost use Rattle.std.specs.Prelude.{◌≡◌};
 ghost use Rattle.target.specs.Pairs.{MadeArePaired, PairedCommandsFit, OwnStaysPaired, OthersStayPaired};
 ghost use Rattle.target.specs.Laws.{LoadsAreTaken, RefusalsTellWhy};
 
 use bank::extents_stay;
 use bver_form::first_faults;
-use publish::published_programs;
+use publish::{STAGING_BYTES, published_programs};
+use rmap::STAGING_SIZE;
 
 /// A law and no work: the banks and the passes of all ports are paired as they are made.
 pub fn made_are_paired()
@@ -27,6 +29,11 @@ pub fn pairs_stay()
     extents_stay();
 }
 
+/// A law and no work: a port stages as many bytes as the boot window has addresses for.
+pub fn staging_fills_its_window()
+    ensures { STAGING_BYTES ≡ STAGING_SIZE }
+{}
+
 /// A law and no work: behind a port's own load, a command that the loaded slot judges is judged by the loaded
 /// program or a later one.
 pub fn loads_are_taken()
@@ -35,7 +42,7 @@ pub fn loads_are_taken()
     published_programs();
 }
 
-/// A law and no work: what the refusal of a load says, by its code and its place.
+/// A law and no work: what the refusal of a load says, by its code and its slot.
 pub fn refusals_tell_why()
     ensures { RefusalsTellWhy }
 {

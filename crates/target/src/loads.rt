@@ -6,7 +6,7 @@ ghost use Rattle.bpf.specs.Program.{IsProgram, image_bytes};
 ghost use Rattle.bver.specs.Justified.{IsJustified};
 ghost use Rattle.publish.specs.Histories.{longer_history};
 ghost use Rattle.publish.specs.Published.{sizes_of};
-ghost use Rattle.target.specs.Loaded.{HasLearnt, IsLoadEnd, IsPublished};
+ghost use Rattle.target.specs.Loaded.{IsLoadEnd, IsPublished};
 ghost use Rattle.target.specs.Loads.{IsFirstFault, IsPrepared, IsUnprepared, IsUnpreparedBy, IsUnpublished, IsUnspelled, WantsToPrepare, WantsToVerify, control_fault, loaded_bytes};
 ghost use Rattle.target.specs.Outcomes.{IsLoadRefusal};
 
@@ -17,7 +17,7 @@ use bank::{Judged, judged_fault};
 use bpf::{Image, ImageFault};
 use bver::{Accepted, MapSizes, verify};
 use bver_form::first_faults;
-use publish::{LAST_SLOT, Publisher, Reader, Room, Staging};
+use publish::{LAST_SLOT, ProgramFamily, Publisher, Reader, Staging, readers_know_a_beginning};
 use rmap::{Place, ReplyBuf, STAGING_SIZE, Status};
 use std::alloc::Global;
 use std::sync::Wait;
@@ -47,22 +47,22 @@ fn image_of(alloc: Global, bytes: &[u8]) -> Result<Image, LoadRefusal>
     Ok(image)
 }
 
-/// The program that the bytes spell, accepted for those sizes.
+/// The program that the bytes spell, accepted for those maps.
 #[tactic(auto, using(crate::proofs::Refusals::unread, crate::proofs::Refusals::unverified, crate::proofs::Refusals::no_fault))]
-fn program_of(alloc: Global, bytes: &[u8], sizes: &MapSizes) -> Result<Accepted, LoadRefusal>
+fn program_of(alloc: Global, bytes: &[u8], maps: &MapSizes) -> Result<Accepted, LoadRefusal>
     ensures spelled { IfOk result (λ a. IsProgram a.program × (bytes.now ≡ image_bytes a.program)) }
-    ensures justified { IfOk result (λ a. IsJustified a.program sizes.now × (a.sizes ≡ sizes.now)) }
+    ensures justified { IfOk result (λ a. IsJustified a.program maps.now × (a.sizes ≡ maps.now)) }
     ensures refused { IfErr result (λ refusal.
-        IsUnpreparedBy None bytes.now sizes.now refusal ⊎ WantsToVerify bytes.now refusal) }
+        IsUnpreparedBy None bytes.now maps.now refusal ⊎ WantsToVerify bytes.now refusal) }
     ensures first { IfErr result (IsFirstFault bytes.now) }
 {
     first_faults();
     let image = image_of(alloc, bytes)?;
-    Ok(verify(alloc, image, sizes)?)
+    Ok(verify(alloc, image, maps)?)
 }
 
 /// Reads and verifies the program that control data ask to publish: everything of a load that comes before
-/// publishing. The program, accepted for those sizes, and its slot.
+/// publishing. The program, accepted for those maps, and its slot.
 ///
 /// # Errors
 ///
@@ -74,11 +74,11 @@ pub fn prepare(
     alloc: Global,
     staging: &Staging,
     control: ControlData,
-    sizes: &MapSizes,
+    maps: &MapSizes,
 ) -> Result<(u8, Accepted), LoadRefusal>
     ensures prepared { IfOk result
-        (λ made. IsPrepared control staging.now.bytes sizes.now made.0 made.1) }
-    ensures refused { IfErr result (λ refusal. IsUnprepared control staging.now.bytes sizes.now refusal
+        (λ made. IsPrepared control staging.now.bytes maps.now made.0 made.1) }
+    ensures refused { IfErr result (λ refusal. IsUnprepared control staging.now.bytes maps.now refusal
         ⊎ WantsToPrepare control staging.now.bytes refusal) }
     ensures first { IfErr result (IsFirstFault (loaded_bytes control staging.now.bytes)) }
 {
@@ -86,13 +86,13 @@ pub fn prepare(
         return Err(fault);
     }
     let bytes = &staging.bytes()[..usize::from(control.length)];
-    let accepted = program_of(alloc, bytes, sizes)?;
+    let accepted = program_of(alloc, bytes, maps)?;
     Ok((control.slot, accepted))
 }
 
 /// Publishes a program for a slot, and lets a reader learn of it: the program's generation. It may wait.
 #[tactic(auto, using(crate::proofs::Loadings::learnt))]
-fn install<J: Room, R: Wait + Drop>(
+fn install<J: ProgramFamily, R: Wait + Drop>(
     reader: &mut Reader<J>,
     publisher: &mut Publisher<J, R>,
     slot: u8,
@@ -104,14 +104,14 @@ fn install<J: Room, R: Wait + Drop>(
     ensures generation { IfOk result (λ n. n ≡ length publisher.old) }
     ensures told { OnOk result (IsPrefix publisher.new reader.new.programs) }
     ensures keeps { IsPrefix reader.old.programs reader.new.programs }
-    ensures learnt { OnOk result
-        (HasLearnt reader.old.programs publisher.new reader.new.programs) }
+    ensures learnt { OnOk result (reader.new.programs ≡ publisher.new) }
     ensures same { OnErr result ((publisher.new ≡ publisher.old) × (reader.new ≡ reader.old)) }
     ensures refused { IfErr result (IsUnpublished (length publisher.old)) }
     ensures fewer { OnOk result (length publisher.old < 2 ^ 32) }
     ensures sizes { sizes_of reader.new.programs ≡ sizes_of reader.old.programs }
 {
     let told = publisher.install(slot, program)?;
+    readers_know_a_beginning(reader, publisher);
     reader.learn(&told);
     Ok(told.generation())
 }
@@ -119,7 +119,7 @@ fn install<J: Room, R: Wait + Drop>(
 /// Publishes the staged program that control data ask for, and lets the reader learn of it: its generation.
 /// It may wait.
 #[tactic(auto, using(crate::proofs::Refusals::not_prepared, crate::proofs::Refusals::not_published))]
-fn publish_staged<J: Room, R: Wait + Drop>(
+fn publish_staged<J: ProgramFamily, R: Wait + Drop>(
     alloc: Global,
     reader: &mut Reader<J>,
     publisher: &mut Publisher<J, R>,
@@ -138,10 +138,10 @@ fn publish_staged<J: Room, R: Wait + Drop>(
 }
 
 /// Loads what the port staged, where the verdict on the control write is yes and its body is right, and leaves
-/// the reply: the program is verified for the publisher's sizes and published for the slot that the control data
+/// the reply: the program is verified for the publisher's maps and published for the slot that the control data
 /// name, the port's reader learns of it, and the load result tells its generation, or why the load was refused.
 /// Nothing else changes. It may wait for readers. The condition is a control write.
-pub fn load<J: Room, R: Wait + Drop>(
+pub fn load<J: ProgramFamily, R: Wait + Drop>(
     alloc: Global,
     pass: &mut Pass<J>,
     publisher: &mut Publisher<J, R>,

@@ -13,7 +13,7 @@ use crate::parts::banks_and_passes;
 use crate::pass::Pass;
 use bver::Accepted;
 use cells::Cells;
-use publish::{Opened, Publisher, Room};
+use publish::{Opened, ProgramFamily, Publisher};
 use rmap::MAX_BANKS;
 use std::alloc::{AllocError, Global};
 use std::marker::Model;
@@ -22,12 +22,12 @@ use std::sync::{Mutex, Wait};
 /// A node, as threads share it: its banks and what publishes its programs, each behind its lock. What belongs to
 /// one port is in the port's [`Pass`]. The value of a node is how many banks it has. Its end waits for readers.
 #[derive(Drop)]
-pub struct Node<J: Room, R: Wait + Drop> {
+pub struct Node<J: ProgramFamily, R: Wait + Drop> {
     banks: Vec<BankLock>,
     publisher: Mutex<Publisher<J, R>>,
 }
 
-impl<J: Room, R: Wait + Drop> Model for Node<J, R> {
+impl<J: ProgramFamily, R: Wait + Drop> Model for Node<J, R> {
     ghost use Rattle.std.specs.Prelude.{ℕ, length};
     ghost use base.Stored.{Gv};
     ghost use Rattle.target.specs.Nodes.{AreNumbered};
@@ -54,7 +54,7 @@ fn locks(alloc: Global, banks: Banks) -> Result<Vec<BankLock>, AllocError>
     Ok(locks)
 }
 
-impl<J: Room, R: Wait + Drop> Node<J, R> {
+impl<J: ProgramFamily, R: Wait + Drop> Node<J, R> {
     /// A node with locks round banks of zero bytes and round what publishes its programs, and a pass for each
     /// port, in order: the parts that [`banks_and_passes`] makes. `Ports` and then `Banks` where a number is
     /// outside its limits; `Memory` where memory was refused: a publisher that was made already ends then, which
@@ -66,7 +66,7 @@ impl<J: Room, R: Wait + Drop> Node<J, R> {
         config: &NodeConfig,
         factory: Accepted,
     ) -> Result<(Node<J, R>, Vec<Pass<J>>), NodeFault>
-        requires room { opened ≡ J.book }
+        requires family { opened ≡ J.book }
         requires sizes { factory.sizes ≡ config.now.sizes }
         ensures banks { IfOk result (λ made. made.0 ≡ length config.now.banks.now) }
         ensures passes { IfOk result
@@ -78,7 +78,7 @@ impl<J: Room, R: Wait + Drop> Node<J, R> {
         Ok((node, passes))
     }
 
-    /// A node as [`Node::new`] makes it, and beside it the cells of its counters. They are no part of the node, which
+    /// A node as [`Node::new`] makes it, and beside it the cells of its maps. They are no part of the node, which
     /// is shared: whoever keeps them may take each pass's seat back ([`Pass::into_seat`]) and then knows which
     /// tickets were drawn.
     pub fn with_cells(
@@ -88,7 +88,7 @@ impl<J: Room, R: Wait + Drop> Node<J, R> {
         config: &NodeConfig,
         factory: Accepted,
     ) -> Result<(Node<J, R>, Cells, Vec<Pass<J>>), NodeFault>
-        requires room { opened ≡ J.book }
+        requires family { opened ≡ J.book }
         requires sizes { factory.sizes ≡ config.now.sizes }
         ensures banks { IfOk result (λ made. made.0 ≡ length config.now.banks.now) }
         ensures cells { IfOk result

@@ -8,21 +8,21 @@ ghost use Rattle.target.specs.Pairs.{ArePaired};
 ghost use Rattle.target.specs.Nodes.{AreFirst, AreSharesOf, IsNodeFault, fresh_banks, first_passes, first_programs, limit_fault};
 
 use crate::banks::Banks;
-use crate::bearing::Bearing;
 use crate::config::NodeConfig;
 use crate::faults::NodeFault;
 use crate::pass::Pass;
+use crate::run_context::RunContext;
 use crate::shares::PortShares;
 use bver::Accepted;
 use cells::{CellSeat, Cells};
-use publish::{Opened, Programs, Publisher, Reader, Room, Staging};
+use publish::{Opened, ProgramFamily, Programs, Publisher, Reader, Staging};
 use rmap::MAX_BANKS;
 use spw::PORTS;
 use std::alloc::{AllocError, Global};
 use std::sync::Wait;
 
 /// The pass of each port, in order.
-fn passes<J: Room>(
+fn passes<J: ProgramFamily>(
     alloc: Global,
     config: &NodeConfig,
     by_port: &mut Vec<PortShares>,
@@ -44,7 +44,7 @@ fn passes<J: Room>(
             unreachable!()
         };
         let pass = Pass {
-            bearing: Bearing::new(port, config.windows(), seat),
+            context: RunContext::new(port, config.windows(), seat),
             reader,
             shares: by_port[usize::from(port)].take(alloc),
             staging: Staging::new(alloc)?,
@@ -59,14 +59,14 @@ fn passes<J: Room>(
 /// each slot the factory program judges, of generation 0. `Ports` and then `Banks` where a number is outside its
 /// limits; `Memory` where memory was refused: a publisher that was made already ends then, which may wait. The
 /// publisher keeps `rt`. The condition is a program that was accepted for the maps of the configuration.
-pub fn banks_and_passes<J: Room, R: Wait + Drop>(
+pub fn banks_and_passes<J: ProgramFamily, R: Wait + Drop>(
     alloc: Global,
     rt: R,
     opened: Opened,
     config: &NodeConfig,
     factory: Accepted,
 ) -> Result<(Banks, Cells, Publisher<J, R>, Vec<Pass<J>>), NodeFault>
-    requires room { opened ≡ J.book }
+    requires family { opened ≡ J.book }
     requires sizes { factory.sizes ≡ config.now.sizes }
     ensures banks { IfOk result (λ made. made.0 ≡ fresh_banks config.now) }
     ensures cells { IfOk result

@@ -3,40 +3,40 @@
 ghost use Rattle.std.specs.Prelude.{◌≡◌, ◌<◌, length, slice_get, Some};
 ghost use Rattle.target.specs.Passes.{IsPass, seat_of};
 
-use crate::bearing::Bearing;
+use crate::run_context::RunContext;
 use bank::Share;
 use cells::CellSeat;
-use publish::{Reader, Room, Staging};
+use publish::{ProgramFamily, Reader, Staging};
 use spw::PORTS;
 use std::marker::Model;
 
-/// What one port has of its node: its bearing, with its seat at the counters, its reader of the programs that
-/// judge, a share of each bank, and its staging. Only [`banks_and_passes`](crate::banks_and_passes) makes passes.
+/// What one port has of its node: its context, with its seat at the cells, its reader of the programs that judge, a share
+/// of each bank, and its staging. Only [`banks_and_passes`](crate::banks_and_passes) makes passes.
 #[derive(Drop)]
-pub struct Pass<J: Room> {
-    pub(crate) bearing: Bearing,
+pub struct Pass<J: ProgramFamily> {
+    pub(crate) context: RunContext,
     pub(crate) reader: Reader<J>,
     pub(crate) shares: Vec<Share>,
     pub(crate) staging: Staging,
 }
 
-impl<J: Room> Model for Pass<J> {
+impl<J: ProgramFamily> Model for Pass<J> {
     ghost use Rattle.target.specs.Passes.{PassValue, IsPass, pass_of};
 
     ghost Value = { PassValue };
 
-    ghost view = { λ p. pass_of p.bearing p.reader.programs p.shares.items p.staging };
+    ghost view = { λ p. pass_of p.context p.reader.programs p.shares.items p.staging };
 
-    ghost invariant = { λ p. IsPass (pass_of p.bearing p.reader.programs p.shares.items p.staging) };
+    ghost invariant = { λ p. IsPass (pass_of p.context p.reader.programs p.shares.items p.staging) };
 }
 
-impl<J: Room> Pass<J> {
+impl<J: ProgramFamily> Pass<J> {
     /// The port's number.
     pub fn port(&self) -> u8
         ensures value { result ≡ self.now.port }
         ensures few { result < PORTS }
     {
-        self.bearing.port()
+        self.context.port()
     }
 
     /// How many banks the node has.
@@ -62,17 +62,17 @@ impl<J: Room> Pass<J> {
         &self.staging
     }
 
-    /// Takes the pass apart: its seat at the counters, to be given back to the cells
+    /// Takes the pass apart: its seat, to be given back to the cells
     /// ([`Cells::take_back`](cells::Cells::take_back)). The other parts end.
     pub fn into_seat(self) -> CellSeat
         ensures { seat_of result ≡ self.seat }
     {
         let Pass {
-            bearing,
+            context,
             reader: _reader,
             shares: _shares,
             staging: _staging,
         } = self;
-        bearing.into_seat()
+        context.into_seat()
     }
 }

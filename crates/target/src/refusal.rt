@@ -1,7 +1,7 @@
 //! Why a load is refused.
 
-ghost use Rattle.std.specs.Prelude.{◌≡◌};
-ghost use Rattle.target.specs.Loads.{load_refusal_code, load_refusal_place, published_result, refused_result, refusal_of_publishing, wants_memory};
+ghost use Rattle.std.specs.Prelude.{◌≡◌, IfSome, Some};
+ghost use Rattle.target.specs.Loads.{load_refusal_code, load_refusal_of_code, load_refusal_slot, named_refusal, program_refusal_of_code, published_result, refused_result, refusal_of_publishing, wants_memory};
 ghost use Rattle.target.specs.declared.refusal.LoadRefusal.TheVariants.{Image, Program};
 
 use bpf::ImageFault;
@@ -20,12 +20,27 @@ There are the slots 0 to 3: of reads, writes and read-modify-writes of banks, an
 Name one of these in the first byte of the control data.";
 
 const MEMORY: &str = "\
-The target was refused memory while the program was published. Nothing was changed.
+The target was refused memory while the program was published. What is published is as it was.
 Load it again; the staged bytes are still there.";
 
 const GENERATIONS_FULL: &str = "\
 4,294,967,295 programs were published, and generations have no more numbers.
 Start the node anew.";
+
+/// What the code of a load adds to the number of the fault of a staged image.
+const IMAGE_FAULTS: u8 = 32;
+
+/// The refusal that has this code, of the fault of an image or of the verifier.
+fn refusal_of_program(code: u8) -> Option<LoadRefusal>
+    ensures value { result ≡ program_refusal_of_code code }
+    ensures number { IfSome result (λ refusal. load_refusal_code refusal ≡ code) }
+{
+    if code < IMAGE_FAULTS {
+        let code = Refusal::from_code(code)?;
+        return Some(LoadRefusal::Program(Refused { code, slot: 0 }));
+    }
+    Some(LoadRefusal::Image(ImageFault::from_code(code - IMAGE_FAULTS)?))
+}
 
 /// Why a load is refused. It is tested in the order of the variants; the last two come in publishing, for which
 /// memory is taken only while generations are not full.
@@ -55,17 +70,34 @@ impl LoadRefusal {
     /// The number by which the load result names the refusal: 71 for control data, 66 for a slot, 32 more than
     /// the number of an image's fault, the number of the verifier's refusal, and in publishing 65 for memory and
     /// 67 where generations are full.
-    #[tactic(auto, using(crate::proofs::Refusals::image_codes_few))]
+    #[tactic(auto, using(crate::proofs::Refusals::image_codes_few, crate::proofs::Codes::code_is_read))]
     pub fn code(self) -> u8
-        ensures { result ≡ load_refusal_code self }
+        ensures value { result ≡ load_refusal_code self }
+        ensures back { load_refusal_of_code result ≡ Some (named_refusal self) }
     {
         match self {
             LoadRefusal::Control => 71,
             LoadRefusal::Slot => 66,
-            LoadRefusal::Image(fault) => 32 + fault.code(),
+            LoadRefusal::Image(fault) => IMAGE_FAULTS + fault.code(),
             LoadRefusal::Program(refused) => refused.number(),
             LoadRefusal::Memory => 65,
             LoadRefusal::GenerationsFull => 67,
+        }
+    }
+
+    /// The refusal of a code, as [`LoadRefusal::code`] gives it. `None` where no refusal has it. A code does not tell the
+    /// slot, nor which fault of an instruction it is: the verifier's refusals are at slot 0, and of the faults of
+    /// instructions it is `Opcode` at slot 0.
+    pub fn from_code(code: u8) -> Option<LoadRefusal>
+        ensures value { result ≡ load_refusal_of_code code }
+        ensures number { IfSome result (λ refusal. load_refusal_code refusal ≡ code) }
+    {
+        match code {
+            65 => Some(LoadRefusal::Memory),
+            66 => Some(LoadRefusal::Slot),
+            67 => Some(LoadRefusal::GenerationsFull),
+            71 => Some(LoadRefusal::Control),
+            _ => refusal_of_program(code),
         }
     }
 
@@ -82,8 +114,8 @@ impl LoadRefusal {
     }
 
     /// The slot of the image at which it was refused, or 0 where there is none.
-    pub fn place(self) -> u16
-        ensures { result ≡ load_refusal_place self }
+    pub fn slot(self) -> u16
+        ensures { result ≡ load_refusal_slot self }
     {
         match self {
             LoadRefusal::Image(fault) => fault.slot(),
@@ -107,12 +139,12 @@ impl LoadRefusal {
         }
     }
 
-    /// The load result: code, a zero byte, place, and generation 0, the most significant bytes first.
+    /// The load result: code, a zero byte, the slot of the image, and generation 0, the most significant bytes first.
     pub fn load_result(self) -> [u8; 8]
         ensures { result ≡ refused_result self }
     {
         let mut bytes = [self.code(), 0, 0, 0, 0, 0, 0, 0];
-        BigEndian::write_u16(&mut bytes[2..], self.place());
+        BigEndian::write_u16(&mut bytes[2..], self.slot());
         bytes
     }
 }

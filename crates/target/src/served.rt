@@ -13,7 +13,7 @@ use crate::staged::stage;
 use crate::step::{Step, judge};
 use crate::stop::Stop;
 use bank::{Applied, extents_stay};
-use publish::{Publisher, Room};
+use publish::{ProgramFamily, Publisher};
 use rmap::{Place, ReplyBuf, Status};
 use spw::Packet;
 use std::alloc::Global;
@@ -33,7 +33,7 @@ pub enum Served {
 }
 
 /// What becomes of a packet, whatever the node and the port.
-fn serve<J: Room, R: Wait + Drop>(
+fn serve<J: ProgramFamily, R: Wait + Drop>(
     alloc: Global,
     banks: &mut Banks,
     publisher: &mut Publisher<J, R>,
@@ -61,11 +61,11 @@ fn serve<J: Room, R: Wait + Drop>(
     }
 }
 
-/// Serves one packet that came in at the pass's port: judges it, and applies the verdict to the bank
-/// that it names, or to the port's staging, or loads what is staged there. `reply` holds the reply that is due
-/// then, if any. It takes memory and may wait for readers only where it loads. The condition is a pass with the
-/// number of banks; where banks and pass were made together each command that is judged is applied.
-pub fn serve_packet<J: Room, R: Wait + Drop>(
+/// Serves one packet that came in at the pass's port: judges it ([`judge`]), and applies the verdict to the bank that it
+/// names, or to the port's staging, or loads what is staged there. `reply` holds the reply that is due then, if any. It
+/// takes memory and may wait for readers only where it loads. The condition is a pass with the number of banks; where
+/// banks and pass were made together each command that is judged is applied.
+pub fn serve_packet<J: ProgramFamily, R: Wait + Drop>(
     alloc: Global,
     banks: &mut Banks,
     publisher: &mut Publisher<J, R>,

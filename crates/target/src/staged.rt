@@ -5,7 +5,7 @@ ghost use Rattle.target.specs.Served.{IsStagedAt};
 
 use crate::pass::Pass;
 use bank::{Judged, answer};
-use publish::{Room, Staging};
+use publish::{ProgramFamily, Staging};
 use rmap::{LOAD_REGISTER, Place, ReplyBuf, Status};
 
 /// Answers a judged command to the staging or to the load result, and leaves the reply: as a bank with room
@@ -27,7 +27,7 @@ pub fn answer_staged(staging: &mut Staging, judged: Judged, reply: &mut ReplyBuf
 /// Answers a judged command to the port's own staging, or to the result of its last load, and leaves the
 /// reply. There is no entry in a journal. The status is that of the reply. The condition is one of these two
 /// places.
-pub fn stage<J: Room>(pass: &mut Pass<J>, judged: Judged, reply: &mut ReplyBuf) -> Status
+pub fn stage<J: ProgramFamily>(pass: &mut Pass<J>, judged: Judged, reply: &mut ReplyBuf) -> Status
     requires { IsStagingPlace judged.place }
     ensures { IsStagedAt pass.old pass.new judged result reply.new }
 {

@@ -4,14 +4,14 @@ ghost use Rattle.std.specs.Prelude.{◌≡◌, IfErr, IfOk, OnErr};
 ghost use Rattle.publish.specs.Published.{sizes_of};
 ghost use Rattle.target.specs.Steps.{HasRun, IsJudgedByTaken, IsJudgedOnce, IsStep};
 
-use crate::bearing::Bearing;
 use crate::pass::Pass;
+use crate::run_context::RunContext;
 use crate::slots::slot;
 use crate::stop::{Stop, admit};
 use bank::{Admitted, Judged};
 use brun::run;
 use bver::Accepted;
-use publish::{Reader, Room};
+use publish::{ProgramFamily, Reader};
 use rmap::{Command, Discard, ReplyBuf, Status, put_reply};
 use spw::Packet;
 
@@ -30,71 +30,73 @@ pub enum Step {
 }
 
 /// The verdict of the program on the header of the command: one run.
-fn verdict(bearing: &mut Bearing, program: &Accepted, command: &Command) -> u64
-    requires { bearing.old.seat.sizes ≡ program.now.sizes }
-    ensures { HasRun program.now bearing.old bearing.new command.now result }
+fn verdict(context: &mut RunContext, program: &Accepted, command: &Command) -> u64
+    requires { context.old.seat.sizes ≡ program.now.sizes }
+    ensures { HasRun program.now context.old context.new command.now result }
 {
     run(
         program,
         command.front(),
         command.tail(),
-        bearing.port,
-        &mut bearing.stack,
-        &mut bearing.seat,
+        context.port,
+        &mut context.stack,
+        &mut context.seat,
     )
 }
 
-/// Judges an admitted command by the program of that generation: one run on its header, for the
-/// bearing's port. The condition is a program that was accepted for the maps of the bearing's counters.
+/// Judges an admitted command by the program of that generation: one run on its header, for the context's port. The
+/// condition is a program that was accepted for the maps at which the context has its seat.
 pub fn judge_by(
-    bearing: &mut Bearing,
+    context: &mut RunContext,
     program: &Accepted,
     generation: u32,
     admitted: Admitted,
 ) -> Judged
-    requires { bearing.old.seat.sizes ≡ program.now.sizes }
-    ensures { IsJudgedOnce program.now generation bearing.old bearing.new admitted result }
+    requires { context.old.seat.sizes ≡ program.now.sizes }
+    ensures { IsJudgedOnce program.now generation context.old context.new admitted result }
 {
-    let verdict = verdict(bearing, program, &admitted.command());
-    Judged::of(admitted, bearing.port, generation, verdict)
+    let verdict = verdict(context, program, &admitted.command());
+    Judged::of(admitted, context.port, generation, verdict)
 }
 
 /// Judges an admitted command by the program that the reader takes in the slot of its place: one run on its
 /// header. The command comes back where no program is given.
-fn judge_taken<J: Room>(
-    bearing: &mut Bearing,
+fn judge_taken<J: ProgramFamily>(
+    context: &mut RunContext,
     reader: &mut Reader<J>,
     admitted: Admitted,
 ) -> Result<Judged, Admitted>
-    requires { bearing.old.seat.sizes ≡ sizes_of reader.old.programs }
+    requires { context.old.seat.sizes ≡ sizes_of reader.old.programs }
     ensures judged { IfOk result (λ j.
         IsJudgedByTaken reader.old.programs reader.new.programs
-        bearing.old bearing.new admitted j) }
+        context.old context.new admitted j) }
     ensures back { IfErr result (λ back. back ≡ admitted) }
-    ensures same { OnErr result ((bearing.new ≡ bearing.old) × (reader.new ≡ reader.old)) }
+    ensures same { OnErr result ((context.new ≡ context.old) × (reader.new ≡ reader.old)) }
     ensures sizes { sizes_of reader.new.programs ≡ sizes_of reader.old.programs }
 {
     let slot = slot(admitted.command().kind(), admitted.place());
     match reader.take(slot) {
         Some(taken) => {
             let accepted = taken.accepted();
-            Ok(judge_by(bearing, accepted, taken.generation(), admitted))
+            Ok(judge_by(context, accepted, taken.generation(), admitted))
         }
         None => Err(admitted),
     }
 }
 
-/// Judges a packet: discards it, answers it by its header, or runs the program of its place's slot on the
-/// header of its command. `reply` holds the reply that is due then, if any.
-pub fn judge<J: Room>(pass: &mut Pass<J>, packet: Packet, reply: &mut ReplyBuf) -> Step
+/// Judges a packet: discards it, answers it by its header, or runs the program that the port's reader takes in the slot of
+/// its place on the header of its command. That is the program that some list of publishes has there which begins with
+/// all that the port knew; that it is the last published, and that one is taken at all, is tested. `reply` holds the reply
+/// that is due then, if any.
+pub fn judge<J: ProgramFamily>(pass: &mut Pass<J>, packet: Packet, reply: &mut ReplyBuf) -> Step
     ensures step { IsStep result packet pass.old pass.new reply.new }
 {
-    let admitted = match admit(packet, &pass.bearing.windows, reply) {
+    let admitted = match admit(packet, &pass.context.windows, reply) {
         Ok(admitted) => admitted,
         Err((Stop::Discarded(discard), packet)) => return Step::Discarded(discard, packet),
         Err((Stop::Answered(status), packet)) => return Step::Answered(status, packet),
     };
-    let judged = match judge_taken(&mut pass.bearing, &mut pass.reader, admitted) {
+    let judged = match judge_taken(&mut pass.context, &mut pass.reader, admitted) {
         Ok(judged) => judged,
         Err(admitted) => {
             put_reply(reply, &admitted.command(), Status::GeneralError, &[]);

@@ -1,6 +1,6 @@
 -- A printed image stands in the text relation.
-use Rattle.std.proofs.Common.{◌≡◌, ℕ, ◌+◌, Bool, true, false, List, [], ◌∷◌, ◌++◌, length, Option, Some, None, is_some, refl, sym, ap, ◌∙◌, subst, append-nil, append_assoc, eqb-true}
-use Rattle.std.specs.Prelude.{◌↔◌, ◌==◌, if◌then◌else◌, codes, decimal}
+use Rattle.std.proofs.Common.{◌≡◌, ℕ, ◌+◌, Bool, true, false, List, [], ◌∷◌, ◌++◌, length, Option, Some, None, is_some, refl, sym, ap, ◌∙◌, subst, append-nil, append_assoc}
+use Rattle.std.specs.Prelude.{◌↔◌, codes, decimal}
 use Rattle.std.specs.List.{flat_map}
 use Rattle.std.proofs.lemmas.List.Sorted.{IsPermutation-refl}
 use Rattle.bpf_insn.specs.declared.insn.Insn.{Insn}
@@ -9,10 +9,12 @@ use Rattle.bpf_insn.specs.Text.{insn_text}
 use Rattle.bpf_parts.specs.Text.{register_text}
 use Rattle.bpf.specs.declared.loops.Loop.{Loop}
 use Rattle.bpf.specs.Parts.{placed_slots, second_slots}
-use Rattle.bpf.specs.Program.{AreLoops, AreSlots, IsProgram, IsVersion, Program}
+use Rattle.bpf.specs.Program.{AreLoops, AreSlots, IsProgram, Program}
+use Rattle.bpf.specs.declared.version.Version.{Version}
+use Rattle.bpf.specs.declared.version.Version.TheVariants.{One, Two}
 use Rattle.basm.specs.Printed.{budget_line, loop_line, printed_image, slot_line, version_line}
 use Rattle.basm.specs.Relation.{Defines, IsText, IsVersionOf, Item, budget_in, insn_in, loop_in, version_in}
-use Rattle.basm.specs.Relation.Item.{Nothing, Version, Budget, OneLoop, Code}
+use Rattle.basm.specs.Relation.Item.{Nothing, OneVersion, Budget, OneLoop, Code}
 use Rattle.basm.proofs.Printed.Insns.{PrintedWords}
 use Rattle.basm.proofs.Printed.Items.{ArePrinted, item_line, lines_say, no_names, text_of}
 
@@ -25,8 +27,9 @@ abbrev loop_items : List Loop → List Item → List Item
 loop_items [] rest = rest
 loop_items (l ∷ ls) rest = OneLoop l ∷ loop_items ls rest
 
-abbrev version_items : ℕ → List Item → List Item
-version_items version rest = if version == 1 then rest else Version version ∷ rest
+abbrev version_items : Version → List Item → List Item
+version_items One rest = rest
+version_items Two rest = OneVersion Two ∷ rest
 
 -- the items behind the version
 abbrev items_behind : Program → List Item
@@ -38,15 +41,12 @@ items_of p = version_items p.version (items_behind p)
 
 -- ---- the text is that of the items
 
-version_printed : (version : ℕ) (rest : List Item) → version_line version ++ text_of rest ≡ text_of (version_items version rest)
-version_printed version rest = at (version == 1)
-  where
-    front : (name number end more : List ℕ) → (name ++ number ++ end) ++ more ≡ (name ++ (number ++ [])) ++ (end ++ more)
-    front name number end more = simp (append_assoc, append-nil)
+line_printed : (name number end more : List ℕ) → (name ++ number ++ end) ++ more ≡ (name ++ (number ++ [])) ++ (end ++ more)
+line_printed name number end more = simp (append_assoc, append-nil)
 
-    at : (first : Bool) → (if first then [] else codes ".version " ++ decimal version ++ codes "\n") ++ text_of rest ≡ text_of (if first then rest else Version version ∷ rest)
-    at true = refl
-    at false = front (codes ".version ") (decimal version) (codes "\n") (text_of rest)
+version_printed : (version : Version) (rest : List Item) → version_line version ++ text_of rest ≡ text_of (version_items version rest)
+version_printed One rest = refl
+version_printed Two rest = line_printed (codes ".version ") (decimal 2) (codes "\n") (text_of rest)
 
 budget_printed : (budget : ℕ) (rest : List ℕ) → budget_line budget ++ rest ≡ item_line (Budget budget) ++ 10 ∷ rest
 budget_printed budget rest = simp append_assoc
@@ -103,16 +103,13 @@ are_loops : (slots least : ℕ) (ls : List Loop) (rest : List Item) → AreLoops
 are_loops slots least [] rest loops are = are
 are_loops slots least (l ∷ ls) rest loops are = (loops.1, are_loops slots (l.head + 1) ls rest loops.2 are)
 
-versions_printed : (slots version : ℕ) (rest : List Item) → IsVersion version → ArePrinted slots rest → ArePrinted slots (version_items version rest)
-versions_printed slots version rest is are = at (version == 1)
-  where
-    at : (first : Bool) → ArePrinted slots (if first then rest else Version version ∷ rest)
-    at true = are
-    at false = (is, are)
+versions_printed : (slots : ℕ) (version : Version) (rest : List Item) → ArePrinted slots rest → ArePrinted slots (version_items version rest)
+versions_printed slots One rest are = are
+versions_printed slots Two rest are = (tt, are)
 
 are_printed : (p : Program) → IsProgram p → ArePrinted (length p.slots) (items_of p)
 are_printed p is =
-    versions_printed (length p.slots) p.version (items_behind p) is.version
+    versions_printed (length p.slots) p.version (items_behind p)
     (is.budget, are_loops (length p.slots) 0 p.loops (slot_items p.slots) is.loops (are_slots (length p.slots) false p.slots is.code))
 
 -- ---- version, budget, loops and instructions of the items
@@ -126,23 +123,14 @@ loops_no_version : (ls : List Loop) (xs : List (Option Insn)) → flat_map versi
 loops_no_version [] xs = slots_no_version xs
 loops_no_version (l ∷ ls) xs = loops_no_version ls xs
 
-version_again : (version : ℕ) (rest : List Item) → flat_map version_in (rest ++ Nothing ∷ []) ≡ [] → IsVersionOf (flat_map version_in (version_items version rest ++ Nothing ∷ [])) version
-version_again version rest none = at (version == 1) refl
-  where
-    P : List ℕ → Type 0
-    P declared = IsVersionOf declared version
-
-    at : (first : Bool) → (version == 1) ≡ first → IsVersionOf (flat_map version_in ((if first then rest else Version version ∷ rest) ++ Nothing ∷ [])) version
-    at true is = subst P (sym none) (eqb-true version 1 is)
-    at false other = let Q : List ℕ → Type 0 = λ more. IsVersionOf (version ∷ more) version in subst Q (sym none) refl
+version_again : (version : Version) (rest : List Item) → flat_map version_in (rest ++ Nothing ∷ []) ≡ [] → IsVersionOf (flat_map version_in (version_items version rest ++ Nothing ∷ [])) version
+version_again One rest none = let P : List Version → Type 0 = λ declared. IsVersionOf declared One in subst P (sym none) refl
+version_again Two rest none = let P : List Version → Type 0 = λ more. IsVersionOf (Two ∷ more) Two in subst P (sym none) refl
 
 -- a version declares nothing else
-behind_version : {X : Type 0} (f : Item → List X) (version : ℕ) (rest : List Item) → f (Version version) ≡ [] → flat_map f (version_items version rest ++ Nothing ∷ []) ≡ flat_map f (rest ++ Nothing ∷ [])
-behind_version f version rest none = at (version == 1)
-  where
-    at : (first : Bool) → flat_map f ((if first then rest else Version version ∷ rest) ++ Nothing ∷ []) ≡ flat_map f (rest ++ Nothing ∷ [])
-    at true = refl
-    at false = ap (λ front. front ++ flat_map f (rest ++ Nothing ∷ [])) none
+behind_version : {X : Type 0} (f : Item → List X) (version : Version) (rest : List Item) → f (OneVersion version) ≡ [] → flat_map f (version_items version rest ++ Nothing ∷ []) ≡ flat_map f (rest ++ Nothing ∷ [])
+behind_version f One rest none = refl
+behind_version f Two rest none = ap (λ front. front ++ flat_map f (rest ++ Nothing ∷ [])) none
 
 slots_no_budget : (xs : List (Option Insn)) → flat_map budget_in (slot_items xs ++ Nothing ∷ []) ≡ []
 slots_no_budget [] = refl

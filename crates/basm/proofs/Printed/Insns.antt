@@ -5,7 +5,7 @@ use Rattle.std.specs.Fmt.{signed_decimal}
 use Rattle.std.specs.Int.{w16, w32}
 use Rattle.std.specs.List.{slice_split}
 use Rattle.std.proofs.lemmas.Int.{ints}
-use Rattle.bpf_parts.specs.declared.memory.Place.{Place}
+use Rattle.bpf_parts.specs.declared.memory.MemoryOperand.{MemoryOperand}
 use Rattle.bpf_parts.specs.declared.operation.Operand.{Operand}
 use Rattle.bpf_parts.specs.declared.operation.Operand.TheVariants.{FromRegister, Immediate}
 use Rattle.bpf_parts.specs.declared.address.Address.{Address}
@@ -17,10 +17,10 @@ use Rattle.bpf_parts.specs.Codes.{address_first, address_second, address_subtype
 use Rattle.bpf_insn.specs.Spelling.{IsInsn}
 use Rattle.bpf_parts.specs.Operands.{IsOperand}
 use Rattle.bpf_insn.specs.Text.{bits_text, insn_name, insn_operands, name_with_operands}
-use Rattle.bpf_parts.specs.Text.{operand_text, place_text, register_text, signed_text}
+use Rattle.bpf_parts.specs.Text.{operand_text, memory_operand_text, register_text, signed_text}
 use Rattle.basm_lex.specs.Lines.{operands_of, word_of}
 use Rattle.basm_lex.specs.Numbers.{WritesDistance, WritesNumber, WritesWide}
-use Rattle.basm_lex.specs.Places.{WritesPlace}
+use Rattle.basm_lex.specs.Operands.{WritesMemoryOperand}
 use Rattle.basm_lex.specs.Printed.{AreWords, IsWord}
 use Rattle.basm.specs.Relation.{WritesOperand, WritesOperands}
 
@@ -29,7 +29,7 @@ pub record PrintedWords : Type 0 where
   pub number : (n : ℕ) → n < 2 ^ 31 → WritesNumber (decimal n) (pos n)
   pub signed : (z : ℤ) → FitsSigned w32 z → WritesNumber (signed_decimal z) z
   pub distance : (z : ℤ) → FitsSigned w32 z → WritesDistance (signed_text z) z
-  pub place : (place : Place) → place.base ≤ 10 → FitsSigned w16 place.offset → WritesPlace (place_text place) place
+  pub place : (place : MemoryOperand) → place.base ≤ 10 → FitsSigned w16 place.offset → WritesMemoryOperand (memory_operand_text place) place
   pub constant : (value : ℕ) → value < 2 ^ 64 → WritesWide (bits_text value) value
   pub numeral : (n : ℕ) → n < 2 ^ 64 → IsWord (decimal n)
   pub register : (number : ℕ) → number ≤ 10 → IsWord (register_text number)

@@ -1,21 +1,24 @@
 -- The printed line of each item says it.
-use Rattle.std.proofs.Common.{◌≡◌, ℕ, ◌+◌, ◌<◌, ◌≤◌, List, [], ◌∷◌, ◌++◌, Option, inl, inr, refl, sym, arith, subst}
+use Rattle.std.proofs.Common.{◌≡◌, ℕ, ◌+◌, ◌<◌, ◌≤◌, List, [], ◌∷◌, ◌++◌, Option, inr, refl, sym, arith, subst}
 use Rattle.std.specs.Prelude.{◌==◌, codes, decimal}
 use Rattle.std.specs.List.{slice_split}
 use Rattle.bpf_insn.specs.Spelling.{IsInsn}
 use Rattle.bpf_insn.specs.Text.{insn_name, insn_operands, name_with_operands}
 use Rattle.bpf_parts.specs.Text.{register_text}
-use Rattle.bpf.specs.Program.{IsBudget, IsLoop, IsVersion}
+use Rattle.bpf.specs.declared.version.Version.{Version}
+use Rattle.bpf.specs.declared.version.Version.TheVariants.{One, Two}
+use Rattle.bpf.specs.Program.{IsBudget, IsLoop}
+use Rattle.bpf.specs.Version.{version_number}
 use Rattle.basm_lex.specs.Lines.{code_of, operands_of, rest_of, word_of}
 use Rattle.basm.specs.Relation.{AreLines, IsLine, Item, slots_in, names_from}
-use Rattle.basm.specs.Relation.Item.{Nothing, Label, Version, Budget, OneLoop, Code}
+use Rattle.basm.specs.Relation.Item.{Nothing, Label, OneVersion, Budget, OneLoop, Code}
 use Rattle.basm_lex.specs.Printed.{AreWords, IsWord}
 use Rattle.basm.proofs.Printed.Insns.{PrintedWords, operands_write}
 
 abbrev pub item_name : Item → List ℕ
 item_name Nothing = []
 item_name (Label name) = []
-item_name (Version n) = codes ".version"
+item_name (OneVersion version) = codes ".version"
 item_name (Budget n) = codes ".budget"
 item_name (OneLoop l) = codes ".loop"
 item_name (Code insn) = insn_name insn
@@ -23,7 +26,7 @@ item_name (Code insn) = insn_name insn
 abbrev pub item_operands : Item → List (List ℕ)
 item_operands Nothing = []
 item_operands (Label name) = []
-item_operands (Version n) = decimal n ∷ []
+item_operands (OneVersion version) = decimal (version_number version) ∷ []
 item_operands (Budget n) = decimal n ∷ []
 item_operands (OneLoop l) = decimal l.head ∷ decimal l.back ∷ decimal l.bound ∷ register_text l.register ∷ []
 item_operands (Code insn) = insn_operands insn
@@ -36,7 +39,7 @@ item_line item = name_with_operands (item_name item) (item_operands item)
 abbrev pub IsPrinted : (slots : ℕ) → Item → Type 0
 IsPrinted slots Nothing = ⊥
 IsPrinted slots (Label name) = ⊥
-IsPrinted slots (Version n) = IsVersion n
+IsPrinted slots (OneVersion version) = Unit {0}
 IsPrinted slots (Budget n) = IsBudget n
 IsPrinted slots (OneLoop l) = IsLoop slots l
 IsPrinted slots (Code insn) = IsInsn insn
@@ -45,15 +48,15 @@ abbrev pub ArePrinted : (slots : ℕ) → List Item → Type 0
 ArePrinted slots [] = Unit {0}
 ArePrinted slots (item ∷ items) = IsPrinted slots item × ArePrinted slots items
 
--- a version is a small number
-version_low : (n : ℕ) → IsVersion n → n < 3
-version_low n (inl first) = omega arith
-version_low n (inr second) = omega arith
+-- the number of a version is small
+version_low : (version : Version) → version_number version < 3
+version_low One = omega arith
+version_low Two = omega arith
 
 item_word : PrintedWords → (slots : ℕ) (item : Item) → IsPrinted slots item → IsWord (item_name item)
 item_word laws slots Nothing is = absurd is
 item_word laws slots (Label name) is = absurd is
-item_word laws slots (Version n) is = refl
+item_word laws slots (OneVersion version) is = refl
 item_word laws slots (Budget n) is = refl
 item_word laws slots (OneLoop l) is = refl
 item_word laws slots (Code insn) is = laws.name insn
@@ -61,7 +64,7 @@ item_word laws slots (Code insn) is = laws.name insn
 item_words : PrintedWords → (slots : ℕ) → slots ≤ 512 → (item : Item) → IsPrinted slots item → AreWords (item_operands item)
 item_words laws slots few Nothing is = absurd is
 item_words laws slots few (Label name) is = absurd is
-item_words laws slots few (Version n) is = let low = version_low n is in (laws.numeral n (omega arith), tt)
+item_words laws slots few (OneVersion version) is = let low = version_low version in (laws.numeral (version_number version) (omega arith), tt)
 item_words laws slots few (Budget n) is = (laws.numeral n (omega (arith, is.1)), tt)
 item_words laws slots few (OneLoop l) is = (
   laws.numeral l.head (omega (arith, is.ordered, is.within)),
@@ -77,8 +80,8 @@ words_say : PrintedWords → (names : List ℕ → Option ℕ) (slots slot : ℕ
     → word_of line ≡ item_name item → operands_of line ≡ item_operands item → IsLine names slot line item
 words_say laws names slots slot few Nothing is line word operands = absurd is
 words_say laws names slots slot few (Label name) is line word operands = absurd is
-words_say laws names slots slot few (Version n) is line word operands =
-    let low = version_low n is in (word, rw operands (laws.number n (omega arith)))
+words_say laws names slots slot few (OneVersion version) is line word operands =
+    let low = version_low version in (word, rw operands (laws.number (version_number version) (omega arith)))
 words_say laws names slots slot few (Budget n) is line word operands =
     (word, rw operands (laws.number n (omega (arith, is.1))))
 words_say laws names slots slot few (OneLoop l) is line word operands = (
@@ -124,7 +127,7 @@ pub no_names : (slots slot : ℕ) (items : List Item) → ArePrinted slots items
 no_names slots slot [] are = refl
 no_names slots slot (Nothing ∷ items) are = absurd are.0
 no_names slots slot (Label name ∷ items) are = absurd are.0
-no_names slots slot (Version n ∷ items) are = no_names slots (slot + 0) items are.1
+no_names slots slot (OneVersion version ∷ items) are = no_names slots (slot + 0) items are.1
 no_names slots slot (Budget n ∷ items) are = no_names slots (slot + 0) items are.1
 no_names slots slot (OneLoop l ∷ items) are = no_names slots (slot + 0) items are.1
 no_names slots slot (Code insn ∷ items) are = no_names slots (slot + slots_in (Code insn)) items are.1

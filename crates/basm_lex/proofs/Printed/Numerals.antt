@@ -9,11 +9,11 @@ use Rattle.std.proofs.lemmas.Bool.{cond_both, eqb-false}
 use Rattle.std.proofs.Math.ListN.{length-replicate}
 use Rattle.std.proofs.lemmas.Fmt.{decimal_is_IsNumeral, digits_is_IsNumeral}
 use Rattle.std.proofs.Math.Nat.{pow-suc}
-use Rattle.bpf_parts.specs.declared.memory.Place.{Place}
+use Rattle.bpf_parts.specs.declared.memory.MemoryOperand.{MemoryOperand}
 use Rattle.bpf_insn.specs.Text.{bits_text}
-use Rattle.bpf_parts.specs.Text.{place_text, signed_text}
+use Rattle.bpf_parts.specs.Text.{memory_operand_text, signed_text}
 use Rattle.basm_lex.specs.Numbers.{WritesDecimal, WritesDistance, WritesMagnitude, WritesNumber, WritesWide}
-use Rattle.basm_lex.specs.Places.{WritesPlace}
+use Rattle.basm_lex.specs.Operands.{WritesMemoryOperand}
 
 -- ---- decimals
 
@@ -51,9 +51,9 @@ pub short_distance_writes : (z : ℤ) → FitsSigned w16 z → WritesDistance (s
 short_distance_writes (pos n) fits = let wide : FitsSigned w32 (pos n) = omega arith in distance_writes (pos n) wide
 short_distance_writes (negsuc n) fits = let wide : FitsSigned w32 (negsuc n) = omega arith in distance_writes (negsuc n) wide
 
--- ---- places
+-- ---- memory operands
 
-pub place_writes : (place : Place) → place.base ≤ 10 → FitsSigned w16 place.offset → WritesPlace (place_text place) place
+pub place_writes : (place : MemoryOperand) → place.base ≤ 10 → FitsSigned w16 place.offset → WritesMemoryOperand (memory_operand_text place) place
 place_writes place small fits =
     record { distance = signed_text place.offset; is_base = small; word_is = refl; writes = short_distance_writes place.offset fits; fits = fits }
 

@@ -1,4 +1,4 @@
--- What is printed of registers, numbers, places and names are words.
+-- What is printed of registers, numbers, memory operands and names are words.
 use Rattle.std.proofs.Common.{ℕ, suc, ◌^◌, ◌<◌, ◌≤◌, ℤ, pos, negsuc, ◌++◌, arith, refl, lit≤}
 use Rattle.std.specs.Prelude.{codes, decimal, FitsSigned}
 use Rattle.std.specs.Int.{w16, w32}
@@ -7,9 +7,9 @@ use Rattle.std.proofs.lemmas.Fmt.{decimal_is_IsNumeral}
 use Rattle.bpf_parts.specs.declared.operation.Operand.{Operand}
 use Rattle.bpf_parts.specs.declared.operation.Operand.TheVariants.{FromRegister, Immediate}
 use Rattle.bpf_parts.specs.Operands.{IsOperand}
-use Rattle.bpf_parts.specs.declared.memory.Place.{Place}
+use Rattle.bpf_parts.specs.declared.memory.MemoryOperand.{MemoryOperand}
 use Rattle.bpf_insn.specs.Text.{bits_text}
-use Rattle.bpf_parts.specs.Text.{operand_text, place_text, register_text, signed_text}
+use Rattle.bpf_parts.specs.Text.{operand_text, memory_operand_text, register_text, signed_text}
 use Rattle.basm_lex.proofs.Printed.Numerals.{padded, padded_numeral}
 use Rattle.basm_lex.specs.Printed.{IsWord}
 use Rattle.basm_lex.proofs.Printed.Plain.{plain_before, plain_word, word_append, word_numeral}
@@ -40,7 +40,7 @@ pub bits_word : (value : ℕ) → value < 2 ^ 64 → IsWord (bits_text value)
 bits_word value small =
     plain_before (codes "0x") (padded value) refl (word_numeral 16 (lit≤ tt) (padded value) (padded_numeral value small))
 
-pub place_word : (place : Place) → place.base ≤ 10 → FitsSigned w16 place.offset → IsWord (place_text place)
+pub place_word : (place : MemoryOperand) → place.base ≤ 10 → FitsSigned w16 place.offset → IsWord (memory_operand_text place)
 place_word place small fits =
     let base = register_text place.base in
     let offset = signed_text place.offset in

@@ -15,7 +15,7 @@ use Rattle.absdom.specs.declared.kinds.AbsKind.{AbsKind}
 use Rattle.absdom.specs.declared.kinds.AbsKind.TheVariants.{Unset, Num, Ptr, Map}
 use Rattle.absdom.specs.Kinds.{IsKindBelow}
 use Rattle.absdom.specs.Marks.{mark_at}
-use Rattle.absdom.specs.Places.{AreAllWhole, all_whole, range_in}
+use Rattle.absdom.specs.StackWords.{AreAllWhole, all_whole, range_in}
 use Rattle.absdom.specs.State.{AreBelow, IsBelow, IsEntry, IsProper, IsWhole, StateValue, entry_kinds, kind_in}
 
 -- ---- states
@@ -24,10 +24,10 @@ use Rattle.absdom.specs.State.{AreBelow, IsBelow, IsEntry, IsProper, IsWhole, St
 pub no_marks : List Bool
 no_marks = replicate 512 false
 
--- nothing is known of any place of the stack
-whole_place : AreAllWhole all_whole
+-- nothing is known of any word of the stack
+whole_word : AreAllWhole all_whole
 unfolding all_whole
-whole_place place = same_everywhere 64 place
+whole_word word = same_everywhere 64 word
   where
     same_everywhere : (count k : ℕ) → range_in (replicate count (whole_range Bits64)) k ≡ whole_range Bits64
     same_everywhere zero k = refl
@@ -107,7 +107,7 @@ pub below : {j0 j1 j2 j6 j7 j8 j9 k0 k1 k2 k6 k7 k8 k9 : AbsKind}
 below {j0 = j0} {j1 = j1} {j2 = j2} {j6 = j6} {j7 = j7} {j8 = j8} {j9 = j9} {k0 = k0} {k1 = k1} {k2 = k2} {k6 = k6} {k7 = k7} {k8 = k8} {k9 = k9} h0 h1 h2 h6 h7 h8 h9 = record {
   kinds = each_below (listed j0 j1 j2 j6 j7 j8 j9) (listed k0 k1 k2 k6 k7 k8 k9) (h0, (h1, (h2, (tt, (tt, (tt, (h6, (h7, (h8, (h9, (tt, tt)))))))))));
   marks = λ place h. h;
-  ranges = λ place. same_range (range_in all_whole place);
+  ranges = λ word. same_range (range_in all_whole word);
 }
 
 pub below_in_rules : {j0 j1 j2 k0 k1 k2 : AbsKind} → IsKindBelow j0 k0 → IsKindBelow j1 k1 → IsKindBelow j2 k2 → IsBelow (in_rules j0 j1 j2) (in_rules k0 k1 k2)
@@ -128,9 +128,9 @@ many_marks : length no_marks ≡ 512
 unfolding no_marks
 many_marks = length-replicate 512 false
 
-many_places : length all_whole ≡ 64
+many_words : length all_whole ≡ 64
 unfolding all_whole
-many_places = length-replicate 64 (whole_range Bits64)
+many_words = length-replicate 64 (whole_range Bits64)
 
 pub proper_number : IsProper number
 proper_number = record { in_order = omega arith; words = omega arith }
@@ -144,10 +144,10 @@ proper_tail = omega arith
 pub whole : {k0 k1 k2 k6 k7 k8 k9 : AbsKind} → IsProper k0 → IsProper k1 → IsProper k2 → IsProper k6 → IsProper k7 → IsProper k8 → IsProper k9
     → IsWhole (known k0 k1 k2 k6 k7 k8 k9)
 whole {k0 = k0} {k1 = k1} {k2 = k2} {k6 = k6} {k7 = k7} {k8 = k8} {k9 = k9} h0 h1 h2 h6 h7 h8 h9 = record {
-  sizes = record { registers = refl; bytes = many_marks; places = many_places };
+  sizes = record { registers = refl; bytes = many_marks; words = many_words };
   kinds = each_proper (listed k0 k1 k2 k6 k7 k8 k9) (h0, (h1, (h2, (tt, (tt, (tt, (h6, (h7, (h8, (h9, (tt, tt)))))))))));
-  ranges = λ place. rw (whole_place place) proper_number;
-  unset = λ place unset. whole_place place;
+  ranges = λ word. rw (whole_word word) proper_number;
+  unset = λ word unset. whole_word word;
 }
 
 pub whole_in_rules : {k0 k1 k2 : AbsKind} → IsProper k0 → IsProper k1 → IsProper k2 → IsWhole (in_rules k0 k1 k2)
@@ -166,7 +166,7 @@ unmarked (suc count) (suc place) = unmarked count place
 
 pub is_entry : IsEntry entry
 unfolding entry no_marks
-is_entry = record { kinds = refl; marks = unmarked 512; ranges = whole_place }
+is_entry = record { kinds = refl; marks = unmarked 512; ranges = whole_word }
 
 -- the first instructions need the two pointers alone
 pub entry_below : IsBelow entry (known Unset front tail Unset Unset Unset Unset)
@@ -174,7 +174,7 @@ unfolding entry
 entry_below = record {
   kinds = each_below entry_kinds (listed Unset front tail Unset Unset Unset Unset) (tt, (same_front, (same_tail, (tt, (tt, (tt, (tt, (tt, (tt, (tt, (tt, tt)))))))))));
   marks = λ place h. h;
-  ranges = λ place. same_range (range_in all_whole place);
+  ranges = λ word. same_range (range_in all_whole word);
 }
 
 -- ---- a number that is moved

@@ -1,6 +1,7 @@
 -- Slots that are justified from one on, each by what is known there.
 use Rattle.std.specs.Prelude.{ℤ, pos, negsuc, IfSome, IsSome, slice_index_or}
 use Rattle.std.proofs.Common.{◌≡◌, ℕ, zero, suc, ◌+◌, List, ◌∷◌, length, Option, Some, None, sym, ap, subst, arith}
+use Rattle.bpf.specs.declared.version.Version.TheVariants.{One}
 use Rattle.bpf_insn.specs.declared.insn.Insn.{Insn}
 use Rattle.bpf_insn.specs.declared.insn.Insn.TheVariants.{Alu, Negate, MoveSigned, ByteSwap, Load, Store, Jump, Goto, Wide, LoadMap, LoadAddress, Call, Exit}
 use Rattle.bpf_parts.specs.Operands.{distance_of}
@@ -26,7 +27,7 @@ LandsIn slots slot (negsuc n) = ⊥
 pub record IsServed (sizes : Maps) (table : Knowledge) (slots : List (Option Insn)) (slot : ℕ) (a : StateValue) (insn : Insn) : Type 0 where
   pub whole : IsWhole a
   pub permitted : IsPermitted Forgets sizes table slot a insn
-  pub supported : IsSupported 1 insn
+  pub supported : IsSupported One insn
   pub leaves_frame : LeavesFrame insn
   pub lands : IfSome (jump_distance insn) (LandsIn slots slot)
 

@@ -2,7 +2,10 @@
 use Rattle.std.specs.Prelude.{◌==◌, ℤ, pos, IfOk, IfSome, IsOk, IsSome, IsTrue, Result, Ok, Err, slice_index, slice_index_or}
 use Rattle.std.proofs.Common.{◌≡◌, ◌<◌, ◌+◌, ℕ, suc, false, List, [], ◌∷◌, Option, Some, None, refl, sym, ap, ◌∙◌, subst, arith}
 use Rattle.std.proofs.lemmas.Bool.{eqb-false}
-use Rattle.bpf_parts.specs.declared.callee.Callee.TheVariants.{Helper}
+use Rattle.bpf.specs.declared.version.Version.TheVariants.{One}
+use Rattle.bpf_parts.specs.declared.callee.Callee.TheVariants as callees
+use Rattle.machine.specs.declared.helpers.Helper.TheVariants.{Ticket}
+use Rattle.machine.specs.Helpers.{helper_number}
 use Rattle.bpf_parts.specs.declared.memory.LoadSize.{LoadSize}
 use Rattle.bpf_parts.specs.declared.operation.AluOp.{AluOp}
 use Rattle.bpf_parts.specs.declared.operation.Condition.{Condition}
@@ -65,7 +68,7 @@ begun sizes behind there slots h = record {
 
 module _ (sizes : Maps) (a next : StateValue) (behind : ℕ) (there : Option StateValue) (slots : List (Option Insn)) (whole : IsWhole a) where
   one_before : (insn : Insn) → ((table : Knowledge) → table 1 ≡ Some next → IsPermitted Forgets sizes table 0 a insn)
-      → IsSupported 1 insn → LeavesFrame insn → jump_distance insn ≡ None
+      → IsSupported One insn → LeavesFrame insn → jump_distance insn ≡ None
       → IsJustifiedFrom sizes next behind there slots → IsJustifiedFrom sizes a (suc behind) there (Some insn ∷ slots)
   one_before insn permits supported leaves_frame straight rest =
       let table : Knowledge = before (Some a) rest.table in
@@ -159,9 +162,9 @@ test_before transitive shrinks sizes next less behind slots condition dst src wh
 -- ---- a ticket
 
 pub call_before : BelowIsReflexive → (sizes : Maps) (map cell behind : ℕ) (slots : List (Option Insn)) → IsWhole (drawing map cell) → cell < slice_index sizes.cells map → kind_of_map sizes map ≡ Counter
-    → IsJustifiedTo sizes comparing behind slots → IsJustifiedTo sizes (drawing map cell) (suc behind) (Some (Call Helper (pos 2)) ∷ slots)
+    → IsJustifiedTo sizes comparing behind slots → IsJustifiedTo sizes (drawing map cell) (suc behind) (Some (Call callees.Helper (pos (helper_number Ticket))) ∷ slots)
 call_before reflexive sizes map cell behind slots whole inside counter rest =
-    one_before sizes (drawing map cell) comparing behind (Some between) slots whole (Call Helper (pos 2))
+    one_before sizes (drawing map cell) comparing behind (Some between) slots whole (Call callees.Helper (pos (helper_number Ticket)))
     (λ table is. (record { cell = inside; given = λ takes. absurd cc; kind = rw counter refl }, subst (λ (o : Option StateValue). IsCovered comparing o) (sym is) (reflexive comparing)))
     refl tt refl rest
 

@@ -6,6 +6,8 @@ use Rattle.std.specs.List.{flat_map}
 use Rattle.std.proofs.Common.{◌≡◌, ◌<◌, ◌≤◌, ◌+◌, ◌-◌, ◌^◌, ℕ, suc, Bool, true, false, List, [], ◌∷◌, length, Option, Some, None, refl, sym, ap, ◌∙◌, subst, arith, inl, append_assoc}
 use Rattle.std.proofs.lemmas.Bool.{lt-ltb}
 use Rattle.std.proofs.lemmas.List.Elements.{All-head, All-nil, All-tail}
+use Rattle.bpf.specs.declared.version.Version.TheVariants.{One}
+use Rattle.bpf.specs.declared.version.Version.{Version}
 use Rattle.bpf.specs.Parts.{placed_slots}
 use Rattle.bpf.specs.Program.{IsProgram, Program, insn_at}
 use Rattle.bpf.specs.Weight.{weight_of}
@@ -37,7 +39,7 @@ use Rattle.bver_form.specs.Jumps.{IsJump, jump_distance}
 use Rattle.bver_form.specs.Loops.{IsLoopFormed}
 use Rattle.bver.specs.Justified.{IsCovered, IsHead, IsJustified, IsPermittedAt, IsResultCovered}
 use Rattle.policy.specs.Code.{address_code, behind_extended, behind_initiator, behind_key, behind_kind, behind_range, field_slots, field_test, kind_slots, kind_test, last_address_code, masked_test, quota_slots, quota_test, range_test, rule_code, rules_code, set_to_bits, skips_if, verdict_code}
-use Rattle.policy.specs.Codes.{ruling_code}
+use Rattle.rmap.specs.Verdict.{verdict_number}
 use Rattle.policy.specs.Compiled.{compile_fault, quota_fault, rules_fault}
 use Rattle.policy.specs.Limits.{FitsFields, IsLimited}
 use Rattle.policy.specs.Meant.{table_program}
@@ -143,10 +145,10 @@ behind_all a b c d e f g rest = simp append_assoc
 
 in_front : (rule : Rule) (rest : List Insn)
     → rule_code rule ++ rest ≡ kind_test rule.kind (behind_kind rule) ++ (field_test rule.key 6 3 (behind_key rule) ++ (field_test rule.initiator 7 0 (behind_initiator rule)
-    ++ (field_test rule.extended 7 3 (behind_extended rule) ++ (range_test rule.low rule.high (behind_range rule) ++ (quota_test rule.quota 2 ++ (verdict_code (ruling_code rule.ruling) ++ rest))))))
+    ++ (field_test rule.extended 7 3 (behind_extended rule) ++ (range_test rule.low rule.high (behind_range rule) ++ (quota_test rule.quota 2 ++ (verdict_code (verdict_number rule.verdict) ++ rest))))))
 in_front rule rest =
     ap (λ (code : List Insn). code ++ rest) (in_turn rule)
-    ∙ behind_all (kind_test rule.kind (behind_kind rule)) (field_test rule.key 6 3 (behind_key rule)) (field_test rule.initiator 7 0 (behind_initiator rule)) (field_test rule.extended 7 3 (behind_extended rule)) (range_test rule.low rule.high (behind_range rule)) (quota_test rule.quota 2) (verdict_code (ruling_code rule.ruling)) rest
+    ∙ behind_all (kind_test rule.kind (behind_kind rule)) (field_test rule.key 6 3 (behind_key rule)) (field_test rule.initiator 7 0 (behind_initiator rule)) (field_test rule.extended 7 3 (behind_extended rule)) (range_test rule.low rule.high (behind_range rule)) (quota_test rule.quota 2) (verdict_code (verdict_number rule.verdict)) rest
 
 module _ (laws : Laws) (sizes : Maps) where
   test : (behind : ℕ) (slots : List (Option Insn)) (condition : Condition) (dst : ℕ) (src : Operand) → IsOk (refined_edges comparing condition Bits64 dst src)
@@ -224,7 +226,7 @@ module _ (laws : Laws) (sizes : Maps) where
   rule_stretch : (rule : Rule) (insns : List Insn) → FitsFields rule → quota_fault sizes rule.quota ≡ None
       → IsStretch sizes between 0 insns → IsStretch sizes between 0 (rule_code rule ++ insns)
   rule_stretch rule insns fits none rest =
-      let verdict = verdict_stretch (ruling_code rule.ruling) insns rest in
+      let verdict = verdict_stretch (verdict_number rule.verdict) insns rest in
       let quota = quota_stretch rule.quota _ fits.quota none verdict in
       let range = range_stretch rule.low rule.high (behind_range rule) _ fits.low fits.high quota in
       let extended = field_stretch rule.extended 7 3 (behind_extended rule) _ refl range in
@@ -281,12 +283,12 @@ jump_at p slot (Some (pos skipped)) h = record { first_slot = h; onward = inl (o
 jump_at p slot (Some (negsuc n)) h = absurd h
 
 allowed_at : (sizes : Maps) (table : Knowledge) (p : Program) (slot : ℕ) (a : Option StateValue) (found : Option Insn) (insn : Insn)
-    → p.version ≡ 1 → IsServedAt sizes table p.slots slot a found → found ≡ Some insn → IsAllowed p slot insn
+    → p.version ≡ One → IsServedAt sizes table p.slots slot a found → found ≡ Some insn → IsAllowed p slot insn
 allowed_at sizes table p slot a None insn first h is = cc
 allowed_at sizes table p slot None (Some other) insn first h is = absurd h
 allowed_at sizes table p slot (Some a) (Some other) insn first h is =
     let here : IsAllowed p slot other = record {
-      supported = subst (λ (version : ℕ). IsSupported version other) (sym first) h.supported;
+      supported = subst (λ (version : Version). IsSupported version other) (sym first) h.supported;
       leaves_frame = h.leaves_frame;
       jump = jump_at p slot (jump_distance other) h.lands;
     } in

@@ -1,5 +1,5 @@
 use Rattle.basm_lex.specs.Numbers.{WritesNumber}
-use Rattle.basm_lex.specs.Places.{WritesRegister}
+use Rattle.basm_lex.specs.Operands.{WritesRegister}
 use Rattle.basm.proofs.OperandReadings.{four_read}
 use Rattle.basm.proofs.instructions.address_operands.Goals as goal
 

@@ -3,8 +3,8 @@ use Rattle.std.specs.Prelude.{Ok}
 use Rattle.basm.proofs.OperandReadings.{no_value, one_value}
 use Rattle.basm.proofs.instructions.memory.Goals as goal
 
-pub returns-in_err-read_place-clause-exact : goal.returns-in_err-read_place-clause-exact
-returns-in_err-read_place-clause-exact c = λ place w. absurd (no_value c.in_err-read_place.field-0.0 place (c.in_err-read_place.ensures.exact place w))
+pub returns-in_err-read_memory_operand-clause-exact : goal.returns-in_err-read_memory_operand-clause-exact
+returns-in_err-read_memory_operand-clause-exact c = λ place w. absurd (no_value c.in_err-read_memory_operand.field-0.0 place (c.in_err-read_memory_operand.ensures.exact place w))
 
 pub returns-clause-exact : goal.returns-clause-exact
-returns-clause-exact c = λ place w. ap (λ x. Ok x) (one_value c.in_ok-read_place.field-0 place (c.in_ok-read_place.ensures.exact place w))
+returns-clause-exact c = λ place w. ap (λ x. Ok x) (one_value c.in_ok-read_memory_operand.field-0 place (c.in_ok-read_memory_operand.ensures.exact place w))

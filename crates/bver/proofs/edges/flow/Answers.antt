@@ -10,8 +10,8 @@ pub returns-in_ok-check_map-in-LoadMap-clause-least :
     goal.returns-in_ok-check_map-in-LoadMap-clause-least
 returns-in_ok-check_map-in-LoadMap-clause-least c = rw c.in-LoadMap.is (rw c.in-LoadMap.is at c.straight.ensures.least)
 
-pub returns-in-Call-clause-least : goal.returns-in-Call-clause-least
-returns-in-Call-clause-least c = rw c.in-Call.is c.ask.ensures.least
+pub returns-in-Helper-clause-least : goal.returns-in-Helper-clause-least
+returns-in-Helper-clause-least c = rw c.in-Call.is c.call.ensures.least
 
 pub returns-in-Alu-clause-least : goal.returns-in-Alu-clause-least
 returns-in-Alu-clause-least c =

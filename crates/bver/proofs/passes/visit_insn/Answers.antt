@@ -2,7 +2,7 @@ use Rattle.std.proofs.Common.{rules, ◌≡◌, ◌+◌, Err, Some, IsTrue}
 use Rattle.bpf_insn.specs.Spelling.{slots_of}
 use Rattle.absdom.specs.Spill.{spill_of}
 use Rattle.bver.specs.Justified.{IsCoveredIfAny, IsPermitted, accessed_region}
-use Rattle.bver.specs.Leading.{AreLoweredBack, jumping_state, IsFlowFault, IsRaisedIfAny, LeadsBelow}
+use Rattle.bver.specs.Leading.{AreLoweredBack, jumping_state, IsFlowFault, IsWidenedIfAny, LeadsBelow}
 use Rattle.bver_form.specs.Lowered.{IsSettled}
 use Rattle.bver.specs.Table.{knowledge_beside, knowledge_in}
 use Rattle.bver_form.specs.Targets.{IsPlain}
@@ -33,7 +33,7 @@ returns-clause-visit c =
     let here = c.arrive.new.state in
     let left = c.flow.new.state in
     let known : visited_state was before mid v.slot ≡ Some here = search rules in
-    let permitted : IsSettled c.args.lowered.now c.flow.new.lowered → IsPermitted (spill_of v.program.version) v.sizes (knowledge_beside new runs (v.slot + slots_of insn) left) v.slot here insn = search rules in
+    let permitted : IsSettled c.args.lowered.now c.flow.new.lowered → IsPermitted (spill_of v.program.version) v.maps (knowledge_beside new runs (v.slot + slots_of insn) left) v.slot here insn = search rules in
     let accesses : c.accessed_region-region.result ≡ accessed_region here insn = search rules in
     let heads : AreHeadsAt v.program v.slot (visited_state was before mid v.slot) = search rules in
     let plain : IsTrue runs → IsPlain v.program (v.slot + slots_of insn) = search rules in
@@ -52,13 +52,13 @@ returns-clause-least c =
     let here = c.arrive.new.state in
     let runs = c.in_ok-goes_on.goes_on in
     let known : visited_state was before mid v.slot ≡ Some here = search rules in
-    let raised : IsRaisedIfAny v.program c.args.lowered.now v.slot (visited_state was before old v.slot) (visited_state was before mid v.slot) = search rules in
+    let widened : IsWidenedIfAny v.program c.args.lowered.now v.slot (visited_state was before old v.slot) (visited_state was before mid v.slot) = search rules in
     let first : IsLeastOf (λ above. IsCoveredIfAny (visited_state was before mid v.slot) (above v.slot)) old mid = search rules in
     let second : IsLeastNext (λ above. LeadsBelow (spill_of v.program.version) above v.slot here insn) mid c.flow.new.table runs (v.slot + slots_of insn) c.flow.new.state = search rules in
     let marks : AreLoweredBack v.program v.slot (knowledge_in mid) (jumping_state here insn) c.args.lowered.now c.flow.new.lowered = search rules in
     let entered : IsExtended v.slot old mid = search rules in
     let extended : IsExtended (v.slot + 1) mid c.flow.new.table = search rules in
-    least_insn v c.args.lowered.now c.flow.new.lowered old mid c.flow.new.table was runs before here c.flow.new.state insn known raised first second marks entered extended
+    least_insn v c.args.lowered.now c.flow.new.lowered old mid c.flow.new.table was runs before here c.flow.new.state insn known widened first second marks entered extended
 
 pub returns-in_err-goes_on-clause-fault : goal.returns-in_err-goes_on-clause-fault
 returns-in_err-goes_on-clause-fault c =
@@ -70,8 +70,8 @@ returns-in_err-goes_on-clause-fault c =
     let before = c.args.state.now in
     let here = c.arrive.new.state in
     let known : visited_state was before mid v.slot ≡ Some here = search rules in
-    let raised : IsRaisedIfAny v.program c.args.lowered.now v.slot (visited_state was before old v.slot) (visited_state was before mid v.slot) = search rules in
+    let widened : IsWidenedIfAny v.program c.args.lowered.now v.slot (visited_state was before old v.slot) (visited_state was before mid v.slot) = search rules in
     let extended : IsExtended v.slot old mid = search rules in
     let fault : IsFlowFault v c.args.lowered.now (knowledge_in mid) here insn = search rules in
     let told : c.from_residual-in_err-goes_on.result ≡ Err c.in_err-goes_on.field-0.0 = search rules in
-    rw told (leads_fault v c.args.lowered.now old mid was before here insn known c.stands_whole.ensures raised extended fault)
+    rw told (leads_fault v c.args.lowered.now old mid was before here insn known c.stands_whole.ensures widened extended fault)

@@ -1,4 +1,5 @@
 use Rattle.std.proofs.Common.{rules, ◌<◌, length, subst, sym}
+use Rattle.bpf.specs.declared.header.TheConstants.{MAX_SLOTS}
 use Rattle.bpf.specs.Program.{IsLoop}
 use Rattle.bver_form.proofs.Fitting.{formed_next, item_is, small_loop}
 use Rattle.bver_form.proofs.loops.check_loops.Goals as goal
@@ -8,7 +9,7 @@ is_loop_formed-requires c =
     let p = c.args.image.now in
     let k = c.loop-declared.declared-index in
     let is = item_is p c.loops-declared-items.result.now k c.declared-item.result c.loops-declared-items.ensures.value c.declared-item.is in
-    subst (IsLoop 512) (sym is) (small_loop p k c.declared-item.result c.loops-declared-items.ensures.program (search rules))
+    subst (IsLoop MAX_SLOTS) (sym is) (small_loop p k c.declared-item.result c.loops-declared-items.ensures.program (search rules))
 
 pub loop-declared-preserved : goal.loop-declared-preserved
 loop-declared-preserved c =

@@ -21,6 +21,7 @@ compiled : (sizes : Maps) (rules : List Rule) → compile_fault sizes rules ≡ 
 compiled sizes rules none meaning = record {
   faultless = none;
   meaning = meaning;
+  version = refl;
   no_loop = refl;
   budget = sym (weighs (table_code rules) (length (table_code rules)));
   cells = cells sizes rules none;

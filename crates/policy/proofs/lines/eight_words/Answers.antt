@@ -59,20 +59,20 @@ returns-in_err-quota c =
     (c.in_ok-kind.kind ∷ c.in_ok-key.key ∷ c.in_ok-initiator.initiator ∷ c.in_ok-extended.extended ∷ c.in_ok-low.low ∷ c.in_ok-high.high ∷ []) _ (_, c.in_ok-kind.ensures.steps, (_, c.in_ok-key.ensures.steps, (_, c.in_ok-initiator.ensures.steps, (_, c.in_ok-extended.ensures.steps, (_, c.in_ok-low.ensures.steps, (_, c.in_ok-high.ensures.steps, refl)))))) None _ refl c.in_err-quota.ensures.steps in
     rw c.from_residual-in_err-quota.ensures (λ eight. absurd (omega (arith, end.1, eight)))
 
-pub returns-in_err-ruling : goal.returns-in_err-ruling
-returns-in_err-ruling c =
+pub returns-in_err-verdict : goal.returns-in_err-verdict
+returns-in_err-verdict c =
     let end = YieldsList-end (YieldsList-from_filter _ (λ word. not (length word == 0))
     (YieldsList-at c.filter-words.ensures.source (YieldsList-from_str_split 32 c.args.line.now (lit< tt) c.split.ensures.text c.split.ensures.has_more c.split.ensures.pattern))
     c.filter-words.ensures.closure (λ x r q k. search (rules, tests)))
-    (c.in_ok-kind.kind ∷ c.in_ok-key.key ∷ c.in_ok-initiator.initiator ∷ c.in_ok-extended.extended ∷ c.in_ok-low.low ∷ c.in_ok-high.high ∷ c.in_ok-quota.quota ∷ []) _ (_, c.in_ok-kind.ensures.steps, (_, c.in_ok-key.ensures.steps, (_, c.in_ok-initiator.ensures.steps, (_, c.in_ok-extended.ensures.steps, (_, c.in_ok-low.ensures.steps, (_, c.in_ok-high.ensures.steps, (_, c.in_ok-quota.ensures.steps, refl))))))) None _ refl c.in_err-ruling.ensures.steps in
-    rw c.from_residual-in_err-ruling.ensures (λ eight. absurd (omega (arith, end.1, eight)))
+    (c.in_ok-kind.kind ∷ c.in_ok-key.key ∷ c.in_ok-initiator.initiator ∷ c.in_ok-extended.extended ∷ c.in_ok-low.low ∷ c.in_ok-high.high ∷ c.in_ok-quota.quota ∷ []) _ (_, c.in_ok-kind.ensures.steps, (_, c.in_ok-key.ensures.steps, (_, c.in_ok-initiator.ensures.steps, (_, c.in_ok-extended.ensures.steps, (_, c.in_ok-low.ensures.steps, (_, c.in_ok-high.ensures.steps, (_, c.in_ok-quota.ensures.steps, refl))))))) None _ refl c.in_err-verdict.ensures.steps in
+    rw c.from_residual-in_err-verdict.ensures (λ eight. absurd (omega (arith, end.1, eight)))
 
 pub returns-in-None : goal.returns-in-None
 returns-in-None c =
     let end = YieldsList-end (YieldsList-from_filter _ (λ word. not (length word == 0))
     (YieldsList-at c.filter-words.ensures.source (YieldsList-from_str_split 32 c.args.line.now (lit< tt) c.split.ensures.text c.split.ensures.has_more c.split.ensures.pattern))
     c.filter-words.ensures.closure (λ x r q k. search (rules, tests)))
-    (c.in_ok-kind.kind ∷ c.in_ok-key.key ∷ c.in_ok-initiator.initiator ∷ c.in_ok-extended.extended ∷ c.in_ok-low.low ∷ c.in_ok-high.high ∷ c.in_ok-quota.quota ∷ c.in_ok-ruling.ruling ∷ []) _ (_, c.in_ok-kind.ensures.steps, (_, c.in_ok-key.ensures.steps, (_, c.in_ok-initiator.ensures.steps, (_, c.in_ok-extended.ensures.steps, (_, c.in_ok-low.ensures.steps, (_, c.in_ok-high.ensures.steps, (_, c.in_ok-quota.ensures.steps, (_, c.in_ok-ruling.ensures.steps, refl)))))))) None _ refl c.in-None.ensures.steps in
+    (c.in_ok-kind.kind ∷ c.in_ok-key.key ∷ c.in_ok-initiator.initiator ∷ c.in_ok-extended.extended ∷ c.in_ok-low.low ∷ c.in_ok-high.high ∷ c.in_ok-quota.quota ∷ c.in_ok-verdict.verdict ∷ []) _ (_, c.in_ok-kind.ensures.steps, (_, c.in_ok-key.ensures.steps, (_, c.in_ok-initiator.ensures.steps, (_, c.in_ok-extended.ensures.steps, (_, c.in_ok-low.ensures.steps, (_, c.in_ok-high.ensures.steps, (_, c.in_ok-quota.ensures.steps, (_, c.in_ok-verdict.ensures.steps, refl)))))))) None _ refl c.in-None.ensures.steps in
     sym end.0
 
 pub returns-in-Some : goal.returns-in-Some
@@ -80,5 +80,5 @@ returns-in-Some c =
     let turn = YieldsList-turn (YieldsList-from_filter _ (λ word. not (length word == 0))
     (YieldsList-at c.filter-words.ensures.source (YieldsList-from_str_split 32 c.args.line.now (lit< tt) c.split.ensures.text c.split.ensures.has_more c.split.ensures.pattern))
     c.filter-words.ensures.closure (λ x r q k. search (rules, tests)))
-    (c.in_ok-kind.kind ∷ c.in_ok-key.key ∷ c.in_ok-initiator.initiator ∷ c.in_ok-extended.extended ∷ c.in_ok-low.low ∷ c.in_ok-high.high ∷ c.in_ok-quota.quota ∷ c.in_ok-ruling.ruling ∷ []) _ (_, c.in_ok-kind.ensures.steps, (_, c.in_ok-key.ensures.steps, (_, c.in_ok-initiator.ensures.steps, (_, c.in_ok-extended.ensures.steps, (_, c.in_ok-low.ensures.steps, (_, c.in_ok-high.ensures.steps, (_, c.in_ok-quota.ensures.steps, (_, c.in_ok-ruling.ensures.steps, refl)))))))) (Some c.in-Some.field-0) c.next-9.new.self c.in-Some.field-0 refl c.in-Some.ensures.steps in
+    (c.in_ok-kind.kind ∷ c.in_ok-key.key ∷ c.in_ok-initiator.initiator ∷ c.in_ok-extended.extended ∷ c.in_ok-low.low ∷ c.in_ok-high.high ∷ c.in_ok-quota.quota ∷ c.in_ok-verdict.verdict ∷ []) _ (_, c.in_ok-kind.ensures.steps, (_, c.in_ok-key.ensures.steps, (_, c.in_ok-initiator.ensures.steps, (_, c.in_ok-extended.ensures.steps, (_, c.in_ok-low.ensures.steps, (_, c.in_ok-high.ensures.steps, (_, c.in_ok-quota.ensures.steps, (_, c.in_ok-verdict.ensures.steps, refl)))))))) (Some c.in-Some.field-0) c.next-9.new.self c.in-Some.field-0 refl c.in-Some.ensures.steps in
     λ eight. absurd (omega (arith, turn.0, eight))

@@ -6,7 +6,7 @@ use Rattle.machine.specs.Memory.{header}
 use Rattle.policy.specs.Meaning.{decision}
 use Rattle.policy.specs.declared.rules.Rule.{Rule}
 use Rattle.policy.specs.declared.rules.RuleKind.TheVariants.{Read}
-use Rattle.policy.specs.declared.rules.Ruling.TheVariants.{Yes}
+use Rattle.rmap.specs.declared.verdict.Verdict.TheVariants.{Authorised}
 use Rattle.policy.proofs.Outcomes.{cut, drawn_on, told_from}
 use Rattle.policy.proofs.tables.decide_by.Goals as goal
 
@@ -15,7 +15,7 @@ loop-left-preserved c =
     let left = c.loop-left.left.now in
     let calls = c.loop-left.calls in
     let pushed = c.push_reserved.ensures in
-    let parts = cut left (record { kind = Read; key = None; initiator = None; extended = None; low = 0; high = 0; quota = None; ruling = Yes }) c.in-len1-up.len_at_least in
+    let parts = cut left (record { kind = Read; key = None; initiator = None; extended = None; low = 0; high = 0; quota = None; verdict = Authorised }) c.in-len1-up.len_at_least in
     let one : length left ≡ suc (length (take (length left - 1) (drop 1 left))) = ap (λ (rs : List Rule). length rs) parts in
     let room = c.loop-left.invariant.0 in
     let few = c.loop-left.invariant.1 in

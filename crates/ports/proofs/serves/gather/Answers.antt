@@ -1,8 +1,8 @@
-use Rattle.std.specs.Prelude.{◌++◌, ◌∷◌, [], IfSome, map}
+use Rattle.std.specs.Prelude.{◌++◌, ◌∷◌, [], IfNone, IfSome, map}
 use Rattle.std.proofs.Common.{arith, rules, sym, subst, ap, ◌∙◌}
 use Rattle.std.proofs.lemmas.List.{map_push}
-use Rattle.ports.specs.Serves.{IsTotalOf}
-use Rattle.ports.proofs.Reports.{one_more}
+use Rattle.ports.specs.Serves.{IsOneMissing, IsTotalOf}
+use Rattle.ports.proofs.Reports.{one_missing, one_more}
 use Rattle.ports.proofs.serves.gather.Goals as goal
 
 pub loop-one-preserved : goal.loop-one-preserved
@@ -12,6 +12,8 @@ loop-one-preserved g c =
       c.in-Ok.ensures.items ∙ ap (λ l. l ++ one.worker ∷ []) was.0 ∙ sym (map_push (λ e. e.worker) done one),
       subst (λ told. IfSome c.both-total.result (IsTotalOf told)) (sym (map_push (λ e. e.report) done one))
           (one_more (map (λ e. e.report) done) one.report _ c.both-total.result was.1 (search rules)),
-      omega (arith, was.2, step.1, c.in-Ok.ensures.len, c.push.ensures.capacity),
-      omega (arith, was.3, c.push.ensures.capacity),
+      subst (λ told. IfNone c.both-total.result (IsOneMissing told)) (sym (map_push (λ e. e.report) done one))
+          (one_missing (map (λ e. e.report) done) one.report _ c.both-total.result was.2 (search rules)),
+      omega (arith, was.3, step.1, c.in-Ok.ensures.len, c.push.ensures.capacity),
+      omega (arith, was.4, c.push.ensures.capacity),
     )

@@ -1,11 +1,12 @@
-use Rattle.std.specs.Prelude.{◌≡◌, ◌+◌, ◌≤◌, IfSome, map, vec_len, vec_capacity}
+use Rattle.std.specs.Prelude.{◌≡◌, ◌+◌, ◌≤◌, IfNone, IfSome, map, vec_len, vec_capacity}
 use Rattle.std.specs.Vec.Iter.{into_iter_len}
-use Rattle.ports.specs.Serves.{IsTotalOf}
+use Rattle.ports.specs.Serves.{IsOneMissing, IsTotalOf}
 use Rattle.ports.proofs.serves.gather.Given as goal
 
 abbrev pub invariant-loop-one : goal.invariant-loop-one
 invariant-loop-one g l =
     (l.workers.items ≡ map (λ e. e.worker) l.yielded)
     × IfSome l.total (IsTotalOf (map (λ e. e.report) l.yielded))
+    × IfNone l.total (IsOneMissing (map (λ e. e.report) l.yielded))
     × (vec_len l.workers + into_iter_len l.one-iterator ≤ vec_capacity l.workers)
     × (vec_capacity l.initial.workers ≤ vec_capacity l.workers)

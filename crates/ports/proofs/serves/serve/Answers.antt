@@ -1,7 +1,8 @@
-use Rattle.std.proofs.Common.{◌≡◌, ◌<◌, ◌++◌, ◌∙◌, ap, arith, sym, subst}
-use Rattle.std.specs.Prelude.{length, map, slice_index_or, vec_len, IfSome}
-use Rattle.ports.specs.Serves.{AreServed, HaveComeBack, HaveServed, IsBack, IsTotalOf}
-use Rattle.ports.proofs.Served.{AreBack, can_serve, have_come_back, have_served}
+use Rattle.std.proofs.Common.{◌≡◌, ◌<◌, ◌⊎◌, ◌++◌, ◌∙◌, true, false, Some, None, ap, arith, inl, inr, sym, subst}
+use Rattle.std.specs.Prelude.{length, map, slice_index_or, vec_len, IfSome, IfNone}
+use Rattle.std.proofs.lemmas.Bool.{cases_Bool}
+use Rattle.ports.specs.Serves.{AreServed, HaveComeBack, HaveServed, IsBack, IsOneMissing, IsShort, IsTotalOf}
+use Rattle.ports.proofs.Served.{AreBack, can_serve, have_come_back, have_served, none_served, one_is_gone, one_is_same}
 use Rattle.ports.proofs.serves.serve.Goals as goal
 
 -- The thread that was joined has the promise of the worker at its place.
@@ -17,10 +18,11 @@ returns-in-Some-clause-served g c =
     let kept = (c.join_each.ensures.each k end low).1 in
     subst (λ w. IsBack sent failed w (slice_index_or ended k end).worker (slice_index_or ended k end).report)
     (ap (λ h. h.promise.0.value) kept.handle_is ∙ started.ensures.each k kept.handle worker low) kept.kept in
+    let sum = subst (λ o. IfSome o (λ report. (started.result.all ≡ true) × (c.gather-workers.result.1 ≡ Some report))) c.in-Some.is c.of_all.ensures.sum in
     let told : IsTotalOf (map (λ e. e.report) ended) c.in-Some.report
-    = subst (λ o. IfSome o (IsTotalOf (map (λ e. e.report) ended))) c.in-Some.is c.gather-workers.ensures.total in
+    = subst (λ o. IfSome o (IsTotalOf (map (λ e. e.report) ended))) sum.1 c.gather-workers.ensures.total in
     let long : length ended ≡ length old
-    = sym c.join_each.result.ok.0 ∙ c.join_each.ensures.len ∙ started.ensures.len c.if-started.true ∙ c.args.workers.ok.0 in
+    = sym c.join_each.result.ok.0 ∙ c.join_each.ensures.len ∙ started.ensures.len sum.0 ∙ c.args.workers.ok.0 in
     subst (λ new. HaveServed sent failed banks ports old new c.in-Some.report) (sym c.gather-workers.ensures.workers)
     (have_served sent failed banks ports old ended started.result.rest.items served back long c.in-Some.report told)
 
@@ -59,3 +61,32 @@ returns-clause-kept g c =
     (have_come_back sent failed banks ports old ended started.result.rest.items back started.ensures.rest
     (omega (arith, started.ensures.most, all, started.result.rest.ok.0, c.args.workers.ok.0))
     (omega (arith, started.ensures.few, all, started.result.rest.ok.0, c.args.workers.ok.0)))
+
+pub returns-in_default-clause-short : goal.returns-in_default-clause-short
+returns-in_default-clause-short g c = none_served c.args.workers.items
+
+pub returns-clause-short : goal.returns-clause-short
+returns-clause-short g c =
+    let sent = g.S.Sink.sent in let failed = g.S.Sink.failed in let banks = c.args.node.now in let ports = c.args.ports.now in
+    let old = c.args.workers.items in let ended = c.join_each.result.items in let started = c.start_each-started in
+    let back : AreBack sent failed banks ports old ended started.result.rest.items
+    = λ k end worker below.
+    let low : k < vec_len started.result.threads = subst (λ n. k < n) (sym c.join_each.result.ok.0 ∙ c.join_each.ensures.len) below in
+    let kept = (c.join_each.ensures.each k end low).1 in
+    subst (λ w. IsBack sent failed w (slice_index_or ended k end).worker (slice_index_or ended k end).report)
+    (ap (λ h. h.promise.0.value) kept.handle_is ∙ started.ensures.each k kept.handle worker low) kept.kept in
+    let is = c.with_rest.ensures ∙ ap (λ l. l ++ started.result.rest.items) c.gather-workers.ensures.workers in
+    let all : length ended ≡ vec_len started.result.threads = sym c.join_each.result.ok.0 ∙ c.join_each.ensures.len in
+    let why : (started.result.all ≡ false) ⊎ (c.gather-workers.result.1 ≡ None)
+    = subst (λ o. IfNone o ((started.result.all ≡ false) ⊎ (c.gather-workers.result.1 ≡ None))) c.in-None.is c.of_all.ensures.none in
+    let gone : started.result.all ≡ false → IsShort old _
+    = λ missing. let fewer = started.ensures.missing missing in
+    one_is_gone sent failed banks ports old ended started.result.rest.items (omega (arith, fewer, all, started.result.rest.ok.0, c.args.workers.ok.0)) in
+    subst (IsShort old) (sym is) (elim (cases_Bool started.result.all) [
+      | inl each ↦ elim why [
+        | inl fewer ↦ gone fewer
+        | inr none ↦ one_is_same sent failed banks ports old ended started.result.rest.items back (all ∙ started.ensures.len each ∙ c.args.workers.ok.0)
+            (subst (λ o. IfNone o (IsOneMissing (map (λ e. e.report) ended))) none c.gather-workers.ensures.missing)
+      ]
+      | inr fewer ↦ gone fewer
+    ])

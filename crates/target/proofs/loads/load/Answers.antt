@@ -10,7 +10,7 @@ use Rattle.target.proofs.loads.load.Goals.{in-Ok, in-Err}
 
 pub returns : goal.returns
 returns g c =
-    let b = c.pass.inside.bearing in
+    let b = c.pass.inside.context in
     let known = c.pass.inside.reader.programs in
     let seen = c.publish_staged.new.reader.programs in
     let shares = c.pass.inside.shares.items in

@@ -7,7 +7,7 @@ use Rattle.publish.specs.Published.{sizes_of}
 use Rattle.publish.specs.Reached.{Known}
 use Rattle.target.proofs.Askings.{same_before, same_last}
 use Rattle.bank.specs.Records.{ShareValue, first_share}
-use Rattle.target.specs.Passes.{BearingValue}
+use Rattle.target.specs.Passes.{RunContextValue}
 use Rattle.target.specs.Nodes.{range_of, first_pass}
 use Rattle.target.proofs.parts.passes.Goals as goal
 
@@ -43,7 +43,7 @@ invariant_of-pass g c =
     let seat = last_of ports port _ c.in-Some-Some.seat c.loop-port.seats.items _ c.loop-port-test.true first.seats_are c.in-Some-Some.ensures.items in
     let reader = last_of ports port _ c.in-Some-Some.reader c.loop-port.readers.items _ c.loop-port-test.true first.readers_are c.in-Some-Some.ensures'.items in
     record {
-      sizes = ap (λ (b : BearingValue). b.seat.sizes) c.new.ensures ∙ ap (λ (s : CellSeatValue). s.sizes) seat.1 ∙ sym (ap (λ (r : Known). sizes_of r.programs) reader.1);
+      sizes = ap (λ (b : RunContextValue). b.seat.sizes) c.new.ensures ∙ ap (λ (s : CellSeatValue). s.sizes) seat.1 ∙ sym (ap (λ (r : Known). sizes_of r.programs) reader.1);
       port = rw (c.new.ensures) (omega (arith, c.requires.ports, c.loop-port-test.true));
       shares = rw (shares, c.new.ensures, c.windows.ensures, length-map banks range_of) (length-replicate (length banks) (first_share port));
     }

@@ -7,7 +7,7 @@ pub returns : goal.returns
 returns c =
     let run = c.verdict-verdict.ensures in
     let program = c.args.program.now.program in
-    let P : CommandValue → Type 0 = λ x. RunsWithin program (header x.front x.tail) c.args.bearing.now.port run.calls c.verdict-verdict.result in
+    let P : CommandValue → Type 0 = λ x. RunsWithin program (header x.front x.tail) c.args.context.now.port run.calls c.verdict-verdict.result in
     record {
       calls = run.calls;
       asked = run.asked;

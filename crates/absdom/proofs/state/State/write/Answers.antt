@@ -9,7 +9,7 @@ invariant_of-self c = record {
       record {
         registers = length-set _ _ _ ∙ c.self.invariant.sizes.registers;
         bytes = c.self.invariant.sizes.bytes;
-        places = c.self.invariant.sizes.places;
+        words = c.self.invariant.sizes.words;
       };
   kinds =
       let proper : IsProper c.args.kind = search rules in

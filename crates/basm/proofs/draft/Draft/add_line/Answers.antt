@@ -44,7 +44,7 @@ returns-in-text-3-clause-exact c = λ item says room.
     let operands : texts c.as_slice-operands.result.now ≡ operands_of c.args.line.now = ap texts c.as_slice-operands.ensures.value ∙ c.in_ok-statement.ensures.operands in
     let Q : Item → Type 0 = λ item. HasRoom c.args.survey.now.slots item c.args.self.now → UnlessMemory c.add_version.result (λ _. AddsItem item c.args.self.now c.add_version.new.self) in
     version_item (texts c.as_slice-operands.result.now) (slot_named c.args.survey.now.names) c.args.self.now.slots c.args.line.now item Q
-    (λ found is. none-some found (c.in-None.ensures.exact found (c.in_ok-statement.ensures.word ∙ is))) (sym c.in_ok-statement.ensures.word ∙ c.in-text-3.is) operands says (λ n one room. c.add_version.ensures.exact n one room.0 room.1) room
+    (λ found is. none-some found (c.in-None.ensures.exact found (c.in_ok-statement.ensures.word ∙ is))) (sym c.in_ok-statement.ensures.word ∙ c.in-text-3.is) operands says (λ version one room. c.add_version.ensures.exact version one room) room
 
 pub returns-in-Some-clause-adds : goal.returns-in-Some-clause-adds
 returns-in-Some-clause-adds c =

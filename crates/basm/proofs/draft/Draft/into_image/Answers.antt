@@ -3,13 +3,14 @@ use Rattle.std.proofs.lemmas.List.Sorted.{IsNonDecreasingBy-from_sort, answers_a
 use Rattle.bpf_insn.specs.declared.insn.Insn.{Insn}
 use Rattle.bpf.specs.declared.fault.ImageFault.{ImageFault}
 use Rattle.bpf.specs.declared.loops.Loop.{Loop}
+use Rattle.bpf.specs.declared.version.Version.{Version}
 use Rattle.bpf.specs.Parts.{parts_reading}
 use Rattle.bpf.specs.Program.{Program}
 use Rattle.basm.proofs.Images.{image_reading, refused}
 use Rattle.basm.proofs.draft.Draft.into_image.Goals as goal
 
 -- lent parts are the parts
-lent : (version : ℕ) (insns given : List Insn) (loops sorted : List Loop) (budget : ℕ) → insns ≡ given → loops ≡ sorted → parts_reading version insns loops budget ≡ parts_reading version given sorted budget
+lent : (version : Version) (insns given : List Insn) (loops sorted : List Loop) (budget : ℕ) → insns ≡ given → loops ≡ sorted → parts_reading version insns loops budget ≡ parts_reading version given sorted budget
 lent version insns given loops sorted budget same_insns same_loops =
     ap (λ (is : List Insn). parts_reading version is loops budget) same_insns ∙ ap (λ (ls : List Loop). parts_reading version given ls budget) same_loops
 

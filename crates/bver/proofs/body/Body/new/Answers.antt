@@ -1,7 +1,7 @@
 use Rattle.std.proofs.Common.{◌≡◌, ap, sym, ◌∙◌, List}
 use Rattle.std.specs.Prelude.{slice_index_or}
 use Rattle.bpf.specs.declared.loops.Loop.{Loop}
-use Rattle.bver.proofs.Raising.{any_default, declared_at}
+use Rattle.bver.proofs.Widening.{any_default, declared_at}
 use Rattle.bver.proofs.body.Body.new.Goals as goal
 
 pub invariant_of-result : goal.invariant_of-result

@@ -1,6 +1,6 @@
 use Rattle.std.proofs.Common.{rules, ◌≡◌, ◌≤◌, length, ap, arith, List}
 use Rattle.bpf.specs.declared.loops.Loop.{Loop}
-use Rattle.bver.proofs.Raising.{none_closes}
+use Rattle.bver.proofs.Widening.{none_closes}
 use Rattle.bver.proofs.visit.Visit.closed.Goals as goal
 
 pub returns-clause-none : goal.returns-clause-none

@@ -1,5 +1,5 @@
 use Rattle.std.proofs.Common.{◌≡◌}
-use Rattle.bver.proofs.Raising.{NoneBefore}
+use Rattle.bver.proofs.Widening.{NoneBefore}
 use Rattle.bver.proofs.visit.Visit.closed.Given as goal
 
 abbrev pub invariant-loop-place : goal.invariant-loop-place

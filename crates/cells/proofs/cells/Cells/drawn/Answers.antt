@@ -18,8 +18,8 @@ returns-clause-tickets c =
     let map = c.args.map in
     let key = c.args.key in
     let found = c.load.result in
-    let draws = c.self.inside.rest.me.0.draws in
+    let answers = c.self.inside.rest.me.0.answers in
     let inside = subst (λ (v : CellsValue). IsInside v.sizes map key) (sym c.self.view_is) c.requires.inside in
     let kind = subst (λ (v : CellsValue). kind_of_map v.sizes map ≡ Counter) (sym c.self.view_is) c.requires.kind in
     subst (λ (v : CellsValue). IsWhole v → AreNumbered v map key found) c.self.view_is
-    (λ all. told c.self.inside.sizes map key found draws inside kind c.self.invariant.draws (subst (λ (word : ℕ). IsCounted word found draws) c.word_at-word.ensures.word (c.load.ensures.2.counted all)))
+    (λ all. told c.self.inside.sizes map key found answers inside kind c.self.invariant.answers (subst (λ (word : ℕ). IsCounted word found answers) c.word_at-word.ensures.word (c.load.ensures.2.counted all)))

@@ -18,7 +18,7 @@ returns-clause-calls c =
     let map = c.args.map in
     let key = c.args.key in
     let found = c.load.result in
-    let draws = c.self.inside.rest.me.0.draws in
+    let answers = c.self.inside.rest.me.0.answers in
     let inside = subst (λ (v : CellsValue). IsInside v.sizes map key) (sym c.self.view_is) c.requires.inside in
     subst (λ (v : CellsValue). IsWhole v → IsHighest v map key found) c.self.view_is
-    (λ all. told_peak c.self.inside.sizes map key found draws inside c.self.invariant.draws (subst (λ (word : ℕ). IsPeak word found draws) c.word_at-word.ensures.word (c.load.ensures.2.peak all)))
+    (λ all. told_peak c.self.inside.sizes map key found answers inside c.self.invariant.answers (subst (λ (word : ℕ). IsPeak word found answers) c.word_at-word.ensures.word (c.load.ensures.2.peak all)))

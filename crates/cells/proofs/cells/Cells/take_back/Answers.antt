@@ -13,7 +13,7 @@ join_seat-requires c =
 pub invariant_of-self : goal.invariant_of-self
 invariant_of-self c =
     let sizes = ap (λ s. s.sizes) c.seat.view_is ∙ c.requires.sizes ∙ sym (ap (λ s. s.sizes) c.self.view_is) in
-    let draws = c.seat.inside.place.me.0.draws in
+    let answers = c.seat.inside.place.me.0.answers in
     let me = c.join_seat.ensures.2 in
-    placed_joined _ _ _ c.self.inside.rest c.self.invariant c.join_seat.new.seat draws c.join_seat.ensures.0 (ap (λ m. m.1) me) (ap (λ m. m.0.maps) me) (ap (λ m. m.0.draws) me)
-    (subst (λ (n : Maps). AreOf n draws) sizes c.seat.invariant.0.draws)
+    placed_joined _ _ _ c.self.inside.rest c.self.invariant c.join_seat.new.seat answers c.join_seat.ensures.0 (ap (λ m. m.1) me) (ap (λ m. m.0.maps) me) (ap (λ m. m.0.answers) me)
+    (subst (λ (n : Maps). AreOf n answers) sizes c.seat.invariant.0.answers)

@@ -2,6 +2,7 @@ use Rattle.std.proofs.Common.{◌≡◌, ◌∙◌, max, subst, sym, arith}
 use Rattle.atomic_table.specs.Seated.{table_id_coded}
 use Rattle.machine.specs.Sizes.{IsInside, kind_of_map}
 use Rattle.machine.specs.declared.kinds.MapKind.TheVariants.{Peak}
+use Rattle.machine.specs.declared.helpers.Helper.TheVariants as helpers
 use Rattle.cells.specs.Seats.{CellSeatValue, Asks, seat}
 use Rattle.cells.proofs.Places.{asks_after, raises_at, placed_after}
 use Rattle.cells.proofs.seats.CellSeat.fetch_max.Goals as goal
@@ -16,13 +17,13 @@ fetch_max-requires c =
 pub invariant_of-self : goal.invariant_of-self
 invariant_of-self c =
     let answers = c.fetch_max.ensures.2 in
-    (placed_after _ _ _ c.self.inside.place c.self.invariant.0 3 c.args.value (max c.fetch_max.result c.args.value) _ c.fetch_max.new.seat c.word_at-word.ensures.inside c.fetch_max.ensures.0 answers, answers.parts ∙ c.self.invariant.1)
+    (placed_after _ _ _ c.self.inside.place c.self.invariant.0 helpers.Peak c.args.value (max c.fetch_max.result c.args.value) _ c.fetch_max.new.seat c.word_at-word.ensures.inside c.fetch_max.ensures.0 answers, answers.parts ∙ c.self.invariant.1)
 
 pub returns : goal.returns
 returns c =
-    let after : CellSeatValue = seat c.self.inside.sizes (table_id_coded.code c.fetch_max.new.seat.table_id) c.fetch_max.new.seat.me.0.draws in
+    let after : CellSeatValue = seat c.self.inside.sizes (table_id_coded.code c.fetch_max.new.seat.table_id) c.fetch_max.new.seat.me.0.answers in
     let inside = subst (λ (v : CellSeatValue). IsInside v.sizes c.args.map c.args.key) (sym c.self.view_is) c.requires.inside in
     record {
-      asks = subst (λ (v : CellSeatValue). Asks 3 c.args.map c.args.key c.args.value v (max c.fetch_max.result c.args.value) after) c.self.view_is
-          (asks_after _ _ _ c.self.inside.place c.self.invariant.0 c.args.map c.args.key 3 c.args.value (max c.fetch_max.result c.args.value) _ c.fetch_max.new.seat inside c.word_at-word.ensures.word c.fetch_max.ensures.0 c.fetch_max.ensures.2);
+      asks = subst (λ (v : CellSeatValue). Asks helpers.Peak c.args.map c.args.key c.args.value v (max c.fetch_max.result c.args.value) after) c.self.view_is
+          (asks_after _ _ _ c.self.inside.place c.self.invariant.0 c.args.map c.args.key helpers.Peak c.args.value (max c.fetch_max.result c.args.value) _ c.fetch_max.new.seat inside c.word_at-word.ensures.word c.fetch_max.ensures.0 c.fetch_max.ensures.2);
     }

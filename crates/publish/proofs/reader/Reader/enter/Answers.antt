@@ -1,4 +1,4 @@
-use Rattle.publish.proofs.Rooms.{looks}
+use Rattle.publish.proofs.Families.{looks}
 use Rattle.publish.proofs.reader.Reader.enter.Goals as goal
 
 pub enter_as-requires : goal.enter_as-requires

@@ -3,7 +3,7 @@ use Rattle.std.specs.Prelude.{slice_set}
 use Rattle.sched.specs.declared.event.Event.TheVariants.{Take}
 use Rattle.sched.specs.declared.event.Outcome.TheVariants.{Taken}
 use Rattle.sched.specs.Begins.{IsBegun}
-use Rattle.sched.specs.Worlds.{GoesOn}
+use Rattle.sched.specs.Worlds.{GoesOn, WorldValue}
 use Rattle.sched.specs.contracts.world.World.{the_view}
 use Rattle.sched.proofs.Events.{IsBeginAt, begun_goes_on, begun_world, read_at, take_busy, take_stops}
 use Rattle.sched.proofs.world.World.take.Goals as goal
@@ -18,13 +18,14 @@ pub returns-in_ok-stopped-in-Err-clause-goes_on : goal.returns-in_ok-stopped-in-
 returns-in_ok-stopped-in-Err-clause-goes_on c =
     let w = the_view c.self.inside in
     let read = read_at c.self.view_is c.from-at.ensures c.requires c.index.ensures in
-    take_stops _ w _ _ _ _ c.in-Err.stop c.admit.new.reply _ read c.if-not-is_free.ensures c.in-Err.ensures.1 c.in_ok-stopped-in-Err.ensures
+    let made = take_stops _ w _ _ _ _ c.in-Err.stop c.admit.new.reply _ read c.if-not-is_free.ensures c.in-Err.ensures.1 c.in_ok-stopped-in-Err.ensures in
+    subst (λ (v : WorldValue). GoesOn (Take c.args.port c.args.packet) c.in_ok-stopped-in-Err.field-0 c.args.self.now v) (sym c.self.view_is) made
 
-pub invariant_of-self : goal.invariant_of-self
-invariant_of-self c =
+pub invariant_of-self-in-Ok-2 : goal.invariant_of-self-in-Ok-2
+invariant_of-self-in-Ok-2 c =
     let w = the_view c.self.inside in
     let run = c.in_ok-run-in-Ok.run' in
-    let begun = subst (λ packet. IsBegun c.args.self.now c.args.port packet run) c.in-Ok.ensures.0.packet c.in_ok-run-in-Ok.ensures in
+    let begun = subst (λ (v : WorldValue). IsBegun v c.args.port c.args.packet run) c.self.view_is (subst (λ packet. IsBegun w c.args.port packet run) c.in-Ok.ensures.0.packet c.in_ok-run-in-Ok.ensures) in
     let first = read_at c.self.view_is c.from-at.ensures c.requires c.index.ensures in
     let read = read_at c.self.view_is c.from-at.ensures c.requires c.index_mut.ensures.value in
     let begins : IsBeginAt c.args.self.now w c.from-at.result c.args.port c.args.packet c.index.result.now c.index_mut.result.now c.begin-in-Ok.new.self run = record { first = first; read = read; none = c.if-not-is_free.ensures; begun = begun; written = c.begin-in-Ok.ensures } in
@@ -34,7 +35,7 @@ pub returns-in_ok-run-in-Ok-clause-goes_on : goal.returns-in_ok-run-in-Ok-clause
 returns-in_ok-run-in-Ok-clause-goes_on c =
     let w = the_view c.self.inside in
     let run = c.in_ok-run-in-Ok.run' in
-    let begun = subst (λ packet. IsBegun c.args.self.now c.args.port packet run) c.in-Ok.ensures.0.packet c.in_ok-run-in-Ok.ensures in
+    let begun = subst (λ (v : WorldValue). IsBegun v c.args.port c.args.packet run) c.self.view_is (subst (λ packet. IsBegun w c.args.port packet run) c.in-Ok.ensures.0.packet c.in_ok-run-in-Ok.ensures) in
     let first = read_at c.self.view_is c.from-at.ensures c.requires c.index.ensures in
     let read = read_at c.self.view_is c.from-at.ensures c.requires c.index_mut.ensures.value in
     let begins : IsBeginAt c.args.self.now w c.from-at.result c.args.port c.args.packet c.index.result.now c.index_mut.result.now c.begin-in-Ok.new.self run = record { first = first; read = read; none = c.if-not-is_free.ensures; begun = begun; written = c.begin-in-Ok.ensures } in

@@ -22,6 +22,7 @@ loop-worker-preserved-then-not-all g c =
       was.6,
       omega (arith, was.7, pushed.capacity),
       omega (arith, was.8, step.1, more.len),
+      (λ no. let fewer = was.9 no in omega (arith, fewer, step.1, more.len)),
     )
 
 -- The worker stands first among those ahead, so it is the one at the next place.
@@ -67,6 +68,7 @@ loop-worker-preserved-in-Ok-push-2 g c =
       omega (arith, was.6, pushed.ensures.capacity),
       was.7,
       omega (arith, was.8, step.1, more.len),
+      (λ no. let fewer = was.9 no in omega (arith, fewer, step.1, more.len)),
     )
 
 pub loop-worker-preserved : goal.loop-worker-preserved
@@ -83,6 +85,7 @@ loop-worker-preserved g c =
       was.6,
       was.7,
       omega (arith, was.8, was.0 c.if-not-all.false, step.1),
+      (λ _. omega (arith, was.0 c.if-not-all.false, was.1 c.if-not-all.false, step.1)),
     )
 
 pub returns : goal.returns
@@ -95,6 +98,7 @@ returns g c =
       len = λ yes. let total = was.0 yes in omega (arith, total, none, began.1);
       most = omega (arith, was.5, none, began.1);
       few = omega (arith, was.8, none, began.1);
+      missing = λ no. let fewer = was.9 no in omega (arith, fewer, none, began.1);
       rest = subst (AreLast rest.items) began.0 (subst (λ l. AreLast l (into_iter_items begun)) over was.2);
       each = λ k a b below. was.3 k a b below ∙ ap (λ ws. get_or ws k b) began.0;
     }

@@ -1,4 +1,4 @@
-use Rattle.std.specs.Prelude.{◌≡◌, true, ◌+◌, ◌≤◌, ◌++◌, vec_items, vec_len, vec_capacity}
+use Rattle.std.specs.Prelude.{◌≡◌, true, false, ◌+◌, ◌<◌, ◌≤◌, ◌++◌, vec_items, vec_len, vec_capacity}
 use Rattle.std.specs.Vec.Iter.{into_iter_items, into_iter_len}
 use Rattle.ports.specs.Serves.{AreLast, AreServed, AreThreadsOf}
 use Rattle.ports.proofs.starts.fn.start_each.scope.Given as goal
@@ -16,3 +16,4 @@ invariant-loop-worker g l =
     × (into_iter_len first ≤ vec_capacity l.threads)
     × (into_iter_len first ≤ vec_capacity l.rest)
     × (into_iter_len first ≤ done + vec_len l.rest + into_iter_len ahead + 1)
+    × (l.all ≡ false → done + vec_len l.rest + into_iter_len ahead < into_iter_len first)

@@ -1,7 +1,0 @@
-use Rattle.std.proofs.Common.{◌≡◌, length, map}
-use Rattle.commands.specs.Arrivals.{Arrive}
-use Rattle.commands.proofs.arrivals.read_separated.Given as goal
-
-abbrev pub invariant-loop-line : goal.invariant-loop-line
-invariant-loop-line l = (l.number ≡ length l.yielded) × (length l.feeds ≡ length l.arrivals)
-    × Arrive (map (λ line. line.now) l.yielded) l.ports l.feeds l.arrivals

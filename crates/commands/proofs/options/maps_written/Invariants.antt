@@ -1,7 +1,0 @@
-use Rattle.std.proofs.Common.{◌≡◌, All, map, take}
-use Rattle.commands.specs.Options.{IsMap, map_of}
-use Rattle.commands.proofs.options.maps_written.Given as goal
-
-abbrev pub invariant-loop-part : goal.invariant-loop-part
-invariant-loop-part l =
-    All (λ part. IsMap part.now) (take l.part-index l.parts) × (l.maps.items ≡ map (λ part. map_of part.now) (take l.part-index l.parts))

@@ -1,7 +1,0 @@
-use Rattle.std.proofs.Common.{◌≡◌, length}
-use Rattle.std.specs.Prelude.{vec_items, vec_len}
-use Rattle.commands.proofs.Rejoining.{AreRejoined}
-use Rattle.commands.proofs.queues.sinks_of.Given as goal
-
-abbrev pub invariant-loop-worker : goal.invariant-loop-worker
-invariant-loop-worker g l = (vec_len l.sinks ≡ length l.yielded) × AreRejoined l.ports (vec_items l.fn.put_passes) (vec_items l.put_passes) l.yielded (vec_items l.sinks)

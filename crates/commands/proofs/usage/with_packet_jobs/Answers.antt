@@ -1,0 +1,11 @@
+use Rattle.std.proofs.Common.{ap, ap₂, ◌≡◌, ◌∙◌}
+use Rattle.std.proofs.lemmas.Result.{IfOk-weaker}
+use Rattle.clap.specs.Simple.{App, app_of, with_subcommand}
+use Rattle.commands.proofs.usage.with_packet_jobs.Goals as goal
+
+pub returns : goal.returns
+returns c =
+    let with_packet = c.in_ok-subcommand.ensures.shape c.in_ok-packet.ensures.local
+    ∙ ap (with_subcommand (app_of c.args.rmapctl)) (ap (λ (a : App). a.top) c.in_ok-packet.ensures.shape) in
+    IfOk-weaker c.subcommand-2.result _ _ (λ m h. h.shape c.in_ok-show.ensures.local
+    ∙ ap₂ with_subcommand with_packet (ap (λ (a : App). a.top) c.in_ok-show.ensures.shape)) c.subcommand-2.ensures

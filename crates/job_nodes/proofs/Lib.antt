@@ -1,0 +1,4 @@
+mod Continuing
+mod FirstWords
+mod LinesInTurn
+mod Simulating

@@ -1,0 +1,46 @@
+use Rattle.std.proofs.Common.{rules, ◌≡◌, ◌∙◌, ℕ, List, [], ◌∷◌, length, refl, sym, ap}
+use Rattle.std.proofs.lemmas.List.{length-replicate}
+use Rattle.std.proofs.lemmas.List.FromFn.{length-map-range_with_len}
+use base.Stored.{Gv}
+use Rattle.bank.specs.Records.{BankValue}
+use Rattle.bver.specs.Justified.{AcceptedValue}
+use Rattle.machine.specs.Sizes.{Maps}
+use Rattle.publish.specs.declared.history.Publish.{Publish}
+use Rattle.target.specs.Nodes.{bank_of, fresh_banks}
+use Rattle.target.specs.Nodes as nodes
+use Rattle.target.specs.Passes.{PassValue}
+use Rattle.target.specs.declared.config.NodeConfig.{NodeConfig}
+use Rattle.job_nodes.specs.JobNode.{IsConfig, first_passes, job_node, own_bank}
+use Rattle.job_nodes.proofs.node.JobNode.new.Goals as goal
+
+-- nodes of the same parts
+same_node : (b banks : List BankValue) (p programs : List Publish) (h passes : List PassValue) (f held : List (List ℕ)) (r reply : List ℕ)
+    → b ≡ banks → p ≡ programs → h ≡ passes → f ≡ held → r ≡ reply → job_node b p h f r ≡ job_node banks programs passes held reply
+same_node b banks p programs h passes f held r reply same_banks same_programs same_passes same_held same_reply =
+    rw (same_banks, same_programs, same_passes, same_held, same_reply) refl
+
+-- the banks of that configuration
+own_banks : (ports : ℕ) (sizes : Maps) (config : NodeConfig) → IsConfig ports sizes config → fresh_banks config ≡ bank_of ports own_bank ∷ []
+own_banks ports sizes config is = rw (is.banks, is.ports_are) refl
+
+-- what its ports have at first
+own_passes : (ports : ℕ) (sizes : Maps) (config : NodeConfig) (program : AcceptedValue) (home : Gv) → IsConfig ports sizes config
+    → nodes.first_passes config program home ≡ first_passes ports program home
+own_passes ports sizes config program home is = rw (is.address, is.banks, is.ports_are) refl
+
+pub returns-clause-made : goal.returns-clause-made
+returns-clause-made g c =
+    let own = c.node_config-config.ensures in
+    let home = c.in-Ok._cells.home in (
+      home,
+      same_node _ _ _ _ _ _ _ _ _ _ (c.in-Ok.ensures.banks ∙ own_banks _ _ _ own) c.in-Ok.ensures.publisher
+          (c.in-Ok.ensures.passes ∙ own_passes _ _ _ c.args.program home own) c.in_ok-feeds.ensures c.new-2.ensures,
+    )
+
+pub invariant_of-result : goal.invariant_of-result
+invariant_of-result g c =
+    let own = c.node_config-config.ensures in
+    let home = c.in-Ok._cells.home in
+    let held = ap (λ (xs : List (List ℕ)). length xs) c.in_ok-feeds.ensures ∙ length-replicate c.args.ports [] in
+    let passes = ap (λ (xs : List PassValue). length xs) (c.in-Ok.ensures.passes ∙ own_passes _ _ _ c.args.program home own) in
+    record { paired = search rules; ports = held ∙ sym (passes ∙ length-map-range_with_len _ 0 c.args.ports) }

@@ -1,0 +1,98 @@
+-- The node that the jobs run, with its ports.
+use Rattle.std.specs.Prelude.{◌≡◌, ℕ, List, [], ◌∷◌, length, map, replicate, slice_get, slice_set, Option, Some, None}
+use Rattle.std.specs.List.{range_with_len}
+use base.Stored.{Gv}
+use Rattle.bank.specs.Records.{BankValue}
+use Rattle.bver.specs.Justified.{AcceptedValue}
+use Rattle.machine.specs.Sizes.{Maps}
+use Rattle.spw.specs.Cargo.{Cargo}
+use Rattle.publish.specs.declared.history.Publish.{Publish}
+use Rattle.target.specs.declared.config.BankConfig.{BankConfig}
+use Rattle.target.specs.declared.config.NodeConfig.{NodeConfig}
+use Rattle.target.specs.declared.served.Served.{Served}
+use Rattle.target.specs.Served.{IsAnswered, parts}
+use Rattle.target.specs.Nodes.{bank_of, first_pass, first_programs}
+use Rattle.target.specs.Passes.{PassValue}
+use Rattle.target.specs.Pairs.{ArePaired}
+use Rattle.job_nodes.specs.Feeds.{IsFed, IsNotFed}
+use Rattle.job_parts.specs.declared.bad_lines.BadLine.{BadLine}
+
+-- the node's banks, the programs that were published of it, what each port has of it, the bytes that each port
+-- holds of a packet that has not ended, and the reply to the last packet
+pub record JobNodeValue : Type 0 where
+  pub banks : List BankValue
+  pub programs : List Publish
+  pub passes : List PassValue
+  pub held : List (List ℕ)
+  pub reply : List ℕ
+
+-- the node of these banks, programs and ports, which hold these bytes, with this reply
+abbrev pub job_node : List BankValue → List Publish → List PassValue → List (List ℕ) → List ℕ → JobNodeValue
+job_node banks programs passes held reply =
+    record { banks = banks; programs = programs; passes = passes; held = held; reply = reply }
+
+-- banks and ports were made together, or are as packets left them, and each port holds some bytes
+pub record IsJobNode (s : JobNodeValue) : Type 0 where
+  pub paired : ArePaired s.banks s.passes
+  pub ports : length s.held ≡ length s.passes
+
+-- logical address FE, and one bank of 65,536 zero bytes at A0000000 with room for 1,024 entries
+abbrev pub own_bank : BankConfig
+own_bank = record { base = 2684354560; size = 65536; room = 1024 }
+
+-- the configuration of the node with so many ports, and maps of these sizes
+pub record IsConfig (ports : ℕ) (sizes : Maps) (config : NodeConfig) : Type 0 where
+  pub address : config.address ≡ 254
+  pub ports_are : config.ports ≡ ports
+  pub banks : config.banks.now ≡ own_bank ∷ []
+  pub sizes_are : config.sizes ≡ sizes
+
+-- what each of so many ports has of a fresh node at first, with seats at those cells
+abbrev pub first_passes : (ports : ℕ) → AcceptedValue → (home : Gv) → List PassValue
+first_passes ports program home = map (first_pass 254 (own_bank ∷ []) program home) (range_with_len 0 ports)
+
+-- a fresh node with so many ports, at each of which the program judges, and which hold nothing
+abbrev pub IsFresh : (ports : ℕ) → AcceptedValue → JobNodeValue → Type 0
+IsFresh ports program node =
+    (home : Gv)
+    × (node ≡ job_node (bank_of ports own_bank ∷ []) (first_programs program) (first_passes ports program home)
+    (replicate ports []) [])
+
+-- this became of the packet that came in at the port, the node has the reply that is due, and no other port
+-- changed
+pub record Serves (served : Served) (port : ℕ) (packet : Cargo) (before after : JobNodeValue) : Type 0 where
+  pub holder : PassValue
+  pub left : PassValue
+  pub own : slice_get before.passes port ≡ Some holder
+  pub others : after.passes ≡ slice_set before.passes port left
+  pub held : after.held ≡ before.held
+  pub answered : IsAnswered served packet (parts before.banks before.programs) (parts after.banks after.programs) holder
+      left after.reply
+
+-- the node whose ports hold these bytes, and that is the same otherwise
+abbrev pub with_held : JobNodeValue → List (List ℕ) → JobNodeValue
+with_held node held = job_node node.banks node.programs node.passes held node.reply
+
+-- a port holds the line's piece, and no packet came
+pub record HoldsLine (line : List ℕ) (before after : JobNodeValue) : Type 0 where
+  pub held : List (List ℕ)
+  pub fed : IsFed line before.held held None
+  pub same : after ≡ with_held before held
+
+-- the line ended a packet of this port, and this became of it
+pub record ServesLine (line : List ℕ) (port : ℕ) (served : Served) (before after : JobNodeValue) : Type 0 where
+  pub packet : Cargo
+  pub held : List (List ℕ)
+  pub fed : IsFed line before.held held (Some (port, packet))
+  pub step : Serves served port packet (with_held before held) after
+
+-- what came of a line: no packet yet, or what became of a packet of a port
+abbrev pub TakesLine : List ℕ → Option (ℕ × Served) → (before after : JobNodeValue) → Type 0
+TakesLine line None before after = HoldsLine line before after
+TakesLine line (Some came) before after = ServesLine line came.0 came.1 before after
+
+-- nothing came of a line, which has this fault, but what its port may hold
+pub record RefusesLine (line : List ℕ) (fault : BadLine) (before after : JobNodeValue) : Type 0 where
+  pub held : List (List ℕ)
+  pub unfed : IsNotFed line before.held held fault
+  pub same : after ≡ with_held before held

@@ -1,0 +1,69 @@
+//! Event lines: text that writes one step of one port.
+
+ghost use Rattle.std.specs.Prelude.{◌≡◌, ◌∷◌, [], MatchOption, MatchResult};
+ghost use Rattle.spw.specs.Line.{words_of as words_in};
+ghost use Rattle.job_nodes.specs.EventLines.{IsEventLine, IsNoEvent, IsNoLonePort, IsNoTake, IsTakeLine, WritesLonePort};
+
+use job_parts::bad_lines::BadLine;
+use sched::Event;
+use spw::{LineFault, read_line, read_port, words_of};
+use std::alloc::Global;
+
+/// The first word of a line, and the text behind it; `None` where the line has no word.
+fn first_word(line: &str) -> Option<(&str, &str)>
+    ensures { MatchOption result (words_in line.now ≡ [])
+        (λ cut. words_in line.now ≡ cut.0.now ∷ words_in cut.1.now) }
+{
+    let text = line.trim_start_matches(' ');
+    if text.is_empty() {
+        return None;
+    }
+    Some(text.split_once(' ').unwrap_or((text, "")))
+}
+
+/// The packet that is taken, by the text behind the word `take`.
+fn taken(alloc: Global, text: &str) -> Result<Event, BadLine>
+    ensures { MatchResult result (IsTakeLine text.now) (IsNoTake text.now) }
+{
+    let (port, packet) = read_line(alloc, text)?;
+    Ok(Event::Take(port, packet))
+}
+
+/// The port that the one word of a text writes.
+fn lone_port(alloc: Global, text: &str) -> Result<u8, BadLine>
+    ensures { MatchResult result (WritesLonePort text.now) (IsNoLonePort text.now) }
+{
+    let words = words_of(alloc, text)?;
+    let [port, more @ ..] = words.as_slice() else {
+        return Err(BadLine::Line(LineFault::NoPort));
+    };
+    let port = read_port(port)?;
+    if more.is_empty() {
+        Ok(port)
+    } else {
+        Err(BadLine::NoEvent)
+    }
+}
+
+/// The event that a line writes: `take` and a packet line behind it, or `count`, `ticket`, `peak`, `effect` or `publish`
+/// and a port behind it. Words are what stands between spaces, as in packet lines.
+///
+/// The faults are tested in this order: `NoEvent` where the first word is that of no event, or there is none; the port;
+/// behind `take` the rest of the packet line, as [`read_line`] does; `NoEvent` where there are words too many. `Memory`
+/// of a line comes where memory was refused.
+pub fn read_event(alloc: Global, line: &str) -> Result<Event, BadLine>
+    ensures { MatchResult result (IsEventLine line.now) (IsNoEvent line.now) }
+{
+    let Some((word, text)) = first_word(line) else {
+        return Err(BadLine::NoEvent);
+    };
+    match word {
+        "take" => taken(alloc, text),
+        "count" => Ok(Event::Count(lone_port(alloc, text)?)),
+        "ticket" => Ok(Event::Ticket(lone_port(alloc, text)?)),
+        "peak" => Ok(Event::Peak(lone_port(alloc, text)?)),
+        "effect" => Ok(Event::Effect(lone_port(alloc, text)?)),
+        "publish" => Ok(Event::Publish(lone_port(alloc, text)?)),
+        _ => Err(BadLine::NoEvent),
+    }
+}

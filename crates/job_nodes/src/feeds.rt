@@ -1,0 +1,64 @@
+//! The packets that have not ended, one for each port of a node.
+
+ghost use Rattle.std.specs.Prelude.{◌≡◌, ◌<◌, [], length, replicate, IfOk, IfErr, IfSome};
+ghost use Rattle.job_nodes.specs.Feeds.{IsFed, IsNotFed};
+
+use job_parts::bad_lines::BadLine;
+use spw::{Feed, Packet, read_part};
+use std::alloc::{AllocError, Global};
+use std::marker::Model;
+
+/// What the ports of a node hold of packets that have not ended, by the number of the port. Contracts see the
+/// bytes that each holds.
+#[derive(Drop)]
+pub struct Feeds {
+    feeds: Vec<Feed>,
+}
+
+impl Model for Feeds {
+    ghost use Rattle.std.specs.Prelude.{ℕ, List};
+
+    ghost Value = { List (List ℕ) };
+
+    ghost view = { λ f. f.feeds.items };
+}
+
+impl Feeds {
+    /// So many ports that hold nothing.
+    pub fn new(alloc: Global, ports: u8) -> Result<Feeds, AllocError>
+        ensures { IfOk result (λ feeds. feeds ≡ replicate ports []) }
+    {
+        let mut feeds = Vec::with_capacity(alloc, usize::from(ports))?;
+        for _port in 0..ports {
+            let feed = Feed::new(alloc).map_err(|_| AllocError)?;
+            feeds.push(feed)?;
+        }
+        Ok(Feeds { feeds })
+    }
+
+    /// Gives the piece that a line writes to its port: the port and the packet that ends with it, or `None` where
+    /// the packet goes on. Lines are read by [`read_part`].
+    ///
+    /// The faults are found in this order: those of the line, `NoPort` for a port that does not exist, `TooLong` where the
+    /// piece and what its port holds are over [`MAX_PACKET`](spw::MAX_PACKET) bytes. `Memory` comes where memory was
+    /// refused: to a packet that ends, it leaves its bytes with the port.
+    pub fn take_line(&mut self, alloc: Global, line: &str) -> Result<Option<(u8, Packet)>, BadLine>
+        ensures fed { IfOk result (IsFed line.now self.old self.new) }
+        ensures own_port { IfOk result (λ came. IfSome came (λ own. own.0 < length self.old)) }
+        ensures refused { IfErr result (IsNotFed line.now self.old self.new) }
+        ensures ports { length self.new ≡ length self.old }
+    {
+        let (port, piece, mark) = read_part(alloc, line)?;
+        let place = usize::from(port);
+        if place >= self.feeds.len() {
+            return Err(BadLine::NoPort);
+        }
+        let feed = &mut self.feeds[place];
+        feed.piece(&piece)?;
+        let Some(end) = mark else {
+            return Ok(None);
+        };
+        let packet = feed.close(end)?;
+        Ok(Some((port, packet)))
+    }
+}

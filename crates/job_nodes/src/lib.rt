@@ -1,0 +1,8 @@
+//! The jobs of `rmapctl` that take one packet or event after the other.
+#![tactic(auto)]
+
+pub mod events;
+pub mod feeds;
+pub mod judge;
+pub mod node;
+pub mod sim;

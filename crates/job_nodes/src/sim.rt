@@ -1,0 +1,158 @@
+//! The job `sim`.
+
+ghost use Rattle.std.specs.Prelude.{◌≡◌, IfErr, IfOk, OnOk, false, string_bytes};
+ghost use Rattle.clap.specs.Simple.{app_of};
+ghost use Rattle.clap.specs.declared.builder.command.Command.TheViews.{out-Command as fields_of};
+ghost use Rattle.spw.specs.Line.{lines_of};
+ghost use Rattle.job_parts.specs.Given.{IsNotReady};
+ghost use Rattle.job_parts.specs.Printed.{Prints};
+ghost use Rattle.job_parts.specs.Stops.{StopsBy};
+ghost use Rattle.job_nodes.specs.EventLines.{IsEventOf};
+ghost use Rattle.job_nodes.specs.SimJob.{outcome_line, sim_app, status_line};
+ghost use Rattle.job_nodes.specs.Simulated.{IsNoEventAt, IsNotSimulated, IsSet, IsStuck, IsStuckAt, SimulatesAll, SimulatesFile, Steps};
+
+use crate::events::read_event;
+use crate::node::node_config;
+use clap::Command;
+use job_parts::bad_lines::BadLine;
+use job_parts::faults::Fault;
+use job_parts::lines::{LinesArgs, lines_and_program, lines_command};
+use job_parts::replies::print_bytes;
+use job_parts::stops::Halt;
+use job_parts::storage::Files;
+use rmap::Status;
+use sched::{Event, Outcome, World, step};
+use spw::lines_of;
+use std::alloc::{AllocError, Global};
+use std::io::{self, Write};
+
+/// `sim LINES [--image FILE] [--maps LIST] [--ports N]`.
+pub fn sim_command<'a>(alloc: Global) -> Result<Command<'a>, AllocError>
+    ensures shape { IfOk result (λ c. app_of c ≡ sim_app) }
+    ensures local { IfOk result (λ c. (fields_of c).has_globals ≡ false) }
+{
+    let about = "Steps through the events of a schedule and prints what each comes to";
+    let help = "The file of events, or - for standard input";
+    lines_command(alloc, "sim", about, help)
+}
+
+/// Prints a status and a reply: `WHAT S HEX`, or `WHAT S -` where no reply is due and it has no bytes.
+fn print_status<W: Write>(out: &mut W, what: &str, status: Status, reply: &[u8]) -> io::Result<()>
+    ensures { OnOk result
+        (Prints W.contents out.old out.new (status_line what.now status reply.now)) }
+{
+    let code = status.code();
+    write!(out, "{what} {code} ")?;
+    print_bytes(out, reply)?;
+    writeln!(out)
+}
+
+/// Prints what an event comes to: `refused`, `discard C`, `answered S HEX`, `taken G`, `told N` or `done S HEX`.
+fn print_outcome<W: Write>(out: &mut W, outcome: &Outcome) -> io::Result<()>
+    ensures { OnOk result (Prints W.contents out.old out.new (outcome_line outcome.now)) }
+{
+    match outcome {
+        Outcome::Refused => writeln!(out, "refused"),
+        Outcome::Discarded(discard) => {
+            let code = discard.code();
+            writeln!(out, "discard {code}")
+        }
+        Outcome::Answered(status, reply) => print_status(out, "answered", *status, reply.bytes()),
+        Outcome::Taken(generation) => writeln!(out, "taken {generation}"),
+        Outcome::Told(told) => writeln!(out, "told {told}"),
+        Outcome::Done(status, reply, _) => print_status(out, "done", *status, reply.bytes()),
+    }
+}
+
+/// The event that the line of this number writes, at one of so many ports.
+fn event_at<'a>(alloc: Global, ports: u8, line: &str, number: usize) -> Result<Event, Fault<'a>>
+    ensures event { IfOk result (IsEventOf ports line.now) }
+    ensures bad { IfErr result (IsNoEventAt ports line.now number) }
+{
+    let event = read_event(alloc, line).map_err(|fault| Fault::BadLine { number, fault })?;
+    if event.port() >= ports {
+        let fault = BadLine::NoPort;
+        return Err(Fault::BadLine { number, fault });
+    }
+    Ok(event)
+}
+
+/// Takes one line: the world steps by its event, and what that comes to is printed. `number` is that of the line.
+fn sim_line<'a, W: Write>(
+    alloc: Global,
+    world: &mut World,
+    line: &str,
+    number: usize,
+    out: &mut W,
+) -> Result<(), Halt<'a>>
+    ensures stepped { OnOk result (Steps line.now world.old world.new
+        (W.contents out.old) (W.contents out.new)) }
+    ensures stops { IfErr result (StopsBy (IsStuckAt line.now number world.old
+        (W.contents out.old) (W.contents out.new))) }
+{
+    let event = event_at(alloc, world.ports(), line, number)?;
+    // Memory alone can be refused to it: the port of the event is one of the world.
+    let Ok(outcome) = step(alloc, world, event) else {
+        return Err(Halt::Ended(Fault::NoMemory));
+    };
+    Ok(print_outcome(out, &outcome)?)
+}
+
+/// Takes each line of a text in turn.
+fn sim_text<'a, W: Write>(
+    alloc: Global,
+    world: &mut World,
+    text: &str,
+    out: &mut W,
+) -> Result<(), Halt<'a>>
+    ensures simulated { OnOk result (SimulatesAll (lines_of text.now) world.old world.new
+        (W.contents out.old) (W.contents out.new)) }
+    ensures stops { IfErr result (StopsBy (IsStuck (lines_of text.now) world.old
+        (W.contents out.old) (W.contents out.new))) }
+{
+    let mut number: usize = 0;
+    for line in lines_of(text) {
+        number += 1;
+        sim_line(alloc, world, line, number, out)?;
+    }
+    Ok(())
+}
+
+/// The text of the file of events, and the world of a node of these arguments behind no event, in each of whose slots
+/// the program of its image file stands, or the factory program.
+fn lines_and_world<'a, F: Files>(
+    alloc: Global,
+    args: &'a LinesArgs,
+    files: &mut F,
+) -> Result<(String, World), Fault<'a>>
+    ensures set { IfOk result
+        (λ made. IsSet F.reads args.now files.old (string_bytes made.0) made.1 files.new) }
+    ensures refused { IfErr result (IsNotReady F.reads args.now files.old files.new) }
+{
+    let (text, program) = lines_and_program(alloc, args, files)?;
+    let config = node_config(args.node.ports, args.node.sizes);
+    // Memory alone can be refused to it: the command line gives no other number of ports than a node has.
+    let world = World::with_factory(alloc, &config, program).map_err(|_| Fault::NoMemory)?;
+    Ok((text, world))
+}
+
+/// Steps through the events of a file, in order, from the beginning of the node of these arguments, whose programs are
+/// at first that of an image file, or the factory program. What each event comes to is printed before the next line is
+/// read.
+///
+/// Faults are found in this order: the file of events (`CannotRead`, also where it is not UTF-8), the image file, its
+/// image, and then each line.
+pub fn sim_file<'a, F: Files, W: Write>(
+    alloc: Global,
+    args: &'a LinesArgs,
+    files: &mut F,
+    out: &mut W,
+) -> Result<(), Halt<'a>>
+    ensures done { OnOk result (SimulatesFile F.reads args.now files.old files.new
+        (W.contents out.old) (W.contents out.new)) }
+    ensures stops { IfErr result (StopsBy (IsNotSimulated F.reads args.now files.old files.new
+        (W.contents out.old) (W.contents out.new))) }
+{
+    let (text, mut world) = lines_and_world(alloc, args, files)?;
+    sim_text(alloc, &mut world, text.as_str(), out)
+}

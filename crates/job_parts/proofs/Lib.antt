@@ -1,0 +1,5 @@
+mod FactoryImage
+mod FactoryJustified
+mod HexPrinted
+mod HexText
+mod MapLists

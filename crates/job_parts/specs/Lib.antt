@@ -1,0 +1,12 @@
+pub mod Arguments
+pub mod BadLines
+pub mod Factory
+pub mod Files
+pub mod Given
+pub mod Lines
+pub mod Options
+pub mod Printed
+pub mod Reading
+pub mod Replies
+pub mod Statuses
+pub mod Stops

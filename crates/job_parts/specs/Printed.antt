@@ -1,0 +1,46 @@
+-- What is printed, and the line of the fault that ends a job.
+use Rattle.std.specs.Prelude.{ℕ, List, [], ◌∷◌, ◌++◌, codes, decimal, Option}
+use Rattle.std.specs.Io.KnownBytes.{Appends}
+use Rattle.basm.specs.Codes.{asm_code}
+use Rattle.bpf.specs.Fault.{image_fault_code, image_fault_slot}
+use Rattle.bver_form.specs.Codes.{refusal_code}
+use Rattle.policy.specs.Codes.{policy_fault_code}
+use Rattle.job_parts.specs.BadLines.{bad_line_number}
+use Rattle.job_parts.specs.declared.faults.Fault.{Fault}
+use Rattle.job_parts.specs.declared.faults.Fault.TheVariants.{
+  CannotRead,
+  CannotWrite,
+  NoMemory,
+  BadText,
+  BadTable,
+  BadImage,
+  Refused,
+  BadLine,
+}
+
+-- the line was printed, behind what the writer holds where that is known
+abbrev pub Prints : {W : Type 0} → (contents : W → Option (List ℕ)) → (old new : W) → List ℕ → Type 0
+Prints contents old new line = Appends (contents old) (contents new) line
+
+-- more was printed, behind what the writer holds where that is known
+abbrev pub PrintsMore : (old new : Option (List ℕ)) → Type 0
+PrintsMore old new = (more : List ℕ) × Appends old new more
+
+-- the text of what ends a job
+abbrev pub fault_text : Fault → List ℕ
+fault_text (CannotRead name) = codes "cannot read " ++ name.now
+fault_text (CannotWrite name) = codes "cannot write " ++ name.now
+fault_text NoMemory = codes "no memory"
+fault_text (BadText fault) =
+    codes "asm fault " ++ decimal (asm_code fault.code) ++ codes " line " ++ decimal fault.line
+fault_text (BadTable fault) = codes "policy fault " ++ decimal (policy_fault_code fault)
+fault_text (BadImage fault) =
+    codes "image fault " ++ decimal (image_fault_code fault) ++ codes " slot " ++ decimal (image_fault_slot fault)
+fault_text (Refused refused) =
+    codes "refused V" ++ decimal (refusal_code refused.code) ++ codes " slot " ++ decimal refused.slot
+fault_text (BadLine number fault) =
+    codes "line " ++ decimal number ++ codes " fault " ++ decimal (bad_line_number fault)
+
+-- the line of what ends a job
+abbrev pub fault_line : Fault → List ℕ
+fault_line fault = fault_text fault ++ 10 ∷ []

@@ -1,0 +1,89 @@
+//! What is wrong with a line of a job.
+
+ghost use Rattle.std.specs.Prelude.{◌≡◌, IfSome, Some, is_some, true};
+ghost use Rattle.spw.specs.declared.faults.LineFault.TheVariants.{Memory};
+ghost use Rattle.job_parts.specs.BadLines.{bad_line_number, bad_line_of_number};
+ghost use Rattle.job_parts.specs.declared.bad_lines.BadLine.TheVariants.{Line};
+
+use spw::LineFault;
+use std::alloc::AllocError;
+use thiserror::Error;
+
+const NO_PORT: &str = "\
+A line names a port that the node does not have: it has those below the number in `--ports`, one without it. In
+`sim` a line may also be empty, begin with a word that is no event, or have words too many.
+Give the node more ports, or compare the line with the events in docs/COMMANDS.md.";
+
+const NO_ROOM: &str = "\
+`serve` reads all packets before it begins, at most 1,023 of each port, and the line ends one more.
+Serve the file in parts.";
+
+/// What is wrong with a line of a job: a packet line, a line of a piece of a packet, or an event line.
+#[derive(Clone, Copy, Debug, PartialEq, Eq, Error)]
+pub enum BadLine {
+    /// Its port, its bytes or its marker are wrong, its packet is too long, or memory was refused.
+    #[error("{0}")]
+    Line(LineFault),
+    /// The node has no such port.
+    #[error("no such port, or no such event")]
+    NoPort,
+    /// The first word is that of no event, there is none, or there are words too many.
+    #[error("no such port, or no such event")]
+    NoEvent,
+    /// The port has no room for the packet that the line ends.
+    #[error("more packets than the port has room for")]
+    NoRoom,
+}
+
+impl BadLine {
+    /// The number that is printed of it: 1 to 5 as of a packet line, 6 of a port or an event that does not exist, and
+    /// 7 of a packet too many.
+    pub fn number(self) -> u8
+        ensures { result ≡ bad_line_number self }
+    {
+        match self {
+            BadLine::Line(fault) => fault.code(),
+            BadLine::NoPort | BadLine::NoEvent => 6,
+            BadLine::NoRoom => 7,
+        }
+    }
+
+    /// What is wrong with a line of which this number is printed; of 6 it is the port. `None` where nothing has the
+    /// number.
+    pub fn from_number(number: u8) -> Option<BadLine>
+        ensures value { result ≡ bad_line_of_number number }
+        ensures number { IfSome result (λ bad. bad_line_number bad ≡ number) }
+        ensures all { (bad : BadLine) → bad_line_number bad ≡ number → is_some result ≡ true }
+    {
+        match number {
+            6 => Some(BadLine::NoPort),
+            7 => Some(BadLine::NoRoom),
+            _ => Some(BadLine::Line(LineFault::from_code(number)?)),
+        }
+    }
+
+    /// When it comes, and what to do, in lines of at most 113 columns.
+    pub fn advice(self) -> &'static str {
+        match self {
+            BadLine::Line(fault) => fault.advice(),
+            BadLine::NoPort | BadLine::NoEvent => NO_PORT,
+            BadLine::NoRoom => NO_ROOM,
+        }
+    }
+}
+
+impl From<LineFault> for BadLine {
+    ghost from_gives = { λ fault bad. bad ≡ Line fault };
+
+    fn from(fault: LineFault) -> Self {
+        BadLine::Line(fault)
+    }
+}
+
+impl From<AllocError> for BadLine {
+    ghost from_gives = { λ _ bad. bad ≡ Line Memory };
+
+    fn from(_refused: AllocError) -> Self {
+        BadLine::Line(LineFault::Memory)
+    }
+}

@@ -1,0 +1,16 @@
+//! What the jobs of `rmapctl` share: files and what is read of them, the words of a command line, faults and what is
+//! printed of them, the lines of a text, and the program that judges.
+#![tactic(auto)]
+
+pub mod arguments;
+pub mod bad_lines;
+pub mod factory;
+pub mod faults;
+pub mod host;
+pub mod lines;
+pub mod options;
+pub mod programs;
+pub mod replies;
+pub mod stops;
+pub mod storage;
+pub mod usage;

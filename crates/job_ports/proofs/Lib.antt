@@ -1,0 +1,9 @@
+mod Arriving
+mod Desking
+mod Ending
+mod Filling
+mod LinesInTurn
+mod NotServed
+mod PrintedLines
+mod Rejoining
+mod Tables

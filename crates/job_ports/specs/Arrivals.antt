@@ -1,0 +1,160 @@
+-- The packets that lines bring to the ports of a node.
+use Rattle.std.specs.Prelude.{
+  ◌≡◌,
+  ◌<◌,
+  ◌≤◌,
+  ◌==◌,
+  ◌⊎◌,
+  ℕ,
+  suc,
+  List,
+  [],
+  ◌∷◌,
+  ◌++◌,
+  length,
+  map,
+  filter,
+  replicate,
+  slice_index_or,
+  slice_set,
+  Option,
+  Some,
+  None,
+}
+use Rattle.spw.specs.Cargo.{Cargo}
+use Rattle.job_parts.specs.declared.bad_lines.BadLine.{BadLine}
+use Rattle.job_parts.specs.declared.bad_lines.BadLine.TheVariants.{NoRoom}
+use Rattle.job_parts.specs.declared.faults.Fault.{Fault}
+use Rattle.job_parts.specs.declared.faults.Fault.TheVariants.{
+  CannotRead,
+  CannotWrite,
+  NoMemory,
+  BadText,
+  BadTable,
+  BadImage,
+  Refused,
+  BadLine as AtLine,
+}
+use Rattle.job_nodes.specs.Feeds.{IsFed, IsNotFed}
+
+-- the packets of one port among these, in order
+abbrev pub packets_at : (port : ℕ) → List (ℕ × Cargo) → List Cargo
+packets_at port packets = map (λ (came : ℕ × Cargo). came.1) (filter (λ (came : ℕ × Cargo). came.0 == port) packets)
+
+-- the packet that came of a line, if one did
+abbrev pub listed : Option (ℕ × Cargo) → List (ℕ × Cargo)
+listed None = []
+listed (Some came) = came ∷ []
+
+-- ports that hold these bytes of packets take the lines in turn: these packets come, each with its port, and the ports
+-- hold those bytes then
+abbrev pub Bring : List (List ℕ) → (before after : List (List ℕ)) → List (ℕ × Cargo) → Type 0
+Bring [] before after packets = (after ≡ before) × (packets ≡ [])
+Bring (line ∷ lines) before after packets =
+    (came : Option (ℕ × Cargo)) × (between : List (List ℕ)) × (later : List (ℕ × Cargo))
+    × IsFed line before between came × Bring lines between after later × (packets ≡ listed came ++ later)
+
+-- so many ports, which hold nothing at first, take the lines: these packets come, at most 1,023 of a port, and the
+-- ports hold those bytes then
+pub record AreTaken (lines : List (List ℕ)) (ports : ℕ) (held : List (List ℕ)) (packets : List (ℕ × Cargo)) : Type 0
+  where
+    pub brought : Bring lines (replicate ports []) held packets
+    pub few : (port : ℕ) → length (packets_at port packets) ≤ 1023
+
+-- each line writes a packet of a port below the number, or a piece of one, and these are the packets: no port has over
+-- 1,023. What ports hold behind the last line is no packet
+pub record AreLines (lines : List (List ℕ)) (ports : ℕ) (packets : List (ℕ × Cargo)) : Type 0 where
+  pub held : List (List ℕ)
+  pub taken : AreTaken lines ports held packets
+
+-- the ports do not take the line, with which this is wrong
+pub record IsBadHere (line : List ℕ) (held : List (List ℕ)) (fault : BadLine) : Type 0 where
+  pub left : List (List ℕ)
+  pub unfed : IsNotFed line held left fault
+
+-- the line ends a packet of a port of which there are 1,023
+pub record IsOneTooMany (line : List ℕ) (held : List (List ℕ)) (packets : List (ℕ × Cargo)) : Type 0 where
+  pub port : ℕ
+  pub packet : Cargo
+  pub left : List (List ℕ)
+  pub fed : IsFed line held left (Some (port, packet))
+  pub full : length (packets_at port packets) ≡ 1023
+
+-- the lines up to the one of this number, counted from 1, are taken, and that one is not: this is wrong with it, which
+-- is want of room where it ends a packet too many
+pub record BreaksAt (lines : List (List ℕ)) (ports number : ℕ) (fault : BadLine) : Type 0 where
+  pub before : List (List ℕ)
+  pub line : List ℕ
+  pub rest : List (List ℕ)
+  pub held : List (List ℕ)
+  pub packets : List (ℕ × Cargo)
+  pub lines_are : lines ≡ before ++ line ∷ rest
+  pub place : number ≡ suc (length before)
+  pub taken : AreTaken before ports held packets
+  pub breaks : IsBadHere line held fault ⊎ ((fault ≡ NoRoom) × IsOneTooMany line held packets)
+
+-- why the lines are not taken: one of them has a fault, or memory was refused
+abbrev pub AreNotTaken : List (List ℕ) → (ports : ℕ) → Fault → Type 0
+AreNotTaken lines ports (CannotRead file) = ⊥
+AreNotTaken lines ports (CannotWrite file) = ⊥
+AreNotTaken lines ports NoMemory = Unit {0}
+AreNotTaken lines ports (BadText fault) = ⊥
+AreNotTaken lines ports (BadTable fault) = ⊥
+AreNotTaken lines ports (BadImage fault) = ⊥
+AreNotTaken lines ports (Refused refused) = ⊥
+AreNotTaken lines ports (AtLine number fault) = BreaksAt lines ports number fault
+
+-- the packets of each port, by its number
+pub record AreByPort (ports : ℕ) (packets : List (ℕ × Cargo)) (by_port : List (List Cargo)) : Type 0 where
+  pub count : length by_port ≡ ports
+  pub each : (port : ℕ) → port < ports → slice_index_or by_port port [] ≡ packets_at port packets
+
+-- the lines are taken, and those are the packets of each port
+pub record Arrive (lines : List (List ℕ)) (ports : ℕ) (held : List (List ℕ)) (by_port : List (List Cargo)) : Type 0
+  where
+    pub packets : List (ℕ × Cargo)
+    pub taken : AreTaken lines ports held packets
+    pub sorted : AreByPort ports packets by_port
+
+-- the same, whatever bytes the ports hold then
+pub record ArriveAll (lines : List (List ℕ)) (ports : ℕ) (by_port : List (List Cargo)) : Type 0 where
+  pub packets : List (ℕ × Cargo)
+  pub lines_are : AreLines lines ports packets
+  pub sorted : AreByPort ports packets by_port
+
+-- how many packets came to a port
+abbrev pub count_at : (port : ℕ) → List (List Cargo) → ℕ
+count_at port by_port = length (slice_index_or by_port port [])
+
+-- the packet that came, if one did, stands behind the others of its port, which had fewer than 1,023
+abbrev pub IsAdded : Option (ℕ × Cargo) → (before after : List (List Cargo)) → Type 0
+IsAdded None before after = after ≡ before
+IsAdded (Some came) before after = (came.0 < length before) × (count_at came.0 before < 1023)
+    × (after ≡ slice_set before came.0 (slice_index_or before came.0 [] ++ came.1 ∷ []))
+
+-- the line was taken, and what came of it was added
+pub record TakesIn (line : List ℕ) (held left : List (List ℕ)) (before after : List (List Cargo)) : Type 0 where
+  pub came : Option (ℕ × Cargo)
+  pub fed : IsFed line held left came
+  pub added : IsAdded came before after
+
+-- the line ends a packet of a port to which 1,023 came
+pub record FindsFull (line : List ℕ) (held : List (List ℕ)) (before : List (List Cargo)) : Type 0 where
+  pub port : ℕ
+  pub packet : Cargo
+  pub left : List (List ℕ)
+  pub fed : IsFed line held left (Some (port, packet))
+  pub inside : port < length before
+  pub full : 1023 ≤ count_at port before
+
+-- why the line of this number was not taken in
+abbrev pub IsNotTakenIn : List ℕ → (number : ℕ) → (held : List (List ℕ)) → List (List Cargo) → Fault → Type 0
+IsNotTakenIn line count held before (CannotRead file) = ⊥
+IsNotTakenIn line count held before (CannotWrite file) = ⊥
+IsNotTakenIn line count held before NoMemory = Unit {0}
+IsNotTakenIn line count held before (BadText fault) = ⊥
+IsNotTakenIn line count held before (BadTable fault) = ⊥
+IsNotTakenIn line count held before (BadImage fault) = ⊥
+IsNotTakenIn line count held before (Refused refused) = ⊥
+IsNotTakenIn line count held before (AtLine number fault) =
+    (number ≡ count) × (IsBadHere line held fault ⊎ ((fault ≡ NoRoom) × FindsFull line held before))

@@ -1,0 +1,4 @@
+pub mod Arrivals
+pub mod Queues
+pub mod ServeJob
+pub mod ServedFile

@@ -1,0 +1,92 @@
+-- Packets that wait in the queues of ports, and the workers that serve them.
+use Rattle.std.specs.Prelude.{◌≡◌, ◌<◌, ◌≤◌, ℕ, List, [], ◌∷◌, ◌++◌, length, map, slice_index_or, zip}
+use base.Stored.{Gv}
+use Rattle.bver.specs.Justified.{AcceptedValue}
+use Rattle.spw.specs.Cargo.{Cargo}
+use Rattle.target.specs.Passes.{PassValue}
+use Rattle.ports.specs.Queue.{IsPutPassOf, IsServePassOf, put_of, taken_of}
+use Rattle.ports.specs.Sinks.{SinkValue}
+use Rattle.ports.specs.declared.item.Item.{Item}
+use Rattle.ports.specs.declared.item.Item.TheVariants.{Data, Mark}
+use Rattle.ports.specs.declared.port.Port.{Port}
+use Rattle.ports.specs.declared.port.PutPass.{PutPass}
+use Rattle.ports.specs.declared.port.ServePass.{ServePass}
+use Rattle.ports.specs.declared.worker.Report.{Report}
+use Rattle.ports.specs.declared.worker.Worker.{Worker}
+use Rattle.job_nodes.specs.JobNode.{first_passes}
+use Rattle.job_ports.specs.ServedFile.{EndsSo, PortEnd, no_replies, report_of}
+
+-- no port has over 1,023 packets
+abbrev pub AreFew : List (List Cargo) → Type 0
+AreFew by_port = (port : ℕ) → port < length by_port → length (slice_index_or by_port port []) ≤ 1023
+
+-- these packets and then the end mark were put into the queue of the port, and nothing was taken; the passes
+-- are its own
+pub record IsFilled (packets : List Cargo) (port : Port) (put_pass : PutPass) (serve_pass : ServePass) : Type 0 where
+  pub puts : IsPutPassOf port put_pass
+  pub serves : IsServePassOf port serve_pass
+  pub put : put_of put_pass ≡ map Data packets ++ Mark ∷ []
+  pub taken : taken_of serve_pass ≡ []
+
+-- the port at each place is so filled with the packets at its place
+pub record AreFilled (by_port : List (List Cargo)) (ports : List Port) (put_passes : List PutPass)
+    (serve_passes : List ServePass) : Type 0 where
+  pub ports_count : length ports ≡ length by_port
+  pub puts_count : length put_passes ≡ length by_port
+  pub serves_count : length serve_passes ≡ length by_port
+  pub puts : (k : ℕ) (port : Port) (put_pass : PutPass) → k < length by_port
+      → IsPutPassOf (slice_index_or ports k port) (slice_index_or put_passes k put_pass)
+  pub serves : (k : ℕ) (port : Port) (serve_pass : ServePass) → k < length by_port
+      → IsServePassOf (slice_index_or ports k port) (slice_index_or serve_passes k serve_pass)
+  pub put : (k : ℕ) (packets : List Cargo) (put_pass : PutPass) → k < length by_port
+      → put_of (slice_index_or put_passes k put_pass) ≡ map Data (slice_index_or by_port k packets) ++ Mark ∷ []
+  pub taken : (k : ℕ) (packets : List Cargo) (serve_pass : ServePass) → k < length by_port
+      → taken_of (slice_index_or serve_passes k serve_pass) ≡ []
+
+-- a worker with what its port has of the node and what takes from the port's queue, whose sink has taken nothing
+abbrev pub new_worker : {J : Type 0} → PassValue × ServePass → Worker J SinkValue
+new_worker parts = record { pass = parts.0; serve_pass = parts.1; sink = no_replies }
+
+-- a fresh node of one bank, whose ports hold these packets, what puts into them, and their workers
+pub record IsDesk {J : Type 0} (program : AcceptedValue) (ports : ℕ) (by_port : List (List Cargo)) (banks : ℕ)
+    (queues : List Port) (puts : List PutPass) (workers : List (Worker J SinkValue)) : Type 0 where
+  pub home : Gv
+  pub serves : List ServePass
+  pub one : banks ≡ 1
+  pub count : length by_port ≡ ports
+  pub filled : AreFilled by_port queues puts serves
+  pub workers_are : workers ≡ map new_worker (zip (first_passes ports program home) serves)
+
+-- the first list is a beginning of the second
+pub record IsBeginning (taken put : List Item) : Type 0 where
+  pub rest : List Item
+  pub whole : put ≡ taken ++ rest
+
+-- at each place is what takes from the port, and what puts into it
+pub record AreOfPorts {J : Type 0} (ports : List Port) (put_passes : List PutPass) (workers : List (Worker J SinkValue))
+    : Type 0 where
+  pub puts_count : length put_passes ≡ length ports
+  pub workers_count : length workers ≡ length ports
+  pub puts : (k : ℕ) (port : Port) (put_pass : PutPass) → k < length ports
+      → IsPutPassOf (slice_index_or ports k port) (slice_index_or put_passes k put_pass)
+  pub serves : (k : ℕ) (port : Port) (worker : Worker J SinkValue) → k < length ports
+      → IsServePassOf (slice_index_or ports k port) (slice_index_or workers k worker).serve_pass
+
+-- what the worker at each place took is a beginning of what was put at that place
+abbrev pub AreBeginnings : {J : Type 0} → List PutPass → List (Worker J SinkValue) → Type 0
+AreBeginnings {J} put_passes workers =
+    (k : ℕ) (put_pass : PutPass) (worker : Worker J SinkValue) → k < length workers
+    → IsBeginning (taken_of (slice_index_or workers k worker).serve_pass)
+    (put_of (slice_index_or put_passes k put_pass))
+
+-- each port served the packets at its place and no others, in order, and those are its replies and what the workers
+-- reported
+pub record ServeEach (program : AcceptedValue) (ports : ℕ) (by_port : List (List Cargo)) (sinks : List SinkValue)
+    (report : Report) : Type 0 where
+  pub home : Gv
+  pub ends : List PortEnd
+  pub count : length ends ≡ ports
+  pub each : (port : ℕ) (end : PortEnd) → port < ports
+      → EndsSo program home port (slice_index_or by_port port []) (slice_index_or ends port end)
+  pub sinks_are : sinks ≡ map (λ (end : PortEnd). end.sink) ends
+  pub report_is : report ≡ report_of ends

@@ -1,0 +1,24 @@
+-- The job `serve`: its words, and what it prints.
+use Rattle.std.specs.Prelude.{ℕ, suc, List, [], ◌∷◌, ◌++◌, codes, decimal}
+use Rattle.std.specs.List.{flat_map}
+use Rattle.clap.specs.Simple.{App}
+use Rattle.ports.specs.declared.worker.Report.{Report}
+use Rattle.job_parts.specs.Lines.{lines_app}
+use Rattle.job_parts.specs.Replies.{reply_line}
+
+-- `serve LINES [--image FILE] [--maps LIST] [--ports N]`
+abbrev pub serve_app : App
+serve_app = lines_app (codes "serve")
+
+-- the lines of the replies of a port, in order
+abbrev pub port_lines : ℕ → List (List ℕ) → List ℕ
+port_lines port replies = flat_map (reply_line port) replies
+
+-- the lines of the replies of some ports, port by port, of which the first has this number
+abbrev pub lines_from : (first : ℕ) → List (List (List ℕ)) → List ℕ
+lines_from first [] = []
+lines_from first (replies ∷ others) = port_lines first replies ++ lines_from (suc first) others
+
+-- the line of how many packets were no command, and how many replies were lost
+abbrev pub report_line : Report → List ℕ
+report_line report = codes "discarded " ++ decimal report.discarded ++ codes " lost " ++ decimal report.lost ++ 10 ∷ []

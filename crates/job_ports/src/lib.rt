@@ -1,0 +1,6 @@
+//! The job of `rmapctl` that serves all ports at once.
+#![tactic(auto)]
+
+pub mod arrivals;
+pub mod queues;
+pub mod serve;

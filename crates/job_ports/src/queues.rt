@@ -1,0 +1,185 @@
+//! Packets that wait in the queues of a node's ports, and what its workers do with them.
+
+ghost use Rattle.std.specs.Prelude.{◌≡◌, ◌≤◌, IfErr, IfOk, length, map, vec_len, zip};
+ghost use Rattle.job_ports.specs.Queues.{AreBeginnings, AreFew, AreFilled, AreOfPorts, IsDesk, IsFilled, ServeEach, new_worker};
+ghost use Rattle.ports.specs.Serves.{AreServed};
+ghost use Rattle.job_parts.specs.declared.faults.Fault.TheVariants.{NoMemory};
+
+use crate::arrivals::Arrivals;
+use bver::Accepted;
+use job_nodes::node::node_config;
+use job_parts::faults::Fault;
+use ports::{MAX_CAPACITY, NoGate, Port, PutPass, Replies, Report, ServePass, Worker, serve};
+use publish::{Opened, ProgramFamily};
+use spw::Packet;
+use std::alloc::{AllocError, Global};
+use std::sync::Wait;
+use std::thread::Threads;
+use target::{Node, Pass};
+
+/// A port whose queue holds these packets and then the end mark, what puts into it, and what takes from it.
+fn filled<R: Wait>(
+    rt: &R,
+    alloc: Global,
+    packets: Vec<Packet>,
+) -> Result<(Port, PutPass, ServePass), AllocError>
+    requires { vec_len packets ≤ 1023 }
+    ensures { IfOk result (λ made. IsFilled packets.items made.0 made.1 made.2) }
+{
+    let (port, mut put_pass, serve_pass) = Port::new(alloc, MAX_CAPACITY)?;
+    for packet in packets {
+        let Ok(()) = port.put(rt, &mut put_pass, packet) else {
+            unreachable!()
+        };
+    }
+    let Ok(()) = port.close(rt, &mut put_pass) else {
+        unreachable!()
+    };
+    Ok((port, put_pass, serve_pass))
+}
+
+/// A port for each list of packets, in order, whose queue holds them and then the end mark; what puts into each, and
+/// what takes from each.
+fn fill<R: Wait>(
+    rt: &R,
+    alloc: Global,
+    arrivals: Arrivals,
+) -> Result<(Vec<Port>, Vec<PutPass>, Vec<ServePass>), AllocError>
+    requires { AreFew arrivals }
+    ensures { IfOk result (λ made. AreFilled arrivals made.0.items made.1.items made.2.items) }
+{
+    let mut ports = Vec::new(alloc);
+    let mut put_passes = Vec::new(alloc);
+    let mut serve_passes = Vec::new(alloc);
+    for packets in arrivals.into_packets() {
+        let (port, put_pass, serve_pass) = filled(rt, alloc, packets)?;
+        ports.push(port)?;
+        put_passes.push(put_pass)?;
+        serve_passes.push(serve_pass)?;
+    }
+    Ok((ports, put_passes, serve_passes))
+}
+
+/// A worker for each port, in order, whose replies are kept in memory.
+fn workers_of<J: ProgramFamily>(
+    alloc: Global,
+    passes: Vec<Pass<J>>,
+    serve_passes: Vec<ServePass>,
+) -> Result<Vec<Worker<J, Replies>>, AllocError>
+    ensures { IfOk result
+        (λ workers. workers.items ≡ map new_worker (zip passes.items serve_passes.items)) }
+{
+    passes
+        .into_iter()
+        .zip(serve_passes)
+        .map(|(pass, serve_pass)| {
+            let sink = Replies::new(alloc, pass.port());
+            Worker {
+                pass,
+                serve_pass,
+                sink,
+            }
+        })
+        .collect(alloc)
+}
+
+/// The sink of each worker. What the workers took is taken back into what puts, so that it is known to be all that was
+/// put.
+fn sinks_of<J: ProgramFamily>(
+    alloc: Global,
+    ports: &[Port],
+    mut put_passes: Vec<PutPass>,
+    workers: Vec<Worker<J, Replies>>,
+) -> Result<Vec<Replies>, AllocError>
+    requires { AreOfPorts ports.now put_passes.items workers.items }
+    ensures sinks { IfOk result (λ sinks. sinks.items ≡ map (λ w. w.sink) workers.items) }
+    ensures all { IfOk result (λ _. AreBeginnings put_passes.items workers.items) }
+{
+    let mut sinks = Vec::with_capacity(alloc, workers.len())?;
+    for worker in workers {
+        let place = sinks.len();
+        let put_pass = &mut put_passes[place];
+        let Worker {
+            pass: _,
+            serve_pass,
+            sink,
+        } = worker;
+        ports[place].rejoin(put_pass, serve_pass);
+        sinks.push(sink)?;
+    }
+    Ok(sinks)
+}
+
+/// A fresh node whose ports hold packets, what puts into each port, and their workers.
+#[derive(Drop)]
+struct Desks<J: ProgramFamily, R: Wait + Drop> {
+    node: Node<J, R>,
+    ports: Vec<Port>,
+    put_passes: Vec<PutPass>,
+    workers: Vec<Worker<J, Replies>>,
+}
+
+/// A fresh node with so many ports, at each of which the program judges, and which hold the packets that came to them.
+fn fresh_desks<'a, 'r, J: ProgramFamily, R: Wait>(
+    rt: &'r R,
+    alloc: Global,
+    opened: Opened,
+    ports: u8,
+    program: Accepted,
+    arrivals: Arrivals,
+) -> Result<Desks<J, &'r R>, Fault<'a>>
+    requires room { opened ≡ J.book }
+    requires few { AreFew arrivals }
+    requires count { length arrivals ≡ ports }
+    ensures fresh { IfOk result (λ made. IsDesk program ports arrivals made.node made.ports.items
+        made.put_passes.items made.workers.items) }
+    ensures served { IfOk result (λ made.
+        AreServed made.node (vec_len made.workers) made.ports.items made.workers.items) }
+    ensures refused { IfErr result (λ fault. fault ≡ NoMemory) }
+{
+    let config = node_config(ports, program.sizes());
+    // Memory alone can be refused to it: the command line gives no other number of ports than a node has.
+    let Ok((node, passes)) = Node::<J, _>::new(alloc, rt, opened, &config, program) else {
+        return Err(Fault::NoMemory);
+    };
+    let (ports, put_passes, serve_passes) = fill(rt, alloc, arrivals)?;
+    let workers = workers_of(alloc, passes, serve_passes)?;
+    Ok(Desks {
+        node,
+        ports,
+        put_passes,
+        workers,
+    })
+}
+
+/// Serves the packets that came to the ports of a fresh node, each port in a thread of its own, to the end: the replies
+/// of each port, and the sum of the reports. The program judges.
+pub fn serve_arrivals<'a, J: ProgramFamily + Send + 'static, R: Threads + Wait + Sync>(
+    rt: &R,
+    alloc: Global,
+    opened: Opened,
+    ports: u8,
+    program: Accepted,
+    arrivals: Arrivals,
+) -> Result<(Vec<Replies>, Report), Fault<'a>>
+    requires room { opened ≡ J.book }
+    requires few { AreFew arrivals }
+    requires count { length arrivals ≡ ports }
+    ensures served { IfOk result (λ made. ServeEach program ports arrivals made.0.items made.1) }
+    ensures refused { IfErr result (λ fault. fault ≡ NoMemory) }
+{
+    let made = fresh_desks::<J, _>(rt, alloc, opened, ports, program, arrivals)?;
+    let Desks {
+        node,
+        ports,
+        put_passes,
+        workers,
+    } = made;
+    let (workers, report) = serve(rt, alloc, &node, &ports, workers, &NoGate);
+    // Memory or a thread was refused, and that is all there is to tell.
+    let Ok(report) = report else {
+        return Err(Fault::NoMemory);
+    };
+    let sinks = sinks_of(alloc, &ports, put_passes, workers)?;
+    Ok((sinks, report))
+}

@@ -1,0 +1,127 @@
+//! The job `serve`.
+
+ghost use Rattle.std.specs.Prelude.{◌≡◌, ◌<◌, IfErr, IfOk, OnOk, false, length, map};
+ghost use Rattle.std.specs.Vec.{vec_items};
+ghost use Rattle.clap.specs.Simple.{app_of};
+ghost use Rattle.clap.specs.declared.builder.command.Command.TheViews.{out-Command as fields_of};
+ghost use Rattle.ports.specs.Sinks.{replies_in};
+ghost use Rattle.job_parts.specs.Printed.{Prints};
+ghost use Rattle.job_parts.specs.Stops.{StopsBy};
+ghost use Rattle.job_ports.specs.ServeJob.{lines_from, port_lines, report_line, serve_app};
+ghost use Rattle.job_ports.specs.ServedFile.{IsNotServed, ServesFile, ServesWords};
+
+use crate::arrivals::read_lines;
+use crate::queues::serve_arrivals;
+use clap::Command;
+use job_parts::faults::Fault;
+use job_parts::lines::{LinesArgs, lines_and_program, lines_command};
+use job_parts::replies::print_reply;
+use job_parts::stops::Halt;
+use job_parts::storage::Files;
+use ports::{Replies, Report};
+use publish::{Opened, ProgramFamily};
+use std::alloc::{AllocError, Global};
+use std::io::{self, Write};
+use std::sync::Wait;
+use std::thread::Threads;
+
+/// `serve LINES [--image FILE] [--maps LIST] [--ports N]`.
+pub fn serve_command<'a>(alloc: Global) -> Result<Command<'a>, AllocError>
+    ensures shape { IfOk result (λ c. app_of c ≡ serve_app) }
+    ensures local { IfOk result (λ c. (fields_of c).has_globals ≡ false) }
+{
+    let about = "Serves the packets of all ports at once and prints the replies by port";
+    let help = "The file of packet lines, or - for standard input";
+    lines_command(alloc, "serve", about, help)
+}
+
+/// Serves the packet lines of a file on the node of these arguments, and gives the replies of each port, and the sum of the
+/// workers' reports.
+fn serve_words<'a, J: ProgramFamily + Send + 'static, R: Threads + Wait + Sync, F: Files>(
+    rt: &R,
+    alloc: Global,
+    opened: Opened,
+    args: &'a LinesArgs,
+    files: &mut F,
+) -> Result<(Vec<Replies>, Report), Fault<'a>>
+    requires { opened ≡ J.book }
+    ensures served { IfOk result (λ made. ServesWords F.reads args.now files.old files.new
+        made.0.items made.1) }
+    ensures few { IfOk result (λ made. length made.0.items < 256) }
+    ensures refused { IfErr result (IsNotServed F.reads args.now files.old files.new) }
+{
+    let (text, program) = lines_and_program(alloc, args, files)?;
+    let ports = args.node.ports;
+    let arrivals = read_lines(alloc, text.as_str(), ports)?;
+    serve_arrivals::<J, _>(rt, alloc, opened, ports, program, arrivals)
+}
+
+/// Prints the replies of a port in order.
+fn print_replies<W: Write>(out: &mut W, port: u8, replies: &[Vec<u8>]) -> io::Result<()>
+    ensures { OnOk result
+        (Prints W.contents out.old out.new (port_lines port (map vec_items replies.now))) }
+{
+    for reply in replies {
+        print_reply(out, port, reply)?;
+    }
+    Ok(())
+}
+
+/// Prints the replies of each port, by the number of the port.
+fn print_ports<W: Write>(out: &mut W, sinks: &[Replies]) -> io::Result<()>
+    requires { length sinks.now < 256 }
+    ensures { OnOk result
+        (Prints W.contents out.old out.new (lines_from 0 (map (λ s. replies_in s.sent) sinks.now))) }
+{
+    let mut port: u8 = 0;
+    for sink in sinks {
+        print_replies(out, port, sink.replies())?;
+        port += 1;
+    }
+    Ok(())
+}
+
+/// Prints how many packets were no command, and how many replies were lost: the last line of the job.
+///
+/// # Errors
+///
+/// Those of the writer.
+pub fn print_report<W: Write>(out: &mut W, report: Report) -> io::Result<()>
+    ensures { OnOk result (Prints W.contents out.old out.new (report_line report)) }
+{
+    let Report { discarded, lost } = report;
+    writeln!(out, "discarded {discarded} lost {lost}")
+}
+
+/// Serves the packet lines of a file by the program of an image file, or by the factory program, on the node of these
+/// arguments: one worker a port, each in a thread of its own. All lines are read before, and nothing is printed before all
+/// is served: then the replies of each port in order, port by port, and the sum of the workers' reports.
+///
+/// Faults are found in this order: the file of lines (`CannotRead`, also where it is not UTF-8), the image file, its
+/// image, and then the first line that has one, as [`read_lines`] tells it. `NoMemory` where memory or a thread was
+/// refused. Where there is one, nothing is printed.
+pub fn serve_file<
+    'a,
+    J: ProgramFamily + Send + 'static,
+    R: Threads + Wait + Sync,
+    F: Files,
+    W: Write,
+>(
+    rt: &R,
+    alloc: Global,
+    opened: Opened,
+    args: &'a LinesArgs,
+    files: &mut F,
+    out: &mut W,
+) -> Result<(), Halt<'a>>
+    requires { opened ≡ J.book }
+    ensures done { OnOk result (ServesFile F.reads args.now files.old files.new
+        (W.contents out.old) (W.contents out.new)) }
+    ensures stops { IfErr result (StopsBy (IsNotServed F.reads args.now files.old files.new)) }
+    ensures quiet { IfErr result (StopsBy (λ _. W.contents out.new ≡ W.contents out.old)) }
+{
+    let (sinks, report) = serve_words::<J, _, _>(rt, alloc, opened, args, files)?;
+    print_ports(out, &sinks)?;
+    print_report(out, report)?;
+    Ok(())
+}

@@ -1,0 +1,8 @@
+mod AddedArguments
+mod CodeLetters
+mod Explaining
+mod HexDigits
+mod Instructions
+mod NoOrders
+mod ShownLines
+mod WrittenCodes

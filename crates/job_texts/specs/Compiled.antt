@@ -1,0 +1,107 @@
+-- What the job `policy` reads, writes and prints.
+use Rattle.std.specs.Prelude.{◌≡◌, ◌⊎◌, ℕ, List, Option, Some, Bool, true, false}
+use Rattle.std.specs.Io.KnownBytes.{Appends}
+use Rattle.std.specs.Str.{IsUtf8}
+use Rattle.bpf.specs.Program.{Program, image_bytes}
+use Rattle.bver.specs.Justified.{IsJustified}
+use Rattle.machine.specs.Sizes.{Maps}
+use Rattle.policy.specs.Compiled.{IsCompileFault, IsCompiled, compile_fault}
+use Rattle.policy.specs.Lines.{IsReadFault, IsTable}
+use Rattle.policy.specs.declared.faults.PolicyFault.{PolicyFault}
+use Rattle.policy.specs.declared.rules.Rule.{Rule}
+use Rattle.spw.specs.Line.{lines_of}
+use Rattle.job_parts.specs.Files.{Reads, Writes, HoldsNoText}
+use Rattle.job_texts.specs.PolicyJob.{slots_line}
+use Rattle.job_parts.specs.declared.faults.Fault.{Fault}
+use Rattle.job_parts.specs.declared.faults.Fault.TheVariants.{
+  CannotRead,
+  CannotWrite,
+  NoMemory,
+  BadText,
+  BadTable,
+  BadImage,
+  Refused,
+  BadLine,
+}
+
+module _ {S : Type 0} (reads : Reads S) where
+  -- the file was read, and gave UTF-8 that is the table of these rules
+  pub record HoldsTable (before : S) (name : List ℕ) (rules : List Rule) (after : S) : Type 0 where
+    pub bytes : List ℕ
+    pub read : reads before name (Some bytes) after
+    pub utf8 : IsUtf8 bytes
+    pub table : IsTable bytes rules
+
+  -- the file was read, and gave UTF-8 that is no table, unless memory was refused
+  pub record HoldsBadTable (before : S) (name : List ℕ) (after : S) (fault : PolicyFault) : Type 0 where
+    pub bytes : List ℕ
+    pub read : reads before name (Some bytes) after
+    pub utf8 : IsUtf8 bytes
+    pub bad : IsReadFault (lines_of bytes) fault
+
+  -- the file gives no table
+  abbrev pub IsNoTable : (before : S) (name : List ℕ) (after : S) → Fault → Type 0
+  IsNoTable before name after (CannotRead file) = (file.now ≡ name) × HoldsNoText reads before name after
+  IsNoTable before name after (CannotWrite file) = ⊥
+  IsNoTable before name after NoMemory = ⊥
+  IsNoTable before name after (BadText fault) = ⊥
+  IsNoTable before name after (BadTable fault) = HoldsBadTable before name after fault
+  IsNoTable before name after (BadImage fault) = ⊥
+  IsNoTable before name after (Refused refused) = ⊥
+  IsNoTable before name after (BadLine number fault) = ⊥
+
+  -- the file holds a table that was compiled to the program, for maps of these sizes, on a node with which it may judge
+  pub record HoldsPolicy (before : S) (name : List ℕ) (sizes : Maps) (p : Program) (after : S) : Type 0 where
+    pub rules : List Rule
+    pub table : HoldsTable before name rules after
+    pub compiled : IsCompiled sizes rules p
+    pub justified : IsJustified p sizes
+
+  -- the file holds a table whose first fault with maps of these sizes it is, or to whose program memory was refused
+  pub record HoldsFaultyTable (before : S) (name : List ℕ) (sizes : Maps) (after : S) (fault : PolicyFault) : Type 0
+    where
+      pub rules : List Rule
+      pub table : HoldsTable before name rules after
+      pub faulty : IsCompileFault (compile_fault sizes rules) fault
+
+  -- the file gives no table that is compiled for maps of these sizes
+  abbrev pub IsNoPolicy : (before : S) (name : List ℕ) (sizes : Maps) (after : S) → Fault → Type 0
+  IsNoPolicy before name sizes after (CannotRead file) = (file.now ≡ name) × HoldsNoText reads before name after
+  IsNoPolicy before name sizes after (CannotWrite file) = ⊥
+  IsNoPolicy before name sizes after NoMemory = ⊥
+  IsNoPolicy before name sizes after (BadText fault) = ⊥
+  IsNoPolicy before name sizes after (BadTable fault) =
+      HoldsBadTable before name after fault ⊎ HoldsFaultyTable before name sizes after fault
+  IsNoPolicy before name sizes after (BadImage fault) = ⊥
+  IsNoPolicy before name sizes after (Refused refused) = ⊥
+  IsNoPolicy before name sizes after (BadLine number fault) = ⊥
+
+module _ {S : Type 0} (reads : Reads S) (writes : Writes S) where
+  -- the table's file was read and gave a table that was compiled to the program, then the other was given the
+  -- program's image; no other file was read or written
+  pub record Compiled (before : S) (table image : List ℕ) (sizes : Maps) (p : Program) (taken : Bool) (after : S) : Type
+      0 where
+    pub between : S
+    pub read : HoldsPolicy reads before table sizes p between
+    pub written : writes between image (image_bytes p) taken after
+
+  -- the image was written, and its line printed
+  pub record CompilesTable (before : S) (table image : List ℕ) (sizes : Maps) (after : S) (old new : Option (List ℕ)) :
+      Type 0 where
+    pub program : Program
+    pub compiled : Compiled before table image sizes program true after
+    pub line : Appends old new (slots_line program)
+
+  -- the file gives no table that is compiled, the image cannot be written, or memory was refused
+  abbrev pub IsNotCompiled : (before : S) (table image : List ℕ) (sizes : Maps) (after : S) → Fault → Type 0
+  IsNotCompiled before table image sizes after (CannotRead file) = (file.now ≡ table)
+      × HoldsNoText reads before table after
+  IsNotCompiled before table image sizes after (CannotWrite file) =
+      (file.now ≡ image) × ((p : Program) × Compiled before table image sizes p false after)
+  IsNotCompiled before table image sizes after NoMemory = (p : Program) × HoldsPolicy reads before table sizes p after
+  IsNotCompiled before table image sizes after (BadText fault) = ⊥
+  IsNotCompiled before table image sizes after (BadTable fault) =
+      HoldsBadTable reads before table after fault ⊎ HoldsFaultyTable reads before table sizes after fault
+  IsNotCompiled before table image sizes after (BadImage fault) = ⊥
+  IsNotCompiled before table image sizes after (Refused refused) = ⊥
+  IsNotCompiled before table image sizes after (BadLine number fault) = ⊥

@@ -1,0 +1,37 @@
+-- What words in hexadecimal digits write: numbers, and bytes.
+use Rattle.std.specs.Prelude.{◌≡◌, ◌≤◌, ◌⊎◌, ℕ, List, [], ◌++◌, Ok, codes, length}
+use Rattle.std.specs.Str.Parse.{IsNumeral, digits_value}
+use Rattle.hex.specs.Hex.{decode_of}
+use Rattle.hex.specs.declared.error.FromHexError.{FromHexError}
+use Rattle.hex.specs.declared.error.FromHexError.TheVariants.{InvalidHexCharacter, OddLength, InvalidStringLength, OutOfMemory}
+use Rattle.job_parts.specs.declared.usage.UsageFault.{UsageFault}
+use Rattle.job_parts.specs.declared.usage.UsageFault.TheVariants.{BadOption, Memory}
+
+-- there is such a value
+abbrev pub Has : {V : Type 0} → (V → Type 0) → Type 0
+Has {V} P = (v : V) × P v
+
+-- hexadecimal digits, in either case and at most so many, write the number
+abbrev pub WritesDigits : (most : ℕ) → List ℕ → ℕ → Type 0
+WritesDigits most digits n = IsNumeral 16 digits × (length digits ≤ most) × (n ≡ digits_value 16 digits)
+
+-- so do they behind `0x`
+pub record WritesPrefixed (most : ℕ) (word : List ℕ) (n : ℕ) : Type 0 where
+  pub digits : List ℕ
+  pub prefix : word ≡ codes "0x" ++ digits
+  pub written : WritesDigits most digits n
+
+-- at most so many hexadecimal digits, with or without `0x` before them, write the number
+abbrev pub WritesHex : (most : ℕ) → List ℕ → ℕ → Type 0
+WritesHex most word n = WritesDigits most word n ⊎ WritesPrefixed most word n
+
+-- pairs of hexadecimal digits write the bytes, and `-` writes none
+abbrev pub WritesBytes : List ℕ → List ℕ → Type 0
+WritesBytes word bytes = ((word ≡ codes "-") × (bytes ≡ [])) ⊎ (decode_of word ≡ Ok bytes)
+
+-- a word that does not decode writes no bytes, unless memory was refused
+abbrev pub fault_of_hex : FromHexError → UsageFault
+fault_of_hex (InvalidHexCharacter c index) = BadOption
+fault_of_hex OddLength = BadOption
+fault_of_hex InvalidStringLength = BadOption
+fault_of_hex OutOfMemory = Memory

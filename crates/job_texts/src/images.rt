@@ -1,0 +1,46 @@
+//! The arguments of the jobs that verify an image.
+
+ghost use Rattle.std.specs.Prelude.{◌≡◌, IfErr, IfOk, false};
+ghost use Rattle.clap.specs.Simple.{app_of};
+ghost use Rattle.clap.specs.declared.builder.command.Command.TheViews.{out-Command as fields_of};
+ghost use Rattle.clap.specs.Walk.{rows_of};
+ghost use Rattle.clap.specs.Matches.{found_of};
+ghost use Rattle.job_texts.specs.Images.{NamesImage, RefusesImage, maps_app};
+
+use bver::MapSizes;
+use clap::{ArgMatches, Command};
+use job_parts::arguments::{image_command, name_of};
+use job_parts::options::{maps_option, sizes_of};
+use job_parts::usage::UsageFault;
+use std::alloc::{AllocError, Global};
+
+/// The arguments of a job that verifies an image: `FILE [--maps LIST]`.
+#[derive(Debug, Drop)]
+pub struct ImageArgs {
+    /// The name of the file of the image.
+    pub image: String,
+    /// How many cells each map has of the node, and of which kind it is, that it may judge on.
+    pub sizes: MapSizes,
+}
+
+/// A subcommand that verifies an image: `NAME FILE [--maps LIST]`.
+pub fn verifying_command<'a>(
+    alloc: Global,
+    name: &'a str,
+    about: &'a str,
+) -> Result<Command<'a>, AllocError>
+    ensures shape { IfOk result (λ c. app_of c ≡ maps_app name.now) }
+    ensures local { IfOk result (λ c. (fields_of c).has_globals ≡ false) }
+{
+    image_command(alloc, name, about)?.arg(maps_option(alloc))
+}
+
+/// The arguments of such a subcommand with these matches.
+pub fn image_args(alloc: Global, found: &ArgMatches) -> Result<ImageArgs, UsageFault>
+    ensures ok { IfOk result (NamesImage (rows_of (found_of found.now))) }
+    ensures err { IfErr result (RefusesImage (rows_of (found_of found.now))) }
+{
+    let image = name_of(alloc, found, "image")?;
+    let sizes = sizes_of(alloc, found)?;
+    Ok(ImageArgs { image, sizes })
+}

@@ -1,0 +1,125 @@
+//! The job `policy`.
+
+ghost use Rattle.std.specs.Prelude.{◌≡◌, IfErr, IfOk, OnOk, false, string_bytes};
+ghost use Rattle.clap.specs.Simple.{app_of};
+ghost use Rattle.clap.specs.declared.builder.command.Command.TheViews.{out-Command as fields_of};
+ghost use Rattle.clap.specs.Walk.{rows_of};
+ghost use Rattle.clap.specs.Matches.{found_of};
+ghost use Rattle.job_texts.specs.Compiled.{CompilesTable, HoldsPolicy, HoldsTable, IsNoPolicy, IsNoTable, IsNotCompiled};
+ghost use Rattle.job_texts.specs.PolicyJob.{NamesPolicy, RefusesPolicy, policy_app, slots_line};
+ghost use Rattle.job_parts.specs.Printed.{Prints};
+ghost use Rattle.job_parts.specs.Stops.{StopsBy};
+
+use bpf::Image;
+use bver::MapSizes;
+use clap::{ArgMatches, Command};
+use job_parts::arguments::{file, name_of};
+use job_parts::faults::Fault;
+use job_parts::options::{maps_option, sizes_of};
+use job_parts::programs::text_in;
+use job_parts::stops::Halt;
+use job_parts::storage::Files;
+use job_parts::usage::UsageFault;
+use policy::{Table, compile};
+use std::alloc::{AllocError, Global};
+use std::io::{self, Write};
+
+/// The words of the job `policy`.
+#[derive(Debug, Drop)]
+pub struct PolicyWords {
+    /// The name of the file of the table.
+    pub table: String,
+    /// The name of the file that the image is written to.
+    pub image: String,
+    /// How many cells each map has of the node, and of which kind it is, that the image is to judge on.
+    pub sizes: MapSizes,
+}
+
+/// `policy FILE OUT [--maps LIST]`.
+pub fn policy_command<'a>(alloc: Global) -> Result<Command<'a>, AllocError>
+    ensures shape { IfOk result (λ c. app_of c ≡ policy_app) }
+    ensures local { IfOk result (λ c. (fields_of c).has_globals ≡ false) }
+{
+    let help = "The file of the policy table, or - for standard input";
+    let table = file(alloc, "table", "FILE", help);
+    let help = "The file that the BPF image is written to";
+    let image = file(alloc, "image", "OUT", help);
+    let maps = maps_option(alloc);
+    Command::new(alloc, "policy")
+        .about("Compiles a policy table to a BPF image")
+        .arg(table)?
+        .arg(image)?
+        .arg(maps)
+}
+
+/// The words of `policy` with these matches.
+pub fn policy_job(alloc: Global, found: &ArgMatches) -> Result<PolicyWords, UsageFault>
+    ensures ok { IfOk result (NamesPolicy (rows_of (found_of found.now))) }
+    ensures err { IfErr result (RefusesPolicy (rows_of (found_of found.now))) }
+{
+    let table = name_of(alloc, found, "table")?;
+    let image = name_of(alloc, found, "image")?;
+    let sizes = sizes_of(alloc, found)?;
+    Ok(PolicyWords {
+        table,
+        image,
+        sizes,
+    })
+}
+
+/// The table in the file of this name.
+fn table_in<'a, F: Files>(alloc: Global, files: &mut F, name: &'a str) -> Result<Table, Fault<'a>>
+    ensures table { IfOk result (λ table. HoldsTable F.reads files.old name.now table files.new) }
+    ensures refused { IfErr result (IsNoTable F.reads files.old name.now files.new) }
+{
+    let text = text_in(alloc, files, name)?;
+    Ok(Table::read(alloc, text.as_str())?)
+}
+
+/// The image of the table in the file of this name.
+fn compiled<'a, F: Files>(
+    alloc: Global,
+    files: &mut F,
+    name: &'a str,
+    sizes: MapSizes,
+) -> Result<Image, Fault<'a>>
+    ensures image { IfOk result (λ image.
+        HoldsPolicy F.reads files.old name.now sizes image files.new) }
+    ensures refused { IfErr result (IsNoPolicy F.reads files.old name.now sizes files.new) }
+{
+    let table = table_in(alloc, files, name)?;
+    Ok(compile(alloc, &table, &sizes)?)
+}
+
+/// Prints how many slots an image has: `slots S`.
+fn print_slots<W: Write>(out: &mut W, image: &Image) -> io::Result<()>
+    ensures { OnOk result (Prints W.contents out.old out.new (slots_line image.now)) }
+{
+    let slots = image.slots();
+    writeln!(out, "slots {slots}")
+}
+
+/// Compiles the table of a file for a node with maps of these sizes, writes the image to another file, and
+/// prints how many slots it has.
+///
+/// Faults are found in this order: the file of the table (`CannotRead`, also where it is not UTF-8), the table
+/// (`BadTable`, also where memory is refused to it or to its image), and the file of the image (`CannotWrite`).
+pub fn compile_file<'a, F: Files, W: Write>(
+    alloc: Global,
+    words: &'a PolicyWords,
+    files: &mut F,
+    out: &mut W,
+) -> Result<(), Halt<'a>>
+    ensures done { OnOk result (CompilesTable F.reads F.writes files.old
+        (string_bytes words.now.table) (string_bytes words.now.image) words.now.sizes files.new
+        (W.contents out.old) (W.contents out.new)) }
+    ensures stops { IfErr result (StopsBy (IsNotCompiled F.reads F.writes files.old
+        (string_bytes words.now.table) (string_bytes words.now.image) words.now.sizes files.new)) }
+    ensures quiet { IfErr result (StopsBy (λ _. W.contents out.new ≡ W.contents out.old)) }
+{
+    let image = words.image.as_str();
+    let made = compiled(alloc, files, words.table.as_str(), words.sizes)?;
+    let written = files.write(image, made.write()?.as_slice());
+    written.map_err(|_| Fault::CannotWrite(image))?;
+    Ok(print_slots(out, &made)?)
+}

@@ -1,0 +1,57 @@
+//! The job `verify`.
+
+ghost use Rattle.std.specs.Prelude.{◌≡◌, IfErr, IfOk, OnOk, false};
+ghost use Rattle.clap.specs.Simple.{app_of};
+ghost use Rattle.clap.specs.declared.builder.command.Command.TheViews.{out-Command as fields_of};
+ghost use Rattle.job_parts.specs.Reading.{IsNoProgram};
+ghost use Rattle.job_parts.specs.Printed.{Prints};
+ghost use Rattle.job_parts.specs.Stops.{StopsBy};
+ghost use Rattle.job_texts.specs.Verified.{Verifies};
+ghost use Rattle.job_texts.specs.VerifyJob.{accepted_line, verify_app};
+
+use crate::images::verifying_command;
+use bver::MapSizes;
+use clap::Command;
+use job_parts::programs::program_in;
+use job_parts::stops::Halt;
+use job_parts::storage::Files;
+use std::alloc::{AllocError, Global};
+use std::io::{self, Write};
+
+/// `verify FILE [--maps LIST]`.
+pub fn verify_command<'a>(alloc: Global) -> Result<Command<'a>, AllocError>
+    ensures shape { IfOk result (λ c. app_of c ≡ verify_app) }
+    ensures local { IfOk result (λ c. (fields_of c).has_globals ≡ false) }
+{
+    let about = "Tells whether a BPF image may judge, or why it is refused";
+    verifying_command(alloc, "verify", about)
+}
+
+/// Prints that a program may judge: `accepted weight W budget B`.
+pub fn print_accepted<W: Write>(out: &mut W, weight: u64, budget: u32) -> io::Result<()>
+    ensures { OnOk result (Prints W.contents out.old out.new (accepted_line weight budget)) }
+{
+    writeln!(out, "accepted weight {weight} budget {budget}")
+}
+
+/// Verifies the image of a file for a node with maps of these sizes, and prints its weight and its
+/// budget where it may judge.
+///
+/// Faults are found in this order: the file (`CannotRead`), its image (`BadImage`), the program
+/// (`Refused`).
+pub fn verify_file<'a, F: Files, W: Write>(
+    alloc: Global,
+    image: &'a str,
+    sizes: MapSizes,
+    files: &mut F,
+    out: &mut W,
+) -> Result<(), Halt<'a>>
+    ensures done { OnOk result (Verifies F.reads files.old image.now sizes files.new
+        (W.contents out.old) (W.contents out.new)) }
+    ensures stops { IfErr result
+        (StopsBy (IsNoProgram F.reads files.old image.now sizes files.new)) }
+    ensures quiet { IfErr result (StopsBy (λ _. W.contents out.new ≡ W.contents out.old)) }
+{
+    let program = program_in(alloc, files, image, sizes)?;
+    Ok(print_accepted(out, program.image().weight(), program.budget())?)
+}

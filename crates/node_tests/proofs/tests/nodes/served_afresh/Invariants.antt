@@ -1,5 +1,0 @@
-use Rattle.node_tests.proofs.tests.nodes.served_afresh.Given as goal
-
--- the history that was just opened
-abbrev pub ghosts-served_on : goal.ghosts-served_on
-ghosts-served_on g a = record { book = a.opened }

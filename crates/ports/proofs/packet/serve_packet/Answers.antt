@@ -1,0 +1,36 @@
+use Rattle.std.proofs.Common.{rules, arith, length, sym, ap, ◌∙◌}
+use Rattle.rmap.specs.declared.places.Place.TheVariants.{Bank}
+use Rattle.target.specs.Passes.{PassValue}
+use Rattle.ports.proofs.Dealing.{answered, unread, banked, staged, loaded, below}
+use Rattle.ports.proofs.packet.serve_packet.Goals as goal
+
+pub bank-requires : goal.bank-requires
+bank-requires g c =
+    below _ _ _ _ _ _ c.banks-banks.ensures.holder c.in-Judged.ensures.step.0 (sym c.place.ensures.value ∙ c.in-Bank.is) c.requires
+
+pub finish_locked-requires-clause-place : goal.finish_locked-requires-clause-place
+finish_locked-requires-clause-place g c = sym c.place.ensures.value ∙ c.in-Bank.is ∙ ap Bank (sym c.bank.ensures)
+
+pub finish_locked-requires-clause-pass : goal.finish_locked-requires-clause-pass
+finish_locked-requires-clause-pass g c =
+    let run = c.in-Judged.ensures.step.0 in
+    let low = below _ _ _ _ _ _ c.banks-banks.ensures.holder run (sym c.place.ensures.value ∙ c.in-Bank.is) (sym (ap (λ (x : PassValue). length x.shares) run.asked)) in
+    omega (arith, low, c.bank.ensures)
+
+pub returns-in-Bank-clause-dealt : goal.returns-in-Bank-clause-dealt
+returns-in-Bank-clause-dealt g c =
+    banked _ _ _ _ _ _ _ c.in-Judged.ensures.step.0 (sym c.place.ensures.value ∙ c.in-Bank.is) c.finish_locked.ensures.ended
+
+pub returns-in-Staging-clause-dealt : goal.returns-in-Staging-clause-dealt
+returns-in-Staging-clause-dealt g c =
+    staged _ _ _ _ _ _ _ _ c.in-Judged.ensures.step.0 c.place.ensures.value c.in-Staging.is c.stage.ensures
+
+pub returns-in-Control-clause-dealt : goal.returns-in-Control-clause-dealt
+returns-in-Control-clause-dealt g c =
+    loaded _ _ _ _ _ _ c.in-Judged.ensures.step.0 (sym c.place.ensures.value ∙ c.in-Control.is) c.load_locked.ensures.ended
+
+pub returns-in-Answered-clause-dealt : goal.returns-in-Answered-clause-dealt
+returns-in-Answered-clause-dealt g c = answered _ _ _ c.in-Answered.field-0 _ (search rules) (search rules)
+
+pub returns-in-Unread-clause-dealt : goal.returns-in-Unread-clause-dealt
+returns-in-Unread-clause-dealt g c = unread _ _ _ _ (search rules) (search rules)

@@ -1,0 +1,51 @@
+-- A command that was judged by the last program for its slot.
+use Rattle.std.proofs.Common.{◌≡◌, ℕ, List, Some, refl, sym, ap, subst, ◌∙◌}
+use mathlib.Core.List.{IsPrefix}
+use Rattle.spw.specs.Cargo.{Cargo}
+use Rattle.rmap.specs.declared.places.Place.{Place}
+use Rattle.rmap.specs.Command.{command_kind, command_of}
+use Rattle.bver.specs.Justified.{AcceptedValue, IsJustified}
+use Rattle.bank.specs.Records.{AdmittedValue, JudgedValue, ShareValue}
+use Rattle.publish.specs.declared.history.Publish.{Publish}
+use Rattle.publish.specs.Laws.{IsLastFor}
+use Rattle.publish.specs.Published.{judging_program}
+use Rattle.publish.specs.Staged.{Staged}
+use Rattle.target.specs.Slots.{slot_of}
+use Rattle.target.specs.Passes.{RunContextValue, pass_of}
+use Rattle.target.specs.Steps.{IsAdmission, IsJudgedOnce, IsVerdict}
+use Rattle.single_node.specs.Judging.{IsLastJudgement}
+
+-- an admitted command that was judged once, by the program that its slot shows
+pub last_judgement : IsLastFor → (b left : RunContextValue) (known programs : List Publish) (shares : List ShareValue) (staging : Staged) (admitted : AdmittedValue) (p : Cargo) (j : JudgedValue) (program : AcceptedValue) (generation slot : ℕ)
+    → IsPrefix known programs → slot ≡ slot_of (command_kind (command_of admitted.packet)) admitted.place
+    → judging_program programs slot ≡ Some (program, generation) → IsJustified program.program program.sizes
+    → IsJudgedOnce program generation b left admitted j → IsAdmission admitted p b.windows
+    → IsLastJudgement programs (pass_of b known shares staging) (pass_of left programs shares staging) p j
+last_judgement law b left known programs shares staging admitted p j program generation slot longer at shows accepted once admission =
+    let is = once.judged.judged in
+    let packet : j.packet ≡ p = ap (λ (x : JudgedValue). x.packet) is ∙ admission.packet in
+    let place : j.place ≡ admitted.place = ap (λ (x : JudgedValue). x.place) is in
+    let told : j.generation ≡ generation = ap (λ (x : JudgedValue). x.generation) is in
+    let there : slot ≡ slot_of (command_kind (command_of p)) j.place
+    = at ∙ ap (λ (x : Cargo). slot_of (command_kind (command_of x)) admitted.place) admission.packet ∙ ap (λ (x : Place). slot_of (command_kind (command_of p)) x) (sym place) in
+    let shown : judging_program programs (slot_of (command_kind (command_of p)) j.place) ≡ Some (program, j.generation)
+    = subst (λ (n : ℕ). judging_program programs (slot_of (command_kind (command_of p)) j.place) ≡ Some (program, n)) (sym told)
+    (subst (λ (s : ℕ). judging_program programs s ≡ Some (program, generation)) there shows) in
+    record {
+      judgement = record {
+        seen = programs;
+        program = program;
+        calls = once.calls;
+        taken = record { longer = longer; shown = shown; accepted = accepted };
+        asked = ap (λ (x : RunContextValue). pass_of x programs shares staging) once.asked;
+        judged_for = record {
+          packet = packet;
+          placed = rw place (admission.placed);
+          port_of = ap (λ (x : JudgedValue). x.port) is;
+          generation_of = refl;
+          verdict = subst (λ (x : Cargo). IsVerdict program b.port once.calls x j.verdict) admission.packet once.judged.verdict;
+        };
+      };
+      by_last = record { saw = refl; last = law programs (slot_of (command_kind (command_of p)) j.place) program j.generation shown };
+      knows = refl;
+    }

@@ -1,0 +1,10 @@
+mod Places
+mod Slots
+mod Prefixes
+mod Judging
+mod Loading
+mod Serving
+mod Making
+mod Nodes
+mod Handing
+mod Ending

@@ -1,0 +1,119 @@
+-- A node of one thread before and behind a packet.
+use Rattle.std.proofs.Common.{◌≡◌, ◌≢◌, ◌<◌, ◌≤◌, ℕ, List, length, Some, set, refl, sym, ap, ◌∙◌, subst, arith, inl, inr}
+use Rattle.std.specs.Prelude.{map, slice_get}
+use Rattle.std.specs.List.{range_with_len}
+use Rattle.std.proofs.lemmas.Bool.{cases_eq}
+use Rattle.std.proofs.lemmas.Grind.{get_or-set_at}
+use Rattle.std.proofs.lemmas.List.{get_or-set_other, length-map, length-set}
+use Rattle.std.proofs.lemmas.List.FromFn.{get_or-map-range_with_len, length-map-range_with_len}
+use Rattle.std.proofs.lemmas.Option.{get_or_from_slice_get, slice_get-get_or, slice_get_within}
+use base.Stored.{Gv}
+use Rattle.spw.specs.Cargo.{Cargo}
+use Rattle.bank.specs.Records.{BankValue}
+use Rattle.bver.specs.Justified.{AcceptedValue}
+use Rattle.publish.specs.declared.history.Publish.{Publish}
+use Rattle.target.specs.declared.config.NodeConfig.{NodeConfig}
+use Rattle.target.specs.declared.served.Served.{Served}
+use Rattle.target.specs.declared.served.Served.TheVariants.{Stopped, Unread, Done, Window}
+use Rattle.target.specs.Nodes.{bank_of, first_pass, first_passes, first_programs, fresh_banks}
+use Rattle.target.specs.Pairs.{IsPaired, MadeArePaired, OthersStayPaired, OwnStaysPaired}
+use Rattle.target.specs.Passes.{PassValue}
+use Rattle.target.specs.Served.{PartsValue, parts}
+use Rattle.single_node.specs.Judging.{ServesAt}
+use Rattle.single_node.specs.Nodes.{IsInformed, IsSingleNode, SingleNodeValue, single_node}
+use Rattle.single_node.specs.Serving.{ServesTold}
+use Rattle.single_node.specs.declared.served.Told.{Told}
+use Rattle.single_node.proofs.Prefixes.{prefix_same}
+use Rattle.single_node.proofs.Serving.{answered, by_last, informed_grows, kept_or_longer, others_paired, own_paired, same_port, stays_informed, told}
+
+-- what stands at a place of a list of which one element was written
+pub at_written : {A : Type 0} (xs : List A) (k j : ℕ) (old new x : A) → slice_get xs k ≡ Some old → j ≡ k → slice_get (set xs k new) j ≡ Some x → x ≡ new
+at_written xs k j old new x at here found =
+    sym (get_or_from_slice_get (set xs k new) j x old found) ∙ get_or-set_at xs k j new old here (slice_get_within xs k old at)
+
+pub at_other : {A : Type 0} (xs : List A) (k j : ℕ) (new x : A) → j ≢ k → slice_get (set xs k new) j ≡ Some x → slice_get xs j ≡ Some x
+at_other xs k j new x other found =
+    let inside : j < length (set xs k new) = slice_get_within (set xs k new) j x found in
+    let below : j < length xs = rw (← length-set xs k new) inside in
+    slice_get-get_or xs j x below ∙ ap (λ y. Some y) (sym (get_or-set_other xs k j new x other) ∙ get_or_from_slice_get (set xs k new) j x x found)
+
+-- no bank comes or goes
+same_count : (served : Served) (g v : ℕ) (p : Cargo) (old new : PartsValue) (h after : PassValue) (reply : List ℕ) → ServesAt served g v p old new h after reply → length new.banks ≡ length old.banks
+same_count (Stopped stop) g v p old new h after reply s = ap (λ (x : PartsValue). length x.banks) s.untouched.node
+same_count Unread g v p old new h after reply s = absurd s
+same_count (Done result) g v p old new h after reply s = ap (λ (x : PartsValue). length x.banks) s.ended.node ∙ length-set old.banks s.ended.number s.ended.behind
+same_count (Window status) g v p old new h after reply s = ap length s.ended.0
+
+-- a packet at a port leaves a node of one thread
+pub node_after : OwnStaysPaired → OthersStayPaired → (served : Served) (g v : ℕ) (p : Cargo) (before : SingleNodeValue) (banks : List BankValue) (programs : List Publish) (place : ℕ) (h after : PassValue) (reply : List ℕ)
+    → IsSingleNode before → slice_get before.passes place ≡ Some h → 0 < length before.programs → ServesAt served g v p (parts before.banks before.programs) (parts banks programs) h after reply
+    → IsSingleNode (single_node banks programs (set before.passes place after))
+node_after own others served g v p before banks programs place h after reply is at some s =
+    let old = parts before.banks before.programs in
+    let new = parts banks programs in
+    let paired = is.paired.each place h at in
+    let informed = is.informed place h at in
+    let grows = (kept_or_longer served g v p old new h after reply s).longer in
+    record {
+      paired = record {
+        each = λ i x found. elim (cases_eq i place) [
+          | inl here ↦ subst (λ (y : PassValue). IsPaired banks y) (sym (at_written before.passes place i h after x at here found)) (own_paired own served g v p old new h after reply s paired)
+          | inr apart ↦
+              let stood = at_other before.passes place i after x apart found in
+              let far : x.port ≢ h.port = λ e. apart (sym (is.paired.ports i x stood) ∙ e ∙ is.paired.ports place h at) in
+              others_paired others served g v p old new h after reply s x far (is.paired.each i x stood)
+        ];
+        ports = λ i x found. elim (cases_eq i place) [
+          | inl here ↦ ap (λ (y : PassValue). y.port) (at_written before.passes place i h after x at here found) ∙ same_port served g v p old new h after reply s ∙ is.paired.ports place h at ∙ sym here
+          | inr apart ↦ is.paired.ports i x (at_other before.passes place i after x apart found)
+        ];
+      };
+      informed = λ i x found. elim (cases_eq i place) [
+        | inl here ↦ subst (λ (y : PassValue). IsInformed programs y) (sym (at_written before.passes place i h after x at here found)) (stays_informed served g v p old new h after reply some s informed)
+        | inr apart ↦ informed_grows before.programs programs x some grows (is.informed i x (at_other before.passes place i after x apart found))
+      ];
+      few_ports = rw (length-set before.passes place after) is.few_ports;
+      few_banks = rw (same_count served g v p old new h after reply s) is.few_banks;
+    }
+
+-- what a packet does at a port is what it does at the node
+pub serves_of : (t : Told) (p : Cargo) (before : SingleNodeValue) (banks : List BankValue) (programs : List Publish) (port place : ℕ) (h after : PassValue) (reply : List ℕ)
+    → place ≡ port → slice_get before.passes place ≡ Some h → ServesAt t.served t.generation t.verdict p (parts before.banks before.programs) (parts banks programs) h after reply
+    → ServesTold t port p before (single_node banks programs (set before.passes place after)) reply
+serves_of t p before banks programs port place h after reply same at s =
+    let old = parts before.banks before.programs in
+    let new = parts banks programs in
+    let g = t.generation in
+    let v = t.verdict in
+    record {
+      serves = record {
+        holder = h;
+        left = after;
+        own = subst (λ (k : ℕ). slice_get before.passes k ≡ Some h) same at;
+        others = ap (λ (k : ℕ). set before.passes k after) same;
+        answered = answered t.served g v p old new h after reply s;
+        by_last = by_last t.served g v p old new h after reply s;
+        programs = kept_or_longer t.served g v p old new h after reply s;
+      };
+      tells = told t.served g v p old new h after reply s;
+    }
+
+-- what stands at a place of a list that is made by number
+numbered_at : {A : Type 0} (f : ℕ → A) (count k : ℕ) (x : A) → slice_get (map f (range_with_len 0 count)) k ≡ Some x → x ≡ f k
+numbered_at f count k x at =
+    let below : k < count = rw (← length-map-range_with_len f 0 count) (slice_get_within (map f (range_with_len 0 count)) k x at) in
+    sym (get_or_from_slice_get (map f (range_with_len 0 count)) k x x at) ∙ get_or-map-range_with_len f 0 count k k x below (omega arith)
+
+-- a fresh node is one
+pub fresh_node : MadeArePaired → (config : NodeConfig) (factory : AcceptedValue) (home : Gv) → config.ports ≤ 32 → length config.banks.now ≤ 8
+    → IsSingleNode (single_node (fresh_banks config) (first_programs factory) (first_passes config factory home))
+fresh_node law config factory home ports banks =
+    let first = first_pass config.address config.banks.now factory home in
+    record {
+      paired = law config.address config.ports config.banks.now factory home;
+      informed = λ k h at.
+          let is : h ≡ first k = numbered_at first config.ports k h at in
+          subst (λ (x : PassValue). IsInformed (first_programs factory) x) (sym is) (record { begins = prefix_same _ _ refl; sizes = refl });
+      few_ports = rw (length-map-range_with_len first 0 config.ports) ports;
+      few_banks = rw (length-map config.banks.now (bank_of config.ports)) banks;
+    }

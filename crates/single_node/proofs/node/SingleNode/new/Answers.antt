@@ -1,0 +1,22 @@
+use Rattle.std.proofs.Common.{◌≡◌, ◌∙◌, [], ap, subst, sym}
+use Rattle.std.specs.Prelude.{replicate}
+use Rattle.cells.specs.Seats.{CellsValue, seat}
+use Rattle.machine.specs.Sizes.{Maps}
+use Rattle.publish.specs.Published.{sizes_of}
+use Rattle.target.specs.Nodes.{first_passes}
+use Rattle.single_node.specs.Nodes.{IsSingleNode, single_node}
+use Rattle.single_node.proofs.Nodes.{fresh_node}
+use Rattle.single_node.proofs.node.SingleNode.new.Goals as goal
+
+pub invariant_of-result : goal.invariant_of-result
+invariant_of-result c =
+    let config = c.args.config.now in
+    let home = c.in_ok-cells.cells.home in
+    let seats = subst (λ (sizes : Maps). c.in_ok-cells.seats.items ≡ replicate config.ports (seat sizes home [])) (sym c.requires) c.in_ok-cells.ensures.seats in
+    let ports : c.in_ok-ports.ports.items ≡ first_passes config c.args.factory home = c.in_ok-ports.ensures c.args.factory home c.in_ok-programs.ensures seats in
+    let node : IsSingleNode (single_node c.in_ok-banks.banks c.in_ok-programs.programs c.in_ok-ports.ports.items)
+    = rw (c.in_ok-banks.ensures.banks, c.in_ok-programs.ensures, ports) (fresh_node c.made_are_paired.ensures config c.args.factory home c.in_ok-banks.ensures.few_ports c.in_ok-banks.ensures.few_banks) in
+    (node, ap (λ (x : CellsValue). x.sizes) c.in_ok-cells.ensures.cells ∙ sym c.requires ∙ sym (ap sizes_of c.in_ok-programs.ensures))
+
+pub returns-clause-node : goal.returns-clause-node
+returns-clause-node c = (invariant_of-result c).0

@@ -1,0 +1,4 @@
+pub mod Nodes
+pub mod Serving
+pub mod Judging
+pub mod Slots

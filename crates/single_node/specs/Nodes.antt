@@ -1,0 +1,87 @@
+-- A node of one thread, as its contracts see it.
+use Rattle.std.specs.Prelude.{◌≡◌, ◌≤◌, ℕ, List, length, Option, None, Some, Bool, false, slice_get, slice_set}
+use mathlib.Core.List.{IsPrefix}
+use base.Stored.{Gv}
+use Rattle.bank.specs.Records.{
+  BankValue,
+  JournalValue,
+  after_rotation,
+  after_setting,
+  base_of,
+  covers,
+  memory_of,
+  replay,
+}
+use Rattle.bver.specs.Justified.{AcceptedValue}
+use Rattle.publish.specs.declared.history.Publish.{Publish}
+use Rattle.publish.specs.Published.{sizes_of}
+use Rattle.publish.specs.Staged.{Staged}
+use Rattle.target.specs.declared.config.NodeConfig.{NodeConfig}
+use Rattle.target.specs.Nodes.{first_passes, first_programs, fresh_banks}
+use Rattle.target.specs.Pairs.{ArePaired}
+use Rattle.target.specs.Passes.{PassValue}
+
+-- a node of one thread: its banks, the list of what was published, which begins with the factory program, and what
+-- each port has
+pub record SingleNodeValue : Type 0 where
+  pub banks : List BankValue
+  pub programs : List Publish
+  pub passes : List PassValue
+
+-- the node of these banks, programs and ports
+abbrev pub single_node : List BankValue → List Publish → List PassValue → SingleNodeValue
+single_node banks programs passes = record { banks = banks; programs = programs; passes = passes }
+
+-- a fresh node of that configuration: banks of zero bytes, of what was published the factory program alone, which
+-- judges in each slot, and ports that have sent nothing
+abbrev pub IsFresh : NodeConfig → AcceptedValue → SingleNodeValue → Type 0
+IsFresh config factory node =
+    (home : Gv)
+    × (node ≡ single_node (fresh_banks config) (first_programs factory) (first_passes config factory home))
+
+-- what the port knows begins the list of what was published, and it has a seat at the cells of the node's maps
+pub record IsInformed (programs : List Publish) (h : PassValue) : Type 0 where
+  pub begins : IsPrefix h.programs programs
+  pub sizes : h.seat.sizes ≡ sizes_of programs
+
+-- banks and ports were made together, or are as packets left them, and each port is informed; there are at most 32
+-- ports and 8 banks
+pub record IsSingleNode (s : SingleNodeValue) : Type 0 where
+  pub paired : ArePaired s.banks s.passes
+  pub informed : (k : ℕ) (h : PassValue) → slice_get s.passes k ≡ Some h → IsInformed s.programs h
+  pub few_ports : length s.passes ≤ 32
+  pub few_banks : length s.banks ≤ 8
+
+-- the staging of a port, if there is that port
+abbrev pub staging_in : Option PassValue → Option Staged
+staging_in None = None
+staging_in (Some h) = Some h.staging
+
+-- so many bytes from an address on lie in the bank, if there is one
+abbrev pub covers_in : Option BankValue → (address count : ℕ) → Bool
+covers_in None address count = false
+covers_in (Some b) address count = covers b address count
+
+-- the node with another bank of that number
+abbrev pub with_bank : SingleNodeValue → (number : ℕ) → BankValue → SingleNodeValue
+with_bank node number bank = record node { banks = slice_set node.banks number bank }
+
+-- the bank of that number has the new journal, which begins with the memory of now; the old one came out, whose replay
+-- on the base before is that memory; nothing else changed
+pub record Rotates (number : ℕ) (fresh : JournalValue) (before after : SingleNodeValue) (old : JournalValue) : Type 0
+  where
+    pub bank : BankValue
+    pub own : slice_get before.banks number ≡ Some bank
+    pub rotated : after ≡ with_bank before number (after_rotation bank fresh)
+    pub journal : old ≡ bank.journal
+    pub replayed : memory_of bank ≡ replay (base_of bank) old.entries
+
+-- the bank of that number has those bytes at that address, and the new journal, which begins with that memory; the old
+-- one came out, whose replay on the base before is the memory before; nothing else changed
+pub record SetsMemory (number address : ℕ) (bytes : List ℕ) (fresh : JournalValue) (before after : SingleNodeValue)
+    (old : JournalValue) : Type 0 where
+  pub bank : BankValue
+  pub own : slice_get before.banks number ≡ Some bank
+  pub set : after ≡ with_bank before number (after_setting bank address bytes fresh)
+  pub journal : old ≡ bank.journal
+  pub replayed : memory_of bank ≡ replay (base_of bank) old.entries

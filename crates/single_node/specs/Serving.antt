@@ -1,0 +1,73 @@
+-- The whole way of a packet at a node of one thread.
+use Rattle.std.specs.Prelude.{◌≡◌, ◌≢◌, ◌⊎◌, ℕ, List, Some, slice_get, slice_set}
+use Rattle.spw.specs.Cargo.{Cargo}
+use Rattle.rmap.specs.Command.{command_kind, command_of}
+use Rattle.rmap.specs.declared.status.Status.TheVariants.{Success}
+use Rattle.bank.specs.Records.{JudgedValue}
+use Rattle.bver.specs.Justified.{AcceptedValue}
+use Rattle.publish.specs.declared.history.Publish.{Publish}
+use Rattle.publish.specs.Histories.{longer_history}
+use Rattle.publish.specs.Laws.{IsLast}
+use Rattle.target.specs.declared.served.Served.{Served}
+use Rattle.target.specs.declared.served.Served.TheVariants.{Stopped, Unread, Done, Window}
+use Rattle.target.specs.Passes.{PassValue}
+use Rattle.target.specs.Served.{PartsValue, IsAnswered, parts}
+use Rattle.target.specs.Slots.{slot_of}
+use Rattle.target.specs.Steps.{IsJudgement}
+use Rattle.single_node.specs.Nodes.{SingleNodeValue}
+use Rattle.single_node.specs.declared.served.Told.{Told}
+
+-- the port saw all that was published, and the program that judged is the last of it for the slot of the command, with
+-- its place in the list for a generation
+pub record IsJudgedByLast (programs : List Publish) (h after : PassValue) (p : Cargo) (j : JudgedValue)
+    (judgement : IsJudgement h after p j) : Type 0 where
+  pub saw : judgement.seen ≡ programs
+  pub last : IsLast programs (slot_of (command_kind (command_of p)) j.place) judgement.program j.generation
+
+-- the packet was stopped by its header, or judged by the last program that was published for its slot: none comes
+-- to no program
+abbrev pub IsByLast : (served : Served) (p : Cargo) (old new : PartsValue) (h after : PassValue) (reply : List ℕ)
+    → IsAnswered served p old new h after reply → Type 0
+IsByLast (Stopped stop) p old new h after reply answered = Unit {0}
+IsByLast Unread p old new h after reply answered = ⊥
+IsByLast (Done result) p old new h after reply answered =
+    IsJudgedByLast old.programs h answered.between p answered.judged answered.judgement
+IsByLast (Window status) p old new h after reply answered =
+    IsJudgedByLast old.programs h answered.between p answered.judged answered.judgement
+
+-- the list of what was published stays, or has one publish more; it stays but where a command to the boot window
+-- succeeded
+pub record AreKeptOrLonger (served : Served) (old new : List Publish) : Type 0 where
+  pub kept : served ≢ Window Success → new ≡ old
+  pub longer : (new ≡ old) ⊎ ((slot : ℕ) × (program : AcceptedValue) × (new ≡ longer_history old slot program))
+
+-- this became of the packet that came in at the port, by the last program that was published for its slot; that reply
+-- is due, and no other port changed
+pub record Serves (served : Served) (port : ℕ) (packet : Cargo) (before after : SingleNodeValue) (reply : List ℕ) : Type
+    0 where
+  pub holder : PassValue
+  pub left : PassValue
+  pub own : slice_get before.passes port ≡ Some holder
+  pub others : after.passes ≡ slice_set before.passes port left
+  pub answered : IsAnswered served packet (parts before.banks before.programs) (parts after.banks after.programs) holder
+      left reply
+  pub by_last : IsByLast served packet (parts before.banks before.programs) (parts after.banks after.programs) holder
+      left reply answered
+  pub programs : AreKeptOrLonger served before.programs after.programs
+
+-- generation and verdict are those of the command that was judged; of a packet that its header stops both are 0
+abbrev pub IsTold : (generation verdict : ℕ) (served : Served) (p : Cargo) (old new : PartsValue) (h after : PassValue)
+    (reply : List ℕ) → IsAnswered served p old new h after reply → Type 0
+IsTold generation verdict (Stopped stop) p old new h after reply answered = (generation ≡ 0) × (verdict ≡ 0)
+IsTold generation verdict Unread p old new h after reply answered = ⊥
+IsTold generation verdict (Done result) p old new h after reply answered =
+    (generation ≡ answered.judged.generation) × (verdict ≡ answered.judged.verdict)
+IsTold generation verdict (Window status) p old new h after reply answered =
+    (generation ≡ answered.judged.generation) × (verdict ≡ answered.judged.verdict)
+
+-- the same as `Serves`, with the generation of the program that judged, and its verdict
+pub record ServesTold (told : Told) (port : ℕ) (packet : Cargo) (before after : SingleNodeValue) (reply : List ℕ) : Type
+    0 where
+  pub serves : Serves told.served port packet before after reply
+  pub tells : IsTold told.generation told.verdict told.served packet (parts before.banks before.programs)
+      (parts after.banks after.programs) serves.holder serves.left reply serves.answered

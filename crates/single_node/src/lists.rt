@@ -1,0 +1,53 @@
+//! The list of what was published, as other values hold it.
+
+ghost use Rattle.std.specs.Prelude.{◌≡◌};
+ghost use Rattle.std.specs.Arc.{arc_value};
+ghost use Rattle.publish.specs.Histories.{longer_history};
+ghost use Rattle.target.specs.Nodes.{first_programs};
+
+use crate::publishing::{Published, Publishing};
+use std::marker::Model;
+
+/// The list of what was published. It exists in proofs alone.
+#[derive(Drop)]
+pub(crate) struct ProgramList {
+    published: Published,
+}
+
+impl Model for ProgramList {
+    ghost use Rattle.std.specs.Prelude.{List};
+    ghost use Rattle.publish.specs.declared.history.Publish.{Publish};
+
+    ghost Value = { List Publish };
+
+    ghost view = { λ l. l.published.programs };
+}
+
+impl ProgramList {
+    /// The list that has the factory program alone, which is published for slot 0.
+    pub fn first(factory: &Publishing) -> ProgramList
+        requires { factory.now.slot ≡ 0 }
+        ensures { result ≡ first_programs (arc_value factory.now.program) }
+    {
+        let none = Published::new();
+        ProgramList {
+            published: none.longer(factory),
+        }
+    }
+
+    /// The same list.
+    pub fn again(&self) -> ProgramList
+        ensures { result ≡ self.now }
+    {
+        ProgramList {
+            published: self.published.again(),
+        }
+    }
+
+    /// Adds a publish.
+    pub fn add(&mut self, next: &Publishing)
+        ensures { self.new ≡ longer_history self.old next.now.slot (arc_value next.now.program) }
+    {
+        self.published = self.published.longer(next);
+    }
+}

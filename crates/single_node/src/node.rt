@@ -1,0 +1,246 @@
+//! The node.
+
+ghost use Rattle.std.specs.Prelude.{◌≡◌, ◌<◌, ◌≤◌, ◌+◌, ◌↔◌, [], IfErr, IfOk, IsSome, None, Some, length, replicate, slice_get, true};
+ghost use base.Stored.{Gv};
+ghost use Rattle.bver.specs.Justified.{AcceptedValue};
+ghost use Rattle.cells.specs.Seats.{seat};
+ghost use Rattle.machine.specs.Sizes.{IsInside};
+ghost use Rattle.publish.specs.Published.{generation_at, sizes_of};
+ghost use Rattle.target.specs.Nodes.{AreSharesOf, IsNodeFault, first_passes, first_programs, limit_fault};
+ghost use Rattle.single_node.specs.Nodes.{IsFresh, IsSingleNode, Rotates, SetsMemory, covers_in, staging_in};
+ghost use Rattle.single_node.specs.Serving.{Serves, ServesTold};
+
+use crate::port::SinglePort;
+use crate::programs::SlotPrograms;
+use crate::served::{Told, serve_at};
+use bank::{Bank, Journal};
+use bver::Accepted;
+use cells::{CellSeat, Cells};
+use machine::{MapKind, MapSizes};
+use publish::Staging;
+use rmap::{MAX_BANKS, ReplyBuf};
+use spw::{PORTS, Packet};
+use std::alloc::{AllocError, Global};
+use std::marker::Model;
+use target::{
+    Banks, NodeConfig, NodeFault, PortShares, RunContext, Served, made_are_paired, pairs_stay,
+};
+
+/// A node of one thread: banks, the cells of its maps, the program of each slot, and what each of its ports has. Contracts
+/// see the banks, the list of what was published, and each port's pass.
+#[derive(Drop)]
+pub struct SingleNode {
+    banks: Banks,
+    cells: Cells,
+    programs: SlotPrograms,
+    ports: Vec<SinglePort>,
+}
+
+impl Model for SingleNode {
+    ghost use Rattle.std.specs.Prelude.{◌≡◌};
+    ghost use Rattle.publish.specs.Published.{sizes_of};
+    ghost use Rattle.single_node.specs.Nodes.{SingleNodeValue, IsSingleNode, single_node};
+
+    ghost Value = { SingleNodeValue };
+
+    ghost view = { λ n. single_node n.banks n.programs n.ports.items };
+
+    ghost invariant = { λ n. IsSingleNode (single_node n.banks n.programs n.ports.items) × (n.cells.sizes ≡ sizes_of n.programs) };
+}
+
+/// The ports of a fresh node, in order, each with its shares of the banks and its seat at the cells.
+fn first_ports(
+    alloc: Global,
+    config: &NodeConfig,
+    programs: &SlotPrograms,
+    mut by_port: Vec<PortShares>,
+    mut seats: Vec<CellSeat>,
+) -> Result<Vec<SinglePort>, AllocError>
+    requires banks { length config.now.banks.now ≤ MAX_BANKS }
+    requires ports { config.now.ports ≤ PORTS }
+    requires by_port { AreSharesOf config.now by_port.items }
+    requires seats { length seats.items ≡ config.now.ports }
+    ensures { (factory : AcceptedValue) (home : Gv) → programs.now ≡ first_programs factory
+        → seats.items ≡ replicate config.now.ports (seat factory.sizes home [])
+        → IfOk result (λ ports. ports.items ≡ first_passes config.now factory home) }
+{
+    let mut ports = Vec::with_capacity(alloc, by_port.len())?;
+    for port in 0..config.ports {
+        let Some(seat) = seats.pop() else {
+            unreachable!()
+        };
+        let context = RunContext::new(port, config.windows(), seat);
+        let shares = by_port[usize::from(port)].take(alloc);
+        let staging = Staging::new(alloc)?;
+        ports.push(SinglePort::new(context, programs.list(), shares, staging))?;
+    }
+    Ok(ports)
+}
+
+impl SingleNode {
+    /// A node of zero bytes, with cells of 0: the factory program, of generation 0, judges in each slot. The condition is a
+    /// program that was accepted for the maps of the configuration.
+    ///
+    /// # Errors
+    ///
+    /// `Ports` and then `Banks` where a number is outside its limits, which is tested first; `Memory` where memory was
+    /// refused.
+    pub fn new(
+        alloc: Global,
+        config: &NodeConfig,
+        factory: Accepted,
+    ) -> Result<SingleNode, NodeFault>
+        requires { factory.sizes ≡ config.now.sizes }
+        ensures fresh { IfOk result (IsFresh config.now factory) }
+        ensures node { IfOk result IsSingleNode }
+        ensures limits { IfOk result (λ _. limit_fault config.now ≡ None) }
+        ensures fault { IfErr result (IsNodeFault (limit_fault config.now)) }
+    {
+        made_are_paired();
+        let (banks, by_port) = Banks::new(alloc, config)?;
+        let (cells, seats) = Cells::new(alloc, &config.sizes, config.ports)?;
+        let programs = SlotPrograms::first(alloc, factory)?;
+        let ports = first_ports(alloc, config, &programs, by_port, seats)?;
+        Ok(SingleNode {
+            banks,
+            cells,
+            programs,
+            ports,
+        })
+    }
+
+    /// Serves one packet that came in at a port: all of it, to its reply, which `reply` holds then, if one is due. The last
+    /// program that was published for the command's slot judges it; then the verdict is applied to the bank that it names
+    /// or to the port's staging, or what is staged there is loaded. It takes memory only where it loads, and never answers
+    /// [`Served::Unread`]. The condition is a port of the node ([`SingleNode::ports`]).
+    pub fn serve(&mut self, alloc: Global, port: u8, packet: Packet, reply: &mut ReplyBuf) -> Served
+        requires { port < length self.old.passes }
+        ensures serves { Serves result port packet self.old self.new reply.new }
+        ensures node { IsSingleNode self.new }
+    {
+        let told = self.serve_told(alloc, port, packet, reply);
+        told.served
+    }
+
+    /// Serves one packet as [`SingleNode::serve`] does, and tells the program that judged it, by its generation, and its
+    /// verdict.
+    pub fn serve_told(
+        &mut self,
+        alloc: Global,
+        port: u8,
+        packet: Packet,
+        reply: &mut ReplyBuf,
+    ) -> Told
+        requires { port < length self.old.passes }
+        ensures serves { ServesTold result port packet self.old self.new reply.new }
+        ensures node { IsSingleNode self.new }
+    {
+        pairs_stay();
+        let place = usize::from(port);
+        let banks = &mut self.banks;
+        let programs = &mut self.programs;
+        let port = &mut self.ports[place];
+        serve_at(alloc, banks, programs, port, packet, reply)
+    }
+
+    /// How many ports there are: 1 to 32.
+    pub fn ports(&self) -> u8
+        ensures value { result ≡ length self.now.passes }
+        ensures few { result ≤ 32 }
+        ensures node { IsSingleNode self.now }
+    {
+        self.ports.len() as u8
+    }
+
+    /// How many banks there are: 1 to 8.
+    pub fn banks(&self) -> u8
+        ensures value { result ≡ length self.now.banks }
+        ensures few { result ≤ 8 }
+    {
+        self.banks.len() as u8
+    }
+
+    /// The bank of that number. The condition is a number below [`SingleNode::banks`].
+    pub fn bank(&self, k: u8) -> &Bank
+        requires { k < length self.now.banks }
+        ensures { slice_get self.now.banks k ≡ Some result.now }
+    {
+        self.banks.bank(k)
+    }
+
+    /// Begins a new journal at the bank of that number, and hands the old one out: what it tells is the memory of now.
+    /// Memory and counts stay. Conditions: a number below [`SingleNode::banks`], and `fresh` is empty.
+    pub fn rotate(&mut self, k: u8, fresh: Journal) -> Journal
+        requires number { k < length self.old.banks }
+        requires empty { fresh.entries ≡ [] }
+        ensures { Rotates k fresh self.old self.new result }
+    {
+        self.banks.bank_mut(k).rotate(fresh)
+    }
+
+    /// Whether so many bytes from the address on lie in the bank of that number; not where there is no such bank.
+    pub fn covers(&self, k: u8, address: u32, count: usize) -> bool
+        ensures { result ≡ covers_in (slice_get self.now.banks k) address count }
+    {
+        usize::from(k) < self.banks.len() && self.banks.bank(k).covers(address, count)
+    }
+
+    /// Puts bytes at an address of the bank of that number without a command: the write of an instrument, of which no
+    /// entry tells. So a new journal begins with the memory that is then there, and the old one is handed out. Counts
+    /// stay. It costs a copy of the bank's memory ([`Bank::set`]). Conditions: the bytes lie in that bank
+    /// ([`SingleNode::covers`]), and `fresh` is empty.
+    pub fn set_memory(&mut self, k: u8, address: u32, bytes: &[u8], fresh: Journal) -> Journal
+        requires inside { covers_in (slice_get self.old.banks k) address (length bytes.now) ≡ true }
+        requires empty { fresh.entries ≡ [] }
+        ensures { SetsMemory k address bytes.now fresh self.old self.new result }
+    {
+        self.banks.bank_mut(k).set(address, bytes, fresh)
+    }
+
+    /// The staging of a port, with the result of its last load. The condition is a port of the node.
+    pub fn staging(&self, port: u8) -> &Staging
+        requires { port < length self.now.passes }
+        ensures { staging_in (slice_get self.now.passes port) ≡ Some result.now }
+    {
+        self.ports[usize::from(port)].staging()
+    }
+
+    /// The generation of the program of a slot: its place in the list of what was published. The condition is a slot
+    /// below 4.
+    pub fn generation(&self, slot: u8) -> u32
+        requires { slot < 4 }
+        ensures { generation_at self.now.programs slot ≡ Some result }
+    {
+        self.programs.shown(slot).generation()
+    }
+
+    /// How many programs were loaded.
+    pub fn loaded(&self) -> u32
+        ensures { result + 1 ≡ length self.now.programs }
+    {
+        self.programs.loaded()
+    }
+
+    /// How many cells each map of the node has, and of which kind it is.
+    pub fn sizes(&self) -> MapSizes
+        ensures { result ≡ sizes_of self.now.programs }
+    {
+        self.programs.sizes()
+    }
+
+    /// The word of a cell: how many tickets were drawn from it, or the greatest number that was shown to it. `None` where
+    /// there is no such cell. It is no call of a program. What it tells of the calls is tested.
+    pub fn word(&mut self, map: u8, key: u16) -> Option<u64>
+        ensures same { self.new ≡ self.old }
+        ensures inside { IsSome result ↔ IsInside (sizes_of self.old.programs) map key }
+    {
+        let sizes = self.programs.sizes();
+        if !sizes.contains(map, key) {
+            return None;
+        }
+        match sizes.kind(map)? {
+            MapKind::Counter => Some(self.cells.drawn(map, key)),
+            MapKind::Peak => Some(self.cells.highest(map, key)),
+        }
+    }
+}

@@ -1,0 +1,170 @@
+//! What a port of a node of one thread has.
+
+ghost use Rattle.std.specs.Prelude.{◌≡◌, ◌<◌, IfErr, IfOk, OnErr, length, true};
+ghost use mathlib.Core.List.{IsPrefix};
+ghost use Rattle.bank.specs.Records.{fits};
+ghost use Rattle.publish.specs.Published.{sizes_of};
+ghost use Rattle.target.specs.Applied.{IsApplied, share_of};
+ghost use Rattle.target.specs.Loaded.{IsLoadEnd, IsPublished};
+ghost use Rattle.target.specs.Nodes.{first_programs, first_staging};
+ghost use Rattle.target.specs.Outcomes.{IsLoadRefusal};
+ghost use Rattle.target.specs.Passes.{pass_of};
+ghost use Rattle.target.specs.Served.{IsStagedAt};
+ghost use Rattle.target.specs.Stagings.{IsStagingPlace};
+ghost use Rattle.single_node.specs.Nodes.{IsInformed};
+ghost use Rattle.single_node.specs.Judging.{JudgesByLast};
+
+use crate::lists::ProgramList;
+use crate::programs::SlotPrograms;
+use bank::{Admitted, Applied, Bank, Judged, Share, judged_fault};
+use publish::{Staging, published_programs};
+use rmap::{Place, ReplyBuf, Status, Windows};
+use std::alloc::Global;
+use std::marker::Model;
+use target::{
+    ControlData, LoadRefusal, RunContext, answer_staged, judge_by, load_result_of, prepare,
+    read_control, slot,
+};
+
+/// What a port has of its node: its context, with its seat at the cells, what it knows of the list of what was published,
+/// a share of each bank, and its staging.
+#[derive(Drop)]
+pub(crate) struct SinglePort {
+    context: RunContext,
+    known: ProgramList,
+    shares: Vec<Share>,
+    staging: Staging,
+}
+
+impl Model for SinglePort {
+    ghost use Rattle.target.specs.Passes.{PassValue, pass_of};
+
+    ghost Value = { PassValue };
+
+    ghost view = { λ p. pass_of p.context p.known p.shares.items p.staging };
+}
+
+/// Publishes the staged program that control data ask for: its generation. The port then knows of it.
+fn publish_staged(
+    alloc: Global,
+    known: &mut ProgramList,
+    programs: &mut SlotPrograms,
+    staging: &Staging,
+    control: ControlData,
+) -> Result<u32, LoadRefusal>
+    requires { IsPrefix known.old programs.old }
+    ensures published { IfOk result (λ n. IsPublished control staging.now.bytes
+        programs.old programs.new known.old known.new n) }
+    ensures refused { IfErr result (IsLoadRefusal control staging.now.bytes
+        (sizes_of programs.old) (length programs.old)) }
+    ensures same { OnErr result ((programs.new ≡ programs.old) × (known.new ≡ known.old)) }
+{
+    let (slot, program) = prepare(alloc, staging, control, &programs.sizes())?;
+    let generation = programs.install(alloc, slot, program)?;
+    *known = programs.list();
+    Ok(generation)
+}
+
+impl SinglePort {
+    /// A port as it is made.
+    pub fn new(
+        context: RunContext,
+        known: ProgramList,
+        shares: Vec<Share>,
+        staging: Staging,
+    ) -> SinglePort
+        ensures { result ≡ pass_of context known shares.items staging }
+    {
+        SinglePort {
+            context,
+            known,
+            shares,
+            staging,
+        }
+    }
+
+    /// The windows of the node.
+    pub fn windows(&self) -> &Windows
+        ensures { result.now ≡ self.now.windows }
+    {
+        self.context.windows()
+    }
+
+    /// The staging, with the result of the last load.
+    pub fn staging(&self) -> &Staging
+        ensures { result.now ≡ self.now.staging }
+    {
+        &self.staging
+    }
+
+    /// Judges an admitted command by the program of the slot of its place: one run on its header. The port then knows of
+    /// all that was published.
+    pub fn judge(&mut self, programs: &SlotPrograms, admitted: Admitted) -> Judged
+        requires { IsInformed programs.now self.old }
+        ensures { JudgesByLast programs.now self.old self.new admitted result }
+    {
+        published_programs();
+        let slot = slot(admitted.command().kind(), admitted.place());
+        let shown = programs.shown(slot);
+        self.known = programs.list();
+        judge_by(
+            &mut self.context,
+            shown.program(),
+            shown.generation(),
+            admitted,
+        )
+    }
+
+    /// Applies a judged command to the bank of its place, with the port's share of it, and leaves the reply.
+    pub fn apply(&mut self, bank: &mut Bank, k: u8, judged: Judged, reply: &mut ReplyBuf) -> Applied
+        requires place { judged.place ≡ Place.Bank k }
+        requires shared { k < length self.old.shares }
+        requires fits { fits bank.old (share_of self.old judged.place) judged ≡ true }
+        ensures { IsApplied bank.old bank.new (share_of self.old judged.place)
+            self.old self.new judged result reply.new }
+    {
+        bank.apply(&mut self.shares[usize::from(k)], judged, reply)
+    }
+
+    /// Answers a judged command to the staging or to the load result, and leaves the reply.
+    pub fn stage(&mut self, judged: Judged, reply: &mut ReplyBuf) -> Status
+        requires { IsStagingPlace judged.place }
+        ensures { IsStagedAt self.old self.new judged result reply.new }
+    {
+        answer_staged(&mut self.staging, judged, reply)
+    }
+
+    /// Loads what the port staged, where the verdict on the control write is yes and its body is right, and leaves the
+    /// reply.
+    pub fn load(
+        &mut self,
+        alloc: Global,
+        programs: &mut SlotPrograms,
+        judged: Judged,
+        reply: &mut ReplyBuf,
+    ) -> Status
+        requires place { judged.place ≡ Place.Control }
+        requires begins { IsPrefix self.old.programs programs.old }
+        ensures { IsLoadEnd self.old self.new programs.old programs.new judged result reply.new }
+    {
+        if let Some(status) = judged_fault(&judged.command(), judged.verdict()) {
+            judged.end(status, reply);
+            return status;
+        }
+        let control = read_control(judged.command().body());
+        let known = &mut self.known;
+        let (status, loaded) = match publish_staged(
+            alloc,
+            known,
+            programs,
+            &self.staging,
+            control,
+        ) {
+            Ok(generation) => (Status::Success, load_result_of(generation)),
+            Err(refusal) => (Status::GeneralError, refusal.load_result()),
+        };
+        self.staging.set_load_result(loaded);
+        judged.end(status, reply);
+        status
+    }
+}

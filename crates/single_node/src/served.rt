@@ -1,0 +1,97 @@
+//! The whole way of a packet.
+
+ghost use Rattle.std.specs.Prelude.{◌≡◌, ◌<◌, length};
+ghost use mathlib.Core.List.{IsPrefix};
+ghost use Rattle.bank.specs.Admission.{IsPlacedBy};
+ghost use Rattle.target.specs.Pairs.{IsPaired};
+ghost use Rattle.target.specs.Served.{parts};
+ghost use Rattle.target.specs.declared.served.Served.TheVariants.{Stopped};
+ghost use Rattle.single_node.specs.Nodes.{IsInformed};
+ghost use Rattle.single_node.specs.Judging.{Ends, ServesAt};
+
+use crate::port::SinglePort;
+use crate::programs::SlotPrograms;
+use bank::Judged;
+use rmap::{Place, ReplyBuf};
+use spw::Packet;
+use std::alloc::Global;
+use target::{Banks, Served, Stop, admit, paired_commands_fit};
+
+/// What became of a packet, with the program that judged its command and what it said.
+#[derive(Clone, Copy, Debug, PartialEq, Eq)]
+pub struct Told {
+    /// What became of it.
+    pub served: Served,
+    /// The generation of the program that judged its command: its place in the list of what was published. 0 where its
+    /// header stopped the packet.
+    pub generation: u32,
+    /// The verdict of that program: 0 is yes. 0 where its header stopped the packet.
+    pub verdict: u64,
+}
+
+/// What is told of a packet that its header stops.
+fn stopped(stop: Stop) -> Told
+    ensures { result ≡ record { served = Stopped stop; generation = 0; verdict = 0 } }
+{
+    Told {
+        served: Served::Stopped(stop),
+        generation: 0,
+        verdict: 0,
+    }
+}
+
+/// Ends a judged command where its bytes lie, and leaves the reply.
+fn end(
+    alloc: Global,
+    banks: &mut Banks,
+    programs: &mut SlotPrograms,
+    port: &mut SinglePort,
+    judged: Judged,
+    reply: &mut ReplyBuf,
+) -> Served
+    requires paired { IsPaired banks.old port.old }
+    requires port { judged.port ≡ port.old.port }
+    requires placed { IsPlacedBy port.old.windows judged.packet judged.place }
+    requires begins { IsPrefix port.old.programs programs.old }
+    ensures { Ends result (parts banks.old programs.old) (parts banks.new programs.new)
+        port.old port.new judged reply.new }
+{
+    paired_commands_fit();
+    match judged.place() {
+        Place::Bank(k) => Served::Done(port.apply(banks.bank_mut(k), k, judged, reply)),
+        Place::Staging | Place::LoadResult => Served::Window(port.stage(judged, reply)),
+        Place::Control => Served::Window(port.load(alloc, programs, judged, reply)),
+    }
+}
+
+/// Serves one packet that came in at a port: the last program that was published for its slot judges its command, and the
+/// verdict is applied to the bank that it names, or to the port's staging, or what is staged there is loaded.
+pub(crate) fn serve_at(
+    alloc: Global,
+    banks: &mut Banks,
+    programs: &mut SlotPrograms,
+    port: &mut SinglePort,
+    packet: Packet,
+    reply: &mut ReplyBuf,
+) -> Told
+    requires paired { IsPaired banks.old port.old }
+    requires informed { IsInformed programs.old port.old }
+    ensures served { ServesAt result.served result.generation result.verdict packet
+        (parts banks.old programs.old) (parts banks.new programs.new) port.old port.new reply.new }
+    ensures some { 0 < length programs.old }
+{
+    let _list = programs.list();
+    let admitted = match admit(packet, port.windows(), reply) {
+        Ok(admitted) => admitted,
+        Err((stop, _packet)) => return stopped(stop),
+    };
+    let judged = port.judge(programs, admitted);
+    let generation = judged.generation();
+    let verdict = judged.verdict();
+    let served = end(alloc, banks, programs, port, judged, reply);
+    Told {
+        served,
+        generation,
+        verdict,
+    }
+}

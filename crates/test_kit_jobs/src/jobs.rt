@@ -1,0 +1,25 @@
+//! Jobs over files in memory.
+
+ghost use Rattle.std.specs.Prelude.{IfOk};
+ghost use Rattle.test_kit_jobs.specs.Jobs.{Leaves};
+
+use crate::folder::Folder;
+use commands::{Job, WriteFault, perform};
+use std::alloc::Global;
+use std::sync::Wait;
+use std::thread::Threads;
+
+/// Does a job over the files of a folder, and gives what it printed and the exit status.
+#[tactic(auto, using(crate::proofs::Left::performed_leaves))]
+pub fn perform_in<R: Threads + Wait + Sync>(
+    rt: &R,
+    alloc: Global,
+    job: &Job,
+    folder: &mut Folder,
+) -> Result<(Vec<u8>, u8), WriteFault>
+    ensures { IfOk result (λ done. Leaves job.now folder.old folder.new done.1) }
+{
+    let mut out = Vec::new(alloc);
+    let status = perform(rt, alloc, job, folder, &mut out)?;
+    Ok((out, status))
+}

@@ -1,0 +1,37 @@
+//! Nodes behind their locks, and programs to judge there.
+
+ghost use Rattle.std.specs.Prelude.{◌≡◌};
+
+use bver::{Accepted, verify};
+use publish::{Opened, ProgramFamily};
+use std::alloc::Global;
+use std::sync::Wait;
+use std::test::Fail;
+use target::{BankConfig, Node, NodeConfig, Pass};
+use test_kit::{image_of_text, sizes};
+
+/// The program of a text, with that budget, for maps of those sizes.
+pub fn accepted(alloc: Global, text: &str, budget: u32, maps: &str) -> Result<Accepted, Fail> {
+    let image = image_of_text(alloc, text, budget)?;
+    Ok(verify(alloc, image, &sizes(alloc, maps)?)?)
+}
+
+/// A node of logical address 0xFE with those banks, and the passes of its ports. That program judges at first.
+pub fn shared_node<J: ProgramFamily, R: Wait + Drop>(
+    rt: R,
+    alloc: Global,
+    opened: Opened,
+    ports: u8,
+    banks: &[BankConfig],
+    factory: Accepted,
+) -> Result<(Node<J, R>, Vec<Pass<J>>), Fail>
+    requires { opened ≡ J.book }
+{
+    let config = NodeConfig {
+        address: 0xFE,
+        ports,
+        banks,
+        sizes: factory.sizes(),
+    };
+    Ok(Node::new(alloc, rt, opened, &config, factory)?)
+}

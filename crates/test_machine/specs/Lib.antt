@@ -1,0 +1,5 @@
+pub mod Near
+pub mod Bytes
+pub mod Deeds
+pub mod Machine
+pub mod Endings

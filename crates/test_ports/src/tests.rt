@@ -1,0 +1,12 @@
+//! What no clause says, of queues, of workers, and of ports that are served side by side.
+
+mod checks;
+mod faults;
+mod gates;
+mod locks;
+mod meetings;
+mod queues;
+mod sharing;
+mod sinks;
+mod turns;
+mod workers;

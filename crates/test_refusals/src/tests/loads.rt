@@ -1,0 +1,182 @@
+//! Memory that is refused to a load.
+
+ghost use Rattle.std.specs.Prelude.{◌≡◌};
+
+use super::checks::{check, same};
+use super::marks::{begin, end, tell};
+use brun::Counters;
+use publish::{Opened, ProgramFamily};
+use rmap::{ReplyBuf, Status};
+use std::alloc::Global;
+use std::marker::Brand;
+use std::process::Abort;
+use std::sync::Wait;
+use std::test::Fail;
+use target::Served;
+use test_kit::{
+    LOAD, PLAIN_READ, PLAIN_WRITE, PlainNode, STAGE, SpareBank, bank, image_of_text, packet,
+};
+use test_kit_ports::accepted;
+
+/// Draws a ticket and says yes.
+const DRAW: &str = "ldmap r1, 0; mov r2, 0; call 2; mov r0, 0; exit";
+
+/// A read-modify-write of the bank, and a read of the load result, as packet lines.
+const MODIFY: &str = "0 FE015C0067000400A000000000000297 F03CEE EOP";
+
+const RESULT: &str = "0 FE014C00670012FF0001000000000895 EOP";
+
+/// The codes of a load that was refused memory: for the image, by the verifier, and in publishing.
+const CODES: [(u8, &str); 3] = [
+    (40, "28 00 00 00 00 00 00 00"),
+    (17, "11 00 00 00 00 00 00 00"),
+    (65, "41 00 00 00 00 00 00 00"),
+];
+
+/// What is told of a node and its port: the bytes that the port staged, the first page of the bank, the entries in its
+/// journal, and of the program in each slot the generation and the verdict.
+#[derive(Debug, Drop, PartialEq, Eq)]
+struct Parts {
+    staged: Vec<u8>,
+    page: Vec<u8>,
+    entries: usize,
+    programs: Vec<(u32, u64)>,
+}
+
+/// A node of one port, and a spare bank, where commands end that are judged and not carried out.
+#[derive(Drop)]
+struct Loading<J: ProgramFamily, R: Wait + Drop> {
+    alloc: Global,
+    node: PlainNode<J, R>,
+    spare: SpareBank,
+}
+
+impl<J: ProgramFamily, R: Wait + Drop> Loading<J, R> {
+    /// A fresh node with a map of two cells and one of one, whose program says yes.
+    fn new(rt: R, alloc: Global, opened: Opened) -> Result<Loading<J, R>, Fail>
+        requires { opened ≡ J.book }
+    {
+        let factory = accepted(alloc, "mov r0, 0; exit", 2, "2 1")?;
+        let one = [bank(16)];
+        Ok(Loading {
+            alloc,
+            node: PlainNode::new(alloc, rt, opened, 1, &one, factory)?,
+            spare: SpareBank::new(alloc)?,
+        })
+    }
+
+    /// The generation and the verdict of the program that judges the packet of a line.
+    fn judged_by(&mut self, line: &str) -> Result<(u32, u64), Fail> {
+        let judged = self.node.judge_line(0, line)?;
+        let found = (judged.generation(), judged.verdict());
+        let mut reply = ReplyBuf::new();
+        self.spare.end(judged, &mut reply);
+        Ok(found)
+    }
+
+    /// What is told of the node and its port. The program in the slot of writes draws a ticket.
+    fn parts(&mut self) -> Result<Parts, Fail> {
+        let mut programs = Vec::new(self.alloc);
+        for line in [PLAIN_READ, PLAIN_WRITE, MODIFY, RESULT] {
+            programs.push(self.judged_by(line)?)?;
+        }
+        let bank = self.node.bank(0)?;
+        let page = bank.pages().first().ok_or("no page")?;
+        let staging = self.node.staging(0)?;
+        Ok(Parts {
+            staged: staging.bytes().to_vec(self.alloc)?,
+            page: page.to_vec(self.alloc)?,
+            entries: bank.entries().len(),
+            programs,
+        })
+    }
+
+    /// Loads what is staged: the status, and the load result. Of this all requests are counted.
+    fn load(&mut self) -> Result<(Served, [u8; 8]), Fail> {
+        let packet = packet(self.alloc, LOAD)?;
+        begin(self.alloc)?;
+        let came = self.node.serve(0, packet)?;
+        end(self.alloc)?;
+        Ok((came, self.node.staging(0)?.load_result()))
+    }
+
+    /// How many tickets were drawn from the first cell.
+    fn tickets(self) -> Result<u64, Fail> {
+        let Loading { node, .. } = self;
+        let pass = node.into_passes().pop().ok_or("no pass")?;
+        let mut seat = pass.into_seat();
+        if !seat.sizes().contains(0, 0) {
+            return Err("no cell".into());
+        }
+        Ok(seat.count(0, 0))
+    }
+}
+
+/// A load that published with that generation.
+fn published(generation: u8) -> (Served, [u8; 8]) {
+    (
+        Served::Window(Status::Success),
+        [0, 0, 0, 0, 0, 0, 0, generation],
+    )
+}
+
+/// Compares a load that was not done with what a refusal leaves, and tells its load result.
+fn compare_refused(
+    rt: &(impl Abort + Print),
+    load: (Served, [u8; 8]),
+    before: &Parts,
+    after: &Parts,
+) -> Result<(), Fail> {
+    same(
+        rt,
+        "its status",
+        load.0,
+        Served::Window(Status::GeneralError),
+    );
+    let code = load.1[0];
+    same(rt, "place and generation", &load.1[1..], [0; 7].as_slice());
+    for (number, result) in CODES {
+        if code == number {
+            tell(rt, result)?;
+        }
+    }
+    let is_told = CODES.iter().any(|(number, _)| code == *number);
+    check(rt, "the code", is_told);
+    check(rt, "what stands after a refusal", before == after);
+    Ok(())
+}
+
+/// A load behind a write, a ticket and a publish. Where memory was refused to it everything is as before, and the next
+/// load has the generation that it would have had.
+fn load_behind<J: ProgramFamily, R: Wait + Abort + Print>(
+    rt: &R,
+    alloc: Global,
+    opened: Opened,
+) -> Result<(), Fail>
+    requires { opened ≡ J.book }
+{
+    let mut loading = Loading::<J, _>::new(rt, alloc, opened)?;
+    loading.node.install(1, image_of_text(alloc, DRAW, 6)?)?;
+    for line in [PLAIN_WRITE, STAGE] {
+        loading.node.serve_line(0, line)?;
+    }
+    let before = loading.parts()?;
+    let mut load = loading.load()?;
+    let mut draws = 2;
+    if load != published(2) {
+        let after = loading.parts()?;
+        compare_refused(rt, load, &before, &after)?;
+        draws = 3;
+        load = loading.load()?;
+    }
+    same(rt, "the load", load, published(2));
+    let judged = loading.judged_by(PLAIN_WRITE)?;
+    same(rt, "the program that was loaded", judged, (2, 0));
+    same(rt, "the tickets", loading.tickets()?, draws);
+    Ok(())
+}
+
+#[test]
+fn memory_refused_to_load(rt: HostRuntime) -> Result<(), Fail> {
+    load_behind::<Brand, _>(&rt, rt.alloc(), Opened::new())
+}
