@@ -1,6 +1,7 @@
 //! Times the target: one line a measure, with the best and the median of several rounds.
 
 mod images;
+mod node;
 mod packets;
 mod schedule;
 mod speed;
@@ -29,12 +30,12 @@ fn main() {
         return growth();
     }
     let block: Vec<u8> = (0..4096u32).map(|k| (k * 31 % 251) as u8).collect();
-    measure("crc over 16 bytes", "bytes", 16.0 * 1_000_000.0, || {
-        timed(|| speed::crc(&block[..16], 1_000_000))
-    });
-    measure("crc over 4096 bytes", "bytes", 4096.0 * 20_000.0, || {
-        timed(|| speed::crc(&block, 20_000))
-    });
+    for (length, count) in [(16, 1_000_000), (64, 500_000), (256, 200_000), (4096, 20_000)] {
+        let amount = length as f64 * f64::from(count);
+        measure(&format!("crc over {length} bytes"), "bytes", amount, || {
+            timed(|| speed::crc(&block[..length], count))
+        });
+    }
 
     let straight = images::straight();
     let slots = images::slots(&straight);
@@ -72,6 +73,9 @@ fn main() {
 
     let read = packets::read();
     serve("plain read, yes image", &images::yes(), &read, PACKETS);
+    serve("plain read, 512 slots", &images::straight(), &read, PACKETS);
+    serve_in_c("plain read, yes image", &images::yes(), &read, PACKETS);
+    serve_in_c("plain read, 512 slots", &images::straight(), &read, PACKETS);
     serve("plain read, 100 instructions", &images::fields(), &read, PACKETS);
     serve("plain read, quota image", &quota, &read, PACKETS);
     serve("plain read, policy table of twelve rules", &images::last_of_twelve(), &read, PACKETS);
@@ -144,6 +148,14 @@ fn serve(name: &str, image: &[u8], packet: &[u8], count: u32) {
     let prepared = rounds(|| timed(|| speed::prepare(packet, count)));
     let name = format!("judge and apply, {name}");
     tell(&name, "packets", f64::from(count), less(whole, prepared));
+}
+
+/// Measures `sandbar_serve` of so many packets on a fresh node, each with the copy that the journal keeps.
+fn serve_in_c(name: &str, image: &[u8], packet: &[u8], count: u32) {
+    let whole = rounds(|| timed(|| node::serve(image, packet, count)));
+    let opened = rounds(|| timed(|| node::serve(image, packet, 0)));
+    let name = format!("sandbar_serve, {name}");
+    tell(&name, "packets", f64::from(count), less(whole, opened));
 }
 
 /// The time of a call, or `None` where an input is refused.

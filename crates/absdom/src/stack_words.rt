@@ -13,7 +13,7 @@ use std::marker::Model;
 pub(crate) const WORD_BYTES: usize = 8;
 
 /// How many words the stack has.
-const STACK_WORDS: usize = STACK_SIZE / WORD_BYTES;
+pub(crate) const STACK_WORDS: usize = STACK_SIZE / WORD_BYTES;
 
 /// The range of all numbers, 64 times.
 #[tactic(auto, unfolding(crate::specs::StackWords::all_whole))]

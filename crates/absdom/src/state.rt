@@ -5,14 +5,14 @@ ghost use Rattle.machine.specs.declared.regions.TheConstants.{STACK_SIZE};
 ghost use Rattle.absdom.specs.Kinds.{joined_kinds, IsKindBelow};
 ghost use Rattle.absdom.specs.State.{IsState, IsWhole, IsBelow, IsJoin, IsEntry, kind_at, kind_in, range_at, with_kind, with_stack, after_call, entry_kinds, AreJoined, AreBelow};
 ghost use Rattle.absdom.specs.Marks.{mark_at, all_marked};
-ghost use Rattle.absdom.specs.StackWords.{all_whole, AreAllWhole};
+ghost use Rattle.absdom.specs.StackWords.{all_whole, range_in, AreAllWhole};
 ghost use Rattle.absdom.specs.Effect.{with_stored, AreInside};
 
 use crate::kinds::AbsKind;
 use crate::marks::Marks;
 use crate::offsets::Offsets;
 use crate::spill::Spill;
-use crate::stack_words::StackWords;
+use crate::stack_words::{STACK_WORDS, StackWords};
 use absdom_num::Range;
 use bpf_insn::{REGISTERS, Register};
 use machine::Region;
@@ -76,6 +76,18 @@ impl State {
         ensures { result ≡ kind_at self.now register }
     {
         self.registers.kinds[usize::from(register.number())]
+    }
+
+    /// The range of the number in a word of the stack: word k is the bytes 8k to 8k + 7, at offsets 8k - 512 to 8k - 505.
+    /// All numbers where none is known there, and for a word past the last one, 63.
+    pub fn word(&self, word: usize) -> Range
+        ensures { result ≡ range_in self.now.ranges word }
+    {
+        if word < STACK_WORDS {
+            self.words.get(word)
+        } else {
+            Range::whole()
+        }
     }
 
     /// Writes a register.

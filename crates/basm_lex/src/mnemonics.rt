@@ -180,7 +180,18 @@ pub fn read_mnemonic(word: &str) -> Option<Mnemonic>
     ensures plain { IfSome result (λ _. IsName word.now) }
     ensures exact { (found : Mnemonic) → word.now ≡ mnemonic_word found → result ≡ Some found }
 {
-    first_with_word(&MNEMONICS, word)
+    named(word)
+}
+
+/// The mnemonic that has this word. A line without an instruction has an empty word, which none has.
+fn named(word: &str) -> Option<Mnemonic>
+    ensures { result ≡ mnemonic_named word.now }
+{
+    if word.is_empty() {
+        None
+    } else {
+        first_with_word(&MNEMONICS, word)
+    }
 }
 
 /// What holds of all mnemonics: it does nothing, and its contract is the laws.

@@ -94,7 +94,7 @@ result_refuted : (r : Result StateValue Cause) (there : Option StateValue) → I
 result_refuted (Err cause) there fails h = h
 result_refuted (Ok a) there fails h = absurd cc
 
-refuted_on : (spill : Spill) (maps : Maps) (slot : ℕ) (a : StateValue) (insn : Insn) → flow_of insn ≡ GoesOn → IsErr (after_insn spill a insn) → IsRefuted spill maps slot a insn
+pub refuted_on : (spill : Spill) (maps : Maps) (slot : ℕ) (a : StateValue) (insn : Insn) → flow_of insn ≡ GoesOn → IsErr (after_insn spill a insn) → IsRefuted spill maps slot a insn
 refuted_on spill maps slot a insn goes fails table h = by_insn insn goes fails h
   where
     by_insn : (insn : Insn) → flow_of insn ≡ GoesOn → IsErr (after_insn spill a insn) → IsPermitted spill maps table slot a insn → ⊥

@@ -12,6 +12,7 @@ pub mod Safety
 pub mod Regions
 pub mod Above
 pub mod Below
+pub mod Telling
 pub mod Steps
 pub mod Rounds
 pub mod Rings

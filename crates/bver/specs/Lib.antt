@@ -8,4 +8,5 @@ pub mod Table
 pub mod Unjustified
 pub mod Visit
 pub mod Leading
+pub mod Told
 pub mod Laws

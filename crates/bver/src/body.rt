@@ -1,6 +1,6 @@
 //! A loop that a program declares, with what stands at its head for every pass.
 
-ghost use Rattle.std.specs.Prelude.{◌≡◌, ◌≤◌, ◌<◌, ◌↔◌, IfErr, IsTrue, OnOk, MatchResult, length};
+ghost use Rattle.std.specs.Prelude.{◌≡◌, ◌≤◌, ◌<◌, ◌↔◌, IfErr, IsTrue, OnErr, OnOk, MatchResult, length};
 ghost use Rattle.bpf.specs.Program.{insn_at};
 ghost use Rattle.machine.specs.Laws.{is_store};
 ghost use Rattle.bver.specs.Justified.{HasStore, IsCovered, IsStoreAt, IsWrittenBy, IsWrittenIn};
@@ -190,6 +190,7 @@ impl<'a> Body<'a> {
             state.old state.new) }
         ensures bound { MatchResult result (λ _. IsWithinBound self.now.declared state.old)
             (IsEntryFault self.now.declared state.old) }
+        ensures kept { OnErr result (state.new ≡ state.old) }
     {
         let counter = AbsKind::Num(Range::new(1, u64::from(self.declared.bound)));
         if !state.kind(self.declared.register).leq(&counter) {

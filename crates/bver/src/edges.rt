@@ -1,6 +1,6 @@
 //! What an instruction does to the table: the edges that it follows, and why it is refused.
 
-ghost use Rattle.std.specs.Prelude.{◌≡◌, ◌+◌, ◌⊎◌, IfErr, IfOk, IsErr, IsSome, IsTrue, MatchResult, OnOk, Ok, Some, false};
+ghost use Rattle.std.specs.Prelude.{◌≡◌, ◌+◌, ◌⊎◌, IfErr, IfOk, IsErr, IsSome, IsTrue, MatchResult, OnErr, OnOk, Ok, Some, false};
 ghost use Rattle.bpf_insn.specs.Spelling.{slots_of};
 ghost use Rattle.machine.specs.Helpers.{helper_of};
 ghost use Rattle.machine.specs.Step.{insn_at, is_map, knows_helper};
@@ -16,6 +16,7 @@ ghost use Rattle.bver.specs.Justified.{HasArgument, IsCovered, IsCoveredIfAny, I
 ghost use Rattle.bver_form.specs.Lowered.{IsMore, IsSettled};
 ghost use Rattle.bver.specs.Refusals.{IsValueFault, IsValueRefusal};
 ghost use Rattle.bver.specs.Table.{knowledge_beside, knowledge_in, knowledge_next};
+ghost use Rattle.bver.specs.Told.{IsClosingFaultIn, TellsKnown};
 ghost use Rattle.bver_form.specs.Targets.{IsPlain};
 ghost use Rattle.bver.specs.Leading.{AreLoweredBack, BranchesBelow, IsFlowFault, GivesBelow, IsUncovered, IsUncoveredIfAny, LeadsBelow, jumping_state, taken_state};
 ghost use Rattle.bver.specs.Visit.{AreFollowed, GoesOnPlain, HasNext, IsExtendedAfter, IsLeastNext, IsLeastOf, IsNext, IsTableOf, LeadsBy, knowledge_at_target};
@@ -69,6 +70,7 @@ fn jump(
     ensures uncovered { IfErr result
         (λ _. IsUncovered visit.now.program visit.now.slot lowered.old (knowledge_in table.old)
         state.now) }
+    ensures closing { IfErr result (IsClosingFaultIn visit.now.program) }
 {
     order_of_states();
     state.stands_whole();
@@ -122,6 +124,7 @@ fn follow_taken(
         (λ _. IsUncoveredIfAny visit.now.program visit.now.slot lowered.old
         (knowledge_in table.old)
         (edge_state state.now comparison.now.dst comparison.now.src edge.now)) }
+    ensures closing { IfErr result (IsClosingFaultIn visit.now.program) }
 {
     order_of_states();
     match edge {
@@ -218,6 +221,8 @@ fn branch(
         (λ _. IsUncoveredIfAny visit.now.program visit.now.slot lowered.old
         (knowledge_in table.old)
         (edge_state state.old comparison.now.dst comparison.now.src edges.now.taken)) }
+    ensures kept { OnErr result (state.new ≡ state.old) }
+    ensures closing { IfErr result (IsClosingFaultIn visit.now.program) }
 {
     order_of_states();
     follow_taken(
@@ -273,6 +278,11 @@ fn compare(
         ⊎ IsUncoveredIfAny visit.now.program visit.now.slot lowered.old
         (knowledge_in table.old)
         (taken_state (edges_of_comparison state.old comparison.now))) }
+    ensures kept { OnErr result (state.new ≡ state.old) }
+    ensures told { IfErr result
+        (λ refused. ((refused.slot ≡ visit.now.slot)
+        × IsErr (edges_of_comparison state.old comparison.now))
+        ⊎ IsClosingFaultIn visit.now.program refused) }
 {
     order_of_states();
     match refine(
@@ -320,6 +330,8 @@ fn straight(
         (GoesOnPlain visit.now.program (visit.now.slot + slots_of insn.now)) }
     ensures extended { IsExtendedAfter visit.now table.old table.new }
     ensures refused { IfErr result (IsValueFault visit.now.program) }
+    ensures slot { IfErr result (λ refused. refused.slot ≡ visit.now.slot) }
+    ensures kept { OnErr result (state.new ≡ state.old) }
 {
     order_of_states();
     match state.apply(visit.spill(), insn) {
@@ -334,6 +346,7 @@ fn check_map(visit: &Visit, index: i32) -> Result<(), Refused>
     ensures map { MatchResult result (λ _. IsTrue (is_map visit.now.maps index))
         (λ _. is_map visit.now.maps index ≡ false) }
     ensures refused { IfErr result (IsValueFault visit.now.program) }
+    ensures slot { IfErr result (λ refused. refused.slot ≡ visit.now.slot) }
 {
     if index < 0 || index >= i32::from(visit.maps()) {
         return Err(visit.refused(Refusal::MapKey));
@@ -347,6 +360,7 @@ fn check_answer(visit: &Visit, state: &State) -> Result<(), Refused>
     ensures answer { MatchResult result (λ _. IsNumber (kind_at state.now 0))
         (λ _. IsNumber (kind_at state.now 0) → ⊥) }
     ensures refused { IfErr result (IsValueFault visit.now.program) }
+    ensures slot { IfErr result (λ refused. refused.slot ≡ visit.now.slot) }
 {
     match Register::new(0) {
         Some(answer) => match state.kind(answer).number() {
@@ -363,6 +377,7 @@ fn asked_map(visit: &Visit, state: &State) -> Result<u8, Refused>
     ensures map { MatchResult result (λ map. map_of (kind_at state.now 1) ≡ Ok map)
         (λ _. IsErr (map_of (kind_at state.now 1))) }
     ensures refused { IfErr result (IsValueFault visit.now.program) }
+    ensures slot { IfErr result (λ refused. refused.slot ≡ visit.now.slot) }
 {
     match Register::new(1) {
         Some(register) => match state.kind(register).map() {
@@ -379,6 +394,7 @@ fn asked_keys(visit: &Visit, state: &State) -> Result<Range, Refused>
     ensures keys { MatchResult result (λ keys. number_of (kind_at state.now 2) ≡ Ok keys)
         (λ _. IsErr (number_of (kind_at state.now 2))) }
     ensures refused { IfErr result (IsValueFault visit.now.program) }
+    ensures slot { IfErr result (λ refused. refused.slot ≡ visit.now.slot) }
 {
     match Register::new(2) {
         Some(register) => match state.kind(register).number() {
@@ -395,6 +411,7 @@ fn check_argument(visit: &Visit, state: &State, helper: Helper) -> Result<(), Re
     ensures argument { MatchResult result (λ _. HasArgument helper (kind_at state.now 3))
         (λ _. HasArgument helper (kind_at state.now 3) → ⊥) }
     ensures refused { IfErr result (IsValueFault visit.now.program) }
+    ensures slot { IfErr result (λ refused. refused.slot ≡ visit.now.slot) }
 {
     if !helper.takes_argument() {
         return Ok(());
@@ -415,6 +432,7 @@ fn check_asked(visit: &Visit, state: &State, helper: Helper) -> Result<(), Refus
     ensures asked { MatchResult result (λ _. MayAsk visit.now.maps helper state.now)
         (λ _. MayAsk visit.now.maps helper state.now → ⊥) }
     ensures refused { IfErr result (IsValueFault visit.now.program) }
+    ensures slot { IfErr result (λ refused. refused.slot ≡ visit.now.slot) }
 {
     let map = asked_map(visit, state)?;
     let keys = asked_keys(visit, state)?;
@@ -435,6 +453,7 @@ fn check_called(visit: &Visit, state: &State, number: i32) -> Result<(), Refused
     ensures called { MatchResult result (λ _. MayCall visit.now.maps (helper_of number) state.now)
         (λ _. MayCall visit.now.maps (helper_of number) state.now → ⊥) }
     ensures refused { IfErr result (IsValueFault visit.now.program) }
+    ensures slot { IfErr result (λ refused. refused.slot ≡ visit.now.slot) }
 {
     match Helper::of_number(number) {
         Some(helper) => check_asked(visit, state, helper),
@@ -467,6 +486,8 @@ fn call(
     ensures plain { IfOk result (GoesOnPlain visit.now.program (visit.now.slot + 1)) }
     ensures extended { IsExtendedAfter visit.now table.old table.new }
     ensures refused { IfErr result (IsValueFault visit.now.program) }
+    ensures slot { IfErr result (λ refused. refused.slot ≡ visit.now.slot) }
+    ensures kept { OnErr result (state.new ≡ state.old) }
 {
     order_of_states();
     check_called(visit, state, number)?;
@@ -538,6 +559,7 @@ pub(crate) fn flow(
     ensures refused { IfErr result (IsValueFault visit.now.program) }
     ensures fault { IfErr result
         (λ _. IsFlowFault visit.now lowered.old (knowledge_in table.old) state.old insn.now) }
+    ensures told { IfErr result (TellsKnown visit.now.program visit.now.maps state.new) }
 {
     order_of_states();
     match insn {

@@ -14,8 +14,8 @@ mod passes;
 mod table;
 mod visit;
 
-pub use absdom::Region;
-pub use accepted::{Accepted, verify};
+pub use absdom::{Region, State};
+pub use accepted::{Accepted, explain, verify};
 pub use bver_form::{Refusal, Refused};
 pub use bver_op::{Code, Op};
 pub use laws::justified_programs;

@@ -1,6 +1,6 @@
 //! The pass over a program's slots.
 
-ghost use Rattle.std.specs.Prelude.{◌≡◌, ◌<◌, ℕ, IfErr, IfOk, IsSome, IsTrue, OnOk, Option, Some, None, length, if◌then◌else◌};
+ghost use Rattle.std.specs.Prelude.{◌≡◌, ◌<◌, ℕ, IfErr, IfOk, IsSome, IsTrue, OnErr, OnOk, Option, Some, None, length, if◌then◌else◌};
 ghost use Rattle.machine.specs.Step.{insn_at};
 ghost use Rattle.bver_form.specs.Form.{IsFormed};
 ghost use Rattle.bver.specs.Heads.{AreHeadsAt, HasLowered, IsWidened, IsWithinBound};
@@ -10,6 +10,7 @@ ghost use Rattle.bver.specs.Leading.{EntersOutside, EntersOutsideIfAny, IsLeastV
 ghost use Rattle.bver_form.specs.Lowered.{IsMore, IsSettled};
 ghost use Rattle.bver.specs.Refusals.{IsValueFault};
 ghost use Rattle.bver.specs.Table.{knowledge_in};
+ghost use Rattle.bver.specs.Told.{TellsKnown};
 ghost use Rattle.bver_form.specs.Targets.{IsKept};
 ghost use Rattle.bver.specs.Unjustified.{Justifies};
 ghost use Rattle.bver.specs.Visit.{AreEntered, IsExtended, IsInsnVisit, IsLeastEntry, IsLeastOf, IsTableOf, IsVisit, visited_state};
@@ -41,6 +42,8 @@ fn widen_head(
     ensures bound { OnOk result (IsWithinBound body.now.declared state.old) }
     ensures refused { IfErr result (IsValueFault visit.now.program) }
     ensures outside { IfErr result (λ _. IsWithinBound body.now.declared state.old → ⊥) }
+    ensures slot { IfErr result (λ refused. refused.slot ≡ visit.now.slot) }
+    ensures kept { OnErr result (state.new ≡ state.old) }
 {
     match body.widen(lowered, state) {
         Ok(()) => Ok(()),
@@ -69,6 +72,7 @@ fn enter(
     ensures refused { IfErr result (IsValueFault visit.now.program) }
     ensures outside { IfErr result
         (λ _. EntersOutside visit.now.program visit.now.slot state.old) }
+    ensures told { IfErr result (TellsKnown visit.now.program visit.now.maps state.new) }
 {
     order_of_states();
     table.stands_at_targets();
@@ -116,6 +120,7 @@ fn arrive(
     ensures outside { IfErr result
         (λ _. EntersOutsideIfAny visit.now.program visit.now.slot
         (visited_state runs state.old table.old visit.now.slot)) }
+    ensures told { IfErr result (TellsKnown visit.now.program visit.now.maps state.new) }
 {
     order_of_states();
     visit.stands_formed();
@@ -156,6 +161,7 @@ fn visit_insn(
     ensures fault { IfErr result
         (λ _. IsVisitFaultIfAny visit.now lowered.old (knowledge_in table.old)
         (visited_state runs.old state.old table.old visit.now.slot) (Some insn.now)) }
+    ensures told { IfErr result (TellsKnown visit.now.program visit.now.maps state.new) }
 {
     order_of_states();
     visit.stands_formed();
@@ -194,6 +200,7 @@ fn visit_slot(
         (λ _. IsVisitFaultIfAny visit.now lowered.old (knowledge_in table.old)
         (visited_state runs.old state.old table.old visit.now.slot)
         (insn_at visit.now.program visit.now.slot)) }
+    ensures told { IfErr result (TellsKnown visit.now.program visit.now.maps state.new) }
 {
     match visit.insn() {
         Some(insn) => visit_insn(visit, table, lowered, state, spare, runs, &insn),
@@ -202,7 +209,8 @@ fn visit_slot(
 }
 
 /// Passes over the slots of a program by rising slot, from a table that covers the entry. It writes the
-/// region that each slot accesses. The program is judged where nothing more was lowered.
+/// region that each slot accesses. The program is judged where nothing more was lowered. The state is any one before; where
+/// the program is refused it is what was known at the slot of the refusal.
 ///
 /// # Errors
 ///
@@ -213,6 +221,7 @@ pub(crate) fn pass(
     image: &Image,
     maps: &MapSizes,
     regions: &mut Vec<Option<Region>>,
+    state: &mut State,
 ) -> Result<(), Refused>
     requires formed { IsFormed image.now }
     requires table { table.old.program ≡ image.now }
@@ -231,6 +240,7 @@ pub(crate) fn pass(
     ensures refuted { IfErr result
         (λ _. (above : ℕ → Option StateValue) → Justifies image.now maps.now above
         → HasLowered image.now lowered.old above → ⊥) }
+    ensures told { IfErr result (TellsKnown image.now maps.now state.new) }
 {
     order_of_states();
     apply_grows();
@@ -239,12 +249,12 @@ pub(crate) fn pass(
     apply_leaves();
     refine_shrinks();
     loops_are_counted();
-    let mut state = State::entry();
     let mut spare = State::entry();
     let mut runs = false;
+    state.set_to(&spare);
     for slot in 0..image.slots() {
         let visit = Visit::new(image, maps, slot);
-        let region = visit_slot(&visit, table, lowered, &mut state, &mut spare, &mut runs)?;
+        let region = visit_slot(&visit, table, lowered, state, &mut spare, &mut runs)?;
         regions[usize::from(slot)] = region;
         table.stands_at_targets();
         state.stands_whole();

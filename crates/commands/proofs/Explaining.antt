@@ -1,8 +1,13 @@
--- What stands behind the line of a fault, and what the job `why` prints.
-use Rattle.std.proofs.Common.{◌≡◌, ◌∷◌, ◌++◌, ℕ, zero, suc, Bool, true, false, List, [], Option, Some, None, refl, sym, subst, string_bytes}
+-- What stands behind the line of a fault, and what the jobs print that tell more there.
+use Rattle.std.proofs.Common.{◌≡◌, ◌∷◌, ◌++◌, ℕ, zero, suc, inl, inr, Bool, true, false, List, [], Option, Some, None, refl, sym, subst, string_bytes}
 use Rattle.std.specs.Prelude.{Result, Ok, Err, IfErr}
 use Rattle.std.proofs.lemmas.List.{append-nil}
 use Rattle.std.specs.Io.KnownBytes.{Appends}
+use Rattle.job_decide.specs.DecideJob.{place_line}
+use Rattle.job_decide.specs.DecidedFile.{Decides}
+use Rattle.job_decide.specs.declared.decide.DecideWords.{DecideWords}
+use Rattle.policy.specs.TableFaults.{policy_fault_of}
+use Rattle.job_parts.specs.declared.faults.Fault.TheVariants.{BadTable}
 use Rattle.job_parts.specs.Files.{Reads, Writes}
 use Rattle.job_parts.specs.Printed.{PrintsMore}
 use Rattle.job_parts.specs.Stops.{StopsBy}
@@ -14,7 +19,7 @@ use Rattle.job_texts.specs.MadePackets.{MakesFile}
 use Rattle.job_texts.specs.declared.packet.PacketWords.{PacketWords}
 use Rattle.job_texts.specs.declared.images.ImageArgs.{ImageArgs}
 use Rattle.commands.specs.Performed.{IsLeftBehind, Performs}
-use Rattle.commands.specs.declared.jobs.Job.TheVariants.{Packet, Why}
+use Rattle.commands.specs.declared.jobs.Job.TheVariants.{Decide, Packet, Why}
 
 -- what `why` prints of a file is what the job has to print
 pub performs_why : {S : Type 0} (reads : Reads S) (writes : Writes S) (args : ImageArgs) (before after : S) (old new : Option (List ℕ)) (status : ℕ)
@@ -46,10 +51,36 @@ performs_packet reads writes words before after old new (suc zero) made = record
 performs_packet reads writes words before after old new (suc (suc zero)) made = made
 performs_packet reads writes words before after old new (suc (suc (suc n))) made = made
 
+-- what was printed behind a fault, and nothing behind that
+more_of_line : (old new : Option (List ℕ)) (line : List ℕ) → Appends old new line → PrintsMore old new
+more_of_line old new line is = (line, is)
+
 -- what holds as much as before holds no less
 same_more : (held : Option (List ℕ)) → Appends held held []
 same_more None = tt
 same_more (Some bytes) = sym (append-nil bytes)
+
+-- what `decide` prints is what the job has to print
+pub performs_decide : {S : Type 0} (reads : Reads S) (writes : Writes S) (words : DecideWords) (before after : S) (old new : Option (List ℕ)) (status : ℕ)
+    → Decides reads words before after old new status → Performs reads writes (Decide words) before after old new status
+performs_decide reads writes words before after old new zero told = told
+performs_decide reads writes words before after old new (suc zero) (inl table) = record {
+  fault = BadTable (policy_fault_of table.fault);
+  printed = old;
+  ended = inl (refl, (table.fault, table.held, refl));
+  told = table.told.0;
+  line = table.told.1;
+  behind = more_of_line table.told.0 new (place_line table.fault) table.told.2;
+}
+performs_decide reads writes words before after old new (suc zero) (inr end) = record {
+  fault = end.fault;
+  printed = end.printed;
+  ended = end.ended;
+  told = new;
+  line = end.line;
+  behind = ([], same_more new);
+}
+performs_decide reads writes words before after old new (suc (suc n)) told = absurd told
 
 -- where nothing was printed behind the line of a fault, that is right of every job
 pub left_behind : (explains : Bool) (told new : Option (List ℕ)) → new ≡ told → IsLeftBehind explains told new

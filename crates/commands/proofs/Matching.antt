@@ -8,7 +8,7 @@ use Rattle.clap.specs.Values.{kind_of}
 use Rattle.clap.proofs.OnLiterals.{clap_on_literals}
 use Rattle.clap.specs.declared.error.kind.ErrorKind.TheVariants.{OutOfMemory}
 use Rattle.clap.specs.declared.error.Error.{Error}
-use Rattle.commands.specs.CommandLine.{rmapctl_app, subcommand_in, AreTaken, NamesNone, IsIncomplete, LacksJob, TellsRefusal}
+use Rattle.commands.specs.CommandLine.{rmapctl_app, subcommand_in, AreTaken, NamesNone, IsIncomplete, LacksWork, TellsRefusal}
 use Rattle.job_texts.specs.PacketJob.{RefusesPacket}
 use Rattle.job_parts.specs.declared.usage.UsageFault.{UsageFault}
 use Rattle.job_parts.specs.declared.usage.UsageFault.TheVariants.{Parse, BadOption, Memory}
@@ -22,10 +22,10 @@ unfolding clap_on_literals rmapctl_app
 is_free-rmapctl_app = refl
 
 -- a fault of the matches of words that clap takes is one of the words
-pub lacks_job : (words : List Text) (fault : UsageFault) → AreTaken words → LacksJob (subcommand_in words) fault → NamesNone words fault
-lacks_job words (Parse text) taken h = absurd h
-lacks_job words BadOption taken h = (taken, h)
-lacks_job words Memory taken h = h
+pub lacks_work : (words : List Text) (fault : UsageFault) → AreTaken words → LacksWork (subcommand_in words) fault → NamesNone words fault
+lacks_work words (Parse text) taken h = absurd h
+lacks_work words BadOption taken h = (taken, h)
+lacks_work words Memory taken h = h
 
 -- a list of kinds that an error other than want of memory has is not empty
 has_kind : (kinds : Kinds) (e : Error) → (kind_of e ≡ OutOfMemory → ⊥) → HasKind kinds e → kinds ≡ [] → ⊥
@@ -39,9 +39,9 @@ refused_words words e (Parse text) told h = has_kind _ e told h
 refused_words words e BadOption told h = absurd told
 refused_words words e Memory told h = told
 
--- the matches of the words of no packet name no job
+-- the matches of the words of no packet name no work
 pub lacks_packet : (found : Option (Text × List Row)) (rows : List Row) (fault : UsageFault)
-    → found ≡ Some (codes "packet", rows) → RefusesPacket rows fault → LacksJob found fault
+    → found ≡ Some (codes "packet", rows) → RefusesPacket rows fault → LacksWork found fault
 lacks_packet found rows Memory is refuses = tt
 lacks_packet found rows BadOption is refuses = subst IsIncomplete (sym is) (record {
   asm = λ h. absurd (search rules);
@@ -51,9 +51,12 @@ lacks_packet found rows BadOption is refuses = subst IsIncomplete (sym is) (reco
   policy = λ h. absurd (search rules);
   serve = λ h. absurd (search rules);
   sim = λ h. absurd (search rules);
+  live = λ h. absurd (search rules);
   explain = λ h. absurd (search rules);
   why = λ h. absurd (search rules);
   packet = λ h. refuses;
   show = λ h. absurd (search rules);
+  decide = λ h. absurd (search rules);
+  trace = λ h. absurd (search rules);
 })
 lacks_packet found rows (Parse text) is refuses = refuses

@@ -1,11 +1,14 @@
--- The command line of rmapctl, as clap reads it, and the job that its matches name.
+-- The command line of rmapctl, as clap reads it, and what its matches name: a job over files, or a talk.
 use Rattle.std.specs.Prelude.{◌≡◌, ◌≢◌, ◌⊎◌, List, [], Option, Some, None, true, codes}
 use Rattle.clap.specs.Walk.{Row, Text, first_of}
 use Rattle.clap.specs.Simple.{App, Shape, new_app, on_top, with_subcommand, subcommand_of}
 use Rattle.clap.specs.Faults.{fault_of}
 use Rattle.clap.specs.declared.error.kind.ErrorKind.{ErrorKind}
 use Rattle.clap.specs.declared.error.kind.ErrorKind.TheVariants.{OutOfMemory}
+use Rattle.job_decide.specs.DecideJob.{decide_app, NamesDecide, SpoilsDecide}
+use Rattle.job_live.specs.LiveJob.{live_app}
 use Rattle.job_parts.specs.Lines.{NamesLines, SpoilsLines}
+use Rattle.job_parts.specs.Options.{GivesNode, SpoilsNode}
 use Rattle.job_texts.specs.AsmJob.{asm_app, NamesAsm}
 use Rattle.job_texts.specs.DisJob.{dis_app, NamesDis}
 use Rattle.job_texts.specs.ExplainJob.{explain_app, NamesExplain, SpoilsExplain}
@@ -18,7 +21,7 @@ use Rattle.job_texts.specs.WhyJob.{why_app}
 use Rattle.job_nodes.specs.JudgeJob.{judge_app}
 use Rattle.job_nodes.specs.SimJob.{sim_app}
 use Rattle.job_ports.specs.ServeJob.{serve_app}
-use Rattle.commands.specs.declared.jobs.Job.{Job}
+use Rattle.job_trace.specs.TraceJob.{trace_app}
 use Rattle.commands.specs.declared.jobs.Job.TheVariants.{
   Assemble,
   Disassemble,
@@ -31,7 +34,11 @@ use Rattle.commands.specs.declared.jobs.Job.TheVariants.{
   Why,
   Packet,
   Show,
+  Decide,
+  Trace,
 }
+use Rattle.commands.specs.declared.work.Work.{Work}
+use Rattle.commands.specs.declared.work.Work.TheVariants.{Once, Live}
 use Rattle.job_parts.specs.declared.usage.UsageFault.{UsageFault}
 use Rattle.job_parts.specs.declared.usage.UsageFault.TheVariants.{Parse, BadOption, Memory}
 
@@ -51,36 +58,41 @@ with_first_jobs app =
     (with_subcommand (with_subcommand (with_subcommand app asm_app.top) dis_app.top) verify_app.top) judge_app.top)
     policy_app.top
 
--- a command with the jobs on packet lines in words behind others
+-- a command with the jobs that tell more of packet lines, and the one on the rules of a table, behind others
 abbrev pub with_packet_jobs : App → App
-with_packet_jobs app = with_subcommand (with_subcommand app packet_app.top) show_app.top
+with_packet_jobs app =
+    with_subcommand (with_subcommand (with_subcommand (with_subcommand app packet_app.top) show_app.top) decide_app.top)
+    trace_app.top
 
 -- `rmapctl` with its subcommands
 unfoldable pub rmapctl_app : App
 rmapctl_app =
     with_packet_jobs
-    (with_subcommand (with_subcommand
+    (with_subcommand (with_subcommand (with_subcommand
     (with_subcommand (with_subcommand (with_first_jobs (on_top rmapctl_shape (new_app (codes "rmapctl"))))
-    serve_app.top) sim_app.top) explain_app.top) why_app.top)
+    serve_app.top) sim_app.top) live_app.top) explain_app.top) why_app.top)
 
 -- the subcommand that clap finds in the words, with its matches
 abbrev pub subcommand_in : List Text → Option (Text × List Row)
 subcommand_in words = subcommand_of rmapctl_app words
 
--- the job is that of the subcommand with its matches
-abbrev pub Names : Option (Text × List Row) → Job → Type 0
-Names None job = ⊥
-Names (Some found) (Assemble words) = (found.0 ≡ codes "asm") × NamesAsm found.1 words
-Names (Some found) (Disassemble words) = (found.0 ≡ codes "dis") × NamesDis found.1 words
-Names (Some found) (Verify args) = (found.0 ≡ codes "verify") × NamesImage found.1 args
-Names (Some found) (Judge args) = (found.0 ≡ codes "judge") × NamesLines found.1 args
-Names (Some found) (Policy words) = (found.0 ≡ codes "policy") × NamesPolicy found.1 words
-Names (Some found) (Serve args) = (found.0 ≡ codes "serve") × NamesLines found.1 args
-Names (Some found) (Simulate args) = (found.0 ≡ codes "sim") × NamesLines found.1 args
-Names (Some found) (Explain words) = (found.0 ≡ codes "explain") × NamesExplain found.1 words
-Names (Some found) (Why args) = (found.0 ≡ codes "why") × NamesImage found.1 args
-Names (Some found) (Packet words) = (found.0 ≡ codes "packet") × NamesPacket found.1 words
-Names (Some found) (Show words) = (found.0 ≡ codes "show") × NamesShow found.1 words
+-- the work is that of the subcommand with its matches
+abbrev pub Names : Option (Text × List Row) → Work → Type 0
+Names None work = ⊥
+Names (Some found) (Once (Assemble words)) = (found.0 ≡ codes "asm") × NamesAsm found.1 words
+Names (Some found) (Once (Disassemble words)) = (found.0 ≡ codes "dis") × NamesDis found.1 words
+Names (Some found) (Once (Verify args)) = (found.0 ≡ codes "verify") × NamesImage found.1 args
+Names (Some found) (Once (Judge args)) = (found.0 ≡ codes "judge") × NamesLines found.1 args
+Names (Some found) (Once (Policy words)) = (found.0 ≡ codes "policy") × NamesPolicy found.1 words
+Names (Some found) (Once (Serve args)) = (found.0 ≡ codes "serve") × NamesLines found.1 args
+Names (Some found) (Once (Simulate args)) = (found.0 ≡ codes "sim") × NamesLines found.1 args
+Names (Some found) (Live words) = (found.0 ≡ codes "live") × GivesNode found.1 words
+Names (Some found) (Once (Explain words)) = (found.0 ≡ codes "explain") × NamesExplain found.1 words
+Names (Some found) (Once (Why args)) = (found.0 ≡ codes "why") × NamesImage found.1 args
+Names (Some found) (Once (Packet words)) = (found.0 ≡ codes "packet") × NamesPacket found.1 words
+Names (Some found) (Once (Show words)) = (found.0 ≡ codes "show") × NamesShow found.1 words
+Names (Some found) (Once (Decide words)) = (found.0 ≡ codes "decide") × NamesDecide found.1 words
+Names (Some found) (Once (Trace args)) = (found.0 ≡ codes "trace") × NamesLines found.1 args
 
 -- what the user is told of a refusal by clap of this kind
 abbrev pub TellsRefusal : ErrorKind → UsageFault → Type 0
@@ -98,31 +110,34 @@ pub record IsSpoiled (found : Text × List Row) : Type 0 where
   pub policy : found.0 ≡ codes "policy" → SpoilsPolicy found.1
   pub serve : found.0 ≡ codes "serve" → SpoilsLines found.1
   pub sim : found.0 ≡ codes "sim" → SpoilsLines found.1
+  pub live : found.0 ≡ codes "live" → SpoilsNode found.1
   pub explain : found.0 ≡ codes "explain" → SpoilsExplain found.1
   pub why : found.0 ≡ codes "why" → SpoilsImage found.1
   pub packet : found.0 ≡ codes "packet" → SpoilsPacket found.1
   pub show : found.0 ≡ codes "show" → first_of (codes "lines") found.1 ≡ None
+  pub decide : found.0 ≡ codes "decide" → SpoilsDecide found.1
+  pub trace : found.0 ≡ codes "trace" → SpoilsLines found.1
 
 -- clap found no subcommand, or one without what it needs
 abbrev pub IsIncomplete : Option (Text × List Row) → Type 0
 IsIncomplete None = Unit {0}
 IsIncomplete (Some found) = IsSpoiled found
 
--- the matches name no job, or memory was refused
-abbrev pub LacksJob : Option (Text × List Row) → UsageFault → Type 0
-LacksJob found Memory = Unit {0}
-LacksJob found BadOption = IsIncomplete found
-LacksJob found (Parse text) = ⊥
+-- the matches name no work, or memory was refused
+abbrev pub LacksWork : Option (Text × List Row) → UsageFault → Type 0
+LacksWork found Memory = Unit {0}
+LacksWork found BadOption = IsIncomplete found
+LacksWork found (Parse text) = ⊥
 
 -- clap takes the words: its definition finds no fault in them
 abbrev pub AreTaken : List Text → Type 0
 AreTaken words = fault_of rmapctl_app words ≡ []
 
--- the words name the job: clap takes them, and the subcommand that it finds names it
-abbrev pub NamesJob : List Text → Job → Type 0
-NamesJob words job = AreTaken words × Names (subcommand_in words) job
+-- the words name the work: clap takes them, and the subcommand that it finds names it
+abbrev pub NamesWork : List Text → Work → Type 0
+NamesWork words work = AreTaken words × Names (subcommand_in words) work
 
--- the words name no job: clap refuses them, or takes them and what it finds is incomplete, or memory was refused
+-- the words name no work: clap refuses them, or takes them and what it finds is incomplete, or memory was refused
 abbrev pub NamesNone : List Text → UsageFault → Type 0
 NamesNone words Memory = Unit {0}
 NamesNone words BadOption = AreTaken words × IsIncomplete (subcommand_in words)

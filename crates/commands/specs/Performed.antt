@@ -4,6 +4,7 @@ use Rattle.std.specs.Io.KnownBytes.{Appends}
 use Rattle.job_texts.specs.Assembled.{Assembles, IsNotAssembled}
 use Rattle.job_texts.specs.Compiled.{CompilesTable, IsNotCompiled}
 use Rattle.job_texts.specs.Disassembled.{Disassembles, IsNotPrinted}
+use Rattle.job_decide.specs.DecidedFile.{DecidesFile, IsNotDecided}
 use Rattle.job_parts.specs.Files.{Reads, Writes}
 use Rattle.job_nodes.specs.Judged.{IsNotJudged, JudgesFile}
 use Rattle.job_parts.specs.Printed.{PrintsMore, fault_line}
@@ -13,6 +14,7 @@ use Rattle.job_nodes.specs.Simulated.{IsNotSimulated, SimulatesFile}
 use Rattle.job_texts.specs.MadePackets.{IsNotMade, MakesNone, MakesPackets}
 use Rattle.job_texts.specs.ShowJob.{IsNotShown, ShowsFile}
 use Rattle.job_texts.specs.Verified.{Verifies}
+use Rattle.job_trace.specs.Traced.{IsNotTraced, TracesFile}
 use Rattle.job_parts.specs.declared.faults.Fault.{Fault}
 use Rattle.job_parts.specs.declared.faults.Fault.TheVariants.{NoMemory}
 use Rattle.commands.specs.declared.jobs.Job.{Job}
@@ -28,17 +30,25 @@ use Rattle.commands.specs.declared.jobs.Job.TheVariants.{
   Why,
   Packet,
   Show,
+  Decide,
+  Trace,
 }
 
--- the job prints more behind the line of a fault: `why` does
+-- the job prints more behind the line of a fault: `why` does, and `decide`
 abbrev pub explains : Job → Bool
 explains (Why args) = true
+explains (Decide words) = true
 explains other = false
 
 -- the job makes packets, of which there may be none such: `packet` does
 abbrev pub makes_packets : Job → Bool
 makes_packets (Packet words) = true
 makes_packets other = false
+
+-- the job tells by which rule of a table packets are judged
+abbrev pub decides : Job → Bool
+decides (Decide words) = true
+decides other = false
 
 -- what stands behind the line of the fault: more of a job that explains it, and nothing of any other
 abbrev pub IsLeftBehind : (explains : Bool) → (told new : Option (List ℕ)) → Type 0
@@ -64,8 +74,10 @@ module _ {S : Type 0} (reads : Reads S) (writes : Writes S) where
       Verifies reads before (string_bytes args.image) args.sizes after old new
   IsDone (Packet words) before after old new = MakesPackets reads words before after old new
   IsDone (Show words) before after old new = ShowsFile reads before (string_bytes words.lines) after old new
+  IsDone (Decide words) before after old new = DecidesFile reads words before after old new
+  IsDone (Trace args) before after old new = TracesFile reads args before after old new
 
-  -- the fault ended the job; only `judge`, `sim` and `show` printed before it
+  -- the fault ended the job; only `judge`, `sim`, `show`, `decide` and `trace` printed before it
   abbrev pub IsEnded : Job → (before after : S) → (old new : Option (List ℕ)) → Fault → Type 0
   IsEnded (Judge args) before after old new fault = IsNotJudged reads args before after old new fault
   IsEnded (Assemble words) before after old new fault =
@@ -85,13 +97,15 @@ module _ {S : Type 0} (reads : Reads S) (writes : Writes S) where
   IsEnded (Packet words) before after old new fault = IsNotMade reads words before after fault × (new ≡ old)
   IsEnded (Show words) before after old new fault =
       IsNotShown reads before (string_bytes words.lines) after old new fault
+  IsEnded (Decide words) before after old new fault = IsNotDecided reads words before after old new fault
+  IsEnded (Trace args) before after old new fault = IsNotTraced reads args before after old new fault
 
   -- there are no packets such as the job was to make, which was told
   abbrev pub TellsNone : Job → (before after : S) → (old new : Option (List ℕ)) → Type 0
   TellsNone (Packet words) before after old new = MakesNone reads words before after old new
   TellsNone other before after old new = ⊥
 
-  -- a fault ended the job, and its line was printed after what came before, with what `why` tells behind it
+  -- a fault ended the job, and its line was printed after what came before, with what `why` and `decide` tell behind it
   pub record TellsFault (job : Job) (before after : S) (old new : Option (List ℕ)) : Type 0 where
     pub fault : Fault
     pub printed : Option (List ℕ)

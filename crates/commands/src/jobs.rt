@@ -1,10 +1,11 @@
 //! The jobs of `rmapctl`.
 
 ghost use Rattle.std.specs.Prelude.{◌≡◌, IfErr, IfOk, MatchOption, OnOk, false};
-ghost use Rattle.commands.specs.Performed.{IsDone, IsEnded, Performs, makes_packets};
-ghost use Rattle.commands.specs.declared.jobs.Job.TheVariants.{Packet};
+ghost use Rattle.commands.specs.Performed.{IsDone, IsEnded, Performs, decides, makes_packets};
+ghost use Rattle.commands.specs.declared.jobs.Job.TheVariants.{Decide, Packet};
 ghost use Rattle.job_parts.specs.Stops.{StopsBy};
 
+use job_decide::decide::{DecideWords, decide_file};
 use job_nodes::judge::judge_file;
 use job_nodes::sim::sim_file;
 use job_parts::lines::LinesArgs;
@@ -21,6 +22,7 @@ use job_texts::policies::{PolicyWords, compile_file};
 use job_texts::show::{ShowWords, show_file};
 use job_texts::verify::verify_file;
 use job_texts::why::why_file;
+use job_trace::trace::trace_file;
 use publish::{Opened, ProgramFamily};
 use std::alloc::Global;
 use std::io::Write;
@@ -37,6 +39,8 @@ pub enum Job {
     Serve(LinesArgs),
     /// Steps through the events of a file, and prints what each comes to.
     Simulate(LinesArgs),
+    /// Judges each packet line of a file, and prints the steps of its program and what comes of it.
+    Trace(LinesArgs),
     /// Assembles a text, and writes the image.
     Assemble(AsmWords),
     /// Prints the text of a BPF image.
@@ -53,6 +57,8 @@ pub enum Job {
     Packet(PacketWords),
     /// Prints in words what packet lines are.
     Show(ShowWords),
+    /// Prints which rule of a policy table decides on each packet, and why no rule before.
+    Decide(DecideWords),
 }
 
 impl Job {
@@ -66,9 +72,20 @@ impl Job {
             _ => None,
         }
     }
+
+    /// The words of the job `decide`.
+    fn decide(&self) -> Option<&DecideWords>
+        ensures { MatchOption result (decides self.now ≡ false)
+            (λ words. self.now ≡ Decide words.now) }
+    {
+        match self {
+            Job::Decide(words) => Some(words),
+            _ => None,
+        }
+    }
 }
 
-/// Does a job but `packet`, up to its end or the fault that ends it, which is still to be printed. Up to there `why` is
+/// Does a job but `packet` and `decide`, up to its end or the fault that ends it, which is still to be printed. Up to there `why` is
 /// `verify`.
 fn attempt<'a, J: ProgramFamily + Send + 'static, R: Threads + Wait + Sync, F: Files, W: Write>(
     rt: &R,
@@ -80,15 +97,17 @@ fn attempt<'a, J: ProgramFamily + Send + 'static, R: Threads + Wait + Sync, F: F
 ) -> Result<(), Halt<'a>>
     requires opened { opened ≡ J.book }
     requires other { makes_packets job.now ≡ false }
+    requires told { decides job.now ≡ false }
     ensures done { OnOk result (IsDone F.reads F.writes job.now files.old files.new
         (W.contents out.old) (W.contents out.new)) }
     ensures stops { IfErr result (StopsBy (IsEnded F.reads F.writes job.now files.old files.new
         (W.contents out.old) (W.contents out.new))) }
 {
     match job {
-        Job::Judge(args) => judge_file::<J, _, _, _>(rt, alloc, opened, args, files, out),
+        Job::Judge(args) => judge_file(alloc, args, files, out),
         Job::Serve(args) => serve_file::<J, _, _, _>(rt, alloc, opened, args, files, out),
         Job::Simulate(args) => sim_file(alloc, args, files, out),
+        Job::Trace(args) => trace_file(alloc, args, files, out),
         Job::Assemble(words) => {
             assemble_file(alloc, words.text.as_str(), words.image.as_str(), files, out)
         }
@@ -97,13 +116,13 @@ fn attempt<'a, J: ProgramFamily + Send + 'static, R: Threads + Wait + Sync, F: F
         Job::Policy(words) => compile_file(alloc, words, files, out),
         Job::Explain(words) => explain(alloc, words, out),
         Job::Why(args) => verify_file(alloc, args.image.as_str(), args.sizes, files, out),
-        Job::Packet(_) => unreachable!(),
+        Job::Packet(_) | Job::Decide(_) => unreachable!(),
         Job::Show(words) => show_file(alloc, words.lines.as_str(), files, out),
     }
 }
 
 /// Does a job, where a node that it makes has that history of programs.
-#[tactic(auto, using(crate::proofs::Explaining::left_behind, crate::proofs::Explaining::performs_why, crate::proofs::Explaining::performs_packet))]
+#[tactic(auto, using(crate::proofs::Explaining::left_behind, crate::proofs::Explaining::performs_why, crate::proofs::Explaining::performs_packet, crate::proofs::Explaining::performs_decide))]
 fn perform_opened<J: ProgramFamily + Send + 'static, R: Threads + Wait + Sync, F: Files, W: Write>(
     rt: &R,
     alloc: Global,
@@ -122,6 +141,9 @@ fn perform_opened<J: ProgramFamily + Send + 'static, R: Threads + Wait + Sync, F
     if let Some(words) = job.packet() {
         return packet_file(alloc, words, files, out);
     }
+    if let Some(words) = job.decide() {
+        return decide_file(alloc, words, files, out);
+    }
     match attempt::<J, _, _, _>(rt, alloc, opened, job, files, out) {
         Ok(()) => Ok(0),
         Err(Halt::Ended(fault)) => {
@@ -133,8 +155,8 @@ fn perform_opened<J: ProgramFamily + Send + 'static, R: Threads + Wait + Sync, F
 }
 
 /// Does a job over any files and any writer, and gives the exit status: 1 where an image was
-/// refused or a fault was printed, 2 where there are no packets such as `packet` was to make, else 0. What the writer holds back is not flushed. It may wait: `judge` and
-/// `serve` have a node, whose end does, and `serve` starts threads and waits for them.
+/// refused or a fault was printed, 2 where there are no packets such as `packet` was to make, else 0. What the writer
+/// holds back is not flushed. It may wait: `serve` has a node, whose end does, and starts threads and waits for them.
 ///
 /// `WriteFault` where the writer failed; nothing is written after that.
 pub fn perform<R: Threads + Wait + Sync, F: Files, W: Write>(

@@ -1,9 +1,15 @@
-//! What `rmapctl` does: its command line, and its jobs over any files and any writer.
+//! What `rmapctl` does: its command line, its jobs over any files and any writer, and its talk over any lines that come.
 #![tactic(auto)]
 
 mod jobs;
 mod usage;
+mod work;
 
+pub use job_decide::decide::DecideWords;
+pub use job_live::answering::MAX_LINE;
+pub use job_live::host::HostTalk;
+pub use job_live::live::live;
+pub use job_live::talk::Talk;
 pub use job_parts::host::HostFiles;
 pub use job_parts::lines::LinesArgs;
 pub use job_parts::options::NodeWords;
@@ -22,3 +28,4 @@ pub use job_texts::policies::PolicyWords;
 pub use job_texts::show::ShowWords;
 pub use jobs::{Job, perform};
 pub use usage::words;
+pub use work::Work;

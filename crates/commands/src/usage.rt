@@ -4,14 +4,18 @@ ghost use Rattle.std.specs.Prelude.{◌≡◌, IfOk, IfErr};
 ghost use Rattle.clap.specs.Simple.{app_of, subcommand_rows_of};
 ghost use Rattle.clap.specs.Values.{kind_of};
 ghost use Rattle.clap.specs.Walk.{texts};
-ghost use Rattle.commands.specs.CommandLine.{rmapctl_app, with_first_jobs, with_packet_jobs, Names, NamesJob, NamesNone, LacksJob, TellsRefusal};
+ghost use Rattle.commands.specs.CommandLine.{rmapctl_app, with_first_jobs, with_packet_jobs, Names, NamesWork, NamesNone, LacksWork, TellsRefusal};
 
 use crate::jobs::Job;
+use crate::work::Work;
 use clap::error::ErrorKind;
 use clap::{ArgMatches, Command, Error};
+use job_decide::decide::{decide_command, decide_job};
+use job_live::live::live_command;
 use job_nodes::judge::judge_command;
 use job_nodes::sim::sim_command;
 use job_parts::lines::lines_args;
+use job_parts::options::node_words;
 use job_parts::usage::UsageFault;
 use job_ports::serve::serve_command;
 use job_texts::asm::{asm_command, asm_job};
@@ -23,6 +27,7 @@ use job_texts::policies::{policy_command, policy_job};
 use job_texts::show::{show_command, show_job};
 use job_texts::verify::verify_command;
 use job_texts::why::why_command;
+use job_trace::trace::trace_command;
 use std::alloc::{AllocError, Global};
 
 /// What `rmapctl --version` tells.
@@ -45,13 +50,19 @@ fn with_first_jobs<'a>(alloc: Global, rmapctl: Command<'a>) -> Result<Command<'a
         .subcommand(policy)
 }
 
-/// The command line with the jobs on packet lines in words behind others.
+/// The command line with the jobs that tell more of packet lines, and the one on the rules of a table, behind others.
 fn with_packet_jobs<'a>(alloc: Global, rmapctl: Command<'a>) -> Result<Command<'a>, AllocError>
     ensures { IfOk result (λ c. app_of c ≡ with_packet_jobs (app_of rmapctl.entry)) }
 {
     let packet = packet_command(alloc)?;
     let show = show_command(alloc)?;
-    rmapctl.subcommand(packet)?.subcommand(show)
+    let decide = decide_command(alloc)?;
+    let trace = trace_command(alloc)?;
+    rmapctl
+        .subcommand(packet)?
+        .subcommand(show)?
+        .subcommand(decide)?
+        .subcommand(trace)
 }
 
 /// The whole command line.
@@ -60,6 +71,7 @@ fn command_line<'a>(alloc: Global) -> Result<Command<'a>, AllocError>
 {
     let serve = serve_command(alloc)?;
     let sim = sim_command(alloc)?;
+    let live = live_command(alloc)?;
     let explain = explain_command(alloc)?;
     let why = why_command(alloc)?;
     let rmapctl = Command::new(alloc, "rmapctl").bin_name("rmapctl")?;
@@ -73,6 +85,7 @@ fn command_line<'a>(alloc: Global) -> Result<Command<'a>, AllocError>
     let all = with_first_jobs(alloc, top)?
         .subcommand(serve)?
         .subcommand(sim)?
+        .subcommand(live)?
         .subcommand(explain)?
         .subcommand(why)?;
     with_packet_jobs(alloc, all)
@@ -91,59 +104,68 @@ fn told(alloc: Global, refusal: &Error) -> UsageFault
     }
 }
 
-/// The job of the subcommand that was found.
+/// What the subcommand that was found names.
 #[tactic(auto, using(crate::proofs::Matching::lacks_packet))]
-fn job_of(alloc: Global, found: &ArgMatches) -> Result<Job, UsageFault>
+fn work_of(alloc: Global, found: &ArgMatches) -> Result<Work, UsageFault>
     ensures ok { IfOk result (Names (subcommand_rows_of found.now)) }
-    ensures err { IfErr result (LacksJob (subcommand_rows_of found.now)) }
+    ensures err { IfErr result (LacksWork (subcommand_rows_of found.now)) }
 {
     if let Some(asm) = found.subcommand_matches("asm") {
-        return Ok(Job::Assemble(asm_job(alloc, asm)?));
+        return Ok(Work::Once(Job::Assemble(asm_job(alloc, asm)?)));
     }
     if let Some(dis) = found.subcommand_matches("dis") {
-        return Ok(Job::Disassemble(dis_job(alloc, dis)?));
+        return Ok(Work::Once(Job::Disassemble(dis_job(alloc, dis)?)));
     }
     if let Some(verify) = found.subcommand_matches("verify") {
-        return Ok(Job::Verify(image_args(alloc, verify)?));
+        return Ok(Work::Once(Job::Verify(image_args(alloc, verify)?)));
     }
     if let Some(judge) = found.subcommand_matches("judge") {
-        return Ok(Job::Judge(lines_args(alloc, judge)?));
+        return Ok(Work::Once(Job::Judge(lines_args(alloc, judge)?)));
     }
     if let Some(policy) = found.subcommand_matches("policy") {
-        return Ok(Job::Policy(policy_job(alloc, policy)?));
+        return Ok(Work::Once(Job::Policy(policy_job(alloc, policy)?)));
     }
     if let Some(serve) = found.subcommand_matches("serve") {
-        return Ok(Job::Serve(lines_args(alloc, serve)?));
+        return Ok(Work::Once(Job::Serve(lines_args(alloc, serve)?)));
     }
     if let Some(sim) = found.subcommand_matches("sim") {
-        return Ok(Job::Simulate(lines_args(alloc, sim)?));
+        return Ok(Work::Once(Job::Simulate(lines_args(alloc, sim)?)));
+    }
+    if let Some(live) = found.subcommand_matches("live") {
+        return Ok(Work::Live(node_words(alloc, live)?));
     }
     if let Some(explain) = found.subcommand_matches("explain") {
-        return Ok(Job::Explain(explain_job(alloc, explain)?));
+        return Ok(Work::Once(Job::Explain(explain_job(alloc, explain)?)));
     }
     if let Some(why) = found.subcommand_matches("why") {
-        return Ok(Job::Why(image_args(alloc, why)?));
+        return Ok(Work::Once(Job::Why(image_args(alloc, why)?)));
     }
     if let Some(packet) = found.subcommand_matches("packet") {
-        return Ok(Job::Packet(packet_job(alloc, packet)?));
+        return Ok(Work::Once(Job::Packet(packet_job(alloc, packet)?)));
     }
-    match found.subcommand_matches("show") {
-        Some(show) => Ok(Job::Show(show_job(alloc, show)?)),
+    if let Some(show) = found.subcommand_matches("show") {
+        return Ok(Work::Once(Job::Show(show_job(alloc, show)?)));
+    }
+    if let Some(decide) = found.subcommand_matches("decide") {
+        return Ok(Work::Once(Job::Decide(decide_job(alloc, decide)?)));
+    }
+    match found.subcommand_matches("trace") {
+        Some(trace) => Ok(Work::Once(Job::Trace(lines_args(alloc, trace)?))),
         None => Err(UsageFault::BadOption),
     }
 }
 
-/// The job that the words of a command line name, without the program's own name.
+/// What the words of a command line name, without the program's own name: a job over files, or a talk.
 ///
 /// Words that name none are `Parse` with the text of `clap` for the user (so are `--help`, `-h` and
 /// `--version`), `BadOption` where an option or a code is none, `Memory` where memory was refused.
-pub fn words(alloc: Global, words: &[&str]) -> Result<Job, UsageFault>
-    ensures ok { IfOk result (NamesJob (texts words.now)) }
+pub fn words(alloc: Global, words: &[&str]) -> Result<Work, UsageFault>
+    ensures ok { IfOk result (NamesWork (texts words.now)) }
     ensures err { IfErr result (NamesNone (texts words.now)) }
 {
     let command = command_line(alloc)?;
     match command.try_get_matches_from(words) {
-        Ok(found) => job_of(alloc, &found),
+        Ok(found) => work_of(alloc, &found),
         Err(refusal) => Err(told(alloc, &refusal)),
     }
 }

@@ -1,5 +1,5 @@
 -- Pieces that a port takes, as they stand when it took them: its number is the place of its feed among all.
-use Rattle.std.proofs.Common.{◌≡◌, ◌<◌, ◌≤◌, ◌+◌, ℕ, List, [], ◌++◌, length, get_or, Option, Some, None, sym, ap, subst, arith, ◌∙◌, inr}
+use Rattle.std.proofs.Common.{◌≡◌, ◌<◌, ◌≤◌, ◌+◌, ℕ, List, [], ◌++◌, length, get_or, Option, Some, None, refl, sym, ap, subst, arith, ◌∙◌, inr}
 use Rattle.std.specs.Prelude.{slice_get, slice_set}
 use Rattle.std.proofs.Math.Nat.{lt_of_not-le}
 use Rattle.std.proofs.lemmas.List.{length-append, set-get_or}
@@ -7,10 +7,10 @@ use Rattle.std.proofs.lemmas.Option.{slice_get-get_or}
 use Rattle.spw.specs.Cargo.{Cargo}
 use Rattle.spw.specs.Line.{IsPieceLine}
 use Rattle.spw.specs.declared.faults.LineFault.{LineFault}
-use Rattle.spw.specs.declared.faults.LineFault.TheVariants.{TooLong, Memory}
+use Rattle.spw.specs.declared.faults.LineFault.TheVariants.{NoPort, BadHex, BadMarker, TooLong, Memory}
 use Rattle.spw.specs.declared.packets.End.{End}
 use Rattle.spw.specs.declared.packets.TheConstants.{MAX_PACKET}
-use Rattle.job_nodes.specs.Feeds.{Continues, IsFed, IsNotFed}
+use Rattle.job_nodes.specs.Feeds.{Continues, IsFed, IsNotFed, IsUnended}
 use Rattle.job_parts.specs.declared.bad_lines.BadLine.TheVariants.{Line}
 
 -- a line whose piece is for the feed at this place, which holds its own bytes
@@ -75,3 +75,12 @@ module _ {line : List ℕ} {feeds held : List (List ℕ)} {port place : ℕ} {ow
       let all = subst (λ (m : Option End). Continues line held port joined m) closed continues in
       let same = ap (λ (x : List ℕ). slice_set feeds place x) kept ∙ set joined in
       subst (λ (f : LineFault). IsNotFed line held (slice_set feeds place after) (Line f)) (sym told) (inr (port, joined, end, all, short few, same))
+
+  -- a piece that ends no packet, for what it was refused
+  pub unended : (fault : LineFault) (end : End) (after : List ℕ) → mark ≡ Some end → IsUnended own piece after fault
+      → IsNotFed line held (slice_set feeds place after) (Line fault)
+  unended NoPort end after closed why = absurd why
+  unended BadMarker end after closed why = absurd why
+  unended BadHex end after closed why = absurd why
+  unended TooLong end after closed why = overfills TooLong after refl why.1 why.0
+  unended Memory end after closed why = stays Memory end after refl (why.1 ∙ sym whole) closed (λ long. omega (arith, long, why.0))

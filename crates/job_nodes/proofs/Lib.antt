@@ -1,4 +1,5 @@
 mod Continuing
 mod FirstWords
 mod LinesInTurn
+mod OneBank
 mod Simulating

@@ -1,5 +1,5 @@
 -- What the ports of a node hold of packets that have not ended, and what a line does to it.
-use Rattle.std.specs.Prelude.{◌≡◌, ◌<◌, ◌≤◌, ◌⊎◌, ℕ, List, [], ◌++◌, length, slice_get, slice_set, Option, Some, None}
+use Rattle.std.specs.Prelude.{◌≡◌, ◌<◌, ◌≤◌, ◌+◌, ◌⊎◌, ℕ, List, [], ◌++◌, length, slice_get, slice_set, Option, Some, None}
 use Rattle.spw.specs.Cargo.{Cargo}
 use Rattle.spw.specs.Line.{HasFault, IsPieceLine, mark_word}
 use Rattle.spw.specs.declared.faults.LineFault.{LineFault}
@@ -34,6 +34,15 @@ abbrev pub Overfills : List ℕ → List (List ℕ) → Type 0
 Overfills line held =
     (port : ℕ) × (bytes : List ℕ) × (mark : Option End) × Continues line held port bytes mark
     × (MAX_PACKET < length bytes)
+
+-- why a piece ends no packet, of what its port held before, the piece, and what it holds after: they are too long for a
+-- packet, and what was held stays; or memory was refused, and all of the bytes are held
+abbrev pub IsUnended : (before piece after : List ℕ) → LineFault → Type 0
+IsUnended before piece after NoPort = ⊥
+IsUnended before piece after BadMarker = ⊥
+IsUnended before piece after BadHex = ⊥
+IsUnended before piece after TooLong = (MAX_PACKET < length before + length piece) × (after ≡ before)
+IsUnended before piece after Memory = (length before + length piece ≤ MAX_PACKET) × (after ≡ before ++ piece)
 
 -- the line ends a packet, but memory was refused to it: its port holds all of its bytes
 abbrev pub IsUnclosed : List ℕ → (before after : List (List ℕ)) → Type 0

@@ -1,8 +1,23 @@
 -- The node that the jobs run, with its ports.
-use Rattle.std.specs.Prelude.{◌≡◌, ℕ, List, [], ◌∷◌, length, map, replicate, slice_get, slice_set, Option, Some, None}
+use Rattle.std.specs.Prelude.{
+  ◌≡◌,
+  ℕ,
+  List,
+  [],
+  ◌∷◌,
+  length,
+  map,
+  nat_le,
+  replicate,
+  Bool,
+  false,
+  Option,
+  None,
+  Some,
+}
 use Rattle.std.specs.List.{range_with_len}
 use base.Stored.{Gv}
-use Rattle.bank.specs.Records.{BankValue}
+use Rattle.bank.specs.Records.{BankValue, JournalValue}
 use Rattle.bver.specs.Justified.{AcceptedValue}
 use Rattle.machine.specs.Sizes.{Maps}
 use Rattle.spw.specs.Cargo.{Cargo}
@@ -10,10 +25,10 @@ use Rattle.publish.specs.declared.history.Publish.{Publish}
 use Rattle.target.specs.declared.config.BankConfig.{BankConfig}
 use Rattle.target.specs.declared.config.NodeConfig.{NodeConfig}
 use Rattle.target.specs.declared.served.Served.{Served}
-use Rattle.target.specs.Served.{IsAnswered, parts}
 use Rattle.target.specs.Nodes.{bank_of, first_pass, first_programs}
 use Rattle.target.specs.Passes.{PassValue}
-use Rattle.target.specs.Pairs.{ArePaired}
+use Rattle.single_node.specs.Nodes.{Rotates, SetsMemory, SingleNodeValue, single_node}
+use Rattle.single_node.specs.Serving.{Serves as ServesAlone}
 use Rattle.job_nodes.specs.Feeds.{IsFed, IsNotFed}
 use Rattle.job_parts.specs.declared.bad_lines.BadLine.{BadLine}
 
@@ -31,14 +46,22 @@ abbrev pub job_node : List BankValue → List Publish → List PassValue → Lis
 job_node banks programs passes held reply =
     record { banks = banks; programs = programs; passes = passes; held = held; reply = reply }
 
--- banks and ports were made together, or are as packets left them, and each port holds some bytes
-pub record IsJobNode (s : JobNodeValue) : Type 0 where
-  pub paired : ArePaired s.banks s.passes
-  pub ports : length s.held ≡ length s.passes
-
 -- logical address FE, and one bank of 65,536 zero bytes at A0000000 with room for 1,024 entries
 abbrev pub own_bank : BankConfig
 own_bank = record { base = 2684354560; size = 65536; room = 1024 }
+
+-- an empty journal with room for 1,024 entries
+abbrev pub own_journal : JournalValue
+own_journal = record { entries = []; room = 1024 }
+
+-- how many entries the journal of each bank has room for
+abbrev pub rooms_of : List BankValue → List ℕ
+rooms_of banks = map (λ (b : BankValue). b.journal.room) banks
+
+-- there is one bank, whose journal has room for 1,024 entries, and each port holds some bytes
+pub record IsJobNode (s : JobNodeValue) : Type 0 where
+  pub rooms : rooms_of s.banks ≡ own_journal.room ∷ []
+  pub ports : length s.held ≡ length s.passes
 
 -- the configuration of the node with so many ports, and maps of these sizes
 pub record IsConfig (ports : ℕ) (sizes : Maps) (config : NodeConfig) : Type 0 where
@@ -58,16 +81,15 @@ IsFresh ports program node =
     × (node ≡ job_node (bank_of ports own_bank ∷ []) (first_programs program) (first_passes ports program home)
     (replicate ports []) [])
 
--- this became of the packet that came in at the port, the node has the reply that is due, and no other port
--- changed
+-- the node of one thread: what it holds of packets that have not ended, and the reply, are left out
+abbrev pub alone : JobNodeValue → SingleNodeValue
+alone s = single_node s.banks s.programs s.passes
+
+-- this became of the packet that came in at the port, by the last program that was published for its slot; the node
+-- has the reply that is due, and no other port changed
 pub record Serves (served : Served) (port : ℕ) (packet : Cargo) (before after : JobNodeValue) : Type 0 where
-  pub holder : PassValue
-  pub left : PassValue
-  pub own : slice_get before.passes port ≡ Some holder
-  pub others : after.passes ≡ slice_set before.passes port left
+  pub served_alone : ServesAlone served port packet (alone before) (alone after) after.reply
   pub held : after.held ≡ before.held
-  pub answered : IsAnswered served packet (parts before.banks before.programs) (parts after.banks after.programs) holder
-      left after.reply
 
 -- the node whose ports hold these bytes, and that is the same otherwise
 abbrev pub with_held : JobNodeValue → List (List ℕ) → JobNodeValue
@@ -96,3 +118,24 @@ pub record RefusesLine (line : List ℕ) (fault : BadLine) (before after : JobNo
   pub held : List (List ℕ)
   pub unfed : IsNotFed line before.held held fault
   pub same : after ≡ with_held before held
+
+-- the journal of the bank, if there is one, has room for no more entries
+abbrev pub is_full : Option BankValue → Bool
+is_full None = false
+is_full (Some b) = nat_le b.journal.room (length b.journal.entries)
+
+-- what ports hold, and the reply, are as before
+pub record AreKept (before after : JobNodeValue) : Type 0 where
+  pub held : after.held ≡ before.held
+  pub reply : after.reply ≡ before.reply
+
+-- the journal of the bank came out, whose replay is the memory of now, and an empty one began; nothing else changed
+pub record HandsOut (before after : JobNodeValue) (old : JournalValue) : Type 0 where
+  pub rotated : Rotates 0 own_journal (alone before) (alone after) old
+  pub kept : AreKept before after
+
+-- the journal of the bank came out, whose replay is the memory before, and an empty one began behind those bytes at
+-- that address; nothing else changed
+pub record SetsBytes (address : ℕ) (bytes : List ℕ) (before after : JobNodeValue) (old : JournalValue) : Type 0 where
+  pub set : SetsMemory 0 address bytes own_journal (alone before) (alone after) old
+  pub kept : AreKept before after

@@ -1,10 +1,11 @@
 //! The packets that have not ended, one for each port of a node.
 
-ghost use Rattle.std.specs.Prelude.{◌≡◌, ◌<◌, [], length, replicate, IfOk, IfErr, IfSome};
-ghost use Rattle.job_nodes.specs.Feeds.{IsFed, IsNotFed};
+ghost use Rattle.std.specs.Prelude.{◌≡◌, ◌<◌, ◌≤◌, ◌+◌, [], ◌++◌, length, replicate, IfOk, IfErr, IfSome, OnOk};
+ghost use Rattle.job_nodes.specs.Feeds.{IsFed, IsNotFed, IsUnended};
+ghost use Rattle.spw.specs.declared.packets.TheConstants.{MAX_PACKET};
 
 use job_parts::bad_lines::BadLine;
-use spw::{Feed, Packet, read_part};
+use spw::{End, Feed, LineFault, Packet, read_part};
 use std::alloc::{AllocError, Global};
 use std::marker::Model;
 
@@ -54,11 +55,27 @@ impl Feeds {
             return Err(BadLine::NoPort);
         }
         let feed = &mut self.feeds[place];
-        feed.piece(&piece)?;
         let Some(end) = mark else {
+            feed.piece(&piece)?;
             return Ok(None);
         };
-        let packet = feed.close(end)?;
+        let packet = ended(feed, piece, end)?;
         Ok(Some((port, packet)))
     }
+}
+
+/// The packet that ends with a piece, of what its port holds and the piece; nothing is held then. Where nothing was
+/// held the piece is the packet as it is, and no memory is wanted. The faults are those of [`Feed::piece`] and
+/// [`Feed::close`], and what is held is then as they leave it.
+fn ended(feed: &mut Feed, piece: Vec<u8>, end: End) -> Result<Packet, LineFault>
+    ensures ok { IfOk result (λ p. p ≡ record { bytes = feed.old ++ piece.items; end = end }) }
+    ensures short { OnOk result (length feed.old + length piece.items ≤ MAX_PACKET) }
+    ensures empty { OnOk result (feed.new ≡ []) }
+    ensures err { IfErr result (IsUnended feed.old piece.items feed.new) }
+{
+    if feed.is_empty() {
+        return Packet::new(piece, end);
+    }
+    feed.piece(&piece)?;
+    feed.close(end)
 }

@@ -18,12 +18,10 @@ use job_parts::lines::{LinesArgs, lines_and_program, lines_command};
 use job_parts::replies::print_reply;
 use job_parts::stops::Halt;
 use job_parts::storage::Files;
-use publish::{Opened, ProgramFamily};
 use rmap::Discard;
 use spw::lines_of;
 use std::alloc::{AllocError, Global};
 use std::io::{self, Write};
-use std::sync::Wait;
 use target::{Served, Stop};
 
 /// `judge LINES [--image FILE] [--maps LIST] [--ports N]`.
@@ -45,7 +43,7 @@ fn print_discard<W: Write>(out: &mut W, port: u8, discard: Discard) -> io::Resul
 }
 
 /// Prints what became of a packet, with the reply that was due.
-fn print_served<W: Write>(out: &mut W, port: u8, served: Served, reply: &[u8]) -> io::Result<()>
+pub fn print_served<W: Write>(out: &mut W, port: u8, served: Served, reply: &[u8]) -> io::Result<()>
     ensures { OnOk result (Prints W.contents out.old out.new (served_line port served reply.now)) }
 {
     match served {
@@ -56,9 +54,9 @@ fn print_served<W: Write>(out: &mut W, port: u8, served: Served, reply: &[u8]) -
 }
 
 /// Takes one line, judges the packet that it ends, and prints what comes of it. `number` is that of the line.
-fn judge_line<'a, J: ProgramFamily, R: Wait + Drop, W: Write>(
+fn judge_line<'a, W: Write>(
     alloc: Global,
-    node: &mut JobNode<J, R>,
+    node: &mut JobNode,
     line: &str,
     number: usize,
     out: &mut W,
@@ -78,9 +76,9 @@ fn judge_line<'a, J: ProgramFamily, R: Wait + Drop, W: Write>(
 }
 
 /// Judges each line of a text in turn.
-fn judge_text<'a, J: ProgramFamily, R: Wait + Drop, W: Write>(
+fn judge_text<'a, W: Write>(
     alloc: Global,
-    node: &mut JobNode<J, R>,
+    node: &mut JobNode,
     text: &str,
     out: &mut W,
 ) -> Result<(), Halt<'a>>
@@ -99,42 +97,36 @@ fn judge_text<'a, J: ProgramFamily, R: Wait + Drop, W: Write>(
 
 /// The text of the file of packet lines, and a fresh node of these arguments, whose commands the program of its
 /// image file, or the factory program, judges.
-fn lines_and_node<'a, J: ProgramFamily, R: Wait + Drop, F: Files>(
+fn lines_and_node<'a, F: Files>(
     alloc: Global,
-    rt: R,
-    opened: Opened,
     args: &'a LinesArgs,
     files: &mut F,
-) -> Result<(String, JobNode<J, R>), Fault<'a>>
-    requires { opened ≡ J.book }
+) -> Result<(String, JobNode), Fault<'a>>
     ensures ready { IfOk result
         (λ made. IsReady F.reads args.now files.old (string_bytes made.0) made.1 files.new) }
     ensures refused { IfErr result (IsNotReady F.reads args.now files.old files.new) }
 {
     let (text, program) = lines_and_program(alloc, args, files)?;
-    let node = JobNode::new(alloc, rt, opened, args.node.ports, program)?;
+    let node = JobNode::new(alloc, args.node.ports, program)?;
     Ok((text, node))
 }
 
 /// Judges the packet lines of a file by the program of an image file, or by the factory program, on the node
-/// of these arguments. It may wait: the end of the node does.
+/// of these arguments.
 ///
 /// Faults are found in this order: the file of lines (`CannotRead`, also where it is not UTF-8),
 /// the image file, its image, and then each line.
-pub fn judge_file<'a, J: ProgramFamily, R: Wait, F: Files, W: Write>(
-    rt: &R,
+pub fn judge_file<'a, F: Files, W: Write>(
     alloc: Global,
-    opened: Opened,
     args: &'a LinesArgs,
     files: &mut F,
     out: &mut W,
 ) -> Result<(), Halt<'a>>
-    requires { opened ≡ J.book }
     ensures done { OnOk result (JudgesFile F.reads args.now files.old files.new
         (W.contents out.old) (W.contents out.new)) }
     ensures stops { IfErr result (StopsBy (IsNotJudged F.reads args.now files.old files.new
         (W.contents out.old) (W.contents out.new))) }
 {
-    let (text, mut node) = lines_and_node::<J, _, _>(alloc, rt, opened, args, files)?;
+    let (text, mut node) = lines_and_node(alloc, args, files)?;
     judge_text(alloc, &mut node, text.as_str(), out)
 }

@@ -1,20 +1,21 @@
 //! The node that the jobs run.
 
-ghost use Rattle.std.specs.Prelude.{◌≡◌, ◌<◌, IfErr, IfOk, length};
-ghost use Rattle.job_nodes.specs.JobNode.{IsConfig, IsFresh, RefusesLine, Serves, TakesLine};
+ghost use Rattle.std.specs.Prelude.{◌≡◌, ◌<◌, IfErr, IfOk, length, slice_get, true};
+ghost use Rattle.job_nodes.specs.JobNode.{HandsOut, IsConfig, IsFresh, RefusesLine, Serves, SetsBytes, TakesLine, is_full, own_journal};
 ghost use Rattle.job_parts.specs.declared.faults.Fault.TheVariants.{NoMemory};
+ghost use Rattle.single_node.specs.Nodes.{covers_in};
 
 use crate::feeds::Feeds;
+use bank::Journal;
 use bver::{Accepted, MapSizes};
 use job_parts::bad_lines::BadLine;
 use job_parts::faults::Fault;
-use publish::{Opened, ProgramFamily, Publisher};
 use rmap::ReplyBuf;
+use single_node::SingleNode;
 use spw::Packet;
-use std::alloc::Global;
+use std::alloc::{AllocError, Global};
 use std::marker::Model;
-use std::sync::Wait;
-use target::{BankConfig, Banks, NodeConfig, Pass, Served, banks_and_passes, serve_packet};
+use target::{BankConfig, NodeConfig, Served};
 
 /// The logical address of the node.
 const NODE_ADDRESS: u8 = 0xFE;
@@ -38,72 +39,64 @@ pub fn node_config(ports: u8, sizes: MapSizes) -> NodeConfig<'static>
     }
 }
 
-/// A node of one bank and some ports, each with what it holds of a packet that has not ended, and with room for
-/// one reply. Its end waits for readers.
+/// An empty journal for the bank of the node: it has the room of the first one.
+pub fn fresh_journal(alloc: Global) -> Result<Journal, AllocError>
+    ensures { IfOk result (λ journal. journal ≡ own_journal) }
+{
+    // Memory alone can be refused to it: a journal may have that room.
+    Journal::new(alloc, BANK.room).map_err(|_| AllocError)
+}
+
+/// A node of one thread with one bank and some ports, each with what it holds of a packet that has not ended, and with
+/// room for one reply. Nothing of it waits.
 #[derive(Drop)]
-pub struct JobNode<J: ProgramFamily, R: Wait + Drop> {
-    banks: Banks,
-    publisher: Publisher<J, R>,
-    passes: Vec<Pass<J>>,
+pub struct JobNode {
+    node: SingleNode,
     feeds: Feeds,
     reply: ReplyBuf,
 }
 
-impl<J: ProgramFamily, R: Wait + Drop> Model for JobNode<J, R> {
+impl Model for JobNode {
     ghost use Rattle.job_nodes.specs.JobNode.{JobNodeValue, IsJobNode, job_node};
 
     ghost Value = { JobNodeValue };
 
-    ghost view = { λ b. job_node b.banks b.publisher b.passes.items b.feeds b.reply };
+    ghost view = { λ b. job_node b.node.banks b.node.programs b.node.passes b.feeds b.reply };
 
-    ghost invariant = { λ b. IsJobNode (job_node b.banks b.publisher b.passes.items b.feeds b.reply) };
+    ghost invariant = { λ b. IsJobNode (job_node b.node.banks b.node.programs b.node.passes b.feeds b.reply) };
 }
 
-impl<J: ProgramFamily, R: Wait + Drop> JobNode<J, R> {
+impl JobNode {
     /// A node of zero bytes with so many ports, at each of which this program judges at first.
-    pub fn new<'a>(
-        alloc: Global,
-        rt: R,
-        opened: Opened,
-        ports: u8,
-        program: Accepted,
-    ) -> Result<JobNode<J, R>, Fault<'a>>
-        requires { opened ≡ J.book }
+    pub fn new<'a>(alloc: Global, ports: u8, program: Accepted) -> Result<JobNode, Fault<'a>>
         ensures made { IfOk result (IsFresh ports program) }
         ensures refused { IfErr result (λ fault. fault ≡ NoMemory) }
     {
         let config = node_config(ports, program.sizes());
         let feeds = Feeds::new(alloc, ports)?;
         // Memory alone can be refused to it: the command line gives no other number of ports than a node has.
-        let made = banks_and_passes(alloc, rt, opened, &config, program);
-        let Ok((banks, _cells, publisher, passes)) = made else {
+        let Ok(node) = SingleNode::new(alloc, &config, program) else {
             return Err(Fault::NoMemory);
         };
         Ok(JobNode {
-            banks,
-            publisher,
-            passes,
+            node,
             feeds,
             reply: ReplyBuf::new(),
         })
     }
 
-    /// What becomes of a packet that comes in at a port. It takes memory and may wait for readers only where it
-    /// loads.
+    /// What becomes of a packet that comes in at a port. It takes memory only where it loads.
     fn serve(&mut self, alloc: Global, port: u8, packet: Packet) -> Served
         requires { port < length self.old.passes }
         ensures { Serves result port packet self.old self.new }
     {
-        let place = usize::from(port);
-        let banks = &mut self.banks;
-        let publisher = &mut self.publisher;
-        let pass = &mut self.passes[place];
+        let node = &mut self.node;
         let reply = &mut self.reply;
-        serve_packet(alloc, banks, publisher, pass, packet, reply)
+        node.serve(alloc, port, packet, reply)
     }
 
     /// Takes a line, and serves the packet that it ends: its port and what became of it, or `None` where the line
-    /// ends none. Nothing is served where the line has a fault. It may wait for readers only where it loads.
+    /// ends none. Nothing is served where the line has a fault.
     pub fn take_line(&mut self, alloc: Global, line: &str) -> Result<Option<(u8, Served)>, BadLine>
         ensures taken { IfOk result (λ came. TakesLine line.now came self.old self.new) }
         ensures refused { IfErr result (λ fault. RefusesLine line.now fault self.old self.new) }
@@ -120,5 +113,41 @@ impl<J: ProgramFamily, R: Wait + Drop> JobNode<J, R> {
         ensures { result.now ≡ self.now.reply }
     {
         self.reply.bytes()
+    }
+
+    /// Whether the journal of the bank has room for no more entries: a command for the bank is then answered with a
+    /// general error, and leaves none, until [`JobNode::rotate`].
+    pub fn is_full(&self) -> bool
+        ensures { result ≡ is_full (slice_get self.now.banks 0) }
+    {
+        self.node.bank(0).entries().len() >= BANK.room as usize
+    }
+
+    /// Begins a fresh journal at the bank, and hands the old one out: what it tells is the memory of now. Memory, counts,
+    /// and what ports hold stay. The condition is a journal of [`fresh_journal`].
+    pub fn rotate(&mut self, fresh: Journal) -> Journal
+        requires { fresh ≡ own_journal }
+        ensures { HandsOut self.old self.new result }
+    {
+        self.node.rotate(0, fresh)
+    }
+
+    /// Whether so many bytes from the address on lie in the bank.
+    pub fn covers(&self, address: u32, count: usize) -> bool
+        ensures { result ≡ covers_in (slice_get self.now.banks 0) address count }
+    {
+        self.node.covers(0, address, count)
+    }
+
+    /// Puts bytes at an address of the bank without a command: the write of an instrument, of which no entry tells. So a
+    /// fresh journal begins with the memory that is then there, and the old one is handed out. Counts, and what ports
+    /// hold, stay. It costs a copy of the bank's memory. Conditions: the bytes lie in the bank ([`JobNode::covers`]), and
+    /// a journal of [`fresh_journal`].
+    pub fn set(&mut self, address: u32, bytes: &[u8], fresh: Journal) -> Journal
+        requires inside { covers_in (slice_get self.old.banks 0) address (length bytes.now) ≡ true }
+        requires fresh { fresh ≡ own_journal }
+        ensures { SetsBytes address bytes.now self.old self.new result }
+    {
+        self.node.set_memory(0, address, bytes, fresh)
     }
 }

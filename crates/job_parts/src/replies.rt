@@ -29,7 +29,7 @@ fn digits_of(bytes: &[u8]) -> [u8; 2 * CHUNK]
 }
 
 /// Prints bytes as hexadecimal digits, in upper case, without memory of its own.
-fn print_hex<W: Write>(out: &mut W, bytes: &[u8]) -> io::Result<()>
+pub fn print_hex<W: Write>(out: &mut W, bytes: &[u8]) -> io::Result<()>
     ensures { OnOk result (Prints W.contents out.old out.new (encode_upper bytes.now)) }
 {
     let mut rest = bytes;

@@ -12,6 +12,7 @@ pub mod orders;
 pub mod packet;
 pub mod packet_options;
 pub mod policies;
+mod registers;
 pub mod requests;
 pub mod show;
 pub mod shown;

@@ -1,20 +1,24 @@
 //! The job `why`.
 
-ghost use Rattle.std.specs.Prelude.{◌≡◌, IfErr, IfOk, OnOk, false};
+ghost use Rattle.std.specs.Prelude.{◌≡◌, ◌≢◌, IfErr, IfOk, OnOk, false};
 ghost use Rattle.clap.specs.Simple.{app_of};
 ghost use Rattle.clap.specs.declared.builder.command.Command.TheViews.{out-Command as fields_of};
 ghost use Rattle.bver.specs.Justified.{IsJustified};
 ghost use Rattle.bver.specs.Refusals.{IsRefusal};
+ghost use Rattle.bver.specs.Told.{TellsKnown};
+ghost use Rattle.bver_form.specs.Form.{IsFormed};
+ghost use Rattle.bver_form.specs.declared.refusal.Refusal.TheVariants.{Memory};
 ghost use Rattle.bver.specs.Unjustified.{TellsUnjustified};
 ghost use Rattle.machine.specs.Runs.{IsSafe};
 ghost use Rattle.job_texts.specs.Explained.{ExplainsFile, ExplainsProgram, TellsMore};
 ghost use Rattle.job_texts.specs.WhyJob.{why_app};
 
 use crate::images::{ImageArgs, verifying_command};
+use crate::registers::{add_counters, add_read_stack, add_registers};
 use crate::topics::{Topic, add_lines};
 use crate::verify::print_accepted;
 use bpf::{Image, ImageFault};
-use bver::{Accepted, MapSizes, Refusal, Refused, verify};
+use bver::{Accepted, MapSizes, Refusal, Refused, State, explain};
 use bver_form::{check, first_faults};
 use clap::Command;
 use job_parts::faults::Fault;
@@ -46,9 +50,55 @@ fn reason_of_fault(alloc: Global, fault: &Fault) -> Result<String, AllocError> {
     Ok(reason)
 }
 
-/// What is told of a program that is refused: the instruction at the slot, or its weight and budget, and then when
-/// such a refusal comes and what to do.
-fn reason_of_refusal(alloc: Global, image: &Image, refused: Refused) -> Result<String, AllocError> {
+/// Whether a refusal is for what values may do wrong, so that it tells what was known at its slot.
+fn is_of_values(code: Refusal) -> bool {
+    match code {
+        Refusal::LoopEntry
+        | Refusal::Unset
+        | Refusal::KindMismatch
+        | Refusal::OutOfRegion
+        | Refusal::UnsetStack
+        | Refusal::HeaderWrite
+        | Refusal::PointerRange
+        | Refusal::MapKey
+        | Refusal::MapKind => true,
+        Refusal::Target
+        | Refusal::BackJump
+        | Refusal::LoopShape
+        | Refusal::FrameWrite
+        | Refusal::Helper
+        | Refusal::FallOff
+        | Refusal::Budget
+        | Refusal::Unsupported
+        | Refusal::Memory => false,
+    }
+}
+
+/// Adds what was known at the slot where a program is refused for its values.
+fn add_known(
+    reason: &mut String,
+    image: &Image,
+    refused: Refused,
+    known: &State,
+) -> Result<(), AllocError> {
+    if !is_of_values(refused.code) {
+        return Ok(());
+    }
+    add_registers(reason, known)?;
+    if refused.code == Refusal::LoopEntry {
+        return add_counters(reason, image, refused.slot, known);
+    }
+    add_read_stack(reason, image, refused.slot, known)
+}
+
+/// What is told of a program that is refused: the instruction at the slot, with what was known there, or its weight and
+/// budget, and then when such a refusal comes and what to do.
+fn reason_of_refusal(
+    alloc: Global,
+    image: &Image,
+    refused: Refused,
+    known: &State,
+) -> Result<String, AllocError> {
     let mut reason = String::new(alloc);
     let slot = refused.slot;
     match refused.code {
@@ -64,6 +114,7 @@ fn reason_of_refusal(alloc: Global, image: &Image, refused: Refused) -> Result<S
             }
         }
     }
+    add_known(&mut reason, image, refused, known)?;
     add_lines(&mut reason, refused.code.advice())?;
     Ok(reason)
 }
@@ -85,18 +136,27 @@ fn print_fault<W: Write>(out: &mut W, fault: &Fault, reason: &str) -> Result<(),
     Ok(())
 }
 
-/// Verifies a copy of an image. A fault of its form is told before memory is asked for.
-fn verified(alloc: Global, image: &Image, sizes: &MapSizes) -> Result<Accepted, Refused>
+/// Verifies a copy of an image. A fault of its form is told before memory is asked for. Where it is refused for its
+/// values, `known` is then what was known at the slot.
+fn verified(
+    alloc: Global,
+    image: &Image,
+    sizes: &MapSizes,
+    known: &mut State,
+) -> Result<Accepted, Refused>
     ensures program { IfOk result (λ program. program.program ≡ image.now) }
     ensures justified { IfOk result (λ program. IsJustified image.now sizes.now) }
     ensures safe { IfOk result (λ program. IsSafe image.now sizes.now) }
     ensures refused { IfErr result (IsRefusal image.now) }
     ensures unjustified { IfErr result (TellsUnjustified image.now sizes.now) }
+    ensures known { IfErr result
+        (λ refused. IsFormed image.now → refused.code ≢ Memory
+        → TellsKnown image.now sizes.now known.new refused) }
 {
     first_faults();
     check(image)?;
     match image.copy() {
-        Ok(copy) => verify(alloc, copy, sizes),
+        Ok(copy) => explain(alloc, copy, sizes, known),
         Err(_) => Err(Refused {
             code: Refusal::Memory,
             slot: 0,
@@ -104,14 +164,17 @@ fn verified(alloc: Global, image: &Image, sizes: &MapSizes) -> Result<Accepted, 
     }
 }
 
-/// Whether a program may judge, or the refusal.
-fn checked(alloc: Global, image: &Image, sizes: &MapSizes) -> Result<(), Refused>
+/// Whether a program may judge, or the refusal, with what was known at its slot.
+fn checked(alloc: Global, image: &Image, sizes: &MapSizes, known: &mut State) -> Result<(), Refused>
     ensures justified { IfOk result (λ _. IsJustified image.now sizes.now) }
     ensures safe { IfOk result (λ _. IsSafe image.now sizes.now) }
     ensures refused { IfErr result (IsRefusal image.now) }
     ensures unjustified { IfErr result (TellsUnjustified image.now sizes.now) }
+    ensures known { IfErr result
+        (λ refused. IsFormed image.now → refused.code ≢ Memory
+        → TellsKnown image.now sizes.now known.new refused) }
 {
-    let _accepted = verified(alloc, image, sizes)?;
+    let _accepted = verified(alloc, image, sizes, known)?;
     Ok(())
 }
 
@@ -126,13 +189,14 @@ fn explain_program<W: Write>(
     ensures { IfOk result
         (ExplainsProgram image.now sizes.now (W.contents out.old) (W.contents out.new)) }
 {
-    match checked(alloc, image, sizes) {
+    let mut known = State::entry();
+    match checked(alloc, image, sizes, &mut known) {
         Ok(()) => {
             print_accepted(out, image.weight(), image.budget())?;
             Ok(0)
         }
         Err(refused) => {
-            let reason = reason_or_none(alloc, reason_of_refusal(alloc, image, refused));
+            let reason = reason_or_none(alloc, reason_of_refusal(alloc, image, refused, &known));
             print_fault(out, &Fault::Refused(refused), reason.as_str())?;
             Ok(1)
         }

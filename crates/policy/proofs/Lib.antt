@@ -10,3 +10,7 @@ mod Fitting
 mod Refused
 mod Justified
 mod VerdictWords
+mod Walks
+mod Placing
+mod FirstMatches
+mod BadLines

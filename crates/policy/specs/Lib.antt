@@ -8,3 +8,6 @@ pub mod Compiled
 pub mod Code
 pub mod Meant
 pub mod Matching
+pub mod Words
+pub mod TableFaults
+pub mod Counts

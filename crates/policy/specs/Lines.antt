@@ -27,10 +27,6 @@ pub record IsRule (line : List ℕ) (rule : Rule) : Type 0 where
   pub is_quota : IsQuota quota rule.quota
   pub is_verdict : IsVerdict verdict rule.verdict
 
--- the fault of a line that is no rule
-abbrev pub IsNoRule : List ℕ → PolicyFault → Type 0
-IsNoRule line fault = (fault ≡ BadLine) × ((rule : Rule) → ¬ IsRule line rule)
-
 -- the lines are the rules, one for one
 abbrev pub AreRules : List (List ℕ) → List Rule → Type 0
 AreRules [] [] = Unit {0}

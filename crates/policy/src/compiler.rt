@@ -22,7 +22,7 @@ use std::alloc::Global;
 
 /// The most rules of a table that is compiled, a choice: twelve with every field and a quota have 256 of the 512 slots
 /// of an image.
-const MAX_RULES: usize = 12;
+pub const MAX_RULES: usize = 12;
 
 /// Whether tickets are drawn from cells of the map: a map that is not there is taken for a counter map.
 fn gives_tickets(sizes: &MapSizes, map: u8) -> bool
@@ -35,7 +35,7 @@ fn gives_tickets(sizes: &MapSizes, map: u8) -> bool
 }
 
 /// The fault of a quota: the maps do not have its cell, or it is in a peak map.
-fn quota_fault(quota: Option<Quota>, sizes: &MapSizes) -> Option<PolicyFault>
+pub fn quota_fault(quota: Option<Quota>, sizes: &MapSizes) -> Option<PolicyFault>
     ensures { result ≡ quota_fault sizes.now quota }
 {
     let quota = quota?;

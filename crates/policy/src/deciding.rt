@@ -1,13 +1,15 @@
-//! Whether the conditions of a rule hold.
+//! Whether the conditions of a rule hold, and which do not.
 
-ghost use Rattle.std.specs.Prelude.{◌≡◌, ◌^◌, ◌<◌, ◌==◌, ◌&&◌, ◌≤◌, length, slice_index, drop, not};
+ghost use Rattle.std.specs.Prelude.{◌≡◌, ◌^◌, ◌<◌, ◌==◌, ◌&&◌, ◌≤◌, length, slice_index, drop, not, is_none};
 ghost use Rattle.byteorder.specs.Endian.{big_number};
 ghost use Rattle.machine.specs.Memory.{header};
 ghost use Rattle.rmap.specs.Command.{address_of as address_in};
 ghost use Rattle.rmap.specs.Instruction.{has_increment_bit, kind_of};
+ghost use Rattle.policy.specs.Matching.{mismatch};
 ghost use Rattle.policy.specs.Meaning.{agrees, fields_of, has_kind, holds, last_address_of, lies_between};
 
 use crate::rules::{Rule, RuleKind};
+use crate::words::RuleWord;
 use byteorder::{BigEndian, ByteOrder};
 use rmap::field::{ADDRESS, EXTENDED, INITIATOR, INSTRUCTION, KEY, LENGTH};
 use rmap::{Instruction, Kind};
@@ -45,8 +47,9 @@ fn data_length(tail: &[u8; 12]) -> u32
     BigEndian::read_u24(&tail[LENGTH..])
 }
 
-/// The last address that a header names, which may lie behind the last of 32 bits.
-fn last_address(front: &[u8; 4], tail: &[u8; 12]) -> u64
+/// The last address that a header names, its first four bytes and its last twelve; it may lie behind the last of 32
+/// bits.
+pub fn last_address(front: &[u8; 4], tail: &[u8; 12]) -> u64
     ensures { result ≡ last_address_of (fields_of (header front.now tail.now)) }
 {
     let address = u64::from(first_address(tail));
@@ -76,5 +79,31 @@ impl Rule {
             && agrees(self.initiator, tail[INITIATOR])
             && agrees(self.extended, tail[EXTENDED])
             && lies_between(self.low, self.high, front, tail)
+    }
+    /// The first word of the rule that does not agree with a header, in the order of the tests: kind, key, initiator
+    /// logical address, extended address, first address, last address. `None` where the rule's conditions hold.
+    pub fn mismatch(&self, front: &[u8; 4], tail: &[u8; 12]) -> Option<RuleWord>
+        ensures word { result ≡ mismatch self.now (header front.now tail.now) }
+        ensures none { is_none result ≡ holds self.now (header front.now tail.now) }
+    {
+        if !has_kind(self.kind, Instruction(front[INSTRUCTION]).kind()) {
+            return Some(RuleWord::Kind);
+        }
+        if !agrees(self.key, front[KEY]) {
+            return Some(RuleWord::Key);
+        }
+        if !agrees(self.initiator, tail[INITIATOR]) {
+            return Some(RuleWord::Initiator);
+        }
+        if !agrees(self.extended, tail[EXTENDED]) {
+            return Some(RuleWord::Extended);
+        }
+        if first_address(tail) < self.low {
+            return Some(RuleWord::Low);
+        }
+        if last_address(front, tail) > u64::from(self.high) {
+            return Some(RuleWord::High);
+        }
+        None
     }
 }

@@ -2,6 +2,7 @@
 
 ghost use Rattle.policy.specs.Laws.{DrawsAreAnswered, DrawsAreFew, FirstRuleDecides, HeadersHaveFields, NoRuleRefuses};
 ghost use Rattle.policy.specs.Lines.{TableIsUnambiguous};
+ghost use Rattle.policy.specs.Matching.{FirstMatches, MatchDecides};
 
 /// A table draws at most once a rule, and its draws are answered by what is told, in order. Where the first
 /// rule whose conditions hold has no quota, nothing is drawn, and the verdict is that rule's; where those of
@@ -21,4 +22,10 @@ pub fn headers_have_fields()
 /// A text is one table at most.
 pub fn table_is_unambiguous()
     ensures { TableIsUnambiguous }
+{}
+
+/// The rule by which a table decides is the first that matches, and its verdict is the decision.
+pub fn first_rule_matches()
+    ensures first { FirstMatches }
+    ensures verdict { MatchDecides }
 {}

@@ -2,23 +2,35 @@
 //! authorisation), as text, as their meaning and as programs.
 //!
 //! A [`Table`] is read from text, one [`Rule`] a line. [`Table::decide`] says what a table means for the
-//! header of a command: the tickets that it draws, and its verdict. [`compile`] makes the program that does so.
+//! header of a command: the tickets that it draws, and its verdict; [`Table::matched`] says by which rule it decides, and
+//! [`Rule::mismatch`] which word of a rule does not agree. [`compile`] makes the program that does so.
 #![tactic(auto)]
 
 mod blocks;
+mod checks;
 mod code;
 mod compiler;
+mod counts;
 mod deciding;
 mod faults;
 mod fields;
 mod insns;
 mod laws;
 mod lines;
+mod matching;
 mod rules;
+mod table_faults;
 mod tables;
+mod words;
 
+pub use checks::faults_have_places;
 pub use compiler::compile;
+pub use counts::Counts;
+pub use deciding::last_address;
 pub use faults::PolicyFault;
-pub use laws::{decisions, headers_have_fields, table_is_unambiguous};
+pub use laws::{decisions, first_rule_matches, headers_have_fields, table_is_unambiguous};
+pub use matching::Match;
 pub use rules::{Quota, Rule, RuleKind};
+pub use table_faults::TableFault;
 pub use tables::Table;
+pub use words::RuleWord;

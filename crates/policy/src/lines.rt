@@ -1,13 +1,15 @@
 //! The lines of a policy table, one rule a line.
 
-ghost use Rattle.std.specs.Prelude.{◌≡◌, [], ◌∷◌, length, MatchOption, IfErr, IfOk};
+ghost use Rattle.std.specs.Prelude.{◌≡◌, [], ◌∷◌, length, MatchOption, MatchResult, IfErr, IfOk};
 ghost use Rattle.spw.specs.Line.{lines_of, words_of};
-ghost use Rattle.policy.specs.Lines.{IsNoRule, IsReadFault, IsRule, IsTable};
-ghost use Rattle.policy.specs.declared.rules.Rule.{Rule};
+ghost use Rattle.policy.specs.Lines.{IsRule, IsTable};
+ghost use Rattle.policy.specs.TableFaults.{IsNoRule, IsUnread};
+ghost use Rattle.policy.specs.Words.{AreWordsOf, IsFirstBad, texts_of};
 
-use crate::faults::PolicyFault;
 use crate::fields::{address_of, field_of, kind_of, quota_of, verdict_of};
 use crate::rules::Rule;
+use crate::table_faults::TableFault;
+use crate::words::RuleWord;
 use spw::lines_of;
 use std::alloc::{AllocError, Global};
 
@@ -54,39 +56,81 @@ fn eight_words(line: &str) -> Option<Words<'_>>
     }
 }
 
-/// The rule that a line writes.
-fn rule_of(line: &str) -> Option<Rule>
-    ensures { MatchOption result ((rule : Rule) → ¬ IsRule line.now rule) (IsRule line.now) }
+/// How many words a line has.
+fn words_in(line: &str) -> usize
+    ensures { result ≡ length (words_of line.now) }
 {
-    let words = eight_words(line)?;
-    Some(Rule {
-        kind: kind_of(words.kind)?,
-        key: field_of(words.key)?,
-        initiator: field_of(words.initiator)?,
-        extended: field_of(words.extended)?,
-        low: address_of(words.low)?,
-        high: address_of(words.high)?,
-        quota: quota_of(words.quota)?,
-        verdict: verdict_of(words.verdict)?,
+    let words = line.split(' ').filter(|word| !word.is_empty());
+    words.count()
+}
+
+/// The rule that eight words write, or the first of them that is none of its field.
+fn rule_of(words: &Words) -> Result<Rule, RuleWord>
+    ensures { MatchResult result (AreWordsOf (texts_of words.now))
+        (IsFirstBad (texts_of words.now)) }
+{
+    let Some(kind) = kind_of(words.kind) else {
+        return Err(RuleWord::Kind);
+    };
+    let Some(key) = field_of(words.key) else {
+        return Err(RuleWord::Key);
+    };
+    let Some(initiator) = field_of(words.initiator) else {
+        return Err(RuleWord::Initiator);
+    };
+    let Some(extended) = field_of(words.extended) else {
+        return Err(RuleWord::Extended);
+    };
+    let Some(low) = address_of(words.low) else {
+        return Err(RuleWord::Low);
+    };
+    let Some(high) = address_of(words.high) else {
+        return Err(RuleWord::High);
+    };
+    let Some(quota) = quota_of(words.quota) else {
+        return Err(RuleWord::Quota);
+    };
+    let Some(verdict) = verdict_of(words.verdict) else {
+        return Err(RuleWord::Verdict);
+    };
+    Ok(Rule {
+        kind,
+        key,
+        initiator,
+        extended,
+        low,
+        high,
+        quota,
+        verdict,
     })
 }
 
-/// The rule that a line writes, or `BadLine`.
-fn read_rule(line: &str) -> Result<Rule, PolicyFault>
+/// The rule that the line of this number writes, or why it writes none.
+fn read_rule(line: &str, number: usize) -> Result<Rule, TableFault>
     ensures read { IfOk result (IsRule line.now) }
-    ensures fault { IfErr result (IsNoRule line.now) }
+    ensures fault { IfErr result (IsNoRule line.now number) }
 {
-    rule_of(line).ok_or(PolicyFault::BadLine)
+    let Some(words) = eight_words(line) else {
+        let words = words_in(line);
+        return Err(TableFault::BadCount {
+            line: number,
+            words,
+        });
+    };
+    match rule_of(&words) {
+        Ok(rule) => Ok(rule),
+        Err(word) => Err(TableFault::BadWord { line: number, word }),
+    }
 }
 
 /// The rules of the lines of a text. A line is ended by a line feed, which the last may lack.
-pub fn read_rules(alloc: Global, text: &str) -> Result<Vec<Rule>, PolicyFault>
+pub fn read_rules(alloc: Global, text: &str) -> Result<Vec<Rule>, TableFault>
     ensures read { IfOk result (λ rules. IsTable text.now rules.items) }
-    ensures fault { IfErr result (IsReadFault (lines_of text.now)) }
+    ensures fault { IfErr result (IsUnread (lines_of text.now)) }
 {
     let mut rules = Vec::new(alloc);
     for line in lines_of(text) {
-        let rule = read_rule(line)?;
+        let rule = read_rule(line, rules.len() + 1)?;
         rules.push(rule).map_err(AllocError::from)?;
     }
     Ok(rules)

@@ -1,17 +1,25 @@
 //! Policy tables.
 
-ghost use Rattle.std.specs.Prelude.{◌≡◌, ◌+◌, ◌≤◌, ◌++◌, All, length, slice_index, vec_len, IfErr, IfOk, OnErr, OnOk};
+ghost use Rattle.std.specs.Prelude.{◌≡◌, ◌+◌, ◌≤◌, ◌++◌, All, length, slice_index, vec_len, IfErr, IfOk, None, OnErr, OnOk};
 ghost use Rattle.std.specs.Vec.{vec_capacity};
 ghost use Rattle.machine.specs.Memory.{header};
 ghost use Rattle.spw.specs.Line.{lines_of};
+ghost use Rattle.policy.specs.Compiled.{compile_fault};
+ghost use Rattle.policy.specs.Counts.{after_draws, told_on};
 ghost use Rattle.policy.specs.Limits.{FitsFields};
 ghost use Rattle.policy.specs.Lines.{IsReadFault, IsTable};
+ghost use Rattle.policy.specs.Matching.{matched};
 ghost use Rattle.policy.specs.Meaning.{decision, draw as draw_of, told_by};
+ghost use Rattle.policy.specs.TableFaults.{IsTableFault};
 
+use crate::checks::{faults_have_places, table_fault};
+use crate::counts::Counts;
 use crate::faults::PolicyFault;
 use crate::lines::read_rules;
+use crate::matching::{Match, match_of};
 use crate::rules::{Quota, Rule};
-use machine::{Call, Helper};
+use crate::table_faults::TableFault;
+use machine::{Call, Helper, MapSizes};
 use rmap::Verdict;
 use std::alloc::{AllocError, Global};
 use std::marker::Model;
@@ -106,7 +114,29 @@ impl Table {
         ensures read { IfOk result (IsTable text.now) }
         ensures fault { IfErr result (IsReadFault (lines_of text.now)) }
     {
+        match read_rules(alloc, text) {
+            Ok(rules) => Ok(Table { rules }),
+            Err(fault) => Err(fault.fault()),
+        }
+    }
+
+    /// The table that a text writes, as [`Table::read`] reads it, which compiles for a node with maps of these sizes but for
+    /// want of memory.
+    ///
+    /// # Errors
+    ///
+    /// The first fault of the text with its place: of the first line that is no rule, or that for which the table is not
+    /// compiled ([`compile`](crate::compile)). `Memory` where memory was refused.
+    pub fn read_for(alloc: Global, text: &str, sizes: &MapSizes) -> Result<Table, TableFault>
+        ensures read { IfOk result (IsTable text.now) }
+        ensures faultless { IfOk result (λ table. compile_fault sizes.now table ≡ None) }
+        ensures fault { IfErr result (IsTableFault sizes.now (lines_of text.now)) }
+    {
+        faults_have_places();
         let rules = read_rules(alloc, text)?;
+        if let Some(fault) = table_fault(rules.as_slice(), sizes) {
+            return Err(fault);
+        }
         Ok(Table { rules })
     }
 
@@ -140,5 +170,32 @@ impl Table {
     {
         calls.reserve(self.rules.len())?;
         Ok(decide_by(self.rules.as_slice(), front, tail, answers, calls))
+    }
+    /// By which rule the table decides on a header, whose parts are those of [`Table::decide`], where its draws are answered
+    /// by counts. Each draw is appended to the calls, and counted.
+    ///
+    /// # Errors
+    ///
+    /// Where memory was refused; calls and counts are as they were.
+    pub fn matched(
+        &self,
+        front: &[u8; 4],
+        tail: &[u8; 12],
+        counts: &mut Counts,
+        calls: &mut Vec<Call>,
+    ) -> Result<Match, AllocError>
+        ensures found { IfOk result (λ found. found ≡ matched self.now (header front.now tail.now)
+            (told_on counts.old self.now (header front.now tail.now))) }
+        ensures draws { OnOk result (calls.new.items ≡ calls.old.items
+            ++ (decision self.now (header front.now tail.now)
+            (told_on counts.old self.now (header front.now tail.now))).0) }
+        ensures counts { OnOk result (counts.new ≡ after_draws counts.old
+            (decision self.now (header front.now tail.now)
+            (told_on counts.old self.now (header front.now tail.now))).0) }
+        ensures kept { OnErr result ((calls.new.items ≡ calls.old.items)
+            × (counts.new ≡ counts.old)) }
+    {
+        calls.reserve(self.rules.len())?;
+        Ok(match_of(self.rules.as_slice(), front, tail, counts, calls))
     }
 }

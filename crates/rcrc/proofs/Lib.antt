@@ -1,3 +1,4 @@
+pub mod LaneLemmas
 pub mod PolynomialLemmas
 pub mod RemainderLemmas
 pub mod SumLemmas

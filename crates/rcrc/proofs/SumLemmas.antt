@@ -12,7 +12,7 @@ use Rattle.rcrc.proofs.RemainderLemmas.{bit_cases}
 -- ---- steps of a sum
 
 -- what a step makes of the bit shifted out and of the others
-abbrev step : ℕ → ℕ → ℕ
+abbrev pub step : ℕ → ℕ → ℕ
 step bit rest = if bit == 1 then bit_xor rest 0xE0 else rest
 
 add_left : (rest more : ℕ) → bit_xor (bit_xor rest more) 0xE0 ≡ bit_xor (bit_xor rest 0xE0) more
@@ -36,12 +36,12 @@ shift-xor a b =
     ∙ ap (step (bit_xor (a % 2) (b % 2))) (xor_shr a b 1)
     ∙ step-xor (a % 2) (b % 2) (a / 2) (b / 2) (omega arith) (omega arith)
 
-shifts-xor : (n a b : ℕ) → shifts n (bit_xor a b) ≡ bit_xor (shifts n a) (shifts n b)
+pub shifts-xor : (n a b : ℕ) → shifts n (bit_xor a b) ≡ bit_xor (shifts n a) (shifts n b)
 unfolding shifts
 shifts-xor zero a b = refl
 shifts-xor (suc n) a b = ap (shifts n) (shift-xor a b) ∙ shifts-xor n (shift a) (shift b)
 
-shifts-add : (m n register : ℕ) → shifts (m + n) register ≡ shifts n (shifts m register)
+pub shifts-add : (m n register : ℕ) → shifts (m + n) register ≡ shifts n (shifts m register)
 unfolding shifts
 shifts-add zero n register =
     let same : 0 + n ≡ n = omega arith in
@@ -57,7 +57,7 @@ shifts_one_more n register =
 
 -- ---- each byte alone
 
-crc_from-xor : (a b : ℕ) (bytes : List ℕ) → crc_from (bit_xor a b) bytes ≡ bit_xor (shifts (8 * length bytes) a) (crc_from b bytes)
+pub crc_from-xor : (a b : ℕ) (bytes : List ℕ) → crc_from (bit_xor a b) bytes ≡ bit_xor (shifts (8 * length bytes) a) (crc_from b bytes)
 unfolding shifts
 crc_from-xor a b [] = refl
 crc_from-xor a b (byte ∷ bytes) =

@@ -1,12 +1,14 @@
 //! The 8-bit CRC of RMAP (ECSS-E-ST-50-52C, 8-bit CRC).
 #![tactic(auto)]
 
+mod lanes;
 mod tables;
 
 ghost use Rattle.std.specs.Prelude.{◌≡◌, ℕ, List, ◌++◌};
 ghost use Rattle.rcrc.specs.Crc.{crc_from, crc_of};
 ghost use Rattle.rcrc.specs.Polynomial.{IsRemainder, RemainderIsUnique};
 
+use lanes::{BLOCK, after_block, bytes_with};
 use tables::shifted;
 
 /// The CRC of `bytes` (ECSS-E-ST-50-52C, 8-bit CRC): the register starts at 0 and takes in one byte
@@ -29,8 +31,32 @@ pub fn crc_more(crc: u8, bytes: &[u8]) -> u8
     ensures joined { (before : List ℕ) → crc_of before ≡ crc
         → result ≡ crc_of (before ++ bytes.now) }
 {
+    if bytes.len() < BLOCK {
+        after_chunks(crc, bytes)
+    } else {
+        after_blocks(crc, bytes)
+    }
+}
+
+/// The register after some bytes, in blocks, from `start` on: what came before is kept as 16 bytes
+/// that have its CRC.
+fn after_blocks(start: u8, bytes: &[u8]) -> u8
+    ensures { result ≡ crc_from start bytes.now }
+{
+    let (blocks, rest) = bytes.as_chunks::<BLOCK>();
+    let mut lanes = bytes_with(start);
+    for block in blocks {
+        lanes = after_block(lanes, block);
+    }
+    after_chunks(after_chunks(0, lanes.as_array()), rest)
+}
+
+/// The register after some bytes, in chunks of eight, from `start` on.
+fn after_chunks(start: u8, bytes: &[u8]) -> u8
+    ensures { result ≡ crc_from start bytes.now }
+{
     let (chunks, rest) = bytes.as_chunks::<8>();
-    let mut register = crc;
+    let mut register = start;
     for chunk in chunks {
         register = after_chunk(register, chunk);
     }

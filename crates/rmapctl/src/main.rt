@@ -2,9 +2,9 @@
 //! standard streams of this machine. docs/COMMANDS.md says what it does.
 #![tactic(auto)]
 
-use commands::{HostFiles, Job, UsageFault, perform, words};
+use commands::{HostFiles, HostTalk, Job, NodeWords, UsageFault, Work, live, perform, words};
 use std::alloc::Global;
-use std::io::{BufWriter, Write};
+use std::io::{BufReader, BufWriter, Write};
 use std::process::ExitCode;
 use std::rt::{self, Env};
 use std::sync::Wait;
@@ -48,6 +48,32 @@ fn do_job<R: rt::Files + Input + Print + Eprint + Threads + Wait + Sync>(
     }
 }
 
+/// Holds a talk over standard input and standard output, and gives the exit status.
+fn talk<R: rt::Files + Input + Print + Eprint>(rt: &R, alloc: Global, node: &NodeWords) -> u8 {
+    // Over a buffer a pipe gives what there is, and not a byte at a time.
+    let input = match BufReader::new(alloc, rt.reader()) {
+        Ok(input) => input,
+        Err(_) => return refuse(rt, &UsageFault::Memory),
+    };
+    let mut talk = HostTalk::new(alloc, input, io::writer(rt));
+    match live(alloc, node, &mut HostFiles { rt }, &mut talk) {
+        Ok(status) => status,
+        Err(_) => lose_output(rt, talk.into_output().1),
+    }
+}
+
+/// Does what the command line names, and gives the exit status.
+fn do_work<R: rt::Files + Input + Print + Eprint + Threads + Wait + Sync>(
+    rt: &R,
+    alloc: Global,
+    work: &Work,
+) -> u8 {
+    match work {
+        Work::Once(job) => do_job(rt, alloc, job),
+        Work::Live(node) => talk(rt, alloc, node),
+    }
+}
+
 /// What an error of the arguments is: want of memory, or an argument that is no text.
 fn fault_of(refused: &io::Error) -> UsageFault {
     match refused.kind() {
@@ -56,8 +82,8 @@ fn fault_of(refused: &io::Error) -> UsageFault {
     }
 }
 
-/// The job that the command line names.
-fn job_given<R: Env + AllocGlobal>(rt: &R) -> Result<Job, UsageFault> {
+/// What the command line names.
+fn work_given<R: Env + AllocGlobal>(rt: &R) -> Result<Work, UsageFault> {
     let alloc = rt.alloc();
     let arguments = env::args(rt).map_err(|refused| fault_of(&refused))?;
     let given: Vec<String> = arguments.skip(1).collect(alloc)?;
@@ -68,7 +94,7 @@ fn job_given<R: Env + AllocGlobal>(rt: &R) -> Result<Job, UsageFault> {
     words(alloc, texts.as_slice())
 }
 
-/// Tells the user why the command line names no job, and gives the exit status. Want of memory is
+/// Tells the user why the command line names no work, and gives the exit status. Want of memory is
 /// told on standard output, as by a job.
 fn refuse<R: Print + Eprint>(rt: &R, fault: &UsageFault) -> u8 {
     let _ = match fault {
@@ -80,8 +106,8 @@ fn refuse<R: Print + Eprint>(rt: &R, fault: &UsageFault) -> u8 {
 }
 
 fn main(rt: HostRuntime) -> ExitCode {
-    let status = match job_given(&rt) {
-        Ok(job) => do_job(&rt, rt.alloc(), &job),
+    let status = match work_given(&rt) {
+        Ok(work) => do_work(&rt, rt.alloc(), &work),
         Err(fault) => refuse(&rt, &fault),
     };
     ExitCode::from(status)

@@ -20,3 +20,4 @@ pub mod EffectEvents
 pub mod PublishEvents
 pub mod Agreements
 pub mod Histories
+pub mod Lent

@@ -9,3 +9,4 @@ pub mod Ends
 pub mod Headline
 pub mod Agreement
 pub mod Begins
+pub mod Standing

@@ -12,6 +12,7 @@ mod reply;
 mod run;
 mod schedule;
 mod shown;
+mod standing;
 mod take;
 mod words;
 mod world;
@@ -24,4 +25,5 @@ pub use laws::{
 };
 pub use reply::Reply;
 pub use schedule::{run_schedule, step};
+pub use standing::Standing;
 pub use world::World;

@@ -8,10 +8,12 @@ ghost use Rattle.bank.specs.Records.{after_command, answer_of, fits, memory_of, 
 ghost use Rattle.target.specs.Stagings.{IsStaged, IsStagingPlace};
 ghost use Rattle.sched.specs.Ends.{CanEnd, CanFinish, EndsAt, HasFinished, IsReplyTo, IsWriteUnder, after_write, load_result_kept, share_in, with_share_in};
 ghost use Rattle.sched.specs.History.{Open, after_answer};
+ghost use Rattle.sched.specs.Standing.{IsLent};
 ghost use Rattle.sched.specs.Looking.{Node, argument_asked, cell_asked};
 ghost use Rattle.sched.specs.Worlds.{Asks, IsJudging, IsRunUnderIfAny, IsSameRunIfAny, effect_due, publish_due, turn_in};
 
 use crate::run::Run;
+use crate::standing::Standing;
 use bank::{Bank, Judged, Share};
 use machine::Helper;
 use publish::Staging;
@@ -59,6 +61,17 @@ impl Port {
         ensures { result ≡ is_none self.now.run }
     {
         self.run.is_none()
+    }
+
+    /// The command that is judged, as it stands.
+    pub fn standing(&self) -> Option<Standing<'_>>
+        ensures { (n : Node) (port : ℕ) (last : Option Open)
+            → IsJudging n port last self.now.run → IsLent n port last result }
+    {
+        match &self.run {
+            Some(run) => Some(run.standing()),
+            None => None,
+        }
     }
 
     /// Judges a command from now on.

@@ -11,10 +11,12 @@ ghost use Rattle.bank.specs.Admission.{IsPlacedBy};
 ghost use Rattle.brun.specs.Pauses.{AsksWithin, IsAt, IsPaused, Turns};
 ghost use Rattle.sched.specs.Ends.{judged_with};
 ghost use Rattle.sched.specs.History.{History, Open, taken, with_answer};
+ghost use Rattle.sched.specs.Standing.{IsLentOf};
 ghost use Rattle.sched.specs.Looking.{Node, argument_asked, cell_asked, header_in, published, slot_in, windows_in};
 ghost use Rattle.sched.specs.Worlds.{IsAsk, IsFor, IsRunOf, IsRunWith, IsSameRun, verdict_at};
 
 use crate::laws::{arrays_are_headers, turns_are_paths};
+use crate::standing::Standing;
 use bank::{Admitted, Judged};
 use brun::{Paused, Turn, advance, answer, start};
 use bver::{Accepted, justified_programs};
@@ -23,6 +25,7 @@ use rmap::{Command, Place, Windows};
 use spw::Packet;
 use std::marker::Model;
 use std::sync::Arc;
+use target::slot;
 
 /// A command that is judged: its packet and place, the program that judges it, with its generation, and where that
 /// stands. The program is held from the Take on, whatever is published since.
@@ -164,6 +167,23 @@ impl Run {
         ensures { result ≡ command_of self.now.packet }
     {
         Command::again(&self.packet)
+    }
+
+    /// The command as it stands.
+    pub fn standing(&self) -> Standing<'_>
+        ensures { (n : Node) (port : ℕ) (o : Open) → IsRunOf n port o self.now
+            → IsLentOf n port o result }
+    {
+        let command = self.command();
+        Standing {
+            program: &self.program,
+            generation: self.generation,
+            slot: slot(command.kind(), self.place),
+            front: command.front(),
+            tail: command.tail(),
+            place: self.place,
+            turn: self.turn,
+        }
     }
 
     /// Where the command's bytes lie.

@@ -1,17 +1,20 @@
 //! The world: the state of a node as plain values.
 
-ghost use Rattle.std.specs.Prelude.{◌≡◌, ◌<◌, ◌≤◌, ℕ, length, map, replicate, option_map, slice_get, Some, None, IfOk, IfErr};
+ghost use Rattle.std.specs.Prelude.{◌≡◌, ◌<◌, ◌≤◌, ℕ, length, map, replicate, option_map, slice_get, Some, None, IfOk, IfErr, IfSome, IfNone};
 ghost use Rattle.std.specs.Arc.{arc_value};
 ghost use Rattle.std.specs.List.{range_with_len};
 ghost use Rattle.machine.specs.Sizes.{IsInside};
 ghost use Rattle.target.specs.Nodes.{ArePortShares, AreSharesOf, fresh_banks, limit_fault};
 ghost use Rattle.sched.specs.Headline.{IsNode};
-ghost use Rattle.sched.specs.History.{Start};
+ghost use Rattle.sched.specs.History.{History, Start, opened};
+ghost use Rattle.sched.specs.Standing.{IsLent};
+ghost use Rattle.sched.specs.Looking.{Node};
 ghost use Rattle.sched.specs.Worlds.{IsUnmade, IsWorldFault, IsWorldOf, first_port, generation_in, node_of, shown_in_all, staging_in, word_at, word_in};
 
 use crate::faults::WorldFault;
 use crate::port::Port;
 use crate::shown::Shown;
+use crate::standing::Standing;
 use crate::words::CellWords;
 use bank::Bank;
 use bpf::Image;
@@ -206,6 +209,19 @@ impl World {
     {
         match self.ports.get(usize::from(port)) {
             Some(port) => Some(port.staging()),
+            None => None,
+        }
+    }
+
+    /// The command that is judged at a port, as it stands, or `None` where none is, or there is no such port.
+    pub fn standing(&self, port: u8) -> Option<Standing<'_>>
+        ensures lent { IfSome result (λ standing. (n : Node) (h : History)
+            → IsWorldOf n h self.now → IsLent n port (opened h port) (Some standing)) }
+        ensures free { IfNone result ((n : Node) (h : History)
+            → IsWorldOf n h self.now → port < n.ports → opened h port ≡ None) }
+    {
+        match self.ports.get(usize::from(port)) {
+            Some(port) => port.standing(),
             None => None,
         }
     }

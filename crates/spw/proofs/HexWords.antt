@@ -1,17 +1,13 @@
 -- A word decodes exactly where it is an even number of hexadecimal digits, and to what they write.
-use Rattle.std.proofs.Common.{◌≡◌, ℕ, ◌+◌, ◌*◌, ◌%◌, ◌<◌, ◌≤◌, true, false, ltb, inl, inr, List, [], ◌∷◌, length, ◌⊎◌, Some, Ok, Err, refl, sym, ap, ◌∙◌, arith}
+use Rattle.std.proofs.Common.{◌≡◌, ℕ, ◌+◌, ◌*◌, ◌%◌, ◌<◌, ◌≤◌, true, false, ltb, inl, inr, List, [], ◌∷◌, length, Some, Ok, refl, sym, ap, ◌∙◌, arith}
 use Rattle.std.specs.Char.{digit_value}
 use Rattle.std.specs.List.{AllPass}
 use Rattle.std.specs.Str.Parse.{AllDigits}
 use Rattle.std.proofs.lemmas.Bool.{agree_below_at, cases_lt, le-leb, lt-leb, ltb-true}
 use Rattle.std.proofs.lemmas.List.Elements.{All-head, All-tail}
 use Rattle.hex.specs.Hex.{decode_of, decode_pairs, hex_digit_value, is_hex_digit, pair_value}
-use Rattle.hex.specs.declared.error.FromHexError.{FromHexError}
 use Rattle.hex.proofs.Pairs.{cons_byte, decode_pairs-ok_pair}
 use Rattle.hex.proofs.HexLemmas.{decode_of-even, decode_of-ok, decode_of-same}
-use Rattle.hex.specs.declared.error.FromHexError.TheVariants.{InvalidHexCharacter, OddLength, InvalidStringLength, OutOfMemory}
-use Rattle.spw.specs.declared.faults.LineFault.TheVariants.{BadHex, Memory}
-use Rattle.spw.specs.Fault.{fault_of_hex}
 use Rattle.spw.specs.Line.{IsHex, bytes_written}
 
 digit_reads : (c : ℕ) → digit_value c < 16 → hex_digit_value c ≡ Some (digit_value c)
@@ -53,18 +49,3 @@ hex_from_decode word bytes decoded =
     let parts = decode_of-ok word bytes decoded in
     let hex : IsHex word = (parts.0, AllDigits-from_pass word parts.1) in
     (hex, decode_of-same word bytes (bytes_written word) decoded (decode_of-hex word hex))
-
--- what does not decode is no hexadecimal word
-pub no_hex_from_decode : (word : List ℕ) (refused : FromHexError) → decode_of word ≡ Err refused → ¬ IsHex word
-no_hex_from_decode word refused fails hex = cc (sym fails ∙ decode_of-hex word hex)
-
--- what stands for a word that does not decode
-pub fault_from_decode : (word : List ℕ) (refused : FromHexError) → (refused ≡ OutOfMemory) ⊎ (decode_of word ≡ Err refused)
-    → (fault_of_hex refused ≡ Memory) ⊎ ((fault_of_hex refused ≡ BadHex) × ¬ IsHex word)
-fault_from_decode word (InvalidHexCharacter c i) (inl none) = cc
-fault_from_decode word (InvalidHexCharacter c i) (inr fails) = inr (refl, no_hex_from_decode word (InvalidHexCharacter c i) fails)
-fault_from_decode word OddLength (inl none) = cc
-fault_from_decode word OddLength (inr fails) = inr (refl, no_hex_from_decode word OddLength fails)
-fault_from_decode word InvalidStringLength (inl none) = cc
-fault_from_decode word InvalidStringLength (inr fails) = inr (refl, no_hex_from_decode word InvalidStringLength fails)
-fault_from_decode word OutOfMemory why = inl refl

@@ -3,3 +3,5 @@ pub mod HexWords
 pub mod LineLemmas
 pub mod WrittenLines
 pub mod CutLines
+pub mod DigitPairs
+pub mod WordCuts

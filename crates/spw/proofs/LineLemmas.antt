@@ -1,60 +1,13 @@
 -- What the words of a line say of its reading.
-use Rattle.std.proofs.Common.{◌≡◌, ◌≢◌, inl, inr, ℕ, suc, ◌+◌, ◌-◌, ◌<◌, ◌≤◌, List, [], ◌∷◌, ◌++◌, length, map, get_or, take, drop, All, Option, Some, None, codes, Ok, Err, refl, sym, ap, ◌∙◌, subst, arith}
-use Rattle.std.specs.Borrow.{Bor}
+use Rattle.std.proofs.Common.{◌≡◌, ◌≢◌, inl, inr, ℕ, ◌≤◌, List, [], ◌∷◌, ◌++◌, length, get_or, All, Option, Some, None, codes, Ok, Err, refl, sym, ap, ◌∙◌, subst, arith}
 use Rattle.std.specs.List.{flat_map}
 use Rattle.std.specs.Str.Parse.{digits_value}
-use Rattle.spw.specs.Line.{words_of, WritesPort, WriteBytes, marker_word, mark_word, AreParts, AreNoParts, IsNoMark, IsBytesFault, IsHex, bytes_written, IsMarkedLine, HasPort, HasMark, HasHex, HasFault, IsReading, IsUnambiguous}
+use Rattle.spw.specs.Line.{words_of, WriteBytes, marker_word, mark_word, AreParts, AreNoParts, IsNoMark, IsBytesFault, IsHex, bytes_written, IsMarkedLine, HasPort, HasMark, HasHex, HasFault, IsReading, IsUnambiguous}
 use Rattle.spw.specs.declared.faults.LineFault.{LineFault}
 use Rattle.spw.specs.declared.faults.LineFault.TheVariants.{NoPort, BadHex, BadMarker, TooLong, Memory}
 use Rattle.spw.specs.declared.packets.End.{End}
 use Rattle.spw.specs.declared.packets.End.TheVariants.{Eop, Eep}
-use Rattle.std.proofs.lemmas.List.{append-nil, map-append, take_more}
-use Rattle.std.proofs.Math.Seq.{take-length}
-use Rattle.std.proofs.lemmas.List.Concat.{flat_map-append}
-use Rattle.std.proofs.lemmas.List.Elements.{All-cons, All-head, All-map, All-nil, All-same, All-tail}
-use Rattle.std.proofs.lemmas.List.Folds.{flat_map-map}
-
--- one more part is joined
-pub flat_map-one_more : {X : Type 0} (f : X → List ℕ) (xs : List X) (i : ℕ) (d : X) (old new part : List ℕ) → i < length xs
-    → new ≡ old ++ part → part ≡ f (get_or xs i d) → old ≡ flat_map f (take i xs) → new ≡ flat_map f (take (i + 1) xs)
-flat_map-one_more f xs i d old new part inside joined is before =
-    let last : flat_map f (get_or xs i d ∷ []) ≡ f (get_or xs i d) = append-nil (f (get_or xs i d)) in
-    joined ∙ ap (λ front. front ++ part) before ∙ ap (λ back. flat_map f (take i xs) ++ back) (is ∙ sym last)
-    ∙ sym (flat_map-append f (take i xs) (get_or xs i d ∷ [])) ∙ sym (ap (flat_map f) (take_more xs i d inside))
-
--- ---- the last element of a list
-
-front_and_last : {X : Type 0} (xs : List X) (d : X) → 1 ≤ length xs → xs ≡ take (length xs - 1) xs ++ get_or xs (length xs - 1) d ∷ []
-front_and_last xs d some =
-    let whole : length xs - 1 + 1 ≡ length xs = omega arith in
-    sym (ap (λ n. take n xs) whole ∙ take-length xs) ∙ take_more xs (length xs - 1) d (omega arith)
-
--- the words after the first
-abbrev pub rest_of : {X : Type 0} → List X → List X
-rest_of words = take (length words - 1) (drop 1 words)
-
--- the words between the first and the last
-abbrev pub between_of : {X : Type 0} → List X → List X
-between_of words = take (length (rest_of words) - 1) (rest_of words)
-
--- the last word
-abbrev pub last_of : {X : Type 0} → List X → X → X
-last_of words d = get_or (rest_of words) (length (rest_of words) - 1) d
-
-rest_of-cons : {X : Type 0} (word : X) (words : List X) → rest_of (word ∷ words) ≡ words
-rest_of-cons word words =
-    let one_less : suc (length words) - 1 ≡ length words = omega arith in
-    ap (λ n. take n words) one_less ∙ take-length words
-
--- a line's words, by the first, those between and the last
-words-by_parts : {X : Type 0} (f : X → List ℕ) (words : List X) (d e : X) (texts : List (List ℕ)) → map f words ≡ texts
-    → 1 ≤ length words → 1 ≤ length (rest_of words)
-    → texts ≡ f (get_or words 0 d) ∷ (map f (between_of words) ++ f (last_of words e) ∷ [])
-words-by_parts f [] d e texts all some more = absurd (omega arith)
-words-by_parts f (word ∷ words) d e texts all some more =
-    let rest = rest_of (word ∷ words) in
-    sym all ∙ ap (λ back. f word ∷ back)
-    (ap (map f) (sym (rest_of-cons word words) ∙ front_and_last rest e more) ∙ map-append f (between_of (word ∷ words)) (last_of (word ∷ words) e ∷ []))
+use Rattle.std.proofs.lemmas.List.Elements.{All-same}
 
 -- the head of a list that is not empty, or d
 head_or : {X : Type 0} → X → List X → X
@@ -202,29 +155,15 @@ reading_of_memory word seen line =
 
 -- ---- what the code found in the words
 
-All-from_map : {X Y : Type 0} (P : Y → Type 0) (f : X → Y) (xs : List X) → All P (map f xs) → All (λ x. P (f x)) xs
-All-from_map P f [] all = All-nil (λ x. P (f x))
-All-from_map P f (x ∷ xs) all =
-    All-cons (λ y. P (f y)) x xs (All-head P (f x) (map f xs) all) (All-from_map P f xs (All-tail P (f x) (map f xs) all))
-
--- the words, seen as texts, taken apart
-pub parts_of_words : {X : Type 0} (f : X → List ℕ) (words : List X) (d e : X) (port : ℕ) → 1 ≤ length words → 1 ≤ length (rest_of words)
-    → WritesPort (f (get_or words 0 d)) port → AreParts (map f words) port (map f (between_of words)) (f (last_of words e))
-parts_of_words f words d e port one two port_written = record {
-  first = f (get_or words 0 d);
-  words_are = words-by_parts f words d e (map f words) refl one two;
-  port_written = port_written;
-}
-
 -- a line that has no parts has a fault
-pub no_parts : {M X : Type 0} (word : M → List ℕ) → AreApart word → (seen : X → ℕ × List ℕ × M) (line : List ℕ) (words : List (List ℕ)) (fault : LineFault)
-    → words ≡ words_of line → AreNoParts words fault → IsReading word line seen (Err fault)
-no_parts word apart seen line words fault all (inl none) =
+pub no_parts : {M X : Type 0} (word : M → List ℕ) → AreApart word → (seen : X → ℕ × List ℕ × M) (line : List ℕ) (fault : LineFault)
+    → AreNoParts (words_of line) fault → IsReading word line seen (Err fault)
+no_parts word apart seen line fault (inl none) =
     subst (λ (f : LineFault). IsReading word line seen (Err f)) (sym none.0)
-    (reading_of_fault word apart seen line NoPort (λ has. none.1 has.first has.rest (all ∙ has.words) has.is_port))
-no_parts word apart seen line words fault all (inr bad) =
+    (reading_of_fault word apart seen line NoPort (λ has. none.1 has.first has.rest has.words has.is_port))
+no_parts word apart seen line fault (inr bad) =
     let first = bad.1.0 in
-    let one : words_of line ≡ first ∷ [] = sym all ∙ bad.1.1 in
+    let one : words_of line ≡ first ∷ [] = bad.1.1 in
     subst (λ (f : LineFault). IsReading word line seen (Err f)) (sym bad.0)
     (reading_of_fault word apart seen line BadMarker (
       record { first = first; rest = []; words = one; is_port = bad.1.2 },
@@ -232,11 +171,11 @@ no_parts word apart seen line words fault all (inr bad) =
     ))
 
 -- the last word is the word of no mark
-pub bad_mark : {M X : Type 0} (word : M → List ℕ) → AreApart word → (seen : X → ℕ × List ℕ × M) (line : List ℕ) (words : List (List ℕ))
+pub bad_mark : {M X : Type 0} (word : M → List ℕ) → AreApart word → (seen : X → ℕ × List ℕ × M) (line : List ℕ)
     (port : ℕ) (between : List (List ℕ)) (last : List ℕ) (fault : LineFault)
-    → words ≡ words_of line → AreParts words port between last → IsNoMark word last fault → IsReading word line seen (Err fault)
-bad_mark word apart seen line words port between last fault all parts none =
-    let whole = sym all ∙ parts.words_are in
+    → AreParts (words_of line) port between last → IsNoMark word last fault → IsReading word line seen (Err fault)
+bad_mark word apart seen line port between last fault parts none =
+    let whole = parts.words_are in
     subst (λ (f : LineFault). IsReading word line seen (Err f)) (sym none.0)
     (reading_of_fault word apart seen line BadMarker (
       record { first = parts.first; rest = between ++ last ∷ []; words = whole; is_port = parts.port_written.0 },
@@ -246,59 +185,59 @@ bad_mark word apart seen line words port between last fault all parts none =
     ))
 
 -- the words of a line are of the form, and so many words between write these bytes
-marked_line : {M X : Type 0} (word : M → List ℕ) (f : X → List ℕ) (line : List ℕ) (words : List (List ℕ)) (port : ℕ) (between : List X)
-    (last bytes : List ℕ) (mark : M) → words ≡ words_of line → AreParts words port (map f between) last → last ≡ word mark
-    → All (λ x. IsHex (f x)) between → bytes ≡ flat_map (λ x. bytes_written (f x)) between → IsMarkedLine word line port bytes mark
-marked_line word f line words port between last bytes mark all parts marker hex written = record {
+marked_line : {M : Type 0} (word : M → List ℕ) (line : List ℕ) (port : ℕ) (between : List (List ℕ))
+    (last bytes : List ℕ) (mark : M) → AreParts (words_of line) port between last → last ≡ word mark → WriteBytes between bytes
+    → IsMarkedLine word line port bytes mark
+marked_line word line port between last bytes mark parts marker written = record {
   first = parts.first;
-  between = map f between;
-  words = sym all ∙ parts.words_are ∙ ap (λ text. parts.first ∷ (map f between ++ text ∷ [])) marker;
+  between = between;
+  words = parts.words_are ∙ ap (λ text. parts.first ∷ (between ++ text ∷ [])) marker;
   is_port = parts.port_written.0;
-  is_hex = All-map IsHex f between hex;
+  is_hex = written.0;
   port_written = parts.port_written.1;
-  bytes_joined = written ∙ sym (flat_map-map bytes_written f between);
+  bytes_joined = written.1;
 }
 
-not_hex : {M X : Type 0} (word : M → List ℕ) (f : X → List ℕ) (line : List ℕ) (words : List (List ℕ)) (port : ℕ) (between : List X)
-    (last : List ℕ) (mark : M) → words ≡ words_of line → AreParts words port (map f between) last → last ≡ word mark
-    → ¬ All (λ x. IsHex (f x)) between → HasFault word line BadHex
-not_hex word f line words port between last mark all parts marker other =
-    let whole = sym all ∙ parts.words_are in
-    let marked = whole ∙ ap (λ text. parts.first ∷ (map f between ++ text ∷ [])) marker in (
-      record { first = parts.first; rest = map f between ++ last ∷ []; words = whole; is_port = parts.port_written.0 },
-      record { first = parts.first; between = map f between; mark = mark; words = marked },
+not_hex : {M : Type 0} (word : M → List ℕ) (line : List ℕ) (port : ℕ) (between : List (List ℕ))
+    (last : List ℕ) (mark : M) → AreParts (words_of line) port between last → last ≡ word mark
+    → ¬ All IsHex between → HasFault word line BadHex
+not_hex word line port between last mark parts marker other =
+    let whole = parts.words_are in
+    let marked = whole ∙ ap (λ text. parts.first ∷ (between ++ text ∷ [])) marker in (
+      record { first = parts.first; rest = between ++ last ∷ []; words = whole; is_port = parts.port_written.0 },
+      record { first = parts.first; between = between; mark = mark; words = marked },
       λ has.
           let heads = unfolding-heads [] parts.first has.first _ _ (sym whole ∙ has.words) in
-          let same = snoc_parts (map f between) has.between last has.last heads.1 in
-          other (All-from_map IsHex f between (All-same IsHex (map f between) has.between same.0 has.is_hex)),
+          let same = snoc_parts between has.between last has.last heads.1 in
+          other (All-same IsHex between has.between same.0 has.is_hex),
     )
 
 -- the words between write the bytes of no packet
-pub no_bytes : {M X : Type 0} (word : M → List ℕ) → AreApart word → (seen : X → ℕ × List ℕ × M) (line : List ℕ) (words : List (List ℕ))
-    (port : ℕ) (between : List (Bor (List ℕ))) (last : List ℕ) (mark : M) (fault : LineFault)
-    → words ≡ words_of line → AreParts words port (map (λ text. text.now) between) last → last ≡ word mark → IsBytesFault between fault
+pub no_bytes : {M X : Type 0} (word : M → List ℕ) → AreApart word → (seen : X → ℕ × List ℕ × M) (line : List ℕ)
+    (port : ℕ) (between : List (List ℕ)) (last : List ℕ) (mark : M) (fault : LineFault)
+    → AreParts (words_of line) port between last → last ≡ word mark → IsBytesFault between fault
     → IsReading word line seen (Err fault)
-no_bytes word apart seen line words port between last mark fault all parts marker (inl (inl none)) =
+no_bytes word apart seen line port between last mark fault parts marker (inl (inl none)) =
     subst (λ (f : LineFault). IsReading word line seen (Err f)) (sym none) (reading_of_memory word seen line)
-no_bytes word apart seen line words port between last mark fault all parts marker (inl (inr bad)) =
+no_bytes word apart seen line port between last mark fault parts marker (inl (inr bad)) =
     subst (λ (f : LineFault). IsReading word line seen (Err f)) (sym bad.0)
-    (reading_of_fault word apart seen line BadHex (not_hex word (λ text. text.now) line words port between last mark all parts marker bad.1))
-no_bytes word apart seen line words port between last mark fault all parts marker (inr long) =
+    (reading_of_fault word apart seen line BadHex (not_hex word line port between last mark parts marker bad.1))
+no_bytes word apart seen line port between last mark fault parts marker (inr long) =
     let many = long.1 in
     subst (λ (f : LineFault). IsReading word line seen (Err f)) (sym long.0)
     (reading_of_fault word apart seen line TooLong (record {
       port = port;
       bytes = many.bytes;
       mark = mark;
-      reading = marked_line word (λ text. text.now) line words port between last many.bytes mark all parts marker many.written.0 many.written.1;
+      reading = marked_line word line port between last many.bytes mark parts marker many.written;
       long = many.long;
     }))
 
 -- the words of a line, and what was made of them
-pub reading_of_words : {M X : Type 0} (word : M → List ℕ) → AreApart word → (seen : X → ℕ × List ℕ × M) (line : List ℕ) (words : List (List ℕ))
-    (between : List (Bor (List ℕ))) (last : List ℕ) (x : X)
-    → words ≡ words_of line → AreParts words (seen x).0 (map (λ text. text.now) between) last → last ≡ word (seen x).2
+pub reading_of_words : {M X : Type 0} (word : M → List ℕ) → AreApart word → (seen : X → ℕ × List ℕ × M) (line : List ℕ)
+    (between : List (List ℕ)) (last : List ℕ) (x : X)
+    → AreParts (words_of line) (seen x).0 between last → last ≡ word (seen x).2
     → WriteBytes between (seen x).1 → length (seen x).1 ≤ 4200 → IsReading word line seen (Ok x)
-reading_of_words word apart seen line words between last x all parts marker written short =
+reading_of_words word apart seen line between last x parts marker written short =
     reading_of_line word apart seen line x
-    (marked_line word (λ text. text.now) line words (seen x).0 between last (seen x).1 (seen x).2 all parts marker written.0 written.1) short
+    (marked_line word line (seen x).0 between last (seen x).1 (seen x).2 parts marker written) short

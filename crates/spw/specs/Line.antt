@@ -1,7 +1,6 @@
 -- Lines of a text, and packet lines: their words, what the words write, and which fault a line has.
 use Rattle.std.specs.Prelude.{◌≡◌, ◌≢◌, ℕ, ◌+◌, ◌*◌, ◌%◌, ◌<◌, ◌≤◌, ◌==◌, ◌⊎◌, not, cond, List, [], ◌∷◌, ◌++◌, length}
 use Rattle.std.specs.Prelude.{filter, codes, All, Option, Some, None, Result, Err, IfOk, IfErr, MatchResult}
-use Rattle.std.specs.Borrow.{Bor}
 use Rattle.std.specs.Char.{digit_value}
 use Rattle.std.specs.List.{slice_split, flat_map, onto_first}
 use Rattle.std.specs.Str.Parse.{AllDigits, IsNumeral, digits_value}
@@ -57,29 +56,24 @@ bytes_written [] = []
 bytes_written (digit ∷ []) = []
 bytes_written (high ∷ low ∷ digits) = (digit_value high * 16 + digit_value low) ∷ bytes_written digits
 
--- the word writes these bytes
-abbrev pub WritesBytes : List ℕ → List ℕ → Type 0
-WritesBytes word bytes = IsHex word × (bytes ≡ bytes_written word)
-
 -- the words write these bytes, one after the other
-abbrev pub WriteBytes : List (Bor (List ℕ)) → List ℕ → Type 0
-WriteBytes words bytes = All (λ word. IsHex word.now) words × (bytes ≡ flat_map (λ word. bytes_written word.now) words)
+abbrev pub WriteBytes : List (List ℕ) → List ℕ → Type 0
+WriteBytes words bytes = All IsHex words × (bytes ≡ flat_map bytes_written words)
 
 -- the fault of what is not hexadecimal; or memory was refused
 abbrev pub IsHexFault : (hexadecimal : Type 0) → LineFault → Type 0
 IsHexFault hexadecimal fault = (fault ≡ Memory) ⊎ ((fault ≡ BadHex) × ¬ hexadecimal)
 
 -- the bytes that some words write are too many for a packet
-pub record AreTooMany (words : List (Bor (List ℕ))) : Type 0 where
+pub record AreTooMany (words : List (List ℕ)) : Type 0 where
   pub bytes : List ℕ
   pub written : WriteBytes words bytes
   pub long : MAX_PACKET < length bytes
 
 -- why some words write the bytes of no packet: memory was refused, they are not hexadecimal, or there are too
 -- many
-abbrev pub IsBytesFault : List (Bor (List ℕ)) → LineFault → Type 0
-IsBytesFault words fault =
-    IsHexFault (All (λ word. IsHex word.now) words) fault ⊎ ((fault ≡ TooLong) × AreTooMany words)
+abbrev pub IsBytesFault : List (List ℕ) → LineFault → Type 0
+IsBytesFault words fault = IsHexFault (All IsHex words) fault ⊎ ((fault ≡ TooLong) × AreTooMany words)
 
 -- the words are one of a port, which writes this number, others, and a last one
 pub record AreParts (words : List (List ℕ)) (port : ℕ) (between : List (List ℕ)) (last : List ℕ) : Type 0 where

@@ -1,6 +1,7 @@
 //! Packets that arrive in pieces.
 
 ghost use Rattle.std.specs.Prelude.{◌≡◌, ◌<◌, ◌+◌, ◌↔◌, ◌++◌, [], length, IsErrOf, IfOk, IfErr, OnOk, OnErr};
+ghost use Rattle.std.specs.Bool.{Decides};
 ghost use Rattle.spw.specs.Feeding.{PacketIsJoin};
 
 use crate::faults::LineFault;
@@ -36,6 +37,13 @@ impl Feed {
     {
         let held = BytesMut::with_capacity(alloc, MAX_PACKET)?;
         Ok(Feed { held, alloc })
+    }
+
+    /// Whether nothing is held.
+    pub fn is_empty(&self) -> bool
+        ensures { Decides result (self.now ≡ []) }
+    {
+        self.held.is_empty()
     }
 
     /// Takes a piece: it follows what is held. `TooLong` where they are together more than

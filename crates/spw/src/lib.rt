@@ -1,11 +1,13 @@
 //! SpaceWire packets, and the lines of text that write them.
 #![tactic(auto)]
 
+mod digits;
 mod faults;
 mod feed;
 mod lines;
 mod packets;
 mod text;
+mod words;
 mod written;
 
 pub use crate::faults::LineFault;

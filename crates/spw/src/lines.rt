@@ -1,10 +1,12 @@
 //! Packet lines: text that writes a port, the bytes of a packet and its end marker.
 
 ghost use Rattle.std.specs.Prelude.{◌≡◌, ◌≤◌, ◌++◌, map, length, All, IfOk, IfErr, OnOk, MatchResult};
-ghost use Rattle.spw.specs.Line.{words_of as words_in, AreNoParts, AreParts, IsBytesFault, IsHex, IsHexFault, IsNoMark, IsNoPort, IsReading, IsUnambiguous, WriteBytes, WritesBytes, WritesPort, mark_word, marker_word};
+ghost use Rattle.spw.specs.Line.{words_of as words_in, AreNoParts, AreParts, IsBytesFault, IsHex, IsHexFault, IsNoMark, IsNoPort, IsReading, IsUnambiguous, WriteBytes, WritesPort, bytes_written, mark_word, marker_word};
 
+use crate::digits::append_pairs;
 use crate::faults::LineFault;
 use crate::packets::{End, MAX_PACKET, Packet};
+use crate::words::{first_word, last_word};
 use std::alloc::{AllocError, Global};
 
 /// How many ports there are: their numbers are 0 to 31.
@@ -36,23 +38,16 @@ pub fn read_port(word: &str) -> Result<u8, LineFault>
     }
 }
 
-/// A port, the words between, and the last word of a line.
-type Parts<'w, 'a> = (u8, &'w [&'a str], &'a str);
-
-/// The words of a line taken apart: the port that the first writes, those between, and the last. `NoPort`
-/// where the first writes none, or there is none; `BadMarker` where there is no other.
-fn parts_of<'w, 'a>(words: &'w [&'a str]) -> Result<Parts<'w, 'a>, LineFault>
+/// A line taken apart: the port that its first word writes, the text between that word and the last, and the
+/// last word. `NoPort` where the first word writes none, or there is none; `BadMarker` where there is no other.
+fn parts_of(line: &str) -> Result<(u8, &str, &str), LineFault>
     ensures { MatchResult result
-        (λ p. AreParts (map (λ word. word.now) words.now) p.0 (map (λ word. word.now) p.1.now) p.2.now)
-        (AreNoParts (map (λ word. word.now) words.now)) }
+        (λ p. AreParts (words_in line.now) p.0 (words_in p.1.now) p.2.now)
+        (AreNoParts (words_in line.now)) }
 {
-    let [port, rest @ ..] = words else {
-        return Err(LineFault::NoPort);
-    };
+    let (port, rest) = first_word(line).ok_or(LineFault::NoPort)?;
     let port = read_port(port)?;
-    let [hex @ .., last] = rest else {
-        return Err(LineFault::BadMarker);
-    };
+    let (hex, last) = last_word(rest).ok_or(LineFault::BadMarker)?;
     Ok((port, hex, last))
 }
 
@@ -77,40 +72,42 @@ fn mark_of(word: &str) -> Result<Option<End>, LineFault>
     }
 }
 
-/// The bytes that a word of hexadecimal digits writes.
-fn bytes_of_word(alloc: Global, word: &str) -> Result<Vec<u8>, LineFault>
-    ensures { MatchResult result (λ b. WritesBytes word.now b.items) (IsHexFault (IsHex word.now)) }
+/// Puts the bytes that a word of hexadecimal digits writes behind others.
+fn append_word(bytes: &mut Vec<u8>, word: &str) -> Result<(), LineFault>
+    ensures ok { OnOk result
+        (IsHex word.now × (bytes.new.items ≡ bytes.old.items ++ bytes_written word.now)) }
+    ensures err { IfErr result (IsHexFault (IsHex word.now)) }
 {
-    Ok(hex::decode(alloc, word)?)
-}
-
-/// Puts bytes behind others. Behind none they are taken as they are, so that a packet of one word is not copied.
-fn append(bytes: &mut Vec<u8>, more: Vec<u8>) -> Result<(), AllocError>
-    ensures { OnOk result (bytes.new.items ≡ bytes.old.items ++ more.items) }
-{
-    if bytes.is_empty() {
-        *bytes = more;
-        return Ok(());
+    let (pairs, odd) = word.as_bytes().as_chunks::<2>();
+    if !odd.is_empty() {
+        return Err(LineFault::BadHex);
     }
-    bytes.extend_from_slice(more.as_slice())
+    if append_pairs(bytes, pairs)? {
+        Ok(())
+    } else {
+        Err(LineFault::BadHex)
+    }
 }
 
-/// The bytes that some words write, joined.
-fn bytes_of(alloc: Global, words: &[&str]) -> Result<Vec<u8>, LineFault>
-    ensures ok { IfOk result (λ bytes. WriteBytes words.now bytes.items) }
-    ensures err { IfErr result (IsHexFault (All (λ word. IsHex word.now) words.now)) }
+/// The bytes that the words of a text write, joined.
+fn bytes_of(alloc: Global, text: &str) -> Result<Vec<u8>, LineFault>
+    ensures ok { IfOk result (λ bytes. WriteBytes (words_in text.now) bytes.items) }
+    ensures err { IfErr result (IsHexFault (All IsHex (words_in text.now))) }
 {
-    let mut bytes = Vec::new(alloc);
-    for word in words {
-        append(&mut bytes, bytes_of_word(alloc, word)?)?;
+    let mut bytes = Vec::with_capacity(alloc, text.len() / 2)?;
+    let mut rest = text;
+    while let Some((word, behind)) = first_word(rest) {
+        append_word(&mut bytes, word)?;
+        rest = behind;
     }
     Ok(bytes)
 }
 
-/// The bytes of a packet, or of a piece of one, that some words write: at most [`MAX_PACKET`].
-fn packet_bytes(alloc: Global, hex: &[&str]) -> Result<Vec<u8>, LineFault>
+/// The bytes of a packet, or of a piece of one, that the words of a text write: at most [`MAX_PACKET`].
+fn packet_bytes(alloc: Global, hex: &str) -> Result<Vec<u8>, LineFault>
     ensures { MatchResult result
-        (λ bytes. WriteBytes hex.now bytes.items × (length bytes.items ≤ MAX_PACKET)) (IsBytesFault hex.now) }
+        (λ bytes. WriteBytes (words_in hex.now) bytes.items × (length bytes.items ≤ MAX_PACKET))
+        (IsBytesFault (words_in hex.now)) }
 {
     let bytes = bytes_of(alloc, hex)?;
     if bytes.len() > MAX_PACKET {
@@ -131,8 +128,7 @@ fn packet_bytes(alloc: Global, hex: &[&str]) -> Result<Vec<u8>, LineFault>
 pub fn read_line(alloc: Global, line: &str) -> Result<(u8, Packet), LineFault>
     ensures { IsReading marker_word line.now (λ r. (r.0, r.1.bytes, r.1.end)) result }
 {
-    let words = words_of(alloc, line)?;
-    let (port, hex, last) = parts_of(words.as_slice())?;
+    let (port, hex, last) = parts_of(line)?;
     let end = end_of(last)?;
     let bytes = packet_bytes(alloc, hex)?;
     Ok((port, Packet::new(bytes, end)?))
@@ -145,8 +141,7 @@ pub fn read_line(alloc: Global, line: &str) -> Result<(u8, Packet), LineFault>
 pub fn read_part(alloc: Global, line: &str) -> Result<(u8, Vec<u8>, Option<End>), LineFault>
     ensures { IsReading mark_word line.now (λ r. (r.0, r.1.items, r.2)) result }
 {
-    let words = words_of(alloc, line)?;
-    let (port, hex, last) = parts_of(words.as_slice())?;
+    let (port, hex, last) = parts_of(line)?;
     let mark = mark_of(last)?;
     let bytes = packet_bytes(alloc, hex)?;
     Ok((port, bytes, mark))

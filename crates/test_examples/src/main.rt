@@ -5,7 +5,7 @@
 #![tactic(auto)]
 
 use anyhow::{Result, anyhow};
-use commands::{HostFiles, Job, perform, words};
+use commands::{HostFiles, Job, Work, perform, words};
 use std::alloc::Global;
 use std::io::{self, Write};
 use std::sync::Wait;
@@ -15,7 +15,10 @@ use std::{fs, rt};
 /// The job that a line names.
 fn job_of(alloc: Global, line: &str) -> Result<Job> {
     let list: Vec<&str> = line.split(' ').collect(alloc)?;
-    words(alloc, list.as_slice()).map_err(|fault| anyhow!("{line}: {fault}"))
+    match words(alloc, list.as_slice()).map_err(|fault| anyhow!("{line}: {fault}"))? {
+        Work::Once(job) => Ok(job),
+        Work::Live(_) => Err(anyhow!("{line}: a talk")),
+    }
 }
 
 /// Does the job that a line names, which has to succeed.

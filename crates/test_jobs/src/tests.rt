@@ -1,9 +1,11 @@
-//! Jobs whose writer fails, jobs to which memory is refused, schedules beside packets in order, the line of a report, and
-//! codes.
+//! Jobs whose writer fails, jobs to which memory is refused, schedules beside packets in order, the line of a report,
+//! tables on which `decide` and `judge` agree, and codes.
 
 mod checks;
 mod codes;
+mod decides;
 mod reports;
 mod schedules;
 mod serves;
+mod talks;
 mod writers;

@@ -24,6 +24,7 @@ use Rattle.job_texts.specs.Disassembled.{IsNotPrinted}
 use Rattle.job_nodes.specs.Judged.{IsNotJudged}
 use Rattle.job_nodes.specs.Simulated.{IsNotSimulated}
 use Rattle.job_ports.specs.ServedFile.{IsNotServed}
+use Rattle.job_trace.specs.Traced.{IsNotTraced}
 use Rattle.commands.specs.Performed.{IsDone, IsEnded, Performs, TellsNone}
 use Rattle.commands.specs.declared.jobs.Job.{Job}
 use Rattle.commands.specs.declared.jobs.Job.TheVariants.{
@@ -38,7 +39,10 @@ use Rattle.commands.specs.declared.jobs.Job.TheVariants.{
   Why,
   Packet,
   Show,
+  Decide,
+  Trace,
 }
+use Rattle.test_kit_jobs.proofs.DecidesLeft.{decided, undecided}
 use Rattle.test_kit_jobs.proofs.PacketsLeft.{made, unmade, unshown}
 use Rattle.test_kit_jobs.specs.Folders.{FolderReads, FolderValue, FolderWrites, Sets}
 use Rattle.test_kit_jobs.specs.Jobs.{AssemblesIn, CompilesIn, Leaves}
@@ -110,6 +114,11 @@ unsimulated : (args : LinesArgs) (before after : FolderValue) (old new : Option 
 unsimulated args before after old new fault (inl is) = unready args before after fault is.1
 unsimulated args before after old new fault (inr stops) = given_all args before stops.text stops.program after stops.given
 
+untraced : (args : LinesArgs) (before after : FolderValue) (old new : Option (List ℕ)) (fault : Fault)
+    → IsNotTraced FolderReads args before after old new fault → after ≡ before
+untraced args before after old new fault (inl is) = unready args before after fault is.1
+untraced args before after old new fault (inr stops) = given_all args before stops.text stops.program after stops.given
+
 unserved : (args : LinesArgs) (before after : FolderValue) (fault : Fault) → IsNotServed FolderReads args before after fault → after ≡ before
 unserved args before after fault (inl is) = unready args before after fault is
 unserved args before after fault (inr bad) = given_all args before bad.text bad.program after bad.given
@@ -177,6 +186,8 @@ done_leaves (Explain words) before after old new done = done.0
 done_leaves (Why args) before after old new done = done.image.read.0
 done_leaves (Packet words) before after old new done = made words before _ after done.made
 done_leaves (Show words) before after old new done = done.read.0
+done_leaves (Decide words) before after old new done = decided words before done.text done.rules after done.given
+done_leaves (Trace args) before after old new done = given_all args before done.text done.program after done.given
 
 -- a job that a fault ended
 ended_leaves : (job : Job) (before after : FolderValue) (old new : Option (List ℕ)) (fault : Fault)
@@ -192,6 +203,8 @@ ended_leaves (Explain words) before after old new fault ended = ended.1
 ended_leaves (Why args) before after old new fault ended = unfit before _ args.sizes after fault ended.0
 ended_leaves (Packet words) before after old new fault ended = unmade words before after fault ended.0
 ended_leaves (Show words) before after old new fault ended = unshown before _ after old new fault ended
+ended_leaves (Decide words) before after old new fault ended = undecided words before after old new fault ended
+ended_leaves (Trace args) before after old new fault ended = untraced args before after old new fault ended
 
 -- a job that made nothing
 none_leaves : (job : Job) (before after : FolderValue) (old new : Option (List ℕ))
@@ -207,6 +220,8 @@ none_leaves (Explain words) before after old new none = absurd none
 none_leaves (Why args) before after old new none = absurd none
 none_leaves (Packet words) before after old new none = made words before _ after none.unmade
 none_leaves (Show words) before after old new none = absurd none
+none_leaves (Decide words) before after old new none = absurd none
+none_leaves (Trace args) before after old new none = absurd none
 
 -- what a job that ended with this status leaves
 pub performed_leaves : (job : Job) (before after : FolderValue) (old new : Option (List ℕ)) (status : ℕ)

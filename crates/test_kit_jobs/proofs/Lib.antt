@@ -1,3 +1,4 @@
 mod Left
 mod NewestSheet
+mod DecidesLeft
 mod PacketsLeft

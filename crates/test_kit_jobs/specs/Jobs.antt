@@ -15,6 +15,8 @@ use Rattle.commands.specs.declared.jobs.Job.TheVariants.{
   Why,
   Packet,
   Show,
+  Decide,
+  Trace,
 }
 use Rattle.machine.specs.Sizes.{Maps}
 use Rattle.policy.specs.Compiled.{IsCompiled}
@@ -58,3 +60,5 @@ Leaves (Explain words) before after status = after ≡ before
 Leaves (Why words) before after status = after ≡ before
 Leaves (Packet words) before after status = after ≡ before
 Leaves (Show words) before after status = after ≡ before
+Leaves (Decide words) before after status = after ≡ before
+Leaves (Trace args) before after status = after ≡ before

@@ -4,10 +4,18 @@ ghost use Rattle.std.specs.Prelude.{IfOk};
 ghost use Rattle.test_kit_jobs.specs.Jobs.{Leaves};
 
 use crate::folder::Folder;
-use commands::{Job, WriteFault, perform};
+use commands::{Job, UsageFault, Work, WriteFault, perform, words};
 use std::alloc::Global;
 use std::sync::Wait;
 use std::thread::Threads;
+
+/// The job over files that the words name; `BadOption` also where they name a talk.
+pub fn job_named(alloc: Global, named: &[&str]) -> Result<Job, UsageFault> {
+    match words(alloc, named)? {
+        Work::Once(job) => Ok(job),
+        Work::Live(_) => Err(UsageFault::BadOption),
+    }
+}
 
 /// Does a job over the files of a folder, and gives what it printed and the exit status.
 #[tactic(auto, using(crate::proofs::Left::performed_leaves))]

@@ -4,7 +4,9 @@
 mod folder;
 mod jobs;
 mod outcomes;
+mod talks;
 
 pub use folder::{Folder, LOCKED};
-pub use jobs::perform_in;
+pub use jobs::{job_named, perform_in};
 pub use outcomes::{folder_of, judged};
+pub use talks::live_in;

@@ -1,8 +1,8 @@
 //! Folders of files, and what `judge` prints, for tests.
 
 use crate::folder::Folder;
-use crate::jobs::perform_in;
-use commands::{Cannot, Files, words};
+use crate::jobs::{job_named, perform_in};
+use commands::{Cannot, Files};
 use std::alloc::Global;
 use std::sync::Wait;
 use std::test::Fail;
@@ -23,7 +23,7 @@ pub fn judged<R: Threads + Wait + Sync>(
     alloc: Global,
     lines: &str,
 ) -> Result<(String, u8), Fail> {
-    let job = words(alloc, &["judge", "lines"])?;
+    let job = job_named(alloc, &["judge", "lines"])?;
     let files = [("lines", lines.as_bytes())];
     let mut folder = folder_of(alloc, &files).map_err(|_| "no folder")?;
     let (out, status) = perform_in(rt, alloc, &job, &mut folder)?;

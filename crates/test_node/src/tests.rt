@@ -7,3 +7,4 @@ mod full_journals;
 mod journals;
 mod nodes;
 mod pages;
+mod single_nodes;

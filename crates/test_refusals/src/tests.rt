@@ -8,5 +8,6 @@ mod making;
 mod marks;
 mod programs;
 mod serving;
+mod single_nodes;
 mod sizes;
 mod worlds;

@@ -3,12 +3,12 @@
 use crate::parts::{Head, Part, head_of};
 use crate::spelling::words_of;
 use anyhow::{Result, anyhow};
-use commands::{Files, UsageFault, words};
+use commands::{Files, UsageFault, Work, words};
 use std::alloc::Global;
 use std::io::Write;
 use std::sync::Wait;
 use std::thread::Threads;
-use test_kit_jobs::{Folder, perform_in};
+use test_kit_jobs::{Folder, live_in, perform_in};
 
 /// A job that was done: where it stands, what it printed, and its exit status.
 #[derive(Drop)]
@@ -183,15 +183,14 @@ impl<'a> Bench<'a> {
         if let Some(name) = line.strip_prefix("hex ") {
             return Ok((self.digits(name)?, 0));
         }
-        match words(self.alloc, &words_of(self.alloc, line)?) {
-            Ok(job) => {
-                let (printed, status) = perform_in(rt, self.alloc, &job, &mut self.folder).map_err(
-                    |_| anyhow!("the writer failed"),
-                )?;
-                Ok((String::from_utf8(printed)?, status))
-            }
-            Err(fault) => told(self.alloc, &fault),
-        }
+        let folder = &mut self.folder;
+        let done = match words(self.alloc, &words_of(self.alloc, line)?) {
+            Ok(Work::Once(job)) => perform_in(rt, self.alloc, &job, folder),
+            Ok(Work::Live(node)) => live_in(self.alloc, &node, folder),
+            Err(fault) => return told(self.alloc, &fault),
+        };
+        let (printed, status) = done.map_err(|_| anyhow!("the writer failed"))?;
+        Ok((String::from_utf8(printed)?, status))
     }
 
     /// What comes of the words, between whose jobs there may be ` | `: then what a job prints is the standard input of the

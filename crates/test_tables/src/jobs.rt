@@ -1,12 +1,12 @@
 //! Jobs over files in memory.
 
 use basm::assemble;
-use commands::{Files, Job, words};
+use commands::{Files, Job};
 use std::alloc::Global;
 use std::sync::Wait;
 use std::test::Fail;
 use std::thread::Threads;
-use test_kit_jobs::{Folder, folder_of, perform_in};
+use test_kit_jobs::{Folder, folder_of, job_named, perform_in};
 
 /// The name of the file of packet lines, events or rules.
 const INPUT: &str = "input";
@@ -68,7 +68,7 @@ impl<'a> Given<'a> {
 
     /// What the job prints, or what is told of words that name none; behind it the exit status where that is not 0.
     pub fn printed<R: Threads + Wait + Sync>(&self, rt: &R, alloc: Global) -> Result<String, Fail> {
-        let (printed, status) = match words(alloc, self.line(alloc)?.as_slice()) {
+        let (printed, status) = match job_named(alloc, self.line(alloc)?.as_slice()) {
             Ok(job) => performed(rt, alloc, &job, &mut self.files(alloc)?)?,
             Err(fault) => (format!(in alloc; "{fault}")?, fault.status()),
         };

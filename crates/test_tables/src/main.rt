@@ -10,6 +10,7 @@ mod images;
 mod insns;
 mod jobs;
 mod packets;
+mod parts;
 mod peaks;
 mod pieces;
 mod policies;
@@ -65,5 +66,7 @@ fn main(rt: HostRuntime) -> Result<(), Fail> {
         peaks::printed(&rt, alloc, given)
     })?;
     let printed = replies::printed(&rt, rt.alloc())?;
+    compare_lines(&rt, &mut out, "replies.txt", &printed)?;
+    let printed = parts::printed(&rt)?;
     compare_lines(&rt, &mut out, "replies.txt", &printed)
 }

@@ -5,8 +5,8 @@ use bpf::Image;
 use bver::{Accepted, MapSizes, Refusal, verify};
 use std::alloc::Global;
 use std::test::Fail;
+use stepper::{Ending, run};
 use test_kit::{FRONT, Row, TAIL, by_turns, hexadecimals, image_of_text, sizes, verdict};
-use test_machine::{Ending, run};
 
 /// The answers to the questions of a run by an image, in turn.
 const ANSWERS: &str = "\

@@ -1,13 +1,12 @@
 //! Programs in both versions of the format.
 
 use crate::jobs::performed;
-use commands::words;
 use std::alloc::Global;
 use std::sync::Wait;
 use std::test::Fail;
 use std::thread::Threads;
 use test_kit::Row;
-use test_kit_jobs::{Folder, folder_of};
+use test_kit_jobs::{Folder, folder_of, job_named};
 
 /// The name of the file of the text.
 const TEXT: &str = "text";
@@ -25,7 +24,7 @@ fn done<R: Threads + Wait + Sync>(
     folder: &mut Folder,
     line: &[&str],
 ) -> Result<String, Fail> {
-    let job = words(alloc, line).map_err(|_| "no job")?;
+    let job = job_named(alloc, line).map_err(|_| "no job")?;
     let (printed, _) = performed(rt, alloc, &job, folder)?;
     Ok(printed)
 }

@@ -7,8 +7,8 @@ use bver::{MapSizes, verify};
 use std::alloc::Global;
 use std::process::Abort;
 use std::test::Fail;
+use stepper::Ending;
 use test_kit::{FRONT, Random, TAIL, verdict};
-use test_machine::Ending;
 
 /// How many programs are made.
 const PROGRAMS: u64 = 400;
@@ -45,7 +45,7 @@ fn agrees(
         return Ok(false);
     };
     let port = random.below(32) as u8;
-    let slow = test_machine::run(image, &none, &FRONT, &TAIL, port, &[], 65_536);
+    let slow = stepper::run(image, &none, &FRONT, &TAIL, port, &[], 65_536);
     let fast = verdict(alloc, &program, port, 0xa5)?;
     same(rt, "a seed", (seed, slow), (seed, Ending::Verdict(fast)));
     Ok(true)

@@ -14,8 +14,8 @@ use machine::MapKind;
 use std::alloc::{AllocError, Global};
 use std::process::Abort;
 use std::test::Fail;
+use stepper::Ending;
 use test_kit::{FRONT, Random, TAIL, by_turns};
-use test_machine::Ending;
 
 /// How many programs are made.
 const PROGRAMS: u64 = 300;
@@ -162,7 +162,7 @@ fn agrees(rt: &impl Abort, alloc: Global, seed: u64) -> Result<bool, Fail> {
     let program = verify(alloc, image.copy()?, &sizes)?;
     let port = random.below(32) as u8;
     let answers = answers(alloc, &mut random)?;
-    let slow = test_machine::run(&image, &sizes, &FRONT, &TAIL, port, &answers, 65_536);
+    let slow = stepper::run(&image, &sizes, &FRONT, &TAIL, port, &answers, 65_536);
     let mut questions = String::new(alloc);
     let fast = by_turns(&program, port, &mut [0xa5; 512], &answers, &mut questions)?;
     let wanted = fast.map_or(Ending::Unanswered, Ending::Verdict);

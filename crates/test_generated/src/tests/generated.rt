@@ -8,8 +8,8 @@ use bver::{Accepted, MapSizes, verify};
 use std::alloc::Global;
 use std::process::Abort;
 use std::test::Fail;
+use stepper::{Ending, run};
 use test_kit::{FRONT, Random, TAIL};
-use test_machine::{Ending, run};
 
 const HEADERS: [([u8; 4], [u8; 12]); 3] = [
     (FRONT, TAIL),

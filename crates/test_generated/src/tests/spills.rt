@@ -14,8 +14,8 @@ use machine::Value;
 use std::alloc::{AllocError, Global};
 use std::process::Abort;
 use std::test::Fail;
+use stepper::{Machine, Outcome};
 use test_kit::{FRONT, Random, TAIL};
-use test_machine::{Machine, Outcome};
 
 /// How many programs are made.
 const PROGRAMS: u64 = 5_000;

@@ -3,8 +3,8 @@
 use crate::tests::checks::same;
 use bver::{Refusal, verify};
 use std::test::Fail;
+use stepper::{Ending, run};
 use test_kit::{FRONT, TAIL, by_turns, image_of_text, sizes};
-use test_machine::{Ending, run};
 
 /// Draws a ticket in its port's cell of two, and asks for the other's cell until that is past its own, at most
 /// 4,096 times. At another port it says no at once.

@@ -7,8 +7,8 @@ use bver::{Accepted, MapSizes, verify};
 use std::alloc::{AllocError, Global};
 use std::process::Abort;
 use std::test::Fail;
+use stepper::{Ending, run};
 use test_kit::turns_on;
-use test_machine::{Ending, run};
 
 /// `mov r0, 0; mov r6, 4; add r0, 1; add r6, -1; jne r6, 0, -3; exit`, loop (2, 4, 4, r6), budget 15.
 const COUNTDOWN: [u8; 72] = [

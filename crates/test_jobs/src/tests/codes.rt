@@ -5,7 +5,7 @@ use basm::AsmCode;
 use bpf::ImageFault;
 use bpf_insn::BadInsn;
 use bver::Refusal;
-use commands::{perform, words};
+use commands::perform;
 use policy::PolicyFault;
 use rmap::{Discard, Status};
 use spw::LineFault;
@@ -14,7 +14,7 @@ use std::process::Abort;
 use std::sync::Wait;
 use std::test::Fail;
 use std::thread::Threads;
-use test_kit_jobs::{folder_of, perform_in};
+use test_kit_jobs::{folder_of, job_named, perform_in};
 
 /// The letters of codes, in the order in which they are listed.
 const KINDS: [&str; 9] = [
@@ -50,8 +50,8 @@ fn explained(
     code: Option<&str>,
 ) -> Result<String, Fail> {
     let job = match code {
-        Some(code) => words(alloc, &["explain", code])?,
-        None => words(alloc, &["explain"])?,
+        Some(code) => job_named(alloc, &["explain", code])?,
+        None => job_named(alloc, &["explain"])?,
     };
     let mut folder = folder_of(alloc, &[]).map_err(|_| "no folder")?;
     let (out, status) = perform_in(rt, alloc, &job, &mut folder)?;
@@ -125,7 +125,8 @@ const UNSET: &[u8] = b"BPFA\x01\x00\x02\x00\x02\x00\x00\x00\x00\x00\x00\x00\
     \xbf\x40\x00\x00\x00\x00\x00\x00\x95\x00\x00\x00\x00\x00\x00\x00";
 
 /// How that begins which `why` prints of it.
-const WHOLE: &str = "refused V5 slot 0\nslot 0: mov r0, r4\n    On some way";
+const WHOLE: &str =
+    "refused V5 slot 0\nslot 0: mov r0, r4\n    r1 front+0, r2 tail+0, r3 0 to 31, r10 stack+0\n    On some way";
 
 /// Whether this may be printed where memory is refused: the whole, the fault alone, or a fault of memory.
 fn is_named(text: &str) -> bool {
@@ -139,7 +140,7 @@ fn is_named(text: &str) -> bool {
 /// What `why` prints of it, and the exit status; `None` where memory was refused to the words, to the folder or to the
 /// writer.
 fn told(rt: &(impl Threads + Wait + Sync), alloc: Global) -> Option<(String, u8)> {
-    let job = words(alloc, &["why", "unset"]).ok()?;
+    let job = job_named(alloc, &["why", "unset"]).ok()?;
     let mut folder = folder_of(alloc, &[("unset", UNSET)]).ok()?;
     let mut out = Vec::new(alloc);
     let status = perform(rt, alloc, &job, &mut folder, &mut out).ok()?;

@@ -1,7 +1,7 @@
-//! Schedules: `sim` beside `judge`, and memory that is refused to it.
+//! Schedules: `sim` and `trace` beside `judge`, and memory that is refused to `sim`.
 
 use crate::tests::checks::{check, same};
-use commands::{Files, perform, words};
+use commands::{Files, perform};
 use rcrc::crc;
 use std::alloc::{AllocError, Global};
 use std::process::Abort;
@@ -9,7 +9,7 @@ use std::sync::Wait;
 use std::test::Fail;
 use std::thread::Threads;
 use test_kit::Random;
-use test_kit_jobs::{Folder, folder_of, perform_in};
+use test_kit_jobs::{Folder, folder_of, job_named, perform_in};
 
 /// A program that lets the first hundred commands pass.
 const QUOTA: &str =
@@ -113,7 +113,7 @@ fn folder<'a>(
         ("text", QUOTA.as_bytes()),
     ];
     let mut folder = folder_of(alloc, &files).map_err(|_| "no folder")?;
-    let job = words(alloc, &["asm", "text", "quota"])?;
+    let job = job_named(alloc, &["asm", "text", "quota"])?;
     let (_, status) = perform_in(rt, alloc, &job, &mut folder)?;
     if status == 0 {
         Ok(folder)
@@ -132,7 +132,7 @@ fn printed<'a>(
 ) -> Result<String, Fail> {
     let mut line = Vec::from_slice(alloc, first)?;
     line.extend_from_slice(options)?;
-    let job = words(alloc, &line)?;
+    let job = job_named(alloc, &line)?;
     let (out, status) = perform_in(rt, alloc, &job, folder)?;
     if status == 0 {
         Ok(String::from_utf8(out)?)
@@ -165,6 +165,37 @@ fn replies(alloc: Global, told: &str) -> Result<String, AllocError> {
         }
     }
     Ok(replies)
+}
+
+/// The lines of `trace` that `judge` prints too: all but those of runs.
+fn without_runs(alloc: Global, told: &str) -> Result<String, AllocError> {
+    let mut lines = String::new(alloc);
+    for line in told.lines() {
+        if !line.starts_with("    ") && !line.starts_with("0 taken ") {
+            lines.push_str(line)?;
+            lines.push('\n')?;
+        }
+    }
+    Ok(lines)
+}
+
+#[test]
+fn trace_agrees_with_judge(rt: HostRuntime) -> Result<(), Fail> {
+    let alloc = rt.alloc();
+    let (lines, events) = packets(alloc, &mut Random::new(75))?;
+    let mut folder = folder(&rt, alloc, &lines, &events)?;
+    for options in OPTIONS {
+        let judged = printed(&rt, alloc, &mut folder, &["judge", "lines"], options)?;
+        let traced = printed(&rt, alloc, &mut folder, &["trace", "lines"], options)?;
+        same(
+            &rt,
+            "the replies",
+            without_runs(alloc, &traced)?.as_str(),
+            judged.as_str(),
+        );
+        check(&rt, "a run", traced.as_str().contains(" after "));
+    }
+    Ok(())
 }
 
 #[test]
@@ -211,7 +242,7 @@ done 0 67012C00FE00020E
 /// What `sim` prints of the events, and the exit status; `None` where memory was refused to the words, to the folder or to
 /// the writer.
 fn tried(rt: &(impl Threads + Wait + Sync), alloc: Global) -> Option<(String, u8)> {
-    let job = words(alloc, &["sim", "events"]).ok()?;
+    let job = job_named(alloc, &["sim", "events"]).ok()?;
     let mut folder = folder_of(alloc, &[("events", EVENTS.as_bytes())]).ok()?;
     let mut out = Vec::new(alloc);
     let status = perform(rt, alloc, &job, &mut folder, &mut out).ok()?;

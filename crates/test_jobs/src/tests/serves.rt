@@ -1,13 +1,12 @@
 //! The job `serve`, where ports meet: what it prints is compared as a set, or with each that is right.
 
 use super::checks::{check, same};
-use commands::words;
 use std::alloc::{AllocError, Global};
 use std::sync::Wait;
 use std::test::Fail;
 use std::thread::Threads;
 use test_kit::Random;
-use test_kit_jobs::{Folder, folder_of, perform_in};
+use test_kit_jobs::{Folder, folder_of, job_named, perform_in};
 
 /// The lines of the plain write and the plain read of a port 0.
 const WRITE: &str = "0 FE016C0067000000A00000000000109F0123456789ABCDEF101112131415161756 EOP\n";
@@ -35,7 +34,7 @@ fn printed<R: Threads + Wait + Sync>(
     command: &[&str],
     folder: &mut Folder,
 ) -> Result<String, Fail> {
-    let job = words(alloc, command)?;
+    let job = job_named(alloc, command)?;
     let (out, status) = perform_in(rt, alloc, &job, folder)?;
     if status != 0 {
         return Err("a fault".into());

@@ -1,7 +1,7 @@
 //! Writers that fail, and memory that is refused.
 
 use crate::tests::checks::{check, same};
-use commands::{Job, PolicyWords, UsageFault, WriteFault, perform, words};
+use commands::{Job, PolicyWords, UsageFault, WriteFault, perform};
 use machine::MapSizes;
 use std::alloc::Global;
 use std::io::{self, Write};
@@ -10,7 +10,7 @@ use std::sync::Wait;
 use std::test::Fail;
 use std::thread::Threads;
 use test_kit::{PLAIN_READ, PLAIN_REPLY};
-use test_kit_jobs::{Folder, folder_of, judged};
+use test_kit_jobs::{Folder, folder_of, job_named, judged};
 
 /// A writer that takes some writes, and then fails at each.
 #[derive(Drop)]
@@ -67,7 +67,7 @@ fn writers_that_fail_at_each_write(rt: HostRuntime) -> Result<(), Fail> {
         "0 EOP\n0 FE014C0067000901A000000000001095 EOP\n0 FE01640067000000A0000000000010610123456789ABCDEF101112131415161756 EOP\nport\n";
     let (whole, status) = judged(&rt, rt.alloc(), lines)?;
     same(&rt, "the whole", status, 1);
-    let job = words(rt.alloc(), &["judge", "lines"])?;
+    let job = job_named(rt.alloc(), &["judge", "lines"])?;
     let files = [("lines", lines.as_bytes())];
     let mut folder = folder_of(rt.alloc(), &files).map_err(|_| "no folder")?;
     for writes in 0..100 {
@@ -89,7 +89,7 @@ fn writers_that_fail_at_each_write(rt: HostRuntime) -> Result<(), Fail> {
 /// What `judge` prints of these lines, and the exit status; `None` where memory was refused to the
 /// words, to the folder or to the writer.
 fn tried(rt: &(impl Threads + Wait + Sync), alloc: Global, lines: &str) -> Option<(String, u8)> {
-    let job = words(alloc, &["judge", "lines"]).ok()?;
+    let job = job_named(alloc, &["judge", "lines"]).ok()?;
     let files = [("lines", lines.as_bytes())];
     let mut out = Vec::new(alloc);
     let mut folder = folder_of(alloc, &files).ok()?;

@@ -3,10 +3,12 @@ use Rattle.bpf.specs.Program.{Program}
 use Rattle.absdom.specs.State.{IsWhole}
 use Rattle.bver.specs.Heads.{AreHeadsAt, IsDeclared, IsWidened, IsWithinBound}
 use Rattle.bver.specs.Justified.{IsHead}
-use Rattle.bver.specs.Leading.{widens}
+use Rattle.bver.specs.Leading.{EntersOutside, widens}
 use Rattle.bver.proofs.Keeping.{known_kept}
 use Rattle.bver.proofs.Widening.{widened_above, widened_head}
 use Rattle.bver.proofs.Visiting.{heads_of}
+use Rattle.bver.proofs.Completing.{refuses_all}
+use Rattle.bver.proofs.Telling.{entered_told}
 use Rattle.bver.proofs.passes.enter.Goals as goal
 
 pub widen-requires-clause-kept : goal.widen-requires-clause-kept
@@ -51,3 +53,14 @@ returns-in_ok-widen_head-in-Some-clause-widened c =
     let widened : IsWidened b.program b.declared c.args.lowered.now b.place c.args.state.now new = search rules in
     widens b.declared b.place (subst (λ (p : Program). IsDeclared p b.declared b.place) same declared) at
     (subst (λ (p : Program). IsWidened p b.declared c.args.lowered.now b.place c.args.state.now new) same widened)
+
+pub returns-in_err-widen_head-in-Some-clause-told : goal.returns-in_err-widen_head-in-Some-clause-told
+returns-in_err-widen_head-in-Some-clause-told c =
+    let v = c.args.visit.now in
+    let b = c.in-Some.body in
+    let state = c.args.state.now in
+    let same : b.program ≡ v.program = search rules in
+    let at : b.declared.head ≡ v.slot = search rules in
+    let declared : IsDeclared b.program b.declared b.place = search rules in
+    let outside : EntersOutside v.program v.slot state = record { declared = b.declared; place = b.place; is = subst (λ (p : Program). IsDeclared p b.declared b.place) same declared; head = at; outside = c.in_err-widen_head-in-Some.ensures.outside } in
+    entered_told c.from_residual.result v state c.widen_head.new.state (search rules) (search rules) (refuses_all c.from_residual.result (EntersOutside v.program v.slot state) outside)

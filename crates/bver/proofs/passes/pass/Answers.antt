@@ -3,7 +3,7 @@ use Rattle.std.proofs.Math.ListN.{length-set}
 use Rattle.machine.specs.Step.{insn_at}
 use Rattle.bver_form.specs.Lowered.{IsMore, IsSettled}
 use Rattle.bver.specs.Leading.{IsLeastVisitIfAny, IsVisitFaultIfAny}
-use Rattle.absdom.specs.State.{StateValue}
+use Rattle.absdom.specs.State.{IsWhole, StateValue}
 use Rattle.bver.specs.Heads.{HasLowered}
 use Rattle.bver.specs.Table.{knowledge_in}
 use Rattle.bver.specs.Unjustified.{Justifies}
@@ -19,13 +19,14 @@ visit_slot-requires-clause-plain c =
     (passing_plain c.args.image.now c.args.maps.now c.loop-slot.table c.loop-slot.runs c.loop-slot.state c.loop-slot.regions.items (IsSettled c.args.lowered.now c.loop-slot.lowered) c.loop-slot.slot c.slots-slot-end.ensures.program c.loop-slot.invariant.0)
 
 pub loop-slot-init : goal.loop-slot-init
-loop-slot-init c = (
-  passing_none c.order_of_states.ensures.reflexive c.args.image.now c.args.maps.now c.args.table.now c.entry-state.result c.args.regions.now.items (IsSettled c.args.lowered.now c.args.lowered.now) c.requires.entered c.entry-state.ensures.whole,
-  c.requires.table,
-  omega arith,
-  c.requires.regions,
-  complete_none c.args.image.now c.args.maps.now c.args.lowered.now c.args.table.now c.entry-state.result c.requires.entered.entered c.requires.least,
-)
+loop-slot-init c =
+    let whole : IsWhole c.set_to.new.self = search rules in (
+      passing_none c.order_of_states.ensures.reflexive c.args.image.now c.args.maps.now c.args.table.now c.set_to.new.self c.args.regions.now.items (IsSettled c.args.lowered.now c.args.lowered.now) c.requires.entered whole,
+      c.requires.table,
+      omega arith,
+      c.requires.regions,
+      complete_none c.args.image.now c.args.maps.now c.args.lowered.now c.args.table.now c.set_to.new.self c.requires.entered.entered c.requires.least,
+    )
 
 pub loop-slot-preserved : goal.loop-slot-preserved
 loop-slot-preserved c =

@@ -33,8 +33,10 @@ returns c =
     ∙ ap₂ with_subcommand with_first (ap (λ (a : App). a.top) c.in_ok-serve.ensures.shape) in
     let with_sim = c.in_ok-subcommand-2.ensures.shape c.in_ok-sim.ensures.local
     ∙ ap₂ with_subcommand with_serve (ap (λ (a : App). a.top) c.in_ok-sim.ensures.shape) in
-    let with_explain = c.in_ok-subcommand-3.ensures.shape c.in_ok-explain.ensures.local
-    ∙ ap₂ with_subcommand with_sim (ap (λ (a : App). a.top) c.in_ok-explain.ensures.shape) in
+    let with_live = c.in_ok-subcommand-3.ensures.shape c.in_ok-live.ensures.local
+    ∙ ap₂ with_subcommand with_sim (ap (λ (a : App). a.top) c.in_ok-live.ensures.shape) in
+    let with_explain = c.in_ok-subcommand-4.ensures.shape c.in_ok-explain.ensures.local
+    ∙ ap₂ with_subcommand with_live (ap (λ (a : App). a.top) c.in_ok-explain.ensures.shape) in
     let with_why = c.in_ok-all.ensures.shape c.in_ok-why.ensures.local
     ∙ ap₂ with_subcommand with_explain (ap (λ (a : App). a.top) c.in_ok-why.ensures.shape) in
     IfOk-weaker c.with_packet_jobs.result _ _ (λ m h. h ∙ ap with_packet_jobs with_why) c.with_packet_jobs.ensures

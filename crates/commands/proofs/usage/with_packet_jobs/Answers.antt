@@ -7,5 +7,9 @@ pub returns : goal.returns
 returns c =
     let with_packet = c.in_ok-subcommand.ensures.shape c.in_ok-packet.ensures.local
     ∙ ap (with_subcommand (app_of c.args.rmapctl)) (ap (λ (a : App). a.top) c.in_ok-packet.ensures.shape) in
-    IfOk-weaker c.subcommand-2.result _ _ (λ m h. h.shape c.in_ok-show.ensures.local
-    ∙ ap₂ with_subcommand with_packet (ap (λ (a : App). a.top) c.in_ok-show.ensures.shape)) c.subcommand-2.ensures
+    let with_show = c.in_ok-subcommand-2.ensures.shape c.in_ok-show.ensures.local
+    ∙ ap₂ with_subcommand with_packet (ap (λ (a : App). a.top) c.in_ok-show.ensures.shape) in
+    let with_decide = c.in_ok-subcommand-3.ensures.shape c.in_ok-decide.ensures.local
+    ∙ ap₂ with_subcommand with_show (ap (λ (a : App). a.top) c.in_ok-decide.ensures.shape) in
+    IfOk-weaker c.subcommand-4.result _ _ (λ m h. h.shape c.in_ok-trace.ensures.local
+    ∙ ap₂ with_subcommand with_decide (ap (λ (a : App). a.top) c.in_ok-trace.ensures.shape)) c.subcommand-4.ensures

@@ -4,8 +4,8 @@ use Rattle.clap.specs.Walk.{texts}
 use Rattle.clap.specs.Simple.{is_simple, subcommand_of, subcommand_rows_of}
 use Rattle.clap.specs.Faults.{fault_of, is_simple_and_free}
 use Rattle.clap.specs.Kinds.{HasKind}
-use Rattle.commands.specs.CommandLine.{subcommand_in, AreTaken, Names, LacksJob}
-use Rattle.commands.proofs.Matching.{is_simple-rmapctl_app, is_free-rmapctl_app, lacks_job, refused_words}
+use Rattle.commands.specs.CommandLine.{subcommand_in, AreTaken, Names, LacksWork}
+use Rattle.commands.proofs.Matching.{is_simple-rmapctl_app, is_free-rmapctl_app, lacks_work, refused_words}
 use Rattle.commands.proofs.usage.words.Goals as goal
 
 pub returns-in-Ok-clause-ok : goal.returns-in-Ok-clause-ok
@@ -16,7 +16,7 @@ returns-in-Ok-clause-ok c =
     (c.in-Ok.ensures.matches (ap is_simple app ∙ is_simple-rmapctl_app)).1 ∙ ap (λ a. subcommand_of a words) app in
     let kinds = c.in-Ok.ensures.kinds (ap is_simple_and_free app ∙ is_free-rmapctl_app) in
     let taken : AreTaken words = subst (λ a. fault_of a words ≡ []) app kinds in
-    IfOk-weaker c.job_of.result _ _ (λ job h. (taken, h)) (subst (λ f. IfOk c.job_of.result (Names f)) found c.job_of.ensures.ok)
+    IfOk-weaker c.work_of.result _ _ (λ job h. (taken, h)) (subst (λ f. IfOk c.work_of.result (Names f)) found c.work_of.ensures.ok)
 
 pub returns-in-Ok-clause-err : goal.returns-in-Ok-clause-err
 returns-in-Ok-clause-err c =
@@ -26,8 +26,8 @@ returns-in-Ok-clause-err c =
     (c.in-Ok.ensures.matches (ap is_simple app ∙ is_simple-rmapctl_app)).1 ∙ ap (λ a. subcommand_of a words) app in
     let kinds = c.in-Ok.ensures.kinds (ap is_simple_and_free app ∙ is_free-rmapctl_app) in
     let taken : AreTaken words = subst (λ a. fault_of a words ≡ []) app kinds in
-    IfErr-weaker c.job_of.result _ _ (λ fault h. lacks_job words fault taken h)
-    (subst (λ f. IfErr c.job_of.result (LacksJob f)) found c.job_of.ensures.err)
+    IfErr-weaker c.work_of.result _ _ (λ fault h. lacks_work words fault taken h)
+    (subst (λ f. IfErr c.work_of.result (LacksWork f)) found c.work_of.ensures.err)
 
 pub returns-in-Err-clause-err : goal.returns-in-Err-clause-err
 returns-in-Err-clause-err c =

@@ -1,10 +1,10 @@
-use Rattle.std.proofs.Common.{◌≡◌, ◌++◌, ◌∷◌, [], ℕ, List, true, sym, ap, ◌∙◌, subst}
+use Rattle.std.proofs.Common.{◌≡◌, ◌++◌, ◌∷◌, [], ℕ, List, true, sym, ap, ◌∙◌}
 use Rattle.std.proofs.lemmas.List.{append_assoc}
 use Rattle.std.proofs.lemmas.Result.{err_from_is_err_and}
 use Rattle.std.specs.Result.{is_ok}
 use Rattle.spw.specs.Line.{lines_of}
-use Rattle.policy.specs.Lines.{AreNoRules}
-use Rattle.policy.proofs.Readings.{no_rules, rules_more}
+use Rattle.policy.proofs.BadLines.{unread}
+use Rattle.policy.proofs.Readings.{rules_more}
 use Rattle.policy.proofs.lines.read_rules.Goals as goal
 
 pub loop-line-preserved : goal.loop-line-preserved
@@ -21,8 +21,6 @@ returns-in_err-rule-clause-fault c =
     let (done, all, are) = c.loop-line.invariant in
     let line = c.in-Some.line.now in
     let next : c.loop-line.line-iterator ≡ line ∷ c.next.new.self = c.in-Some.ensures.steps in
-    let bad = c.in_err-rule.ensures.fault in
     let here : done ++ line ∷ c.next.new.self ≡ lines_of c.args.text.now = ap (λ (left : List (List ℕ)). done ++ left) (sym next) ∙ all in
-    let none : AreNoRules (lines_of c.args.text.now) = subst (λ (l : List (List ℕ)). AreNoRules l) here (no_rules done c.next.new.self line bad.1) in
     let gone = err_from_is_err_and c.from_residual.result c.from_residual.ensures.1 in
-    rw (gone.1, gone.2, bad.0) none
+    rw (gone.1, gone.2) (unread (lines_of c.args.text.now) done c.next.new.self c.loop-line.rules.items line _ c.len.result here are (c.len.ensures ∙ c.loop-line.rules.ok.0) c.in_err-rule.ensures.fault)

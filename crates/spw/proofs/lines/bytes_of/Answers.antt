@@ -1,14 +1,19 @@
-use Rattle.std.proofs.lemmas.List.Elements.{All-more}
-use Rattle.spw.specs.Line.{IsHex, bytes_written}
-use Rattle.spw.proofs.LineLemmas.{flat_map-one_more}
+use Rattle.std.proofs.Common.{rules, arith, ℕ, List, length, ap}
+use Rattle.std.proofs.lemmas.Result.{err_from_is_err_and}
+use Rattle.spw.proofs.WordCuts.{one_is_bad, one_written}
 use Rattle.spw.proofs.lines.bytes_of.Goals as goal
+
+pub returns-in_err-append_word-clause-err : goal.returns-in_err-append_word-clause-err
+returns-in_err-append_word-clause-err c =
+    let p = err_from_is_err_and c.from_residual-in_err-append_word.result c.from_residual-in_err-append_word.ensures.1 in
+    rw (p.1, p.2) (one_is_bad c.loop-word.invariant.1 _ _ _ c.in-Some.ensures c.in_err-append_word.ensures.err)
+
+pub loop-word-smaller : goal.loop-word-smaller
+loop-word-smaller c =
+    let fewer = ap (λ (words : List (List ℕ)). length words) c.in-Some.ensures in
+    omega (arith, fewer)
 
 pub loop-word-preserved : goal.loop-word-preserved
 loop-word-preserved c =
-    let words = c.args.words.now in
-    let index = c.loop-word.word-index in
-    let decoded = c.in_ok-bytes_of_word.ensures in (
-      All-more (λ word. IsHex word.now) words index _ c.loop-word-test.true c.loop-word.invariant.0 decoded.0,
-      flat_map-one_more (λ word. bytes_written word.now) words index _ c.loop-word.bytes.items _ _ c.loop-word-test.true
-          c.in_ok-append.ensures decoded.1 c.loop-word.invariant.1,
-    )
+    let written = c.in_ok-append_word.ensures.ok in
+    (search rules, one_written c.loop-word.invariant.1 _ _ _ c.in-Some.ensures written.0 written.1)

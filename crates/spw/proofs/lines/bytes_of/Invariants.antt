@@ -1,8 +1,11 @@
-use Rattle.std.proofs.Common.{◌≡◌, All, take}
-use Rattle.std.specs.List.{flat_map}
-use Rattle.spw.specs.Line.{IsHex, bytes_written}
+use Rattle.std.proofs.Common.{length}
+use Rattle.std.specs.Str.{IsUtf8}
+use Rattle.spw.specs.Line.{words_of}
+use Rattle.spw.proofs.WordCuts.{AreLeft}
 use Rattle.spw.proofs.lines.bytes_of.Given as goal
 
 abbrev pub invariant-loop-word : goal.invariant-loop-word
-invariant-loop-word l =
-    All (λ word. IsHex word.now) (take l.word-index l.words) × (l.bytes.items ≡ flat_map (λ word. bytes_written word.now) (take l.word-index l.words))
+invariant-loop-word l = IsUtf8 l.rest × AreLeft (words_of l.text) (words_of l.rest) l.bytes.items
+
+abbrev pub decreases-loop-word : goal.decreases-loop-word
+decreases-loop-word l = length (words_of l.rest)

@@ -1,6 +1,6 @@
-use Rattle.std.proofs.Common.{rules, refl}
+use Rattle.std.proofs.Common.{rules, refl, arith}
 use Rattle.std.proofs.lemmas.Result.{err_from_is_err_and}
-use Rattle.job_nodes.proofs.Continuing.{IsPieceAt, goes_on, ends, overfills, stays}
+use Rattle.job_nodes.proofs.Continuing.{IsPieceAt, goes_on, ends, overfills, unended}
 use Rattle.job_nodes.proofs.feeds.Feeds.take_line.Goals as goal
 
 pub returns-in_default-clause-fed : goal.returns-in_default-clause-fed
@@ -10,8 +10,8 @@ returns-in_default-clause-fed c =
 
 pub returns-clause-fed : goal.returns-clause-fed
 returns-clause-fed c =
-    let piece : IsPieceAt c.args.line.now c.self.inside.feeds.items c.args.self.now c.in_ok-port.port c.from-place.result c.index_mut-feed.result.now c.deref.result.now c.in_ok-port.mark = search rules in
-    ends piece c.in_ok-piece.ensures.ok _ _ _ c.in_ok-packet.ensures.ok c.in_ok-packet.ensures.empty c.in-Some.is (λ long. cc (c.in_ok-piece.ensures.too_long.1 long))
+    let piece : IsPieceAt c.args.line.now c.self.inside.feeds.items c.args.self.now c.in_ok-port.port c.from-place.result c.index_mut-feed.result.now c.in_ok-port.piece.items c.in_ok-port.mark = search rules in
+    ends piece refl _ _ _ c.in_ok-packet.ensures.ok c.in_ok-packet.ensures.empty c.in-Some.is (λ long. omega (arith, long, c.in_ok-packet.ensures.short))
 
 pub returns-in_err-piece-clause-refused : goal.returns-in_err-piece-clause-refused
 returns-in_err-piece-clause-refused c =
@@ -22,7 +22,6 @@ returns-in_err-piece-clause-refused c =
 
 pub returns-in_err-packet-clause-refused : goal.returns-in_err-packet-clause-refused
 returns-in_err-packet-clause-refused c =
-    let piece : IsPieceAt c.args.line.now c.self.inside.feeds.items c.args.self.now c.in_ok-port.port c.from-place.result c.index_mut-feed.result.now c.deref.result.now c.in_ok-port.mark = search rules in
+    let piece : IsPieceAt c.args.line.now c.self.inside.feeds.items c.args.self.now c.in_ok-port.port c.from-place.result c.index_mut-feed.result.now c.in_ok-port.piece.items c.in_ok-port.mark = search rules in
     let gone = err_from_is_err_and c.from_residual-in_err-packet.result c.from_residual-in_err-packet.ensures.1 in
-    rw (gone.1, gone.2)
-    (stays piece c.in_ok-piece.ensures.ok _ _ _ c.in_err-packet.ensures.err c.in_err-packet.ensures.kept c.in-Some.is (λ long. cc (c.in_ok-piece.ensures.too_long.1 long)))
+    rw (gone.1, gone.2) (unended piece refl _ _ _ c.in-Some.is c.in_err-packet.ensures.err)

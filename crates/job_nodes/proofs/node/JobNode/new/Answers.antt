@@ -1,4 +1,4 @@
-use Rattle.std.proofs.Common.{rules, ◌≡◌, ◌∙◌, ℕ, List, [], ◌∷◌, length, refl, sym, ap}
+use Rattle.std.proofs.Common.{◌≡◌, ◌∙◌, ℕ, List, [], ◌∷◌, length, refl, sym, ap}
 use Rattle.std.proofs.lemmas.List.{length-replicate}
 use Rattle.std.proofs.lemmas.List.FromFn.{length-map-range_with_len}
 use base.Stored.{Gv}
@@ -10,7 +10,8 @@ use Rattle.target.specs.Nodes.{bank_of, fresh_banks}
 use Rattle.target.specs.Nodes as nodes
 use Rattle.target.specs.Passes.{PassValue}
 use Rattle.target.specs.declared.config.NodeConfig.{NodeConfig}
-use Rattle.job_nodes.specs.JobNode.{IsConfig, first_passes, job_node, own_bank}
+use Rattle.single_node.specs.Nodes.{SingleNodeValue}
+use Rattle.job_nodes.specs.JobNode.{IsConfig, first_passes, job_node, own_bank, rooms_of}
 use Rattle.job_nodes.proofs.node.JobNode.new.Goals as goal
 
 -- nodes of the same parts
@@ -29,18 +30,21 @@ own_passes : (ports : ℕ) (sizes : Maps) (config : NodeConfig) (program : Accep
 own_passes ports sizes config program home is = rw (is.address, is.banks, is.ports_are) refl
 
 pub returns-clause-made : goal.returns-clause-made
-returns-clause-made g c =
+returns-clause-made c =
     let own = c.node_config-config.ensures in
-    let home = c.in-Ok._cells.home in (
-      home,
-      same_node _ _ _ _ _ _ _ _ _ _ (c.in-Ok.ensures.banks ∙ own_banks _ _ _ own) c.in-Ok.ensures.publisher
-          (c.in-Ok.ensures.passes ∙ own_passes _ _ _ c.args.program home own) c.in_ok-feeds.ensures c.new-2.ensures,
+    let fresh = c.in-Ok.ensures.fresh in (
+      fresh.0,
+      same_node _ _ _ _ _ _ _ _ _ _ (ap (λ (n : SingleNodeValue). n.banks) fresh.1 ∙ own_banks _ _ _ own) (ap (λ (n : SingleNodeValue). n.programs) fresh.1)
+          (ap (λ (n : SingleNodeValue). n.passes) fresh.1 ∙ own_passes _ _ _ c.args.program fresh.0 own) c.in_ok-feeds.ensures c.new-3.ensures,
     )
 
 pub invariant_of-result : goal.invariant_of-result
-invariant_of-result g c =
+invariant_of-result c =
     let own = c.node_config-config.ensures in
-    let home = c.in-Ok._cells.home in
+    let fresh = c.in-Ok.ensures.fresh in
     let held = ap (λ (xs : List (List ℕ)). length xs) c.in_ok-feeds.ensures ∙ length-replicate c.args.ports [] in
-    let passes = ap (λ (xs : List PassValue). length xs) (c.in-Ok.ensures.passes ∙ own_passes _ _ _ c.args.program home own) in
-    record { paired = search rules; ports = held ∙ sym (passes ∙ length-map-range_with_len _ 0 c.args.ports) }
+    let passes = ap (λ (n : SingleNodeValue). length n.passes) fresh.1 ∙ ap (λ (xs : List PassValue). length xs) (own_passes _ _ _ c.args.program fresh.0 own) in
+    record {
+      rooms = ap (λ (n : SingleNodeValue). rooms_of n.banks) fresh.1 ∙ ap rooms_of (own_banks _ _ _ own);
+      ports = held ∙ sym (passes ∙ length-map-range_with_len _ 0 c.args.ports);
+    }

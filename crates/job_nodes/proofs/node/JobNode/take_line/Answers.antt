@@ -17,12 +17,12 @@ holds line parts node held is fed =
     subst (λ (s : JobNodeValue). HoldsLine line s (with_held parts held)) is (record { held = held; fed = fed; same = refl })
 
 pub returns-in_err-port-clause-refused : goal.returns-in_err-port-clause-refused
-returns-in_err-port-clause-refused g c =
+returns-in_err-port-clause-refused c =
     let gone = err_from_is_err_and c.from_residual.result c.from_residual.ensures.1 in
     rw (gone.1, gone.2) (refuses _ _ _ _ c.take_line.new.self c.self.view_is c.in_err-port.ensures.refused)
 
 pub returns-in_default-clause-taken : goal.returns-in_default-clause-taken
-returns-in_default-clause-taken g c =
+returns-in_default-clause-taken c =
     let given = c.in_ok-port.ensures.fed in
     let is = c.in_default.is in
     holds _ _ _ c.take_line.new.self c.self.view_is (rw is at given)

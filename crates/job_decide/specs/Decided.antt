@@ -1,0 +1,54 @@
+-- What is printed of a packet, and the tickets that were drawn.
+use Rattle.std.specs.Prelude.{◌≡◌, ℕ, List, Option, Some, None}
+use Rattle.std.specs.Io.KnownBytes.{Appends}
+use Rattle.machine.specs.Memory.{header}
+use Rattle.policy.specs.Counts.{after_draws, told_on}
+use Rattle.policy.specs.Matching.{matched}
+use Rattle.policy.specs.Meaning.{decision}
+use Rattle.policy.specs.declared.rules.Rule.{Rule}
+use Rattle.rmap.specs.Checks.{header_line}
+use Rattle.rmap.specs.Command.{CommandValue, command_of}
+use Rattle.rmap.specs.declared.discard.Discard.{Discard}
+use Rattle.rmap.specs.declared.status.Status.{Status}
+use Rattle.spw.specs.Cargo.{Cargo}
+use Rattle.job_nodes.specs.JudgeJob.{discard_line}
+use Rattle.job_parts.specs.Printed.{PrintsMore}
+use Rattle.job_parts.specs.declared.faults.Fault.{Fault}
+use Rattle.job_parts.specs.declared.faults.Fault.TheVariants.{NoMemory}
+use Rattle.job_decide.specs.DecideJob.{match_line, own_windows, status_text}
+
+-- the rule by which the table decides on the header of the command was told, as the counts answer its draws, and more
+-- behind it; and the counts are those behind its draws
+pub record TellsDecision (port : ℕ) (rules : List Rule) (c : CommandValue) (before after : List ℕ) (old new : Option (List ℕ)) :
+    Type 0 where
+  pub told : Option (List ℕ)
+  pub line : Appends old told
+      (match_line port (matched rules (header c.front c.tail) (told_on before rules (header c.front c.tail))))
+  pub more : PrintsMore told new
+  pub counts : after
+      ≡ after_draws before (decision rules (header c.front c.tail) (told_on before rules (header c.front c.tail))).0
+
+-- the status of a command was told, and more behind it
+pub record TellsStatus (port : ℕ) (status : Status) (old new : Option (List ℕ)) : Type 0 where
+  pub told : Option (List ℕ)
+  pub line : Appends old told (status_text port status)
+  pub more : PrintsMore told new
+
+-- of a command that a check of its header answers the status was told, and nothing drawn; on any other the table
+-- decides
+abbrev pub TellsCommand : (port : ℕ) → List Rule → CommandValue → Option Status → (before after : List ℕ)
+    → (old new : Option (List ℕ)) → Type 0
+TellsCommand port rules c (Some status) before after old new = (after ≡ before) × TellsStatus port status old new
+TellsCommand port rules c None before after old new = TellsDecision port rules c before after old new
+
+-- of a packet that is no command the reason was told, and nothing drawn
+abbrev pub TellsPacket : (port : ℕ) → List Rule → Cargo → Option Discard → (before after : List ℕ)
+    → (old new : Option (List ℕ)) → Type 0
+TellsPacket port rules p (Some discard) before after old new =
+    (after ≡ before) × Appends old new (discard_line port discard)
+TellsPacket port rules p None before after old new =
+    TellsCommand port rules (command_of p) (header_line (command_of p) own_windows) before after old new
+
+-- memory was refused, and nothing printed
+abbrev pub IsRefused : (old new : Option (List ℕ)) → Fault → Type 0
+IsRefused old new fault = (fault ≡ NoMemory) × (new ≡ old)

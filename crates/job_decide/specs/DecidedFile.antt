@@ -1,0 +1,148 @@
+-- What the job `decide` reads and prints.
+use Rattle.std.specs.Prelude.{
+  ◌≡◌,
+  ◌⊎◌,
+  ℕ,
+  zero,
+  suc,
+  List,
+  [],
+  Option,
+  Some,
+  None,
+  replicate,
+  string_bytes,
+}
+use Rattle.std.specs.Io.KnownBytes.{Appends}
+use Rattle.std.specs.Str.{IsUtf8}
+use Rattle.policy.specs.Compiled.{compile_fault}
+use Rattle.policy.specs.Lines.{IsTable}
+use Rattle.policy.specs.TableFaults.{IsTableFault, policy_fault_of}
+use Rattle.policy.specs.declared.rules.Rule.{Rule}
+use Rattle.policy.specs.declared.table_faults.TableFault.{TableFault}
+use Rattle.spw.specs.Line.{lines_of}
+use Rattle.job_parts.specs.Files.{HoldsNoText, Reads}
+use Rattle.job_parts.specs.Printed.{fault_line}
+use Rattle.job_parts.specs.declared.faults.Fault.{Fault}
+use Rattle.job_parts.specs.declared.faults.Fault.TheVariants.{
+  CannotRead,
+  CannotWrite,
+  NoMemory,
+  BadText,
+  BadTable as IsBadTable,
+  BadImage,
+  Refused,
+  BadLine,
+}
+use Rattle.job_decide.specs.DecideJob.{place_line}
+use Rattle.job_decide.specs.DecidedLines.{DecidesAll, StopsAt}
+use Rattle.job_decide.specs.declared.decide.DecideWords.{DecideWords}
+use Rattle.job_decide.specs.declared.decide.Held.{Held}
+use Rattle.job_decide.specs.declared.decide.Unready.{Unready}
+use Rattle.job_decide.specs.declared.decide.Unready.TheVariants.{Ended, BadTable}
+
+-- what is held before the first line: nothing of any port, and no ticket was drawn
+abbrev pub first_held : (ports : ℕ) → Held
+first_held ports = record { feeds = replicate ports []; counts = replicate 2048 0 }
+
+-- the line of a fault was printed, and for a table behind it a line with the place
+abbrev pub TellsUnready : Unready → (old new : Option (List ℕ)) → Type 0
+TellsUnready (Ended fault) old new = Appends old new (fault_line fault)
+TellsUnready (BadTable fault) old new =
+    (told : Option (List ℕ)) × Appends old told (fault_line (IsBadTable (policy_fault_of fault)))
+    × Appends told new (place_line fault)
+
+module _ {S : Type 0} (reads : Reads S) (words : DecideWords) where
+  -- the file of lines was read, and is UTF-8
+  pub record HoldsLines (before : S) (text : List ℕ) (after : S) : Type 0 where
+    pub read : reads before (string_bytes words.lines) (Some text) after
+    pub utf8 : IsUtf8 text
+
+  -- the files were read in this order: lines, and a table that compiles for a node with these maps
+  pub record IsGiven (before : S) (text : List ℕ) (rules : List Rule) (after : S) : Type 0 where
+    pub between : S
+    pub lines : HoldsLines before text between
+    pub table : List ℕ
+    pub read : reads between (string_bytes words.table) (Some table) after
+    pub utf8 : IsUtf8 table
+    pub is_table : IsTable table rules
+    pub faultless : compile_fault words.sizes rules ≡ None
+
+  -- the same, with the table, and what is held before the first line
+  pub record IsReady (before : S) (text : List ℕ) (rules : List Rule) (held : Held) (after : S) : Type 0 where
+    pub given : IsGiven before text rules after
+    pub first : held ≡ first_held words.ports
+
+  -- the file of the table was read behind that of the lines, and this is the first fault of the table, with its place
+  pub record HoldsTableFault (before after : S) (fault : TableFault) : Type 0 where
+    pub text : List ℕ
+    pub between : S
+    pub lines : HoldsLines before text between
+    pub table : List ℕ
+    pub read : reads between (string_bytes words.table) (Some table) after
+    pub utf8 : IsUtf8 table
+    pub is_fault : IsTableFault words.sizes (lines_of table) fault
+
+  -- the file of lines, or behind it that of the table, cannot be read or is not UTF-8
+  abbrev pub IsUntold : (before after : S) → (name : List ℕ) → Type 0
+  IsUntold before after name =
+      ((name ≡ string_bytes words.lines) × HoldsNoText reads before name after)
+      ⊎ ((text : List ℕ) × (between : S) × HoldsLines before text between
+      × (name ≡ string_bytes words.table) × HoldsNoText reads between name after)
+
+  -- a file cannot be read, or the table has a fault, or memory was refused behind the reads
+  abbrev pub IsUnread : (before after : S) → Fault → Type 0
+  IsUnread before after (CannotRead file) = IsUntold before after file.now
+  IsUnread before after (CannotWrite file) = ⊥
+  IsUnread before after NoMemory = (text : List ℕ) × (rules : List Rule) × IsGiven before text rules after
+  IsUnread before after (BadText fault) = ⊥
+  IsUnread before after (IsBadTable fault) =
+      (place : TableFault) × HoldsTableFault before after place × (fault ≡ policy_fault_of place)
+  IsUnread before after (BadImage fault) = ⊥
+  IsUnread before after (Refused refused) = ⊥
+  IsUnread before after (BadLine number fault) = ⊥
+
+  -- why nothing is decided
+  abbrev pub IsUnready : (before after : S) → Unready → Type 0
+  IsUnready before after (Ended fault) = IsUnread before after fault
+  IsUnready before after (BadTable fault) = HoldsTableFault before after fault
+
+  -- each line of the file was taken in turn
+  pub record DecidesFile (before after : S) (old new : Option (List ℕ)) : Type 0 where
+    pub text : List ℕ
+    pub rules : List Rule
+    pub left : Held
+    pub given : IsGiven before text rules after
+    pub all : DecidesAll rules (lines_of text) (first_held words.ports) left old new
+
+  -- each line up to one was taken in turn, and that one is bad
+  pub record StopsFile (before after : S) (old new : Option (List ℕ)) (fault : Fault) : Type 0 where
+    pub text : List ℕ
+    pub rules : List Rule
+    pub left : Held
+    pub given : IsGiven before text rules after
+    pub stop : StopsAt rules (lines_of text) (first_held words.ports) left old new fault
+
+  -- why not all lines were taken
+  abbrev pub IsNotDecided : (before after : S) → (old new : Option (List ℕ)) → Fault → Type 0
+  IsNotDecided before after old new fault =
+      ((new ≡ old) × IsUnread before after fault) ⊎ StopsFile before after old new fault
+
+  -- a fault ended the job, and its line was printed behind what came before
+  pub record TellsEnd (before after : S) (old new : Option (List ℕ)) : Type 0 where
+    pub fault : Fault
+    pub printed : Option (List ℕ)
+    pub ended : IsNotDecided before after old printed fault
+    pub line : Appends printed new (fault_line fault)
+
+  -- the table has a fault, which was told with its place
+  pub record TellsTable (before after : S) (old new : Option (List ℕ)) : Type 0 where
+    pub fault : TableFault
+    pub held : HoldsTableFault before after fault
+    pub told : TellsUnready (BadTable fault) old new
+
+  -- what `decide` reads and prints, by its exit status: 0 where all lines were taken, else 1
+  abbrev pub Decides : (before after : S) → (old new : Option (List ℕ)) → (status : ℕ) → Type 0
+  Decides before after old new zero = DecidesFile before after old new
+  Decides before after old new (suc zero) = TellsTable before after old new ⊎ TellsEnd before after old new
+  Decides before after old new (suc (suc n)) = ⊥

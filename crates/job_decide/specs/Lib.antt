@@ -1,0 +1,4 @@
+pub mod DecideJob
+pub mod Decided
+pub mod DecidedLines
+pub mod DecidedFile

@@ -1,0 +1,144 @@
+//! What is printed of a packet.
+
+ghost use Rattle.std.specs.Prelude.{◌≡◌, IfErr, OnOk};
+ghost use Rattle.job_nodes.specs.JudgeJob.{discard_line};
+ghost use Rattle.job_parts.specs.Printed.{PrintsMore, Prints};
+ghost use Rattle.job_parts.specs.Stops.{StopsBy};
+ghost use Rattle.job_decide.specs.Decided.{IsRefused, TellsCommand, TellsDecision, TellsPacket, TellsStatus};
+ghost use Rattle.job_decide.specs.DecideJob.{match_line, own_windows, rule_text, ticket_text};
+ghost use Rattle.rmap.specs.Checks.{header_line};
+ghost use Rattle.rmap.specs.Command.{discard_of};
+ghost use Rattle.target.specs.Nodes.{windows_of};
+
+use crate::reasons::{check_failed, reasons};
+use job_nodes::node::node_config;
+use job_parts::stops::Halt;
+use machine::{Call, MapSizes};
+use policy::{Counts, Match, Table};
+use rmap::{Command, Discard, Status, Windows, header_fault};
+use spw::Packet;
+use std::alloc::Global;
+use std::io::{self, Write};
+
+/// The address of the node of the jobs, and where its bank lies.
+fn own_windows() -> Windows
+    ensures { result ≡ own_windows }
+{
+    node_config(1, MapSizes::new(&[]).unwrap()).windows()
+}
+
+/// Prints text as it stands.
+fn print_more<W: Write>(out: &mut W, text: &str) -> io::Result<()>
+    ensures { OnOk result (PrintsMore (W.contents out.old) (W.contents out.new)) }
+{
+    write!(out, "{text}")
+}
+
+/// Prints that a packet was discarded: `PORT discard C`.
+fn print_discard<W: Write>(out: &mut W, port: u8, discard: Discard) -> io::Result<()>
+    ensures { OnOk result (Prints W.contents out.old out.new (discard_line port discard)) }
+{
+    let code = discard.code();
+    writeln!(out, "{port} discard {code}")
+}
+
+/// Prints that a check of its header answers a command: `PORT answered S: `, and the reason.
+fn print_answered<W: Write>(out: &mut W, port: u8, status: Status, reason: &str) -> io::Result<()>
+    ensures { OnOk result (TellsStatus port status (W.contents out.old) (W.contents out.new)) }
+{
+    let code = status.code();
+    write!(out, "{port} answered {code}: ")?;
+    print_more(out, reason)
+}
+
+/// Prints the port, and the number of the rule that decides.
+fn print_rule<W: Write>(out: &mut W, port: u8, rule: Option<usize>) -> io::Result<()>
+    ensures { OnOk result (Prints W.contents out.old out.new (rule_text port rule)) }
+{
+    match rule {
+        Some(number) => write!(out, "{port} rule {number}"),
+        None => write!(out, "{port} no rule"),
+    }
+}
+
+/// Prints the ticket of the rule that decides, where it has one.
+fn print_ticket<W: Write>(out: &mut W, ticket: Option<Call>) -> io::Result<()>
+    ensures { OnOk result (Prints W.contents out.old out.new (ticket_text ticket)) }
+{
+    let Some(call) = ticket else {
+        return writeln!(out);
+    };
+    let (answer, map, cell) = (call.answer, call.map, call.key);
+    writeln!(out, ", ticket {answer} of {map}:{cell}")
+}
+
+/// Prints which rule decides: `PORT rule N verdict V`, with the ticket that it drew.
+fn print_match<W: Write>(out: &mut W, port: u8, found: Match) -> io::Result<()>
+    ensures { OnOk result (Prints W.contents out.old out.new (match_line port found)) }
+{
+    print_rule(out, port, found.rule)?;
+    let verdict = found.verdict.number();
+    write!(out, " verdict {verdict}")?;
+    print_ticket(out, found.ticket)
+}
+
+/// Decides on a command that no check of its header answers, and prints by which rule, and why by no rule before.
+fn decide_admitted<'a, W: Write>(
+    alloc: Global,
+    table: &Table,
+    counts: &mut Counts,
+    port: u8,
+    command: &Command,
+    out: &mut W,
+) -> Result<(), Halt<'a>>
+    ensures told { OnOk result (TellsDecision port table.now command.now counts.old counts.new
+        (W.contents out.old) (W.contents out.new)) }
+    ensures stops { IfErr result (StopsBy (IsRefused (W.contents out.old) (W.contents out.new))) }
+{
+    let mut calls = Vec::new(alloc);
+    let found = table.matched(command.front(), command.tail(), counts, &mut calls)?;
+    let why = reasons(alloc, table.rules(), &found, calls.as_slice(), command)?;
+    print_match(out, port, found)?;
+    Ok(print_more(out, why.as_str())?)
+}
+
+/// Prints the status of a command that a check of its header answers, or decides on it.
+fn decide_command<'a, W: Write>(
+    alloc: Global,
+    table: &Table,
+    counts: &mut Counts,
+    port: u8,
+    command: &Command,
+    out: &mut W,
+) -> Result<(), Halt<'a>>
+    ensures told { OnOk result (TellsCommand port table.now command.now
+        (header_line command.now own_windows) counts.old counts.new
+        (W.contents out.old) (W.contents out.new)) }
+    ensures stops { IfErr result (StopsBy (IsRefused (W.contents out.old) (W.contents out.new))) }
+{
+    let windows = own_windows();
+    let Some(status) = header_fault(command, &windows) else {
+        return decide_admitted(alloc, table, counts, port, command, out);
+    };
+    let why = check_failed(alloc, command, &windows, status)?;
+    Ok(print_answered(out, port, status, why.as_str())?)
+}
+
+/// Decides on a packet, and prints what comes of it.
+pub fn decide_packet<'a, W: Write>(
+    alloc: Global,
+    table: &Table,
+    counts: &mut Counts,
+    port: u8,
+    packet: &Packet,
+    out: &mut W,
+) -> Result<(), Halt<'a>>
+    ensures told { OnOk result (TellsPacket port table.now packet.now (discard_of packet.now.bytes)
+        counts.old counts.new (W.contents out.old) (W.contents out.new)) }
+    ensures stops { IfErr result (StopsBy (IsRefused (W.contents out.old) (W.contents out.new))) }
+{
+    match Command::view(packet) {
+        Ok(command) => decide_command(alloc, table, counts, port, &command, out),
+        Err(discard) => Ok(print_discard(out, port, discard)?),
+    }
+}

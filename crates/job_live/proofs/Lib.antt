@@ -1,0 +1,3 @@
+mod EntryLines
+mod LinesInTurn
+mod SetLines

@@ -1,0 +1,5 @@
+use Rattle.job_live.proofs.LinesInTurn.{IsUnderWay}
+use Rattle.job_live.proofs.live.hold.Given as goal
+
+abbrev pub invariant-loop-number : goal.invariant-loop-number
+invariant-loop-number g l = IsUnderWay g.T.Talk.came g.T.Talk.sent l.number l.fn.node l.node l.fn.talk l.talk l.some_bad

@@ -1,0 +1,162 @@
+-- What a line of a talk does at the node, and what is printed of it.
+use Rattle.std.specs.Prelude.{
+  ◌≡◌,
+  ◌⊎◌,
+  ◌==◌,
+  ◌&&◌,
+  nat_lt,
+  ℕ,
+  Bool,
+  true,
+  false,
+  List,
+  [],
+  ◌∷◌,
+  ◌++◌,
+  length,
+  codes,
+  decimal,
+  Option,
+  Some,
+  None,
+  is_some,
+  slice_get,
+}
+use Rattle.std.specs.Io.KnownBytes.{Appends}
+use Rattle.spw.specs.Line.{IsPort, words_of}
+use Rattle.spw.specs.declared.faults.LineFault.TheVariants.{NoPort, TooLong}
+use Rattle.target.specs.declared.served.Served.{Served}
+use Rattle.bank.specs.Records.{JournalValue}
+use Rattle.job_parts.specs.Printed.{fault_line}
+use Rattle.job_parts.specs.declared.bad_lines.BadLine.{BadLine}
+use Rattle.job_parts.specs.declared.bad_lines.BadLine.TheVariants.{Line, NoPort as NoSuchPort}
+use Rattle.job_parts.specs.declared.faults.Fault.TheVariants.{BadLine as AtLine}
+use Rattle.job_nodes.specs.JobNode.{HandsOut, JobNodeValue, RefusesLine, SetsBytes, TakesLine, is_full}
+use Rattle.job_nodes.specs.Lines.{IsPrinted}
+use Rattle.single_node.specs.Nodes.{covers_in}
+use Rattle.job_live.specs.Asks.{IsAsked}
+use Rattle.job_live.specs.Settings.{IsNoSetting, WritesSetting}
+use Rattle.job_live.specs.Telling.{journal_text}
+use Rattle.job_live.specs.declared.answering.TheConstants.{MAX_LINE}
+use Rattle.job_live.specs.declared.asks.Asks.{Asks}
+use Rattle.job_live.specs.declared.asks.Asks.TheVariants.{Packet, Journal, Set}
+use Rattle.job_live.specs.declared.settings.Setting.{Setting}
+
+-- the journal was handed out, and its entries were printed
+pub record TellsJournal (before after : JobNodeValue) (old new : Option (List ℕ)) : Type 0 where
+  pub journal : JournalValue
+  pub handed_out : HandsOut before after journal
+  pub printed : Appends old new (journal_text journal.entries)
+
+-- a journal that is full was handed out, and one that is not stays
+abbrev pub MakesRoom : (is_full : Bool) → (before after : JobNodeValue) → (old new : Option (List ℕ)) → Type 0
+MakesRoom true before after old new = TellsJournal before after old new
+MakesRoom false before after old new = (after ≡ before) × (new ≡ old)
+
+-- the node took a packet line, and what came of it was printed; or it refuses the line for that fault
+abbrev pub TakesOrRefuses : (line : List ℕ) (fault : Option BadLine) (before after : JobNodeValue) (old new : Option (List ℕ)) → Type 0
+TakesOrRefuses line None before after old new =
+    (came : Option (ℕ × Served)) × TakesLine line came before after × IsPrinted came after.reply old new
+TakesOrRefuses line (Some fault) before after old new = RefusesLine line fault before after × (new ≡ old)
+
+-- a packet line met a journal with room for its command
+pub record MeetsRoom (line : List ℕ) (fault : Option BadLine) (before after : JobNodeValue) (old new : Option (List ℕ)) : Type 0 where
+  pub ready : JobNodeValue
+  pub between : Option (List ℕ)
+  pub room : MakesRoom (is_full (slice_get before.banks 0)) before ready old between
+  pub taken : TakesOrRefuses line fault ready after between new
+
+-- the bytes of a write lie in the bank, whose extended address is 00
+unfoldable pub is_inside : JobNodeValue → Setting → Bool
+is_inside node setting = setting.extended == 0 && covers_in (slice_get node.banks 0) setting.address (length setting.bytes.items)
+
+-- the line that tells of so many bytes that they were set
+abbrev pub set_line : (count : ℕ) → List ℕ
+set_line count = codes "set " ++ decimal count ++ 10 ∷ []
+
+-- the journal was handed out, and then the bytes of the write stand in memory; the entries were printed, and how many
+-- bytes were set
+pub record TellsSetting (setting : Setting) (before after : JobNodeValue) (old new : Option (List ℕ)) : Type 0 where
+  pub journal : JournalValue
+  pub between : Option (List ℕ)
+  pub set : SetsBytes setting.address setting.bytes.items before after journal
+  pub told : Appends old between (journal_text journal.entries)
+  pub printed : Appends between new (set_line (length setting.bytes.items))
+
+-- the words write the setting, whose bytes lie in the bank
+pub record WritesInside (words : List (List ℕ)) (node : JobNodeValue) (setting : Setting) : Type 0 where
+  pub written : WritesSetting words setting
+  pub inside : is_inside node setting ≡ true
+
+-- the words write a setting whose bytes do not lie in the bank
+pub record WritesOutside (words : List (List ℕ)) (node : JobNodeValue) : Type 0 where
+  pub setting : Setting
+  pub written : WritesSetting words setting
+  pub outside : is_inside node setting ≡ false
+
+-- why nothing was set: the words write no such thing, or the bytes do not lie in the bank
+abbrev pub IsUnset : (words : List (List ℕ)) → JobNodeValue → BadLine → Type 0
+IsUnset words node fault =
+    IsNoSetting words fault
+    ⊎ ((fault ≡ NoSuchPort) × WritesOutside words node)
+
+-- the write of an instrument, or nothing for that fault
+abbrev pub SetsOrRefuses : (words : List (List ℕ)) (fault : Option BadLine) (before after : JobNodeValue) (old new : Option (List ℕ)) → Type 0
+SetsOrRefuses words None before after old new =
+    (setting : Setting) × WritesInside words before setting × TellsSetting setting before after old new
+SetsOrRefuses words (Some fault) before after old new = IsUnset words before fault × (after ≡ before) × (new ≡ old)
+
+-- the first word is a port
+abbrev pub BeginsWithPort : List (List ℕ) → Type 0
+BeginsWithPort [] = ⊥
+BeginsWithPort (first ∷ others) = IsPort first
+
+-- a line that is too long has that fault where it begins with a port, and else that it has none
+abbrev pub IsFaultByPort : List (List ℕ) → BadLine → Type 0
+IsFaultByPort words fault =
+    ((fault ≡ Line TooLong) × BeginsWithPort words) ⊎ ((fault ≡ Line NoPort) × ¬ BeginsWithPort words)
+
+-- the fault of a line that is longer than any packet line: its length, where it begins as a packet line or a write does,
+-- and else that it has no port
+abbrev pub IsLongFault : List (List ℕ) → Asks → BadLine → Type 0
+IsLongFault words Set fault = fault ≡ Line TooLong
+IsLongFault words Journal fault = IsFaultByPort words fault
+IsLongFault words Packet fault = IsFaultByPort words fault
+
+-- a line that is longer than any packet line does nothing
+abbrev pub RefusesLong : List (List ℕ) → Asks → (fault : Option BadLine) (before after : JobNodeValue) (old new : Option (List ℕ)) → Type 0
+RefusesLong words asks None before after old new = ⊥
+RefusesLong words asks (Some fault) before after old new = IsLongFault words asks fault × (after ≡ before) × (new ≡ old)
+
+-- what a line does that is not too long, by what it asks for
+abbrev pub DoesAsked : Asks → (line : List ℕ) (fault : Option BadLine) (before after : JobNodeValue) (old new : Option (List ℕ)) → Type 0
+DoesAsked Packet line fault before after old new = MeetsRoom line fault before after old new
+DoesAsked Journal line fault before after old new = (fault ≡ None) × TellsJournal before after old new
+DoesAsked Set line fault before after old new = SetsOrRefuses (words_of line) fault before after old new
+
+-- what a line does that may be too long, by what it asks for
+abbrev pub DoesBy : (is_long : Bool) → Asks → (line : List ℕ) (fault : Option BadLine) (before after : JobNodeValue) (old new : Option (List ℕ)) → Type 0
+DoesBy true asks line fault before after old new = RefusesLong (words_of line) asks fault before after old new
+DoesBy false asks line fault before after old new = DoesAsked asks line fault before after old new
+
+-- the line did what it asks for, or nothing for that fault
+pub record Does (line : List ℕ) (fault : Option BadLine) (before after : JobNodeValue) (old new : Option (List ℕ)) : Type 0
+  where
+    pub asks : Asks
+    pub asked : IsAsked (words_of line) asks
+    pub done : DoesBy (nat_lt MAX_LINE (length line)) asks line fault before after old new
+
+-- of a line that has a fault that was printed, with its number
+abbrev pub IsFaultPrinted : (number : ℕ) → Option BadLine → (old new : Option (List ℕ)) → Type 0
+IsFaultPrinted number None old new = new ≡ old
+IsFaultPrinted number (Some fault) old new = Appends old new (fault_line (AtLine number fault))
+
+-- the line, which came as the one of that number, did what it asks for, and what is due for it was printed; it is bad
+-- where it has a fault
+pub record Answers (line : List ℕ) (number : ℕ) (before after : JobNodeValue) (old new : Option (List ℕ)) (is_bad : Bool) :
+    Type 0 where
+  pub fault : Option BadLine
+  pub between : Option (List ℕ)
+  pub does : Does line fault before after old between
+  pub told : IsFaultPrinted number fault between new
+  pub bad : is_bad ≡ is_some fault

@@ -1,0 +1,6 @@
+pub mod Answering
+pub mod Asks
+pub mod LiveJob
+pub mod Settings
+pub mod Talking
+pub mod Telling

@@ -1,0 +1,36 @@
+//! What a line of a talk asks for.
+
+ghost use Rattle.std.specs.Prelude.{◌∷◌, map};
+ghost use Rattle.job_live.specs.Asks.{IsAsked};
+
+/// What a line of a talk asks for, by its words.
+#[derive(Clone, Copy, Debug, PartialEq, Eq)]
+pub enum Asks {
+    /// To be taken as a packet line.
+    Packet,
+    /// The journal: `journal`.
+    Journal,
+    /// A write of the instrument: `set`, and words behind it.
+    Set,
+}
+
+/// What a line of this first word asks for, with the others behind it.
+fn asked_by(first: &str, others: &[&str]) -> Asks
+    ensures { IsAsked (first.now ∷ map (λ word. word.now) others.now) result }
+{
+    match first {
+        "journal" if others.is_empty() => Asks::Journal,
+        "set" => Asks::Set,
+        _ => Asks::Packet,
+    }
+}
+
+/// What a line of these words asks for.
+pub fn asked(words: &[&str]) -> Asks
+    ensures { IsAsked (map (λ word. word.now) words.now) result }
+{
+    let [first, others @ ..] = words else {
+        return Asks::Packet;
+    };
+    asked_by(first, others)
+}

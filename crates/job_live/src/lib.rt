@@ -1,0 +1,10 @@
+//! The job of `rmapctl` that answers packet lines as they come.
+#![tactic(auto)]
+
+pub mod answering;
+pub mod asks;
+pub mod host;
+pub mod live;
+pub mod settings;
+pub mod talk;
+pub mod telling;

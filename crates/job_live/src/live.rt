@@ -1,0 +1,148 @@
+//! The job `live`.
+
+ghost use Rattle.std.specs.Prelude.{◌≡◌, ◌||◌, IfErr, IfOk, OnOk, false};
+ghost use Rattle.clap.specs.Simple.{app_of};
+ghost use Rattle.clap.specs.declared.builder.command.Command.TheViews.{out-Command as fields_of};
+ghost use Rattle.job_parts.specs.Printed.{fault_line};
+ghost use Rattle.job_live.specs.LiveJob.{BeginsTalk, Exchanges, HoldsTalk, IsCutOff, IsLiveNode, IsNoLiveNode, IsTalkHalt, IsUnsent, IsWholeTalk, Lives, live_app};
+
+use crate::answering::answer;
+use crate::talk::Talk;
+use clap::Command;
+use job_nodes::node::JobNode;
+use job_parts::factory::judging_program;
+use job_parts::faults::Fault;
+use job_parts::options::{NodeWords, node_arguments};
+use job_parts::stops::{Halt, WriteFault};
+use job_parts::storage::Files;
+use std::alloc::{AllocError, Global};
+use std::io::Write;
+
+/// The name of standard input, where the lines cannot be read.
+const STANDARD_INPUT: &str = "-";
+
+/// `live [--image FILE] [--maps LIST] [--ports N]`.
+pub fn live_command<'a>(alloc: Global) -> Result<Command<'a>, AllocError>
+    ensures shape { IfOk result (λ c. app_of c ≡ live_app) }
+    ensures local { IfOk result (λ c. (fields_of c).has_globals ≡ false) }
+{
+    let about = "Answers packet lines at standard input as they come";
+    node_arguments(alloc, Command::new(alloc, "live").about(about))
+}
+
+/// Takes the next line, and sends what is due for it: whether it is bad, or `None` where no more came.
+fn exchange<'a, T: Talk>(
+    alloc: Global,
+    node: &mut JobNode,
+    talk: &mut T,
+    number: usize,
+) -> Result<Option<bool>, Halt<'a>>
+    ensures exchanged { IfOk result (λ went. Exchanges T.came T.sent number went
+        node.old node.new talk.old talk.new) }
+    ensures stops { IfErr result (λ stop. IsTalkHalt stop) }
+{
+    let mut line = String::new(alloc);
+    let Ok(is_given) = talk.next(&mut line) else {
+        return Err(Halt::Ended(Fault::CannotRead(STANDARD_INPUT)));
+    };
+    if !is_given {
+        return Ok(None);
+    }
+    let mut text = Vec::new(alloc);
+    let Ok(is_bad) = answer(alloc, node, line.as_str(), number, &mut text) else {
+        return Err(Halt::Ended(Fault::NoMemory));
+    };
+    match talk.send(text.as_slice()) {
+        Ok(()) => Ok(Some(is_bad)),
+        Err(_) => Err(Halt::Unwritten(WriteFault)),
+    }
+}
+
+/// Whether one of both is bad.
+fn either(first: bool, second: bool) -> bool
+    ensures { result ≡ (first || second) }
+{
+    first || second
+}
+
+/// Holds a talk to its end: whether one of its lines was bad.
+fn hold<'a, T: Talk>(alloc: Global, node: &mut JobNode, talk: &mut T) -> Result<bool, Halt<'a>>
+    ensures held { IfOk result (IsWholeTalk T.came T.sent node.old node.new talk.old talk.new) }
+    ensures stops { IfErr result (λ stop. BeginsTalk T.came T.sent node.old talk.old
+        × IsTalkHalt stop) }
+{
+    let mut some_bad = false;
+    for number in 1..usize::MAX {
+        let Some(is_bad) = exchange(alloc, node, talk, number)? else {
+            return Ok(some_bad);
+        };
+        some_bad = either(some_bad, is_bad);
+    }
+    Ok(some_bad)
+}
+
+/// A fresh node of these words, whose commands the program of its image file, or the factory program, judges.
+fn live_node<'a, F: Files>(
+    alloc: Global,
+    words: &'a NodeWords,
+    files: &mut F,
+) -> Result<JobNode, Fault<'a>>
+    ensures node { IfOk result (λ node. IsLiveNode F.reads words.now files.old node files.new) }
+    ensures refused { IfErr result (IsNoLiveNode F.reads words.now files.old files.new) }
+{
+    let image = words.image.as_deref();
+    let program = judging_program(alloc, files, image, words.sizes)?;
+    JobNode::new(alloc, words.ports, program)
+}
+
+/// Holds a talk on the node of these words to its end: whether one of its lines was bad.
+fn live_on<'a, F: Files, T: Talk>(
+    alloc: Global,
+    words: &'a NodeWords,
+    files: &mut F,
+    talk: &mut T,
+) -> Result<bool, Halt<'a>>
+    ensures held { IfOk result (HoldsTalk F.reads T.came T.sent words.now
+        files.old files.new talk.old talk.new) }
+    ensures stops { IfErr result (IsCutOff F.reads T.came T.sent words.now
+        files.old files.new talk.old talk.new) }
+{
+    let mut node = live_node(alloc, words, files)?;
+    hold(alloc, &mut node, talk)
+}
+
+/// Sends the line of the fault that cut a talk off.
+fn tell<T: Talk>(alloc: Global, fault: &Fault<'_>, talk: &mut T) -> Result<(), WriteFault>
+    ensures { OnOk result (T.sent talk.old (fault_line fault.now) talk.new) }
+{
+    let mut text = Vec::new(alloc);
+    writeln!(text, "{fault}")?;
+    talk.send(text.as_slice()).map_err(|_| WriteFault)
+}
+
+/// Answers the lines of a talk as they come, on the node of these words, and gives the exit status: 1 where a line was bad,
+/// or a fault cut the talk off, else 0. What is due for a line is sent before the next is asked for.
+///
+/// What cuts it off is told last: what [`judging_program`] refuses, `CannotRead` where a line cannot be read, `NoMemory`.
+///
+/// `WriteFault` where an answer could not be sent; nothing is sent after that.
+pub fn live<F: Files, T: Talk>(
+    alloc: Global,
+    words: &NodeWords,
+    files: &mut F,
+    talk: &mut T,
+) -> Result<u8, WriteFault>
+    ensures lives { IfOk result (Lives F.reads T.came T.sent words.now
+        files.old files.new talk.old talk.new) }
+    ensures unsent { IfErr result (λ _. IsUnsent F.reads T.came T.sent words.now
+        files.old files.new talk.old) }
+{
+    match live_on(alloc, words, files, talk) {
+        Ok(some_bad) => Ok(u8::from(some_bad)),
+        Err(Halt::Ended(fault)) => {
+            tell(alloc, &fault, talk)?;
+            Ok(1)
+        }
+        Err(Halt::Unwritten(fault)) => Err(fault),
+    }
+}

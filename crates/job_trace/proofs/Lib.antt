@@ -1,0 +1,4 @@
+mod Histories
+mod LinesInTurn
+mod Signs
+mod Striding

@@ -1,0 +1,154 @@
+-- A step that asks, and the lines of steps.
+use Rattle.std.proofs.Common.{◌≡◌, ◌<◌, ℕ, ◌+◌, ◌-◌, suc, refl, sym, ap, ap₂, ◌∙◌, subst, arith, add-one, Bool, true, false, cond, List, [], ◌∷◌, ◌++◌, append_assoc, Option, Some, None, Bor}
+use Rattle.std.proofs.lemmas.List.{append-nil}
+use Rattle.std.specs.Io.KnownBytes.{Appends}
+use Rattle.bpf.specs.Program.{Program}
+use Rattle.bpf_insn.specs.declared.insn.Insn.{Insn}
+use Rattle.machine.specs.declared.helpers.Helper.{Helper}
+use Rattle.machine.specs.Memory.{Header}
+use Rattle.machine.specs.Sizes.{Maps}
+use Rattle.machine.specs.Laws.{QuestionsGoOn}
+use Rattle.machine.specs.State.{State}
+use Rattle.machine.specs.Step.{Question, question, Outcome, Next, Ask, Verdict, Trap, after_answer, insn_at, step, finds_maps, step_with}
+use Rattle.stepper.specs.declared.outcomes.Outcome.TheVariants as told
+use Rattle.stepper.specs.Machine.{MachineValue, state_of, step_of, IsOutcome, IsAsk, IsSameRun}
+use Rattle.job_trace.specs.Changes.{step_line}
+use Rattle.job_trace.specs.Runs.{IsStride, IsStrideBy, On, Last, Stuck, Stride, Strides, line_before, lines_at, lines_of_step, lines_within, stride_of}
+use Rattle.job_trace.specs.declared.changes.Change.{Change}
+use Rattle.job_trace.specs.declared.changes.Change.TheVariants as changes
+
+-- ---- what was printed
+
+regroup : (a b c : List ℕ) → (a ++ b) ++ c ≡ a ++ (b ++ c)
+regroup a b c = simp append_assoc
+
+-- what was printed before and behind
+pub appends_both : (old mid new : Option (List ℕ)) (front back : List ℕ) → Appends old mid front → Appends mid new back → Appends old new (front ++ back)
+appends_both None mid new front back one two = tt
+appends_both (Some xs) None new front back one two = absurd one
+appends_both (Some xs) (Some ys) None front back one two = absurd two
+appends_both (Some xs) (Some ys) (Some zs) front back one two =
+    two ∙ ap (λ (l : List ℕ). l ++ back) one ∙ regroup xs front back
+
+-- nothing was printed
+pub appends_nothing : (old : Option (List ℕ)) → Appends old old []
+appends_nothing None = tt
+appends_nothing (Some xs) = sym (append-nil xs)
+
+-- ---- a step that asks
+
+same_question : (asked : Question) (helper : Helper) (map key argument : ℕ) → asked.helper ≡ helper → asked.map ≡ map → asked.key ≡ key → asked.argument ≡ argument → asked ≡ question helper map key argument
+same_question asked helper map key argument one two three four =
+    ap (λ h. question h asked.map asked.key asked.argument) one ∙ ap (λ m. question helper m asked.key asked.argument) two
+    ∙ ap (λ k. question helper map k asked.argument) three ∙ ap (λ a. question helper map key a) four
+
+outcome_asks : (o : Outcome) (helper : Helper) (map key argument : ℕ) (s t : State) → IsOutcome o (told.Ask helper map key argument) s t → (on : ℕ → State) × (o ≡ Ask (question helper map key argument) on) × (t ≡ s)
+outcome_asks (Next u) helper map key argument s t h = let e = h.0 in absurd cc
+outcome_asks (Ask asked on) helper map key argument s t h =
+    let e = h.0 in
+    let one : asked.helper ≡ helper = cc in
+    let two : asked.map ≡ map = cc in
+    let three : asked.key ≡ key = cc in
+    let four : asked.argument ≡ argument = cc in
+    (on, ap (λ (q : Question). Ask q on) (same_question asked helper map key argument one two three four), h.1)
+outcome_asks (Verdict verdict) helper map key argument s t h = let e = h.0 in absurd cc
+outcome_asks Trap helper map key argument s t h = let e = h.0 in absurd cc
+
+same_step : (sizes sizes' : Maps) (program program' : Program) (header header' : Header) (s s' : State) → sizes ≡ sizes' → program ≡ program' → header ≡ header' → s ≡ s' → step_with sizes program header s ≡ step_with sizes' program' header' s'
+same_step sizes sizes' program program' header header' s s' e f g h = rw (e, f, g, h) refl
+
+-- the question stands after the step, which leaves the state
+pub still_asks : (m after : MachineValue) (helper : Helper) (map key argument : ℕ) → IsOutcome (step_of m) (told.Ask helper map key argument) (state_of m) (state_of after) → IsSameRun m after → IsAsk (step_of after)
+still_asks m after helper map key argument outcome same =
+    let asks = outcome_asks _ helper map key argument _ _ outcome in
+    let again : step_of after ≡ Ask (question helper map key argument) asks.0 = same_step _ _ _ _ _ _ (state_of after) (state_of m) same.sizes same.program same.header asks.2 ∙ asks.1 in
+    subst (λ (o : Outcome). IsAsk o) (sym again) tt
+
+choice : (b : Bool) (x o : Outcome) → cond b x Trap ≡ o → (o ≡ Trap → ⊥) → x ≡ o
+choice true x o e no_trap = e
+choice false x o e no_trap = absurd (no_trap (sym e))
+
+-- a step that asks, and its answer
+pub strides_ask : QuestionsGoOn → (m asked after : MachineValue) (helper : Helper) (map key argument answer : ℕ) (answers left : List ℕ) (made budget : ℕ) (insn : Insn)
+    → IsOutcome (step_of m) (told.Ask helper map key argument) (state_of m) (state_of asked) → answers ≡ answer ∷ left → state_of after ≡ after_answer (state_of asked) answer
+    → stride_of made budget m.slot insn answers (step_of m) ≡ On (changes.Told map key answer) (state_of after) left
+strides_ask goes_so m asked after helper map key argument answer answers left made budget insn outcome given goes_on =
+    let asks = outcome_asks _ helper map key argument _ _ outcome in
+    let asked_is = question helper map key argument in
+    let no_trap : Ask asked_is asks.0 ≡ Trap → ⊥ = λ e. cc in
+    let bare : step m.program m.header (state_of m) ≡ Ask asked_is asks.0 = choice (finds_maps m.sizes (state_of m) (insn_at m.program m.slot)) _ _ asks.1 no_trap in
+    let on_is = goes_so m.program m.header (state_of m) asked_is asks.0 bare in
+    let reached : asks.0 answer ≡ state_of after = ap (λ (f : ℕ → State). f answer) on_is ∙ sym (goes_on ∙ ap (λ s. after_answer s answer) asks.2) in
+    ap₂ (λ (xs : List ℕ) (o : Outcome). stride_of made budget m.slot insn xs o) given asks.1
+    ∙ ap (λ (t : State). On (changes.Told map key answer) t left) reached
+
+-- ---- lines
+
+-- a step whose line was printed
+pub strides_by : (budget : ℕ) (m after : MachineValue) (answers : List ℕ) (old new : Option (List ℕ)) (insn : Insn) (change : Change) (left : Option (Bor (List ℕ)))
+    → insn_at m.program m.slot ≡ Some insn → IsStrideBy (stride_of (m.steps + 1) budget m.slot insn answers (step_of m)) change left (state_of after)
+    → Appends old new (step_line m.slot insn change) → Strides budget m after answers old new left
+strides_by budget m after answers old new insn change None at is printed =
+    λ (further : State → List ℕ → List ℕ).
+    let lines : lines_of_step further budget m answers ≡ step_line m.slot insn change =
+    ap (λ (o : Option Insn). lines_at further (m.steps + 1) budget m.slot answers o (step_of m)) at ∙ ap (line_before further m.slot insn) is in
+    subst (λ (text : List ℕ). Appends old new text) (sym lines) printed
+strides_by budget m after answers old new insn change (Some left) at is printed =
+    λ (further : State → List ℕ → List ℕ) (end : Option (List ℕ)) rest.
+    let lines : lines_of_step further budget m answers ≡ step_line m.slot insn change ++ further (state_of after) left.now =
+    ap (λ (o : Option Insn). lines_at further (m.steps + 1) budget m.slot answers o (step_of m)) at ∙ ap (line_before further m.slot insn) is in
+    subst (λ (text : List ℕ). Appends old end text) (sym lines) (appends_both old new end _ _ printed rest)
+
+-- the lines of a step of a run, and of what follows
+pub step_lines : (start m : MachineValue) (made budget : ℕ) (answers : List ℕ) (further : State → List ℕ → List ℕ) → IsSameRun start m → m.steps ≡ made
+    → lines_of_step further budget m answers ≡ lines_at further (suc made) budget m.slot answers (insn_at start.program m.slot) (step_with start.sizes start.program start.header (state_of m))
+step_lines start m made budget answers further same steps =
+    rw (same.program, same.header, same.sizes, steps, add-one) refl
+
+-- ---- a run
+
+-- what was printed of a run that began at the first machine, with so many steps made: whatever comes to the lines of the
+-- steps that are left, the whole comes to the lines of all
+abbrev pub Prints_so_far : (start m : MachineValue) (budget made : ℕ) (answers left : List ℕ) (old now : Option (List ℕ)) → Type 0
+Prints_so_far start m budget made answers left old now =
+    (rest : ℕ) → rest + made ≡ budget → (end : Option (List ℕ))
+    → Appends now end (lines_within start.program start.header start.sizes budget rest made (state_of m) left)
+    → Appends old end (lines_within start.program start.header start.sizes budget budget 0 (state_of start) answers)
+
+-- nothing yet
+pub begins_lines : (start : MachineValue) (budget : ℕ) (answers : List ℕ) (old : Option (List ℕ)) → Prints_so_far start start budget 0 answers answers old old
+begins_lines start budget answers old rest all end more =
+    let whole : rest ≡ budget = omega (arith, all) in
+    subst (λ (k : ℕ). Appends old end (lines_within start.program start.header start.sizes budget k 0 (state_of start) answers)) whole more
+
+-- one step more
+pub goes_on_lines : (start m after : MachineValue) (budget made : ℕ) (answers left : List ℕ) (rest : Bor (List ℕ)) (old between now : Option (List ℕ))
+    → IsSameRun start m → m.steps ≡ made → Prints_so_far start m budget made answers left old between → Strides budget m after left between now (Some rest)
+    → Prints_so_far start after budget (made + 1) answers rest.now old now
+goes_on_lines start m after budget made answers left rest old between now same steps so_far one k all end more =
+    let further = lines_within start.program start.header start.sizes budget k (suc made) in
+    let here : Appends now end (further (state_of after) rest.now) =
+    subst (λ (n : ℕ). Appends now end (lines_within start.program start.header start.sizes budget k n (state_of after) rest.now)) (add-one made) more in
+    let lines = step_lines start m made budget left further same steps in
+    so_far (suc k) (omega (arith, all)) end (subst (λ (text : List ℕ). Appends between end text) lines (one further end here))
+
+-- the last step
+pub ends_lines : (start m after : MachineValue) (budget made : ℕ) (answers left : List ℕ) (old between now : Option (List ℕ))
+    → IsSameRun start m → m.steps ≡ made → made < budget → Prints_so_far start m budget made answers left old between → Strides budget m after left between now None
+    → Appends old now (lines_within start.program start.header start.sizes budget budget 0 (state_of start) answers)
+ends_lines start m after budget made answers left old between now same steps low so_far one =
+    let k = budget - (made + 1) in
+    let further = lines_within start.program start.header start.sizes budget k (suc made) in
+    let lines = step_lines start m made budget left further same steps in
+    so_far (suc k) (omega (arith, low)) now (subst (λ (text : List ℕ). Appends between now text) lines (one further))
+
+-- no step is left
+pub all_lines : (start m : MachineValue) (budget made : ℕ) (answers left : List ℕ) (old now : Option (List ℕ))
+    → made ≡ budget → Prints_so_far start m budget made answers left old now
+    → Appends old now (lines_within start.program start.header start.sizes budget budget 0 (state_of start) answers)
+all_lines start m budget made answers left old now all so_far = so_far 0 (omega (arith, all)) now (appends_nothing now)
+
+-- what is no value is none
+pub none_of : {A : Type 0} (o : Option A) → ((x : A) → o ≡ Some x → ⊥) → o ≡ None
+none_of None not = refl
+none_of (Some x) not = absurd (not x refl)

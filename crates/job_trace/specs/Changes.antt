@@ -1,0 +1,115 @@
+-- What each step of a run changed, and the line that is printed of it.
+use Rattle.std.specs.Prelude.{ℕ, ◌+◌, ◌-◌, ◌==◌, nat_lt, if◌then◌else◌, false, List, [], ◌∷◌, ◌++◌, length, replicate}
+use Rattle.std.specs.Prelude.{take, codes, decimal, Option, Some, None}
+use Rattle.std.specs.Fmt.{digits}
+use Rattle.std.specs.Int.{w64, to_le_bytes}
+use Rattle.bpf_insn.specs.Text.{insn_text}
+use Rattle.bpf_insn.specs.declared.insn.Insn.{Insn}
+use Rattle.bpf_insn.specs.declared.insn.Insn.TheVariants.{Alu, Negate, MoveSigned, ByteSwap, Load, Store, Jump, Goto}
+use Rattle.bpf_insn.specs.declared.insn.Insn.TheVariants.{Wide, LoadMap, LoadAddress, Call, Exit}
+use Rattle.bpf_parts.specs.Sizes.{size_bytes}
+use Rattle.bpf_parts.specs.declared.memory.Size.{Size}
+use Rattle.bpf_parts.specs.Text.{register_text, signed_text}
+use Rattle.machine.specs.State.{State}
+use Rattle.machine.specs.Step.{number, operand}
+use Rattle.machine.specs.declared.regions.Region.{Region}
+use Rattle.machine.specs.declared.regions.Region.TheVariants.{Front, Tail, Stack}
+use Rattle.machine.specs.declared.regions.TheConstants.{STACK_SIZE}
+use Rattle.machine.specs.declared.values.Value.{Value}
+use Rattle.machine.specs.declared.values.Value.TheVariants.{Unset, Num, Ptr, Map}
+use Rattle.stepper.specs.Deeds.{stored_at}
+use Rattle.job_parts.specs.Replies.{reply_text}
+use Rattle.job_trace.specs.declared.changes.Change.{Change}
+use Rattle.job_trace.specs.declared.changes.Change.TheVariants as changes
+use Rattle.job_trace.specs.declared.lines.TheConstants.{COLUMN}
+
+-- ---- values
+
+-- a number: decimal below 4,096, else hexadecimal
+abbrev pub number_text : ℕ → List ℕ
+number_text n = if nat_lt n 4096 then decimal n else codes "0x" ++ digits 16 false n
+
+-- the name of a region
+abbrev pub region_text : Region → List ℕ
+region_text Front = codes "front"
+region_text Tail = codes "tail"
+region_text Stack = codes "stack"
+
+-- what a register holds: a pointer is its region and its offset there, with the sign
+abbrev pub value_text : Value → List ℕ
+value_text Unset = codes "unset"
+value_text (Num n) = number_text n
+value_text (Ptr region offset) = region_text region ++ signed_text offset
+value_text (Map index) = codes "map " ++ decimal index
+
+-- ---- changes
+
+-- what a store of so many bytes of that number to that place of the stack changed
+abbrev pub stored : Size → (place : Option ℕ) → (number : Option ℕ) → Change
+stored size None value = changes.Nothing
+stored size (Some place) None = changes.Nothing
+stored size (Some place) (Some n) = changes.Stored place size n
+
+-- where a jump at that slot led: it is told where that is not the next slot
+abbrev pub jumped : (slot next : ℕ) → Change
+jumped slot next = if next == slot + 1 then changes.NotTaken else changes.Jumped next
+
+-- what an instruction at that slot changed, by the state behind its step. A store changes no register, so its operands
+-- stand there as before. The last three go on by no step of their own
+abbrev pub change_of : Insn → (slot : ℕ) → State → Change
+change_of (Alu op width dst src) slot t = changes.Written dst (t.registers dst)
+change_of (Negate width dst) slot t = changes.Written dst (t.registers dst)
+change_of (MoveSigned extension dst src) slot t = changes.Written dst (t.registers dst)
+change_of (ByteSwap swap bits dst) slot t = changes.Written dst (t.registers dst)
+change_of (Load size dst place) slot t = changes.Written dst (t.registers dst)
+change_of (Store size place src) slot t =
+    stored size (stored_at (t.registers place.base) (size_bytes size) place.offset) (number (operand t src))
+change_of (Jump comparison offset) slot t = jumped slot t.slot
+change_of (Goto distance) slot t = changes.Jumped t.slot
+change_of (Wide dst value) slot t = changes.Written dst (t.registers dst)
+change_of (LoadMap dst index) slot t = changes.Written dst (t.registers dst)
+change_of (LoadAddress dst address) slot t = changes.Nothing
+change_of (Call callee called) slot t = changes.Nothing
+change_of Exit slot t = changes.Nothing
+
+-- the offsets of so many bytes of the stack from that place on: the first and the last, or the one
+abbrev pub stack_text : (place bytes : ℕ) → List ℕ
+stack_text place bytes =
+    if bytes == 1
+    then codes "stack-" ++ decimal (STACK_SIZE - place)
+    else codes "stack-" ++ decimal (STACK_SIZE - place) ++ codes "..-" ++ decimal (STACK_SIZE + 1 - place - bytes)
+
+-- the text of a change. Bytes that are stored stand in their order in memory, the lowest of the number first
+abbrev pub change_text : Change → List ℕ
+change_text (changes.Written register value) = register_text register ++ codes " = " ++ value_text value
+change_text (changes.Stored place size n) =
+    stack_text place (size_bytes size) ++ codes " = " ++ reply_text (take (size_bytes size) (to_le_bytes w64 n))
+change_text changes.NotTaken = codes "not taken"
+change_text (changes.Jumped slot) = codes "to " ++ decimal slot
+change_text (changes.Told map key told) =
+    codes "map " ++ decimal map ++ codes " cell " ++ decimal key ++ codes ": told " ++ number_text told
+change_text (changes.Ended verdict steps budget) =
+    codes "verdict " ++ number_text verdict ++ codes " after " ++ decimal steps ++ codes " steps, budget " ++ decimal budget
+change_text changes.Nothing = []
+
+-- ---- lines
+
+-- so many spaces, and at most those of the column
+abbrev pub blanks : ℕ → List ℕ
+blanks n = take n (replicate COLUMN 32)
+
+-- the slot of an instruction and its text
+abbrev pub place_text : (slot : ℕ) → Insn → List ℕ
+place_text slot insn = decimal slot ++ codes ": " ++ insn_text insn
+
+-- a text in a column that begins a line, with the space behind it
+abbrev pub column_text : List ℕ → List ℕ
+column_text text = codes "    " ++ text ++ blanks (COLUMN - length text) ++ codes " "
+
+-- a text in a column, and behind it a change
+abbrev pub change_line : List ℕ → Change → List ℕ
+change_line text change = column_text text ++ change_text change ++ 10 ∷ []
+
+-- the line of a step: the instruction at its slot, and in a column of its own what it changed
+abbrev pub step_line : (slot : ℕ) → Insn → Change → List ℕ
+step_line slot insn change = change_line (place_text slot insn) change

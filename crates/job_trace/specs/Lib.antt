@@ -1,0 +1,5 @@
+pub mod Changes
+pub mod Runs
+pub mod TraceJob
+pub mod Judged
+pub mod Traced

@@ -1,0 +1,160 @@
+//! What a step of a run changed.
+
+ghost use Rattle.std.specs.Prelude.{◌≡◌, OnOk};
+ghost use Rattle.stepper.specs.Machine.{state_of};
+ghost use Rattle.bpf_parts.specs.Sizes.{size_bytes};
+ghost use Rattle.job_parts.specs.Printed.{Prints};
+ghost use Rattle.job_trace.specs.Changes.{change_of, change_text, jumped, number_text, region_text, stack_text, value_text};
+
+use bpf_insn::{Insn, MemoryOperand, Operand, Register, Size};
+use job_parts::replies::print_bytes;
+use machine::{Region, STACK_SIZE, Value};
+use std::io::{self, Write};
+use stepper::Machine;
+
+/// What a step of a run changed.
+#[derive(Clone, Copy, Debug, PartialEq, Eq)]
+pub enum Change {
+    /// A register holds a value.
+    Written(Register, Value),
+    /// The low bytes of a number stand in the stack, from this place on.
+    Stored(usize, Size, u64),
+    /// A jump goes on at the next slot.
+    NotTaken,
+    /// A jump goes on at this slot.
+    Jumped(u32),
+    /// A helper was told of the cell of a map and a key.
+    Told(u8, u16, u64),
+    /// The program ended with a verdict after so many steps, within its budget.
+    Ended(u64, u32, u32),
+    /// Nothing that is told.
+    Nothing,
+}
+
+/// What a store changed, by the registers behind it.
+fn stored(machine: &Machine<'_>, size: Size, place: &MemoryOperand, src: &Operand) -> Change
+    ensures { result ≡ change_of (Insn.Store size place.now src.now) 0 (state_of machine.now) }
+{
+    match machine.stored(size, place) {
+        Some(place) => match machine.operand(src) {
+            Value::Num(number) => Change::Stored(place, size, number),
+            Value::Unset | Value::Ptr { .. } | Value::Map(_) => Change::Nothing,
+        },
+        None => Change::Nothing,
+    }
+}
+
+/// Where a jump at a slot led, by the slot of the next instruction.
+fn jumped(slot: u32, next: u32) -> Change
+    ensures { result ≡ jumped slot next }
+{
+    if u64::from(next) == u64::from(slot) + 1 {
+        Change::NotTaken
+    } else {
+        Change::Jumped(next)
+    }
+}
+
+/// What the instruction at a slot changed, where the machine stands behind its step.
+pub fn change_of(insn: &Insn, slot: u32, machine: &Machine<'_>) -> Change
+    ensures { result ≡ change_of insn.now slot (state_of machine.now) }
+{
+    match *insn {
+        Insn::Alu { dst, .. }
+        | Insn::Negate { dst, .. }
+        | Insn::MoveSigned { dst, .. }
+        | Insn::ByteSwap { dst, .. }
+        | Insn::Load { dst, .. }
+        | Insn::Wide { dst, .. }
+        | Insn::LoadMap { dst, .. } => Change::Written(dst, machine.register(dst)),
+        Insn::Store { size, place, src } => stored(machine, size, &place, &src),
+        Insn::Jump { .. } => jumped(slot, machine.slot()),
+        Insn::Goto { .. } => Change::Jumped(machine.slot()),
+        Insn::LoadAddress { .. } | Insn::Call { .. } | Insn::Exit => Change::Nothing,
+    }
+}
+
+/// Prints a number: decimal below 4,096, else hexadecimal.
+fn print_number<W: Write>(out: &mut W, number: u64) -> io::Result<()>
+    ensures { OnOk result (Prints W.contents out.old out.new (number_text number)) }
+{
+    if number < 4096 {
+        write!(out, "{number}")
+    } else {
+        write!(out, "0x{number:x}")
+    }
+}
+
+/// The name of a region.
+fn region_name(region: Region) -> &'static str
+    ensures { result.now ≡ region_text region }
+{
+    match region {
+        Region::Front => "front",
+        Region::Tail => "tail",
+        Region::Stack => "stack",
+    }
+}
+
+/// Prints what a register holds.
+fn print_value<W: Write>(out: &mut W, value: Value) -> io::Result<()>
+    ensures { OnOk result (Prints W.contents out.old out.new (value_text value)) }
+{
+    match value {
+        Value::Unset => write!(out, "unset"),
+        Value::Num(number) => print_number(out, number),
+        Value::Ptr { region, offset } => {
+            let name = region_name(region);
+            write!(out, "{name}{offset:+}")
+        }
+        Value::Map(index) => write!(out, "map {index}"),
+    }
+}
+
+/// Prints where so many bytes of the stack lie, from a place on.
+fn print_stack<W: Write>(out: &mut W, place: usize, bytes: usize) -> io::Result<()>
+    ensures { OnOk result (Prints W.contents out.old out.new (stack_text place bytes)) }
+{
+    let first = STACK_SIZE.saturating_sub(place);
+    if bytes == 1 {
+        return write!(out, "stack-{first}");
+    }
+    let last = (STACK_SIZE + 1).saturating_sub(place).saturating_sub(bytes);
+    write!(out, "stack-{first}..-{last}")
+}
+
+/// Prints what a store changed.
+fn print_stored<W: Write>(out: &mut W, place: usize, size: Size, number: u64) -> io::Result<()>
+    ensures { OnOk result (Prints W.contents out.old out.new
+        (change_text (Change.Stored place size number))) }
+{
+    let bytes = number.to_le_bytes();
+    print_stack(out, place, size.bytes())?;
+    write!(out, " = ")?;
+    print_bytes(out, &bytes[..size.bytes()])
+}
+
+/// Prints what a step changed.
+pub fn print_change<W: Write>(out: &mut W, change: Change) -> io::Result<()>
+    ensures { OnOk result (Prints W.contents out.old out.new (change_text change)) }
+{
+    match change {
+        Change::Written(register, value) => {
+            write!(out, "{register} = ")?;
+            print_value(out, value)
+        }
+        Change::Stored(place, size, number) => print_stored(out, place, size, number),
+        Change::NotTaken => write!(out, "not taken"),
+        Change::Jumped(slot) => write!(out, "to {slot}"),
+        Change::Told(map, key, told) => {
+            write!(out, "map {map} cell {key}: told ")?;
+            print_number(out, told)
+        }
+        Change::Ended(verdict, steps, budget) => {
+            write!(out, "verdict ")?;
+            print_number(out, verdict)?;
+            write!(out, " after {steps} steps, budget {budget}")
+        }
+        Change::Nothing => Ok(()),
+    }
+}

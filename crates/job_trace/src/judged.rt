@@ -1,0 +1,168 @@
+//! A command, from its Take to its reply.
+
+ghost use Rattle.std.specs.Prelude.{◌≡◌, IfErr, IfOk, IfSome, OnOk};
+ghost use Rattle.machine.specs.declared.helpers.Helper.{Helper};
+ghost use Rattle.sched.specs.Answers.{answering};
+ghost use Rattle.job_nodes.specs.JudgeJob.{discard_line};
+ghost use Rattle.job_parts.specs.Printed.{Prints};
+ghost use Rattle.job_parts.specs.Stops.{StopsBy};
+ghost use Rattle.job_parts.specs.declared.faults.Fault.TheVariants.{NoMemory};
+ghost use Rattle.job_trace.specs.TraceJob.{taken_line};
+ghost use Rattle.job_trace.specs.Judged.{AnswersHelpers, EndsCommand, IsEnd, PrintsRun, TracesCommand, TracesPacket};
+
+use crate::runs::trace_run;
+use brun::Turn;
+use job_parts::faults::Fault;
+use job_parts::replies::print_reply;
+use job_parts::stops::Halt;
+use machine::Helper;
+use rmap::{Discard, Place};
+use sched::{Event, Outcome, World, step};
+use spw::Packet;
+use std::alloc::Global;
+use std::io::{self, Write};
+use stepper::Machine;
+
+/// How many questions a run has at most: no more than a budget allows it steps.
+const MOST_QUESTIONS: u32 = 0x1_0000;
+
+/// The event that answers the helper that a program at the port asks, or `None` where it asks none.
+fn question(world: &World, port: u8) -> Option<Event>
+    ensures { IfSome result (λ event. (helper : Helper) × (event ≡ answering helper port)) }
+{
+    match world.standing(port)?.turn {
+        Turn::Ask(Helper::Count, _, _, _) => Some(Event::Count(port)),
+        Turn::Ask(Helper::Ticket, _, _, _) => Some(Event::Ticket(port)),
+        Turn::Ask(Helper::Peak, _, _, _) => Some(Event::Peak(port)),
+        Turn::Verdict(_) => None,
+    }
+}
+
+/// Answers the helpers of the program that judges at a port, up to its verdict: what they were told, in order.
+#[tactic(auto, using(crate::proofs::Histories::answers_none, crate::proofs::Histories::answers_more))]
+fn answer_helpers<'a>(alloc: Global, world: &mut World, port: u8) -> Result<Vec<u64>, Fault<'a>>
+    ensures answered { IfOk result
+        (λ answers. AnswersHelpers port answers.items world.old world.new) }
+    ensures stops { IfErr result (λ fault. fault ≡ NoMemory) }
+{
+    let mut answers = Vec::new(alloc);
+    for _question in 0..MOST_QUESTIONS {
+        let Some(event) = question(world, port) else {
+            return Ok(answers);
+        };
+        // Memory alone can be refused to it: the program asks that helper.
+        let Ok(Outcome::Told(told)) = step(alloc, world, event) else {
+            return Err(Fault::NoMemory);
+        };
+        answers.push(told).map_err(|_| Fault::NoMemory)?;
+    }
+    Ok(answers)
+}
+
+/// Prints that a command was taken: `PORT taken slot S generation G`.
+fn print_taken<W: Write>(out: &mut W, port: u8, slot: u8, generation: u32) -> io::Result<()>
+    ensures { OnOk result
+        (Prints W.contents out.old out.new (taken_line port slot generation)) }
+{
+    writeln!(out, "{port} taken slot {slot} generation {generation}")
+}
+
+/// Prints that the command at a port was taken, and the steps of its run, whose helpers had these answers.
+fn print_run<'a, W: Write>(
+    alloc: Global,
+    world: &World,
+    port: u8,
+    answers: &[u64],
+    out: &mut W,
+) -> Result<(), Halt<'a>>
+    ensures printed { OnOk result (PrintsRun port answers.now world.now
+        (W.contents out.old) (W.contents out.new)) }
+    ensures stops { IfErr result (StopsBy (λ fault. fault ≡ NoMemory)) }
+{
+    let Some(standing) = world.standing(port) else {
+        return Err(Halt::Ended(Fault::NoMemory));
+    };
+    print_taken(out, port, standing.slot, standing.generation)?;
+    let image = standing.program.image();
+    let sizes = standing.program.sizes();
+    let machine = Machine::start(image, &sizes, standing.front, standing.tail, port);
+    trace_run(alloc, machine, answers, image.budget(), out)
+}
+
+/// The event that ends the command at a port, where its bytes lie there.
+fn ending(port: u8, place: Place) -> Event
+    ensures { IsEnd port result }
+{
+    match place {
+        Place::Bank(_) | Place::Staging | Place::LoadResult => Event::Effect(port),
+        Place::Control => Event::Publish(port),
+    }
+}
+
+/// Ends the command at a port, whose program has its verdict, and prints its reply.
+fn end_command<'a, W: Write>(
+    alloc: Global,
+    world: &mut World,
+    port: u8,
+    out: &mut W,
+) -> Result<(), Halt<'a>>
+    ensures ended { OnOk result (EndsCommand port world.old world.new
+        (W.contents out.old) (W.contents out.new)) }
+    ensures stops { IfErr result (StopsBy (λ fault. fault ≡ NoMemory)) }
+{
+    let Some(standing) = world.standing(port) else {
+        return Err(Halt::Ended(Fault::NoMemory));
+    };
+    let event = ending(port, standing.place);
+    // Memory alone can be refused to it: the program has its verdict.
+    let Ok(Outcome::Done(_, reply, _)) = step(alloc, world, event) else {
+        return Err(Halt::Ended(Fault::NoMemory));
+    };
+    Ok(print_reply(out, port, reply.bytes())?)
+}
+
+/// Judges the command that was taken at a port, and prints its run and its reply.
+fn trace_command<'a, W: Write>(
+    alloc: Global,
+    world: &mut World,
+    port: u8,
+    out: &mut W,
+) -> Result<(), Halt<'a>>
+    ensures traced { OnOk result (TracesCommand port world.old world.new
+        (W.contents out.old) (W.contents out.new)) }
+    ensures stops { IfErr result (StopsBy (λ fault. fault ≡ NoMemory)) }
+{
+    let answers = answer_helpers(alloc, world, port)?;
+    print_run(alloc, world, port, &answers, out)?;
+    end_command(alloc, world, port, out)
+}
+
+/// Prints that a packet was discarded: `PORT discard C`.
+fn print_discard<W: Write>(out: &mut W, port: u8, discard: Discard) -> io::Result<()>
+    ensures { OnOk result (Prints W.contents out.old out.new (discard_line port discard)) }
+{
+    let code = discard.code();
+    writeln!(out, "{port} discard {code}")
+}
+
+/// Takes a packet at a port, and prints what becomes of it: the run of the program that judges it, and its reply.
+#[tactic(auto, using(crate::proofs::Histories::traces_stopped, crate::proofs::Histories::traces_judged))]
+pub fn trace_packet<'a, W: Write>(
+    alloc: Global,
+    world: &mut World,
+    port: u8,
+    packet: Packet,
+    out: &mut W,
+) -> Result<(), Halt<'a>>
+    ensures traced { OnOk result (TracesPacket port packet world.old world.new
+        (W.contents out.old) (W.contents out.new)) }
+    ensures stops { IfErr result (StopsBy (λ fault. fault ≡ NoMemory)) }
+{
+    match step(alloc, world, Event::Take(port, packet)) {
+        Ok(Outcome::Discarded(discard)) => Ok(print_discard(out, port, discard)?),
+        Ok(Outcome::Answered(_, reply)) => Ok(print_reply(out, port, reply.bytes())?),
+        Ok(Outcome::Taken(_)) => trace_command(alloc, world, port, out),
+        // Memory alone can be refused to it: no command is open at the port.
+        _ => Err(Halt::Ended(Fault::NoMemory)),
+    }
+}

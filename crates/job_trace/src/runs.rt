@@ -1,0 +1,95 @@
+//! The steps of a run.
+
+ghost use Rattle.std.specs.Prelude.{◌≡◌, ◌+◌, ◌^◌, ◌<◌, IfErr, IfOk, IfSome, OnOk};
+ghost use Rattle.stepper.specs.Machine.{IsSameRun, state_of, step_of};
+ghost use Rattle.job_parts.specs.Printed.{Prints};
+ghost use Rattle.job_parts.specs.Stops.{StopsBy};
+ghost use Rattle.job_parts.specs.declared.faults.Fault.TheVariants.{NoMemory};
+ghost use Rattle.job_trace.specs.Runs.{IsStride, Strides, lines_within, stride_of};
+
+use crate::changes::{Change, change_of};
+use crate::lines::print_step;
+use bpf_insn::Insn;
+use job_parts::stops::Halt;
+use machine::questions_go_on;
+use std::alloc::Global;
+use std::io::Write;
+use stepper::{Machine, Outcome};
+
+/// Makes the step of an instruction: what it changed, and the answers that are left, or `None` in their place where the
+/// run has its verdict. `None` where it is a trap, or a question without an answer.
+fn stride<'b>(
+    machine: &mut Machine<'_>,
+    insn: &Insn,
+    answers: &'b [u64],
+    budget: u32,
+) -> Option<(Change, Option<&'b [u64]>)>
+    requires few { machine.old.steps + 1 < 2 ^ 32 }
+    ensures stride { IsStride (stride_of (machine.old.steps + 1) budget machine.old.slot insn.now
+        answers.now (step_of machine.old)) result (state_of machine.new) }
+    ensures run { IsSameRun machine.old machine.new }
+    ensures steps { machine.new.steps ≡ machine.old.steps + 1 }
+{
+    questions_go_on();
+    let slot = machine.slot();
+    match machine.step() {
+        Outcome::Next => Some((change_of(insn, slot, machine), Some(answers))),
+        Outcome::Ask { map, key, .. } => {
+            let (told, left) = answers.split_first()?;
+            machine.answer(*told);
+            Some((Change::Told(map, key, *told), Some(left)))
+        }
+        Outcome::Verdict(verdict) => Some((Change::Ended(verdict, machine.steps(), budget), None)),
+        Outcome::Trap => None,
+    }
+}
+
+/// Makes a step, and prints its line. The answers that are left, or `None` where the run goes no further.
+fn trace_step<'a, 'b, W: Write>(
+    alloc: Global,
+    machine: &mut Machine<'_>,
+    answers: &'b [u64],
+    budget: u32,
+    out: &mut W,
+) -> Result<Option<&'b [u64]>, Halt<'a>>
+    requires few { machine.old.steps + 1 < 2 ^ 32 }
+    ensures printed { IfOk result (Strides budget machine.old machine.new answers.now
+        (W.contents out.old) (W.contents out.new)) }
+    ensures run { IsSameRun machine.old machine.new }
+    ensures steps { IfOk result (λ left. IfSome left (λ _. machine.new.steps ≡ machine.old.steps + 1)) }
+    ensures stops { IfErr result (StopsBy (λ fault. fault ≡ NoMemory)) }
+{
+    let slot = machine.slot();
+    let Some(insn) = machine.insn() else {
+        return Ok(None);
+    };
+    let Some((change, left)) = stride(machine, &insn, answers, budget) else {
+        return Ok(None);
+    };
+    print_step(alloc, out, slot, &insn, change)?;
+    Ok(left)
+}
+
+/// Prints the steps of a run from its entry on, with the answers to its helpers in order.
+pub fn trace_run<'a, W: Write>(
+    alloc: Global,
+    mut machine: Machine<'_>,
+    answers: &[u64],
+    budget: u32,
+    out: &mut W,
+) -> Result<(), Halt<'a>>
+    requires { machine.steps ≡ 0 }
+    ensures printed { OnOk result (Prints W.contents out.old out.new
+        (lines_within machine.entry.program machine.entry.header machine.entry.sizes
+        budget budget 0 (state_of machine.entry) answers.now)) }
+    ensures stops { IfErr result (StopsBy (λ fault. fault ≡ NoMemory)) }
+{
+    let mut left = answers;
+    for _step in 0..budget {
+        let Some(rest) = trace_step(alloc, &mut machine, left, budget, out)? else {
+            return Ok(());
+        };
+        left = rest;
+    }
+    Ok(())
+}

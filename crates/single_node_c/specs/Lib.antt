@@ -1,0 +1,6 @@
+pub mod Held
+pub mod Numbers
+pub mod Serving
+pub mod Journals
+pub mod Memory
+pub mod Opening

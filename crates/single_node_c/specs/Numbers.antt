@@ -1,0 +1,91 @@
+-- The numbers that stand for what a call tells.
+use Rattle.std.specs.Prelude.{ℕ, ◌==◌, if◌then◌else◌, length, List, map, Option, Some, None}
+use Rattle.bank.specs.Records.{EntryValue}
+use Rattle.machine.specs.Sizes.{Maps, listed_maps}
+use Rattle.machine.specs.declared.kinds.MapKind.{MapKind}
+use Rattle.machine.specs.declared.kinds.MapKind.TheVariants.{Counter, Peak}
+use Rattle.rmap.specs.Codes.{discard_code, status_code}
+use Rattle.single_node.specs.declared.served.Told.{Told}
+use Rattle.single_node_c.specs.declared.numbers.BankNumbers.{BankNumbers}
+use Rattle.single_node_c.specs.declared.numbers.EntryNumbers.{EntryNumbers}
+use Rattle.single_node_c.specs.declared.numbers.MapNumbers.{MapNumbers}
+use Rattle.single_node_c.specs.declared.numbers.ServedNumbers.{ServedNumbers}
+use Rattle.single_node_c.specs.declared.numbers.TheConstants.{ANSWERED, DISCARDED, JUDGED}
+use Rattle.spw.specs.declared.packets.End.{End}
+use Rattle.spw.specs.declared.packets.End.TheVariants.{Eop, Eep}
+use Rattle.target.specs.declared.config.BankConfig.{BankConfig}
+use Rattle.target.specs.declared.served.Served.{Served}
+use Rattle.target.specs.declared.served.Served.TheVariants.{Stopped, Unread, Done, Window}
+use Rattle.target.specs.declared.stop.Stop.{Stop}
+use Rattle.target.specs.declared.stop.Stop.TheVariants.{Discarded, Answered}
+
+-- the kind of a packet that its header stops
+abbrev pub kind_of_stop : Stop → ℕ
+kind_of_stop (Discarded discard) = DISCARDED
+kind_of_stop (Answered status) = ANSWERED
+
+-- the kind of what became of a packet. A node of one thread leaves none unread
+abbrev pub kind_of : Served → ℕ
+kind_of (Stopped stop) = kind_of_stop stop
+kind_of Unread = ANSWERED
+kind_of (Done applied) = JUDGED
+kind_of (Window status) = JUDGED
+
+-- the number of a discard, or the status of a reply to a packet that its header stops
+abbrev pub status_of_stop : Stop → ℕ
+status_of_stop (Discarded discard) = discard_code discard
+status_of_stop (Answered status) = status_code status
+
+-- the number of a discard, or the status of a reply. A node of one thread leaves none unread
+abbrev pub status_of : Served → ℕ
+status_of (Stopped stop) = status_of_stop stop
+status_of Unread = 1
+status_of (Done applied) = status_code applied.status
+status_of (Window status) = status_code status
+
+-- the numbers of what is told of a packet, with a reply of so many bytes
+abbrev pub served_numbers : Told → (reply_length : ℕ) → ServedNumbers
+served_numbers told reply_length = record {
+  verdict = told.verdict;
+  generation = told.generation;
+  reply_length = reply_length;
+  kind = kind_of told.served;
+  status = status_of told.served;
+}
+
+-- the number of an end
+abbrev pub end_number : End → ℕ
+end_number Eop = 0
+end_number Eep = 1
+
+-- the end of a number, if it is the number of one
+abbrev pub end_of : ℕ → Option End
+end_of number = if number == 0 then Some Eop else if number == 1 then Some Eep else None
+
+-- the numbers of an entry
+abbrev pub entry_numbers : EntryValue → EntryNumbers
+entry_numbers entry = record {
+  number = entry.number;
+  verdict = entry.verdict;
+  generation = entry.generation;
+  packet_length = length entry.packet.bytes;
+  port = entry.port;
+  status = status_code entry.status;
+  end = end_number entry.packet.end;
+}
+
+-- the bank of these numbers
+abbrev pub bank_of : BankNumbers → BankConfig
+bank_of bank = record { base = bank.base; size = bank.size; room = bank.room }
+
+-- what the cells of a map with that number are for: 0 counts, any other number is a peak
+abbrev pub kind_of_map : ℕ → MapKind
+kind_of_map peak = if peak == 0 then Counter else Peak
+
+-- the map of these numbers
+abbrev pub map_of : MapNumbers → ℕ × MapKind
+map_of m = (m.cells, kind_of_map m.peak)
+
+-- the maps of these numbers
+abbrev pub maps_of : List MapNumbers → Maps
+maps_of numbers = listed_maps (map map_of numbers)

@@ -1,0 +1,144 @@
+-- What it takes to judge in a node, and what a fresh node is made of.
+use Rattle.std.specs.Prelude.{◌≡◌, ◌≤◌, ℕ, List, All, map, Bool, true, false, Option, Some, None, Err, ◌&&◌}
+use Rattle.bank.specs.Limits.{is_ports}
+use Rattle.bpf.specs.Fault.{image_fault_code, image_fault_slot}
+use Rattle.bpf.specs.Program.{Program, image_bytes}
+use Rattle.bpf.specs.Reading.{image_reading}
+use Rattle.bpf.specs.declared.fault.ImageFault.{ImageFault}
+use Rattle.bpf.specs.declared.fault.ImageFault.TheVariants as faults
+use Rattle.bver.specs.Justified.{AcceptedValue, IsJustified}
+use Rattle.bver.specs.Refusals.{IsRefusal}
+use Rattle.bver.specs.Unjustified.{TellsUnjustified}
+use Rattle.bver_form.specs.Codes.{refusal_code}
+use Rattle.bver_form.specs.declared.refusal.Refused.{Refused}
+use Rattle.machine.specs.Runs.{IsSafe}
+use Rattle.machine.specs.Sizes.{Maps, AreSizes}
+use Rattle.single_node.specs.Nodes.{SingleNodeValue, IsFresh}
+use Rattle.single_node_c.specs.Numbers.{bank_of, maps_of}
+use Rattle.single_node_c.specs.declared.codes.TheConstants.{OK, NO_MEMORY, BAD_CONFIG, BAD_MAPS, BAD_IMAGE, REFUSED}
+use Rattle.single_node_c.specs.declared.numbers.BankNumbers.{BankNumbers}
+use Rattle.single_node_c.specs.declared.numbers.MapNumbers.{MapNumbers}
+use Rattle.single_node_c.specs.declared.numbers.Why.{Why}
+use Rattle.single_node_c.specs.declared.unfit.Unfit.{Unfit}
+use Rattle.single_node_c.specs.declared.unfit.Unfit.TheVariants.{Memory, Config, Maps as MapsUnfit, Image, Program as ProgramUnfit}
+use Rattle.target.specs.Nodes.{are_within, limit_fault}
+use Rattle.target.specs.declared.config.NodeConfig.{NodeConfig}
+
+-- ---- programs
+
+-- the numbers are maps that a node may have: each is of one of the two kinds, and their sizes are in the limits
+pub record AreMaps (numbers : List MapNumbers) : Type 0 where
+  pub kinds : All (λ m. m.peak ≤ 1) numbers
+  pub sizes : AreSizes (maps_of numbers)
+
+-- the program that the bytes of the image spell was accepted for those maps: it may judge, and is safe
+pub record IsAccepted (maps : Maps) (image : List ℕ) (a : AcceptedValue) : Type 0 where
+  pub spelled : image ≡ image_bytes a.program
+  pub sizes : a.sizes ≡ maps
+  pub justified : IsJustified a.program maps
+  pub safe : IsSafe a.program maps
+
+-- the bytes spell a program, which the verifier refuses for those maps
+pub record IsRefused (maps : Maps) (image : List ℕ) (refused : Refused) : Type 0 where
+  pub program : Program
+  pub spelled : image ≡ image_bytes program
+  pub refusal : IsRefusal program refused
+  pub unjustified : TellsUnjustified program maps refused
+
+-- why an image may not judge whose bytes have that fault
+abbrev pub unfit_of : ImageFault → Unfit
+unfit_of faults.Memory = Memory
+unfit_of faults.Magic = Image faults.Magic
+unfit_of faults.Version = Image faults.Version
+unfit_of faults.Length = Image faults.Length
+unfit_of faults.Count = Image faults.Count
+unfit_of faults.Budget = Image faults.Budget
+unfit_of faults.Loop = Image faults.Loop
+unfit_of (faults.Insn slot fault) = Image (faults.Insn slot fault)
+
+-- why an image may not judge in a node with those maps: the bytes are no image, and this is their first fault; or they
+-- spell a program that the verifier refuses; or memory was refused
+pub data IsImageUnfit (maps : Maps) (image : List ℕ) (fault : Unfit) : Type 0 where
+  of_memory : fault ≡ Memory → IsImageUnfit maps image fault
+  of_image : (first : ImageFault) → image_reading image ≡ Err first → fault ≡ Image first
+      → IsImageUnfit maps image fault
+  of_program : (refused : Refused) → IsRefused maps image refused → fault ≡ ProgramUnfit refused
+      → IsImageUnfit maps image fault
+
+-- the same in a node with maps of those numbers: they are none that a node may have, which is tested first, or the image
+-- may not judge
+pub data IsUnfit (numbers : List MapNumbers) (image : List ℕ) (fault : Unfit) : Type 0 where
+  no_maps : (AreMaps numbers → ⊥) → fault ≡ MapsUnfit → IsUnfit numbers image fault
+  bad_image : AreMaps numbers → IsImageUnfit (maps_of numbers) image fault → IsUnfit numbers image fault
+
+-- the code that stands for it
+abbrev pub code_of : Unfit → ℕ
+code_of Memory = NO_MEMORY
+code_of Config = BAD_CONFIG
+code_of MapsUnfit = BAD_MAPS
+code_of (Image fault) = BAD_IMAGE
+code_of (ProgramUnfit refused) = REFUSED
+
+-- no number and no slot
+abbrev pub no_why : Why
+no_why = record { code = 0; slot = 0 }
+
+-- the number of the image's fault or of the refusal, and its slot
+abbrev pub why_of : Unfit → Why
+why_of Memory = no_why
+why_of Config = no_why
+why_of MapsUnfit = no_why
+why_of (Image fault) = record { code = image_fault_code fault; slot = image_fault_slot fault }
+why_of (ProgramUnfit refused) = record { code = refusal_code refused.code; slot = refused.slot }
+
+-- what is told of an image: its program may judge in a node with those maps, or why it may not
+pub data TellsFit (numbers : List MapNumbers) (image : List ℕ) (code : ℕ) (why : Why) : Type 0 where
+  fit : (a : AcceptedValue) → AreMaps numbers → IsAccepted (maps_of numbers) image a → code ≡ OK → why ≡ no_why
+      → TellsFit numbers image code why
+  unfit : (fault : Unfit) → IsUnfit numbers image fault → code ≡ code_of fault → why ≡ why_of fault
+      → TellsFit numbers image code why
+
+-- ---- nodes
+
+-- 1 to 32 ports, and 1 to 8 banks, each within its limits
+abbrev pub is_config : (ports : ℕ) → List BankNumbers → Bool
+is_config ports banks = is_ports ports && are_within (map bank_of banks)
+
+-- the node is a fresh one with that address, those ports and banks, and that program, which judges in each slot
+pub record IsOpened (address ports : ℕ) (banks : List BankNumbers) (factory : AcceptedValue) (node : SingleNodeValue) :
+    Type 0 where
+  pub config : NodeConfig
+  pub address_is : config.address ≡ address
+  pub ports_are : config.ports ≡ ports
+  pub banks_are : config.banks.now ≡ map bank_of banks
+  pub fresh : IsFresh config factory node
+  pub within : limit_fault config ≡ None
+
+-- why a node is not made of those ports and banks: they are outside their limits, else memory was refused
+abbrev pub IsConfigFault : (within : Bool) → Unfit → Type 0
+IsConfigFault true fault = fault ≡ Memory
+IsConfigFault false fault = fault ≡ Config
+
+-- why no node is opened: the image may not judge, which is tested first, or no node is made of those ports and banks
+pub data IsUnopened (ports : ℕ) (banks : List BankNumbers) (numbers : List MapNumbers) (image : List ℕ)
+    (fault : Unfit) : Type 0 where
+  no_program : IsUnfit numbers image fault → IsUnopened ports banks numbers image fault
+  bad_config : (factory : AcceptedValue) → AreMaps numbers → IsAccepted (maps_of numbers) image factory
+      → IsConfigFault (is_config ports banks) fault → IsUnopened ports banks numbers image fault
+
+-- the node is a fresh one with that address, those ports and banks, and the program that the image spells, which was
+-- accepted for those maps and judges in each slot
+pub record IsMade (address ports : ℕ) (banks : List BankNumbers) (numbers : List MapNumbers) (image : List ℕ)
+    (node : SingleNodeValue) : Type 0 where
+  pub factory : AcceptedValue
+  pub maps : AreMaps numbers
+  pub accepted : IsAccepted (maps_of numbers) image factory
+  pub opened : IsOpened address ports banks factory node
+
+-- what is told of an opening: the handle holds the node that was made; or why it holds none
+pub data TellsOpening (address ports : ℕ) (banks : List BankNumbers) (numbers : List MapNumbers) (image : List ℕ)
+    (kept : Option SingleNodeValue) (code : ℕ) (why : Why) : Type 0 where
+  opened : (node : SingleNodeValue) → IsMade address ports banks numbers image node → kept ≡ Some node → code ≡ OK
+      → why ≡ no_why → TellsOpening address ports banks numbers image kept code why
+  unopened : (fault : Unfit) → IsUnopened ports banks numbers image fault → kept ≡ None → code ≡ code_of fault
+      → why ≡ why_of fault → TellsOpening address ports banks numbers image kept code why

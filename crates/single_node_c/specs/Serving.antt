@@ -1,0 +1,42 @@
+-- What a call that serves a packet does.
+use Rattle.std.specs.Prelude.{◌≡◌, ℕ, ◌++◌, List, length, drop, nat_le, nat_lt, Option, Some, None, if◌then◌else◌, is_none}
+use Rattle.rmap.specs.declared.reply.TheConstants.{MAX_REPLY}
+use Rattle.single_node.specs.Nodes.{SingleNodeValue}
+use Rattle.single_node.specs.Serving.{ServesTold}
+use Rattle.single_node.specs.declared.served.Told.{Told}
+use Rattle.single_node_c.specs.Numbers.{end_of, served_numbers}
+use Rattle.single_node_c.specs.declared.codes.TheConstants.{NO_PORT, BAD_END, TOO_LONG, NO_ROOM}
+use Rattle.single_node_c.specs.declared.numbers.ServedNumbers.{ServedNumbers}
+use Rattle.spw.specs.Cargo.{Cargo}
+use Rattle.spw.specs.declared.packets.TheConstants.{MAX_PACKET}
+
+-- bytes at the front of a room, and behind them what was there
+abbrev pub put_front : (room bytes : List ℕ) → List ℕ
+put_front room bytes = bytes ++ drop (length bytes) room
+
+-- the first test that fails of a packet of so many bytes with that end, and of the room for its reply
+abbrev pub serve_test : (port size end room : ℕ) → SingleNodeValue → Option ℕ
+serve_test port size end room node =
+    if nat_le (length node.passes) port then Some NO_PORT
+    else if is_none (end_of end) then Some BAD_END
+    else if nat_lt MAX_PACKET size then Some TOO_LONG
+    else if nat_lt room MAX_REPLY then Some NO_ROOM
+    else None
+
+-- the packet was served at that port as a node of one thread serves it (`ServesTold`). Its reply stands at the front of
+-- the room, with the rest of it as before, and the numbers are those of what became of the packet
+pub record ServesPacket (port : ℕ) (packet : Cargo) (before after : SingleNodeValue) (room left : List ℕ)
+    (numbers : ServedNumbers) : Type 0 where
+  pub told : Told
+  pub reply : List ℕ
+  pub serves : ServesTold told port packet before after reply
+  pub left_is : left ≡ put_front room reply
+  pub numbers_are : numbers ≡ served_numbers told (length reply)
+
+-- the same of the bytes of a packet and the number of its end
+pub record ServesBytes (port : ℕ) (bytes : List ℕ) (end : ℕ) (room left : List ℕ) (numbers : ServedNumbers)
+    (before after : SingleNodeValue) : Type 0 where
+  pub packet : Cargo
+  pub bytes_are : packet.bytes ≡ bytes
+  pub end_is : end_of end ≡ Some packet.end
+  pub serves : ServesPacket port packet before after room left numbers

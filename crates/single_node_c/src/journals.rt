@@ -1,0 +1,173 @@
+//! The journals of the banks.
+
+ghost use Rattle.std.specs.Prelude.{◌≡◌, ◌≢◌, ◌<◌, Err, IfErr, IfSome, MatchResult, Ok, length};
+ghost use Rattle.single_node_c.specs.Held.{Becomes, IsCode, code_on, test_on};
+ghost use Rattle.single_node_c.specs.Journals.{RotatesTo, TellsEntry, TellsJournal, bank_code, entry_at, entry_code, room_code, rotate_test};
+ghost use Rattle.single_node_c.specs.Numbers.{entry_numbers};
+ghost use Rattle.single_node_c.specs.Serving.{put_front};
+ghost use Rattle.single_node_c.specs.declared.codes.TheConstants.{OK};
+
+use crate::codes::{BAD_CONFIG, NO_BANK, NO_ENTRY, NO_MEMORY, NO_NODE, NO_ROOM, OK};
+use crate::handle::Handle;
+use crate::held::{put, take};
+use crate::lists::put_front;
+use crate::numbers::{EntryNumbers, JournalNumbers};
+use bank::{BankFault, Entry, Journal};
+use single_node::SingleNode;
+use std::alloc::Global;
+
+/// How the journal of a bank stands.
+fn journal_of(node: &SingleNode, bank: u8) -> JournalNumbers
+    requires { bank < length node.now.banks }
+    ensures { TellsJournal bank result node.now }
+{
+    JournalNumbers {
+        entries: node.bank(bank).entries().len() as u64,
+        loaded: node.loaded(),
+    }
+}
+
+/// Tells how the journal of a bank stands, where there is that bank: a code.
+fn tell_journal(node: &SingleNode, bank: u8, numbers: &mut JournalNumbers) -> u32
+    ensures code { result ≡ bank_code bank node.now }
+    ensures told { result ≡ OK → TellsJournal bank numbers.new node.now }
+    ensures numbers { result ≢ OK → numbers.new ≡ numbers.old }
+{
+    if bank >= node.banks() {
+        return NO_BANK;
+    }
+    *numbers = journal_of(node, bank);
+    OK
+}
+
+/// Tells how the journal of a bank stands. The node stays as it is.
+#[unsafe(no_mangle)]
+pub extern "C" fn sandbar_journal_of(
+    alloc: Global,
+    handle: &mut Handle,
+    bank: u8,
+    numbers: &mut JournalNumbers,
+) -> u32
+    ensures code { result ≡ code_on handle.old.kept (bank_code bank) }
+    ensures told { result ≡ OK → IfSome handle.old.kept (TellsJournal bank numbers.new) }
+    ensures numbers { result ≢ OK → numbers.new ≡ numbers.old }
+    ensures node { handle.new.kept ≡ handle.old.kept }
+{
+    let Some(node) = take(alloc, handle) else {
+        return NO_NODE;
+    };
+    let code = tell_journal(&node, bank, numbers);
+    put(alloc, handle, node);
+    code
+}
+
+/// The entry at a place of the journal of a bank, or the code that there is none.
+fn entry_at(node: &SingleNode, bank: u8, place: u32) -> Result<&Entry, u32>
+    ensures found { MatchResult result (λ entry. entry_at bank place node.now ≡ Ok entry.now)
+        (λ code. entry_at bank place node.now ≡ Err code) }
+    ensures code { IfErr result (λ code. code ≢ OK) }
+{
+    if bank >= node.banks() {
+        return Err(NO_BANK);
+    }
+    match node.bank(bank).entries().get(place as usize) {
+        Some(entry) => Ok(entry),
+        None => Err(NO_ENTRY),
+    }
+}
+
+/// Copies an entry, where there is room for its packet: a code.
+fn copy_entry(entry: &Entry, room: &mut [u8], numbers: &mut EntryNumbers) -> u32
+    ensures code { result ≡ room_code (Ok entry.now) (length room.old) }
+    ensures packet { result ≡ OK → room.new ≡ put_front room.old entry.now.packet.bytes }
+    ensures told { result ≡ OK → numbers.new ≡ entry_numbers entry.now }
+    ensures room { result ≢ OK → room.new ≡ room.old }
+    ensures numbers { result ≢ OK → numbers.new ≡ numbers.old }
+{
+    let bytes = entry.packet().bytes();
+    if bytes.len() > room.len() {
+        return NO_ROOM;
+    }
+    put_front(room, bytes);
+    *numbers = EntryNumbers::of(entry);
+    OK
+}
+
+/// Copies the entry at a place of the journal of a bank, where there is one and room for its packet: a code.
+fn tell_entry(
+    node: &SingleNode,
+    bank: u8,
+    place: u32,
+    room: &mut [u8],
+    numbers: &mut EntryNumbers,
+) -> u32
+    ensures code { result ≡ entry_code bank place (length room.old) node.now }
+    ensures told { result ≡ OK → TellsEntry bank place room.old room.new numbers.new node.now }
+    ensures room { result ≢ OK → room.new ≡ room.old }
+    ensures numbers { result ≢ OK → numbers.new ≡ numbers.old }
+{
+    match entry_at(node, bank, place) {
+        Ok(entry) => copy_entry(entry, room, numbers),
+        Err(code) => code,
+    }
+}
+
+/// Reads the entry at a place of the journal of a bank, 0 for the oldest, and copies its packet. The node stays as it
+/// is; at any code but `OK` nothing is written.
+#[unsafe(no_mangle)]
+pub extern "C" fn sandbar_entry_at(
+    alloc: Global,
+    handle: &mut Handle,
+    bank: u8,
+    place: u32,
+    packet: &mut [u8],
+    numbers: &mut EntryNumbers,
+) -> u32
+    ensures code { result ≡ code_on handle.old.kept (entry_code bank place (length packet.old)) }
+    ensures told { result ≡ OK
+        → IfSome handle.old.kept (TellsEntry bank place packet.old packet.new numbers.new) }
+    ensures packet { result ≢ OK → packet.new ≡ packet.old }
+    ensures numbers { result ≢ OK → numbers.new ≡ numbers.old }
+    ensures node { handle.new.kept ≡ handle.old.kept }
+{
+    let Some(node) = take(alloc, handle) else {
+        return NO_NODE;
+    };
+    let code = tell_entry(&node, bank, place, packet, numbers);
+    put(alloc, handle, node);
+    code
+}
+
+/// Begins a new journal of that room at a bank, where it may: a code.
+fn rotate(alloc: Global, node: &mut SingleNode, bank: u8, room: u32) -> u32
+    ensures code { IsCode (rotate_test bank room node.old) result }
+    ensures rotated { result ≡ OK → RotatesTo bank room node.old node.new }
+    ensures node { result ≢ OK → node.new ≡ node.old }
+{
+    if bank >= node.banks() {
+        return NO_BANK;
+    }
+    match Journal::new(alloc, room) {
+        Ok(fresh) => {
+            let _old = node.rotate(bank, fresh);
+            OK
+        }
+        Err(BankFault::Memory) => NO_MEMORY,
+        Err(BankFault::Size) => BAD_CONFIG,
+    }
+}
+
+/// Begins a new journal with room for so many entries at a bank: the entries of the old one are gone. Numbers go on.
+#[unsafe(no_mangle)]
+pub extern "C" fn sandbar_rotate(alloc: Global, handle: &mut Handle, bank: u8, room: u32) -> u32
+    ensures code { IsCode (test_on handle.old.kept (rotate_test bank room)) result }
+    ensures rotated { result ≡ OK → Becomes (RotatesTo bank room) handle.old.kept handle.new.kept }
+    ensures node { result ≢ OK → handle.new.kept ≡ handle.old.kept }
+{
+    let Some(mut node) = take(alloc, handle) else {
+        return NO_NODE;
+    };
+    let code = rotate(alloc, &mut node, bank, room);
+    put(alloc, handle, node);
+    code
+}

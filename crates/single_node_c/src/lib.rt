@@ -1,0 +1,16 @@
+//! A node of one thread as C programs call it: `include/sandbarstove.h` declares what is exported here.
+//!
+//! C keeps a [`Handle`](handle::Handle), behind which the node is; structs of numbers cross beside it. Each call answers a
+//! code: 0, or why it did nothing.
+#![tactic(auto)]
+
+mod codes;
+mod handle;
+mod held;
+mod journals;
+mod lists;
+mod memory;
+mod numbers;
+mod opening;
+mod serving;
+mod unfit;

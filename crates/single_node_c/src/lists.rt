@@ -1,0 +1,66 @@
+//! Lists of numbers that come from C, as the node has them; and bytes that go to C.
+
+ghost use Rattle.std.specs.Prelude.{◌≡◌, ◌≤◌, ◌↔◌, ◌++◌, All, IsTrue, drop, length, map, take};
+ghost use Rattle.single_node_c.specs.Numbers.{bank_of, kind_of_map, map_of};
+
+use crate::numbers::{BankNumbers, MapNumbers};
+use machine::MapKind;
+use target::BankConfig;
+
+/// The most maps that a node has.
+pub const MAX_MAPS: usize = 8;
+
+/// The banks of these numbers, with others behind them up to eight.
+pub fn banks_of(numbers: &[BankNumbers]) -> [BankConfig; 8]
+    requires { length numbers.now ≤ 8 }
+    ensures { take (length numbers.now) result ≡ map bank_of numbers.now }
+{
+    let mut banks = [BankConfig {
+        base: 0,
+        size: 0,
+        room: 0,
+    }; 8];
+    for k in 0..numbers.len() {
+        let BankNumbers { base, size, room } = numbers[k];
+        banks[k] = BankConfig { base, size, room };
+    }
+    banks
+}
+
+/// What the cells of a map with that number are for.
+fn kind_of_map(peak: u16) -> MapKind
+    ensures { result ≡ kind_of_map peak }
+{
+    if peak == 0 {
+        MapKind::Counter
+    } else {
+        MapKind::Peak
+    }
+}
+
+/// The maps of these numbers, with others behind them up to eight.
+pub fn maps_of(numbers: &[MapNumbers]) -> [(u16, MapKind); MAX_MAPS]
+    requires { length numbers.now ≤ 8 }
+    ensures { take (length numbers.now) result ≡ map map_of numbers.now }
+{
+    let mut maps = [(0, MapKind::Counter); MAX_MAPS];
+    for k in 0..numbers.len() {
+        maps[k] = (numbers[k].cells, kind_of_map(numbers[k].peak));
+    }
+    maps
+}
+
+/// Whether each map is of one of the two kinds.
+pub fn have_kinds(numbers: &[MapNumbers]) -> bool
+    ensures { IsTrue result ↔ All (λ m. m.peak ≤ 1) numbers.now }
+{
+    numbers.iter().all(|map| map.peak <= 1)
+}
+
+/// Puts bytes at the front of a room, and leaves what is behind them.
+pub fn put_front(room: &mut [u8], bytes: &[u8])
+    requires { length bytes.now ≤ length room.old }
+    ensures { room.new ≡ bytes.now ++ drop (length bytes.now) room.old }
+{
+    room[..bytes.len()].copy_from_slice(bytes);
+}

@@ -1,0 +1,152 @@
+//! The structs of numbers that cross. The header has the same fields in the same order.
+
+ghost use Rattle.std.specs.Prelude.{◌≡◌};
+ghost use Rattle.single_node_c.specs.Numbers.{entry_numbers, end_number, end_of, kind_of, served_numbers, status_of};
+
+use bank::Entry;
+use single_node::Told;
+use spw::End;
+use target::{Served, Stop};
+
+/// One bank.
+#[repr(C)]
+#[derive(Clone, Copy)]
+pub struct BankNumbers {
+    pub base: u32,
+    pub size: u32,
+    pub room: u32,
+}
+
+/// One map: how many cells, and whether they are peaks.
+#[repr(C)]
+#[derive(Clone, Copy)]
+pub struct MapNumbers {
+    pub cells: u16,
+    pub peak: u16,
+}
+
+/// Why an image may not judge.
+#[repr(C)]
+#[derive(Clone, Copy)]
+pub struct Why {
+    pub code: u16,
+    pub slot: u16,
+}
+
+/// What became of a packet.
+#[repr(C)]
+#[derive(Clone, Copy)]
+pub struct ServedNumbers {
+    pub verdict: u64,
+    pub generation: u32,
+    pub reply_length: u32,
+    pub kind: u8,
+    pub status: u8,
+}
+
+/// An entry of a journal, but for its packet.
+#[repr(C)]
+#[derive(Clone, Copy)]
+pub struct EntryNumbers {
+    pub number: u64,
+    pub verdict: u64,
+    pub generation: u32,
+    pub packet_length: u32,
+    pub port: u8,
+    pub status: u8,
+    pub end: u8,
+}
+
+/// How a journal stands.
+#[repr(C)]
+#[derive(Clone, Copy)]
+pub struct JournalNumbers {
+    pub entries: u64,
+    pub loaded: u32,
+}
+
+/// The kind of a packet that is no command.
+pub const DISCARDED: u8 = 0;
+
+/// The kind of a packet that its header answers.
+pub const ANSWERED: u8 = 1;
+
+/// The kind of a packet that a program judged.
+pub const JUDGED: u8 = 2;
+
+/// The kind of what became of a packet.
+fn kind_of(served: Served) -> u8
+    ensures { result ≡ kind_of served }
+{
+    match served {
+        Served::Stopped(Stop::Discarded(_)) => DISCARDED,
+        Served::Stopped(Stop::Answered(_)) | Served::Unread => ANSWERED,
+        Served::Done(_) | Served::Window(_) => JUDGED,
+    }
+}
+
+/// The number of a discard, or the status of a reply.
+fn status_of(served: Served) -> u8
+    ensures { result ≡ status_of served }
+{
+    match served {
+        Served::Stopped(Stop::Discarded(discard)) => discard.code(),
+        Served::Stopped(Stop::Answered(status)) => status.code(),
+        Served::Unread => 1,
+        Served::Done(applied) => applied.status.code(),
+        Served::Window(status) => status.code(),
+    }
+}
+
+impl ServedNumbers {
+    /// The numbers of what is told of a packet, with a reply of so many bytes.
+    pub fn of(told: Told, reply_length: u32) -> ServedNumbers
+        ensures { result ≡ served_numbers told reply_length }
+    {
+        ServedNumbers {
+            verdict: told.verdict,
+            generation: told.generation,
+            reply_length,
+            kind: kind_of(told.served),
+            status: status_of(told.served),
+        }
+    }
+}
+
+/// The number of an end.
+fn end_number(end: End) -> u8
+    ensures { result ≡ end_number end }
+{
+    match end {
+        End::Eop => 0,
+        End::Eep => 1,
+    }
+}
+
+/// The end of a number, if it is the number of one.
+pub fn end_of(number: u8) -> Option<End>
+    ensures { result ≡ end_of number }
+{
+    match number {
+        0 => Some(End::Eop),
+        1 => Some(End::Eep),
+        _ => None,
+    }
+}
+
+impl EntryNumbers {
+    /// The numbers of an entry.
+    pub fn of(entry: &Entry) -> EntryNumbers
+        ensures { result ≡ entry_numbers entry.now }
+    {
+        EntryNumbers {
+            number: entry.number(),
+            verdict: entry.verdict(),
+            generation: entry.generation(),
+            packet_length: entry.packet().bytes().len() as u32,
+            port: entry.port(),
+            status: entry.status().code(),
+            end: end_number(entry.packet().end()),
+        }
+    }
+}

@@ -1,0 +1,116 @@
+//! One packet, from its bytes to those of its reply.
+
+ghost use Rattle.std.specs.Prelude.{◌≡◌, ◌≢◌, ◌<◌, ◌≤◌, IfOk, Some, length};
+ghost use Rattle.rmap.specs.declared.reply.TheConstants.{MAX_REPLY};
+ghost use Rattle.single_node_c.specs.Held.{Becomes, IsCode, test_on};
+ghost use Rattle.single_node_c.specs.Numbers.{end_of};
+ghost use Rattle.single_node_c.specs.Serving.{ServesBytes, ServesPacket, serve_test};
+ghost use Rattle.single_node_c.specs.declared.codes.TheConstants.{OK};
+ghost use Rattle.spw.specs.declared.packets.TheConstants.{MAX_PACKET};
+
+use crate::codes::{BAD_END, NO_MEMORY, NO_NODE, NO_PORT, NO_ROOM, OK, TOO_LONG};
+use crate::handle::Handle;
+use crate::held::{put, take};
+use crate::lists::put_front;
+use crate::numbers::{ServedNumbers, end_of};
+use rmap::{MAX_REPLY, ReplyBuf};
+use single_node::SingleNode;
+use spw::{End, MAX_PACKET, Packet};
+use std::alloc::{AllocError, Global};
+
+/// A packet of a copy of the bytes. `AllocError` where memory was refused.
+fn packet_of(alloc: Global, bytes: &[u8], end: End) -> Result<Packet, AllocError>
+    requires { length bytes.now ≤ MAX_PACKET }
+    ensures { IfOk result (λ packet. packet ≡ record { bytes = bytes.now; end = end }) }
+{
+    let Ok(copy) = bytes.to_vec(alloc) else {
+        return Err(AllocError);
+    };
+    match Packet::new(copy, end) {
+        Ok(packet) => Ok(packet),
+        Err(_) => unreachable!(),
+    }
+}
+
+/// Serves a packet, and puts its reply at the front of the room for it.
+fn serve_packet(
+    alloc: Global,
+    node: &mut SingleNode,
+    port: u8,
+    packet: Packet,
+    room: &mut [u8],
+) -> ServedNumbers
+    requires port { port < length node.old.passes }
+    requires room { MAX_REPLY ≤ length room.old }
+    ensures { ServesPacket port packet node.old node.new room.old room.new result }
+{
+    let mut reply = ReplyBuf::new();
+    let told = node.serve_told(alloc, port, packet, &mut reply);
+    let bytes = reply.bytes();
+    put_front(room, bytes);
+    ServedNumbers::of(told, bytes.len() as u32)
+}
+
+/// Serves the bytes of a packet, where the node may: a code.
+fn serve(
+    alloc: Global,
+    node: &mut SingleNode,
+    port: u8,
+    bytes: &[u8],
+    end: u8,
+    room: &mut [u8],
+    served: &mut ServedNumbers,
+) -> u32
+    ensures code { IsCode (serve_test port (length bytes.now) end (length room.old) node.old) result }
+    ensures served { result ≡ OK
+        → ServesBytes port bytes.now end room.old room.new served.new node.old node.new }
+    ensures node { result ≢ OK → node.new ≡ node.old }
+    ensures room { result ≢ OK → room.new ≡ room.old }
+    ensures numbers { result ≢ OK → served.new ≡ served.old }
+{
+    if port >= node.ports() {
+        return NO_PORT;
+    }
+    let Some(end) = end_of(end) else {
+        return BAD_END;
+    };
+    if bytes.len() > MAX_PACKET {
+        return TOO_LONG;
+    }
+    if room.len() < MAX_REPLY {
+        return NO_ROOM;
+    }
+    let Ok(packet) = packet_of(alloc, bytes, end) else {
+        return NO_MEMORY;
+    };
+    *served = serve_packet(alloc, node, port, packet, room);
+    OK
+}
+
+/// Serves a packet, whole, as it came in at a port. At any code but `OK` all that was lent is as before.
+#[unsafe(no_mangle)]
+pub extern "C" fn sandbar_serve(
+    alloc: Global,
+    handle: &mut Handle,
+    port: u8,
+    packet: &[u8],
+    end: u8,
+    reply: &mut [u8],
+    served: &mut ServedNumbers,
+) -> u32
+    ensures code { IsCode (test_on handle.old.kept
+        (serve_test port (length packet.now) end (length reply.old))) result }
+    ensures served { result ≡ OK
+        → Becomes (ServesBytes port packet.now end reply.old reply.new served.new)
+        handle.old.kept handle.new.kept }
+    ensures node { result ≢ OK → handle.new.kept ≡ handle.old.kept }
+    ensures reply { result ≢ OK → reply.new ≡ reply.old }
+    ensures numbers { result ≢ OK → served.new ≡ served.old }
+{
+    let Some(mut node) = take(alloc, handle) else {
+        return NO_NODE;
+    };
+    let code = serve(alloc, &mut node, port, packet, end, reply, served);
+    put(alloc, handle, node);
+    code
+}

@@ -1,0 +1,23 @@
+-- The slow program's memory, as the memory of the definition.
+use Rattle.std.specs.Prelude.{ℕ, ℤ, List, slice_index_or, Option, None}
+use Rattle.stepper.specs.declared.memory.Memory.{Memory}
+use Rattle.machine.specs.declared.regions.Region.{Region}
+use Rattle.machine.specs.Memory.{Header, byte_of, header as header_of, place_of}
+use Rattle.machine.specs.Step.{bytes_at}
+
+-- the header of some lent memory
+abbrev pub header_in : Memory → Header
+header_in memory = header_of memory.front.now memory.tail.now
+
+-- a list of bytes, asked by place
+abbrev pub bytes_in : List (Option ℕ) → ℕ → Option ℕ
+bytes_in bytes place = slice_index_or bytes place None
+
+-- the number of so many bytes at an offset of some lent memory, where they are inside and all set
+abbrev pub number_seen : Memory → Region → (bytes : ℕ) → (offset : ℤ) → Option ℕ
+number_seen memory region bytes offset =
+    bytes_at (header_in memory) (bytes_in memory.stack.now) region bytes (place_of region bytes offset)
+
+-- the byte at a place of a region of some lent memory, where there is one
+abbrev pub byte_seen : Memory → Region → ℕ → Option ℕ
+byte_seen memory region place = byte_of (header_in memory) (bytes_in memory.stack.now) region place

@@ -1,0 +1,66 @@
+-- What a slow machine holds, and what its steps come to.
+use Rattle.std.specs.Prelude.{◌≡◌, ℕ, List, Option}
+use Rattle.bpf.specs.Program.{Program}
+use Rattle.machine.specs.declared.values.Value.{Value}
+use Rattle.stepper.specs.declared.deeds.Deed.{Deed}
+use Rattle.stepper.specs.declared.outcomes.Outcome as outcomes
+use Rattle.stepper.specs.declared.outcomes.Outcome.TheVariants as told
+use Rattle.machine.specs.Memory.{Header, header as header_of}
+use Rattle.stepper.specs.Bytes.{bytes_in}
+use Rattle.stepper.specs.Deeds.{outcome_of, registers_in}
+use Rattle.machine.specs.Sizes.{Maps}
+use Rattle.machine.specs.State.{State, state}
+use Rattle.machine.specs.Step.{Outcome, Next, Ask, Verdict, Trap, step_with}
+
+-- a program with its header and map sizes, the steps so far, and the state in lists
+pub record MachineValue : Type 0 where
+  pub program : Program
+  pub header : Header
+  pub sizes : Maps
+  pub steps : ℕ
+  pub slot : ℕ
+  pub registers : List Value
+  pub stack : List (Option ℕ)
+
+-- the state of a slot, a list of registers and a list of stack bytes
+abbrev pub state_with : ℕ → List Value → List (Option ℕ) → State
+state_with slot registers stack = state slot (registers_in registers) (bytes_in stack)
+
+-- the state in which the machine stands
+abbrev pub state_of : MachineValue → State
+state_of m = state_with m.slot m.registers m.stack
+
+-- the next step of a machine
+abbrev pub step_of : MachineValue → Outcome
+step_of m = step_with m.sizes m.program m.header (state_of m)
+
+-- what a machine tells of an outcome of the definition, and the state after it: as it was, where it is not the next one
+abbrev pub IsOutcome : Outcome → outcomes.Outcome → (before after : State) → Type 0
+IsOutcome (Next t) outcome before after = (outcome ≡ told.Next) × (after ≡ t)
+IsOutcome (Ask question on) outcome before after =
+    (outcome ≡ told.Ask question.helper question.map question.key question.argument) × (after ≡ before)
+IsOutcome (Verdict verdict) outcome before after = (outcome ≡ told.Verdict verdict) × (after ≡ before)
+IsOutcome Trap outcome before after = (outcome ≡ told.Trap) × (after ≡ before)
+
+-- what a machine tells of a deed that was done
+abbrev pub IsOutcomeOf : Deed → outcomes.Outcome → (before after : State) → Type 0
+IsOutcomeOf deed outcome before after = IsOutcome (outcome_of before deed) outcome before after
+
+-- whether an outcome is a helper's question
+abbrev pub IsAsk : Outcome → Type 0
+IsAsk (Next t) = ⊥
+IsAsk (Ask question on) = Unit {0}
+IsAsk (Verdict verdict) = ⊥
+IsAsk Trap = ⊥
+
+-- the same program, header and map sizes
+pub record IsSameRun (m n : MachineValue) : Type 0 where
+  pub program : n.program ≡ m.program
+  pub header : n.header ≡ m.header
+  pub sizes : n.sizes ≡ m.sizes
+
+-- the run of a program on the parts of a header, with maps of these sizes
+pub record IsRunOf (m : MachineValue) (image : Program) (front tail : List ℕ) (maps : Maps) : Type 0 where
+  pub program : m.program ≡ image
+  pub header : m.header ≡ header_of front tail
+  pub sizes : m.sizes ≡ maps

@@ -1,0 +1,94 @@
+//! What one step of a machine came to, and how it is done.
+
+ghost use Rattle.std.specs.Prelude.{◌≡◌, ◌+◌, ◌<◌, ◌≤◌};
+ghost use Rattle.bpf.specs.declared.header.TheConstants.{MAX_SLOTS};
+ghost use Rattle.machine.specs.declared.regions.TheConstants.{STACK_SIZE};
+ghost use Rattle.stepper.specs.Bytes.{bytes_in};
+ghost use Rattle.machine.specs.Memory.{byte_after};
+ghost use Rattle.stepper.specs.Deeds.{IsPlaced};
+ghost use Rattle.stepper.specs.Machine.{state_with, IsOutcomeOf};
+
+use crate::deeds::Deed;
+use bpf_insn::REGISTERS;
+use machine::{Helper, STACK_SIZE, Value};
+
+/// What one step of a machine came to.
+#[derive(Clone, Copy, Debug, PartialEq, Eq)]
+pub enum Outcome {
+    /// The machine is at its next instruction.
+    Next,
+    /// The helper asks the map of this index for a key, with an argument; `Machine::answer` goes on.
+    Ask {
+        helper: Helper,
+        map: u8,
+        key: u16,
+        argument: u64,
+    },
+    /// The program ended with this verdict.
+    Verdict(u64),
+    /// A trap: the machine cannot go on.
+    Trap,
+}
+
+/// Writes so many low bytes of a number to the stack from a place on, the lowest first.
+fn put(stack: &mut [Option<u8>; STACK_SIZE], place: usize, bytes: usize, number: u64)
+    requires { place + bytes ≤ STACK_SIZE }
+    ensures { bytes_in stack.new ≡ byte_after (bytes_in stack.old) bytes place number }
+{
+    let mut rest = number;
+    for k in place..place + bytes {
+        stack[k] = Some((rest % 256) as u8);
+        rest /= 256;
+    }
+}
+
+/// Does what an instruction does.
+pub fn apply(
+    slot: &mut u32,
+    registers: &mut [Value; REGISTERS],
+    stack: &mut [Option<u8>; STACK_SIZE],
+    deed: Deed,
+) -> Outcome
+    requires inside { slot.old < MAX_SLOTS }
+    requires placed { IsPlaced deed }
+    ensures { IsOutcomeOf deed result (state_with slot.old registers.old stack.old)
+        (state_with slot.new registers.new stack.new) }
+{
+    match deed {
+        Deed::Write {
+            register,
+            value,
+            slots,
+        } => {
+            registers[usize::from(register.number())] = value;
+            *slot += slots;
+            Outcome::Next
+        }
+        Deed::Put {
+            place,
+            bytes,
+            number,
+        } => {
+            put(stack, place, bytes, number);
+            *slot += 1;
+            Outcome::Next
+        }
+        Deed::Go(target) => {
+            *slot = target;
+            Outcome::Next
+        }
+        Deed::Ask {
+            helper,
+            map,
+            key,
+            argument,
+        } => Outcome::Ask {
+            helper,
+            map,
+            key,
+            argument,
+        },
+        Deed::Verdict(verdict) => Outcome::Verdict(verdict),
+        Deed::Trap => Outcome::Trap,
+    }
+}

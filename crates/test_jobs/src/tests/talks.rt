@@ -1,0 +1,134 @@
+//! Talks: what is sent, and when.
+
+ghost use Rattle.std.specs.Prelude.{⊤};
+
+use crate::tests::checks::{check, same};
+use commands::{Cannot, Talk, Work, WriteFault, live, words};
+use std::alloc::Global;
+use std::test::Fail;
+use test_kit_jobs::folder_of;
+
+/// Lines, what is due for each, and one bad line among them.
+const LINES: [(&str, &str); 6] = [
+    (
+        "0 FE016C0067000100A0000010000002411122A3 EOP",
+        "0 67012C00FE00017C EOP\n",
+    ),
+    ("0 FE01 eop", "line 2 fault 3\n"),
+    ("0 FE014C0067000200A0 PART", ""),
+    (
+        "0 0000100000024F EOP",
+        "0 67010C00FE000200000002681122A3 EOP\n",
+    ),
+    ("set 00 A0010000 01", "line 5 fault 6\n"),
+    (
+        "journal",
+        "journal 0 0 0 0 0 FE016C0067000100A0000010000002411122A3 EOP\njournal 0 1 0 0 0 FE014C0067000200A00000100000024F EOP\njournal 2 entries\n",
+    ),
+];
+
+/// A talk that hands a line out only where what is due for the one before it was sent, and that fails at one move.
+#[derive(Drop)]
+struct Script {
+    alloc: Global,
+    given: usize,
+    sent: Vec<String>,
+    moves: usize,
+    failing: usize,
+}
+
+impl Script {
+    /// A talk that fails at the move of this number, from 0.
+    fn new(alloc: Global, failing: usize) -> Script {
+        Script {
+            alloc,
+            given: 0,
+            sent: Vec::new(alloc),
+            moves: 0,
+            failing,
+        }
+    }
+
+    /// Counts a move, and fails at its own.
+    fn step(&mut self) -> Result<(), Cannot> {
+        let number = self.moves;
+        self.moves = number.saturating_add(1);
+        if number == self.failing {
+            return Err(Cannot);
+        }
+        Ok(())
+    }
+}
+
+impl Talk for Script {
+    ghost came = { λ _ _ _. ⊤ };
+
+    ghost sent = { λ _ _ _. ⊤ };
+
+    fn next(&mut self, line: &mut String) -> Result<bool, Cannot> {
+        self.step()?;
+        if self.sent.len() != self.given {
+            return Err(Cannot);
+        }
+        let Some((text, _)) = LINES.get(self.given) else {
+            return Ok(false);
+        };
+        line.clear();
+        line.push_str(text).map_err(|_| Cannot)?;
+        self.given = self.given.saturating_add(1);
+        Ok(true)
+    }
+
+    fn send(&mut self, text: &[u8]) -> Result<(), Cannot> {
+        self.step()?;
+        let text = str::from_utf8(text).map_err(|_| Cannot)?;
+        let text = String::from_str(self.alloc, text).map_err(|_| Cannot)?;
+        self.sent.push(text).map_err(|_| Cannot)
+    }
+}
+
+/// Holds a talk that fails at the move of this number: the talk, and what came of it.
+fn held(alloc: Global, failing: usize) -> Result<(Script, Result<u8, WriteFault>), Fail> {
+    let Work::Live(node) = words(alloc, &["live"])? else {
+        return Err("no talk".into());
+    };
+    let mut folder = folder_of(alloc, &[]).map_err(|_| "no folder")?;
+    let mut talk = Script::new(alloc, failing);
+    let done = live(alloc, &node, &mut folder, &mut talk);
+    Ok((talk, done))
+}
+
+#[test]
+fn each_answer_before_the_next_line(rt: HostRuntime) -> Result<(), Fail> {
+    let (talk, done) = held(rt.alloc(), usize::MAX)?;
+    same(&rt, "the status", done, Ok(1));
+    same(&rt, "answers", talk.sent.len(), LINES.len());
+    for (answer, (line, due)) in talk.sent.iter().zip(&LINES) {
+        same(&rt, line, answer.as_str(), *due);
+    }
+    Ok(())
+}
+
+#[test]
+fn a_talk_that_fails_at_each_move(rt: HostRuntime) -> Result<(), Fail> {
+    // A line is two moves, and the end of the lines is one.
+    for failing in 0..2 * LINES.len() + 1 {
+        let (talk, done) = held(rt.alloc(), failing)?;
+        let what = format!(in rt.alloc(); "move {failing}")?;
+        let answered = failing / 2;
+        for (answer, (_, due)) in talk.sent.iter().zip(&LINES).take(answered) {
+            same(&rt, &what, answer.as_str(), *due);
+        }
+        if failing % 2 == 0 {
+            same(&rt, &what, done, Ok(1));
+            let last = talk.sent.last().ok_or("nothing was sent")?;
+            same(&rt, &what, last.as_str(), "cannot read -\n");
+            same(&rt, &what, talk.sent.len(), answered.saturating_add(1));
+        } else {
+            same(&rt, &what, done, Err(WriteFault));
+            same(&rt, &what, talk.sent.len(), answered);
+        }
+        check(&rt, &what, talk.given <= answered.saturating_add(1));
+    }
+    Ok(())
+}

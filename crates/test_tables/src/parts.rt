@@ -1,0 +1,54 @@
+//! Packets of two ports on the parts of a node of threads, of which no job is made.
+
+ghost use Rattle.std.specs.Prelude.{◌≡◌};
+
+use publish::{Opened, ProgramFamily};
+use spw::read_line;
+use std::alloc::Global;
+use std::fs;
+use std::marker::Brand;
+use std::rt::Files;
+use std::sync::Wait;
+use std::test::Fail;
+use target::{Served, Stop};
+use test_kit::{PlainNode, bank, program};
+
+/// The line that `judge` prints of what became of a packet, with the reply that was due.
+fn line_of(alloc: Global, port: u8, what: Served, reply: &[u8]) -> Result<String, Fail> {
+    if let Served::Stopped(Stop::Discarded(discard)) = what {
+        return Ok(format!(in alloc; "{port} discard {}\n", discard.code())?);
+    }
+    if reply.is_empty() {
+        return Ok(format!(in alloc; "{port} -\n")?);
+    }
+    let digits = hex::encode_upper(alloc, reply)?;
+    Ok(format!(in alloc; "{port} {digits} EOP\n")?)
+}
+
+/// What comes of the packet lines of a text, by `serve_packet` at a node whose program says yes, as `judge` prints it.
+fn served<J: ProgramFamily, R: Wait>(
+    rt: &R,
+    alloc: Global,
+    opened: Opened,
+    lines: String,
+) -> Result<String, Fail>
+    requires { opened ≡ J.book }
+{
+    let factory = program(alloc, 0)?;
+    let one = [bank(1024)];
+    let mut node = PlainNode::<J, _>::new(alloc, rt, opened, 2, &one, factory)?;
+    let mut text = String::new(alloc);
+    for line in lines.lines() {
+        let (port, packet) = read_line(alloc, line)?;
+        let what = node.serve(port, packet)?;
+        text.push_str(&line_of(alloc, port, what, node.reply())?)?;
+    }
+    Ok(text)
+}
+
+/// What comes of the packet lines of `packets.txt` on the parts of a node of threads, as `judge` prints it of a node of one
+/// thread.
+pub fn printed<R: Files + AllocGlobal + Wait>(rt: &R) -> Result<String, Fail> {
+    let lines = fs::read_to_string(rt, "packets.txt")?;
+    served::<Brand, _>(rt, rt.alloc(), Opened::new(), lines)
+}

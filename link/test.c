@@ -1,0 +1,329 @@
+/* What the library does, call by call: test PACKETS REPLIES, the two files of crates/test_tables/data. */
+#include "packets.h"
+
+#include <ctype.h>
+#include <stdio.h>
+#include <stdlib.h>
+
+_Static_assert(sizeof(sandbar_node) == 16 && offsetof(sandbar_node, live) == 8, "as the library has it");
+_Static_assert(sizeof(sandbar_bank) == 12 && offsetof(sandbar_bank, size) == 4 && offsetof(sandbar_bank, room) == 8,
+               "as the library has it");
+_Static_assert(sizeof(sandbar_map) == 4 && offsetof(sandbar_map, peak) == 2, "as the library has it");
+_Static_assert(sizeof(sandbar_why) == 4 && offsetof(sandbar_why, slot) == 2, "as the library has it");
+_Static_assert(sizeof(sandbar_served) == 24 && offsetof(sandbar_served, generation) == 8 &&
+                   offsetof(sandbar_served, reply_length) == 12 && offsetof(sandbar_served, kind) == 16 &&
+                   offsetof(sandbar_served, status) == 17,
+               "as the library has it");
+_Static_assert(sizeof(sandbar_entry) == 32 && offsetof(sandbar_entry, verdict) == 8 &&
+                   offsetof(sandbar_entry, generation) == 16 && offsetof(sandbar_entry, packet_length) == 20 &&
+                   offsetof(sandbar_entry, port) == 24 && offsetof(sandbar_entry, status) == 25 &&
+                   offsetof(sandbar_entry, end) == 26,
+               "as the library has it");
+_Static_assert(sizeof(sandbar_journal) == 16 && offsetof(sandbar_journal, loaded) == 8, "as the library has it");
+
+static const uint8_t yes[] = IMAGE_OF(0), no[] = IMAGE_OF(10);
+static const sandbar_bank bank = {0xA0000000u, 65536, 1024};
+static const sandbar_map map = {1, 0};
+static const sandbar_served untouched_served = {0x1122334455667788u, 0x99AABBCCu, 0xDDEEFF01u, 0x23, 0x45};
+
+static int checks, failures;
+static unsigned codes_seen;
+
+static void holds(int condition, const char *what) {
+  checks += 1;
+  if (!condition) {
+    failures += 1;
+    printf("FAILED: %s\n", what);
+  }
+}
+
+static void answers(uint32_t code, uint32_t wanted, const char *what) {
+  checks += 1;
+  codes_seen |= 1u << code;
+  if (code != wanted) {
+    failures += 1;
+    printf("FAILED: %s: code %u, not %u\n", what, code, wanted);
+  }
+}
+
+static int same_served(const sandbar_served *a, const sandbar_served *b) {
+  return a->verdict == b->verdict && a->generation == b->generation && a->reply_length == b->reply_length &&
+         a->kind == b->kind && a->status == b->status;
+}
+
+static sandbar_node opened(const sandbar_bank *banks, size_t count, const uint8_t *image, size_t length) {
+  sandbar_node node = {0};
+  sandbar_why why;
+  answers(sandbar_open(&node, 0xFE, 2, banks, count, &map, 1, image, length, &why), SANDBAR_OK, "open");
+  return node;
+}
+
+/* Serves a packet. The reply lies at the front of a room that is larger, and behind it the room is as before. */
+static sandbar_served serve(sandbar_node *node, uint8_t port, const uint8_t *packet, size_t length, uint8_t *reply) {
+  sandbar_served served = untouched_served;
+  uint8_t room[SANDBAR_MAX_REPLY + 7];
+  memset(room, 0xEE, sizeof room);
+  answers(sandbar_serve(node, port, packet, length, SANDBAR_EOP, room, sizeof room, &served), SANDBAR_OK, "serve");
+  int rest = 1;
+  for (size_t i = served.reply_length; i < sizeof room; i += 1) rest &= room[i] == 0xEE;
+  holds(rest, "behind the reply its room is as before");
+  memcpy(reply, room, served.reply_length);
+  return served;
+}
+
+static size_t bytes_of(const char *hex, uint8_t *bytes) {
+  size_t length = 0;
+  for (; isxdigit((unsigned char)hex[0]) && isxdigit((unsigned char)hex[1]); hex += 2) {
+    const char two[3] = {hex[0], hex[1], 0};
+    bytes[length++] = (uint8_t)strtoul(two, NULL, 16);
+  }
+  return length;
+}
+
+static int is_hex(const uint8_t *bytes, size_t length, const char *hex) {
+  uint8_t wanted[SANDBAR_MAX_REPLY];
+  return bytes_of(hex, wanted) == length && memcmp(bytes, wanted, length) == 0;
+}
+
+/* The first session of README, and its write and read. */
+static void first_session(void) {
+  uint8_t packet[64], reply[SANDBAR_MAX_REPLY];
+  sandbar_node node = opened(&bank, 1, yes, sizeof yes);
+  size_t length = put_read(packet, 1, 0, 0xA0000000u, 16);
+  holds(is_hex(packet, length, "FE014C0067000100A0000000000010C9"), "a read, as README has it");
+  sandbar_served served = serve(&node, 0, packet, length, reply);
+  holds(is_hex(reply, served.reply_length, "67010C00FE0001000000106D0000000000000000000000000000000000"), "zeros");
+  const char *write = "FE016C0067000000A00000000000109F0123456789ABCDEF101112131415161756";
+  served = serve(&node, 0, packet, bytes_of(write, packet), reply);
+  holds(is_hex(reply, served.reply_length, "67012C00FE0000ED"), "the reply to the write");
+  holds(served.kind == SANDBAR_JUDGED && served.status == 0 && served.verdict == 0 && served.generation == 0, "judged");
+  served = serve(&node, 0, packet, put_read(packet, 1, 0, 0xA0000000u, 16), reply);
+  holds(is_hex(reply, served.reply_length, "67010C00FE0001000000106D0123456789ABCDEF101112131415161756"), "read back");
+  served = serve(&node, 1, packet, 0, reply);
+  holds(served.kind == SANDBAR_DISCARDED && served.status == 1 && served.reply_length == 0, "a packet of no bytes");
+  answers(sandbar_close(&node), SANDBAR_OK, "close");
+
+  uint8_t deny[sizeof no];
+  memcpy(deny, no, sizeof no);
+  deny[8] = 1;
+  sandbar_why why;
+  answers(sandbar_verify(&map, 1, deny, sizeof deny, &why), SANDBAR_REFUSED, "a budget of 1");
+  holds(why.code == 15 && why.slot == 0, "refused V15 slot 0");
+  node = opened(&bank, 1, no, sizeof no);
+  served = serve(&node, 0, packet, put_read(packet, 1, 0, 0xA0000000u, 16), reply);
+  holds(is_hex(reply, served.reply_length, "67010C0AFE000100000000A600"), "denied");
+  answers(sandbar_close(&node), SANDBAR_OK, "close");
+}
+
+/* Each line of packets gives the line of replies: PORT HEX EOP, PORT -, or PORT discard N. */
+static void table(const char *packets, const char *replies) {
+  FILE *in = fopen(packets, "r"), *out = fopen(replies, "r");
+  static char line[2 * SANDBAR_MAX_PACKET + 16], wanted[2 * SANDBAR_MAX_PACKET + 16];
+  static uint8_t packet[SANDBAR_MAX_PACKET], reply[SANDBAR_MAX_REPLY];
+  sandbar_node node = {0};
+  sandbar_why why;
+  answers(sandbar_open(&node, 0xFE, 2, &bank, 1, &map, 0, yes, sizeof yes, &why), SANDBAR_OK, "open without maps");
+  int lines = 0, equal = 0;
+  while (in && out && fgets(line, sizeof line, in) && fgets(wanted, sizeof wanted, out)) {
+    char printed[2 * SANDBAR_MAX_REPLY + 16];
+    uint8_t port = (uint8_t)(line[0] - '0'), end = strstr(line, " EEP") ? SANDBAR_EEP : SANDBAR_EOP;
+    size_t length = bytes_of(line + 2, packet);
+    sandbar_served served;
+    if (sandbar_serve(&node, port, packet, length, end, reply, sizeof reply, &served) != SANDBAR_OK) break;
+    int at = sprintf(printed, "%u ", port);
+    if (served.kind == SANDBAR_DISCARDED) at += sprintf(printed + at, "discard %u\n", served.status);
+    else if (served.reply_length == 0) at += sprintf(printed + at, "-\n");
+    else {
+      for (uint32_t i = 0; i < served.reply_length; i += 1) at += sprintf(printed + at, "%02X", reply[i]);
+      at += sprintf(printed + at, " EOP\n");
+    }
+    lines += 1;
+    equal += strcmp(printed, wanted) == 0;
+  }
+  holds(lines == 400 && equal == 400, "400 packets, 400 replies");
+  printf("table: %d of %d lines\n", equal, lines);
+  if (in) fclose(in);
+  if (out) fclose(out);
+  answers(sandbar_close(&node), SANDBAR_OK, "close");
+}
+
+/* A load through the boot window: stages an image at port 0, loads it into a slot, and gives the status. */
+static uint8_t load(sandbar_node *node, const uint8_t *image, uint32_t length, uint8_t slot) {
+  uint8_t packet[SANDBAR_MAX_PACKET], reply[SANDBAR_MAX_REPLY];
+  const uint8_t control[4] = {slot, 0, (uint8_t)(length >> 8), (uint8_t)length};
+  holds(serve(node, 0, packet, put_write(packet, 2, 0xFF, 0, image, length), reply).status == 0, "staged");
+  return serve(node, 0, packet, put_write(packet, 3, 0xFF, 0x10000, control, 4), reply).status;
+}
+
+static void loads(void) {
+  uint8_t packet[64], reply[SANDBAR_MAX_REPLY], bad[sizeof no];
+  sandbar_node node = opened(&bank, 1, yes, sizeof yes), other = opened(&bank, 1, yes, sizeof yes);
+  sandbar_journal journal;
+  holds(load(&node, no, sizeof no, 0) == 0, "loaded");
+  sandbar_served served = serve(&node, 0, packet, put_read(packet, 4, 0xFF, 0x10000, 8), reply);
+  holds(served.reply_length == 21 && is_hex(reply + 12, 8, "0000000000000001"), "the load result");
+  served = serve(&node, 1, packet, put_read(packet, 5, 0, 0xA0000000u, 4), reply);
+  holds(served.status == 10 && served.generation == 1 && served.verdict == 10, "the new program says no to reads");
+  const uint8_t data[2] = {7, 8};
+  served = serve(&node, 1, packet, put_write(packet, 6, 0, 0xA0000000u, data, 2), reply);
+  holds(served.status == 0 && served.generation == 0, "the first one judges writes");
+  memcpy(bad, no, sizeof no);
+  bad[16] = 0x55;
+  holds(load(&node, bad, sizeof bad, 1) == 1, "a refused load");
+  answers(sandbar_journal_of(&node, 0, &journal), SANDBAR_OK, "journal");
+  holds(journal.entries == 2 && journal.loaded == 1, "two entries, one load");
+
+  /* the other node knows nothing of it */
+  served = serve(&other, 1, packet, put_read(packet, 7, 0, 0xA0000000u, 2), reply);
+  holds(served.status == 0 && served.generation == 0 && reply[12] == 0 && reply[13] == 0, "two nodes side by side");
+  answers(sandbar_journal_of(&other, 0, &journal), SANDBAR_OK, "journal");
+  holds(journal.entries == 1 && journal.loaded == 0, "its own journal");
+  answers(sandbar_close(&node), SANDBAR_OK, "close");
+  served = serve(&other, 0, packet, put_read(packet, 8, 0, 0xA0000000u, 2), reply);
+  holds(served.status == 0, "the other node goes on");
+  answers(sandbar_close(&other), SANDBAR_OK, "close");
+}
+
+static void journals(void) {
+  const sandbar_bank banks[2] = {{0xA0000000u, 65536, 4}, {0, 16, 2}};
+  uint8_t packet[64], reply[SANDBAR_MAX_REPLY], copy[64], data[16];
+  sandbar_node node = opened(banks, 2, yes, sizeof yes);
+  sandbar_journal journal;
+  sandbar_entry entry;
+  memset(data, 0x5A, sizeof data);
+  for (uint16_t i = 0; i < 6; i += 1) {
+    size_t length = put_write(packet, i, 0, 0xA0000000u + i, data, 8);
+    holds(serve(&node, i % 2, packet, length, reply).status == (i < 4 ? 0 : 1), "a full journal");
+  }
+  for (uint32_t place = 0; place < 4; place += 1) {
+    size_t length = put_write(packet, (uint16_t)place, 0, 0xA0000000u + place, data, 8);
+    memset(copy, 0xEE, sizeof copy);
+    answers(sandbar_entry_at(&node, 0, place, copy, sizeof copy, &entry), SANDBAR_OK, "entry");
+    holds(entry.packet_length == length && memcmp(copy, packet, length) == 0 && copy[length] == 0xEE, "its packet");
+    holds(entry.port == place % 2 && entry.number == place / 2 && entry.generation == 0 && entry.verdict == 0 &&
+              entry.status == 0 && entry.end == SANDBAR_EOP, "its numbers");
+  }
+  entry.number = 77;
+  memset(copy, 0xEE, sizeof copy);
+  answers(sandbar_entry_at(&node, 0, 4, copy, sizeof copy, &entry), SANDBAR_NO_ENTRY, "no entry");
+  answers(sandbar_entry_at(&node, 0, 0, copy, 24, &entry), SANDBAR_NO_ROOM, "no room for its packet");
+  answers(sandbar_entry_at(&node, 2, 0, copy, sizeof copy, &entry), SANDBAR_NO_BANK, "no bank");
+  holds(entry.number == 77 && copy[0] == 0xEE && copy[23] == 0xEE, "nothing was written");
+  answers(sandbar_rotate(&node, 0, 0), SANDBAR_BAD_CONFIG, "no room of 0");
+  answers(sandbar_rotate(&node, 0, 65537), SANDBAR_BAD_CONFIG, "no room of 65,537");
+  answers(sandbar_rotate(&node, 2, 4), SANDBAR_NO_BANK, "no bank");
+  answers(sandbar_journal_of(&node, 0, &journal), SANDBAR_OK, "journal");
+  holds(journal.entries == 4, "as before");
+  answers(sandbar_rotate(&node, 0, 2), SANDBAR_OK, "rotate");
+  answers(sandbar_journal_of(&node, 0, &journal), SANDBAR_OK, "journal");
+  holds(journal.entries == 0, "a new journal");
+  holds(serve(&node, 0, packet, put_read(packet, 9, 0, 0xA0000000u, 1), reply).status == 0, "served");
+  answers(sandbar_entry_at(&node, 0, 0, copy, sizeof copy, &entry), SANDBAR_OK, "entry");
+  holds(entry.number == 2, "numbers go on");
+  answers(sandbar_journal_of(&node, 2, &journal), SANDBAR_NO_BANK, "no bank");
+  answers(sandbar_close(&node), SANDBAR_OK, "close");
+}
+
+static void memory(void) {
+  const sandbar_bank banks[2] = {{0xA0000000u, 65536, 4}, {0xFFFFFFF0u, 16, 2}};
+  uint8_t packet[64], reply[SANDBAR_MAX_REPLY], seen[16];
+  const uint8_t data[4] = {1, 2, 3, 4};
+  sandbar_node node = opened(banks, 2, yes, sizeof yes);
+  sandbar_journal journal;
+  answers(sandbar_poke(&node, 1, 0xFFFFFFFCu, data, 4, 8), SANDBAR_OK, "poke at the last address");
+  answers(sandbar_peek(&node, 1, 0xFFFFFFF8u, seen, 8), SANDBAR_OK, "peek to the last address");
+  holds(is_hex(seen, 8, "0000000001020304"), "what was poked");
+  holds(serve(&node, 0, packet, put_read(packet, 1, 1, 0xFFFFFFFCu, 4), reply).reply_length == 17, "read by a command");
+  holds(is_hex(reply + 12, 4, "01020304"), "what a command reads");
+  answers(sandbar_journal_of(&node, 1, &journal), SANDBAR_OK, "journal");
+  holds(journal.entries == 1, "the journal of after the poke");
+  memset(seen, 0xEE, sizeof seen);
+  answers(sandbar_peek(&node, 1, 0xFFFFFFFCu, seen, 5), SANDBAR_NO_ROOM, "peek past the last address");
+  answers(sandbar_peek(&node, 0, 0x9FFFFFFFu, seen, 2), SANDBAR_NO_ROOM, "peek before the bank");
+  answers(sandbar_peek(&node, 2, 0, seen, 1), SANDBAR_NO_BANK, "no bank");
+  holds(seen[0] == 0xEE && seen[4] == 0xEE, "nothing was written");
+  answers(sandbar_poke(&node, 1, 0xFFFFFFFEu, data, 4, 8), SANDBAR_NO_ROOM, "poke past the last address");
+  answers(sandbar_poke(&node, 0, 0xA0000000u, data, 4, 0), SANDBAR_BAD_CONFIG, "a journal without room");
+  answers(sandbar_poke(&node, 9, 0, data, 4, 8), SANDBAR_NO_BANK, "no bank");
+  answers(sandbar_peek(&node, 0, 0xA0000000u, seen, 1), SANDBAR_OK, "peek");
+  holds(seen[0] == 0, "as before");
+  answers(sandbar_close(&node), SANDBAR_OK, "close");
+}
+
+static void openings(void) {
+  sandbar_why why = {9, 9};
+  sandbar_node node = {0};
+  const sandbar_map bad_maps[2] = {{1, 2}, {300, 0}};
+  sandbar_bank nine[9];
+  for (int i = 0; i < 9; i += 1) nine[i] = bank;
+  answers(sandbar_verify(bad_maps, 1, yes, sizeof yes, &why), SANDBAR_BAD_MAPS, "a map of no kind");
+  answers(sandbar_verify(bad_maps + 1, 1, yes, sizeof yes, &why), SANDBAR_BAD_MAPS, "300 cells");
+  holds(why.code == 0 && why.slot == 0, "nothing to tell");
+  answers(sandbar_verify(&map, 1, yes, 31, &why), SANDBAR_BAD_IMAGE, "a cut image");
+  holds(why.code == 3 && why.slot == 0, "the image has another length");
+  answers(sandbar_verify(&map, 1, yes, sizeof yes, &why), SANDBAR_OK, "accepted");
+  holds(why.code == 0 && why.slot == 0, "nothing to tell");
+  uint8_t odd[sizeof yes];
+  memcpy(odd, yes, sizeof yes);
+  odd[24] = 0xFF;
+  answers(sandbar_open(&node, 1, 1, &bank, 1, &map, 1, odd, sizeof odd, &why), SANDBAR_BAD_IMAGE, "no instruction");
+  holds(why.code == 7 && why.slot == 1, "at slot 1");
+  answers(sandbar_open(&node, 1, 0, &bank, 1, &map, 1, yes, sizeof yes, &why), SANDBAR_BAD_CONFIG, "no ports");
+  answers(sandbar_open(&node, 1, 33, &bank, 1, &map, 1, yes, sizeof yes, &why), SANDBAR_BAD_CONFIG, "33 ports");
+  answers(sandbar_open(&node, 1, 1, nine, 0, &map, 1, yes, sizeof yes, &why), SANDBAR_BAD_CONFIG, "no banks");
+  answers(sandbar_open(&node, 1, 1, nine, 9, &map, 1, yes, sizeof yes, &why), SANDBAR_BAD_CONFIG, "9 banks");
+  nine[7].size = 0;
+  answers(sandbar_open(&node, 1, 1, nine, 8, &map, 1, yes, sizeof yes, &why), SANDBAR_BAD_CONFIG, "a bank of no bytes");
+  holds(node.inside == NULL && node.live == 0, "the node is not open");
+  nine[7].size = 1;
+  answers(sandbar_open(&node, 1, 32, nine, 8, &map, 1, yes, sizeof yes, &why), SANDBAR_OK, "8 banks, 32 ports");
+  void *inside = node.inside;
+  why.code = 9;
+  answers(sandbar_open(&node, 1, 0, nine, 0, bad_maps, 2, yes, 1, &why), SANDBAR_IS_OPEN, "open again");
+  holds(node.inside == inside && why.code == 9, "as before");
+  answers(sandbar_close(&node), SANDBAR_OK, "close");
+}
+
+/* What is not open, and what is not served. */
+static void refusals(void) {
+  uint8_t packet[SANDBAR_MAX_PACKET + 1] = {0}, room[SANDBAR_MAX_REPLY];
+  sandbar_node node = {0};
+  sandbar_served served = untouched_served;
+  sandbar_journal journal;
+  sandbar_entry entry;
+  memset(room, 0xEE, sizeof room);
+  for (int round = 0; round < 2; round += 1) {
+    answers(sandbar_serve(&node, 9, packet, 1, 9, room, 1, &served), SANDBAR_NO_NODE, "serve");
+    answers(sandbar_journal_of(&node, 0, &journal), SANDBAR_NO_NODE, "journal");
+    answers(sandbar_entry_at(&node, 0, 0, room, sizeof room, &entry), SANDBAR_NO_NODE, "entry");
+    answers(sandbar_rotate(&node, 0, 4), SANDBAR_NO_NODE, "rotate");
+    answers(sandbar_peek(&node, 0, 0, room, 1), SANDBAR_NO_NODE, "peek");
+    answers(sandbar_poke(&node, 0, 0, packet, 1, 4), SANDBAR_NO_NODE, "poke");
+    answers(sandbar_close(&node), SANDBAR_NO_NODE, "close");
+    if (round == 1) break;
+    node = opened(&bank, 1, yes, sizeof yes);
+    answers(sandbar_serve(&node, 2, packet, 4201, 2, room, 1, &served), SANDBAR_NO_PORT, "no port");
+    answers(sandbar_serve(&node, 1, packet, 4201, 2, room, 1, &served), SANDBAR_BAD_END, "no end");
+    answers(sandbar_serve(&node, 1, packet, 4201, 1, room, 1, &served), SANDBAR_TOO_LONG, "4,201 bytes");
+    answers(sandbar_serve(&node, 1, packet, 4200, 1, room, 4120, &served), SANDBAR_NO_ROOM, "4,120 bytes of room");
+    answers(sandbar_close(&node), SANDBAR_OK, "close");
+  }
+  holds(same_served(&served, &untouched_served), "no numbers were written");
+  holds(room[0] == 0xEE && room[4119] == 0xEE, "no reply was written");
+}
+
+int main(int count, char **words) {
+  if (count != 3) return EXIT_FAILURE;
+  holds(sandbar_crc((const uint8_t *)"123456789", 9) == 0x20, "the CRC of 123456789");
+  first_session();
+  table(words[1], words[2]);
+  loads();
+  journals();
+  memory();
+  openings();
+  refusals();
+  /* NO_MEMORY alone is left to memory.c */
+  holds(codes_seen == 0x3FFD, "every code but one");
+  printf("%d checks, %d failed\n", checks, failures);
+  return failures == 0 ? EXIT_SUCCESS : EXIT_FAILURE;
+}
