@@ -162,6 +162,21 @@ pub fn asking() -> Vec<u8> {
     image_with(10_005, &[declared(3, 13, 1000, 6)], &slots)
 }
 
+/// 4,096 rounds of a loop of five instructions, of which one is a call: 20,483 steps.
+pub fn calling() -> Vec<u8> {
+    let (opcode, subtype) = LOAD_MAP;
+    let mut slots = vec![
+        insn(MOV, 6, 0, 0, 4096),
+        insn(opcode, 1, subtype, 0, 0),
+        insn(0, 0, 0, 0, 0),
+        insn(MOV, 2, 0, 0, 0),
+        insn(CALL, 0, 0, 0, 2),
+    ];
+    slots.extend(again(6, -6));
+    slots.extend([insn(MOV, 0, 0, 0, 0), insn(EXIT, 0, 0, 0, 0)]);
+    image_with(20_483, &[declared(1, 6, 4096, 6)], &slots)
+}
+
 /// Eight loops of two rounds in one another.
 pub fn nested() -> Vec<u8> {
     let mut slots: Vec<Slot> = (1..9).map(|register| insn(MOV, register, 0, 0, 2)).collect();

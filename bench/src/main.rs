@@ -5,6 +5,7 @@ mod node;
 mod packets;
 mod schedule;
 mod speed;
+mod texts;
 
 use std::time::{Duration, Instant};
 
@@ -37,6 +38,14 @@ fn main() {
         });
     }
 
+    for (name, text, lines, count) in [
+        ("assemble lines of comment", texts::comments(10_000), 10_000.0, 20),
+        ("assemble 512 instructions", texts::instructions(512), 512.0, 400),
+    ] {
+        let amount = lines * f64::from(count);
+        measure(name, "lines", amount, || timed(|| speed::assemble(&text, count)));
+    }
+
     let straight = images::straight();
     let slots = images::slots(&straight);
     measure("run of 512 slots", "instructions", slots * 20_000.0, || {
@@ -53,6 +62,10 @@ fn main() {
     let asking = images::asking();
     measure("run of a loop with loads, stores and calls", "instructions", 10_005.0 * 1_000.0, || {
         timed(|| speed::run(&asking, &READ, 1_000))
+    });
+    let calling = images::calling();
+    measure("run of a loop of one helper call", "calls", 4_096.0 * 1_000.0, || {
+        timed(|| speed::run(&calling, &READ, 1_000))
     });
     for (name, image) in [
         ("verify of 512 slots", straight),

@@ -5,6 +5,7 @@ pub const REFUSED: u64 = u64::MAX;
 
 unsafe extern "C" {
     fn speed_crc(bytes: *const u8, length: usize, rounds: u32) -> u64;
+    fn speed_assemble(text: *const u8, length: usize, rounds: u32) -> u64;
     fn speed_verify(image: *const u8, length: usize, rounds: u32) -> u64;
     fn speed_run(
         image: *const u8,
@@ -33,6 +34,10 @@ unsafe extern "C" {
 
 pub fn crc(bytes: &[u8], rounds: u32) -> u64 {
     unsafe { speed_crc(bytes.as_ptr(), bytes.len(), rounds) }
+}
+
+pub fn assemble(text: &str, rounds: u32) -> u64 {
+    unsafe { speed_assemble(text.as_ptr(), text.len(), rounds) }
 }
 
 pub fn verify(image: &[u8], rounds: u32) -> u64 {

@@ -13,4 +13,5 @@ pub mod GrowState
 pub mod GrowEdges
 pub mod Narrowing
 pub mod MarkBits
+pub mod MarkMasks
 pub mod Leaving

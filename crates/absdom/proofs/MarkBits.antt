@@ -1,16 +1,12 @@
 -- Marks and the bits of their words.
-use Rattle.std.proofs.Common.{◌≡◌, ◌≢◌, ℕ, zero, suc, ◌-◌, ◌*◌, ◌/◌, ◌%◌, ◌^◌, ◌≤◌, ◌<◌, min, Bool, true, false, ◌&&◌, ◌==◌, List, [], ◌∷◌, length, get_or, set, refl, sym, ap, ◌∙◌, subst, arith, inl, inr, length-set, get_or-set_same, get_or-set_other, replicate}
+use Rattle.std.proofs.Common.{◌≡◌, ℕ, zero, suc, ◌-◌, ◌*◌, ◌/◌, ◌%◌, ◌^◌, ◌≤◌, ◌<◌, min, false, ◌&&◌, ◌==◌, List, [], ◌∷◌, length, get_or, set, refl, sym, ap, ◌∙◌, arith, inl, inr, replicate}
 use Rattle.std.proofs.lemmas.Bool.{cases_lt}
-use Rattle.std.proofs.lemmas.List.{get_or_append_left, get_or-append_right, get_or_past, get_or-replicate, length-append, same_lists}
-use Rattle.std.proofs.lemmas.Nat.Bits.{bit_at_lowest, bit_at-suc, bit_at-zero, bit_at_and, bit_at-lt, bit_at_set_same, bit_at_set_other}
-use Rattle.std.specs.Int.{bit_at, w64}
-use Rattle.std.specs.Int.Bits.{bit_and, bit_or}
+use Rattle.std.proofs.lemmas.List.{get_or_append_left, get_or-append_right, get_or_past, get_or-replicate, length-append}
+use Rattle.std.proofs.lemmas.Nat.Bits.{bit_at_lowest, bit_at-suc, bit_at-zero, bit_at_and, bit_at-lt}
+use Rattle.std.specs.Int.{bit_at}
+use Rattle.std.specs.Int.Bits.{bit_and}
 use Rattle.absdom.specs.Marks.{mark_at}
-use Rattle.absdom.specs.Bits.{bits_of, marks_of, length-bits}
-
--- whether a bit is set
-abbrev pub is_bit : (word i : ℕ) → Bool
-is_bit word i = bit_at word i == 1
+use Rattle.absdom.specs.Bits.{bits_of, is_bit, marks_of, length-bits}
 
 pub length-marks : (words : List ℕ) → length (marks_of words) ≡ 64 * length words
 unfolding marks_of
@@ -49,62 +45,6 @@ each_after (w ∷ words) zero word h each zero = h
 each_after (w ∷ words) zero word h each (suc k) = each (suc k)
 each_after (w ∷ words) (suc written) word h each zero = each zero
 each_after (w ∷ words) (suc written) word h each (suc k) = each_after words written word h (λ j. each (suc j)) k
-
--- one bit more
-abbrev pub with_bit : (word i : ℕ) → ℕ
-with_bit word i = bit_or word (1 * 2 ^ i % 2 ^ 64)
-
-marked_at : (words : List ℕ) (place q : ℕ) → place / 64 < length words → mark_at (marks_of (set words (place / 64) (with_bit (get_or words (place / 64) 0) (place % 64)))) q ≡ mark_at (set (marks_of words) place true) q
-marked_at words place q inside =
-    let word = get_or words (place / 64) 0 in
-    let new = with_bit word (place % 64) in
-    let within : place % 64 < 64 = omega arith in
-    let size : place < length (marks_of words) = omega (arith, length-marks words) in
-    mark_of (set words (place / 64) new) q ∙ elim (cases_lt q place) [
-      | inl before ↦ other q within (λ e. omega arith)
-      | inr after ↦ elim (cases_lt place q) [
-        | inl behind ↦ other q within (λ e. omega arith)
-        | inr there ↦
-            let e : q ≡ place = omega arith in
-            let P : ℕ → Type 0 = λ x. is_bit (get_or (set words (place / 64) new) (x / 64) 0) (x % 64) ≡ mark_at (set (marks_of words) place true) x in
-            subst P (sym e)
-            (ap (λ w. is_bit w (place % 64)) (get_or-set_same words (place / 64) new 0 inside) ∙ ap (λ x. x == 1) (bit_at_set_same w64 word (place % 64) within)
-            ∙ sym (get_or-set_same (marks_of words) place true false size))
-      ]
-    ]
-  where
-    other : (q : ℕ) → place % 64 < 64 → q ≢ place → is_bit (get_or (set words (place / 64) (with_bit (get_or words (place / 64) 0) (place % 64))) (q / 64) 0) (q % 64) ≡ mark_at (set (marks_of words) place true) q
-    other q within ne =
-        let word = get_or words (place / 64) 0 in
-        let new = with_bit word (place % 64) in
-        let old : mark_at (set (marks_of words) place true) q ≡ is_bit (get_or words (q / 64) 0) (q % 64) = get_or-set_other (marks_of words) place q true false ne ∙ mark_of words q in
-        sym (old ∙ sym (elim (cases_lt (q / 64) (place / 64)) [
-          | inl before ↦ ap (λ w. is_bit w (q % 64)) (get_or-set_other words (place / 64) (q / 64) new 0 (λ e. omega arith))
-          | inr after ↦ elim (cases_lt (place / 64) (q / 64)) [
-            | inl behind ↦ ap (λ w. is_bit w (q % 64)) (get_or-set_other words (place / 64) (q / 64) new 0 (λ e. omega arith))
-            | inr there ↦
-                let e : q / 64 ≡ place / 64 = omega arith in
-                let differs : q % 64 ≢ place % 64 = λ same. ne (omega arith) in
-                ap (λ k. is_bit (get_or (set words (place / 64) new) k 0) (q % 64)) e
-                ∙ ap (λ w. is_bit w (q % 64)) (get_or-set_same words (place / 64) new 0 inside)
-                ∙ ap (λ x. x == 1) (bit_at_set_other w64 word (place % 64) within (q % 64) differs)
-                ∙ ap (λ k. is_bit (get_or words k 0) (q % 64)) (sym e)
-          ]
-        ]))
-
--- the marks after one bit was set are those with one mark more
-pub marks_more : (words : List ℕ) (place : ℕ) → place / 64 < length words → marks_of (set words (place / 64) (with_bit (get_or words (place / 64) 0) (place % 64))) ≡ set (marks_of words) place true
-marks_more words place inside =
-    let new = with_bit (get_or words (place / 64) 0) (place % 64) in
-    let size : length (marks_of (set words (place / 64) new)) ≡ length (set (marks_of words) place true) =
-    omega (arith, length-marks (set words (place / 64) new), length-set words (place / 64) new, length-marks words, length-set (marks_of words) place true) in
-    same_lists (marks_of (set words (place / 64) new)) (set (marks_of words) place true) size
-    (λ k d below. any_default (marks_of (set words (place / 64) new)) k d false below ∙ marked_at words place k inside ∙ any_default (set (marks_of words) place true) k false d (omega (arith, size)))
-  where
-    any_default : (xs : List Bool) (k : ℕ) (d e : Bool) → k < length xs → get_or xs k d ≡ get_or xs k e
-    any_default [] k d e h = absurd (omega arith)
-    any_default (x ∷ xs) zero d e h = refl
-    any_default (x ∷ xs) (suc k) d e h = any_default xs k d e (omega arith)
 
 -- a bit of both words
 pub bit_of_both : (a b i : ℕ) → is_bit (bit_and a b) i ≡ (is_bit a i && is_bit b i)

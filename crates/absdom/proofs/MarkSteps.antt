@@ -1,33 +1,11 @@
 -- The marks of bytes: one more, and which stand after a write.
-use Rattle.std.proofs.Common.{◌≡◌, ◌≢◌, ℕ, zero, suc, ◌+◌, ◌-◌, ◌<◌, ◌≤◌, Bool, true, false, ◌&&◌, ◌==◌, if◌then◌else◌, List, length, get_or, set, refl, sym, ap, ◌∙◌, subst, arith, ◌⊎◌, length-set, get_or-set_same, get_or-set_other}
+use Rattle.std.proofs.Common.{◌≡◌, ◌≢◌, ℕ, zero, suc, ◌+◌, ◌<◌, ◌≤◌, Bool, true, false, ◌&&◌, ◌==◌, if◌then◌else◌, List, length, get_or, refl, sym, ◌∙◌, subst, arith, ◌⊎◌, length-set, get_or-set_same, get_or-set_other}
 use Rattle.std.proofs.Common.{replicate, inl, inr}
 use Rattle.std.proofs.lemmas.Bool.{cases_lt}
 use Rattle.std.proofs.lemmas.Bool.Decides.{nat_tests}
 use Rattle.std.proofs.lemmas.List.{set_past, get_or_past, get_or-replicate, length-replicate}
 use Rattle.absdom.specs.Marks.{mark_at, all_marked, marks_after}
 use Rattle.absdom.specs.Effect.{stored_marks}
-
-pub all_marked-more : (marks : List Bool) (first place : ℕ) → first ≤ place → all_marked marks first (place + 1 - first) ≡ (all_marked marks first (place - first) && mark_at marks place)
-unfolding all_marked
-all_marked-more marks first place h =
-    let e : place + 1 - first ≡ suc (place - first) = omega arith in
-    let f : first + (place - first) ≡ place = omega arith in
-    ap (all_marked marks first) e ∙ ap (λ p. all_marked marks first (place - first) && mark_at marks p) f
-
-pub marked-more : (marks : List Bool) (first place : ℕ) → first ≤ place → marks_after marks first (place + 1 - first) ≡ set (marks_after marks first (place - first)) place true
-unfolding marks_after
-marked-more marks first place h =
-    let e : place + 1 - first ≡ suc (place - first) = omega arith in
-    let f : first + (place - first) ≡ place = omega arith in
-    ap (marks_after marks first) e ∙ ap (λ p. set (marks_after marks first (place - first)) p true) f
-
-pub all_marked-none : (marks : List Bool) (first n : ℕ) → n ≡ 0 → all_marked marks first n ≡ true
-unfolding all_marked
-all_marked-none marks first n e = ap (all_marked marks first) e
-
-pub marked-none : (marks : List Bool) (first n : ℕ) → n ≡ 0 → marks_after marks first n ≡ marks
-unfolding marks_after
-marked-none marks first n e = ap (marks_after marks first) e
 
 pub length-marked : (marks : List Bool) (first n : ℕ) → length (marks_after marks first n) ≡ length marks
 unfolding marks_after
@@ -40,11 +18,11 @@ get_or-unmarked n place =
 
 -- ---- what is marked
 
-both_left : (x y : Bool) → (x && y) ≡ true → x ≡ true
+pub both_left : (x y : Bool) → (x && y) ≡ true → x ≡ true
 both_left true y e = refl
 both_left false y e = e
 
-both_right : (x y : Bool) → (x && y) ≡ true → y ≡ true
+pub both_right : (x y : Bool) → (x && y) ≡ true → y ≡ true
 both_right true y e = e
 both_right false y e = cc
 

@@ -41,6 +41,20 @@ all_words =
       each = λ word. let P : Range → Type 0 = λ r. IsRange r in subst P (sym (each_whole word)) whole_proper;
     }
 
+-- one range 64 times
+pub same_words : (r : Range) → IsRange r → AreStackWords (replicate 64 r)
+same_words r proper =
+    record {
+      count = length-replicate 64 r;
+      each = λ word.
+          elim (cases_lt word 64) [
+            | inl h ↦ let P : Range → Type 0 = λ q. IsRange q in subst P (sym (get_or-replicate 64 word r (whole_range Bits64) h)) proper
+            | inr h ↦
+                let P : Range → Type 0 = λ q. IsRange q in
+                subst P (sym (get_or_past (replicate 64 r) word (whole_range Bits64) (rw (length-replicate 64 r) h))) whole_proper
+          ];
+    }
+
 pair_same : (a b : ℕ × ℕ) → a.0 ≡ b.0 → a.1 ≡ b.1 → a ≡ b
 pair_same a b e f = ap (λ (x : ℕ). (x, a.1)) e ∙ ap (λ (y : ℕ). (b.0, y)) f
 

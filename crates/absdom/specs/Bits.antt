@@ -1,6 +1,7 @@
 -- Marks as the bits of eight words, the lowest bit first.
-use Rattle.std.specs.Prelude.{◌≡◌, ◌<◌, ◌^◌, ◌+◌, ◌*◌, ◌/◌, ◌%◌, ◌==◌, ℕ, zero, suc, Bool, true, false, List, [], ◌∷◌}
+use Rattle.std.specs.Prelude.{◌≡◌, ◌<◌, ◌≤◌, ◌^◌, ◌+◌, ◌*◌, ◌/◌, ◌%◌, ◌==◌, ℕ, zero, suc, Bool, true, false, List, [], ◌∷◌}
 use Rattle.std.specs.Prelude.{◌++◌, length, take, drop, slice_index_or}
+use Rattle.std.specs.Int.{bit_at}
 use Rattle.std.proofs.Common.{refl, ap, ◌∙◌, sym, arith}
 use Rattle.std.proofs.lemmas.Bool.Decides.{nat_tests}
 use Rattle.std.proofs.Math.Seq.{take-append_seam, drop-append_seam}
@@ -31,6 +32,19 @@ words_of (suc count) bits = word_of (take 64 bits) ∷ words_of count (drop 64 b
 pub record AreWords (words : List ℕ) : Type 0 where
   pub count : length words ≡ 8
   pub each : (k : ℕ) → slice_index_or words k 0 < 2 ^ 64
+
+-- whether a bit of a word is set
+abbrev pub is_bit : (word i : ℕ) → Bool
+is_bit word i = bit_at word i == 1
+
+-- a word has all of these bits
+abbrev pub AreBitsOf : (word bits : ℕ) → Type 0
+AreBitsOf word bits = (i : ℕ) → i < 64 → is_bit bits i ≡ true → is_bit word i ≡ true
+
+-- the bits of a word, by its number, are those for the places from the first to before the end
+pub record AreBitsIn (word first end bits : ℕ) : Type 0 where
+  pub made : (i : ℕ) → i < 64 → first ≤ 64 * word + i → 64 * word + i < end → is_bit bits i ≡ true
+  pub only : (i : ℕ) → i < 64 → is_bit bits i ≡ true → (first ≤ 64 * word + i) × (64 * word + i < end)
 
 -- there is a bit for each place
 pub length-bits : (count word : ℕ) → length (bits_of count word) ≡ count

@@ -1,6 +1,7 @@
 //! What an instruction does to what is known.
 
-ghost use Rattle.std.specs.Prelude.{◌≡◌};
+ghost use Rattle.std.specs.Prelude.{◌≡◌, IfSome, Ok};
+ghost use Rattle.absdom_num.specs.Tables.{alu_range};
 ghost use Rattle.absdom.specs.Effect.{operand_kind, alu_kind, map_kind, with_result, after_insn, Applies, Becomes};
 ghost use Rattle.absdom.specs.State.{kind_at};
 
@@ -34,11 +35,33 @@ fn map_kind(index: i32) -> AbsKind
 }
 
 /// Writes a register, or says why not.
+#[inline(always)]
 fn write(state: &mut State, register: Register, kind: Result<AbsKind, Cause>) -> Result<(), Cause>
     ensures { Becomes result state.old state.new (with_result state.old register kind) }
 {
-    state.write(register, kind?);
+    match kind? {
+        AbsKind::Num(range) => state.write_number(register, range),
+        kind => state.write(register, kind),
+    }
     Ok(())
+}
+
+/// The ranges of the numbers on which an operation gives one: for MOV, which reads the source alone, that one twice.
+#[inline(always)]
+fn ranges(op: AluOp, a: &AbsKind, b: &AbsKind) -> Option<(Range, Range)>
+    ensures { IfSome result (λ both. (width : Width)
+        → alu_kind op width a.now b.now ≡ Ok (AbsKind.Num (alu_range op width both.0 both.1))) }
+{
+    let AbsKind::Num(b) = b else {
+        return None;
+    };
+    match op {
+        AluOp::Mov => Some((*b, *b)),
+        _ => match a {
+            AbsKind::Num(a) => Some((*a, *b)),
+            _ => None,
+        },
+    }
 }
 
 /// Arithmetic on a register and an operand.
@@ -53,7 +76,12 @@ fn arithmetic(
         (with_result state.old dst
         (alu_kind op width (kind_at state.old dst) (operand_kind state.old src.now))) }
 {
-    let kind = alu(op, width, &state.kind(dst), &operand(state, src));
+    let (a, b) = (state.kind(dst), operand(state, src));
+    if let Some((a, b)) = ranges(op, &a, &b) {
+        state.write_number(dst, absdom_num::alu(op, width, a, b));
+        return Ok(());
+    }
+    let kind = alu(op, width, &a, &b);
     write(state, dst, kind)
 }
 

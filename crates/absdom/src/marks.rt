@@ -1,6 +1,7 @@
 //! Which bytes of the stack are set.
 
-ghost use Rattle.std.specs.Prelude.{◌≡◌, ℕ, ◌+◌, ◌-◌, ◌<◌, ◌≤◌, ◌↔◌, IsTrue, true, false, length, slice_set};
+ghost use Rattle.std.specs.Prelude.{◌≡◌, ℕ, ◌+◌, ◌-◌, ◌*◌, ◌<◌, ◌≤◌, ◌↔◌, IsTrue, false, length};
+ghost use Rattle.absdom.specs.Bits.{AreBitsIn, AreBitsOf};
 ghost use Rattle.absdom.specs.Marks.{mark_at, all_marked, marks_after, AreInBoth, AreMarkedIn};
 ghost use Rattle.absdom.specs.Effect.{stored_marks, AreInside};
 
@@ -41,33 +42,17 @@ impl Marks {
         Marks { words: [0; WORDS] }
     }
 
-    /// Whether the byte at a place is set.
-    fn is_set(&self, place: usize) -> bool
-        requires { place < STACK_SIZE }
-        ensures { result ≡ mark_at self.now place }
-    {
-        self.words[place / 64] >> (place % 64) & 1 == 1
-    }
-
     /// Whether all bytes from `first` to before `end` are set.
     pub(crate) fn are_set(&self, first: usize, end: usize) -> bool
         requires { end ≤ STACK_SIZE }
         ensures { result ≡ all_marked self.now first (end - first) }
     {
-        let mut all = true;
-        for place in first..end {
-            all = all && self.is_set(place);
+        for word in first / 64..(end + 63) / 64 {
+            if !has_all(self.words[word], bits_in(word, first, end)) {
+                return false;
+            }
         }
-        all
-    }
-
-    /// Marks the byte at a place.
-    fn set(&mut self, place: usize)
-        requires { place < STACK_SIZE }
-        ensures { self.new ≡ slice_set self.old place true }
-    {
-        let word = self.words[place / 64] | 1 << (place % 64);
-        self.words[place / 64] = word;
+        true
     }
 
     /// Marks the bytes from `first` to before `end`.
@@ -76,8 +61,9 @@ impl Marks {
         requires inside { end ≤ STACK_SIZE }
         ensures { self.new ≡ marks_after self.old first (end - first) }
     {
-        for place in first..end {
-            self.set(place);
+        for word in first / 64..(end + 63) / 64 {
+            let marked = self.words[word] | bits_in(word, first, end);
+            self.words[word] = marked;
         }
     }
 
@@ -108,11 +94,30 @@ impl Marks {
         ensures { IsTrue result ↔ AreMarkedIn other.now self.now }
     {
         let _ = &other.words;
-        for place in 0..STACK_SIZE {
-            if other.is_set(place) && !self.is_set(place) {
+        for word in 0..WORDS {
+            if !has_all(self.words[word], other.words[word]) {
                 return false;
             }
         }
         true
     }
+}
+
+/// Whether a word has all of these bits.
+fn has_all(word: u64, bits: u64) -> bool
+    ensures { IsTrue result ↔ AreBitsOf word bits }
+{
+    word & bits == bits
+}
+
+/// The bits of a word, by its number, for the bytes from `first` to before `end` that have theirs there.
+fn bits_in(word: usize, first: usize, end: usize) -> u64
+    requires first { first < 64 * word + 64 }
+    requires end { 64 * word < end }
+    requires inside { end ≤ STACK_SIZE }
+    ensures { AreBitsIn word first end result }
+{
+    let low = first.saturating_sub(64 * word);
+    let high = (end - 64 * word).min(64);
+    u64::MAX << low & u64::MAX >> (64 - high)
 }

@@ -23,6 +23,13 @@ fn whole_ranges() -> [Range; STACK_WORDS]
     [Range::whole(); STACK_WORDS]
 }
 
+/// Ranges that stand for nothing. Zeros cost least to write.
+fn no_ranges() -> [Range; STACK_WORDS]
+    ensures { AreStackWords result }
+{
+    [Range::single(0); STACK_WORDS]
+}
+
 /// A range for each word of the stack: word k is the bytes 8k to 8k + 7. Where none is narrow,
 /// each word has the whole range, and the array stands for nothing: so a state of a program that keeps no
 /// ranges is copied without it.
@@ -54,7 +61,7 @@ impl StackWords {
     {
         StackWords {
             narrow: false,
-            ranges: whole_ranges(),
+            ranges: no_ranges(),
         }
     }
 

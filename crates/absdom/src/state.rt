@@ -91,10 +91,20 @@ impl State {
     }
 
     /// Writes a register.
+    #[inline(always)]
     pub fn write(&mut self, register: Register, kind: AbsKind)
         ensures { self.new ≡ with_kind self.old register kind }
     {
         self.registers.kinds[usize::from(register.number())] = kind;
+    }
+
+    /// Writes a number to a register. Its range goes by registers of the processor: what is copied as a whole kind goes
+    /// by memory, in parts that are waited for.
+    #[inline(always)]
+    pub(crate) fn write_number(&mut self, register: Register, range: Range)
+        ensures { self.new ≡ with_kind self.old register (AbsKind.Num range) }
+    {
+        self.write(register, AbsKind::Num(range));
     }
 
     /// Becomes the same as the other.

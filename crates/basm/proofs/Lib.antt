@@ -1,5 +1,6 @@
 pub mod Addresses
 pub mod Arms
+pub mod Cuts
 pub mod Images
 pub mod InsnReadings
 pub mod Items

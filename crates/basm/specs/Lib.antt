@@ -4,6 +4,7 @@ pub mod Codes
 pub mod Labels
 pub mod Names
 pub mod Outcomes
+pub mod Pieces
 pub mod Printed
 pub mod Readers
 pub mod Relation

@@ -25,6 +25,10 @@ loop_line l =
     codes ".loop " ++ decimal l.head ++ codes ", " ++ decimal l.back ++ codes ", " ++ decimal l.bound ++ codes ", "
     ++ register_text l.register ++ codes "\n"
 
+-- the lines of an image before its instructions: the version, the budget and the loops in their order
+abbrev pub directives : Program → List ℕ
+directives p = version_line p.version ++ budget_line p.budget ++ flat_map loop_line p.loops
+
 -- the line of the instruction that begins at a slot; a second slot has none
 abbrev pub slot_line : Option Insn → List ℕ
 slot_line None = []

@@ -9,6 +9,7 @@ ghost use Rattle.basm.specs.declared.faults.AsmCode.TheVariants.{Memory};
 
 use crate::draft::Draft;
 use crate::faults::{AsmCode, AsmFault};
+use crate::pieces::pieces_of;
 use crate::survey::Survey;
 use basm_lex::mnemonic_laws;
 use bpf::Image;
@@ -50,7 +51,7 @@ fn read_lines(alloc: Global, text: &str, survey: &Survey) -> Result<Draft, AsmFa
 {
     let mut parts = Draft::new(alloc);
     let mut number: u32 = 0;
-    for line in text.split('\n') {
+    for line in pieces_of(text) {
         number = number.saturating_add(1);
         if let Err(code) = parts.add_line(alloc, survey, line) {
             return Err(first_fault(survey.repeated, number, code));

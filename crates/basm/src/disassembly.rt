@@ -4,7 +4,7 @@ ghost use Rattle.std.specs.Prelude.{◌≡◌, ◌++◌, IfOk, OnOk};
 ghost use Rattle.std.specs.List.{flat_map};
 ghost use Rattle.std.specs.String.{string_bytes};
 ghost use Rattle.bpf.specs.Program.{IsProgram};
-ghost use Rattle.basm.specs.Printed.{budget_line, loop_line, printed_image, slot_line, version_line};
+ghost use Rattle.basm.specs.Printed.{budget_line, directives, loop_line, printed_image, slot_line, version_line};
 ghost use Rattle.basm.specs.Relation.{IsText};
 
 use basm_lex::printed_words;
@@ -35,11 +35,24 @@ fn print_image(alloc: Global, image: &Image) -> Result<String, AllocError>
     ensures program { IsProgram image.now }
 {
     let mut text = String::new(alloc);
-    print_version(&mut text, image.version())?;
-    print_budget(&mut text, image.budget())?;
-    print_loops(&mut text, image.loops())?;
+    print_directives(&mut text, image)?;
     print_slots(&mut text, image)?;
     Ok(text)
+}
+
+/// Adds the lines of an image before its instructions: its version where that is not 1, its budget and its loops.
+///
+/// # Errors
+///
+/// `AllocError` where memory was refused.
+pub fn print_directives(text: &mut String, image: &Image) -> Result<(), AllocError>
+    ensures printed { OnOk result
+        (string_bytes text.new ≡ string_bytes text.old ++ directives image.now) }
+    ensures program { IsProgram image.now }
+{
+    print_version(text, image.version())?;
+    print_budget(text, image.budget())?;
+    print_loops(text, image.loops())
 }
 
 fn print_version(text: &mut String, version: Version) -> Result<(), AllocError>

@@ -8,7 +8,7 @@ ghost use Rattle.bpf.specs.declared.version.Version.{Version as AVersion};
 ghost use Rattle.bpf.specs.Program.{IsBudget, Program};
 ghost use Rattle.bpf_insn.specs.declared.insn.Insn.{Insn as AnInsn};
 ghost use Rattle.bpf_insn.specs.Spelling.{slots_of};
-ghost use Rattle.basm_lex.specs.Lines.{IsLabel};
+ghost use Rattle.basm_lex.specs.Names.{DefinesName};
 ghost use Rattle.basm.specs.Draft.{AddsLine, ArePartsOf, HasRoom, IsImageOf, WritesLoop, has_head, names_in};
 ghost use Rattle.basm_lex.specs.Mnemonics.{mnemonic_word};
 ghost use Rattle.basm.specs.Outcomes.{Makes};
@@ -20,7 +20,7 @@ use crate::directives::{read_budget, read_loop, read_version};
 use crate::faults::{AsmCode, AsmFault, both};
 use crate::instructions::add_insn;
 use crate::survey::Survey;
-use basm_lex::{Mnemonic, label, read_mnemonic, read_statement};
+use basm_lex::{Mnemonic, label_name, read_mnemonic, read_statement};
 use bpf::{Image, Loop, MAX_LOOPS, Version};
 use bpf_insn::Insn;
 use std::alloc::Global;
@@ -69,7 +69,7 @@ impl Draft {
                 ".budget" => self.add_budget(operands),
                 ".loop" => self.add_loop(operands, survey),
                 ".version" => self.add_version(operands),
-                _ => read_label(line),
+                word => read_label(word, operands),
             },
         }
     }
@@ -174,12 +174,14 @@ impl Draft {
 }
 
 /// A label says nothing more here; any other line is unknown.
-fn read_label(line: &str) -> Result<(), AsmCode>
-    ensures reads { IfOk result (λ _. (name : List ℕ) × IsLabel line.now name) }
-    ensures exact { (name : List ℕ) → IsLabel line.now name → result ≡ Ok tt }
+fn read_label(word: &str, operands: &[&str]) -> Result<(), AsmCode>
+    ensures reads { IfOk result
+        (λ _. (name : List ℕ) × DefinesName word.now name × (texts operands.now ≡ [])) }
+    ensures exact { (name : List ℕ) → DefinesName word.now name → texts operands.now ≡ []
+        → result ≡ Ok tt }
 {
-    match label(line) {
-        Some(_) => Ok(()),
-        None => Err(AsmCode::BadWord),
+    match label_name(word) {
+        Some(_) if operands.is_empty() => Ok(()),
+        _ => Err(AsmCode::BadWord),
     }
 }

@@ -12,10 +12,11 @@ mod faults;
 mod instructions;
 mod laws;
 mod names;
+mod pieces;
 mod survey;
 mod targets;
 
 pub use assembly::assemble;
-pub use disassembly::disassemble;
+pub use disassembly::{disassemble, print_directives};
 pub use faults::{AsmCode, AsmFault};
 pub use laws::printed_again;

@@ -5,7 +5,8 @@ ghost use Rattle.basm.specs.Labels.{AddsName, IsSurvey, word_slots};
 ghost use Rattle.basm.specs.Relation.{pieces_of};
 
 use crate::names::Names;
-use basm_lex::{first_word, label, read_mnemonic};
+use crate::pieces::pieces_of;
+use basm_lex::{read_head, read_mnemonic};
 use std::alloc::{AllocError, Global};
 
 /// What the whole text says before its lines are read one by one.
@@ -33,7 +34,7 @@ impl<'a> Survey<'a> {
             has_budget: false,
         };
         let mut number: u32 = 0;
-        for line in text.split('\n') {
+        for line in pieces_of(text) {
             number = number.saturating_add(1);
             survey.add_line(number, line)?;
         }
@@ -45,10 +46,11 @@ impl<'a> Survey<'a> {
             (λ _. (lines : List (List ℕ)) → IsSurvey lines self.old
             → IsSurvey (lines ++ line.now ∷ []) self.new) }
     {
-        match label(line) {
+        let head = read_head(line);
+        match head.label {
             Some(name) => self.add_name(number, name),
             None => {
-                let word = first_word(line);
+                let word = head.word;
                 self.has_budget = self.has_budget || word == ".budget";
                 self.slots = self.slots.saturating_add(slots_of(word));
                 Ok(())

@@ -6,4 +6,5 @@ pub mod MemoryOperandReadings
 pub mod Readings
 pub mod MnemonicWords
 pub mod WordSearch
+pub mod Groups
 pub mod Printed

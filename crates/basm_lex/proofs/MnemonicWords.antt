@@ -47,11 +47,6 @@ pub named_plain : (word : List ℕ) (o : Option Mnemonic) → o ≡ mnemonic_nam
 named_plain word None same = tt
 named_plain word (Some found) same = let both = found_named word found same in subst IsName (sym both.0) both.1
 
--- none has an empty word
-pub none_without_word : (word : List ℕ) → word ≡ [] → ◌≡◌ {A = Option Mnemonic} None (mnemonic_named word)
-unfolding mnemonic_named
-none_without_word word empty = subst (λ w. ◌≡◌ {A = Option Mnemonic} None (mnemonic_named w)) (sym empty) refl
-
 -- and each mnemonic has its word
 pub word_named : (found : Mnemonic) → mnemonic_named (mnemonic_word found) ≡ Some found
 unfolding mnemonic_named

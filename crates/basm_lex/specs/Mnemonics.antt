@@ -1,5 +1,5 @@
 -- The words that begin an instruction.
-use Rattle.std.specs.Prelude.{ℕ, List, ◌++◌, Option, codes}
+use Rattle.std.specs.Prelude.{ℕ, ◌+◌, ◌-◌, ◌*◌, ◌||◌, nat_lt, if◌then◌else◌, List, [], ◌∷◌, ◌++◌, length, get_or, Option, codes}
 use Rattle.std.specs.List.{find}
 use Rattle.std.specs.Str.{bytes_eq}
 use Rattle.bpf_parts.specs.Text.{alu_name, callee_name, condition_name, extension_name, load_suffix, store_suffix}
@@ -9,7 +9,7 @@ use Rattle.basm_lex.specs.declared.mnemonics.Mnemonic.TheVariants.{Arithmetic, N
 use Rattle.basm_lex.specs.declared.mnemonics.Mnemonic.TheVariants.{Loading, Storing, StoringRegister, Jumping}
 use Rattle.basm_lex.specs.declared.mnemonics.Mnemonic.TheVariants.{ShortGoto, LongGoto, WideLoad, MapLoad}
 use Rattle.basm_lex.specs.declared.mnemonics.Mnemonic.TheVariants.{AddressLoad, Calling, Exiting}
-use Rattle.basm_lex.specs.declared.mnemonics.TheConstants.{MNEMONICS}
+use Rattle.basm_lex.specs.declared.mnemonics.TheConstants.{MNEMONICS, STARTS}
 
 -- the word of a mnemonic
 abbrev pub mnemonic_word : Mnemonic → List ℕ
@@ -50,3 +50,19 @@ mnemonic_slots Exiting = 1
 -- the mnemonic of a word: the first of all that have it
 unfoldable pub mnemonic_named : List ℕ → Option Mnemonic
 mnemonic_named word = find (λ m. bytes_eq word (mnemonic_word m)) MNEMONICS
+
+-- ---- what else contracts and proofs say
+
+-- the number of the words that begin with a letter, and have so many more
+abbrev pub group_at : (first more : ℕ) → ℕ
+group_at first more =
+    if nat_lt first 97 || nat_lt 122 first || nat_lt more 1 || nat_lt 8 more then 208 else (first - 97) * 8 + (more - 1)
+
+-- the number of the words that have the first letter and the length of this one
+abbrev pub group_of : List ℕ → ℕ
+group_of [] = 208
+group_of (c ∷ cs) = group_at c (length cs)
+
+-- where the mnemonics of a group begin
+abbrev pub start_of : ℕ → ℕ
+start_of group = get_or STARTS group 0

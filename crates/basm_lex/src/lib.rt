@@ -1,6 +1,6 @@
 //! Lines of assembler text: their words, and what a word writes.
 //!
-//! A line is read without its comment. [`read_statement`] finds its first word and its operands; the
+//! A line is read without its comment. [`read_head`] finds its first word and [`read_statement`] its operands too; the
 //! other functions say what one word writes: an instruction, a register, a number, a memory operand or a
 //! name.
 #![tactic(auto)]
@@ -16,7 +16,7 @@ mod statements;
 pub use laws::printed_words;
 pub use memory_operands::read_memory_operand;
 pub use mnemonics::{Mnemonic, mnemonic_laws, read_mnemonic};
-pub use names::is_name;
+pub use names::{is_name, label_name};
 pub use numbers::{NumberFault, distance, number, wide_number};
 pub use registers::register;
-pub use statements::{Statement, first_word, label, read_statement};
+pub use statements::{Head, Statement, read_head, read_statement};

@@ -1,10 +1,11 @@
 //! The words that begin an instruction.
 
-ghost use Rattle.std.specs.Prelude.{◌≡◌, ◌++◌, Some, IfSome};
+ghost use Rattle.std.specs.Prelude.{◌≡◌, ◌≤◌, ◌++◌, suc, Some, IfSome, length, slice_range};
 ghost use Rattle.std.specs.List.{find};
 ghost use Rattle.std.specs.Str.{bytes_eq};
 ghost use Rattle.basm_lex.specs.Names.{IsName};
-ghost use Rattle.basm_lex.specs.Mnemonics.{mnemonic_slots, mnemonic_word, mnemonic_named};
+ghost use Rattle.basm_lex.specs.Mnemonics.{group_at, group_of, mnemonic_slots, mnemonic_word, mnemonic_named, start_of};
+ghost use Rattle.basm_lex.specs.declared.mnemonics.TheConstants.{MNEMONICS};
 
 use bpf_insn::{AluOp, Callee, Condition, Extension, LoadSize, Size, Swap, SwapBits, Width};
 use bpf_parts::words::{
@@ -79,42 +80,31 @@ impl Mnemonic {
     }
 }
 
-/// All mnemonics, each once.
+/// All mnemonics, each once: by the first letter of their words, and by their lengths.
 const MNEMONICS: [Mnemonic; 90] = [
     Mnemonic::Arithmetic(AluOp::Add, Width::Bits64),
-    Mnemonic::Arithmetic(AluOp::Sub, Width::Bits64),
-    Mnemonic::Arithmetic(AluOp::Mul, Width::Bits64),
-    Mnemonic::Arithmetic(AluOp::Div, Width::Bits64),
-    Mnemonic::Arithmetic(AluOp::SignedDiv, Width::Bits64),
-    Mnemonic::Arithmetic(AluOp::Or, Width::Bits64),
     Mnemonic::Arithmetic(AluOp::And, Width::Bits64),
-    Mnemonic::Arithmetic(AluOp::Lsh, Width::Bits64),
-    Mnemonic::Arithmetic(AluOp::Rsh, Width::Bits64),
-    Mnemonic::Arithmetic(AluOp::Mod, Width::Bits64),
-    Mnemonic::Arithmetic(AluOp::SignedMod, Width::Bits64),
-    Mnemonic::Arithmetic(AluOp::Xor, Width::Bits64),
-    Mnemonic::Arithmetic(AluOp::Mov, Width::Bits64),
     Mnemonic::Arithmetic(AluOp::Arsh, Width::Bits64),
     Mnemonic::Arithmetic(AluOp::Add, Width::Bits32),
-    Mnemonic::Arithmetic(AluOp::Sub, Width::Bits32),
-    Mnemonic::Arithmetic(AluOp::Mul, Width::Bits32),
-    Mnemonic::Arithmetic(AluOp::Div, Width::Bits32),
-    Mnemonic::Arithmetic(AluOp::SignedDiv, Width::Bits32),
-    Mnemonic::Arithmetic(AluOp::Or, Width::Bits32),
     Mnemonic::Arithmetic(AluOp::And, Width::Bits32),
-    Mnemonic::Arithmetic(AluOp::Lsh, Width::Bits32),
-    Mnemonic::Arithmetic(AluOp::Rsh, Width::Bits32),
-    Mnemonic::Arithmetic(AluOp::Mod, Width::Bits32),
-    Mnemonic::Arithmetic(AluOp::SignedMod, Width::Bits32),
-    Mnemonic::Arithmetic(AluOp::Xor, Width::Bits32),
-    Mnemonic::Arithmetic(AluOp::Mov, Width::Bits32),
     Mnemonic::Arithmetic(AluOp::Arsh, Width::Bits32),
+    Mnemonic::Swapping(Swap::ToBig, SwapBits::Swap16),
+    Mnemonic::Swapping(Swap::ToBig, SwapBits::Swap32),
+    Mnemonic::Swapping(Swap::ToBig, SwapBits::Swap64),
+    Mnemonic::Calling(Callee::Helper),
+    Mnemonic::Calling(Callee::ByTypeId),
+    Mnemonic::Calling(Callee::Local),
+    Mnemonic::Arithmetic(AluOp::Div, Width::Bits64),
+    Mnemonic::Arithmetic(AluOp::Div, Width::Bits32),
+    Mnemonic::Exiting,
+    Mnemonic::ShortGoto,
     Mnemonic::Jumping(Condition::Equal, Width::Bits64),
     Mnemonic::Jumping(Condition::NotEqual, Width::Bits64),
     Mnemonic::Jumping(Condition::Greater, Width::Bits64),
     Mnemonic::Jumping(Condition::GreaterEqual, Width::Bits64),
     Mnemonic::Jumping(Condition::Less, Width::Bits64),
     Mnemonic::Jumping(Condition::LessEqual, Width::Bits64),
+    Mnemonic::LongGoto,
     Mnemonic::Jumping(Condition::AnyBits, Width::Bits64),
     Mnemonic::Jumping(Condition::SignedGreater, Width::Bits64),
     Mnemonic::Jumping(Condition::SignedGreaterEqual, Width::Bits64),
@@ -131,46 +121,73 @@ const MNEMONICS: [Mnemonic; 90] = [
     Mnemonic::Jumping(Condition::SignedGreaterEqual, Width::Bits32),
     Mnemonic::Jumping(Condition::SignedLess, Width::Bits32),
     Mnemonic::Jumping(Condition::SignedLessEqual, Width::Bits32),
+    Mnemonic::Arithmetic(AluOp::Lsh, Width::Bits64),
+    Mnemonic::WideLoad,
     Mnemonic::Loading(LoadSize::LoadByte),
     Mnemonic::Loading(LoadSize::LoadHalf),
     Mnemonic::Loading(LoadSize::LoadWord),
+    Mnemonic::Swapping(Swap::ToLittle, SwapBits::Swap16),
+    Mnemonic::Swapping(Swap::ToLittle, SwapBits::Swap32),
+    Mnemonic::Swapping(Swap::ToLittle, SwapBits::Swap64),
     Mnemonic::Loading(LoadSize::LoadDouble),
+    Mnemonic::MapLoad,
     Mnemonic::Loading(LoadSize::SignedByte),
     Mnemonic::Loading(LoadSize::SignedHalf),
     Mnemonic::Loading(LoadSize::SignedWord),
-    Mnemonic::Storing(Size::Byte),
-    Mnemonic::Storing(Size::Half),
-    Mnemonic::Storing(Size::Word),
-    Mnemonic::Storing(Size::Double),
-    Mnemonic::StoringRegister(Size::Byte),
-    Mnemonic::StoringRegister(Size::Half),
-    Mnemonic::StoringRegister(Size::Word),
-    Mnemonic::StoringRegister(Size::Double),
-    Mnemonic::Negation(Width::Bits64),
-    Mnemonic::Negation(Width::Bits32),
+    Mnemonic::AddressLoad,
+    Mnemonic::Arithmetic(AluOp::Lsh, Width::Bits32),
+    Mnemonic::Arithmetic(AluOp::Mov, Width::Bits64),
+    Mnemonic::Arithmetic(AluOp::Mod, Width::Bits64),
+    Mnemonic::Arithmetic(AluOp::Mul, Width::Bits64),
+    Mnemonic::Arithmetic(AluOp::Mov, Width::Bits32),
+    Mnemonic::Arithmetic(AluOp::Mod, Width::Bits32),
+    Mnemonic::Arithmetic(AluOp::Mul, Width::Bits32),
     Mnemonic::SignedMove(Extension::ByteTo64),
     Mnemonic::SignedMove(Extension::HalfTo64),
     Mnemonic::SignedMove(Extension::WordTo64),
     Mnemonic::SignedMove(Extension::ByteTo32),
     Mnemonic::SignedMove(Extension::HalfTo32),
-    Mnemonic::Swapping(Swap::ToLittle, SwapBits::Swap16),
-    Mnemonic::Swapping(Swap::ToLittle, SwapBits::Swap32),
-    Mnemonic::Swapping(Swap::ToLittle, SwapBits::Swap64),
-    Mnemonic::Swapping(Swap::ToBig, SwapBits::Swap16),
-    Mnemonic::Swapping(Swap::ToBig, SwapBits::Swap32),
-    Mnemonic::Swapping(Swap::ToBig, SwapBits::Swap64),
+    Mnemonic::Negation(Width::Bits64),
+    Mnemonic::Negation(Width::Bits32),
+    Mnemonic::Arithmetic(AluOp::Or, Width::Bits64),
+    Mnemonic::Arithmetic(AluOp::Or, Width::Bits32),
+    Mnemonic::Arithmetic(AluOp::Rsh, Width::Bits64),
+    Mnemonic::Arithmetic(AluOp::Rsh, Width::Bits32),
+    Mnemonic::Arithmetic(AluOp::Sub, Width::Bits64),
+    Mnemonic::Storing(Size::Byte),
+    Mnemonic::Storing(Size::Half),
+    Mnemonic::Storing(Size::Word),
+    Mnemonic::StoringRegister(Size::Byte),
+    Mnemonic::StoringRegister(Size::Half),
+    Mnemonic::StoringRegister(Size::Word),
+    Mnemonic::Storing(Size::Double),
+    Mnemonic::Arithmetic(AluOp::SignedDiv, Width::Bits64),
+    Mnemonic::Arithmetic(AluOp::SignedMod, Width::Bits64),
+    Mnemonic::StoringRegister(Size::Double),
+    Mnemonic::Arithmetic(AluOp::Sub, Width::Bits32),
     Mnemonic::Swapping(Swap::Reverse, SwapBits::Swap16),
     Mnemonic::Swapping(Swap::Reverse, SwapBits::Swap32),
     Mnemonic::Swapping(Swap::Reverse, SwapBits::Swap64),
-    Mnemonic::ShortGoto,
-    Mnemonic::LongGoto,
-    Mnemonic::WideLoad,
-    Mnemonic::MapLoad,
-    Mnemonic::AddressLoad,
-    Mnemonic::Calling(Callee::Helper),
-    Mnemonic::Calling(Callee::Local),
-    Mnemonic::Calling(Callee::ByTypeId),
-    Mnemonic::Exiting,
+    Mnemonic::Arithmetic(AluOp::SignedDiv, Width::Bits32),
+    Mnemonic::Arithmetic(AluOp::SignedMod, Width::Bits32),
+    Mnemonic::Arithmetic(AluOp::Xor, Width::Bits64),
+    Mnemonic::Arithmetic(AluOp::Xor, Width::Bits32),
+];
+
+/// The group of words that have no place in the table: none has so few letters, so many, or another beginning.
+const NO_GROUP: usize = 208;
+
+/// Where the mnemonics of each group begin, and behind the last group how many there are.
+const STARTS: [u8; 210] = [
+    0, 0, 2, 3, 5, 6, 6, 6, 6, 6, 6, 9, 9, 9, 9, 9, 9, 9, 9, 10, 10, 10, 11, 11, 12, 12, 13, 13,
+    14, 14, 14, 14, 14, 14, 14, 15, 15, 15, 15, 15, 15, 15, 15, 15, 15, 15, 15, 15, 15, 15, 15, 15,
+    15, 15, 15, 15, 15, 15, 15, 15, 15, 15, 15, 15, 15, 15, 15, 15, 15, 15, 15, 15, 15, 16, 22, 28,
+    34, 39, 39, 39, 39, 39, 39, 39, 39, 39, 39, 39, 39, 39, 40, 47, 54, 54, 54, 54, 54, 54, 57, 57,
+    60, 61, 63, 64, 65, 65, 66, 66, 67, 67, 67, 67, 67, 68, 68, 69, 69, 69, 69, 69, 69, 69, 69, 69,
+    69, 69, 69, 69, 69, 69, 69, 69, 69, 69, 69, 69, 69, 69, 70, 70, 71, 71, 71, 71, 71, 71, 75, 81,
+    83, 88, 88, 88, 88, 88, 88, 88, 88, 88, 88, 88, 88, 88, 88, 88, 88, 88, 88, 88, 88, 88, 88, 88,
+    88, 88, 88, 88, 88, 88, 88, 88, 88, 88, 88, 88, 88, 88, 89, 89, 90, 90, 90, 90, 90, 90, 90, 90,
+    90, 90, 90, 90, 90, 90, 90, 90, 90, 90, 90, 90, 90, 90,
 ];
 
 /// What the word says, where it begins an instruction.
@@ -183,15 +200,58 @@ pub fn read_mnemonic(word: &str) -> Option<Mnemonic>
     named(word)
 }
 
-/// The mnemonic that has this word. A line without an instruction has an empty word, which none has.
+/// The mnemonic that has this word.
 fn named(word: &str) -> Option<Mnemonic>
     ensures { result ≡ mnemonic_named word.now }
 {
-    if word.is_empty() {
-        None
-    } else {
-        first_with_word(&MNEMONICS, word)
+    first_with_word(candidates(group_of(word)), word)
+}
+
+/// The number of the words that have the first letter and the length of this one.
+fn group_of(word: &str) -> usize
+    ensures value { result ≡ group_of word.now }
+    ensures few { result ≤ 208 }
+{
+    match word.as_bytes() {
+        [first, rest @ ..] => group_at(*first, rest.len()),
+        [] => NO_GROUP,
     }
+}
+
+/// The group of the words that begin with a letter, and have so many more.
+fn group_at(first: u8, more: usize) -> usize
+    ensures value { result ≡ group_at first more }
+    ensures few { result ≤ 208 }
+{
+    if first < b'a' || first > b'z' || more < 1 || more > 8 {
+        NO_GROUP
+    } else {
+        usize::from(first - b'a') * 8 + (more - 1)
+    }
+}
+
+/// The mnemonics of a group.
+fn candidates(group: usize) -> &'static [Mnemonic]
+    requires { group ≤ 208 }
+    ensures { result.now ≡ slice_range MNEMONICS (start_of group) (start_of (suc group)) }
+{
+    part(&MNEMONICS, start_of(group), start_of(group + 1))
+}
+
+fn part(all: &[Mnemonic], start: usize, end: usize) -> &[Mnemonic]
+    requires order { start ≤ end }
+    requires within { end ≤ length all.now }
+    ensures { result.now ≡ slice_range all.now start end }
+{
+    &all[start..end]
+}
+
+/// Where the mnemonics of a group begin.
+fn start_of(group: usize) -> usize
+    requires { group ≤ 209 }
+    ensures { result ≡ start_of group }
+{
+    usize::from(STARTS[group])
 }
 
 /// What holds of all mnemonics: it does nothing, and its contract is the laws.

@@ -1,6 +1,6 @@
 //! The words of a line.
 
-ghost use Rattle.std.specs.Prelude.{◌≡◌, IfOk, MatchOption};
+ghost use Rattle.std.specs.Prelude.{◌≡◌, ◌==◌, IfOk, MatchOption, length};
 ghost use Rattle.std.specs.List.{before_first};
 ghost use Rattle.basm_lex.specs.Lines.{IsLabel, IsNoLabel, code_of, without_trailing_spaces, is_semicolon, operands_of, rest_of, parts_between_commas, texts, without_leading_spaces, trimmed_text, word_of};
 
@@ -16,12 +16,35 @@ pub struct Statement<'a> {
     pub operands: Vec<&'a str>,
 }
 
+/// What a line begins with, without its comment.
+#[derive(Debug, Drop)]
+pub struct Head<'a> {
+    /// The first word, empty in a line without words.
+    pub word: &'a str,
+    /// The name that the line defines, where it is a label and nothing behind it.
+    pub label: Option<&'a str>,
+}
+
 /// The line without its comment and the spaces around it.
 #[tactic(auto, unfolding(crate::specs::Lines::code_of))]
 fn code_of(line: &str) -> &str
     ensures { result.now ≡ code_of line.now }
 {
-    trim(before_comment(line))
+    let begun = trim_start(line);
+    if is_bare(begun) {
+        return "";
+    }
+    trim_end(before_comment(begun))
+}
+
+/// Whether there is nothing but a comment.
+fn is_bare(text: &str) -> bool
+    ensures { result ≡ (length (before_first is_semicolon text.now) == 0) }
+{
+    match text.as_bytes() {
+        [first, ..] => *first == b';',
+        [] => true,
+    }
 }
 
 fn before_comment(line: &str) -> &str
@@ -40,29 +63,29 @@ fn split_word(line: &str) -> (&str, &str)
     ensures rest { result.1.now ≡ rest_of line.now }
 {
     let code = code_of(line);
+    if code.is_empty() {
+        return ("", "");
+    }
     match code.split_once(' ') {
         Some((word, rest)) => (word, rest),
         None => (code, ""),
     }
 }
 
-/// The first word of a line without its comment; empty where the line has no words.
-pub fn first_word(line: &str) -> &str
-    ensures { result.now ≡ word_of line.now }
-{
-    let (word, _) = split_word(line);
-    word
-}
-
-/// The name that a line defines: a label, and nothing behind it.
-pub fn label(line: &str) -> Option<&str>
-    ensures { MatchOption result (IsNoLabel line.now) (λ name. IsLabel line.now name.now) }
+/// The first word of a line, and the name that it defines.
+pub fn read_head(line: &str) -> Head<'_>
+    ensures word { result.word.now ≡ word_of line.now }
+    ensures label { MatchOption result.label (IsNoLabel line.now)
+        (λ name. IsLabel line.now name.now) }
 {
     let (word, after) = split_word(line);
     if after.is_empty() {
-        label_name(word)
+        Head {
+            word,
+            label: label_name(word),
+        }
     } else {
-        None
+        Head { word, label: None }
     }
 }
 

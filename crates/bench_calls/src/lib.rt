@@ -7,6 +7,7 @@
 mod packets;
 mod schedules;
 
+use basm::assemble;
 use bpf::Image;
 use brun::run;
 use bver::{Accepted, MapSizes, verify};
@@ -32,6 +33,22 @@ pub extern "C" fn speed_crc(bytes: &[u8], rounds: u32) -> u64 {
         crc = crc_more(crc, bytes);
     }
     u64::from(crc)
+}
+
+/// Assembles the text each time.
+#[unsafe(no_mangle)]
+pub extern "C" fn speed_assemble(alloc: Global, text: &[u8], rounds: u32) -> u64 {
+    let Ok(text) = str::from_utf8(text) else {
+        return REFUSED;
+    };
+    let mut sum: u64 = 0;
+    for _round in 0..rounds {
+        match assemble(alloc, text) {
+            Ok(image) => sum = sum.wrapping_add(u64::from(image.budget())),
+            Err(_) => return REFUSED,
+        }
+    }
+    sum
 }
 
 /// Verifies a copy of the image each time, for one map of one cell.

@@ -1,7 +1,6 @@
 -- Every path of a justified program stands at a slot with a state that fits what is known there.
-use Rattle.std.proofs.Common.{◌≡◌, ℕ, ◌+◌, ◌^◌, ◌<◌, ℤ, pos, negsuc, Bool, true, false, List, Option, None, Some, Result, Ok, Err, refl, sym, subst, arith}
-use Rattle.std.specs.Prelude.{IsTrue, IsSome, ◌&&◌, ◌==◌, nat_le, if◌then◌else◌}
-use Rattle.std.proofs.lemmas.Bool.Decides.{nat_tests}
+use Rattle.std.proofs.Common.{◌≡◌, ℕ, ◌+◌, ◌^◌, ◌<◌, ℤ, pos, negsuc, Bool, true, false, List, Option, None, Some, Result, Ok, Err, refl, sym, subst}
+use Rattle.std.specs.Prelude.{IsTrue, IsSome, if◌then◌else◌}
 use Rattle.bpf.specs.Program.{Program}
 use Rattle.bpf.specs.declared.version.Version.{Version}
 use Rattle.bpf_parts.specs.declared.distance.Distance.TheVariants.{Short, Long}

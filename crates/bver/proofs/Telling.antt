@@ -8,7 +8,6 @@ use Rattle.bpf_insn.specs.declared.insn.Insn.TheVariants.{Jump}
 use Rattle.bpf_parts.specs.declared.operation.Comparison.{Comparison}
 use Rattle.bpf_insn.specs.declared.flow.Flow.TheVariants.{GoesOn}
 use Rattle.bpf_insn.specs.Flow.{flow_of}
-use Rattle.machine.specs.Sizes.{Maps}
 use Rattle.machine.specs.Step.{insn_at}
 use Rattle.absdom.specs.declared.cause.Cause.{Cause}
 use Rattle.absdom.specs.Edges.{Edges}

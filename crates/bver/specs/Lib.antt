@@ -4,6 +4,7 @@ pub mod Justified
 pub mod Operations
 pub mod Resolved
 pub mod Heads
+pub mod Written
 pub mod Table
 pub mod Unjustified
 pub mod Visit

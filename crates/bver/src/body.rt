@@ -1,26 +1,27 @@
 //! A loop that a program declares, with what stands at its head for every pass.
 
 ghost use Rattle.std.specs.Prelude.{◌≡◌, ◌≤◌, ◌<◌, ◌↔◌, IfErr, IsTrue, OnErr, OnOk, MatchResult, length};
-ghost use Rattle.bpf.specs.Program.{insn_at};
-ghost use Rattle.machine.specs.Laws.{is_store};
-ghost use Rattle.bver.specs.Justified.{HasStore, IsCovered, IsStoreAt, IsWrittenBy, IsWrittenIn};
+ghost use Rattle.bver.specs.Justified.{HasStore, IsCovered, IsWrittenIn};
 ghost use Rattle.bver_form.specs.Lowered.{IsMore, IsSettled};
 ghost use Rattle.bver.specs.Table.{knowledge_in};
 ghost use Rattle.bver.specs.Heads.{AreLowered, AreWidenedRanges, BodyValue, Falls, IsClosingFault, IsDeclared, IsEntryFault, IsWidened, IsWidenedKind, IsWithinBound, opened_kind};
+ghost use Rattle.bver.specs.Written.{AreWrittenByLoops, IsWrittenByLoop};
 
 use crate::table::{Table, is_number};
+use crate::written::Written;
 use absdom::{AbsKind, State};
 use absdom_num::Range;
-use bpf::{Image, Loop};
-use bpf_insn::{Insn, Register};
+use bpf::{Image, Loop, MAX_LOOPS};
+use bpf_insn::Register;
 use bver_form::{Lowered, Refusal, Refused};
 use std::marker::Model;
 
-/// A loop that a program declares.
+/// A loop that a program declares, with what its instructions write.
 #[derive(Drop)]
 pub(crate) struct Body<'a> {
     image: &'a Image,
     declared: Loop,
+    written: Written,
     place: usize,
 }
 
@@ -28,39 +29,13 @@ impl<'a> Model for Body<'a> {
     ghost use Rattle.bver_form.specs.Lowered.{IsMore, IsSettled};
     ghost use Rattle.bver.specs.Table.{knowledge_in};
     ghost use Rattle.bver.specs.Heads.{BodyValue, Falls, IsDeclared};
+    ghost use Rattle.bver.specs.Written.{IsWrittenByLoop};
 
     ghost Value = { BodyValue };
 
     ghost view = { λ b. record { program = b.image.now; declared = b.declared; place = b.place } };
 
-    ghost invariant = { λ b. IsDeclared b.image.now b.declared b.place };
-}
-
-/// Whether the instruction at the slot writes the register.
-fn writes_at(image: &Image, slot: u16, register: Register) -> bool
-    ensures { IsTrue result ↔ IsWrittenBy (insn_at image.now slot) register }
-{
-    match image.insn(slot) {
-        Some(insn) => insn.writes(register),
-        None => false,
-    }
-}
-
-/// Whether the instruction is a store: it accesses memory, and names no register that it writes.
-fn is_store(insn: &Insn) -> bool
-    ensures { result ≡ is_store insn.now }
-{
-    insn.accessed().is_some() && insn.written().is_none()
-}
-
-/// Whether the instruction at the slot is a store.
-fn stores_at(image: &Image, slot: u16) -> bool
-    ensures { IsTrue result ↔ IsStoreAt (insn_at image.now slot) }
-{
-    match image.insn(slot) {
-        Some(insn) => is_store(&insn),
-        None => false,
-    }
+    ghost invariant = { λ b. IsDeclared b.image.now b.declared b.place × IsWrittenByLoop b.image.now b.declared b.written };
 }
 
 /// What is kept at a loop's head of a register that the loop writes.
@@ -81,8 +56,9 @@ fn opened(lowered: bool, kind: AbsKind) -> AbsKind
 
 impl<'a> Body<'a> {
     /// The loop at that place among those that the program declares.
-    pub(crate) fn new(image: &'a Image, place: usize) -> Body<'a>
-        requires { place < length image.now.loops }
+    pub(crate) fn new(image: &'a Image, written: &[Written; MAX_LOOPS], place: usize) -> Body<'a>
+        requires inside { place < length image.now.loops }
+        requires written { AreWrittenByLoops image.now written.now }
         ensures program { result.program ≡ image.now }
         ensures place { result.place ≡ place }
         ensures declared { IsDeclared image.now result.declared place }
@@ -90,6 +66,7 @@ impl<'a> Body<'a> {
         Body {
             image,
             declared: image.loops()[place],
+            written: written[place],
             place,
         }
     }
@@ -112,24 +89,14 @@ impl<'a> Body<'a> {
     fn writes(&self, register: Register) -> bool
         ensures { IsTrue result ↔ IsWrittenIn self.now.program self.now.declared register }
     {
-        for slot in self.declared.head..self.declared.back + 1 {
-            if writes_at(self.image, slot, register) {
-                return true;
-            }
-        }
-        false
+        self.written.contains(register)
     }
 
     /// Whether an instruction of the loop is a store.
     fn stores(&self) -> bool
         ensures { IsTrue result ↔ HasStore self.now.program self.now.declared }
     {
-        for slot in self.declared.head..self.declared.back + 1 {
-            if stores_at(self.image, slot) {
-                return true;
-            }
-        }
-        false
+        self.written.stores()
     }
 
     /// What is known of a register at the head, from what is known on the way there.

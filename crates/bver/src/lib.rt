@@ -13,10 +13,11 @@ mod laws;
 mod passes;
 mod table;
 mod visit;
+mod written;
 
 pub use absdom::{Region, State};
 pub use accepted::{Accepted, explain, verify};
 pub use bver_form::{Refusal, Refused};
-pub use bver_op::{Code, Op};
+pub use bver_op::{Accessed, Code, Op};
 pub use laws::justified_programs;
 pub use machine::{MapSizes, TooMany};

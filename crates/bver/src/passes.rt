@@ -14,16 +14,18 @@ ghost use Rattle.bver.specs.Told.{TellsKnown};
 ghost use Rattle.bver_form.specs.Targets.{IsKept};
 ghost use Rattle.bver.specs.Unjustified.{Justifies};
 ghost use Rattle.bver.specs.Visit.{AreEntered, IsExtended, IsInsnVisit, IsLeastEntry, IsLeastOf, IsTableOf, IsVisit, visited_state};
+ghost use Rattle.bver.specs.Written.{AreWrittenByLoops};
 
 use crate::body::Body;
 use crate::edges::{accessed_region, flow};
 use crate::table::Table;
 use crate::visit::Visit;
+use crate::written::Written;
 use absdom::{
     Region, State, after_call_grows, apply_grows, apply_leaves, order_of_states, refine_grows,
     refine_shrinks,
 };
-use bpf::Image;
+use bpf::{Image, MAX_LOOPS};
 use bpf_insn::Insn;
 use bver_form::{Lowered, Refused, loops_are_counted};
 use machine::MapSizes;
@@ -208,8 +210,8 @@ fn visit_slot(
     }
 }
 
-/// Passes over the slots of a program by rising slot, from a table that covers the entry. It writes the
-/// region that each slot accesses. The program is judged where nothing more was lowered. The state is any one before; where
+/// Passes over the slots of a program by rising slot, from a table that covers the entry. It is lent what each loop
+/// writes. It writes the region that each slot accesses. The program is judged where nothing more was lowered. The state is any one before; where
 /// the program is refused it is what was known at the slot of the refusal.
 ///
 /// # Errors
@@ -220,10 +222,12 @@ pub(crate) fn pass(
     lowered: &mut Lowered,
     image: &Image,
     maps: &MapSizes,
+    written: &[Written; MAX_LOOPS],
     regions: &mut Vec<Option<Region>>,
     state: &mut State,
 ) -> Result<(), Refused>
     requires formed { IsFormed image.now }
+    requires written { AreWrittenByLoops image.now written.now }
     requires table { table.old.program ≡ image.now }
     requires entered { AreEntered image.now (knowledge_in table.old) }
     requires least { IsLeastEntry (knowledge_in table.old) }
@@ -253,7 +257,7 @@ pub(crate) fn pass(
     let mut runs = false;
     state.set_to(&spare);
     for slot in 0..image.slots() {
-        let visit = Visit::new(image, maps, slot);
+        let visit = Visit::new(image, maps, written, slot);
         let region = visit_slot(&visit, table, lowered, state, &mut spare, &mut runs)?;
         regions[usize::from(slot)] = region;
         table.stands_at_targets();

@@ -11,43 +11,59 @@ ghost use Rattle.bver_form.specs.Jumps.{first_slot, is_loop_back, target};
 ghost use Rattle.bver.specs.Heads.{IsDeclared};
 ghost use Rattle.bver_form.specs.Targets.{IsKept};
 ghost use Rattle.bver.specs.Visit.{VisitValue};
+ghost use Rattle.bver.specs.Written.{AreWrittenByLoops};
 
 use crate::body::Body;
+use crate::written::Written;
 use absdom::Spill;
-use bpf::Image;
+use bpf::{Image, MAX_LOOPS};
 use bpf_insn::Insn;
 use bver_form::{Refusal, Refused};
 use machine::{Helper, MapKind, MapSizes};
 use std::marker::Model;
 
-/// A slot of a program that has its form, which is verified for a node with these maps.
+/// A slot of a program that has its form, which is verified for a node with these maps; with what each loop of the
+/// program writes.
 #[derive(Drop)]
 pub(crate) struct Visit<'a> {
     image: &'a Image,
     maps: &'a MapSizes,
+    written: &'a [Written; MAX_LOOPS],
     slot: u16,
 }
 
 impl<'a> Model for Visit<'a> {
     ghost use Rattle.bver_form.specs.Form.{IsFormed};
     ghost use Rattle.bver.specs.Visit.{VisitValue};
+    ghost use Rattle.bver.specs.Written.{AreWrittenByLoops};
 
     ghost Value = { VisitValue };
 
     ghost view = { λ v. record { program = v.image.now; maps = v.maps.now; slot = v.slot } };
 
-    ghost invariant = { λ v. IsFormed v.image.now };
+    ghost invariant = { λ v. IsFormed v.image.now × AreWrittenByLoops v.image.now v.written.now };
 }
 
 impl<'a> Visit<'a> {
     /// The visit of a slot.
-    pub(crate) fn new(image: &'a Image, maps: &'a MapSizes, slot: u16) -> Visit<'a>
-        requires { IsFormed image.now }
+    pub(crate) fn new(
+        image: &'a Image,
+        maps: &'a MapSizes,
+        written: &'a [Written; MAX_LOOPS],
+        slot: u16,
+    ) -> Visit<'a>
+        requires formed { IsFormed image.now }
+        requires written { AreWrittenByLoops image.now written.now }
         ensures program { result.program ≡ image.now }
         ensures maps { result.maps ≡ maps.now }
         ensures slot { result.slot ≡ slot }
     {
-        Visit { image, maps, slot }
+        Visit {
+            image,
+            maps,
+            written,
+            slot,
+        }
     }
 
     /// The slot.
@@ -120,7 +136,7 @@ impl<'a> Visit<'a> {
         ensures formed { IsFormed self.now.program }
     {
         for place in 0..self.image.loops().len() {
-            let body = Body::new(self.image, place);
+            let body = Body::new(self.image, self.written, place);
             if body.head() == self.slot {
                 return Some(body);
             }
@@ -148,7 +164,7 @@ impl<'a> Visit<'a> {
         ensures none { result ≡ None → is_loop_back self.now.program self.now.slot head ≡ false }
     {
         for place in 0..self.image.loops().len() {
-            let body = Body::new(self.image, place);
+            let body = Body::new(self.image, self.written, place);
             if body.back() == self.slot && body.head() == head {
                 return Some(body);
             }

@@ -4,6 +4,7 @@ use Rattle.std.specs.Io.KnownBytes.{Appends}
 use Rattle.job_texts.specs.Assembled.{Assembles, IsNotAssembled}
 use Rattle.job_texts.specs.Compiled.{CompilesTable, IsNotCompiled}
 use Rattle.job_texts.specs.Disassembled.{Disassembles, IsNotPrinted}
+use Rattle.job_texts.specs.Explained.{TellsAccepted}
 use Rattle.job_decide.specs.DecidedFile.{DecidesFile, IsNotDecided}
 use Rattle.job_parts.specs.Files.{Reads, Writes}
 use Rattle.job_nodes.specs.Judged.{IsNotJudged, JudgesFile}
@@ -11,8 +12,8 @@ use Rattle.job_parts.specs.Printed.{PrintsMore, fault_line}
 use Rattle.job_parts.specs.Reading.{IsNoProgram}
 use Rattle.job_ports.specs.ServedFile.{IsNotServed, ServesFile}
 use Rattle.job_nodes.specs.Simulated.{IsNotSimulated, SimulatesFile}
-use Rattle.job_texts.specs.MadePackets.{IsNotMade, MakesNone, MakesPackets}
-use Rattle.job_texts.specs.ShowJob.{IsNotShown, ShowsFile}
+use Rattle.job_packets.specs.MadePackets.{IsNotMade, MakesNone, MakesPackets}
+use Rattle.job_packets.specs.ShowJob.{IsNotShown, ShowsFile}
 use Rattle.job_texts.specs.Verified.{Verifies}
 use Rattle.job_trace.specs.Traced.{IsNotTraced, TracesFile}
 use Rattle.job_parts.specs.declared.faults.Fault.{Fault}
@@ -50,6 +51,11 @@ abbrev pub decides : Job → Bool
 decides (Decide words) = true
 decides other = false
 
+-- the job tells why a program may not judge
+abbrev pub tells_why : Job → Bool
+tells_why (Why args) = true
+tells_why other = false
+
 -- what stands behind the line of the fault: more of a job that explains it, and nothing of any other
 abbrev pub IsLeftBehind : (explains : Bool) → (told new : Option (List ℕ)) → Type 0
 IsLeftBehind true told new = PrintsMore told new
@@ -62,7 +68,7 @@ module _ {S : Type 0} (reads : Reads S) (writes : Writes S) where
   IsDone (Judge args) before after old new = JudgesFile reads args before after old new
   IsDone (Assemble words) before after old new =
       Assembles reads writes before (string_bytes words.text) (string_bytes words.image) after old new
-  IsDone (Disassemble words) before after old new = Disassembles reads before (string_bytes words.image) after old new
+  IsDone (Disassemble words) before after old new = Disassembles reads before words after old new
   IsDone (Verify args) before after old new =
       Verifies reads before (string_bytes args.image) args.sizes after old new
   IsDone (Policy words) before after old new =
@@ -71,7 +77,7 @@ module _ {S : Type 0} (reads : Reads S) (writes : Writes S) where
   IsDone (Simulate args) before after old new = SimulatesFile reads args before after old new
   IsDone (Explain words) before after old new = (after ≡ before) × PrintsMore old new
   IsDone (Why args) before after old new =
-      Verifies reads before (string_bytes args.image) args.sizes after old new
+      TellsAccepted reads before (string_bytes args.image) args.sizes after old new
   IsDone (Packet words) before after old new = MakesPackets reads words before after old new
   IsDone (Show words) before after old new = ShowsFile reads before (string_bytes words.lines) after old new
   IsDone (Decide words) before after old new = DecidesFile reads words before after old new

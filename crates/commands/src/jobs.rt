@@ -1,13 +1,16 @@
 //! The jobs of `rmapctl`.
 
 ghost use Rattle.std.specs.Prelude.{◌≡◌, IfErr, IfOk, MatchOption, OnOk, false};
-ghost use Rattle.commands.specs.Performed.{IsDone, IsEnded, Performs, decides, makes_packets};
-ghost use Rattle.commands.specs.declared.jobs.Job.TheVariants.{Decide, Packet};
+ghost use Rattle.commands.specs.Performed.{IsDone, IsEnded, Performs, decides, makes_packets, tells_why};
+ghost use Rattle.commands.specs.declared.jobs.Job.TheVariants.{Decide, Packet, Why};
 ghost use Rattle.job_parts.specs.Stops.{StopsBy};
 
 use job_decide::decide::{DecideWords, decide_file};
 use job_nodes::judge::judge_file;
 use job_nodes::sim::sim_file;
+use job_packets::made_packets::packet_file;
+use job_packets::packet::PacketWords;
+use job_packets::show::{ShowWords, show_file};
 use job_parts::lines::LinesArgs;
 use job_parts::stops::{Halt, WriteFault};
 use job_parts::storage::Files;
@@ -16,10 +19,7 @@ use job_texts::asm::{AsmWords, assemble_file};
 use job_texts::dis::{DisWords, disassemble_file};
 use job_texts::explain::{ExplainWords, explain};
 use job_texts::images::ImageArgs;
-use job_texts::made_packets::packet_file;
-use job_texts::packet::PacketWords;
 use job_texts::policies::{PolicyWords, compile_file};
-use job_texts::show::{ShowWords, show_file};
 use job_texts::verify::verify_file;
 use job_texts::why::why_file;
 use job_trace::trace::trace_file;
@@ -43,7 +43,7 @@ pub enum Job {
     Trace(LinesArgs),
     /// Assembles a text, and writes the image.
     Assemble(AsmWords),
-    /// Prints the text of a BPF image.
+    /// Prints the text of a BPF image, with or without slots, and the maps that it needs.
     Disassemble(DisWords),
     /// Verifies a BPF image, and prints whether it may judge.
     Verify(ImageArgs),
@@ -51,7 +51,7 @@ pub enum Job {
     Policy(PolicyWords),
     /// Prints what is to be said of a code, or a line for each code.
     Explain(ExplainWords),
-    /// Verifies a BPF image, and prints whether it may judge, and the reason why not.
+    /// Verifies a BPF image, and prints whether it may judge, the reason why not, and the maps that it needs.
     Why(ImageArgs),
     /// Makes packet lines: of a command, or of a load.
     Packet(PacketWords),
@@ -62,6 +62,17 @@ pub enum Job {
 }
 
 impl Job {
+    /// The words of the job `why`.
+    fn why(&self) -> Option<&ImageArgs>
+        ensures { MatchOption result (tells_why self.now ≡ false)
+            (λ args. self.now ≡ Why args.now) }
+    {
+        match self {
+            Job::Why(args) => Some(args),
+            _ => None,
+        }
+    }
+
     /// The words of the job `packet`.
     fn packet(&self) -> Option<&PacketWords>
         ensures { MatchOption result (makes_packets self.now ≡ false)
@@ -85,8 +96,7 @@ impl Job {
     }
 }
 
-/// Does a job but `packet` and `decide`, up to its end or the fault that ends it, which is still to be printed. Up to there `why` is
-/// `verify`.
+/// Does a job but `why`, `packet` and `decide`, up to its end or the fault that ends it, which is still to be printed.
 fn attempt<'a, J: ProgramFamily + Send + 'static, R: Threads + Wait + Sync, F: Files, W: Write>(
     rt: &R,
     alloc: Global,
@@ -96,6 +106,7 @@ fn attempt<'a, J: ProgramFamily + Send + 'static, R: Threads + Wait + Sync, F: F
     out: &mut W,
 ) -> Result<(), Halt<'a>>
     requires opened { opened ≡ J.book }
+    requires asked { tells_why job.now ≡ false }
     requires other { makes_packets job.now ≡ false }
     requires told { decides job.now ≡ false }
     ensures done { OnOk result (IsDone F.reads F.writes job.now files.old files.new
@@ -111,12 +122,11 @@ fn attempt<'a, J: ProgramFamily + Send + 'static, R: Threads + Wait + Sync, F: F
         Job::Assemble(words) => {
             assemble_file(alloc, words.text.as_str(), words.image.as_str(), files, out)
         }
-        Job::Disassemble(words) => disassemble_file(alloc, words.image.as_str(), files, out),
+        Job::Disassemble(words) => disassemble_file(alloc, words, files, out),
         Job::Verify(args) => verify_file(alloc, args.image.as_str(), args.sizes, files, out),
         Job::Policy(words) => compile_file(alloc, words, files, out),
         Job::Explain(words) => explain(alloc, words, out),
-        Job::Why(args) => verify_file(alloc, args.image.as_str(), args.sizes, files, out),
-        Job::Packet(_) | Job::Decide(_) => unreachable!(),
+        Job::Why(_) | Job::Packet(_) | Job::Decide(_) => unreachable!(),
         Job::Show(words) => show_file(alloc, words.lines.as_str(), files, out),
     }
 }
@@ -135,7 +145,7 @@ fn perform_opened<J: ProgramFamily + Send + 'static, R: Threads + Wait + Sync, F
     ensures { IfOk result (Performs F.reads F.writes job.now files.old files.new
         (W.contents out.old) (W.contents out.new)) }
 {
-    if let Job::Why(args) = job {
+    if let Some(args) = job.why() {
         return why_file(alloc, args, files, out);
     }
     if let Some(words) = job.packet() {

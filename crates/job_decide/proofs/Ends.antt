@@ -1,16 +1,8 @@
 -- How the job ends.
-use Rattle.std.specs.Prelude.{Result, Ok, Err, IfErr}
-use Rattle.std.proofs.Common.{◌≡◌, ℕ, List, [], Option, refl, inl, inr}
-use Rattle.std.specs.Io.KnownBytes.{Appends}
-use Rattle.policy.specs.declared.rules.Rule.{Rule}
-use Rattle.spw.specs.Line.{lines_of}
+use Rattle.std.proofs.Common.{ℕ, List, Option, refl, inl, inr}
 use Rattle.job_parts.specs.Files.{Reads}
-use Rattle.job_parts.specs.Printed.{fault_line}
-use Rattle.job_parts.specs.declared.faults.Fault.{Fault}
-use Rattle.job_decide.specs.DecidedFile.{Decides, DecidesFile, HoldsTableFault, IsGiven, IsUnready, StopsFile, TellsEnd, TellsTable, TellsUnready, first_held}
-use Rattle.job_decide.specs.DecidedLines.{DecidesAll, StopsAt}
+use Rattle.job_decide.specs.DecidedFile.{Decides, IsUnready, TellsUnready}
 use Rattle.job_decide.specs.declared.decide.DecideWords.{DecideWords}
-use Rattle.job_decide.specs.declared.decide.Held.{Held}
 use Rattle.job_decide.specs.declared.decide.Unready.{Unready}
 use Rattle.job_decide.specs.declared.decide.Unready.TheVariants.{Ended, BadTable}
 

@@ -1,8 +1,7 @@
 -- Lines that are taken in turn.
-use Rattle.std.proofs.Common.{◌≡◌, ◌<◌, ℕ, zero, suc, List, [], ◌∷◌, ◌++◌, length, take, drop, get_or, Option, refl, sym, ap, subst, arith}
+use Rattle.std.proofs.Common.{◌≡◌, ◌<◌, ℕ, zero, suc, List, [], ◌∷◌, ◌++◌, length, take, drop, get_or, Option, refl, ap, subst, arith}
 use Rattle.policy.specs.declared.rules.Rule.{Rule}
 use Rattle.job_parts.specs.Stops.{StopsBy}
-use Rattle.job_parts.specs.declared.faults.Fault.{Fault}
 use Rattle.job_parts.specs.declared.stops.Halt.{Halt}
 use Rattle.job_parts.specs.declared.stops.Halt.TheVariants.{Ended, Unwritten}
 use Rattle.job_decide.specs.DecidedLines.{DecidesAll, DecidesLine, IsBadAt, StopsAt}

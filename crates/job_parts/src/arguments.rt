@@ -5,10 +5,10 @@ ghost use Rattle.clap.specs.Simple.{app_of};
 ghost use Rattle.clap.specs.declared.builder.command.Command.TheViews.{out-Command as fields_of};
 ghost use Rattle.clap.specs.Walk.{first_of, rows_of, rule_of};
 ghost use Rattle.clap.specs.Matches.{found_of};
-ghost use Rattle.job_parts.specs.Arguments.{HasName, Lacks, file_rule, image_app, option_rule, optional_rule};
+ghost use Rattle.job_parts.specs.Arguments.{HasName, Lacks, file_rule, flag_rule, image_app, is_set, option_rule, optional_rule};
 
 use crate::usage::UsageFault;
-use clap::{Arg, ArgMatches, Command};
+use clap::{Arg, ArgAction, ArgMatches, Command};
 use std::alloc::{AllocError, Global};
 
 /// The name of a file that has to be given.
@@ -41,6 +41,17 @@ pub fn optional<'a>(alloc: Global, id: &'a str, name: &'a str, help: &'a str) ->
     Arg::new(alloc, id).value_name(name).help(help)
 }
 
+/// A flag: `--NAME`.
+pub fn flag<'a>(alloc: Global, name: &'a str, help: &'a str) -> Arg<'a>
+    ensures rule { rule_of result ≡ flag_rule name.now }
+    ensures local { result.global ≡ false }
+{
+    Arg::new(alloc, name)
+        .long(name)
+        .action(ArgAction::SetTrue)
+        .help(help)
+}
+
 /// A subcommand with the file of a BPF image: `NAME FILE`.
 pub fn image_command<'a>(
     alloc: Global,
@@ -70,5 +81,15 @@ pub fn name_of(alloc: Global, found: &ArgMatches, id: &str) -> Result<String, Us
     match text_of(found, id) {
         Some(name) => Ok(String::from_str(alloc, name)?),
         None => Err(UsageFault::BadOption),
+    }
+}
+
+/// Whether the flag of this name was given.
+pub fn is_set(found: &ArgMatches, name: &str) -> bool
+    ensures { result ≡ is_set name.now (rows_of (found_of found.now)) }
+{
+    match text_of(found, name) {
+        Some(text) => text == "true",
+        None => false,
     }
 }

@@ -9,6 +9,7 @@ pub mod faults;
 pub mod host;
 pub mod lines;
 pub mod options;
+pub mod printing;
 pub mod programs;
 pub mod replies;
 pub mod stops;

@@ -1,8 +1,3 @@
-mod AddedArguments
 mod CodeLetters
 mod Explaining
-mod HexDigits
-mod Instructions
-mod NoOrders
-mod ShownLines
 mod WrittenCodes

@@ -1,8 +1,7 @@
 -- What the job `dis` reads and prints.
-use Rattle.std.specs.Prelude.{◌≡◌, ℕ, List, Option, None}
+use Rattle.std.specs.Prelude.{◌≡◌, ℕ, List, Option, None, codes, string_bytes}
 use Rattle.std.specs.Io.KnownBytes.{Appends}
 use Rattle.bpf.specs.Program.{Program}
-use Rattle.basm.specs.Printed.{printed_image}
 use Rattle.job_parts.specs.Files.{Reads, HoldsImage}
 use Rattle.job_parts.specs.Reading.{HoldsFault}
 use Rattle.job_parts.specs.declared.faults.Fault.{Fault}
@@ -16,13 +15,19 @@ use Rattle.job_parts.specs.declared.faults.Fault.TheVariants.{
   Refused,
   BadLine,
 }
+use Rattle.job_texts.specs.Listed.{listing}
+use Rattle.job_texts.specs.Needed.{PrintsMaps}
+use Rattle.job_texts.specs.declared.dis.DisWords.{DisWords}
 
 module _ {S : Type 0} (reads : Reads S) where
-  -- the text of the image in the file was printed
-  pub record Disassembles (before : S) (name : List ℕ) (after : S) (old new : Option (List ℕ)) : Type 0 where
+  -- the text of the image in the file was printed, with or without slots, and behind it, as a comment, the maps that
+  -- the program needs
+  pub record Disassembles (before : S) (words : DisWords) (after : S) (old new : Option (List ℕ)) : Type 0 where
     pub program : Program
-    pub image : HoldsImage reads before name program after
-    pub text : Appends old new (printed_image program)
+    pub image : HoldsImage reads before (string_bytes words.image) program after
+    pub told : Option (List ℕ)
+    pub text : Appends old told (listing words.slots program)
+    pub maps : PrintsMaps (codes "; ") program told new
 
   -- the file gives no image, or memory was refused
   abbrev pub IsNotPrinted : (before : S) (name : List ℕ) (after : S) → Fault → Type 0

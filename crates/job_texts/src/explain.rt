@@ -12,10 +12,10 @@ ghost use Rattle.job_parts.specs.Stops.{StopsBy};
 ghost use Rattle.job_texts.specs.Topics.{IsCode};
 ghost use Rattle.job_parts.specs.declared.faults.Fault.TheVariants.{NoMemory};
 
-use crate::dis::print_text;
 use crate::topics::{Code, CodeKind, KINDS, Topic, add_lines, read_code};
 use clap::{ArgMatches, Command};
 use job_parts::arguments::{optional, text_of};
+use job_parts::printing::print_text;
 use job_parts::stops::Halt;
 use job_parts::usage::UsageFault;
 use std::alloc::{AllocError, Global};

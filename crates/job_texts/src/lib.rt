@@ -1,21 +1,16 @@
-//! The jobs of `rmapctl` on texts, tables, images, codes and packets in words.
+//! The jobs of `rmapctl` on texts, tables, images and codes.
 #![tactic(auto)]
 
 pub mod asm;
+mod checking;
 pub mod dis;
 pub mod explain;
-pub mod hex_words;
+mod forms;
 pub mod images;
-pub mod loads;
-pub mod made_packets;
-pub mod orders;
-pub mod packet;
-pub mod packet_options;
+mod listed;
+mod needed;
 pub mod policies;
 mod registers;
-pub mod requests;
-pub mod show;
-pub mod shown;
 pub mod topics;
 pub mod verify;
 pub mod why;

@@ -1,28 +1,25 @@
 //! The job `why`.
 
-ghost use Rattle.std.specs.Prelude.{◌≡◌, ◌≢◌, IfErr, IfOk, OnOk, false};
+ghost use Rattle.std.specs.Prelude.{◌≡◌, [], IfOk, OnOk, false, string_bytes};
 ghost use Rattle.clap.specs.Simple.{app_of};
 ghost use Rattle.clap.specs.declared.builder.command.Command.TheViews.{out-Command as fields_of};
-ghost use Rattle.bver.specs.Justified.{IsJustified};
-ghost use Rattle.bver.specs.Refusals.{IsRefusal};
-ghost use Rattle.bver.specs.Told.{TellsKnown};
-ghost use Rattle.bver_form.specs.Form.{IsFormed};
-ghost use Rattle.bver_form.specs.declared.refusal.Refusal.TheVariants.{Memory};
-ghost use Rattle.bver.specs.Unjustified.{TellsUnjustified};
-ghost use Rattle.machine.specs.Runs.{IsSafe};
-ghost use Rattle.job_texts.specs.Explained.{ExplainsFile, ExplainsProgram, TellsMore};
+ghost use Rattle.bpf.specs.Reading.{Fails, image_reading};
+ghost use Rattle.job_texts.specs.Explained.{ExplainsBytes, ExplainsFile, ExplainsProgram, TellsNoImage, TellsMore};
+ghost use Rattle.job_texts.specs.Needed.{IsMapsLine};
 ghost use Rattle.job_texts.specs.WhyJob.{why_app};
 
+use crate::checking::checked;
+use crate::forms::form_line;
 use crate::images::{ImageArgs, verifying_command};
+use crate::needed::needed_line;
 use crate::registers::{add_counters, add_read_stack, add_registers};
 use crate::topics::{Topic, add_lines};
 use crate::verify::print_accepted;
 use bpf::{Image, ImageFault};
-use bver::{Accepted, MapSizes, Refusal, Refused, State, explain};
-use bver_form::{check, first_faults};
+use bver::{MapSizes, Refusal, Refused, State};
 use clap::Command;
 use job_parts::faults::Fault;
-use job_parts::programs::image_in;
+use job_parts::printing::print_text;
 use job_parts::stops::WriteFault;
 use job_parts::storage::Files;
 use std::alloc::{AllocError, Global};
@@ -136,50 +133,18 @@ fn print_fault<W: Write>(out: &mut W, fault: &Fault, reason: &str) -> Result<(),
     Ok(())
 }
 
-/// Verifies a copy of an image. A fault of its form is told before memory is asked for. Where it is refused for its
-/// values, `known` is then what was known at the slot.
-fn verified(
-    alloc: Global,
-    image: &Image,
-    sizes: &MapSizes,
-    known: &mut State,
-) -> Result<Accepted, Refused>
-    ensures program { IfOk result (λ program. program.program ≡ image.now) }
-    ensures justified { IfOk result (λ program. IsJustified image.now sizes.now) }
-    ensures safe { IfOk result (λ program. IsSafe image.now sizes.now) }
-    ensures refused { IfErr result (IsRefusal image.now) }
-    ensures unjustified { IfErr result (TellsUnjustified image.now sizes.now) }
-    ensures known { IfErr result
-        (λ refused. IsFormed image.now → refused.code ≢ Memory
-        → TellsKnown image.now sizes.now known.new refused) }
+/// The line of the maps that a program needs, or none where memory was refused to it.
+fn maps_or_none(alloc: Global, image: &Image) -> String
+    ensures { IsMapsLine [] image.now (string_bytes result) }
 {
-    first_faults();
-    check(image)?;
-    match image.copy() {
-        Ok(copy) => explain(alloc, copy, sizes, known),
-        Err(_) => Err(Refused {
-            code: Refusal::Memory,
-            slot: 0,
-        }),
+    match needed_line(alloc, "", image) {
+        Ok(line) => line,
+        Err(_) => String::new(alloc),
     }
 }
 
-/// Whether a program may judge, or the refusal, with what was known at its slot.
-fn checked(alloc: Global, image: &Image, sizes: &MapSizes, known: &mut State) -> Result<(), Refused>
-    ensures justified { IfOk result (λ _. IsJustified image.now sizes.now) }
-    ensures safe { IfOk result (λ _. IsSafe image.now sizes.now) }
-    ensures refused { IfErr result (IsRefusal image.now) }
-    ensures unjustified { IfErr result (TellsUnjustified image.now sizes.now) }
-    ensures known { IfErr result
-        (λ refused. IsFormed image.now → refused.code ≢ Memory
-        → TellsKnown image.now sizes.now known.new refused) }
-{
-    let _accepted = verified(alloc, image, sizes, known)?;
-    Ok(())
-}
-
-/// Verifies an image, and prints its weight and its budget where it may judge, else the refusal and the reason. Gives
-/// the exit status.
+/// Verifies an image, and prints its weight and its budget where it may judge, else the refusal and the reason; and then
+/// the maps that its program needs. Gives the exit status.
 fn explain_program<W: Write>(
     alloc: Global,
     image: &Image,
@@ -189,23 +154,64 @@ fn explain_program<W: Write>(
     ensures { IfOk result
         (ExplainsProgram image.now sizes.now (W.contents out.old) (W.contents out.new)) }
 {
+    let maps = maps_or_none(alloc, image);
     let mut known = State::entry();
     match checked(alloc, image, sizes, &mut known) {
         Ok(()) => {
             print_accepted(out, image.weight(), image.budget())?;
+            print_text(out, maps.as_str())?;
             Ok(0)
         }
         Err(refused) => {
             let reason = reason_or_none(alloc, reason_of_refusal(alloc, image, refused, &known));
             print_fault(out, &Fault::Refused(refused), reason.as_str())?;
+            print_text(out, maps.as_str())?;
+            Ok(1)
+        }
+    }
+}
+
+/// Prints the fault of bytes that are no image, and the reason, and then what they are.
+fn explain_fault<W: Write>(
+    alloc: Global,
+    bytes: &[u8],
+    fault: ImageFault,
+    out: &mut W,
+) -> Result<(), WriteFault>
+    requires { Fails fault (image_reading bytes.now) }
+    ensures { OnOk result (TellsNoImage bytes.now (W.contents out.old) (W.contents out.new)) }
+{
+    let form = form_line(alloc, bytes);
+    let fault = Fault::BadImage(fault);
+    let reason = reason_or_none(alloc, reason_of_fault(alloc, &fault));
+    print_fault(out, &fault, reason.as_str())?;
+    print_text(out, form)?;
+    Ok(())
+}
+
+/// Prints what there is to tell of the bytes of a file. Gives the exit status.
+fn explain_bytes<W: Write>(
+    alloc: Global,
+    bytes: &[u8],
+    sizes: &MapSizes,
+    out: &mut W,
+) -> Result<u8, WriteFault>
+    ensures { IfOk result
+        (ExplainsBytes bytes.now sizes.now (W.contents out.old) (W.contents out.new)) }
+{
+    match Image::read(alloc, bytes) {
+        Ok(image) => explain_program(alloc, &image, sizes, out),
+        Err(fault) => {
+            explain_fault(alloc, bytes, fault, out)?;
             Ok(1)
         }
     }
 }
 
 /// Verifies the image of a file as the job `verify` does, and prints the same; and where a fault ends it, behind its
-/// line the instruction that is told, and the reason. Gives the exit status, which is that of `verify`.
-#[tactic(auto, using(crate::proofs::Explaining::explains_file))]
+/// line the instruction that is told, and the reason. Behind all stands what maps the program needs, or what a file is
+/// that is no image. Gives the exit status, which is that of `verify`.
+#[tactic(auto, using(crate::proofs::Explaining::explains_file, crate::proofs::Explaining::explains_unread))]
 pub fn why_file<F: Files, W: Write>(
     alloc: Global,
     args: &ImageArgs,
@@ -215,11 +221,11 @@ pub fn why_file<F: Files, W: Write>(
     ensures { IfOk result (ExplainsFile F.reads args.now files.old files.new
         (W.contents out.old) (W.contents out.new)) }
 {
-    match image_in(alloc, files, args.image.as_str()) {
-        Ok(image) => explain_program(alloc, &image, &args.sizes, out),
-        Err(fault) => {
-            let reason = reason_or_none(alloc, reason_of_fault(alloc, &fault));
-            print_fault(out, &fault, reason.as_str())?;
+    let name = args.image.as_str();
+    match files.read(alloc, name) {
+        Ok(bytes) => explain_bytes(alloc, bytes.as_slice(), &args.sizes, out),
+        Err(_) => {
+            print_fault(out, &Fault::CannotRead(name), "")?;
             Ok(1)
         }
     }

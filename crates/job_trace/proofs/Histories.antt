@@ -1,7 +1,6 @@
 -- Commands behind their events, and what was printed of them.
-use Rattle.std.proofs.Common.{◌≡◌, ◌==◌, ℕ, Bool, true, false, cond, List, [], ◌∷◌, ◌++◌, Option, Some, None, refl, sym, ap, subst, arith, ◌∙◌, inl, inr, append_assoc}
+use Rattle.std.proofs.Common.{◌≡◌, ◌==◌, ℕ, true, List, [], ◌∷◌, ◌++◌, Option, Some, refl, sym, ap, subst, arith, ◌∙◌, inl, inr}
 use Rattle.std.proofs.lemmas.Bool.Decides.{nat_tests}
-use Rattle.std.proofs.lemmas.List.{append-nil}
 use Rattle.std.specs.Io.KnownBytes.{Appends}
 use Rattle.bpf.specs.Program.{Program}
 use Rattle.machine.specs.Memory.{Header, header}
@@ -12,7 +11,7 @@ use Rattle.machine.specs.declared.helpers.Helper.TheVariants as helpers
 use Rattle.rmap.specs.declared.status.Status.{Status}
 use Rattle.spw.specs.Cargo.{Cargo}
 use Rattle.sched.specs.Answers.{answering}
-use Rattle.sched.specs.History.{History, Then, Open, opened, port_of, taken, with_answer, after_answer}
+use Rattle.sched.specs.History.{History, Then, Open, opened, taken, after_answer}
 use Rattle.sched.specs.Standing.{IsLent, IsLentOf}
 use Rattle.sched.specs.Looking.{Node, header_in, program_of, slot_in}
 use Rattle.sched.specs.Worlds.{GoesOn, IsLawfulWorld, IsWorldOf, WorldValue}
@@ -20,11 +19,11 @@ use Rattle.sched.specs.declared.standing.Standing.{Standing}
 use Rattle.sched.specs.declared.event.Event.{Event}
 use Rattle.sched.specs.declared.event.Event.TheVariants.{Take}
 use Rattle.sched.specs.declared.event.Outcome.{Outcome}
-use Rattle.sched.specs.declared.event.Outcome.TheVariants.{Refused, Discarded, Answered, Taken, Told, Done}
+use Rattle.sched.specs.declared.event.Outcome.TheVariants.{Taken, Told, Done}
 use Rattle.job_trace.proofs.Striding.{appends_both}
 use Rattle.job_trace.specs.Runs.{lines_within}
-use Rattle.job_trace.specs.TraceJob.{command_lines, run_lines, taken_line}
-use Rattle.job_trace.specs.Judged.{AnswersHelpers, EndsCommand, Helped, IsEnd, IsJudged, IsStopLine, PrintsRun, TracesCommand, TracesPacket, command_with, more, none}
+use Rattle.job_trace.specs.TraceJob.{command_lines, taken_line}
+use Rattle.job_trace.specs.Judged.{AnswersHelpers, EndsCommand, IsEnd, IsStopLine, PrintsRun, TracesCommand, TracesPacket, command_with, more, none}
 use Rattle.job_parts.specs.Replies.{reply_line}
 
 -- ---- own events

@@ -5,7 +5,7 @@ use Rattle.bpf.specs.Program.{Program}
 use Rattle.target.specs.declared.config.NodeConfig.{NodeConfig}
 use Rattle.sched.specs.History.{History}
 use Rattle.sched.specs.Looking.{Node}
-use Rattle.sched.specs.Worlds.{IsLawfulWorld, WorldValue, node_of}
+use Rattle.sched.specs.Worlds.{WorldValue, node_of}
 use Rattle.job_nodes.specs.Feeds.{IsFed}
 use Rattle.job_nodes.specs.JobNode.{IsConfig}
 use Rattle.job_nodes.specs.Simulated.{node_by}

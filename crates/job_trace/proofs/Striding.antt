@@ -13,7 +13,7 @@ use Rattle.machine.specs.Step.{Question, question, Outcome, Next, Ask, Verdict, 
 use Rattle.stepper.specs.declared.outcomes.Outcome.TheVariants as told
 use Rattle.stepper.specs.Machine.{MachineValue, state_of, step_of, IsOutcome, IsAsk, IsSameRun}
 use Rattle.job_trace.specs.Changes.{step_line}
-use Rattle.job_trace.specs.Runs.{IsStride, IsStrideBy, On, Last, Stuck, Stride, Strides, line_before, lines_at, lines_of_step, lines_within, stride_of}
+use Rattle.job_trace.specs.Runs.{IsStrideBy, On, Strides, line_before, lines_at, lines_of_step, lines_within, stride_of}
 use Rattle.job_trace.specs.declared.changes.Change.{Change}
 use Rattle.job_trace.specs.declared.changes.Change.TheVariants as changes
 

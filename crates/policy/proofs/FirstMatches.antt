@@ -1,8 +1,7 @@
 -- The rule by which a table decides is the first that matches.
 use Rattle.std.specs.Prelude.{nat_lt, if◌then◌else◌, option_map}
-use Rattle.std.proofs.Common.{◌≡◌, ◌+◌, ◌++◌, ℕ, suc, Bool, true, false, List, [], ◌∷◌, length, Option, Some, None, refl, sym, ap, ◌∙◌, subst, arith}
+use Rattle.std.proofs.Common.{◌≡◌, ◌+◌, ℕ, suc, Bool, true, false, List, [], ◌∷◌, Option, Some, None, refl, sym, ap, ◌∙◌, arith}
 use Rattle.machine.specs.Memory.{Header}
-use Rattle.rmap.specs.declared.verdict.Verdict.{Verdict}
 use Rattle.policy.specs.Matching.{FirstMatches, IsFirst, behind, first_match, match_by, matched}
 use Rattle.policy.specs.Meaning.{draw, holds}
 use Rattle.policy.specs.declared.matching.Match.{Match}

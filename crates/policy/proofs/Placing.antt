@@ -1,11 +1,11 @@
 -- The fault of a table that has a place is the one for which it is not compiled.
 use Rattle.std.specs.Prelude.{nat_lt, if◌then◌else◌, option_map}
 use Rattle.std.specs.Option.{option_or}
-use Rattle.std.proofs.Common.{◌≡◌, ◌<◌, ◌≤◌, ◌+◌, ℕ, suc, Bool, true, false, List, [], ◌∷◌, length, get_or, drop, Option, Some, None, refl, sym, ap, ◌∙◌, arith, add-one}
+use Rattle.std.proofs.Common.{◌≡◌, ◌<◌, ◌+◌, ℕ, suc, Bool, true, false, List, [], ◌∷◌, length, get_or, drop, Option, Some, None, refl, sym, ap, ◌∙◌, add-one}
 use Rattle.std.proofs.Math.Seq.{drop-cons}
 use Rattle.machine.specs.Sizes.{Maps}
-use Rattle.policy.specs.Compiled.{compile_fault, has_cell, quota_fault, rule_fault, rules_fault}
-use Rattle.policy.specs.TableFaults.{PlacesFaults, policy_fault_of, rule_fault_at, rules_fault_from, table_fault}
+use Rattle.policy.specs.Compiled.{has_cell, quota_fault, rule_fault, rules_fault}
+use Rattle.policy.specs.TableFaults.{PlacesFaults, policy_fault_of, rule_fault_at, rules_fault_from}
 use Rattle.policy.specs.declared.faults.PolicyFault.{PolicyFault}
 use Rattle.policy.specs.declared.faults.PolicyFault.TheVariants as faults
 use Rattle.policy.specs.declared.rules.Quota.{Quota}

@@ -1,6 +1,6 @@
 -- What a table draws of counts, and by which rule it decides, rule by rule.
-use Rattle.std.specs.Prelude.{nat_lt, if◌then◌else◌, slice_index, slice_get}
-use Rattle.std.proofs.Common.{◌≡◌, ◌<◌, ◌+◌, ◌-◌, ◌++◌, ℕ, zero, suc, Bool, true, false, List, [], ◌∷◌, length, get_or, take, drop, Option, Some, None, refl, sym, ap, ap₂, ◌∙◌, subst, arith, append_assoc, add-one}
+use Rattle.std.specs.Prelude.{nat_lt, if◌then◌else◌}
+use Rattle.std.proofs.Common.{◌≡◌, ◌<◌, ◌+◌, ◌++◌, ℕ, suc, Bool, true, false, List, [], ◌∷◌, length, get_or, drop, Option, Some, None, refl, sym, ap, ◌∙◌, arith, append_assoc, add-one}
 use Rattle.std.specs.Prelude.{option_map}
 use Rattle.std.proofs.Math.Seq.{drop-cons}
 use Rattle.machine.specs.declared.calls.Call.{Call}
@@ -8,7 +8,7 @@ use Rattle.machine.specs.Memory.{Header}
 use Rattle.rmap.specs.Verdict.{verdict_number}
 use Rattle.rmap.specs.declared.verdict.Verdict.{Verdict}
 use Rattle.policy.specs.Counts.{after_draw, after_draws, next_ticket, ticket_before, tickets_of, told_on}
-use Rattle.policy.specs.Matching.{FirstMatches, IsFirst, MatchDecides, behind, first_match, match_by, matched, no_match}
+use Rattle.policy.specs.Matching.{MatchDecides, behind, first_match, match_by, matched, no_match}
 use Rattle.policy.specs.Meaning.{decision, draw, holds, ruled, told_by}
 use Rattle.policy.specs.declared.matching.Match.{Match}
 use Rattle.policy.specs.declared.rules.Quota.{Quota}

@@ -1,26 +1,5 @@
 -- By which rule a policy table decides, and the first word of a rule that does not agree with a header.
-use Rattle.std.specs.Prelude.{
-  ◌≡◌,
-  ◌+◌,
-  ◌++◌,
-  ℕ,
-  suc,
-  Bool,
-  true,
-  false,
-  not,
-  nat_le,
-  nat_lt,
-  if◌then◌else◌,
-  List,
-  [],
-  ◌∷◌,
-  length,
-  Option,
-  Some,
-  None,
-  option_map,
-}
+use Rattle.std.specs.Prelude.{◌≡◌, ◌+◌, ◌++◌, ℕ, suc, true, not, nat_le, nat_lt, if◌then◌else◌, List, [], ◌∷◌, length, Option, Some, None, option_map}
 use Rattle.machine.specs.declared.calls.Call.{Call}
 use Rattle.machine.specs.Memory.{Header}
 use Rattle.policy.specs.Meaning.{agrees, decision, draw, fields_of, has_kind, holds, last_address_of}

@@ -1,5 +1,5 @@
 -- The words of a rule, and which word of a line is the first that is none of its field.
-use Rattle.std.specs.Prelude.{◌≡◌, ℕ, List, [], ◌∷◌, codes}
+use Rattle.std.specs.Prelude.{ℕ, List, [], ◌∷◌, codes}
 use Rattle.policy.specs.Fields.{IsAddress, IsField, IsKind, IsQuota, IsVerdict}
 use Rattle.policy.specs.declared.lines.Words.{Words}
 use Rattle.policy.specs.declared.rules.Rule.{Rule}

@@ -8,9 +8,9 @@ use Rattle.rmap.specs.Command.{command_kind, command_of}
 use Rattle.bver.specs.Justified.{AcceptedValue}
 use Rattle.bank.specs.Admission.{IsPlacedBy}
 use Rattle.target.specs.Slots.{slot_of}
-use Rattle.sched.specs.Begins.{IsBegun}
+use Rattle.sched.specs.Begins.{BeginsAs, IsBegun}
 use Rattle.sched.specs.History.{History, taken}
-use Rattle.sched.specs.Looking.{Node, windows_in, slot_in, published}
+use Rattle.sched.specs.Looking.{Node, slot_in, published}
 use Rattle.sched.specs.Worlds.{RunValue, WorldValue, IsFor, IsRunOf, IsRunUnder, IsRunWith, IsShownAs, IsWorld, IsWorldOf}
 use Rattle.sched.proofs.Taking.{shown_there}
 
@@ -47,11 +47,6 @@ begin_generation : (old w : WorldValue) (packet : Cargo) (place : Place) (slot :
     → (n : Node) (h : History) → IsWorldOf n h old → r.generation ≡ (published n h (slot_in n packet)).1
 begin_generation old w packet place slot shown a r begins n h world =
     begins.with.generation_is ∙ (begin_shown old w packet place slot shown a r begins n h world).generation
-
--- what a run says that began, of every node and history
-abbrev pub BeginsAs : (port : ℕ) → Cargo → Place → AcceptedValue → (generation : ℕ) → RunValue → Type 0
-BeginsAs port packet place a generation r = (n : Node) (h : History) → IsPlacedBy (windows_in n) packet place
-    → a.program ≡ (published n h (slot_in n packet)).0 → IsFor n a → IsRunOf n port (taken packet generation h) r
 
 -- the run is that of the command that is taken
 begin_run : (old w : WorldValue) (port : ℕ) (packet : Cargo) (place : Place) (slot : ℕ) (shown : AcceptedValue × ℕ) (a : AcceptedValue) (r : RunValue) → IsBegin old w packet place slot shown a r

@@ -15,7 +15,7 @@ use Rattle.bank.specs.Admission.{IsPlacedBy}
 use Rattle.brun.specs.declared.frame.Frame.{Frame}
 use Rattle.brun.specs.declared.turns.Turn.{Turn}
 use Rattle.brun.specs.declared.turns.Turn.TheVariants as turns
-use Rattle.brun.specs.Pauses.{IsAsking, IsAt, IsPaused, Turns}
+use Rattle.brun.specs.Pauses.{IsAsking, IsAt, IsAtQuestion, IsPaused, Turns}
 use Rattle.sched.specs.History.{History, Open, taken, with_answer}
 use Rattle.sched.specs.Looking.{Node, windows_in, header_in, slot_in, published, program_of}
 use Rattle.sched.specs.Turns.{answers_of, TurnsArePaths, turn_after}
@@ -31,6 +31,19 @@ Answers told old new = (program : Program) (at : Header) (port : ℕ) (calls : L
 abbrev pub GoesOnFrom : Program → Header → (old : Frame) → (before : List ℕ) → Turn → (new : Frame) → (after : List ℕ) → Type 0
 GoesOnFrom program header old before turn new after = (port : ℕ) (calls : List Call) → port < 32
     → IsAt program header port calls old before → Turns program header port calls turn new after
+
+-- a run that asks stands at a question
+pub at_question : (program : Program) (header : Header) (turn : Turn) (frame : Frame) (stack : List ℕ) → IsAsk turn → StandsThere program header turn frame stack → IsAtQuestion frame
+at_question program header (turns.Ask helper map key argument) frame stack asks stands = record {
+  program = program;
+  header = header;
+  port = stands.port;
+  calls = stands.calls;
+  asked = question helper map key argument;
+  stack = stack;
+  asks = stands.turns;
+}
+at_question program header (turns.Verdict v) frame stack asks stands = absurd asks
 
 -- a run that stands at a question can go on once that was answered
 pub paused : (program : Program) (header : Header) (turn : Turn) (old new : Frame) (stack : List ℕ) (told : ℕ) → IsAsk turn → StandsThere program header turn old stack

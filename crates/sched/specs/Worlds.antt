@@ -141,12 +141,24 @@ pub record StandsThere (program : Program) (header : Header) (turn : Turn) (fram
     pub calls : List Call
     pub turns : Turns program header port calls turn frame stack
 
--- the packet is a command, its program stands where its turn says, and where it asks a helper, it is for a cell of the
--- maps for which it was accepted
+-- the packet is a command, and where its program asks a helper, it is for a cell of the maps for which it was accepted
 pub record IsHeld (r : RunValue) : Type 0 where
   pub command : discard_of r.packet.bytes ≡ None
-  pub stands : StandsThere r.program.program (header_in r.packet) r.turn r.frame r.stack
   pub within : AsksWithin r.program.sizes r.turn
+
+-- the same command with that stack, which is its port's
+abbrev pub at_stack : RunValue → List ℕ → RunValue
+at_stack r stack = record r { stack = stack }
+
+-- the same, where a command is judged
+abbrev pub at_stack_if_any : Option RunValue → List ℕ → Option RunValue
+at_stack_if_any None stack = None
+at_stack_if_any (Some r) stack = Some (at_stack r stack)
+
+-- the program of the command that is judged stands where its turn says
+abbrev pub StandsIfAny : Option RunValue → Type 0
+StandsIfAny None = Unit {0}
+StandsIfAny (Some r) = StandsThere r.program.program (header_in r.packet) r.turn r.frame r.stack
 
 -- that command is judged, by that program of that generation
 pub record IsRunWith (packet : Cargo) (place : Place) (program : AcceptedValue) (generation : ℕ) (r : RunValue) : Type 0

@@ -1,40 +1,46 @@
 //! What a port has.
 
 ghost use Rattle.std.specs.Prelude.{◌≡◌, ◌<◌, ℕ, Option, None, Some, IfSome, IsTrue, is_none, length, true};
+ghost use Rattle.std.specs.Arc.{arc_value};
+ghost use Rattle.rmap.specs.Command.{discard_of};
 ghost use Rattle.rmap.specs.Windows.{WindowsValue};
 ghost use Rattle.machine.specs.Helpers.{takes_kind};
 ghost use Rattle.machine.specs.Sizes.{IsInside, Maps, kind_of_map};
 ghost use Rattle.bank.specs.Records.{after_command, answer_of, fits, memory_of, next_share};
 ghost use Rattle.target.specs.Stagings.{IsStaged, IsStagingPlace};
+ghost use Rattle.sched.specs.Begins.{BeginsAt};
 ghost use Rattle.sched.specs.Ends.{CanEnd, CanFinish, EndsAt, HasFinished, IsReplyTo, IsWriteUnder, after_write, load_result_kept, share_in, with_share_in};
 ghost use Rattle.sched.specs.History.{Open, after_answer};
 ghost use Rattle.sched.specs.Standing.{IsLent};
 ghost use Rattle.sched.specs.Looking.{Node, argument_asked, cell_asked};
 ghost use Rattle.sched.specs.Worlds.{Asks, IsJudging, IsRunUnderIfAny, IsSameRunIfAny, effect_due, publish_due, turn_in};
 
-use crate::run::Run;
+use crate::run::{Opening, Run};
 use crate::standing::Standing;
 use bank::{Bank, Judged, Share};
-use machine::Helper;
+use machine::{Helper, STACK_SIZE};
 use publish::Staging;
 use rmap::{Place, ReplyBuf, Status, Windows};
 use std::marker::Model;
 use target::{Banks, answer_staged};
 
-/// What a port has: a share of each bank, its staging, and the command that is judged.
+/// What a port has: a share of each bank, its staging, the command that is judged, and the stack of its program.
 #[derive(Drop)]
 pub(crate) struct Port {
     pub shares: Vec<Share>,
     pub staging: Staging,
     pub run: Option<Run>,
+    stack: [u8; STACK_SIZE],
 }
 
 impl Model for Port {
-    ghost use Rattle.sched.specs.Worlds.{PortValue};
+    ghost use Rattle.sched.specs.Worlds.{PortValue, StandsIfAny, at_stack_if_any};
 
     ghost Value = { PortValue };
 
-    ghost view = { λ p. record { shares = p.shares.items; staging = p.staging; run = p.run } };
+    ghost invariant = { λ p. StandsIfAny (at_stack_if_any p.run p.stack) };
+
+    ghost view = { λ p. record { shares = p.shares.items; staging = p.staging; run = at_stack_if_any p.run p.stack } };
 }
 
 impl Port {
@@ -46,6 +52,7 @@ impl Port {
             shares,
             staging,
             run: None,
+            stack: [0; STACK_SIZE],
         }
     }
 
@@ -74,11 +81,14 @@ impl Port {
         }
     }
 
-    /// Judges a command from now on.
-    pub fn begin(&mut self, run: Run)
-        ensures { self.new ≡ record self.old { run = Some run } }
+    /// Judges a command from now on, at a port below 32.
+    pub fn begin(&mut self, opening: Opening, port: u8)
+        requires port { port < 32 }
+        requires command { discard_of opening.packet.bytes ≡ None }
+        ensures { BeginsAt port opening.packet opening.place (arc_value opening.program)
+            opening.generation self.old self.new }
     {
-        self.run = Some(run);
+        self.run = Some(Run::begin(opening, port, &mut self.stack));
     }
 
     /// The cell for which the program asks that helper, if it does.
@@ -118,7 +128,7 @@ impl Port {
             → IsJudging n port (after_answer told last) self.new.run }
     {
         match &mut self.run {
-            Some(run) => run.tell(told),
+            Some(run) => run.tell(told, &mut self.stack),
             None => unreachable!(),
         }
     }

@@ -1,6 +1,6 @@
 //! A command that is judged, from its Take to its end.
 
-ghost use Rattle.std.specs.Prelude.{◌≡◌, ◌<◌, ℕ, List, Some, IfSome, IsTrue, length};
+ghost use Rattle.std.specs.Prelude.{◌≡◌, ◌<◌, ℕ, List, Some, IfSome, IsTrue};
 ghost use Rattle.std.specs.Arc.{arc_value};
 ghost use Rattle.rmap.specs.Command.{command_of, discard_of};
 ghost use Rattle.machine.specs.declared.calls.Call.{Call};
@@ -9,11 +9,12 @@ ghost use Rattle.machine.specs.Helpers.{takes_kind};
 ghost use Rattle.machine.specs.Sizes.{IsInside, kind_of_map};
 ghost use Rattle.bank.specs.Admission.{IsPlacedBy};
 ghost use Rattle.brun.specs.Pauses.{AsksWithin, IsAt, IsPaused, Turns};
+ghost use Rattle.sched.specs.Begins.{HasBegun};
 ghost use Rattle.sched.specs.Ends.{judged_with};
-ghost use Rattle.sched.specs.History.{History, Open, taken, with_answer};
+ghost use Rattle.sched.specs.History.{Open, with_answer};
 ghost use Rattle.sched.specs.Standing.{IsLentOf};
-ghost use Rattle.sched.specs.Looking.{Node, argument_asked, cell_asked, header_in, published, slot_in, windows_in};
-ghost use Rattle.sched.specs.Worlds.{IsAsk, IsFor, IsRunOf, IsRunWith, IsSameRun, verdict_at};
+ghost use Rattle.sched.specs.Looking.{Node, argument_asked, cell_asked, header_in};
+ghost use Rattle.sched.specs.Worlds.{IsAsk, IsRunOf, IsSameRun, StandsIfAny, at_stack, verdict_at};
 
 use crate::laws::{arrays_are_headers, turns_are_paths};
 use crate::standing::Standing;
@@ -27,8 +28,18 @@ use std::marker::Model;
 use std::sync::Arc;
 use target::slot;
 
+/// A command that a port is to judge: its packet and place, and the program that its slot shows, with its generation.
+#[derive(Drop)]
+pub(crate) struct Opening {
+    pub packet: Packet,
+    pub place: Place,
+    pub program: Arc<Accepted>,
+    pub generation: u32,
+}
+
 /// A command that is judged: its packet and place, the program that judges it, with its generation, and where that
-/// stands. The program is held from the Take on, whatever is published since.
+/// stands. The program is held from the Take on, whatever is published since. The stack is the port's, so that it is not
+/// moved with the rest.
 #[derive(Drop)]
 pub(crate) struct Run {
     packet: Packet,
@@ -37,25 +48,18 @@ pub(crate) struct Run {
     generation: u32,
     turn: Turn,
     paused: Paused,
-    stack: [u8; STACK_SIZE],
 }
 
 impl Model for Run {
+    ghost use Rattle.std.specs.Prelude.{[]};
     ghost use Rattle.std.specs.Arc.{arc_value};
     ghost use Rattle.sched.specs.Worlds.{RunValue, IsHeld};
 
     ghost Value = { RunValue };
 
-    ghost invariant = { λ r. IsHeld (record { packet = r.packet; place = r.place; program = arc_value r.program; generation = r.generation; turn = r.turn; frame = r.paused; stack = r.stack }) };
+    ghost invariant = { λ r. IsHeld (record { packet = r.packet; place = r.place; program = arc_value r.program; generation = r.generation; turn = r.turn; frame = r.paused; stack = [] }) };
 
-    ghost view = { λ r. record { packet = r.packet; place = r.place; program = arc_value r.program; generation = r.generation; turn = r.turn; frame = r.paused; stack = r.stack } };
-}
-
-/// A stack of zero bytes.
-fn empty_stack() -> [u8; STACK_SIZE]
-    ensures { length result ≡ STACK_SIZE }
-{
-    [0; STACK_SIZE]
+    ghost view = { λ r. record { packet = r.packet; place = r.place; program = arc_value r.program; generation = r.generation; turn = r.turn; frame = r.paused; stack = [] } };
 }
 
 /// Goes on with the program of a packet's command, to its next question or to its verdict.
@@ -79,26 +83,25 @@ fn go_on(
 }
 
 impl Run {
-    /// Begins the program on the command of a packet, at a port below 32.
-    pub fn begin(
-        packet: Packet,
-        place: Place,
-        program: Arc<Accepted>,
-        generation: u32,
-        port: u8,
-    ) -> Run
+    /// Begins the program on the command of a packet, at a port below 32. What the stack holds from before is never read:
+    /// no program reads a byte that it has not written.
+    pub fn begin(opening: Opening, port: u8, stack: &mut [u8; STACK_SIZE]) -> Run
         requires port { port < 32 }
-        requires command { discard_of packet.bytes ≡ None }
-        ensures with { IsRunWith packet place (arc_value program) generation result }
-        ensures run { (n : Node) (h : History) → IsPlacedBy (windows_in n) packet place
-            → (arc_value program).program ≡ (published n h (slot_in n packet)).0
-            → IsFor n (arc_value program) → IsRunOf n port (taken packet generation h) result }
+        requires command { discard_of opening.packet.bytes ≡ None }
+        ensures begun { HasBegun port opening.packet opening.place (arc_value opening.program)
+            opening.generation (at_stack result stack.new) }
+        ensures stands { StandsIfAny (Some (at_stack result stack.new)) }
     {
         turns_are_paths();
         justified_programs();
-        let mut stack = empty_stack();
+        let Opening {
+            packet,
+            place,
+            program,
+            generation,
+        } = opening;
         let mut paused = start(&program, port);
-        let turn = go_on(&program, &packet, &mut stack, &mut paused);
+        let turn = go_on(&program, &packet, stack, &mut paused);
         Run {
             packet,
             place,
@@ -106,7 +109,6 @@ impl Run {
             generation,
             turn,
             paused,
-            stack,
         }
     }
 
@@ -145,21 +147,19 @@ impl Run {
     }
 
     /// Answers the question at which the program stands, and goes on.
-    pub fn tell(&mut self, told: u64)
-        requires { IsAsk self.old.turn }
-        ensures same { IsSameRun self.old self.new }
+    pub fn tell(&mut self, told: u64, stack: &mut [u8; STACK_SIZE])
+        requires asks { IsAsk self.old.turn }
+        requires stands { StandsIfAny (Some (at_stack self.old stack.old)) }
+        ensures same { IsSameRun (at_stack self.old stack.old) (at_stack self.new stack.new) }
+        ensures stands { StandsIfAny (Some (at_stack self.new stack.new)) }
         ensures run { (n : Node) (port : ℕ) (o : Open) → port < 32
-            → IsRunOf n port o self.old → IsRunOf n port (with_answer told o) self.new }
+            → IsRunOf n port o (at_stack self.old stack.old)
+            → IsRunOf n port (with_answer told o) (at_stack self.new stack.new) }
     {
         turns_are_paths();
         justified_programs();
         answer(&mut self.paused, told);
-        self.turn = go_on(
-            &self.program,
-            &self.packet,
-            &mut self.stack,
-            &mut self.paused,
-        );
+        self.turn = go_on(&self.program, &self.packet, stack, &mut self.paused);
     }
 
     /// The command, as a view of its packet.
@@ -171,8 +171,8 @@ impl Run {
 
     /// The command as it stands.
     pub fn standing(&self) -> Standing<'_>
-        ensures { (n : Node) (port : ℕ) (o : Open) → IsRunOf n port o self.now
-            → IsLentOf n port o result }
+        ensures { (n : Node) (port : ℕ) (o : Open) (stack : List ℕ)
+            → IsRunOf n port o (at_stack self.now stack) → IsLentOf n port o result }
     {
         let command = self.command();
         Standing {
@@ -191,13 +191,6 @@ impl Run {
         ensures { result ≡ self.now.place }
     {
         self.place
-    }
-
-    /// The generation of the program.
-    pub fn generation(&self) -> u32
-        ensures { result ≡ self.now.generation }
-    {
-        self.generation
     }
 
     /// Ends the run of a port with that verdict: the judged command, to be ended where its bytes lie. The windows are

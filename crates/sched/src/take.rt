@@ -1,17 +1,19 @@
 //! The event Take: a packet is discarded, answered by its header, or judged from now on.
 
-ghost use Rattle.std.specs.Prelude.{◌≡◌, ◌<◌, [], length, IfOk, IfErr, OnErr};
+ghost use Rattle.std.specs.Prelude.{◌≡◌, ◌<◌, None, [], length, IfOk, IfErr, OnErr};
+ghost use Rattle.std.specs.Arc.{arc_value};
+ghost use Rattle.rmap.specs.Command.{discard_of};
 ghost use Rattle.bank.specs.Admission.{IsPlacedBy};
-ghost use Rattle.sched.specs.Begins.{IsBegun};
+ghost use Rattle.sched.specs.Begins.{HasBegun, IsBegun};
 ghost use Rattle.sched.specs.Lawful.{stop_outcome};
-ghost use Rattle.sched.specs.Worlds.{GoesOn};
+ghost use Rattle.sched.specs.Worlds.{GoesOn, RunValue};
 ghost use Rattle.sched.specs.declared.event.Event.TheVariants.{Take as TakeEvent};
 ghost use Rattle.sched.specs.declared.event.Outcome.TheVariants.{Refused as RefusedOutcome};
 
 use crate::event::Outcome;
 use crate::faults::WorldFault;
 use crate::reply::{Reply, reply_room};
-use crate::run::Run;
+use crate::run::Opening;
 use crate::world::World;
 use bank::Admitted;
 use rmap::ReplyBuf;
@@ -34,18 +36,26 @@ fn stopped(alloc: Global, stop: Stop, reply: &ReplyBuf) -> Result<Outcome, Alloc
 }
 
 impl World {
-    /// Begins to judge an admitted command of a port, by the program that its slot shows now.
-    fn begin(&self, port: u8, admitted: Admitted) -> Result<Run, AllocError>
-        requires port { port < length self.now.ports }
+    /// What a port begins to judge: an admitted command, by the program that its slot shows now.
+    fn opening(&self, port: u8, admitted: Admitted) -> Result<Opening, AllocError>
         requires placed { IsPlacedBy self.now.windows admitted.packet admitted.place }
-        ensures { IfOk result (IsBegun self.now port admitted.packet) }
+        ensures command { IfOk result (λ o. discard_of o.packet.bytes ≡ None) }
+        ensures begun { IfOk result (λ o. (run : RunValue)
+            → HasBegun port o.packet o.place (arc_value o.program) o.generation run
+            → IsBegun self.now port admitted.packet run) }
     {
         let place = admitted.place();
         let slot = slot(admitted.command().kind(), place);
         let packet = admitted.into_packet();
         let shown = &self.programs[usize::from(slot)];
         let program = Arc::try_clone(&shown.program)?;
-        Ok(Run::begin(packet, place, program, shown.generation, port))
+        let generation = shown.generation;
+        Ok(Opening {
+            packet,
+            place,
+            program,
+            generation,
+        })
     }
 
     /// A packet is taken at a port that is there. `Memory` where memory was refused.
@@ -70,9 +80,9 @@ impl World {
         match admit(packet, &self.windows, &mut self.reply) {
             Err((stop, _packet)) => Ok(stopped(alloc, stop, &self.reply)?),
             Ok(admitted) => {
-                let run = self.begin(port, admitted)?;
-                let generation = run.generation();
-                self.ports[at].begin(run);
+                let opening = self.opening(port, admitted)?;
+                let generation = opening.generation;
+                self.ports[at].begin(opening, port);
                 Ok(Outcome::Taken(generation))
             }
         }

@@ -11,9 +11,9 @@ use Rattle.job_parts.specs.declared.faults.Fault.TheVariants.{
   Refused,
   BadLine,
 }
-use Rattle.job_texts.specs.MadePackets.{IsContentOf, IsMade, IsNotMade, file_of, own_data}
-use Rattle.job_texts.specs.ShowJob.{IsNotShown}
-use Rattle.job_texts.specs.declared.packet.PacketWords.{PacketWords}
+use Rattle.job_packets.specs.MadePackets.{IsContentOf, IsMade, IsNotMade, file_of, own_data}
+use Rattle.job_packets.specs.ShowJob.{IsNotShown}
+use Rattle.job_packets.specs.declared.packet.PacketWords.{PacketWords}
 use Rattle.test_kit_jobs.specs.Folders.{FolderReads, FolderValue}
 
 -- a read of the data or the image

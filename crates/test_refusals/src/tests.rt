@@ -3,6 +3,7 @@
 
 mod checks;
 mod images;
+mod lines;
 mod loads;
 mod making;
 mod marks;

@@ -1,6 +1,6 @@
 //! What the verifier answers to programs.
 
-use bver::{Op, Refused, Region, verify};
+use bver::{Accessed, Code, Op, Refused, verify};
 use bver_form::check;
 use std::alloc::{AllocError, Global};
 use std::test::Fail;
@@ -61,6 +61,15 @@ pub fn weighed(alloc: Global, given: &str) -> Result<String, Fail> {
     Ok(format!(in alloc; "{weight}|{answer}")?)
 }
 
+/// The number and the constant that stand in an operation. Of an instruction that is no load of a constant the second is
+/// what stands above its number.
+fn numbers(op: &Op) -> (i32, u64) {
+    match op.code {
+        Code::Wide => (0, op.constant),
+        _ => (op.number(), op.constant / (1 << 32)),
+    }
+}
+
 /// An operation: its code, the two registers, the offset, the number, the constant in hexadecimal digits, the region, and
 /// the index of its target.
 fn printed(alloc: Global, op: &Op) -> Result<String, AllocError> {
@@ -68,17 +77,17 @@ fn printed(alloc: Global, op: &Op) -> Result<String, AllocError> {
         code,
         dst,
         src,
-        region,
+        accessed,
         offset,
         target,
-        number,
-        constant,
+        constant: _,
     } = *op;
-    let region = match region {
-        Some(Region::Front) => "front",
-        Some(Region::Tail) => "tail",
-        Some(Region::Stack) => "stack",
-        None => "-",
+    let (number, constant) = numbers(op);
+    let region = match accessed {
+        Accessed::Front => "front",
+        Accessed::Tail => "tail",
+        Accessed::Stack => "stack",
+        Accessed::Nothing => "-",
     };
     format!(in alloc; "{code:?} {dst} {src} {offset:+} {number} {constant:x} {region} {target}")
 }

@@ -30,7 +30,7 @@ the bytes of a staging: 16384
 an accepted program: 136
 a slot of its image: 32
 the region of a slot: 2
-an operation: 24
+an operation: 16
 a buffer for replies: 4136
 ";
 

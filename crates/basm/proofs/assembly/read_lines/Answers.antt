@@ -1,6 +1,6 @@
-use Rattle.std.proofs.Common.{ℕ, List, length, map, take, sym, subst, arith, lit<}
-use Rattle.std.proofs.lemmas.Iterator.Consumers.{YieldsList-at, YieldsList-end, YieldsList-turn}
-use Rattle.std.proofs.lemmas.Iterator.Splits.{YieldsList-from_str_split}
+use Rattle.std.proofs.Common.{ℕ, List, length, map, take, sym, subst, arith}
+use Rattle.std.proofs.lemmas.Iterator.Consumers.{YieldsList-at, YieldsList-end, YieldsList-from_first, YieldsList-turn}
+use Rattle.basm_lex.specs.Lines.{pieces_of}
 use Rattle.std.proofs.lemmas.List.{length_push, map_push, take_all}
 use Rattle.basm.specs.Draft.{ArePartsOf, SayParts}
 use Rattle.basm.specs.Names.{slot_named}
@@ -13,7 +13,7 @@ pub loop-line-preserved : goal.loop-line-preserved
 loop-line-preserved c =
     let names = slot_named c.args.survey.now.names in
     let road = YieldsList-at c.into_iter-line-iterator.ensures.into_iter_gives
-    (YieldsList-from_str_split 10 c.args.text.now (lit< tt) c.split-line-items.ensures.text c.split-line-items.ensures.has_more c.split-line-items.ensures.pattern) in
+    (YieldsList-from_first (λ line. line.now) (λ lines. lines) (pieces_of c.args.text.now) c.pieces_of-line-items.ensures) in
     let turn = YieldsList-turn road c.loop-line.yielded _ c.loop-line.yielded_by _ _ c.in-Some.line c.in-Some.is c.next.ensures.steps in
     let P : List (List ℕ) → Type 0 = λ lines. SayParts names lines c.add_line.new.self in
     record {
@@ -31,7 +31,7 @@ loop-line-preserved c =
 pub returns-clause-parts : goal.returns-clause-parts
 returns-clause-parts c =
     let all = YieldsList-end (YieldsList-at c.into_iter-line-iterator.ensures.into_iter_gives
-    (YieldsList-from_str_split 10 c.args.text.now (lit< tt) c.split-line-items.ensures.text c.split-line-items.ensures.has_more c.split-line-items.ensures.pattern))
+    (YieldsList-from_first (λ line. line.now) (λ lines. lines) (pieces_of c.args.text.now) c.pieces_of-line-items.ensures))
     c.loop-line.yielded _ c.loop-line.yielded_by _ _ c.in-None.is c.next.ensures.steps in
     let P : List (List ℕ) → Type 0 = λ lines. SayParts (slot_named c.args.survey.now.names) lines c.loop-line.parts in
     subst P all.0 c.loop-line.invariant.say
@@ -39,7 +39,7 @@ returns-clause-parts c =
 pub returns-clause-exact : goal.returns-clause-exact
 returns-clause-exact c = λ p t surveys.
     let all = YieldsList-end (YieldsList-at c.into_iter-line-iterator.ensures.into_iter_gives
-    (YieldsList-from_str_split 10 c.args.text.now (lit< tt) c.split-line-items.ensures.text c.split-line-items.ensures.has_more c.split-line-items.ensures.pattern))
+    (YieldsList-from_first (λ line. line.now) (λ lines. lines) (pieces_of c.args.text.now) c.pieces_of-line-items.ensures))
     c.loop-line.yielded _ c.loop-line.yielded_by _ _ c.in-None.is c.next.ensures.steps in
     let P : List Item → Type 0 = λ items. ArePartsOf items c.loop-line.parts in
     subst P (take_all (length c.loop-line.yielded) t.items (let last = all.1 in omega (arith, all_lines t.names 0 _ t.items t.lines))) (c.loop-line.invariant.exact p t surveys)
@@ -47,7 +47,7 @@ returns-clause-exact c = λ p t surveys.
 pub returns-in-Err-clause-exact : goal.returns-in-Err-clause-exact
 returns-in-Err-clause-exact c = λ p t surveys.
     let road = YieldsList-at c.into_iter-line-iterator.ensures.into_iter_gives
-    (YieldsList-from_str_split 10 c.args.text.now (lit< tt) c.split-line-items.ensures.text c.split-line-items.ensures.has_more c.split-line-items.ensures.pattern) in
+    (YieldsList-from_first (λ line. line.now) (λ lines. lines) (pieces_of c.args.text.now) c.pieces_of-line-items.ensures) in
     let turn = YieldsList-turn road c.loop-line.yielded _ c.loop-line.yielded_by _ _ c.in-Some.line c.in-Some.is c.next.ensures.steps in
     let before = c.loop-line.invariant.exact p t surveys in
     let here = turn_at t c.args.survey.now c.loop-line.parts (length c.loop-line.yielded) c.in-Some.line.now surveys before turn.0 turn.1 in

@@ -1,9 +1,8 @@
-use Rattle.std.proofs.Common.{◌≡◌, ◌∙◌, ◌++◌, ℕ, List, map, sym, ap, subst, arith}
-use Rattle.std.specs.Prelude.{Ok, Some, decimal, string_bytes}
+use Rattle.std.proofs.Common.{◌≡◌, ◌∙◌, ◌++◌, ℕ, List, map, sym, ap, arith}
+use Rattle.std.specs.Prelude.{decimal}
 use Rattle.std.specs.Char.{to_ascii_lowercase}
 use Rattle.std.specs.Result.{result_ok}
 use Rattle.std.proofs.lemmas.Fmt.{parse-decimal}
-use Rattle.job_texts.specs.Topics.{IsWritten}
 use Rattle.job_texts.proofs.WrittenCodes.{rest_behind, written_behind}
 use Rattle.job_texts.proofs.topics.number_behind.Goals as goal
 

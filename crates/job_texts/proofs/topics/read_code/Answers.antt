@@ -1,4 +1,4 @@
-use Rattle.std.proofs.Common.{rules, ℕ, ◌<◌, subst, arith, below_more}
+use Rattle.std.proofs.Common.{rules, ℕ, subst, arith, below_more}
 use Rattle.job_texts.specs.Topics.{HasNumber, kind_at}
 use Rattle.job_texts.specs.declared.topics.CodeKind.{CodeKind}
 use Rattle.job_texts.proofs.CodeLetters.{no_code}

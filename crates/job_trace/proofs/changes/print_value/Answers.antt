@@ -1,4 +1,4 @@
-use Rattle.std.proofs.Common.{rules, SFits, to_z-of_z, append_assoc}
+use Rattle.std.proofs.Common.{rules, SFits, to_z-of_z}
 use Rattle.std.specs.Int.{w128}
 use Rattle.job_trace.proofs.Signs.{plus_or_minus}
 use Rattle.job_trace.proofs.changes.print_value.Goals as goal

@@ -1,6 +1,5 @@
-use Rattle.std.proofs.Common.{rules, ◌≡◌, ◌∙◌, ap, sym}
+use Rattle.std.proofs.Common.{rules, ◌≡◌}
 use Rattle.std.proofs.lemmas.Result.{on_ok_weaker}
-use Rattle.bpf.specs.Program.{Program}
 use Rattle.machine.specs.State.{entry_state}
 use Rattle.machine.specs.Memory.{header}
 use Rattle.stepper.specs.Machine.{state_of}

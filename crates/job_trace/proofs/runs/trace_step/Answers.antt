@@ -1,4 +1,4 @@
-use Rattle.std.proofs.Common.{rules, ◌≡◌, ◌+◌, Some, sym}
+use Rattle.std.proofs.Common.{rules, ◌≡◌, ◌+◌, Some}
 use Rattle.machine.specs.Step.{insn_at}
 use Rattle.stepper.specs.Machine.{state_of, step_of}
 use Rattle.job_trace.specs.Runs.{IsStrideBy, stride_of}

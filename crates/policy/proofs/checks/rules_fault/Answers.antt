@@ -1,4 +1,4 @@
-use Rattle.std.proofs.Common.{ap, arith}
+use Rattle.std.proofs.Common.{arith}
 use Rattle.policy.proofs.Placing.{place_behind, place_here}
 use Rattle.policy.proofs.checks.rules_fault.Goals as goal
 

@@ -1,6 +1,9 @@
-use Rattle.std.proofs.Common.{◌≡◌, ◌-◌, ◌≤◌, max}
-use Rattle.absdom.specs.Marks.{all_marked}
+use Rattle.std.proofs.Common.{◌+◌, ◌/◌, ◌≤◌, max}
+use Rattle.absdom.proofs.MarkMasks.{AreMarkedBelow}
 use Rattle.absdom.proofs.marks.Marks.are_set.Given as goal
 
-abbrev pub invariant-loop-place : goal.invariant-loop-place
-invariant-loop-place l = record { so_far : l.all ≡ all_marked l.self l.first (l.place - l.first); near : l.place ≤ max l.first l.end }
+abbrev pub invariant-loop-word : goal.invariant-loop-word
+invariant-loop-word l = record {
+  so_far : AreMarkedBelow l.self l.first l.end l.word;
+  near : l.word ≤ max (l.first / 64) ((l.end + 63) / 64);
+}

@@ -1,5 +1,6 @@
-use Rattle.std.proofs.Common.{◌≡◌, ℕ, ◌<◌, true, false, get_or}
+use Rattle.std.proofs.Common.{◌*◌, ◌<◌, ◌≡◌, ℕ, true}
+use Rattle.absdom.specs.Marks.{mark_at}
 use Rattle.absdom.proofs.marks.Marks.leq.Given as goal
 
-abbrev pub invariant-loop-place : goal.invariant-loop-place
-invariant-loop-place l = (p : ℕ) → p < l.place → get_or l.other p false ≡ true → get_or l.self p false ≡ true
+abbrev pub invariant-loop-word : goal.invariant-loop-word
+invariant-loop-word l = (p : ℕ) → p < 64 * l.word → mark_at l.other p ≡ true → mark_at l.self p ≡ true

@@ -1,6 +1,11 @@
-use Rattle.std.proofs.Common.{◌≡◌, ◌-◌}
-use Rattle.absdom.specs.Marks.{marks_after}
+use Rattle.std.proofs.Common.{◌+◌, ◌/◌, ◌≤◌, max}
+use Rattle.absdom.specs.Bits.{AreWords}
+use Rattle.absdom.proofs.MarkMasks.{AreMarkedTo}
 use Rattle.absdom.proofs.marks.Marks.mark.Given as goal
 
-abbrev pub invariant-loop-place : goal.invariant-loop-place
-invariant-loop-place l = l.self ≡ marks_after l.initial.self l.first (l.place - l.first)
+abbrev pub invariant-loop-word : goal.invariant-loop-word
+invariant-loop-word l = record {
+  size : AreWords l.self-inside.words;
+  so_far : AreMarkedTo l.initial.self-inside.words l.self-inside.words l.first l.end l.word;
+  near : l.word ≤ max (l.first / 64) ((l.end + 63) / 64);
+}

@@ -61,13 +61,15 @@ returns-in-Some-clause-exact c = λ item says room.
 
 pub returns-clause-adds : goal.returns-clause-adds
 returns-clause-adds c =
-    IfOk-weaker c.read_label.result _ _ (λ x h. line_label (slot_named c.args.survey.now.names) c.args.line.now c.args.self.now h.0 h.1) c.read_label.ensures.reads
+    let operands : texts c.as_slice-operands.result.now ≡ operands_of c.args.line.now = ap texts c.as_slice-operands.ensures.value ∙ c.in_ok-statement.ensures.operands in
+    IfOk-weaker c.read_label.result _ _ (λ x h. line_label (slot_named c.args.survey.now.names) c.args.line.now c.args.self.now h.0 (h.1.0, sym c.in_ok-statement.ensures.word ∙ h.1.1, sym operands ∙ h.2)) c.read_label.ensures.reads
 
 pub returns-clause-exact : goal.returns-clause-exact
 returns-clause-exact c = λ item says room.
     let word = c.in_ok-statement.ensures.word in
+    let operands : texts c.as_slice-operands.result.now ≡ operands_of c.args.line.now = ap texts c.as_slice-operands.ensures.value ∙ c.in_ok-statement.ensures.operands in
     let Q : Item → Type 0 = λ item. UnlessMemory c.read_label.result (λ _. AddsItem item c.args.self.now c.args.self.now) in
     label_item (slot_named c.args.survey.now.names) c.args.self.now.slots c.args.line.now item Q
     (λ same. c.in_default.not-empty (word ∙ same)) (λ same. c.in_default.not-text (word ∙ same)) (λ same. c.in_default.not-text-2 (word ∙ same)) (λ same. c.in_default.not-text-3 (word ∙ same))
     (λ found same. none-some found (c.in-None.ensures.exact found (word ∙ same))) says
-    (λ name label. rw (c.read_label.ensures.exact name label) (adds_label name c.args.self.now))
+    (λ name label. rw (c.read_label.ensures.exact name (label.0, word ∙ label.1) (operands ∙ label.2)) (adds_label name c.args.self.now))

@@ -24,20 +24,20 @@ returns-in_ok-stopped-in-Err-clause-goes_on c =
 pub invariant_of-self-in-Ok-2 : goal.invariant_of-self-in-Ok-2
 invariant_of-self-in-Ok-2 c =
     let w = the_view c.self.inside in
-    let run = c.in_ok-run-in-Ok.run' in
-    let begun = subst (λ (v : WorldValue). IsBegun v c.args.port c.args.packet run) c.self.view_is (subst (λ packet. IsBegun w c.args.port packet run) c.in-Ok.ensures.0.packet c.in_ok-run-in-Ok.ensures) in
+    let run = c.begin.ensures.run in
+    let begun = subst (λ (v : WorldValue). IsBegun v c.args.port c.args.packet run) c.self.view_is (subst (λ packet. IsBegun w c.args.port packet run) c.in-Ok.ensures.0.packet (c.in_ok-opening-in-Ok.ensures.begun run c.begin.ensures.begun)) in
     let first = read_at c.self.view_is c.from-at.ensures c.requires c.index.ensures in
     let read = read_at c.self.view_is c.from-at.ensures c.requires c.index_mut.ensures.value in
-    let begins : IsBeginAt c.args.self.now w c.from-at.result c.args.port c.args.packet c.index.result.now c.index_mut.result.now c.begin-in-Ok.new.self run = record { first = first; read = read; none = c.if-not-is_free.ensures; begun = begun; written = c.begin-in-Ok.ensures } in
+    let begins : IsBeginAt c.args.self.now w c.from-at.result c.args.port c.args.packet c.index.result.now c.index_mut.result.now c.begin.new.self run = record { first = first; read = read; none = c.if-not-is_free.ensures; begun = begun; written = c.begin.ensures.written } in
     begun_world _ w _ _ _ _ _ _ run begins c.self.invariant
 
-pub returns-in_ok-run-in-Ok-clause-goes_on : goal.returns-in_ok-run-in-Ok-clause-goes_on
-returns-in_ok-run-in-Ok-clause-goes_on c =
+pub returns-in_ok-opening-in-Ok-clause-goes_on : goal.returns-in_ok-opening-in-Ok-clause-goes_on
+returns-in_ok-opening-in-Ok-clause-goes_on c =
     let w = the_view c.self.inside in
-    let run = c.in_ok-run-in-Ok.run' in
-    let begun = subst (λ (v : WorldValue). IsBegun v c.args.port c.args.packet run) c.self.view_is (subst (λ packet. IsBegun w c.args.port packet run) c.in-Ok.ensures.0.packet c.in_ok-run-in-Ok.ensures) in
+    let run = c.begin.ensures.run in
+    let begun = subst (λ (v : WorldValue). IsBegun v c.args.port c.args.packet run) c.self.view_is (subst (λ packet. IsBegun w c.args.port packet run) c.in-Ok.ensures.0.packet (c.in_ok-opening-in-Ok.ensures.begun run c.begin.ensures.begun)) in
     let first = read_at c.self.view_is c.from-at.ensures c.requires c.index.ensures in
     let read = read_at c.self.view_is c.from-at.ensures c.requires c.index_mut.ensures.value in
-    let begins : IsBeginAt c.args.self.now w c.from-at.result c.args.port c.args.packet c.index.result.now c.index_mut.result.now c.begin-in-Ok.new.self run = record { first = first; read = read; none = c.if-not-is_free.ensures; begun = begun; written = c.begin-in-Ok.ensures } in
+    let begins : IsBeginAt c.args.self.now w c.from-at.result c.args.port c.args.packet c.index.result.now c.index_mut.result.now c.begin.new.self run = record { first = first; read = read; none = c.if-not-is_free.ensures; begun = begun; written = c.begin.ensures.written } in
     let made = begun_goes_on _ w _ _ _ c.in-Ok.admitted.place _ _ _ run begins c.in-Ok.ensures.0.placed in
-    subst (λ generation. GoesOn (Take c.args.port c.args.packet) (Taken generation) c.args.self.now (record w { ports = slice_set w.ports c.from-at.result c.begin-in-Ok.new.self })) (sym c.generation-generation.ensures) made
+    subst (λ generation. GoesOn (Take c.args.port c.args.packet) (Taken generation) c.args.self.now (record w { ports = slice_set w.ports c.from-at.result c.begin.new.self })) c.begin.ensures.begun.with.generation_is made

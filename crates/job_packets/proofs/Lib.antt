@@ -1,0 +1,5 @@
+mod AddedArguments
+mod HexDigits
+mod Instructions
+mod NoOrders
+mod ShownLines

@@ -1,0 +1,53 @@
+-- Words that write nothing of which something can be made.
+use Rattle.std.proofs.Common.{◌≡◌, ◌≢◌, ◌∷◌, ℕ, List, Some, Option, inl, inr, sym, subst, get_or, string_bytes, codes, arith}
+use Rattle.clap.specs.Walk.{Row, first_of}
+use Rattle.job_parts.specs.Options.{IsValueFault}
+use Rattle.job_parts.specs.declared.usage.UsageFault.{UsageFault}
+use Rattle.job_packets.specs.HexWords.{Has, WritesBytes}
+use Rattle.job_packets.specs.Orders.{Gives, HasKind, HasWrite, NamesOrder, WritesSource}
+use Rattle.job_packets.specs.PacketJob.{RefusesPacket}
+use Rattle.job_packets.specs.PacketOptions.{GivesHeader}
+use Rattle.job_packets.specs.declared.orders.Order.{Order}
+use Rattle.job_packets.specs.declared.orders.Order.TheVariants.{Read, Write, Rmw, Load}
+use Rattle.job_packets.specs.declared.orders.Source.{Source}
+use Rattle.job_packets.specs.declared.orders.Source.TheVariants.{Bytes, File}
+
+no_source : (word : List ℕ) → ((rest : List ℕ) → word ≢ 64 ∷ rest) → ¬ Has (WritesBytes word) → (source : Source) → WritesSource word source → ⊥
+no_source word other none (Bytes bytes) written = none (bytes.items, written)
+no_source word other none (File name) written = other (string_bytes name) written
+
+-- a word that names no file, and writes no bytes, writes no data
+pub source_fault : (word : List ℕ) (fault : UsageFault) → ((rest : List ℕ) → word ≢ 64 ∷ rest) → IsValueFault (Has (WritesBytes word)) fault
+    → IsValueFault (Has (WritesSource word)) fault
+source_fault word fault other (inl memory) = inl memory
+source_fault word fault other (inr bad) = inr (bad.0, λ has. no_source word other bad.1 has.0 has.1)
+
+-- without data there is no write
+pub write_fault : (rows : List Row) (fault : UsageFault) → IsValueFault (Has (Gives WritesSource (first_of (codes "data") rows))) fault
+    → IsValueFault (HasWrite rows) fault
+write_fault rows fault (inl memory) = inl memory
+write_fault rows fault (inr bad) = inr (bad.0, λ has. bad.1 (has.2, has.3.bytes))
+
+-- a word of another kind
+first_letters : (o : Option (List ℕ)) (a b : List ℕ) → o ≡ Some a → o ≡ Some b → get_or a 0 0 ≡ get_or b 0 0
+first_letters o a b e f = cc
+
+no_order : (rows : List Row) → HasKind rows (codes "write") → ¬ HasWrite rows → (order : Order) → NamesOrder rows order → ⊥
+no_order rows kind none (Read code address count) named =
+    let same : 119 ≡ 114 = first_letters _ _ _ kind named.0 in absurd (omega (arith, same))
+no_order rows kind none (Write code address source) named = none (code, address, source, named.1)
+no_order rows kind none (Rmw address bytes) named =
+    let same : 119 ≡ 114 = first_letters _ _ _ kind named.0 in absurd (omega (arith, same))
+no_order rows kind none (Load image slot) named =
+    let same : 119 ≡ 108 = first_letters _ _ _ kind named.0 in absurd (omega (arith, same))
+
+-- words of a write that is none order nothing
+pub order_fault : (rows : List Row) (fault : UsageFault) → HasKind rows (codes "write") → IsValueFault (HasWrite rows) fault
+    → IsValueFault (Has (NamesOrder rows)) fault
+order_fault rows fault kind (inl memory) = inl memory
+order_fault rows fault kind (inr bad) = inr (bad.0, λ has. no_order rows kind bad.1 has.0 has.1)
+
+-- without a header there are no words of `packet`
+pub header_fault : (rows : List Row) (fault : UsageFault) → IsValueFault (Has (GivesHeader rows)) fault → RefusesPacket rows fault
+header_fault rows fault (inl memory) = subst (RefusesPacket rows) (sym memory) tt
+header_fault rows fault (inr bad) = subst (RefusesPacket rows) (sym bad.0) (λ has. bad.1 (has.0.header, has.1.0))

@@ -1,0 +1,19 @@
+use Rattle.std.proofs.Common.{ap, ap₂, ◌∙◌}
+use Rattle.std.proofs.lemmas.Result.{IfOk-weaker}
+use Rattle.clap.specs.Simple.{app_of, with_rule}
+use Rattle.job_packets.proofs.AddedArguments.{no_globals}
+use Rattle.job_packets.proofs.packet.order_words.Goals as goal
+
+pub returns-clause-shape : goal.returns-clause-shape
+returns-clause-shape c =
+    let step0 = c.in_ok-arg.ensures.shape c.file-kind.ensures.local ∙ ap (with_rule (app_of c.args.command)) c.file-kind.ensures.rule in
+    let step1 = c.in_ok-arg-2.ensures.shape c.file-address.ensures.local ∙ ap₂ with_rule step0 c.file-address.ensures.rule in
+    let step2 = c.in_ok-arg-3.ensures.shape c.optional-data.ensures.local ∙ ap₂ with_rule step1 c.optional-data.ensures.rule in
+    IfOk-weaker c.arg-4.result _ _ (λ m h. h.shape c.optional-mask.ensures.local ∙ ap₂ with_rule step2 c.optional-mask.ensures.rule) c.arg-4.ensures
+
+pub returns-clause-local : goal.returns-clause-local
+returns-clause-local c =
+    let step0 = c.in_ok-arg.ensures.globals ∙ no_globals _ _ c.requires c.file-kind.ensures.local in
+    let step1 = c.in_ok-arg-2.ensures.globals ∙ no_globals _ _ step0 c.file-address.ensures.local in
+    let step2 = c.in_ok-arg-3.ensures.globals ∙ no_globals _ _ step1 c.optional-data.ensures.local in
+    IfOk-weaker c.arg-4.result _ _ (λ m h. h.globals ∙ no_globals _ _ step2 c.optional-mask.ensures.local) c.arg-4.ensures

@@ -1,0 +1,158 @@
+-- What the job `packet` reads and prints: the lines of the packets that its words order.
+use Rattle.std.specs.Prelude.{
+  ◌≡◌,
+  ◌+◌,
+  ◌&&◌,
+  nat_lt,
+  nat_le,
+  ℕ,
+  zero,
+  suc,
+  Bool,
+  if◌then◌else◌,
+  List,
+  [],
+  ◌∷◌,
+  ◌++◌,
+  length,
+  Option,
+  Some,
+  None,
+  codes,
+  string_bytes,
+}
+use Rattle.std.specs.Io.KnownBytes.{Appends}
+use Rattle.spw.specs.declared.packets.TheConstants.{MAX_PACKET}
+use Rattle.rmap.specs.Reply.{with_crc}
+use Rattle.rmap.specs.declared.boot.TheConstants.{STAGING_SIZE}
+use Rattle.job_parts.specs.Files.{Reads}
+use Rattle.job_parts.specs.Printed.{fault_line}
+use Rattle.job_parts.specs.declared.faults.Fault.{Fault}
+use Rattle.job_parts.specs.declared.faults.Fault.TheVariants.{
+  CannotRead,
+  CannotWrite,
+  NoMemory,
+  BadText,
+  BadTable,
+  BadImage,
+  Refused,
+  BadLine,
+}
+use Rattle.job_packets.specs.Loads.{with_load}
+use Rattle.job_packets.specs.Requests.{has_reply_address, line_of}
+use Rattle.job_packets.specs.declared.orders.Order.{Order}
+use Rattle.job_packets.specs.declared.orders.Order.TheVariants.{Read, Write, Rmw, Load}
+use Rattle.job_packets.specs.declared.orders.Source.TheVariants.{Bytes, File}
+use Rattle.job_packets.specs.declared.packet.PacketWords.{PacketWords}
+use Rattle.job_packets.specs.declared.packet_options.HeaderWords.{HeaderWords}
+use Rattle.job_packets.specs.declared.requests.Request.{Request}
+
+-- a packet with so many bytes of data is not too long: 16 bytes of a header, the reply address, the data and their CRC
+abbrev pub is_short : HeaderWords → (count : ℕ) → Bool
+is_short h count = nat_le (17 + length h.reply_address.items + count) MAX_PACKET
+
+-- the command code of a read-modify-write (ECSS-E-ST-50-52C, instruction field)
+abbrev pub rmw_code : ℕ
+rmw_code = 7
+
+-- the one command of a packet, with the transaction identifier and the extended address of its words
+abbrev pub own_request : HeaderWords → (code address count : ℕ) → Request
+own_request h code address count = record {
+  code = code;
+  transaction = h.transaction;
+  extended = h.extended;
+  address = address;
+  count = count;
+}
+
+-- there are such packets: the codes and the lengths fit their fields, no packet is longer than 4,200 bytes, and an
+-- image fits the staging
+abbrev pub fits : HeaderWords → Order → (content : List ℕ) → Bool
+fits h (Read code address count) content = nat_lt code 16 && nat_lt count 16777216
+fits h (Write code address source) content = nat_lt code 16 && is_short h (length content)
+fits h (Rmw address bytes) content = is_short h (length content)
+fits h (Load image slot) content = nat_le (length content) STAGING_SIZE
+
+-- the lines of the packets behind others, with the data or the image that was given
+abbrev pub with_text : (front : List ℕ) → HeaderWords → Order → (content : List ℕ) → List ℕ
+with_text front h (Read code address count) content = front ++ line_of h (own_request h code address count) []
+with_text front h (Write code address source) content =
+    front ++ line_of h (own_request h code address (length content)) (with_crc content)
+with_text front h (Rmw address bytes) content =
+    front ++ line_of h (own_request h rmw_code address (length content)) (with_crc content)
+with_text front h (Load image slot) content = with_load front h slot content
+
+-- the lines, where there are such packets
+abbrev pub made_text : PacketWords → (content : List ℕ) → Option (List ℕ)
+made_text words content =
+    if has_reply_address words.header && fits words.header words.order content
+    then Some (with_text [] words.header words.order content)
+    else None
+
+-- the file that has the data or the image
+abbrev pub file_of : Order → Option (List ℕ)
+file_of (Read code address count) = None
+file_of (Write code address (Bytes bytes)) = None
+file_of (Write code address (File name)) = Some (string_bytes name)
+file_of (Rmw address bytes) = None
+file_of (Load image slot) = Some (string_bytes image)
+
+-- the data that stand in the words
+abbrev pub own_data : Order → List ℕ
+own_data (Read code address count) = []
+own_data (Write code address (Bytes bytes)) = bytes.items
+own_data (Write code address (File name)) = []
+own_data (Rmw address bytes) = bytes.items
+own_data (Load image slot) = []
+
+module _ {S : Type 0} (reads : Reads S) where
+  -- the data are those of the file, or where there is none those that stand in the words
+  abbrev pub IsContentOf : Option (List ℕ) → (own : List ℕ) → (before : S) → (content : List ℕ) → (after : S) → Type 0
+  IsContentOf None own before content after = (content ≡ own) × (after ≡ before)
+  IsContentOf (Some name) own before content after = reads before name (Some content) after
+
+  -- the data or the image of the order
+  abbrev pub IsContent : Order → (before : S) → (content : List ℕ) → (after : S) → Type 0
+  IsContent order before content after = IsContentOf (file_of order) (own_data order) before content after
+
+  -- the lines of the packets, or none where there are no such packets, with the data or the image that was given
+  pub record IsMade (words : PacketWords) (before : S) (made : Option (List ℕ)) (after : S) : Type 0 where
+    pub content : List ℕ
+    pub given : IsContent words.order before content after
+    pub text : made ≡ made_text words content
+
+  -- the lines of the packets that the words order were printed
+  pub record MakesPackets (words : PacketWords) (before after : S) (old new : Option (List ℕ)) : Type 0 where
+    pub text : List ℕ
+    pub made : IsMade words before (Some text) after
+    pub printed : Appends old new text
+
+  -- there are no such packets, which was told
+  pub record MakesNone (words : PacketWords) (before after : S) (old new : Option (List ℕ)) : Type 0 where
+    pub unmade : IsMade words before None after
+    pub line : Appends old new (codes "bad option" ++ 10 ∷ [])
+
+  -- the file of the data or the image cannot be read, or memory was refused
+  abbrev pub IsNotMade : PacketWords → (before after : S) → Fault → Type 0
+  IsNotMade words before after (CannotRead file) =
+      (file_of words.order ≡ Some file.now) × reads before file.now None after
+  IsNotMade words before after (CannotWrite file) = ⊥
+  IsNotMade words before after NoMemory = (content : List ℕ) × IsContent words.order before content after
+  IsNotMade words before after (BadText fault) = ⊥
+  IsNotMade words before after (BadTable fault) = ⊥
+  IsNotMade words before after (BadImage fault) = ⊥
+  IsNotMade words before after (Refused refused) = ⊥
+  IsNotMade words before after (BadLine number fault) = ⊥
+
+  -- such a fault was told
+  pub record TellsUnmade (words : PacketWords) (before after : S) (old new : Option (List ℕ)) : Type 0 where
+    pub fault : Fault
+    pub ended : IsNotMade words before after fault
+    pub line : Appends old new (fault_line fault)
+
+  -- what `packet` reads and prints, by its exit status
+  abbrev pub MakesFile : PacketWords → (before after : S) → (old new : Option (List ℕ)) → (status : ℕ) → Type 0
+  MakesFile words before after old new zero = MakesPackets words before after old new
+  MakesFile words before after old new (suc zero) = TellsUnmade words before after old new
+  MakesFile words before after old new (suc (suc zero)) = MakesNone words before after old new
+  MakesFile words before after old new (suc (suc (suc n))) = ⊥

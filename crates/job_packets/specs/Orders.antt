@@ -1,0 +1,158 @@
+-- What the job `packet` is to make: a read, a write, a read-modify-write, or the packets of a load.
+use Rattle.std.specs.Prelude.{
+  ◌≡◌,
+  ◌≤◌,
+  ◌+◌,
+  ◌*◌,
+  ◌&&◌,
+  not,
+  cond,
+  is_some,
+  ℕ,
+  Bool,
+  true,
+  List,
+  ◌∷◌,
+  ◌++◌,
+  Option,
+  Some,
+  None,
+  codes,
+  length,
+  string_bytes,
+}
+use Rattle.clap.specs.Walk.{Row, Text, first_of}
+use Rattle.job_parts.specs.Options.{IsNumberWithin, WritesSuch}
+use Rattle.job_packets.specs.HexWords.{WritesBytes, WritesHex}
+use Rattle.job_parts.specs.Arguments.{is_set}
+use Rattle.job_packets.specs.declared.orders.Order.{Order}
+use Rattle.job_packets.specs.declared.orders.Order.TheVariants.{Read, Write, Rmw, Load}
+use Rattle.job_packets.specs.declared.orders.Source.{Source}
+use Rattle.job_packets.specs.declared.orders.Source.TheVariants.{Bytes, File}
+
+-- the word is there, and writes the value
+abbrev pub Gives : {V : Type 0} → (List ℕ → V → Type 0) → Option (List ℕ) → V → Type 0
+Gives writes None v = ⊥
+Gives writes (Some word) v = writes word v
+
+-- the matches have the argument or the option of this name
+abbrev pub is_given : Text → List Row → Bool
+is_given name rows = is_some (first_of name rows)
+
+-- the bit of an instruction
+abbrev pub bit_of : Bool → ℕ
+bit_of set = cond set 1 0
+
+-- the reply bit: `--no-reply` clears it
+abbrev pub reply_bit : List Row → ℕ
+reply_bit rows = bit_of (not (is_set (codes "no-reply") rows))
+
+-- the increment bit: `--no-increment` clears it
+abbrev pub increment_bit : List Row → ℕ
+increment_bit rows = bit_of (not (is_set (codes "no-increment") rows))
+
+-- the command code of a read: 001x (ECSS-E-ST-50-52C, instruction field)
+abbrev pub read_code : List Row → ℕ
+read_code rows = 2 + increment_bit rows
+
+-- the command code of a write: 1xxx, with verify, reply and increment (ECSS-E-ST-50-52C, instruction field)
+abbrev pub write_code : List Row → ℕ
+write_code rows = 8 + 4 * bit_of (is_set (codes "verify") rows) + 2 * reply_bit rows + increment_bit rows
+
+-- no flag is there that changes a reply or verifies
+abbrev pub is_plain : List Row → Bool
+is_plain rows = not (is_set (codes "verify") rows) && not (is_set (codes "no-reply") rows)
+
+-- there are no words but those of a read
+abbrev pub is_read_alone : List Row → Bool
+is_read_alone rows = is_plain rows && not (is_given (codes "mask") rows) && not (is_given (codes "slot") rows)
+
+-- there are no words but those of a write
+abbrev pub is_write_alone : List Row → Bool
+is_write_alone rows = not (is_given (codes "mask") rows) && not (is_given (codes "slot") rows)
+
+-- there are no words but those of a read-modify-write
+abbrev pub is_rmw_alone : List Row → Bool
+is_rmw_alone rows = is_plain rows && not (is_set (codes "no-increment") rows) && not (is_given (codes "slot") rows)
+
+-- there are no words but those of a load
+abbrev pub is_load_alone : List Row → Bool
+is_load_alone rows =
+    is_plain rows && not (is_set (codes "no-increment") rows) && not (is_given (codes "data") rows)
+    && not (is_given (codes "mask") rows) && not (is_given (codes "extended") rows)
+
+-- the word writes the data of a write: their bytes, or `@` (64) and the name of the file that has them
+abbrev pub WritesSource : List ℕ → Source → Type 0
+WritesSource word (Bytes bytes) = WritesBytes word bytes.items
+WritesSource word (File name) = word ≡ 64 ∷ string_bytes name
+
+-- the address: at most eight hexadecimal digits
+abbrev pub GivesPlace : List Row → ℕ → Type 0
+GivesPlace rows address = Gives (WritesHex 8) (first_of (codes "address") rows) address
+
+-- `ADDRESS LENGTH`, the words of a read: the length is a decimal number below 2^24
+pub record OrdersRead (rows : List Row) (code address count : ℕ) : Type 0 where
+  pub alone : is_read_alone rows ≡ true
+  pub command : code ≡ read_code rows
+  pub place : GivesPlace rows address
+  pub number : Gives (WritesSuch (IsNumberWithin 0 16777215)) (first_of (codes "data") rows) count
+
+-- `ADDRESS DATA`, the words of a write
+pub record OrdersWrite (rows : List Row) (code address : ℕ) (source : Source) : Type 0 where
+  pub alone : is_write_alone rows ≡ true
+  pub command : code ≡ write_code rows
+  pub place : GivesPlace rows address
+  pub bytes : Gives WritesSource (first_of (codes "data") rows) source
+
+-- two words write data, and a mask of as many bytes behind them, at most 4 (ECSS-E-ST-50-52C, read-modify-write command
+-- format)
+pub record AreMasked (word mask : List ℕ) (bytes : List ℕ) : Type 0 where
+  pub front : List ℕ
+  pub behind : List ℕ
+  pub data_written : WritesBytes word front
+  pub mask_written : WritesBytes mask behind
+  pub as_long : length behind ≡ length front
+  pub few : length front ≤ 4
+  pub joined : bytes ≡ front ++ behind
+
+-- both words are there, and write such data and such a mask
+abbrev pub GivesMasked : (word mask : Option (List ℕ)) → (bytes : List ℕ) → Type 0
+GivesMasked None mask bytes = ⊥
+GivesMasked (Some word) None bytes = ⊥
+GivesMasked (Some word) (Some mask) bytes = AreMasked word mask bytes
+
+-- `ADDRESS DATA MASK`, the words of a read-modify-write
+pub record OrdersRmw (rows : List Row) (address : ℕ) (bytes : List ℕ) : Type 0 where
+  pub alone : is_rmw_alone rows ≡ true
+  pub place : GivesPlace rows address
+  pub masked : GivesMasked (first_of (codes "data") rows) (first_of (codes "mask") rows) bytes
+
+-- `IMAGE --slot N`, the words of a load
+pub record OrdersLoad (rows : List Row) (image : List ℕ) (slot : ℕ) : Type 0 where
+  pub alone : is_load_alone rows ≡ true
+  pub file : first_of (codes "address") rows ≡ Some image
+  pub number : Gives (WritesSuch (IsNumberWithin 0 3)) (first_of (codes "slot") rows) slot
+
+-- there are such words
+abbrev pub HasRead : List Row → Type 0
+HasRead rows = (code : ℕ) × (address : ℕ) × (count : ℕ) × OrdersRead rows code address count
+
+abbrev pub HasWrite : List Row → Type 0
+HasWrite rows = (code : ℕ) × (address : ℕ) × (source : Source) × OrdersWrite rows code address source
+
+abbrev pub HasRmw : List Row → Type 0
+HasRmw rows = (address : ℕ) × (bytes : List ℕ) × OrdersRmw rows address bytes
+
+abbrev pub HasLoad : List Row → Type 0
+HasLoad rows = (image : List ℕ) × (slot : ℕ) × OrdersLoad rows image slot
+
+-- the word of the kind
+abbrev pub HasKind : List Row → List ℕ → Type 0
+HasKind rows word = first_of (codes "kind") rows ≡ Some word
+
+-- the order is the one of these matches: its kind, and the words of the kind
+abbrev pub NamesOrder : List Row → Order → Type 0
+NamesOrder rows (Read code address count) = HasKind rows (codes "read") × OrdersRead rows code address count
+NamesOrder rows (Write code address source) = HasKind rows (codes "write") × OrdersWrite rows code address source
+NamesOrder rows (Rmw address bytes) = HasKind rows (codes "rmw") × OrdersRmw rows address bytes.items
+NamesOrder rows (Load image slot) = HasKind rows (codes "load") × OrdersLoad rows (string_bytes image) slot

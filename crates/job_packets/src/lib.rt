@@ -1,0 +1,12 @@
+//! The jobs of `rmapctl` on packets in words: what makes packet lines, and what tells what they say.
+#![tactic(auto)]
+
+pub mod hex_words;
+pub mod loads;
+pub mod made_packets;
+pub mod orders;
+pub mod packet;
+pub mod packet_options;
+pub mod requests;
+pub mod show;
+pub mod shown;

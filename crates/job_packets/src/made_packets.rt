@@ -1,0 +1,211 @@
+//! What the job `packet` does.
+
+ghost use Rattle.std.specs.Prelude.{◌≡◌, ◌<◌, ◌≤◌, ◌^◌, ◌++◌, IfErr, IfOk, MatchResult, OnOk, None, Some, length, option_map, string_bytes, true};
+ghost use Rattle.rmap.specs.Reply.{with_crc};
+ghost use Rattle.job_parts.specs.declared.faults.Fault.TheVariants.{CannotRead};
+ghost use Rattle.job_packets.specs.MadePackets.{IsContent, IsMade, IsNotMade, MakesFile, fits, is_short, made_text, own_request, with_text};
+ghost use Rattle.job_packets.specs.Requests.{has_reply_address, line_of};
+
+use crate::loads::add_load;
+use crate::orders::{Order, Source};
+use crate::packet::PacketWords;
+use crate::packet_options::HeaderWords;
+use crate::requests::{Request, add_line};
+use job_parts::faults::Fault;
+use job_parts::printing::print_text;
+use job_parts::stops::WriteFault;
+use job_parts::storage::Files;
+use rmap::{STAGING_SIZE, body_with_crc};
+use spw::MAX_PACKET;
+use std::alloc::{AllocError, Global};
+use std::io::Write;
+
+/// The command code of a read-modify-write.
+const RMW_CODE: u8 = 0b0111;
+
+/// The bytes of the file of this name.
+fn bytes_in<'a, F: Files>(alloc: Global, files: &mut F, name: &'a str) -> Result<Vec<u8>, Fault<'a>>
+    ensures gave { MatchResult result
+        (λ bytes. F.reads files.old name.now (Some bytes.items) files.new)
+        (λ _. F.reads files.old name.now None files.new) }
+    ensures refused { IfErr result (λ fault. fault ≡ CannotRead name.entry) }
+{
+    files.read(alloc, name).map_err(|_| Fault::CannotRead(name))
+}
+
+/// The data or the image of an order: those of its file, or those that stand in the words.
+fn content_of<'a, F: Files>(
+    alloc: Global,
+    words: &'a PacketWords,
+    files: &mut F,
+) -> Result<Vec<u8>, Fault<'a>>
+    ensures content { IfOk result (λ content.
+        IsContent F.reads words.now.order files.old content.items files.new) }
+    ensures refused { IfErr result (IsNotMade F.reads words.now files.old files.new) }
+{
+    match &words.order {
+        Order::Read { .. } => Ok(Vec::new(alloc)),
+        Order::Write {
+            source: Source::Bytes(bytes),
+            ..
+        }
+        | Order::Rmw { bytes, .. } => Ok(Vec::from_slice(alloc, bytes.as_slice())?),
+        Order::Write {
+            source: Source::File(name),
+            ..
+        } => bytes_in(alloc, files, name.as_str()),
+        Order::Load { image, .. } => bytes_in(alloc, files, image.as_str()),
+    }
+}
+
+/// The one command of a packet.
+fn own_request(header: &HeaderWords, code: u8, address: u32, count: u32) -> Request
+    ensures { result ≡ own_request header.now code address count }
+{
+    Request {
+        code,
+        transaction: header.transaction,
+        extended: header.extended,
+        address,
+        count,
+    }
+}
+
+/// Whether the reply address has 0, 4, 8 or 12 bytes.
+fn has_reply_address(header: &HeaderWords) -> bool
+    ensures { result ≡ has_reply_address header.now }
+{
+    let bytes = header.reply_address.as_slice().len();
+    bytes % 4 == 0 && bytes <= 12
+}
+
+/// Whether a packet with so many bytes of data is not too long.
+fn is_short(header: &HeaderWords, count: usize) -> bool
+    requires { has_reply_address header.now ≡ true }
+    ensures { result ≡ is_short header.now count }
+{
+    let room = MAX_PACKET - 17 - header.reply_address.as_slice().len();
+    count <= room
+}
+
+/// Whether there are such packets.
+fn fits(header: &HeaderWords, order: &Order, content: &[u8]) -> bool
+    requires { has_reply_address header.now ≡ true }
+    ensures { result ≡ fits header.now order.now content.now }
+{
+    match order {
+        Order::Read { code, count, .. } => *code < 16 && *count < 1 << 24,
+        Order::Write { code, .. } => *code < 16 && is_short(header, content.len()),
+        Order::Rmw { .. } => is_short(header, content.len()),
+        Order::Load { .. } => content.len() <= STAGING_SIZE as usize,
+    }
+}
+
+/// Adds the packet line of a command that carries data.
+fn add_data(
+    text: &mut String,
+    alloc: Global,
+    header: &HeaderWords,
+    code: u8,
+    address: u32,
+    content: &[u8],
+) -> Result<(), AllocError>
+    requires address { has_reply_address header.now ≡ true }
+    requires code { code < 16 }
+    requires short { length content.now < 2 ^ 24 }
+    ensures { OnOk result (string_bytes text.new ≡ string_bytes text.old
+        ++ line_of header.now (own_request header.now code address (length content.now)) (with_crc content.now)) }
+{
+    let body = body_with_crc(alloc, content)?;
+    let request = own_request(header, code, address, content.len() as u32);
+    add_line(text, alloc, header, request, body.as_slice())
+}
+
+/// Adds the lines of the packets that are ordered.
+fn add_packets(
+    text: &mut String,
+    alloc: Global,
+    header: &HeaderWords,
+    order: &Order,
+    content: &[u8],
+) -> Result<(), AllocError>
+    requires address { has_reply_address header.now ≡ true }
+    requires fits { fits header.now order.now content.now ≡ true }
+    ensures { OnOk result
+        (string_bytes text.new ≡ with_text (string_bytes text.old) header.now order.now content.now) }
+{
+    match order {
+        Order::Read {
+            code,
+            address,
+            count,
+        } => {
+            let request = own_request(header, *code, *address, *count);
+            add_line(text, alloc, header, request, &[])
+        }
+        Order::Write { code, address, .. } => {
+            add_data(text, alloc, header, *code, *address, content)
+        }
+        Order::Rmw { address, .. } => add_data(text, alloc, header, RMW_CODE, *address, content),
+        Order::Load { slot, .. } => add_load(text, alloc, header, *slot, content),
+    }
+}
+
+/// The lines of the packets that are ordered, or `None` where there are no such packets.
+fn made_text(
+    alloc: Global,
+    words: &PacketWords,
+    content: &[u8],
+) -> Result<Option<String>, AllocError>
+    ensures { IfOk result (λ made. option_map string_bytes made ≡ made_text words.now content.now) }
+{
+    let header = &words.header;
+    if !has_reply_address(header) || !fits(header, &words.order, content) {
+        return Ok(None);
+    }
+    let mut text = String::new(alloc);
+    add_packets(&mut text, alloc, header, &words.order, content)?;
+    Ok(Some(text))
+}
+
+/// The same with the data or the image that the words name.
+fn packets<'a, F: Files>(
+    alloc: Global,
+    words: &'a PacketWords,
+    files: &mut F,
+) -> Result<Option<String>, Fault<'a>>
+    ensures made { IfOk result (λ made.
+        IsMade F.reads words.now files.old (option_map string_bytes made) files.new) }
+    ensures refused { IfErr result (IsNotMade F.reads words.now files.old files.new) }
+{
+    let content = content_of(alloc, words, files)?;
+    Ok(made_text(alloc, words, content.as_slice())?)
+}
+
+/// Prints the packet lines of the packets that the words order, and gives the exit status: 0; 1 where a fault was
+/// printed (`CannotRead` of the file of the data or the image, `NoMemory`); and 2, with the line `bad option`, where
+/// there are no such packets: one would be longer than 4,200 bytes, or an image is larger than the staging.
+pub fn packet_file<F: Files, W: Write>(
+    alloc: Global,
+    words: &PacketWords,
+    files: &mut F,
+    out: &mut W,
+) -> Result<u8, WriteFault>
+    ensures { IfOk result (MakesFile F.reads words.now files.old files.new
+        (W.contents out.old) (W.contents out.new)) }
+{
+    match packets(alloc, words, files) {
+        Ok(Some(text)) => {
+            print_text(out, text.as_str())?;
+            Ok(0)
+        }
+        Ok(None) => {
+            writeln!(out, "bad option")?;
+            Ok(2)
+        }
+        Err(fault) => {
+            writeln!(out, "{fault}")?;
+            Ok(1)
+        }
+    }
+}

@@ -1,0 +1,93 @@
+//! The words of the job `packet`.
+
+ghost use Rattle.std.specs.Prelude.{◌≡◌, IfErr, IfOk, false};
+ghost use Rattle.clap.specs.Simple.{app_of};
+ghost use Rattle.clap.specs.declared.builder.command.Command.TheViews.{out-Command as fields_of};
+ghost use Rattle.clap.specs.Walk.{rows_of};
+ghost use Rattle.clap.specs.Matches.{found_of};
+ghost use Rattle.job_packets.specs.PacketJob.{NamesPacket, RefusesPacket, packet_app, with_order_options, with_order_words};
+
+use crate::orders::{Order, order_of};
+use crate::packet_options::{HeaderWords, field_arguments, header_words};
+use clap::{ArgMatches, Command};
+use job_parts::arguments::{file, flag, option, optional};
+use job_parts::usage::UsageFault;
+use std::alloc::{AllocError, Global};
+
+/// The words of the job `packet`.
+#[derive(Debug, Drop)]
+pub struct PacketWords {
+    /// The port, and the fields of the header that have a default.
+    pub header: HeaderWords,
+    /// What is made.
+    pub order: Order,
+}
+
+/// The subcommand with what is made and where.
+fn order_words<'a>(alloc: Global, command: Command<'a>) -> Result<Command<'a>, AllocError>
+    requires { (fields_of command).has_globals ≡ false }
+    ensures shape { IfOk result (λ c. app_of c ≡ with_order_words (app_of command.entry)) }
+    ensures local { IfOk result (λ c. (fields_of c).has_globals ≡ false) }
+{
+    let kind = file(
+        alloc,
+        "kind",
+        "KIND",
+        "What is made: read, write, rmw or load",
+    );
+    let help =
+        "The address, at most 8 hexadecimal digits; of a load the file of the BPF image, or - for standard input";
+    let address = file(alloc, "address", "ADDRESS", help);
+    let help =
+        "The data in hexadecimal digits, or - for none, or @ and the name of their file; of a read the length";
+    let data = optional(alloc, "data", "DATA", help);
+    let help = "The mask of an rmw, as long as its data";
+    let mask = optional(alloc, "mask", "MASK", help);
+    command.arg(kind)?.arg(address)?.arg(data)?.arg(mask)
+}
+
+/// The subcommand with the options of what is made.
+fn order_options<'a>(alloc: Global, command: Command<'a>) -> Result<Command<'a>, AllocError>
+    requires { (fields_of command).has_globals ≡ false }
+    ensures shape { IfOk result (λ c. app_of c ≡ with_order_options (app_of command.entry)) }
+    ensures local { IfOk result (λ c. (fields_of c).has_globals ≡ false) }
+{
+    let slot = option(alloc, "slot", "N", "The slot of a load, 0 to 3");
+    let verify = flag(alloc, "verify", "Of a write: the data are verified first");
+    let no_reply = flag(alloc, "no-reply", "Of a write: no reply is asked for");
+    let help = "Of a read or a write: all bytes have the one address";
+    let no_increment = flag(alloc, "no-increment", help);
+    command
+        .arg(slot)?
+        .arg(verify)?
+        .arg(no_reply)?
+        .arg(no_increment)
+}
+
+/// `packet KIND ADDRESS [DATA] [MASK]` with its options.
+pub fn packet_command<'a>(alloc: Global) -> Result<Command<'a>, AllocError>
+    ensures shape { IfOk result (λ c. app_of c ≡ packet_app) }
+    ensures local { IfOk result (λ c. (fields_of c).has_globals ≡ false) }
+{
+    let about = "Makes packet lines: of a read, a write, an rmw or the packets of a load";
+    let port = option(
+        alloc,
+        "port",
+        "N",
+        "The port of the line, 0 to 31; 0 without it",
+    );
+    let named = Command::new(alloc, "packet").about(about);
+    let ordered = order_words(alloc, named)?.arg(port)?;
+    let chosen = order_options(alloc, ordered)?;
+    field_arguments(alloc, chosen)
+}
+
+/// The words of `packet` with these matches.
+pub fn packet_job(alloc: Global, found: &ArgMatches) -> Result<PacketWords, UsageFault>
+    ensures ok { IfOk result (NamesPacket (rows_of (found_of found.now))) }
+    ensures err { IfErr result (RefusesPacket (rows_of (found_of found.now))) }
+{
+    let header = header_words(alloc, found)?;
+    let order = order_of(alloc, found)?;
+    Ok(PacketWords { header, order })
+}

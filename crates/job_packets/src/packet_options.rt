@@ -1,0 +1,155 @@
+//! The options of the job `packet`: the port, and the fields of a header that have a default.
+
+ghost use Rattle.std.specs.Prelude.{◌≡◌, ℕ, List, IfErr, IfOk, MatchResult, codes, false};
+ghost use Rattle.clap.specs.Simple.{app_of};
+ghost use Rattle.clap.specs.declared.builder.command.Command.TheViews.{out-Command as fields_of};
+ghost use Rattle.clap.specs.Walk.{first_of, rows_of};
+ghost use Rattle.clap.specs.Matches.{found_of};
+ghost use Rattle.job_parts.specs.Options.{IsBadValue, IsValueFault};
+ghost use Rattle.job_packets.specs.HexWords.{Has};
+ghost use Rattle.job_packets.specs.PacketOptions.{GivesAddress, GivesHeader, GivesHex, GivesPort, with_field_options};
+
+use crate::hex_words::{bytes_written, hex_written};
+use clap::{ArgMatches, Command};
+use job_parts::arguments::{option, text_of};
+use job_parts::usage::UsageFault;
+use spw::read_port;
+use std::alloc::{AllocError, Global};
+
+/// The most bytes of a reply address (ECSS-E-ST-50-52C, reply address field).
+const MAX_REPLY_ADDRESS: usize = 12;
+
+/// The words of a packet's port, and of the fields of its header that have a default.
+#[derive(Debug, Drop)]
+pub struct HeaderWords {
+    /// The port of the packet line, 0 to 31; 0 without `--port`.
+    pub port: u8,
+    /// The target logical address; FE without `--target`.
+    pub target: u8,
+    /// The key; 00 without `--key`.
+    pub key: u8,
+    /// The initiator logical address; 67 without `--initiator`.
+    pub initiator: u8,
+    /// The transaction identifier, of a load that of its first packet; 0000 without `--transaction`.
+    pub transaction: u16,
+    /// The extended address; 00 without `--extended`.
+    pub extended: u8,
+    /// The reply address, 0, 4, 8 or 12 bytes; none without `--reply-address`.
+    pub reply_address: Vec<u8>,
+}
+
+/// The subcommand with the options of a packet's fields.
+pub fn field_arguments<'a>(alloc: Global, command: Command<'a>) -> Result<Command<'a>, AllocError>
+    requires { (fields_of command).has_globals ≡ false }
+    ensures shape { IfOk result (λ c. app_of c ≡ with_field_options (app_of command.entry)) }
+    ensures local { IfOk result (λ c. (fields_of c).has_globals ≡ false) }
+{
+    let target = option(
+        alloc,
+        "target",
+        "HH",
+        "The target logical address; FE without it",
+    );
+    let key = option(alloc, "key", "HH", "The key; 00 without it");
+    let help = "The initiator logical address; 67 without it";
+    let initiator = option(alloc, "initiator", "HH", help);
+    let help = "The transaction identifier, of a load that of its first packet; 0000 without it";
+    let transaction = option(alloc, "transaction", "HHHH", help);
+    let extended = option(
+        alloc,
+        "extended",
+        "HH",
+        "The extended address; 00 without it",
+    );
+    let help = "The reply address: 4, 8 or 12 bytes, or - for none; none without it";
+    let reply_address = option(alloc, "reply-address", "HEX", help);
+    command
+        .arg(target)?
+        .arg(key)?
+        .arg(initiator)?
+        .arg(transaction)?
+        .arg(extended)?
+        .arg(reply_address)
+}
+
+/// The port by `--port`.
+fn port_of(found: &ArgMatches) -> Result<u8, UsageFault>
+    ensures { MatchResult result
+        (GivesPort (first_of (codes "port") (rows_of (found_of found.now))))
+        (IsBadValue (Has (GivesPort (first_of (codes "port") (rows_of (found_of found.now)))))) }
+{
+    match text_of(found, "port") {
+        Some(word) => read_port(word).map_err(|_| UsageFault::BadOption),
+        None => Ok(0),
+    }
+}
+
+/// The byte by an option of two hexadecimal digits.
+fn byte_of(found: &ArgMatches, name: &str, default: u8) -> Result<u8, UsageFault>
+    ensures { MatchResult result
+        (GivesHex 2 default (first_of name.now (rows_of (found_of found.now))))
+        (IsBadValue (Has (GivesHex 2 default (first_of name.now (rows_of (found_of found.now)))))) }
+{
+    let Some(word) = text_of(found, name) else {
+        return Ok(default);
+    };
+    match hex_written(word, 2) {
+        Some(byte) => Ok(byte as u8),
+        None => Err(UsageFault::BadOption),
+    }
+}
+
+/// The number of two bytes by an option of four hexadecimal digits.
+fn pair_of(found: &ArgMatches, name: &str, default: u16) -> Result<u16, UsageFault>
+    ensures { MatchResult result
+        (GivesHex 4 default (first_of name.now (rows_of (found_of found.now))))
+        (IsBadValue (Has (GivesHex 4 default (first_of name.now (rows_of (found_of found.now)))))) }
+{
+    let Some(word) = text_of(found, name) else {
+        return Ok(default);
+    };
+    match hex_written(word, 4) {
+        Some(pair) => Ok(pair as u16),
+        None => Err(UsageFault::BadOption),
+    }
+}
+
+/// The reply address by `--reply-address`.
+fn reply_address_of(alloc: Global, found: &ArgMatches) -> Result<Vec<u8>, UsageFault>
+    ensures ok { IfOk result (λ bytes.
+        GivesAddress (first_of (codes "reply-address") (rows_of (found_of found.now))) bytes.items) }
+    ensures err { IfErr result (IsValueFault (Has
+        (GivesAddress (first_of (codes "reply-address") (rows_of (found_of found.now)))))) }
+{
+    let Some(word) = text_of(found, "reply-address") else {
+        return Ok(Vec::new(alloc));
+    };
+    let bytes = bytes_written(alloc, word)?;
+    if bytes.len() % 4 != 0 || bytes.len() > MAX_REPLY_ADDRESS {
+        return Err(UsageFault::BadOption);
+    }
+    Ok(bytes)
+}
+
+/// The words of a header by the options. `BadOption` where one has a value that it may not have.
+pub fn header_words(alloc: Global, found: &ArgMatches) -> Result<HeaderWords, UsageFault>
+    ensures ok { IfOk result (GivesHeader (rows_of (found_of found.now))) }
+    ensures err { IfErr result (IsValueFault (Has (GivesHeader (rows_of (found_of found.now))))) }
+{
+    let port = port_of(found)?;
+    let target = byte_of(found, "target", 0xFE)?;
+    let key = byte_of(found, "key", 0)?;
+    let initiator = byte_of(found, "initiator", 0x67)?;
+    let transaction = pair_of(found, "transaction", 0)?;
+    let extended = byte_of(found, "extended", 0)?;
+    let reply_address = reply_address_of(alloc, found)?;
+    Ok(HeaderWords {
+        port,
+        target,
+        key,
+        initiator,
+        transaction,
+        extended,
+        reply_address,
+    })
+}

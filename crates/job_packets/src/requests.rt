@@ -1,0 +1,77 @@
+//! The commands that are requested of the job `packet`, each as its packet line.
+
+ghost use Rattle.std.specs.Prelude.{◌≡◌, ◌≤◌, ◌<◌, ◌^◌, ◌++◌, IfOk, IsTrue, OnOk, length, string_bytes, true};
+ghost use Rattle.rmap.specs.Writing.{AreFields, command_with};
+ghost use Rattle.job_packets.specs.Requests.{fields_with, has_reply_address, line_of, marked_line};
+
+use crate::packet_options::HeaderWords;
+use rmap::{CommandFields, Instruction, write_command};
+use std::alloc::{AllocError, Global};
+
+/// A command: its code, and the fields that differ from packet to packet.
+#[derive(Clone, Copy, Debug)]
+pub struct Request {
+    /// The command code, bits 5 to 2 of the instruction.
+    pub code: u8,
+    /// The transaction identifier.
+    pub transaction: u16,
+    /// The extended address.
+    pub extended: u8,
+    /// The address.
+    pub address: u32,
+    /// The data length, in bytes.
+    pub count: u32,
+}
+
+/// The fields of the command that is requested.
+fn fields_with<'a>(header: &'a HeaderWords, request: Request) -> CommandFields<'a>
+    requires address { has_reply_address header.now ≡ true }
+    requires code { request.code < 16 }
+    requires count { request.count < 2 ^ 24 }
+    ensures fields { AreFields result }
+    ensures same { (body : _) → command_with result body ≡ command_with (fields_with header.now request) body }
+{
+    let reply_address = header.reply_address.as_slice();
+    let words = (reply_address.len() / 4) as u8;
+    CommandFields {
+        target: header.target,
+        instruction: Instruction::command(request.code, words),
+        key: header.key,
+        reply_address,
+        initiator: header.initiator,
+        transaction: request.transaction,
+        extended: request.extended,
+        address: request.address,
+        length: request.count,
+    }
+}
+
+/// Adds a line of a port, these digits and the marker `EOP`.
+fn add_marked(text: &mut String, port: u8, digits: &str) -> Result<(), AllocError>
+    ensures { OnOk result
+        (string_bytes text.new ≡ string_bytes text.old ++ marked_line port digits.now) }
+{
+    writeln!(text, "{port} {digits} EOP")
+}
+
+/// Adds the packet line of the command that is requested, with that body.
+pub fn add_line(
+    text: &mut String,
+    alloc: Global,
+    header: &HeaderWords,
+    request: Request,
+    body: &[u8],
+) -> Result<(), AllocError>
+    requires address { has_reply_address header.now ≡ true }
+    requires code { request.code < 16 }
+    requires count { request.count < 2 ^ 24 }
+    ensures { OnOk result
+        (string_bytes text.new ≡ string_bytes text.old ++ line_of header.now request body.now) }
+{
+    let fields = fields_with(header, request);
+    let bytes = write_command(alloc, &fields, body)?;
+    let digits = hex::encode_upper(alloc, bytes.as_slice())?;
+    let port = header.port;
+    add_marked(text, port, digits.as_str())?;
+    Ok(())
+}
