@@ -1,9 +1,9 @@
 -- The marks of bytes: one more, and which stand after a write.
 use Rattle.std.proofs.Common.{◌≡◌, ◌≢◌, ℕ, zero, suc, ◌+◌, ◌<◌, ◌≤◌, Bool, true, false, ◌&&◌, ◌==◌, if◌then◌else◌, List, length, get_or, refl, sym, ◌∙◌, subst, arith, ◌⊎◌, length-set, get_or-set_same, get_or-set_other}
-use Rattle.std.proofs.Common.{replicate, inl, inr}
+use Rattle.std.proofs.Common.{inl, inr}
 use Rattle.std.proofs.lemmas.Bool.{cases_lt}
 use Rattle.std.proofs.lemmas.Bool.Decides.{nat_tests}
-use Rattle.std.proofs.lemmas.List.{set_past, get_or_past, get_or-replicate, length-replicate}
+use Rattle.std.proofs.lemmas.List.{set_past}
 use Rattle.absdom.specs.Marks.{mark_at, all_marked, marks_after}
 use Rattle.absdom.specs.Effect.{stored_marks}
 
@@ -11,10 +11,6 @@ pub length-marked : (marks : List Bool) (first n : ℕ) → length (marks_after 
 unfolding marks_after
 length-marked marks first zero = refl
 length-marked marks first (suc n) = length-set (marks_after marks first n) (first + n) true ∙ length-marked marks first n
-
-pub get_or-unmarked : (n place : ℕ) → get_or (replicate n false) place false ≡ false
-get_or-unmarked n place =
-    elim (cases_lt place n) [ inl h ↦ get_or-replicate n place false false h | inr h ↦ get_or_past (replicate n false) place false (rw (length-replicate n false) h) ]
 
 -- ---- what is marked
 
@@ -48,7 +44,7 @@ all_marked_from marks first (suc n) h =
     let last : mark_at marks (first + n) ≡ true = h n (omega arith) in
     rw (rest, last) refl
 
-equal_or_not : (m n : ℕ) → (m ≡ n) ⊎ (m ≢ n)
+pub equal_or_not : (m n : ℕ) → (m ≡ n) ⊎ (m ≢ n)
 equal_or_not m n = grind (arith, nat_tests)
 
 -- a mark stays where others are made

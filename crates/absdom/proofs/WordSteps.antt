@@ -12,7 +12,7 @@ use Rattle.absdom.specs.declared.spill.Spill.TheVariants.{Forgets, Keeps}
 use Rattle.absdom.specs.Marks.{mark_at, all_marked, AreInBoth}
 use Rattle.absdom.specs.StackWords.{all_whole, range_in, AreAllWhole, AreStackWords, is_touched, widened_from, widened, is_stack_word, AreRangesJoined, AreRangesWithin}
 use Rattle.absdom.specs.Effect.{stored_marks, stored_ranges, AreInside}
-use Rattle.absdom.proofs.MarkSteps.{marked_bytes, all_marked_from, still_marked, stored_stays, stored_made}
+use Rattle.absdom.proofs.MarkSteps.{equal_or_not, marked_bytes, all_marked_from, still_marked, stored_stays, stored_made}
 
 -- ---- the whole range
 
@@ -78,9 +78,6 @@ set_at P (r ∷ ranges) (suc word) range h w = set_at P ranges word range h w
 
 pub set_other : (ranges : List Range) (word k : ℕ) (range : Range) → k ≢ word → range_in (set ranges word range) k ≡ range_in ranges k
 set_other ranges word k range ne = get_or-set_other ranges word k range (whole_range Bits64) ne
-
-pub equal_or_not : (m n : ℕ) → (m ≡ n) ⊎ (m ≢ n)
-equal_or_not m n = grind (arith, nat_tests)
 
 pub set_each : (P : Range → Type 0) (ranges : List Range) (word : ℕ) (range : Range) → P range → P (whole_range Bits64) → ((k : ℕ) → P (range_in ranges k)) → (k : ℕ) → P (range_in (set ranges word range) k)
 set_each P ranges word range h w all k =

@@ -114,7 +114,6 @@ fn has_all(word: u64, bits: u64) -> bool
 fn bits_in(word: usize, first: usize, end: usize) -> u64
     requires first { first < 64 * word + 64 }
     requires end { 64 * word < end }
-    requires inside { end ≤ STACK_SIZE }
     ensures { AreBitsIn word first end result }
 {
     let low = first.saturating_sub(64 * word);

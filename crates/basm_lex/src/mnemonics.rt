@@ -207,7 +207,7 @@ fn named(word: &str) -> Option<Mnemonic>
     first_with_word(candidates(group_of(word)), word)
 }
 
-/// The number of the words that have the first letter and the length of this one.
+/// The group of a word: that of the words with its first letter and its length.
 fn group_of(word: &str) -> usize
     ensures value { result ≡ group_of word.now }
     ensures few { result ≤ 208 }
@@ -218,7 +218,7 @@ fn group_of(word: &str) -> usize
     }
 }
 
-/// The group of the words that begin with a letter, and have so many more.
+/// The group of the words that begin with a letter and have so many more.
 fn group_at(first: u8, more: usize) -> usize
     ensures value { result ≡ group_at first more }
     ensures few { result ≤ 208 }

@@ -87,17 +87,11 @@ unwritten p l register none h =
     let within = inside_of l h.slot h.inside in
     none h.slot within.0 (omega (arith, within.1)) h.writes
 
-pub written_at : (p : Program) (l : Loop) (register slot : ℕ) → l.head ≤ slot → slot < l.back + 1 → IsWrittenBy (insn_at p slot) register → IsWrittenIn p l register
-written_at p l register slot above below writes = record { slot = slot; inside = holds_at l slot above (omega (arith, below)); writes = writes }
-
 -- a loop none of whose slots stores
 pub unstored : (p : Program) (l : Loop) → ((k : ℕ) → l.head ≤ k → k < l.back + 1 → IsStoreAt (insn_at p k) → ⊥) → HasStore p l → ⊥
 unstored p l none h =
     let within = inside_of l h.slot h.inside in
     none h.slot within.0 (omega (arith, within.1)) h.stores
-
-pub stored_at : (p : Program) (l : Loop) (slot : ℕ) → l.head ≤ slot → slot < l.back + 1 → IsStoreAt (insn_at p slot) → HasStore p l
-stored_at p l slot above below stores = record { slot = slot; inside = holds_at l slot above (omega (arith, below)); stores = stores }
 
 -- an element does not depend on what stands for the others
 pub any_default : (xs : List Loop) (k : ℕ) (d e : Loop) → k < length xs → slice_index_or xs k d ≡ slice_index_or xs k e

@@ -11,12 +11,9 @@ use absdom::AbsKind;
 use bpf::Image;
 use bpf_insn::{Insn, Register};
 use bver::{MapSizes, Refusal, Refused, State};
-use machine::{MAX_CELLS, MapKind};
+use machine::{MAX_CELLS, MAX_MAPS, MapKind};
 use std::alloc::{AllocError, Global};
 use std::fmt::Write;
-
-/// The most maps that a node has.
-const MAX_MAPS: usize = 8;
 
 /// The most lists of maps that are tried: each has a map more than the one before, or more cells, or a peak map more.
 const MAX_LISTS: u16 = MAX_CELLS + 2 * MAX_MAPS as u16;

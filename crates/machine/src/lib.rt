@@ -25,7 +25,7 @@ pub use laws::{
 };
 pub use memory::loaded_value;
 pub use regions::{Region, STACK_SIZE};
-pub use sizes::{MAX_CELLS, MapSizes, TooMany};
+pub use sizes::{MAX_CELLS, MAX_MAPS, MapSizes, TooMany};
 pub use values::Value;
 pub use words::{
     alu_words, holds_words, low_part, modulus, negation, sign_extension, swapped_bytes, word,

@@ -10,7 +10,7 @@ use std::marker::Model;
 use thiserror::Error;
 
 /// The most maps that a node has.
-const MAX_MAPS: usize = 8;
+pub const MAX_MAPS: usize = 8;
 
 /// The most cells that all maps have together.
 pub const MAX_CELLS: u16 = 256;

@@ -2,7 +2,6 @@
 use Rattle.std.proofs.Common.{◌≡◌, inl, inr, ℕ, zero, suc, List, Option, Some, None, subst, ◌∙◌}
 use Rattle.bpf.specs.Program.{Program, image_bytes}
 use Rattle.machine.specs.Sizes.{Maps}
-use Rattle.job_parts.specs.Files.{HoldsImage}
 use Rattle.job_parts.specs.Given.{AreGiven, AreRead, HoldsNoProgram, HoldsProgram, IsNotReady}
 use Rattle.job_parts.specs.Reading.{IsNoProgram}
 use Rattle.job_parts.specs.declared.faults.Fault.{Fault}
@@ -52,10 +51,6 @@ unread : (before : FolderValue) (name : List ℕ) (given : Option (List ℕ)) (a
     → FolderReads before name given after → after ≡ before
 unread before name None after read = read
 unread before name (Some bytes) after read = read.0
-
--- a read of a file that gives a program, or none
-imaged : (before : FolderValue) (name : List ℕ) (p : Program) (after : FolderValue) → HoldsImage FolderReads before name p after → after ≡ before
-imaged before name p after holds = holds.read.0
 
 unfit : (before : FolderValue) (name : List ℕ) (maps : Maps) (after : FolderValue) (fault : Fault)
     → IsNoProgram FolderReads before name maps after fault → after ≡ before
