@@ -161,8 +161,8 @@ impl State {
         self.registers.kinds[5] = AbsKind::Unset;
     }
 
-    /// Whether the bytes of the stack from place `first` to before `end` are set.
-    pub(crate) fn are_set(&self, first: usize, end: usize) -> bool
+    /// Whether the bytes of the stack from place `first` to before `end` are set, counted from its lowest byte on.
+    pub fn are_set(&self, first: usize, end: usize) -> bool
         requires { end ≤ STACK_SIZE }
         ensures { result ≡ all_marked self.now.marks first (end - first) }
     {

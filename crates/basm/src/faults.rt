@@ -12,15 +12,16 @@ use thiserror::Error;
 
 const BAD_WORD: &str = "\
 The line begins with a word that is no instruction and no directive, or something stands behind a label.
-Compare the word with docs/BPF.md; a label stands on a line of its own.";
+Compare the word with docs/COMMANDS.md, \"The text of a program\"; a label stands on a line of its own.";
 
 const BAD_OPERAND: &str = "\
 The instruction wants other operands, another number of them, or registers from r0 to r10.
-Compare the line with the forms of docs/BPF.md: operands stand between commas, addresses between brackets.";
+Compare the line with the forms of docs/COMMANDS.md, \"The text of a program\": operands stand between commas,
+addresses between brackets.";
 
 const BAD_NUMBER: &str = "\
-A number does not fit its field: decimals are signed, with 32 bits and for `lddw` with 64, `0x` writes at most 8
-digits and for `lddw` 16, and an offset of memory has 16 bits.
+A number does not fit its field: decimals are from -2^31 to 2^31 - 1, and for `lddw` from -2^63 to 2^64 - 1; `0x`
+writes at most 8 digits and for `lddw` 16; an offset of memory is from -2^15 to 2^15 - 1.
 Write a smaller number, or load it by `lddw` first.";
 
 const BAD_LABEL: &str = "\

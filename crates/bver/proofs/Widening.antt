@@ -136,6 +136,12 @@ declared_at p l place limits inside is = record { inside = inside; is = is; few 
     low_loop : {m : Loop} → IsLoop (length p.slots) m → IsLoop MAX_SLOTS m
     low_loop loop = record { ordered = loop.ordered; within = omega (arith, loop.within, limits.slots.1); low = loop.low; high = loop.high; register = loop.register }
 
+-- the loop that is read at a place of the loops is declared there
+pub declared_read : (p : Program) (lent : List Loop) (found : Loop) (place : ℕ) → IsProgram p → place < length p.loops → lent ≡ p.loops → found ≡ slice_index_or lent place found → IsDeclared p found place
+declared_read p lent found place limits inside same read =
+    let is : slice_index_or p.loops place found ≡ found = ap (λ (xs : List Loop). slice_index_or xs place found) (sym same) ∙ sym read in
+    declared_at p found place limits inside (λ d. any_default p.loops place d found inside ∙ is)
+
 -- each kind is below itself, since each state is
 pub kind_below-refl : BelowIsReflexive → (k : AbsKind) → IsKindBelow k k
 kind_below-refl reflexive k = (reflexive (record { kinds = k ∷ []; marks = []; ranges = [] })).kinds 0

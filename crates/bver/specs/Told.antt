@@ -1,4 +1,4 @@
--- What is told of a program that is refused for what values may do wrong: what was known at the slot of the refusal.
+-- What is told of a program that is refused for what values may do wrong: a state of the slot of the refusal that shows it.
 use Rattle.std.specs.Prelude.{◌≡◌, ℕ, Some}
 use Rattle.bpf.specs.declared.loops.Loop.{Loop}
 use Rattle.bpf.specs.Program.{Program}
@@ -19,7 +19,7 @@ pub record IsClosingFaultIn (p : Program) (refused : Refused) : Type 0 where
   pub is : IsDeclared p declared place
   pub fault : IsClosingFault declared refused
 
--- the state is what was known where the program was refused: no table permits the instruction at that slot with it; a run
+-- what the state shows of the refusal: no table permits the instruction at that slot with it; a run
 -- may come with it to the head of a declared loop there with a counter outside its bound; or an edge back to the head of
 -- a declared loop there was not covered, and the state is that of the jump back
 pub data TellsKnown (p : Program) (maps : Maps) (a : StateValue) (refused : Refused) : Type 0 where

@@ -21,7 +21,7 @@ A declared loop ends in `add r, -1` and `jne r, 0, HEAD`, where r is its counter
 and a call writes r0 to r5. No jump leads to its end, and none from outside into it but to its head. Two loops
 lie apart, or one inside the other.
 Take the counter from r6 to r9, let what skips the rest of a round jump to the `add`, and compare HEAD and BACK
-with the slots in the text of `rmapctl dis`.";
+with the slots that `rmapctl dis --slots` prints.";
 
 const LOOP_ENTRY: &str = "\
 Where a run comes to a loop from outside, its counter must be a number from 1 to N, the bound in `.loop`,

@@ -55,12 +55,8 @@ pub fn field_arguments<'a>(alloc: Global, command: Command<'a>) -> Result<Comman
     let initiator = option(alloc, "initiator", "HH", help);
     let help = "The transaction identifier, of a load that of its first packet; 0000 without it";
     let transaction = option(alloc, "transaction", "HHHH", help);
-    let extended = option(
-        alloc,
-        "extended",
-        "HH",
-        "The extended address; 00 without it",
-    );
+    let help = "The extended address, but of a load, which goes to FF; 00 without it";
+    let extended = option(alloc, "extended", "HH", help);
     let help = "The reply address: 4, 8 or 12 bytes, or - for none; none without it";
     let reply_address = option(alloc, "reply-address", "HEX", help);
     command

@@ -5,12 +5,12 @@ ghost use Rattle.policy.specs.Counts.{after_draw, cell_place, next_ticket};
 ghost use Rattle.policy.specs.Meaning.{draw};
 
 use crate::rules::Quota;
-use machine::{Call, Helper, MAX_CELLS};
+use machine::{Call, Helper, MAX_CELLS, MAX_MAPS};
 use std::alloc::{AllocError, Global};
 use std::marker::Model;
 
-/// How many cells each of eight maps has a count for.
-const COUNTS: usize = 8 * MAX_CELLS as usize;
+/// How many counts there are: as many cells as all maps have together, for each map.
+const COUNTS: usize = MAX_MAPS * MAX_CELLS as usize;
 
 /// How many tickets were drawn of each cell of the maps of a node, modulo 2^64. Contracts see the counts by the place of
 /// the cell.

@@ -80,6 +80,7 @@ impl Rule {
             && agrees(self.extended, tail[EXTENDED])
             && lies_between(self.low, self.high, front, tail)
     }
+
     /// The first word of the rule that does not agree with a header, in the order of the tests: kind, key, initiator
     /// logical address, extended address, first address, last address. `None` where the rule's conditions hold.
     pub fn mismatch(&self, front: &[u8; 4], tail: &[u8; 12]) -> Option<RuleWord>

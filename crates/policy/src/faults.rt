@@ -26,9 +26,9 @@ a peak map, of which no tickets are drawn.
 Give the maps that the node has by `--maps`, and count cells from 0.";
 
 const BAD_LINE: &str = "\
-A line is `KIND KEY INITIATOR EXTENDED LOW HIGH QUOTA VERDICT`, with a space between two words, and there are no
+A line is `KIND KEY INITIATOR EXTENDED LOW HIGH QUOTA VERDICT`, with spaces between the words, and there are no
 empty lines and no comments.
-Compare the line with the table in docs/POLICIES.md.";
+Compare the line with the table in docs/POLICIES.md; `rmapctl decide LINES TABLE` tells its number and its word.";
 
 /// Why a policy table is refused.
 #[derive(Clone, Copy, Debug, PartialEq, Eq, Error)]

@@ -171,6 +171,7 @@ impl Table {
         calls.reserve(self.rules.len())?;
         Ok(decide_by(self.rules.as_slice(), front, tail, answers, calls))
     }
+
     /// By which rule the table decides on a header, whose parts are those of [`Table::decide`], where its draws are answered
     /// by counts. Each draw is appended to the calls, and counted.
     ///

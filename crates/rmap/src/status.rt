@@ -12,8 +12,8 @@ Nothing is to be done.";
 const GENERAL_ERROR: &str = "\
 There is no room for the command in the journal of its bank, or a load was refused, or the port was given no
 program.
-No command hands a journal out, and that of a node of rmapctl has room for 1,024 commands: begin anew. Or read
-the load result, whose first byte tells why.";
+A journal has room for 1,024 commands at a node of rmapctl, where `live` hands a full one out and no other job
+does; a C program hands it out by `sandbar_rotate`. Of a load read the load result, whose first byte tells why.";
 
 const UNUSED_CODE: &str = "\
 The packet type is reserved, or the four bits of command codes are none of a read, a write or a read-modify-
@@ -47,7 +47,8 @@ Write fewer bytes at once, or without verification.";
 const NOT_AUTHORISED: &str = "\
 The program says no, or the target does not do this: there is no such place, or not with this length or without
 increment.
-Compare address, length and increment with what the target has, then the program's rules.";
+Compare address, length and increment with what the target has, then the program's rules: `rmapctl decide` tells
+the rule of a table, and `rmapctl trace` the steps of a program.";
 
 const RMW_DATA_LENGTH: &str = "\
 A read-modify-write has as many bytes of data as of mask: a length of 0, 2, 4, 6 or 8 in all.

@@ -1,6 +1,6 @@
 //! The event Take: a packet is discarded, answered by its header, or judged from now on.
 
-ghost use Rattle.std.specs.Prelude.{◌≡◌, ◌<◌, None, [], length, IfOk, IfErr, OnErr};
+ghost use Rattle.std.specs.Prelude.{◌≡◌, ◌<◌, ℕ, None, [], length, IfOk, IfErr, OnErr};
 ghost use Rattle.std.specs.Arc.{arc_value};
 ghost use Rattle.rmap.specs.Command.{discard_of};
 ghost use Rattle.bank.specs.Admission.{IsPlacedBy};
@@ -37,10 +37,10 @@ fn stopped(alloc: Global, stop: Stop, reply: &ReplyBuf) -> Result<Outcome, Alloc
 
 impl World {
     /// What a port begins to judge: an admitted command, by the program that its slot shows now.
-    fn opening(&self, port: u8, admitted: Admitted) -> Result<Opening, AllocError>
+    fn opening(&self, admitted: Admitted) -> Result<Opening, AllocError>
         requires placed { IsPlacedBy self.now.windows admitted.packet admitted.place }
         ensures command { IfOk result (λ o. discard_of o.packet.bytes ≡ None) }
-        ensures begun { IfOk result (λ o. (run : RunValue)
+        ensures begun { IfOk result (λ o. (port : ℕ) (run : RunValue)
             → HasBegun port o.packet o.place (arc_value o.program) o.generation run
             → IsBegun self.now port admitted.packet run) }
     {
@@ -80,7 +80,7 @@ impl World {
         match admit(packet, &self.windows, &mut self.reply) {
             Err((stop, _packet)) => Ok(stopped(alloc, stop, &self.reply)?),
             Ok(admitted) => {
-                let opening = self.opening(port, admitted)?;
+                let opening = self.opening(admitted)?;
                 let generation = opening.generation;
                 self.ports[at].begin(opening, port);
                 Ok(Outcome::Taken(generation))

@@ -9,12 +9,12 @@ use Rattle.sched.proofs.Beginning.{IsBegin, has_begun, read_there}
 use Rattle.sched.proofs.world.World.opening.Goals as goal
 
 pub returns-clause-begun : goal.returns-clause-begun
-returns-clause-begun c = λ run begun.
+returns-clause-begun c = λ port run begun.
     let w = the_view c.self.inside in
     let place = c.args.admitted.place in
     let shown = shown_view c.shown.inside in
     let a = arc_value c.in_ok-program.program in
-    let here = subst (λ packet. HasBegun c.args.port packet place a shown.1 run) c.into_packet-packet.ensures (subst (λ at. HasBegun c.args.port c.into_packet-packet.result at a shown.1 run) c.place-place.ensures.value begun) in
+    let here = subst (λ packet. HasBegun port packet place a shown.1 run) c.into_packet-packet.ensures (subst (λ at. HasBegun port c.into_packet-packet.result at a shown.1 run) c.place-place.ensures.value begun) in
     let below : c.from.result < length w.programs = omega (arith, c.from.ensures, c.slot-slot.ensures.few, c.self.told) in
     let begins : IsBegin c.args.self.now w c.args.admitted.packet place c.from.result shown a run = record {
       is = c.self.view_is;

@@ -25,7 +25,7 @@ pub invariant_of-self-in-Ok-2 : goal.invariant_of-self-in-Ok-2
 invariant_of-self-in-Ok-2 c =
     let w = the_view c.self.inside in
     let run = c.begin.ensures.run in
-    let begun = subst (λ (v : WorldValue). IsBegun v c.args.port c.args.packet run) c.self.view_is (subst (λ packet. IsBegun w c.args.port packet run) c.in-Ok.ensures.0.packet (c.in_ok-opening-in-Ok.ensures.begun run c.begin.ensures.begun)) in
+    let begun = subst (λ (v : WorldValue). IsBegun v c.args.port c.args.packet run) c.self.view_is (subst (λ packet. IsBegun w c.args.port packet run) c.in-Ok.ensures.0.packet (c.in_ok-opening-in-Ok.ensures.begun c.args.port run c.begin.ensures.begun)) in
     let first = read_at c.self.view_is c.from-at.ensures c.requires c.index.ensures in
     let read = read_at c.self.view_is c.from-at.ensures c.requires c.index_mut.ensures.value in
     let begins : IsBeginAt c.args.self.now w c.from-at.result c.args.port c.args.packet c.index.result.now c.index_mut.result.now c.begin.new.self run = record { first = first; read = read; none = c.if-not-is_free.ensures; begun = begun; written = c.begin.ensures.written } in
@@ -35,7 +35,7 @@ pub returns-in_ok-opening-in-Ok-clause-goes_on : goal.returns-in_ok-opening-in-O
 returns-in_ok-opening-in-Ok-clause-goes_on c =
     let w = the_view c.self.inside in
     let run = c.begin.ensures.run in
-    let begun = subst (λ (v : WorldValue). IsBegun v c.args.port c.args.packet run) c.self.view_is (subst (λ packet. IsBegun w c.args.port packet run) c.in-Ok.ensures.0.packet (c.in_ok-opening-in-Ok.ensures.begun run c.begin.ensures.begun)) in
+    let begun = subst (λ (v : WorldValue). IsBegun v c.args.port c.args.packet run) c.self.view_is (subst (λ packet. IsBegun w c.args.port packet run) c.in-Ok.ensures.0.packet (c.in_ok-opening-in-Ok.ensures.begun c.args.port run c.begin.ensures.begun)) in
     let first = read_at c.self.view_is c.from-at.ensures c.requires c.index.ensures in
     let read = read_at c.self.view_is c.from-at.ensures c.requires c.index_mut.ensures.value in
     let begins : IsBeginAt c.args.self.now w c.from-at.result c.args.port c.args.packet c.index.result.now c.index_mut.result.now c.begin.new.self run = record { first = first; read = read; none = c.if-not-is_free.ensures; begun = begun; written = c.begin.ensures.written } in
