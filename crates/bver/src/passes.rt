@@ -211,8 +211,8 @@ fn visit_slot(
 }
 
 /// Passes over the slots of a program by rising slot, from a table that covers the entry. It is lent what each loop
-/// writes. It writes the region that each slot accesses. The program is judged where nothing more was lowered. The state is any one before; where
-/// the program is refused it is what was known at the slot of the refusal.
+/// writes. It writes the region that each slot accesses. The program is judged where nothing more was lowered. The state
+/// is any one before; where the program is refused it is what was known at the slot of the refusal.
 ///
 /// # Errors
 ///
