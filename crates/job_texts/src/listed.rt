@@ -31,6 +31,7 @@ fn numbered(alloc: Global, image: &Image) -> Result<String, AllocError>
     Ok(text)
 }
 
+/// Adds each instruction behind its slot, a line each.
 fn add_insns(text: &mut String, image: &Image) -> Result<(), AllocError>
     ensures { OnOk result
         (string_bytes text.new ≡ string_bytes text.old ++ numbered_lines 0 image.now.slots) }
@@ -41,6 +42,7 @@ fn add_insns(text: &mut String, image: &Image) -> Result<(), AllocError>
     Ok(())
 }
 
+/// Adds the line of the instruction at a slot, or nothing for the second slot of one that has two.
 fn add_insn(text: &mut String, slot: u16, insn: Option<Insn>) -> Result<(), AllocError>
     ensures { OnOk result
         (string_bytes text.new ≡ string_bytes text.old ++ numbered_line slot insn) }

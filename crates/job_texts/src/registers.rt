@@ -3,7 +3,7 @@
 use absdom::{AbsKind, Offsets};
 use absdom_num::Range;
 use bpf::{Image, Version};
-use bpf_insn::{Insn, Register};
+use bpf_insn::{Insn, REGISTERS, Register};
 use bver::{Region, State};
 use machine::STACK_SIZE;
 use std::alloc::AllocError;
@@ -17,7 +17,7 @@ fn add_number(text: &mut String, number: u64) -> Result<(), AllocError> {
     if number < 4096 {
         write!(text, "{number}")
     } else {
-        write!(text, "0x{number:X}")
+        write!(text, "0x{number:x}")
     }
 }
 
@@ -75,7 +75,7 @@ fn add_kind(text: &mut String, kind: AbsKind) -> Result<(), AllocError> {
 /// Adds a line with what is known of each register that is set: `r1 front+0, r3 0 to 31`.
 pub fn add_registers(text: &mut String, state: &State) -> Result<(), AllocError> {
     let mut before = "    ";
-    for number in 0..11 {
+    for number in 0..REGISTERS as u8 {
         let Some(register) = Register::new(number) else {
             continue;
         };
@@ -128,13 +128,35 @@ fn pointed_offset(state: &State, base: Register) -> Option<i32> {
 
 /// The byte of the stack at an offset, -512 to -1, counted from the lowest.
 fn stack_byte(offset: i64) -> Option<usize> {
-    if offset < -512 || offset >= 0 {
+    let size = STACK_SIZE as i64;
+    if offset < -size || offset >= 0 {
         return None;
     }
-    Some((offset + 512) as usize)
+    Some((offset + size) as usize)
 }
 
-/// Adds a line with the numbers in each word of the stack of which a load reads bytes, from that byte on.
+/// Adds the line of bytes of the stack, from `first` to before `end`, of which not all are set.
+fn add_unset(text: &mut String, first: usize, end: usize) -> Result<(), AllocError> {
+    let low = STACK_SIZE.saturating_sub(first);
+    let high = (STACK_SIZE + 1).saturating_sub(end);
+    if low == high {
+        writeln!(text, "    stack-{low} not set")
+    } else {
+        writeln!(text, "    stack-{low}..-{high} not all set")
+    }
+}
+
+/// Adds the line of a word of the stack, with the numbers that it may be.
+fn add_word(text: &mut String, state: &State, word: usize) -> Result<(), AllocError> {
+    let low = STACK_SIZE.saturating_sub(word.saturating_mul(WORD_BYTES));
+    let high = low.saturating_sub(WORD_BYTES - 1);
+    write!(text, "    stack-{low}..-{high} ")?;
+    add_range(text, state.word(word))?;
+    text.push_str("\n")
+}
+
+/// Adds a line for each word of the stack of which a load reads bytes, from that byte on: the numbers that it may be, or
+/// which bytes of it are read and not all set.
 fn add_read_words(
     text: &mut String,
     state: &State,
@@ -143,11 +165,14 @@ fn add_read_words(
 ) -> Result<(), AllocError> {
     let end = first.saturating_add(bytes).min(STACK_SIZE);
     for word in first / WORD_BYTES..end.div_ceil(WORD_BYTES) {
-        let low = STACK_SIZE.saturating_sub(word.saturating_mul(WORD_BYTES));
-        let high = low.saturating_sub(WORD_BYTES - 1);
-        write!(text, "    stack-{low}..-{high} ")?;
-        add_range(text, state.word(word))?;
-        text.push_str("\n")?;
+        let start = word.saturating_mul(WORD_BYTES);
+        let read = start.max(first);
+        let read_end = start.saturating_add(WORD_BYTES).min(end);
+        if state.are_set(read, read_end) {
+            add_word(text, state, word)?;
+        } else {
+            add_unset(text, read, read_end)?;
+        }
     }
     Ok(())
 }
