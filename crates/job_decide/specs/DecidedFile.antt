@@ -90,14 +90,13 @@ module _ {S : Type 0} (reads : Reads S) (words : DecideWords) where
       ⊎ ((text : List ℕ) × (between : S) × HoldsLines before text between
       × (name ≡ string_bytes words.table) × HoldsNoText reads between name after)
 
-  -- a file cannot be read, or the table has a fault, or memory was refused behind the reads
+  -- a file cannot be read, or memory was refused behind the reads; a table's fault is no such end, but told with its place
   abbrev pub IsUnread : (before after : S) → Fault → Type 0
   IsUnread before after (CannotRead file) = IsUntold before after file.now
   IsUnread before after (CannotWrite file) = ⊥
   IsUnread before after NoMemory = (text : List ℕ) × (rules : List Rule) × IsGiven before text rules after
   IsUnread before after (BadText fault) = ⊥
-  IsUnread before after (IsBadTable fault) =
-      (place : TableFault) × HoldsTableFault before after place × (fault ≡ policy_fault_of place)
+  IsUnread before after (IsBadTable fault) = ⊥
   IsUnread before after (BadImage fault) = ⊥
   IsUnread before after (Refused refused) = ⊥
   IsUnread before after (BadLine number fault) = ⊥

@@ -103,7 +103,7 @@ fn decide_admitted<'a, W: Write>(
 }
 
 /// Prints the status of a command that a check of its header answers, or decides on it.
-fn decide_command<'a, W: Write>(
+fn decide_on<'a, W: Write>(
     alloc: Global,
     table: &Table,
     counts: &mut Counts,
@@ -138,7 +138,7 @@ pub fn decide_packet<'a, W: Write>(
     ensures stops { IfErr result (StopsBy (IsRefused (W.contents out.old) (W.contents out.new))) }
 {
     match Command::view(packet) {
-        Ok(command) => decide_command(alloc, table, counts, port, &command, out),
+        Ok(command) => decide_on(alloc, table, counts, port, &command, out),
         Err(discard) => Ok(print_discard(out, port, discard)?),
     }
 }

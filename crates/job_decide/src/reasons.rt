@@ -2,7 +2,10 @@
 
 use machine::Call;
 use policy::{Match, Quota, Rule, RuleKind, RuleWord, last_address};
-use rmap::{BOOT_WINDOW, Command, Kind, MAX_DATA, Status, Verdict, Windows};
+use rmap::{
+    BOOT_WINDOW, CONTROL_SIZE, Command, Kind, LOAD_REGISTER, LOAD_RESULT_SIZE, MAX_DATA, Status,
+    Verdict, Windows,
+};
 use std::alloc::{AllocError, Global};
 
 /// The word of a table for a kind.
@@ -21,6 +24,7 @@ fn name_of(kind: Kind) -> &'static str {
         Kind::Read => "a read",
         Kind::Write => "a write",
         Kind::Rmw => "a read-modify-write",
+        // A check of the header answers it, and no rule is asked.
         Kind::Unused => "of no kind",
     }
 }
@@ -34,6 +38,7 @@ fn add_byte(
 ) -> Result<(), AllocError> {
     match wanted {
         Some(wanted) => writeln!(text, "{name} is {wanted:02X}, the command's {given:02X}"),
+        // No mismatch: a * agrees with each byte.
         None => writeln!(text, "{name} is *"),
     }
 }
@@ -62,8 +67,8 @@ fn add_mismatch(
             let last = last_address(command.front(), command.tail());
             writeln!(text, "the last address {last:08X} is above HIGH")
         }
-        // What a rule draws and decides is no field of a command.
-        RuleWord::Quota | RuleWord::Verdict => writeln!(text, "it agrees"),
+        // No mismatch: what a rule draws and decides is no field of a command.
+        RuleWord::Quota | RuleWord::Verdict => writeln!(text),
     }
 }
 
@@ -74,7 +79,8 @@ fn add_spent(
     drawn: Option<&Call>,
 ) -> Result<(), AllocError> {
     let (Some(quota), Some(call)) = (quota, drawn) else {
-        return writeln!(text, "it agrees");
+        // A rule that agrees and does not decide has a quota, and drew.
+        return writeln!(text);
     };
     let (ticket, map, cell) = (call.answer, call.map, call.key);
     let limit = quota.limit;
@@ -116,6 +122,23 @@ pub fn reasons(
     Ok(text)
 }
 
+/// Why the bytes of a command have no place in the boot window.
+fn add_no_boot_place(text: &mut String, command: &Command) -> Result<(), AllocError> {
+    let (address, length) = (command.address(), command.length());
+    if LOAD_REGISTER <= address && address - LOAD_REGISTER < LOAD_RESULT_SIZE {
+        let (register, read, write) = (LOAD_REGISTER, LOAD_RESULT_SIZE, CONTROL_SIZE);
+        write!(
+            text,
+            "no place, at {register:08X} there are a read of {read} bytes "
+        )?;
+        return writeln!(text, "and a write of {write}, with increment");
+    }
+    writeln!(
+        text,
+        "no place, the boot window has no {length} bytes at {address:08X}"
+    )
+}
+
 /// Why the bytes of a command have no place.
 fn add_no_place(text: &mut String, command: &Command, windows: &Windows) -> Result<(), AllocError> {
     let extended = command.extended();
@@ -129,13 +152,7 @@ fn add_no_place(text: &mut String, command: &Command, windows: &Windows) -> Resu
             )
         }
         Some(_) => writeln!(text, "no place, the address {address:08X} is in no bank"),
-        None if extended == BOOT_WINDOW => {
-            let length = command.length();
-            writeln!(
-                text,
-                "no place, the boot window has no {length} bytes at {address:08X}"
-            )
-        }
+        None if extended == BOOT_WINDOW => add_no_boot_place(text, command),
         None => writeln!(
             text,
             "no place, the extended address {extended:02X} is of no bank"
@@ -187,7 +204,8 @@ pub fn check_failed(
             writeln!(text, "a command has at most 4096 bytes, and not {length}")?;
         }
         Status::NotAuthorised => add_no_place(&mut text, command, windows)?,
-        _ => writeln!(text, "{status}")?,
+        // No check of a header answers with another status.
+        _ => writeln!(text)?,
     }
     Ok(text)
 }
