@@ -2,7 +2,7 @@ use Rattle.std.proofs.Common.{ℕ, List, subst}
 use Rattle.std.proofs.lemmas.Result.{on_ok_weaker}
 use Rattle.job_trace.specs.Judged.{PrintsRun}
 use Rattle.job_trace.proofs.Histories.{traces_command}
-use Rattle.job_trace.proofs.judged.trace_command.Goals as goal
+use Rattle.job_trace.proofs.judged.trace_taken.Goals as goal
 
 pub returns-clause-traced : goal.returns-clause-traced
 returns-clause-traced g c =
