@@ -16,6 +16,7 @@ use Rattle.job_parts.specs.declared.faults.Fault.TheVariants.{CannotRead, Cannot
 use Rattle.job_parts.specs.declared.stops.Halt.{Halt}
 use Rattle.job_parts.specs.declared.stops.Halt.TheVariants.{Ended, Unwritten}
 use Rattle.job_trace.specs.Judged.{TracesPacket}
+use Rattle.job_trace.specs.Runs.{IsShortOfMemory}
 use Rattle.job_trace.specs.Traced.{IsCutShort, IsStuck, IsStuckAt, TracesFrom, TracesLine, TracesLineFrom, TracesLines, TracesUpTo}
 
 -- ---- one line
@@ -74,7 +75,7 @@ unfolding up_to
 cut_at n lines front rest line number h later held kept left old between new (CannotRead file) are place all stuck = absurd stuck
 cut_at n lines front rest line number h later held kept left old between new (CannotWrite file) are place all stuck = absurd stuck
 cut_at n lines front rest line number h later held kept left old between new NoMemory are place all stuck =
-    (number, line, between, up_to n lines front rest line number h later held kept old between are place all)
+    (number, line, between, up_to n lines front rest line number h later held kept old between are place all, stuck)
 cut_at n lines front rest line number h later held kept left old between new (BadText fault) are place all stuck = absurd stuck
 cut_at n lines front rest line number h later held kept left old between new (BadTable fault) are place all stuck = absurd stuck
 cut_at n lines front rest line number h later held kept left old between new (BadImage fault) are place all stuck = absurd stuck
@@ -94,9 +95,9 @@ stuck_at lines front rest line number a b held kept left old between new (Ended 
 
 -- a stop for want of memory is one at the line
 pub wants_memory : (line : List ℕ) (number : ℕ) (held left : List (List ℕ)) (old new : Option (List ℕ)) (stop : Halt)
-    → StopsBy (λ (fault : Fault). fault ≡ NoMemory) stop → StopsBy (IsStuckAt line number held left old new) stop
+    → StopsBy (IsShortOfMemory old new) stop → StopsBy (IsStuckAt line number held left old new) stop
 wants_memory line number held left old new (Unwritten refused) is = tt
-wants_memory line number held left old new (Ended fault) is = subst (λ (f : Fault). IsStuckAt line number held left old new f) (sym is) tt
+wants_memory line number held left old new (Ended fault) is = subst (λ (f : Fault). IsStuckAt line number held left old new f) (sym is.0) is.1
 
 -- the node of that configuration is the node of the words
 pub node_is : (words : NodeWords) (config : NodeConfig) (program : Program) → IsConfig words.ports words.sizes config → node_of config program ≡ node_by words program

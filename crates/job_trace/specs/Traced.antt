@@ -10,6 +10,7 @@ use Rattle.job_nodes.specs.Feeds.{IsFed, IsNotFed}
 use Rattle.job_nodes.specs.Simulated.{node_by}
 use Rattle.job_parts.specs.Files.{Reads}
 use Rattle.job_parts.specs.Given.{AreGiven, IsNotReady}
+use Rattle.job_parts.specs.Printed.{PrintsMore}
 use Rattle.job_parts.specs.declared.bad_lines.BadLine.{BadLine}
 use Rattle.job_parts.specs.declared.faults.Fault.{Fault}
 use Rattle.job_parts.specs.declared.faults.Fault.TheVariants.{
@@ -59,13 +60,15 @@ IsBadAt n lines h held old new number fault =
     (line : List ℕ) × (upto : TracesUpTo n lines h held number line old new) × (left : List (List ℕ))
     × IsNotFed line upto.kept left fault
 
--- why not all lines were traced: one is bad, and nothing was printed of it; or memory was refused at one
+-- why not all lines were traced: one is bad, and nothing was printed of it; or memory was refused at one, and what was
+-- printed of the lines before it stays, with some of what is printed of it behind
 abbrev pub IsCutShort : Node → List (List ℕ) → History → (held : List (List ℕ)) → (old new : Option (List ℕ)) → Fault
     → Type 0
 IsCutShort n lines h held old new (CannotRead file) = ⊥
 IsCutShort n lines h held old new (CannotWrite file) = ⊥
 IsCutShort n lines h held old new NoMemory =
     (number : ℕ) × (line : List ℕ) × (between : Option (List ℕ)) × TracesUpTo n lines h held number line old between
+    × PrintsMore between new
 IsCutShort n lines h held old new (BadText fault) = ⊥
 IsCutShort n lines h held old new (BadTable fault) = ⊥
 IsCutShort n lines h held old new (BadImage fault) = ⊥
@@ -88,11 +91,11 @@ TracesFrom lines before after held left old new =
     (n : Node) (h : History) → IsLawfulWorld n h before
     → (later : History) × IsLawfulWorld n later after × TracesLines n lines h held later left old new
 
--- the line of this number has a fault, and nothing was printed, or memory was refused to it
+-- the line of this number has a fault, and nothing was printed; or memory was refused to it, and some may be printed of it
 abbrev pub IsStuckAt : List ℕ → (number : ℕ) → (held left : List (List ℕ)) → (old new : Option (List ℕ)) → Fault → Type 0
 IsStuckAt line number held left old new (CannotRead file) = ⊥
 IsStuckAt line number held left old new (CannotWrite file) = ⊥
-IsStuckAt line number held left old new NoMemory = Unit {0}
+IsStuckAt line number held left old new NoMemory = PrintsMore old new
 IsStuckAt line number held left old new (BadText fault) = ⊥
 IsStuckAt line number held left old new (BadTable fault) = ⊥
 IsStuckAt line number held left old new (BadImage fault) = ⊥

@@ -4,9 +4,10 @@ ghost use Rattle.std.specs.Prelude.{◌≡◌, IfErr, IfOk, IfSome, OnOk};
 ghost use Rattle.machine.specs.declared.helpers.Helper.{Helper};
 ghost use Rattle.sched.specs.Answers.{answering};
 ghost use Rattle.job_nodes.specs.JudgeJob.{discard_line};
-ghost use Rattle.job_parts.specs.Printed.{Prints};
+ghost use Rattle.job_parts.specs.Printed.{Prints, PrintsMore};
 ghost use Rattle.job_parts.specs.Stops.{StopsBy};
 ghost use Rattle.job_parts.specs.declared.faults.Fault.TheVariants.{NoMemory};
+ghost use Rattle.job_trace.specs.Runs.{IsShortOfMemory};
 ghost use Rattle.job_trace.specs.TraceJob.{taken_line};
 ghost use Rattle.job_trace.specs.Judged.{AnswersHelpers, EndsCommand, IsEnd, PrintsRun, TracesCommand, TracesPacket};
 
@@ -68,6 +69,7 @@ fn print_taken<W: Write>(out: &mut W, port: u8, slot: u8, generation: u32) -> io
 }
 
 /// Prints that the command at a port was taken, and the steps of its run, whose helpers had these answers.
+#[tactic(auto, using(crate::proofs::Striding::no_more))]
 fn print_run<'a, W: Write>(
     alloc: Global,
     world: &World,
@@ -77,7 +79,9 @@ fn print_run<'a, W: Write>(
 ) -> Result<(), Halt<'a>>
     ensures printed { OnOk result (PrintsRun port answers.now world.now
         (W.contents out.old) (W.contents out.new)) }
-    ensures stops { IfErr result (StopsBy (λ fault. fault ≡ NoMemory)) }
+    ensures more { OnOk result (PrintsMore (W.contents out.old) (W.contents out.new)) }
+    ensures stops { IfErr result (StopsBy (IsShortOfMemory
+        (W.contents out.old) (W.contents out.new))) }
 {
     let Some(standing) = world.standing(port) else {
         return Err(Halt::Ended(Fault::NoMemory));
@@ -100,6 +104,7 @@ fn ending(port: u8, place: Place) -> Event
 }
 
 /// Ends the command at a port, whose program has its verdict, and prints its reply.
+#[tactic(auto, using(crate::proofs::Striding::no_more))]
 fn end_command<'a, W: Write>(
     alloc: Global,
     world: &mut World,
@@ -108,7 +113,8 @@ fn end_command<'a, W: Write>(
 ) -> Result<(), Halt<'a>>
     ensures ended { OnOk result (EndsCommand port world.old world.new
         (W.contents out.old) (W.contents out.new)) }
-    ensures stops { IfErr result (StopsBy (λ fault. fault ≡ NoMemory)) }
+    ensures stops { IfErr result (StopsBy (IsShortOfMemory
+        (W.contents out.old) (W.contents out.new))) }
 {
     let Some(standing) = world.standing(port) else {
         return Err(Halt::Ended(Fault::NoMemory));
@@ -122,7 +128,8 @@ fn end_command<'a, W: Write>(
 }
 
 /// Judges the command that was taken at a port, and prints its run and its reply.
-fn trace_command<'a, W: Write>(
+#[tactic(auto, using(crate::proofs::Striding::no_more))]
+fn trace_taken<'a, W: Write>(
     alloc: Global,
     world: &mut World,
     port: u8,
@@ -130,7 +137,8 @@ fn trace_command<'a, W: Write>(
 ) -> Result<(), Halt<'a>>
     ensures traced { OnOk result (TracesCommand port world.old world.new
         (W.contents out.old) (W.contents out.new)) }
-    ensures stops { IfErr result (StopsBy (λ fault. fault ≡ NoMemory)) }
+    ensures stops { IfErr result (StopsBy (IsShortOfMemory
+        (W.contents out.old) (W.contents out.new))) }
 {
     let answers = answer_helpers(alloc, world, port)?;
     print_run(alloc, world, port, &answers, out)?;
@@ -146,7 +154,7 @@ fn print_discard<W: Write>(out: &mut W, port: u8, discard: Discard) -> io::Resul
 }
 
 /// Takes a packet at a port, and prints what becomes of it: the run of the program that judges it, and its reply.
-#[tactic(auto, using(crate::proofs::Histories::traces_stopped, crate::proofs::Histories::traces_judged))]
+#[tactic(auto, using(crate::proofs::Histories::traces_stopped, crate::proofs::Histories::traces_judged, crate::proofs::Striding::no_more))]
 pub fn trace_packet<'a, W: Write>(
     alloc: Global,
     world: &mut World,
@@ -156,12 +164,13 @@ pub fn trace_packet<'a, W: Write>(
 ) -> Result<(), Halt<'a>>
     ensures traced { OnOk result (TracesPacket port packet world.old world.new
         (W.contents out.old) (W.contents out.new)) }
-    ensures stops { IfErr result (StopsBy (λ fault. fault ≡ NoMemory)) }
+    ensures stops { IfErr result (StopsBy (IsShortOfMemory
+        (W.contents out.old) (W.contents out.new))) }
 {
     match step(alloc, world, Event::Take(port, packet)) {
         Ok(Outcome::Discarded(discard)) => Ok(print_discard(out, port, discard)?),
         Ok(Outcome::Answered(_, reply)) => Ok(print_reply(out, port, reply.bytes())?),
-        Ok(Outcome::Taken(_)) => trace_command(alloc, world, port, out),
+        Ok(Outcome::Taken(_)) => trace_taken(alloc, world, port, out),
         // Memory alone can be refused to it: no command is open at the port.
         _ => Err(Halt::Ended(Fault::NoMemory)),
     }

@@ -4,8 +4,7 @@ ghost use Rattle.std.specs.Prelude.{◌≡◌, ◌+◌, ◌^◌, ◌<◌, IfErr,
 ghost use Rattle.stepper.specs.Machine.{IsSameRun, state_of, step_of};
 ghost use Rattle.job_parts.specs.Printed.{Prints};
 ghost use Rattle.job_parts.specs.Stops.{StopsBy};
-ghost use Rattle.job_parts.specs.declared.faults.Fault.TheVariants.{NoMemory};
-ghost use Rattle.job_trace.specs.Runs.{IsStride, Strides, lines_within, stride_of};
+ghost use Rattle.job_trace.specs.Runs.{IsShortOfMemory, IsStride, Strides, lines_within, stride_of};
 
 use crate::changes::{Change, change_of};
 use crate::lines::print_step;
@@ -57,7 +56,8 @@ fn trace_step<'a, 'b, W: Write>(
         (W.contents out.old) (W.contents out.new)) }
     ensures run { IsSameRun machine.old machine.new }
     ensures steps { IfOk result (λ left. IfSome left (λ _. machine.new.steps ≡ machine.old.steps + 1)) }
-    ensures stops { IfErr result (StopsBy (λ fault. fault ≡ NoMemory)) }
+    ensures stops { IfErr result (StopsBy (IsShortOfMemory
+        (W.contents out.old) (W.contents out.new))) }
 {
     let slot = machine.slot();
     let Some(insn) = machine.insn() else {
@@ -82,7 +82,8 @@ pub fn trace_run<'a, W: Write>(
     ensures printed { OnOk result (Prints W.contents out.old out.new
         (lines_within machine.entry.program machine.entry.header machine.entry.sizes
         budget budget 0 (state_of machine.entry) answers.now)) }
-    ensures stops { IfErr result (StopsBy (λ fault. fault ≡ NoMemory)) }
+    ensures stops { IfErr result (StopsBy (IsShortOfMemory
+        (W.contents out.old) (W.contents out.new))) }
 {
     let mut left = answers;
     for _step in 0..budget {

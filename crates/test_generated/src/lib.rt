@@ -1,4 +1,4 @@
-//! Tests of generated programs: verifier, interpreter and slow machine agree on them.
+//! Tests of generated programs: verifier, interpreter and stepper agree on them.
 #![tactic(auto)]
 
 #[cfg(test)]

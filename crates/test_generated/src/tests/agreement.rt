@@ -1,4 +1,4 @@
-//! Random programs, on which the interpreter and the slow machine agree.
+//! Random programs, on which the interpreter and the stepper agree.
 
 use super::generator::{instructions, is_nested, program_with_loops};
 use crate::tests::checks::same;
@@ -52,7 +52,7 @@ fn agrees(
 }
 
 #[test]
-fn agrees_with_the_slow_machine(rt: HostRuntime) -> Result<(), Fail> {
+fn agrees_with_the_stepper(rt: HostRuntime) -> Result<(), Fail> {
     let mut count: u64 = 0;
     for seed in 0..PROGRAMS {
         let mut random = Random::new(seed);

@@ -1,4 +1,4 @@
-//! Random programs that ask cells, on which the interpreter by turns and the slow machine agree.
+//! Random programs that ask cells, on which the interpreter by turns and the stepper agree.
 
 ghost use Rattle.std.specs.Prelude.{◌<◌};
 
@@ -172,7 +172,7 @@ fn agrees(rt: &impl Abort, alloc: Global, seed: u64) -> Result<bool, Fail> {
 
 /// Each program is accepted. Some runs come to their verdict, and some to a question without an answer.
 #[test]
-fn programs_that_ask_agree_with_the_slow_machine(rt: HostRuntime) -> Result<(), Fail> {
+fn programs_that_ask_agree_with_the_stepper(rt: HostRuntime) -> Result<(), Fail> {
     let mut verdicts: u64 = 0;
     for seed in 0..PROGRAMS {
         if agrees(&rt, rt.alloc(), seed)? {

@@ -1,4 +1,4 @@
-//! Random programs, many of them refused, against the slow machine: what is accepted ends with a verdict
+//! Random programs, many of them refused, against the stepper: what is accepted ends with a verdict
 //! within its budget.
 
 use super::generator::{instructions, is_nested, program_with_loops};

@@ -1,5 +1,5 @@
 //! Random programs of version 2 without jumps that put numbers on the stack and load them again: after each instruction what the
-//! slow machine holds is as the verifier knows it.
+//! stepper holds is as the verifier knows it.
 
 ghost use Rattle.std.specs.Prelude.{◌<◌};
 
@@ -188,7 +188,7 @@ fn is_kept(insn: &Insn, state: &State) -> bool {
     }
 }
 
-/// Whether the slow machine goes on to the next instruction.
+/// Whether the stepper goes on to the next instruction.
 fn goes_on(machine: &mut Machine<'_>) -> bool {
     machine.steps() < 1_000 && matches!(machine.step(), Outcome::Next)
 }

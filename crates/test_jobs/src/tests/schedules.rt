@@ -15,8 +15,65 @@ use test_kit_jobs::{Folder, folder_of, job_named, perform_in};
 const QUOTA: &str =
     ".budget 8\nldmap r1, 0\nmov r2, 0\ncall 2\njlt r0, 100, +2\nmov r0, 10\nexit\nmov r0, 0\nexit\n";
 
-/// What both jobs are done with: the factory image, and the image of the quota.
-const OPTIONS: [&[&str]; 2] = [&[], &["--image", "quota", "--maps", "1"]];
+/// A program that lets one initiator pass, with one key.
+const ONE_INITIATOR: &str = "\
+.budget 10
+ldxb r3, [r1+3]
+jne r3, 0x20, bad_key
+ldxb r3, [r2+0]
+jne r3, 0x67, deny
+mov r0, 0
+exit
+bad_key:
+mov r0, 3
+exit
+deny:
+mov r0, 10
+exit
+";
+
+/// A program of version 2 that lets no command pass whose transaction identifier is below one that was shown before.
+const RISING: &str = "\
+.version 2
+.budget 11
+ldxh r6, [r2+1]
+be16 r6
+ldmap r1, 0
+mov r2, 0
+mov r3, r6
+call 3
+jne r0, r6, deny
+mov r0, 0
+exit
+deny:
+mov r0, 10
+exit
+";
+
+/// A program whose verdict is four times the last two bits of the transaction identifier, by a loop: 0, 4, 8 or 12.
+const LOOPING: &str = "\
+.budget 17
+.loop head, back, 4, r6
+ldxb r3, [r2+2]
+and r3, 3
+mov r0, 0
+mov r6, 4
+head:
+add r0, r3
+add r6, -1
+back:
+jne r6, 0, head
+exit
+";
+
+/// Programs, and with which options a node has them. The first is that of the factory, beside an image that is not used.
+const PROGRAMS: [(&str, &[&str]); 5] = [
+    (QUOTA, &[]),
+    (QUOTA, &["--image", "image", "--maps", "1"]),
+    (ONE_INITIATOR, &["--image", "image"]),
+    (RISING, &["--image", "image", "--maps", "1p"]),
+    (LOOPING, &["--image", "image"]),
+];
 
 /// Instruction bytes: writes, reads and read-modify-writes, with and without increment, reply and verification, one
 /// whose code is not used, and one of a reply.
@@ -58,7 +115,9 @@ fn header(alloc: Global, random: &mut Random, length: u8) -> Result<Vec<u8>, All
         _ => random.one_of(&PLACES),
     };
     let last = d | byte(random) & 0x1F;
-    let mut bytes = Vec::from_slice(alloc, &[0xFE, 0x01, instruction, 0x00, 0x67, 0x00])?;
+    let key = random.one_of(&[0x00, 0x20, 0x20]);
+    let initiator = random.one_of(&[0x42, 0x67, 0x67]);
+    let mut bytes = Vec::from_slice(alloc, &[0xFE, 0x01, instruction, key, initiator, 0x00])?;
     bytes.extend_from_slice(&[byte(random), extended, a, b, c, last, 0, 0, length])?;
     let sum = crc(&bytes) ^ u8::from(random.below(12) == 0);
     bytes.push(sum)?;
@@ -94,26 +153,27 @@ fn packets(alloc: Global, random: &mut Random) -> Result<(String, String), Fail>
         let marker = if random.below(8) == 0 { "EEP" } else { "EOP" };
         lines.push_str(&format!(in alloc; "0 {hex} {marker}\n")?)?;
         events.push_str(&format!(in alloc;
-            "take 0 {hex} {marker}\ncount 0\nticket 0\neffect 0\npublish 0\n"
+            "take 0 {hex} {marker}\ncount 0\nticket 0\npeak 0\neffect 0\npublish 0\n"
         )?)?;
     }
     Ok((lines, events))
 }
 
-/// The folder of both files, and of the image of the quota.
+/// The folder of both files, and of the image of a program.
 fn folder<'a>(
     rt: &(impl Threads + Wait + Sync),
     alloc: Global,
     lines: &'a str,
     events: &'a str,
+    program: &'a str,
 ) -> Result<Folder, Fail> {
     let files = [
         ("lines", lines.as_bytes()),
         ("events", events.as_bytes()),
-        ("text", QUOTA.as_bytes()),
+        ("text", program.as_bytes()),
     ];
     let mut folder = folder_of(alloc, &files).map_err(|_| "no folder")?;
-    let job = job_named(alloc, &["asm", "text", "quota"])?;
+    let job = job_named(alloc, &["asm", "text", "image"])?;
     let (_, status) = perform_in(rt, alloc, &job, &mut folder)?;
     if status == 0 {
         Ok(folder)
@@ -167,33 +227,61 @@ fn replies(alloc: Global, told: &str) -> Result<String, AllocError> {
     Ok(replies)
 }
 
-/// The lines of `trace` that `judge` prints too: all but those of runs.
-fn without_runs(alloc: Global, told: &str) -> Result<String, AllocError> {
+/// Whether the last line of a run tells a verdict from which the reply has its status, within the budget. Where it is 0, the
+/// status is that of what the command then does; of a reply that is not due it is not told. `None` where the line is none
+/// of a verdict.
+fn is_ending(step: &str, reply: &str) -> Option<bool> {
+    let (_, told) = step.split_once(" verdict ")?;
+    let (verdict, told) = told.split_once(" after ")?;
+    let (steps, budget) = told.split_once(" steps, budget ")?;
+    let is_within = steps.parse::<u32>().ok()? <= budget.parse::<u32>().ok()?;
+    let status = match verdict {
+        "0" => return Some(is_within),
+        "3" => "03",
+        "12" => "0C",
+        _ => "0A",
+    };
+    Some(is_within && (reply == "0 -" || reply.get(8..10) == Some(status)))
+}
+
+/// The lines of `trace` that `judge` prints too: all but those of runs, each of which has to end as the line behind it
+/// tells.
+fn without_runs(rt: &impl Abort, alloc: Global, told: &str) -> Result<String, AllocError> {
     let mut lines = String::new(alloc);
+    let mut run = None;
     for line in told.lines() {
-        if !line.starts_with("    ") && !line.starts_with("0 taken ") {
-            lines.push_str(line)?;
-            lines.push('\n')?;
+        if line.starts_with("    ") || line.starts_with("0 taken ") {
+            run = Some(line);
+            continue;
         }
+        if let Some(step) = run {
+            check(rt, line, is_ending(step, line) == Some(true));
+        }
+        run = None;
+        lines.push_str(line)?;
+        lines.push('\n')?;
     }
+    check(rt, "the end of a run", run.is_none());
     Ok(lines)
 }
 
 #[test]
 fn trace_agrees_with_judge(rt: HostRuntime) -> Result<(), Fail> {
     let alloc = rt.alloc();
-    let (lines, events) = packets(alloc, &mut Random::new(75))?;
-    let mut folder = folder(&rt, alloc, &lines, &events)?;
-    for options in OPTIONS {
+    let (lines, events) = packets(alloc, &mut Random::new(1))?;
+    let mut all = String::new(alloc);
+    for (program, options) in PROGRAMS {
+        let mut folder = folder(&rt, alloc, &lines, &events, program)?;
         let judged = printed(&rt, alloc, &mut folder, &["judge", "lines"], options)?;
         let traced = printed(&rt, alloc, &mut folder, &["trace", "lines"], options)?;
-        same(
-            &rt,
-            "the replies",
-            without_runs(alloc, &traced)?.as_str(),
-            judged.as_str(),
-        );
-        check(&rt, "a run", traced.as_str().contains(" after "));
+        let replies = without_runs(&rt, alloc, &traced)?;
+        same(&rt, "the replies", replies.as_str(), judged.as_str());
+        all.push_str(&traced)?;
+    }
+    for verdict in "0 after 2 |0 after 6 |0 after 8 |3 after 4 |4 after |10 after |12 after ".split(
+        '|',
+    ) {
+        check(&rt, verdict, all.as_str().contains(verdict));
     }
     Ok(())
 }
@@ -201,20 +289,20 @@ fn trace_agrees_with_judge(rt: HostRuntime) -> Result<(), Fail> {
 #[test]
 fn sim_agrees_with_judge(rt: HostRuntime) -> Result<(), Fail> {
     let alloc = rt.alloc();
-    let (lines, events) = packets(alloc, &mut Random::new(49))?;
-    let mut folder = folder(&rt, alloc, &lines, &events)?;
-    for options in OPTIONS {
+    let (lines, events) = packets(alloc, &mut Random::new(2))?;
+    let mut all = String::new(alloc);
+    for (program, options) in PROGRAMS {
+        let mut folder = folder(&rt, alloc, &lines, &events, program)?;
         let judged = printed(&rt, alloc, &mut folder, &["judge", "lines"], options)?;
         let told = printed(&rt, alloc, &mut folder, &["sim", "events"], options)?;
-        same(
-            &rt,
-            "the replies",
-            replies(alloc, &told)?.as_str(),
-            judged.as_str(),
-        );
-        for kind in "refused|discard |answered |taken |done 0 |done 4 ".split('|') {
-            check(&rt, kind, told.as_str().contains(kind));
-        }
+        let replies = replies(alloc, &told)?;
+        same(&rt, "the replies", replies.as_str(), judged.as_str());
+        all.push_str(&told)?;
+    }
+    for kind in "refused|discard |answered |taken |done 0 |done 3 |done 4 |done 10 |done 12 ".split(
+        '|',
+    ) {
+        check(&rt, kind, all.as_str().contains(kind));
     }
     Ok(())
 }

@@ -7,6 +7,6 @@ use Rattle.job_trace.proofs.judged.trace_packet.Goals as goal
 pub returns-in-Ok-Taken-clause-traced : goal.returns-in-Ok-Taken-clause-traced
 returns-in-Ok-Taken-clause-traced g c =
     let is : c.in-Ok-Taken.field-0 ≡ Taken c.in-Ok-Taken.field-0-0 = search rules in
-    on_ok_weaker c.trace_command.result
-    (λ judged. traces_judged c.args.port c.args.packet c.in-Ok-Taken.field-0-0 c.in-Ok-Taken.field-0 c.args.world.now c.step.new.world c.trace_command.new.world _ _ is c.in-Ok-Taken.ensures.goes_on judged)
-    c.trace_command.ensures.traced
+    on_ok_weaker c.trace_taken.result
+    (λ judged. traces_judged c.args.port c.args.packet c.in-Ok-Taken.field-0-0 c.in-Ok-Taken.field-0 c.args.world.now c.step.new.world c.trace_taken.new.world _ _ is c.in-Ok-Taken.ensures.goes_on judged)
+    c.trace_taken.ensures.traced
