@@ -1,5 +1,5 @@
 -- Lines that are taken in turn.
-use Rattle.std.proofs.Common.{◌≡◌, ◌<◌, ℕ, zero, suc, List, [], ◌∷◌, ◌++◌, length, take, drop, get_or, Option, refl, ap, subst, arith}
+use Rattle.std.proofs.Common.{◌≡◌, ℕ, suc, List, [], ◌∷◌, ◌++◌, length, Option, refl, subst}
 use Rattle.policy.specs.declared.rules.Rule.{Rule}
 use Rattle.job_parts.specs.Stops.{StopsBy}
 use Rattle.job_parts.specs.declared.stops.Halt.{Halt}
@@ -14,12 +14,6 @@ decides_more rules [] line a b c o p q all one =
     (c, q, subst (λ (x : Held). DecidesLine rules line x c o q) all.0 (subst (λ (x : Option (List ℕ)). DecidesLine rules line b c x q) all.1 one), (refl, refl))
 decides_more rules (first ∷ lines) line a b c o p q all one =
     (all.0, all.1, all.2, decides_more rules lines line all.0 b c all.1 p q all.3 one)
-
--- the lines round one of them
-pub around : (lines : List (List ℕ)) (n : ℕ) (line : List ℕ) → n < length lines → lines ≡ take n lines ++ get_or lines n line ∷ drop (suc n) lines
-around [] n line low = absurd (omega (arith, low))
-around (first ∷ lines) zero line low = refl
-around (first ∷ lines) (suc n) line low = ap (λ (l : List (List ℕ)). first ∷ l) (around lines n line (omega (arith, low)))
 
 -- a stop at a line is one of the lines
 pub stops_at : (rules : List Rule) (lines done rest : List (List ℕ)) (line : List ℕ) (count : ℕ) (a b c : Held) (o p q : Option (List ℕ)) (stop : Halt)

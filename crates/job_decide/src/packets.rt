@@ -1,7 +1,6 @@
 //! What is printed of a packet.
 
 ghost use Rattle.std.specs.Prelude.{◌≡◌, IfErr, OnOk};
-ghost use Rattle.job_nodes.specs.JudgeJob.{discard_line};
 ghost use Rattle.job_parts.specs.Printed.{PrintsMore, Prints};
 ghost use Rattle.job_parts.specs.Stops.{StopsBy};
 ghost use Rattle.job_decide.specs.Decided.{IsRefused, TellsCommand, TellsDecision, TellsPacket, TellsStatus};
@@ -11,11 +10,12 @@ ghost use Rattle.rmap.specs.Command.{discard_of};
 ghost use Rattle.target.specs.Nodes.{windows_of};
 
 use crate::reasons::{check_failed, reasons};
+use job_nodes::judge::print_discard;
 use job_nodes::node::node_config;
 use job_parts::stops::Halt;
 use machine::{Call, MapSizes};
 use policy::{Counts, Match, Table};
-use rmap::{Command, Discard, Status, Windows, header_fault};
+use rmap::{Command, Status, Windows, header_fault};
 use spw::Packet;
 use std::alloc::Global;
 use std::io::{self, Write};
@@ -32,14 +32,6 @@ fn print_more<W: Write>(out: &mut W, text: &str) -> io::Result<()>
     ensures { OnOk result (PrintsMore (W.contents out.old) (W.contents out.new)) }
 {
     write!(out, "{text}")
-}
-
-/// Prints that a packet was discarded: `PORT discard C`.
-fn print_discard<W: Write>(out: &mut W, port: u8, discard: Discard) -> io::Result<()>
-    ensures { OnOk result (Prints W.contents out.old out.new (discard_line port discard)) }
-{
-    let code = discard.code();
-    writeln!(out, "{port} discard {code}")
 }
 
 /// Prints that a check of its header answers a command: `PORT answered S: `, and the reason.

@@ -1,5 +1,6 @@
 mod Continuing
 mod FirstWords
 mod LinesInTurn
+pub mod LinesRound
 mod OneBank
 mod Simulating

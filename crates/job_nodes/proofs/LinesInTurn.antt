@@ -1,5 +1,5 @@
 -- Lines that are judged in turn.
-use Rattle.std.proofs.Common.{◌≡◌, ◌<◌, ℕ, zero, suc, List, [], ◌∷◌, ◌++◌, length, take, drop, get_or, Option, refl, sym, ap, subst, arith, ◌∙◌}
+use Rattle.std.proofs.Common.{◌≡◌, ℕ, suc, List, [], ◌∷◌, ◌++◌, length, Option, refl, sym, subst, ◌∙◌}
 use Rattle.job_nodes.specs.JobNode.{JobNodeValue}
 use Rattle.job_nodes.specs.Lines.{Judges, JudgesAll, IsBadPacket, IsBadLine}
 use Rattle.job_parts.specs.Stops.{StopsBy}
@@ -14,12 +14,6 @@ judges_more [] line a b c o p q all one =
     (c, q, subst (λ (x : JobNodeValue). Judges line x c o q) all.0 (subst (λ (x : Option (List ℕ)). Judges line b c x q) all.1 one), (refl, refl))
 judges_more (first ∷ lines) line a b c o p q all one =
     (all.0, all.1, all.2, judges_more lines line all.0 b c all.1 p q all.3 one)
-
--- the lines round one of them
-pub around : (lines : List (List ℕ)) (n : ℕ) (line : List ℕ) → n < length lines → lines ≡ take n lines ++ get_or lines n line ∷ drop (suc n) lines
-around [] n line low = absurd (omega (arith, low))
-around (first ∷ lines) zero line low = refl
-around (first ∷ lines) (suc n) line low = ap (λ (l : List (List ℕ)). first ∷ l) (around lines n line (omega (arith, low)))
 
 -- a stop at a line is one of the lines
 pub stops_at : (lines judged rest : List (List ℕ)) (line : List ℕ) (count : ℕ) (a b c : JobNodeValue) (o p q : Option (List ℕ)) (stop : Halt)

@@ -35,7 +35,7 @@ pub fn judge_command<'a>(alloc: Global) -> Result<Command<'a>, AllocError>
 }
 
 /// Prints that a packet was discarded: `PORT discard C`.
-fn print_discard<W: Write>(out: &mut W, port: u8, discard: Discard) -> io::Result<()>
+pub fn print_discard<W: Write>(out: &mut W, port: u8, discard: Discard) -> io::Result<()>
     ensures { OnOk result (Prints W.contents out.old out.new (discard_line port discard)) }
 {
     let code = discard.code();

@@ -3,7 +3,6 @@
 ghost use Rattle.std.specs.Prelude.{◌≡◌, IfErr, IfOk, IfSome, OnOk};
 ghost use Rattle.machine.specs.declared.helpers.Helper.{Helper};
 ghost use Rattle.sched.specs.Answers.{answering};
-ghost use Rattle.job_nodes.specs.JudgeJob.{discard_line};
 ghost use Rattle.job_parts.specs.Printed.{Prints, PrintsMore};
 ghost use Rattle.job_parts.specs.Stops.{StopsBy};
 ghost use Rattle.job_parts.specs.declared.faults.Fault.TheVariants.{NoMemory};
@@ -13,11 +12,12 @@ ghost use Rattle.job_trace.specs.Judged.{AnswersHelpers, EndsCommand, IsEnd, Pri
 
 use crate::runs::trace_run;
 use brun::Turn;
+use job_nodes::judge::print_discard;
 use job_parts::faults::Fault;
 use job_parts::replies::print_reply;
 use job_parts::stops::Halt;
 use machine::Helper;
-use rmap::{Discard, Place};
+use rmap::Place;
 use sched::{Event, Outcome, World, step};
 use spw::Packet;
 use std::alloc::Global;
@@ -143,14 +143,6 @@ fn trace_taken<'a, W: Write>(
     let answers = answer_helpers(alloc, world, port)?;
     print_run(alloc, world, port, &answers, out)?;
     end_command(alloc, world, port, out)
-}
-
-/// Prints that a packet was discarded: `PORT discard C`.
-fn print_discard<W: Write>(out: &mut W, port: u8, discard: Discard) -> io::Result<()>
-    ensures { OnOk result (Prints W.contents out.old out.new (discard_line port discard)) }
-{
-    let code = discard.code();
-    writeln!(out, "{port} discard {code}")
 }
 
 /// Takes a packet at a port, and prints what becomes of it: the run of the program that judges it, and its reply.

@@ -4,7 +4,8 @@ use Rattle.std.proofs.lemmas.List.{length-append, length-map, map_push}
 use Rattle.std.proofs.lemmas.Result.{err_from_is_err_and}
 use Rattle.spw.specs.Line.{lines_of}
 use Rattle.job_decide.specs.DecidedLines.{DecidesAll}
-use Rattle.job_decide.proofs.LinesInTurn.{around, decides_more, stops_at}
+use Rattle.job_nodes.proofs.LinesRound.{around}
+use Rattle.job_decide.proofs.LinesInTurn.{decides_more, stops_at}
 use Rattle.job_decide.proofs.decide.decide_text.Goals as goal
 
 pub loop-line-preserved : goal.loop-line-preserved

@@ -4,7 +4,8 @@ use Rattle.std.proofs.lemmas.List.{length-append, length-map, map_push}
 use Rattle.std.proofs.lemmas.Result.{err_from_is_err_and}
 use Rattle.spw.specs.Line.{lines_of}
 use Rattle.job_nodes.specs.Lines.{JudgesAll}
-use Rattle.job_nodes.proofs.LinesInTurn.{around, judges_more, stops_at}
+use Rattle.job_nodes.proofs.LinesInTurn.{judges_more, stops_at}
+use Rattle.job_nodes.proofs.LinesRound.{around}
 use Rattle.job_nodes.proofs.judge.judge_text.Goals as goal
 
 pub loop-line-preserved : goal.loop-line-preserved

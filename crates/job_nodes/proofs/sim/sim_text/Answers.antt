@@ -4,7 +4,7 @@ use Rattle.std.proofs.lemmas.List.{length-append, length-map, map_push}
 use Rattle.std.proofs.lemmas.Result.{err_from_is_err_and}
 use Rattle.spw.specs.Line.{lines_of}
 use Rattle.job_nodes.specs.Simulated.{SimulatesAll}
-use Rattle.job_nodes.proofs.LinesInTurn.{around}
+use Rattle.job_nodes.proofs.LinesRound.{around}
 use Rattle.job_nodes.proofs.Simulating.{simulates_more, simulates_none, stuck_at}
 use Rattle.job_nodes.proofs.sim.sim_text.Goals as goal
 
