@@ -278,7 +278,7 @@ fn trace_agrees_with_judge(rt: HostRuntime) -> Result<(), Fail> {
         same(&rt, "the replies", replies.as_str(), judged.as_str());
         all.push_str(&traced)?;
     }
-    for verdict in "0 after 2 |0 after 6 |0 after 8 |3 after 4 |4 after |10 after |12 after ".split(
+    for verdict in "0 after 2 |0 after 6 |0 after 9 |3 after 4 |4 after |10 after |12 after ".split(
         '|',
     ) {
         check(&rt, verdict, all.as_str().contains(verdict));
