@@ -9,7 +9,7 @@ use std::alloc::AllocError;
 use thiserror::Error;
 
 const NO_PORT: &str = "\
-A line begins with the number of its port, 0 to 31 in decimal digits, without a sign. In `live` a line of more than
+A line begins with the number of its port, 0 to 31 in decimal digits, without a sign. In `live` a line of over
 16,384 bytes that begins with no port and no `set` is this too.
 Put the port before the bytes, with a space behind it.";
 
