@@ -5,7 +5,7 @@ use Rattle.job_texts.specs.Assembled.{Assembles, IsNotAssembled}
 use Rattle.job_texts.specs.Compiled.{CompilesTable, IsNotCompiled}
 use Rattle.job_texts.specs.Disassembled.{Disassembles, IsNotPrinted}
 use Rattle.job_texts.specs.Explained.{TellsAccepted}
-use Rattle.job_decide.specs.DecidedFile.{DecidesFile, IsNotDecided}
+use Rattle.job_decide.specs.DecidedFile.{DecidesFile, IsEndedBy}
 use Rattle.job_parts.specs.Files.{Reads, Writes}
 use Rattle.job_nodes.specs.Judged.{IsNotJudged, JudgesFile}
 use Rattle.job_parts.specs.Printed.{PrintsMore, fault_line}
@@ -103,7 +103,7 @@ module _ {S : Type 0} (reads : Reads S) (writes : Writes S) where
   IsEnded (Packet words) before after old new fault = IsNotMade reads words before after fault × (new ≡ old)
   IsEnded (Show words) before after old new fault =
       IsNotShown reads before (string_bytes words.lines) after old new fault
-  IsEnded (Decide words) before after old new fault = IsNotDecided reads words before after old new fault
+  IsEnded (Decide words) before after old new fault = IsEndedBy reads words before after old new fault
   IsEnded (Trace args) before after old new fault = IsNotTraced reads args before after old new fault
 
   -- there are no packets such as the job was to make, which was told

@@ -127,6 +127,12 @@ module _ {S : Type 0} (reads : Reads S) (words : DecideWords) where
   IsNotDecided before after old new fault =
       ((new ≡ old) × IsUnread before after fault) ⊎ StopsFile before after old new fault
 
+  -- the fault ended the job: not all lines were taken, or it is the first fault of the table
+  abbrev pub IsEndedBy : (before after : S) → (old new : Option (List ℕ)) → Fault → Type 0
+  IsEndedBy before after old new fault =
+      IsNotDecided before after old new fault
+      ⊎ ((new ≡ old) × (place : TableFault) × HoldsTableFault before after place × (fault ≡ IsBadTable (policy_fault_of place)))
+
   -- a fault ended the job, and its line was printed behind what came before
   pub record TellsEnd (before after : S) (old new : Option (List ℕ)) : Type 0 where
     pub fault : Fault

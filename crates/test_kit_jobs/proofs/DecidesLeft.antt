@@ -12,7 +12,7 @@ use Rattle.job_parts.specs.declared.faults.Fault.TheVariants.{
   Refused,
   BadLine,
 }
-use Rattle.job_decide.specs.DecidedFile.{IsGiven, IsNotDecided, IsUnread, IsUntold}
+use Rattle.job_decide.specs.DecidedFile.{IsEndedBy, IsGiven, IsUnread, IsUntold}
 use Rattle.job_decide.specs.declared.decide.DecideWords.{DecideWords}
 use Rattle.test_kit_jobs.specs.Folders.{FolderReads, FolderValue}
 
@@ -40,6 +40,7 @@ unread words before after (Refused refused) is = absurd is
 unread words before after (BadLine number fault) is = absurd is
 
 pub undecided : (words : DecideWords) (before after : FolderValue) (old new : Option (List ℕ)) (fault : Fault)
-    → IsNotDecided FolderReads words before after old new fault → after ≡ before
-undecided words before after old new fault (inl is) = unread words before after fault is.1
-undecided words before after old new fault (inr stops) = decided words before stops.text stops.rules after stops.given
+    → IsEndedBy FolderReads words before after old new fault → after ≡ before
+undecided words before after old new fault (inl (inl is)) = unread words before after fault is.1
+undecided words before after old new fault (inl (inr stops)) = decided words before stops.text stops.rules after stops.given
+undecided words before after old new fault (inr faulty) = faulty.2.read.0 ∙ faulty.2.lines.read.0
