@@ -5,28 +5,16 @@ use Rattle.std.proofs.lemmas.Bool.{cases_lt}
 use Rattle.std.proofs.lemmas.Bool.Decides.{nat_tests}
 use Rattle.std.proofs.lemmas.List.{same_lists}
 use Rattle.std.proofs.lemmas.Nat.{and_le_r}
-use Rattle.std.proofs.lemmas.Nat.Bits.{bit_at_and, bit_at_or, bit_at-lt, bit_at_mask_inside, bit_at_mask_below, bit_at_ones, bit_at_ones_above, ones_shl, ones_shr, same_from_bits_below}
+use Rattle.std.proofs.lemmas.Nat.Bits.{bit_at_and, bit_at-lt, bit_at_mask_inside, bit_at_mask_below, bit_at_ones, bit_at_ones_above, ones_shl, ones_shr, same_from_bits_below}
 use Rattle.std.specs.Int.{bit_at}
 use Rattle.std.specs.Int.Bits.{bit_and, bit_or}
-use Rattle.absdom.specs.Bits.{AreBitsIn, AreBitsOf, is_bit, marks_of}
+use Rattle.bpf_insn.specs.Bits.{bit_of_either, is_bit}
+use Rattle.absdom.specs.Bits.{AreBitsIn, AreBitsOf, marks_of}
 use Rattle.absdom.specs.Marks.{AreMarkedIn, all_marked, mark_at, marks_after}
 use Rattle.absdom.proofs.MarkBits.{bit_of_both, length-marks, mark_of, unmarked_past}
 use Rattle.absdom.proofs.MarkSteps.{all_marked_from, both_left, both_right, length-marked, mark_is_new, mark_made, mark_stays, marked_bytes}
 
 -- ---- the bits of a word
-
--- a bit of one of two words
-bit_of_either : (a b i : ℕ) → is_bit (bit_or a b) i ≡ (is_bit a i || is_bit b i)
-bit_of_either a b i = ap (λ x. x == 1) (bit_at_or a b i) ∙ greatest (bit_at a i) (bit_at b i) (bit_at-lt a i) (bit_at-lt b i)
-  where
-    greatest : (x y : ℕ) → x < 2 → y < 2 → (max x y == 1) ≡ ((x == 1) || (y == 1))
-    greatest zero zero h g = refl
-    greatest zero (suc zero) h g = refl
-    greatest (suc zero) zero h g = refl
-    greatest (suc zero) (suc zero) h g = refl
-    greatest (suc (suc x)) y h g = absurd (omega arith)
-    greatest zero (suc (suc y)) h g = absurd (omega arith)
-    greatest (suc zero) (suc (suc y)) h g = absurd (omega arith)
 
 -- a word has all of these bits where they are what it has in common with them
 pub has_bits : (word bits : ℕ) → (bit_and word bits == bits) ≡ true → AreBitsOf word bits

@@ -1,7 +1,7 @@
 -- Marks as the bits of eight words, the lowest bit first.
 use Rattle.std.specs.Prelude.{◌≡◌, ◌<◌, ◌≤◌, ◌^◌, ◌+◌, ◌*◌, ◌/◌, ◌%◌, ◌==◌, ℕ, zero, suc, Bool, true, false, List, [], ◌∷◌}
 use Rattle.std.specs.Prelude.{◌++◌, length, take, drop, slice_index_or}
-use Rattle.std.specs.Int.{bit_at}
+pub use Rattle.bpf_insn.specs.Bits.{is_bit}
 use Rattle.std.proofs.Common.{refl, ap, ◌∙◌, sym, arith}
 use Rattle.std.proofs.lemmas.Bool.Decides.{nat_tests}
 use Rattle.std.proofs.Math.Seq.{take-append_seam, drop-append_seam}
@@ -32,10 +32,6 @@ words_of (suc count) bits = word_of (take 64 bits) ∷ words_of count (drop 64 b
 pub record AreWords (words : List ℕ) : Type 0 where
   pub count : length words ≡ 8
   pub each : (k : ℕ) → slice_index_or words k 0 < 2 ^ 64
-
--- whether a bit of a word is set
-abbrev pub is_bit : (word i : ℕ) → Bool
-is_bit word i = bit_at word i == 1
 
 -- a word has all of these bits
 abbrev pub AreBitsOf : (word bits : ℕ) → Type 0

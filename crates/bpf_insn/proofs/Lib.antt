@@ -7,3 +7,4 @@ pub mod Apart
 pub mod Zeros
 pub mod Read
 pub mod Named
+pub mod Clobbered

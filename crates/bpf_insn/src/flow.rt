@@ -1,10 +1,14 @@
 //! The shape of an instruction: where a run goes on after it, and which registers it names.
 
-ghost use Rattle.std.specs.Prelude.{◌≡◌};
+ghost use Rattle.std.specs.Prelude.{◌≡◌, ◌≤◌, ℕ};
+ghost use Rattle.bpf_insn.specs.Bits.{is_bit};
 ghost use Rattle.bpf_insn.specs.Flow.{accessed_base, flow_of, is_clobbered, is_named, is_written, written_register};
 
 use crate::insn::Insn;
 use bpf_parts::{Callee, Register};
+
+/// The registers that a call writes, r0 to r5, as bits: that of r0 is the lowest.
+const CLOBBERED: u16 = 0x3F;
 
 /// Where a run goes on after an instruction. Distances are in slots from the next instruction.
 #[derive(Clone, Copy, Debug, PartialEq, Eq)]
@@ -21,6 +25,20 @@ pub enum Flow {
     Ends,
     /// Nowhere: a two-slot load of an address is not supported.
     Unsupported,
+}
+
+impl Flow {
+    /// The registers that a run that goes on so may change, though the instruction does not name them, as bits: that of
+    /// r0 is the lowest. They are r0 to r5 for a call (a choice of this project).
+    #[tactic(auto, using(crate::proofs::Clobbered::clobbered_bits))]
+    pub fn clobbered(self) -> u16
+        ensures { (register : ℕ) → register ≤ 10 → is_bit result register ≡ is_clobbered self register }
+    {
+        match self {
+            Flow::Calls(_, _) => CLOBBERED,
+            Flow::GoesOn | Flow::Branches(_) | Flow::Jumps(_) | Flow::Ends | Flow::Unsupported => 0,
+        }
+    }
 }
 
 impl Insn {
@@ -71,7 +89,7 @@ impl Insn {
     pub fn writes(&self, register: Register) -> bool
         ensures { result ≡ is_written self.now register }
     {
-        is_named(self.written(), register) || is_clobbered(self.flow(), register)
+        is_named(self.written(), register) || self.flow().clobbered() >> register.number() & 1 == 1
     }
 
     /// The base register of a load or a store, through which it accesses memory.
@@ -102,15 +120,5 @@ fn is_named(named: Option<Register>, register: Register) -> bool
     match named {
         Some(named) => named.number() == register.number(),
         None => false,
-    }
-}
-
-/// Whether a run that goes on so may change the register, though the instruction does not name it.
-fn is_clobbered(flow: Flow, register: Register) -> bool
-    ensures { result ≡ is_clobbered flow register }
-{
-    match flow {
-        Flow::Calls(_, _) => register.number() <= 5,
-        Flow::GoesOn | Flow::Branches(_) | Flow::Jumps(_) | Flow::Ends | Flow::Unsupported => false,
     }
 }

@@ -1,12 +1,12 @@
 -- The registers that instructions write, as bits of a number.
-use Rattle.std.proofs.Common.{◌≡◌, ◌≢◌, ◌⊎◌, ℕ, zero, suc, ◌+◌, ◌*◌, ◌^◌, ◌%◌, ◌<◌, ◌≤◌, max, Bool, true, false, List, length, inl, inr, eqb, refl, sym, ap, subst, ◌∙◌, arith, set, length-set, get_or-set_same, get_or-set_other}
-use Rattle.std.specs.Prelude.{◌==◌, ◌||◌, ◌↔◌, IsTrue, nat_le, slice_index_or}
-use Rattle.std.specs.Int.{bit_at}
+use Rattle.std.proofs.Common.{◌≡◌, ◌≢◌, ◌⊎◌, ℕ, zero, suc, ◌+◌, ◌*◌, ◌^◌, ◌%◌, ◌<◌, ◌≤◌, Bool, true, false, List, length, inl, inr, eqb, refl, sym, ap, subst, ◌∙◌, arith, set, length-set, get_or-set_same, get_or-set_other}
+use Rattle.std.specs.Prelude.{◌==◌, ◌||◌, ◌↔◌, IsTrue, slice_index_or}
 use Rattle.std.specs.Int.Bits.{bit_or}
 use Rattle.std.proofs.lemmas.Bool.{cases_lt}
 use Rattle.std.proofs.lemmas.Bool.Decides.{nat_tests}
 use Rattle.std.proofs.lemmas.Nat.{one_shl}
-use Rattle.std.proofs.lemmas.Nat.Bits.{bit_at-lt, bit_at-zero, bit_at-pow_same, bit_at-pow_other, bit_at_or}
+use Rattle.std.proofs.lemmas.Nat.Bits.{bit_at-zero, bit_at-pow_same, bit_at-pow_other}
+use Rattle.bpf_insn.specs.Bits.{bit_of_either}
 use Rattle.bpf.specs.declared.loops.Loop.{Loop}
 use Rattle.bpf.specs.Program.{Program, insn_at}
 use Rattle.bver.specs.declared.written.Written.{Written}
@@ -34,35 +34,9 @@ has_named named register low =
         let apart : register ≢ named = grind (arith, nat_tests, e) in
         ap (λ x. x == 1) (bit_at-pow_other named register apart) ∙ sym e
 
--- r0 to r5 are those of the six lowest bits
-pub has_clobbered : (register : ℕ) → register ≤ 10 → has_register 63 register ≡ nat_le register 5
-has_clobbered zero h = refl
-has_clobbered (suc zero) h = refl
-has_clobbered (suc (suc zero)) h = refl
-has_clobbered (suc (suc (suc zero))) h = refl
-has_clobbered (suc (suc (suc (suc zero)))) h = refl
-has_clobbered (suc (suc (suc (suc (suc zero))))) h = refl
-has_clobbered (suc (suc (suc (suc (suc (suc zero)))))) h = refl
-has_clobbered (suc (suc (suc (suc (suc (suc (suc zero))))))) h = refl
-has_clobbered (suc (suc (suc (suc (suc (suc (suc (suc zero)))))))) h = refl
-has_clobbered (suc (suc (suc (suc (suc (suc (suc (suc (suc zero))))))))) h = refl
-has_clobbered (suc (suc (suc (suc (suc (suc (suc (suc (suc (suc zero)))))))))) h = refl
-has_clobbered (suc (suc (suc (suc (suc (suc (suc (suc (suc (suc (suc register))))))))))) h = absurd (omega arith)
-
 -- a register is among those of both
 pub has_either : (a b register : ℕ) → has_register (bit_or a b) register ≡ (has_register a register || has_register b register)
-has_either a b register =
-    ap (λ x. x == 1) (bit_at_or a b register)
-    ∙ greatest (bit_at a register) (bit_at b register) (bit_at-lt a register) (bit_at-lt b register)
-  where
-    greatest : (x y : ℕ) → x < 2 → y < 2 → (max x y == 1) ≡ ((x == 1) || (y == 1))
-    greatest zero zero h g = refl
-    greatest zero (suc zero) h g = refl
-    greatest (suc zero) zero h g = refl
-    greatest (suc zero) (suc zero) h g = refl
-    greatest (suc (suc x)) y h g = absurd (omega arith)
-    greatest zero (suc (suc y)) h g = absurd (omega arith)
-    greatest (suc zero) (suc (suc y)) h g = absurd (omega arith)
+has_either a b register = bit_of_either a b register
 
 -- ---- what the slots of a loop write, up to one of them
 

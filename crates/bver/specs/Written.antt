@@ -1,6 +1,6 @@
 -- What the instructions of a loop write, as the verifier keeps it.
-use Rattle.std.specs.Prelude.{◌≡◌, ◌≤◌, ◌↔◌, ℕ, Bool, ◌==◌, List, length, slice_index_or, IsTrue}
-use Rattle.std.specs.Int.{bit_at}
+use Rattle.std.specs.Prelude.{◌≡◌, ◌≤◌, ◌↔◌, ℕ, Bool, List, length, slice_index_or, IsTrue}
+use Rattle.bpf_insn.specs.Bits.{is_bit}
 use Rattle.bpf.specs.declared.loops.Loop.{Loop}
 use Rattle.bpf.specs.Program.{Program}
 use Rattle.bver.specs.declared.written.Written.{Written}
@@ -9,7 +9,7 @@ use Rattle.bver.specs.Justified.{HasStore, IsWrittenIn}
 
 -- whether a register is among those of a number, whose lowest bit stands for r0
 abbrev pub has_register : (registers register : ℕ) → Bool
-has_register registers register = bit_at registers register == 1
+has_register registers register = is_bit registers register
 
 -- the registers are those that an instruction of the loop writes, and whether one is a store is told
 pub record IsWrittenByLoop (p : Program) (l : Loop) (w : Written) : Type 0 where

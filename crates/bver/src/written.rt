@@ -4,17 +4,14 @@ ghost use Rattle.std.specs.Prelude.{◌≡◌, ◌≤◌, ◌<◌, ℕ, ◌||◌
 ghost use Rattle.bpf.specs.declared.header.TheConstants.{MAX_SLOTS};
 ghost use Rattle.bpf.specs.declared.loops.Loop.{Loop};
 ghost use Rattle.bpf.specs.Program.{IsLoop, insn_at};
-ghost use Rattle.bpf_insn.specs.Flow.{is_clobbered, is_named, is_written};
+ghost use Rattle.bpf_insn.specs.Flow.{is_named, is_written};
 ghost use Rattle.machine.specs.Laws.{is_store};
 ghost use Rattle.bver.specs.Heads.{IsDeclared};
 ghost use Rattle.bver.specs.Justified.{HasStore, IsStoreAt, IsWrittenBy, IsWrittenIn};
 ghost use Rattle.bver.specs.Written.{AreWrittenByLoops, IsWrittenByLoop, has_register};
 
 use bpf::{Image, Loop, MAX_LOOPS};
-use bpf_insn::{Flow, Insn, Register};
-
-/// The registers that a call writes, r0 to r5.
-const CLOBBERED: u16 = 0x3F;
+use bpf_insn::{Insn, Register};
 
 /// What instructions write: the registers as bits, that of r0 the lowest, and whether one of them is a store.
 #[derive(Clone, Copy, Debug)]
@@ -35,25 +32,13 @@ fn named_bits(named: Option<Register>) -> u16
     }
 }
 
-/// The bits of the registers that a run that goes on so may change, though the instruction does not name them.
-#[tactic(auto, using(crate::proofs::Masks::has_clobbered))]
-fn clobbered_bits(flow: Flow) -> u16
-    ensures { (register : ℕ) → register ≤ 10
-        → has_register result register ≡ is_clobbered flow register }
-{
-    match flow {
-        Flow::Calls(_, _) => CLOBBERED,
-        Flow::GoesOn | Flow::Branches(_) | Flow::Jumps(_) | Flow::Ends | Flow::Unsupported => 0,
-    }
-}
-
 /// The bits of the registers that an instruction writes.
 #[tactic(auto, using(crate::proofs::Masks::has_either))]
 fn written_bits(insn: &Insn) -> u16
     ensures { (register : ℕ) → register ≤ 10
         → has_register result register ≡ is_written insn.now register }
 {
-    named_bits(insn.written()) | clobbered_bits(insn.flow())
+    named_bits(insn.written()) | insn.flow().clobbered()
 }
 
 /// Whether the instruction is a store: it accesses memory, and names no register that it writes.

@@ -87,7 +87,7 @@ tickets word answers = map (λ a. a.exact) (filter (is_ticket word) answers)
 
 -- whether the call drew a ticket of that cell
 abbrev pub asks_ticket : (map key : ℕ) → Call → Bool
-asks_ticket map key c = draws_ticket c.helper && ((c.map == map) && (c.key == key))
+asks_ticket map key c = draws_ticket c.question.helper && ((c.question.map == map) && (c.question.key == key))
 
 -- the answers of the calls that drew a ticket of a cell
 abbrev pub tickets_of : (map key : ℕ) → List Call → List ℕ
@@ -109,11 +109,13 @@ is_raise word value a = (a.word == word) && (a.argument == value)
 
 -- a call that asked that cell raised it to no more than so much, and was told no more
 abbrev pub IsCallUnder : (map key value : ℕ) → Call → Type 0
-IsCallUnder map key value c = (c.map ≡ map) → (c.key ≡ key) → (c.argument ≤ value) × (c.answer ≤ value)
+IsCallUnder map key value c =
+    (c.question.map ≡ map) → (c.question.key ≡ key) → (c.question.argument ≤ value) × (c.answer ≤ value)
 
 -- whether the call raised that cell to that number
 abbrev pub asks_raise : (map key value : ℕ) → Call → Bool
-asks_raise map key value c = ((c.map == map) && (c.key == key)) && (c.argument == value)
+asks_raise map key value c =
+    ((c.question.map == map) && (c.question.key == key)) && (c.question.argument == value)
 
 -- the number is the greatest argument of the calls that asked a cell, 0 where there is none, and no call of the
 -- cell was told more

@@ -56,8 +56,8 @@ rule_text port (Some number) = decimal port ++ codes " rule " ++ decimal number
 -- the ticket that the rule drew, if it did, to the end of the line
 abbrev pub ticket_text : Option Call → List ℕ
 ticket_text None = 10 ∷ []
-ticket_text (Some call) = codes ", ticket " ++ decimal call.answer ++ codes " of " ++ decimal call.map ++ codes ":"
-    ++ decimal call.key ++ 10 ∷ []
+ticket_text (Some call) = codes ", ticket " ++ decimal call.answer ++ codes " of " ++ decimal call.question.map ++ codes ":"
+    ++ decimal call.question.key ++ 10 ∷ []
 
 -- the line of a packet on which a table decides
 abbrev pub match_line : (port : ℕ) → Match → List ℕ

@@ -60,7 +60,7 @@ fn print_ticket<W: Write>(out: &mut W, ticket: Option<Call>) -> io::Result<()>
     let Some(call) = ticket else {
         return writeln!(out);
     };
-    let (answer, map, cell) = (call.answer, call.map, call.key);
+    let (answer, map, cell) = (call.answer, call.question.map, call.question.key);
     writeln!(out, ", ticket {answer} of {map}:{cell}")
 }
 

@@ -82,7 +82,7 @@ fn add_spent(
         // A rule that agrees and does not decide has a quota, and drew.
         return writeln!(text);
     };
-    let (ticket, map, cell) = (call.answer, call.map, call.key);
+    let (ticket, map, cell) = (call.answer, call.question.map, call.question.key);
     let limit = quota.limit;
     writeln!(
         text,

@@ -4,12 +4,12 @@ use Rattle.std.proofs.lemmas.List.{append-nil}
 use Rattle.std.specs.Io.KnownBytes.{Appends}
 use Rattle.bpf.specs.Program.{Program}
 use Rattle.bpf_insn.specs.declared.insn.Insn.{Insn}
-use Rattle.machine.specs.declared.helpers.Helper.{Helper}
 use Rattle.machine.specs.Memory.{Header}
 use Rattle.machine.specs.Sizes.{Maps}
 use Rattle.machine.specs.Laws.{QuestionsGoOn}
+use Rattle.machine.specs.Runs.{call}
 use Rattle.machine.specs.State.{State}
-use Rattle.machine.specs.Step.{Question, question, Outcome, Next, Ask, Verdict, Trap, after_answer, insn_at, step, finds_maps, step_with}
+use Rattle.machine.specs.Step.{Question, Outcome, Next, Ask, Verdict, Trap, after_answer, insn_at, step, finds_maps, step_with}
 use Rattle.stepper.specs.declared.outcomes.Outcome.TheVariants as told
 use Rattle.stepper.specs.Machine.{MachineValue, state_of, step_of, IsOutcome, IsAsk, IsSameRun}
 use Rattle.job_parts.specs.Printed.{PrintsMore}
@@ -55,31 +55,23 @@ short_behind old between new (Unwritten refused) first short = tt
 
 -- ---- a step that asks
 
-same_question : (asked : Question) (helper : Helper) (map key argument : ℕ) → asked.helper ≡ helper → asked.map ≡ map → asked.key ≡ key → asked.argument ≡ argument → asked ≡ question helper map key argument
-same_question asked helper map key argument one two three four =
-    ap (λ h. question h asked.map asked.key asked.argument) one ∙ ap (λ m. question helper m asked.key asked.argument) two
-    ∙ ap (λ k. question helper map k asked.argument) three ∙ ap (λ a. question helper map key a) four
-
-outcome_asks : (o : Outcome) (helper : Helper) (map key argument : ℕ) (s t : State) → IsOutcome o (told.Ask helper map key argument) s t → (on : ℕ → State) × (o ≡ Ask (question helper map key argument) on) × (t ≡ s)
-outcome_asks (Next u) helper map key argument s t h = let e = h.0 in absurd cc
-outcome_asks (Ask asked on) helper map key argument s t h =
+outcome_asks : (o : Outcome) (asked : Question) (s t : State) → IsOutcome o (told.Ask asked) s t → (on : ℕ → State) × (o ≡ Ask asked on) × (t ≡ s)
+outcome_asks (Next u) asked s t h = let e = h.0 in absurd cc
+outcome_asks (Ask other on) asked s t h =
     let e = h.0 in
-    let one : asked.helper ≡ helper = cc in
-    let two : asked.map ≡ map = cc in
-    let three : asked.key ≡ key = cc in
-    let four : asked.argument ≡ argument = cc in
-    (on, ap (λ (q : Question). Ask q on) (same_question asked helper map key argument one two three four), h.1)
-outcome_asks (Verdict verdict) helper map key argument s t h = let e = h.0 in absurd cc
-outcome_asks Trap helper map key argument s t h = let e = h.0 in absurd cc
+    let same : other ≡ asked = cc in
+    (on, ap (λ (q : Question). Ask q on) same, h.1)
+outcome_asks (Verdict verdict) asked s t h = let e = h.0 in absurd cc
+outcome_asks Trap asked s t h = let e = h.0 in absurd cc
 
 same_step : (sizes sizes' : Maps) (program program' : Program) (header header' : Header) (s s' : State) → sizes ≡ sizes' → program ≡ program' → header ≡ header' → s ≡ s' → step_with sizes program header s ≡ step_with sizes' program' header' s'
 same_step sizes sizes' program program' header header' s s' e f g h = rw (e, f, g, h) refl
 
 -- the question stands after the step, which leaves the state
-pub still_asks : (m after : MachineValue) (helper : Helper) (map key argument : ℕ) → IsOutcome (step_of m) (told.Ask helper map key argument) (state_of m) (state_of after) → IsSameRun m after → IsAsk (step_of after)
-still_asks m after helper map key argument outcome same =
-    let asks = outcome_asks _ helper map key argument _ _ outcome in
-    let again : step_of after ≡ Ask (question helper map key argument) asks.0 = same_step _ _ _ _ _ _ (state_of after) (state_of m) same.sizes same.program same.header asks.2 ∙ asks.1 in
+pub still_asks : (m after : MachineValue) (asked : Question) → IsOutcome (step_of m) (told.Ask asked) (state_of m) (state_of after) → IsSameRun m after → IsAsk (step_of after)
+still_asks m after asked outcome same =
+    let asks = outcome_asks _ asked _ _ outcome in
+    let again : step_of after ≡ Ask asked asks.0 = same_step _ _ _ _ _ _ (state_of after) (state_of m) same.sizes same.program same.header asks.2 ∙ asks.1 in
     subst (λ (o : Outcome). IsAsk o) (sym again) tt
 
 choice : (b : Bool) (x o : Outcome) → cond b x Trap ≡ o → (o ≡ Trap → ⊥) → x ≡ o
@@ -87,18 +79,17 @@ choice true x o e no_trap = e
 choice false x o e no_trap = absurd (no_trap (sym e))
 
 -- a step that asks, and its answer
-pub strides_ask : QuestionsGoOn → (m asked after : MachineValue) (helper : Helper) (map key argument answer : ℕ) (answers left : List ℕ) (made budget : ℕ) (insn : Insn)
-    → IsOutcome (step_of m) (told.Ask helper map key argument) (state_of m) (state_of asked) → answers ≡ answer ∷ left → state_of after ≡ after_answer (state_of asked) answer
-    → stride_of made budget m.slot insn answers (step_of m) ≡ On (changes.Told map key answer) (state_of after) left
-strides_ask goes_so m asked after helper map key argument answer answers left made budget insn outcome given goes_on =
-    let asks = outcome_asks _ helper map key argument _ _ outcome in
-    let asked_is = question helper map key argument in
-    let no_trap : Ask asked_is asks.0 ≡ Trap → ⊥ = λ e. cc in
-    let bare : step m.program m.header (state_of m) ≡ Ask asked_is asks.0 = choice (finds_maps m.sizes (state_of m) (insn_at m.program m.slot)) _ _ asks.1 no_trap in
-    let on_is = goes_so m.program m.header (state_of m) asked_is asks.0 bare in
+pub strides_ask : QuestionsGoOn → (m paused after : MachineValue) (asked : Question) (answer : ℕ) (answers left : List ℕ) (made budget : ℕ) (insn : Insn)
+    → IsOutcome (step_of m) (told.Ask asked) (state_of m) (state_of paused) → answers ≡ answer ∷ left → state_of after ≡ after_answer (state_of paused) answer
+    → stride_of made budget m.slot insn answers (step_of m) ≡ On (changes.Told (call asked answer)) (state_of after) left
+strides_ask goes_so m paused after asked answer answers left made budget insn outcome given goes_on =
+    let asks = outcome_asks _ asked _ _ outcome in
+    let no_trap : Ask asked asks.0 ≡ Trap → ⊥ = λ e. cc in
+    let bare : step m.program m.header (state_of m) ≡ Ask asked asks.0 = choice (finds_maps m.sizes (state_of m) (insn_at m.program m.slot)) _ _ asks.1 no_trap in
+    let on_is = goes_so m.program m.header (state_of m) asked asks.0 bare in
     let reached : asks.0 answer ≡ state_of after = ap (λ (f : ℕ → State). f answer) on_is ∙ sym (goes_on ∙ ap (λ s. after_answer s answer) asks.2) in
     ap₂ (λ (xs : List ℕ) (o : Outcome). stride_of made budget m.slot insn xs o) given asks.1
-    ∙ ap (λ (t : State). On (changes.Told map key answer) t left) reached
+    ∙ ap (λ (t : State). On (changes.Told (call asked answer)) t left) reached
 
 -- ---- lines
 

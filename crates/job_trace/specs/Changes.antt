@@ -86,8 +86,9 @@ change_text (changes.Stored place size n) =
     stack_text place (size_bytes size) ++ codes " = " ++ reply_text (take (size_bytes size) (to_le_bytes w64 n))
 change_text changes.NotTaken = codes "not taken"
 change_text (changes.Jumped slot) = codes "to " ++ decimal slot
-change_text (changes.Told map key told) =
-    codes "map " ++ decimal map ++ codes " cell " ++ decimal key ++ codes ": told " ++ number_text told
+change_text (changes.Told call) =
+    codes "map " ++ decimal call.question.map ++ codes " cell " ++ decimal call.question.key ++ codes ": told "
+    ++ number_text call.answer
 change_text (changes.Ended verdict steps budget) =
     codes "verdict " ++ number_text verdict ++ codes " after " ++ decimal steps ++ codes " steps, budget " ++ decimal budget
 change_text changes.Nothing = []

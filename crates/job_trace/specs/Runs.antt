@@ -5,6 +5,7 @@ use Rattle.std.specs.Io.KnownBytes.{Appends}
 use Rattle.bpf.specs.Program.{Program}
 use Rattle.bpf_insn.specs.declared.insn.Insn.{Insn}
 use Rattle.machine.specs.Memory.{Header}
+use Rattle.machine.specs.Runs.{call}
 use Rattle.machine.specs.Sizes.{Maps}
 use Rattle.machine.specs.State.{State}
 use Rattle.machine.specs.Step.{Outcome, Next, Ask, Verdict, Trap, insn_at, step_with}
@@ -28,7 +29,7 @@ abbrev pub stride_of : (made budget slot : ℕ) → Insn → (answers : List ℕ
 stride_of made budget slot insn answers (Next t) = On (change_of insn slot t) t answers
 stride_of made budget slot insn [] (Ask question on) = Stuck
 stride_of made budget slot insn (answer ∷ answers) (Ask question on) =
-    On (changes.Told question.map question.key answer) (on answer) answers
+    On (changes.Told (call question answer)) (on answer) answers
 stride_of made budget slot insn answers (Verdict verdict) = Last (changes.Ended verdict made budget)
 stride_of made budget slot insn answers Trap = Stuck
 

@@ -8,7 +8,7 @@ ghost use Rattle.job_trace.specs.Changes.{change_of, change_text, jumped, number
 
 use bpf_insn::{Insn, MemoryOperand, Operand, Register, Size};
 use job_parts::replies::print_bytes;
-use machine::{Region, STACK_SIZE, Value};
+use machine::{Call, Region, STACK_SIZE, Value};
 use std::io::{self, Write};
 use stepper::Machine;
 
@@ -23,8 +23,8 @@ pub enum Change {
     NotTaken,
     /// A jump goes on at this slot.
     Jumped(u32),
-    /// A helper was told of the cell of a map and a key.
-    Told(u8, u16, u64),
+    /// A helper was told its answer.
+    Told(Call),
     /// The program ended with a verdict after so many steps, within its budget.
     Ended(u64, u32, u32),
     /// Nothing that is told.
@@ -146,9 +146,10 @@ pub fn print_change<W: Write>(out: &mut W, change: Change) -> io::Result<()>
         Change::Stored(place, size, number) => print_stored(out, place, size, number),
         Change::NotTaken => write!(out, "not taken"),
         Change::Jumped(slot) => write!(out, "to {slot}"),
-        Change::Told(map, key, told) => {
+        Change::Told(call) => {
+            let (map, key) = (call.question.map, call.question.key);
             write!(out, "map {map} cell {key}: told ")?;
-            print_number(out, told)
+            print_number(out, call.answer)
         }
         Change::Ended(verdict, steps, budget) => {
             write!(out, "verdict ")?;

@@ -27,14 +27,23 @@ use stepper::Machine;
 /// How many questions a run has at most: no more than a budget allows it steps.
 const MOST_QUESTIONS: u32 = 0x1_0000;
 
+/// The event that answers a helper at the port.
+fn answered_by(helper: Helper, port: u8) -> Event
+    ensures { result ≡ answering helper port }
+{
+    match helper {
+        Helper::Count => Event::Count(port),
+        Helper::Ticket => Event::Ticket(port),
+        Helper::Peak => Event::Peak(port),
+    }
+}
+
 /// The event that answers the helper that a program at the port asks, or `None` where it asks none.
 fn question(world: &World, port: u8) -> Option<Event>
     ensures { IfSome result (λ event. (helper : Helper) × (event ≡ answering helper port)) }
 {
     match world.standing(port)?.turn {
-        Turn::Ask(Helper::Count, _, _, _) => Some(Event::Count(port)),
-        Turn::Ask(Helper::Ticket, _, _, _) => Some(Event::Ticket(port)),
-        Turn::Ask(Helper::Peak, _, _, _) => Some(Event::Peak(port)),
+        Turn::Ask(asked) => Some(answered_by(asked.helper, port)),
         Turn::Verdict(_) => None,
     }
 }

@@ -10,7 +10,7 @@ use crate::changes::{Change, change_of};
 use crate::lines::print_step;
 use bpf_insn::Insn;
 use job_parts::stops::Halt;
-use machine::questions_go_on;
+use machine::{Call, questions_go_on};
 use std::alloc::Global;
 use std::io::Write;
 use stepper::{Machine, Outcome};
@@ -33,10 +33,11 @@ fn stride<'b>(
     let slot = machine.slot();
     match machine.step() {
         Outcome::Next => Some((change_of(insn, slot, machine), Some(answers))),
-        Outcome::Ask { map, key, .. } => {
-            let (told, left) = answers.split_first()?;
-            machine.answer(*told);
-            Some((Change::Told(map, key, *told), Some(left)))
+        Outcome::Ask(question) => {
+            let (answer, left) = answers.split_first()?;
+            let answer = *answer;
+            machine.answer(answer);
+            Some((Change::Told(Call { question, answer }), Some(left)))
         }
         Outcome::Verdict(verdict) => Some((Change::Ended(verdict, machine.steps(), budget), None)),
         Outcome::Trap => None,

@@ -7,3 +7,4 @@ mod Leaving
 mod Asking
 mod Reading
 mod Front
+mod Deciding

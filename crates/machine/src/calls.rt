@@ -2,9 +2,9 @@
 
 use crate::helpers::Helper;
 
-/// A helper's call that was answered: which helper asked which map for which key, with which argument, and the answer.
+/// A helper's question: which helper asks which map for which key, and with which argument.
 #[derive(Clone, Copy, Debug, PartialEq, Eq)]
-pub struct Call {
+pub struct Question {
     /// The helper.
     pub helper: Helper,
     /// The index of the map.
@@ -13,6 +13,13 @@ pub struct Call {
     pub key: u16,
     /// The number in r3 for `peak`, 0 for the other helpers.
     pub argument: u64,
-    /// What the helper answered, in r0.
+}
+
+/// A helper's call that was answered.
+#[derive(Clone, Copy, Debug, PartialEq, Eq)]
+pub struct Call {
+    /// What the helper asked.
+    pub question: Question,
+    /// What it answered, in r0.
     pub answer: u64,
 }

@@ -1,7 +1,7 @@
 //! Laws of the machine: what its definition comes to. These functions do nothing; their contracts are
 //! the laws.
 
-ghost use Rattle.machine.specs.Laws.{AnswersDecide, RunsAgree, RunsFromTheFront, HaltsAgree, SizesOnlyTrap, StepPerforms, InstructionsLeave, StepsLeave, InstructionsAsk, StepsAsk, QuestionsAreAnswerable, InstructionsGoOn, QuestionsGoOn, BytesAreRead, SameBytes, ResultsFit, NumbersFit, ArgumentsFit, VerdictsFit};
+ghost use Rattle.machine.specs.Laws.{AnswersDecide, RunsAgree, RunsFromTheFront, HaltsAgree, SizesOnlyTrap, StepPerforms, InstructionsLeave, StepsLeave, InstructionsAsk, StepsAsk, QuestionsAreAnswerable, InstructionsGoOn, QuestionsGoOn, BytesAreRead, SameBytes, ResultsFit, NumbersFit, ArgumentsFit, VerdictsFit, SafeComesToVerdict};
 
 /// A run has one verdict, and one number of steps, for a header, a port and a list of helper calls.
 pub fn runs_agree()
@@ -78,4 +78,9 @@ pub fn results_fit()
 pub fn numbers_fit()
     ensures numbers { NumbersFit }
     ensures verdicts { VerdictsFit }
+{}
+
+/// A safe program comes to a verdict within its budget, on every header, at every port, and whatever its helpers answer.
+pub fn safe_comes_to_verdict()
+    ensures { SafeComesToVerdict }
 {}

@@ -15,13 +15,13 @@ mod sizes;
 mod values;
 mod words;
 
-pub use calls::Call;
+pub use calls::{Call, Question};
 pub use helpers::Helper;
 pub use kinds::MapKind;
 pub use laws::{
     halts_agree, numbers_fit, questions_are_answerable, questions_go_on, results_fit, runs_agree,
-    runs_from_the_front, same_bytes, sizes_only_trap, steps_ask, steps_leave, steps_perform,
-    stored_bytes_are_read,
+    runs_from_the_front, safe_comes_to_verdict, same_bytes, sizes_only_trap, steps_ask,
+    steps_leave, steps_perform, stored_bytes_are_read,
 };
 pub use memory::loaded_value;
 pub use regions::{Region, STACK_SIZE};

@@ -82,8 +82,8 @@ pub record HasMeaning (rules : List Rule) (program : Program) : Type 0 where
 
 -- the call is of a cell that is there, in a counter map
 pub record IsOfCounter (sizes : Maps) (c : Call) : Type 0 where
-  pub inside : IsInside sizes c.map c.key
-  pub kind : kind_of_map sizes c.map ≡ Counter
+  pub inside : IsInside sizes c.question.map c.question.key
+  pub kind : kind_of_map sizes c.question.map ≡ Counter
 
 -- every cell that the table draws from is there, in a counter map
 abbrev pub HasCells : Maps → List Rule → Type 0

@@ -40,7 +40,7 @@ after_draw counts map cell = slice_set counts (cell_place map cell) ((drawn_of c
 -- the counts after some draws
 abbrev pub after_draws : List ℕ → List Call → List ℕ
 after_draws counts [] = counts
-after_draws counts (c ∷ cs) = after_draws (after_draw counts c.map c.key) cs
+after_draws counts (c ∷ cs) = after_draws (after_draw counts c.question.map c.question.key) cs
 
 -- the ticket of a rule whose conditions hold, before those of the rest
 abbrev pub ticket_before : Option Quota → (counts : List ℕ) → (rest : List ℕ → List ℕ) → List ℕ

@@ -5,7 +5,7 @@ ghost use Rattle.policy.specs.Counts.{after_draw, cell_place, next_ticket};
 ghost use Rattle.policy.specs.Meaning.{draw};
 
 use crate::rules::Quota;
-use machine::{Call, Helper, MAX_CELLS, MAX_MAPS};
+use machine::{Call, Helper, MAX_CELLS, MAX_MAPS, Question};
 use std::alloc::{AllocError, Global};
 use std::marker::Model;
 
@@ -58,10 +58,12 @@ impl Counts {
             *count = count.wrapping_add(1);
         }
         Call {
-            helper: Helper::Ticket,
-            map: quota.map,
-            key: quota.cell,
-            argument: 0,
+            question: Question {
+                helper: Helper::Ticket,
+                map: quota.map,
+                key: quota.cell,
+                argument: 0,
+            },
             answer,
         }
     }

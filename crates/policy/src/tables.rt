@@ -19,7 +19,7 @@ use crate::lines::read_rules;
 use crate::matching::{Match, match_of};
 use crate::rules::{Quota, Rule};
 use crate::table_faults::TableFault;
-use machine::{Call, Helper, MapSizes};
+use machine::{Call, Helper, MapSizes, Question};
 use rmap::Verdict;
 use std::alloc::{AllocError, Global};
 use std::marker::Model;
@@ -56,10 +56,12 @@ fn draw(quota: &Quota, answer: u64) -> Call
     ensures { result ≡ draw_of quota.now answer }
 {
     Call {
-        helper: Helper::Ticket,
-        map: quota.map,
-        key: quota.cell,
-        argument: 0,
+        question: Question {
+            helper: Helper::Ticket,
+            map: quota.map,
+            key: quota.cell,
+            argument: 0,
+        },
         answer,
     }
 }

@@ -10,7 +10,7 @@ use Rattle.machine.specs.declared.helpers.Helper.TheVariants as helpers
 use Rattle.machine.specs.Memory.{Header, IsHeader}
 use Rattle.machine.specs.Runs.{AreAnswered, IsSafe, Path, entry, moves, answered, call}
 use Rattle.machine.specs.State.{State}
-use Rattle.machine.specs.Step.{Question, Ask, step}
+use Rattle.machine.specs.Step.{Question, question, Ask, step}
 use Rattle.policy.specs.Compiled.{HasMeaning}
 use Rattle.policy.specs.Matching.{matching_quota}
 use Rattle.policy.specs.Meaning.{decision, draw, told_by}
@@ -24,7 +24,7 @@ use Rattle.sched.specs.Headline.{Begins, EveryScheduleJudgesOnce, IsJudgedOnce, 
 use Rattle.sched.specs.History.{History, Start, Then, Open, after_answer, opened, opened_by, port_of, taken_by, with_answer}
 use Rattle.sched.specs.Lawful.{IsLawful, IsOutcomeAt, IsPublishOutcome, IsPublishedBy, effect_at_turn, effect_outcome, take_outcome, helper_outcome}
 use Rattle.sched.specs.Looking.{Node, cell_asked, draws, header_in, is_cell, program_of, turn_at, turn_by, turn_of}
-use Rattle.sched.specs.Turns.{AreWords, HasAsked, HasEnded, TurnsArePaths, answers_of, asking}
+use Rattle.sched.specs.Turns.{AreWords, HasAsked, HasEnded, TurnsArePaths, answers_of}
 use Rattle.quotas.specs.Matches.{IsMatched, MatchesAreCounted, from_take}
 use Rattle.quotas.proofs.Beginnings.{lawful_before}
 use Rattle.quotas.proofs.Deciding.{EndsInDraw, ends_in_draw}
@@ -105,34 +105,34 @@ told_last (Then h event outcome) port o answers last e is =
 record AskedFor (program : Program) (header : Header) (port : ℕ) (calls : List Call) (c : Call) : Type 0 where
   steps : ℕ
   last : State
-  question : Question
+  asked : Question
   on : ℕ → State
   path : Path program header port calls steps last
-  asks : step program header last ≡ Ask question on
-  is : call question c.answer ≡ c
+  asks : step program header last ≡ Ask asked on
+  is : call asked c.answer ≡ c
 
 asked_for : (program : Program) (header : Header) (port : ℕ) (before : List Call) (c : Call) {calls : List Call} {n : ℕ} {s : State} → Path program header port calls n s → calls ≡ before ++ c ∷ []
     → AskedFor program header port before c
 asked_for program header port before c entry e = absurd (no_end before c e)
 asked_for program header port before c (moves path steps) e = asked_for program header port before c path e
-asked_for program header port before c (answered {calls = calls} {n = n} {s = s} {question = question} {on = on} answer path asks small) e =
-    let same : call question answer ≡ c = snoc_last calls before (call question answer) c e in
-    let front : calls ≡ before = snoc_front calls before (call question answer) c e in
+asked_for program header port before c (answered {calls = calls} {n = n} {s = s} {question = asked} {on = on} answer path asks small) e =
+    let same : call asked answer ≡ c = snoc_last calls before (call asked answer) c e in
+    let front : calls ≡ before = snoc_front calls before (call asked answer) c e in
     record {
       steps = n;
       last = s;
-      question = question;
+      asked = asked;
       on = on;
       path = subst (λ (cs : List Call). Path program header port cs n s) front path;
       asks = asks;
-      is = ap (λ (x : Call). call question x.answer) (sym same) ∙ same;
+      is = ap (λ (x : Call). call asked x.answer) (sym same) ∙ same;
     }
 
 -- ---- the event that told it
 
 -- an event that is told something where the program asks `ticket` for a cell draws a ticket of that
 ticket_asked : (n : Node) (h : History) (event : Event) (told map key : ℕ) (o : Open) → IsOutcomeAt n h event (Told told) → opened h (port_of event) ≡ Some o
-    → turn_at n h (port_of event) ≡ Some (turns.Ask helpers.Ticket map key 0) → draws (turn_at n h (port_of event)) event map key ≡ true
+    → turn_at n h (port_of event) ≡ Some (turns.Ask (question helpers.Ticket map key 0)) → draws (turn_at n h (port_of event)) event map key ≡ true
 ticket_asked n h (Take port packet) told map key o at is_open asks =
     let refused : take_outcome n h packet (opened h port) ≡ Refused = ap (λ (x : Option Open). take_outcome n h packet x) is_open in
     let no : Told told ≡ Refused = at ∙ refused in cc
@@ -145,11 +145,11 @@ ticket_asked n h (Peak port) told map key o at is_open asks =
 ticket_asked n h (Ticket port) told map key o at is_open asks =
     ap (λ (t : Option Turn). is_cell (cell_asked helpers.Ticket t) map key) asks ∙ and_from (map == map) (key == key) (eq-eqb map map refl) (eq-eqb key key refl)
 ticket_asked n h (Effect port) told map key o at is_open asks =
-    let stands : turn_of n port o ≡ Some (turns.Ask helpers.Ticket map key 0) = sym (ap (λ (x : Option Open). turn_by n port x) is_open) ∙ asks in
+    let stands : turn_of n port o ≡ Some (turns.Ask (question helpers.Ticket map key 0)) = sym (ap (λ (x : Option Open). turn_by n port x) is_open) ∙ asks in
     let refused : effect_outcome n h port (opened h port) ≡ Refused = ap (λ (x : Option Open). effect_outcome n h port x) is_open ∙ ap (λ (t : Option Turn). effect_at_turn n h port o t) stands in
     let no : Told told ≡ Refused = at ∙ refused in cc
 ticket_asked n h (Publish port) told map key o at is_open asks =
-    let stands : turn_of n port o ≡ Some (turns.Ask helpers.Ticket map key 0) = sym (ap (λ (x : Option Open). turn_by n port x) is_open) ∙ asks in
+    let stands : turn_of n port o ≡ Some (turns.Ask (question helpers.Ticket map key 0)) = sym (ap (λ (x : Option Open). turn_by n port x) is_open) ∙ asks in
     let by_open : IsPublishedBy n h port o (turn_of n port o) (Told told) = subst (λ (x : Option Open). IsPublishOutcome n h port x (Told told)) is_open at in
     let no : Told told ≡ Refused = subst (λ (t : Option Turn). IsPublishedBy n h port o t (Told told)) stands by_open in cc
 
@@ -197,11 +197,11 @@ module _ (paths : TurnsArePaths) (n : Node) (h : History) (port : ℕ) (o : Open
       let command : Open = with_answers o front in
       let asked : AskedFor program header port last.before (draw quota last.answer) = asked_for program header port last.before (draw quota last.answer) ended.run.2.path calls in
       let words : AreWords front = front_words front last.answer (subst (λ (xs : List ℕ). All (λ answer. answer < 2 ^ 64) xs) answers ran.words) in
-      let by_path : HasAsked program header port front asked.question = record { calls = last.before; answered = refl; steps = asked.steps; last = asked.last; on = asked.on; path = asked.path; asks = asked.asks } in
-      let stands : turn_of n port command ≡ Some (asking asked.question) = ((paths program n.sizes header port front ran.safe ran.header low words).asks asked.question).1 by_path in
-      let question : asking asked.question ≡ turns.Ask helpers.Ticket quota.map quota.cell 0 = ap (λ (c : Call). turns.Ask c.helper c.map c.key c.argument) asked.is in
-      let at_port : turn_at n was.before port ≡ Some (turns.Ask helpers.Ticket quota.map quota.cell 0) = ap (λ (x : Option Open). turn_by n port x) was.is_open ∙ stands ∙ ap (λ (t : Turn). Some t) question in
-      let there : turn_at n was.before (port_of was.event) ≡ Some (turns.Ask helpers.Ticket quota.map quota.cell 0) = ap (λ (p : ℕ). turn_at n was.before p) was.own ∙ at_port in
+      let by_path : HasAsked program header port front asked.asked = record { calls = last.before; answered = refl; steps = asked.steps; last = asked.last; on = asked.on; path = asked.path; asks = asked.asks } in
+      let stands : turn_of n port command ≡ Some (turns.Ask asked.asked) = ((paths program n.sizes header port front ran.safe ran.header low words).asks asked.asked).1 by_path in
+      let same : turns.Ask asked.asked ≡ turns.Ask (question helpers.Ticket quota.map quota.cell 0) = ap (λ (c : Call). turns.Ask c.question) asked.is in
+      let at_port : turn_at n was.before port ≡ Some (turns.Ask (question helpers.Ticket quota.map quota.cell 0)) = ap (λ (x : Option Open). turn_by n port x) was.is_open ∙ stands ∙ ap (λ (t : Turn). Some t) same in
+      let there : turn_at n was.before (port_of was.event) ≡ Some (turns.Ask (question helpers.Ticket quota.map quota.cell 0)) = ap (λ (p : ℕ). turn_at n was.before p) was.own ∙ at_port in
       let open_there : opened was.before (port_of was.event) ≡ Some command = ap (λ (p : ℕ). opened was.before p) was.own ∙ was.is_open in
       let told = told_there n was.before was.event last.answer (lawful_before n was.within lawful) in
       record {

@@ -442,7 +442,7 @@ pub record IsEffectDue (run : Option RunValue) (verdict : ℕ) : Type 0 where
   pub other : r.place ≢ places.Control
 
 verdict_is : (turn : Turn) (verdict : ℕ) → Some verdict ≡ verdict_at turn → turn ≡ turns.Verdict verdict
-verdict_is (turns.Ask helper map key argument) verdict is = absurd cc
+verdict_is (turns.Ask question) verdict is = absurd cc
 verdict_is (turns.Verdict v) verdict is = let same : verdict ≡ v = cc in ap turns.Verdict (sym same)
 
 due_at : (place : Place) (turn : Turn) (verdict : ℕ) → Some verdict ≡ effect_due_at place turn → (turn ≡ turns.Verdict verdict) × (place ≢ places.Control)
@@ -458,12 +458,12 @@ effect_is_due (Some r) verdict is = let both = due_at r.place r.turn verdict is 
 -- ---- refused
 
 no_verdict : (n : Node) (h : History) (port : ℕ) (o : Open) (turn : Turn) → None ≡ verdict_at turn → Refused ≡ effect_at_turn n h port o (Some turn)
-no_verdict n h port o (turns.Ask helper map key argument) none = refl
+no_verdict n h port o (turns.Ask question) none = refl
 no_verdict n h port o (turns.Verdict v) none = absurd cc
 
 -- of a control write nothing is done by an Effect
 control_refused : (n : Node) (h : History) (port : ℕ) (o : Open) (turn : Turn) → place_in n o.packet ≡ Some places.Control → Refused ≡ effect_at_turn n h port o (Some turn)
-control_refused n h port o (turns.Ask helper map key argument) lies = refl
+control_refused n h port o (turns.Ask question) lies = refl
 control_refused n h port o (turns.Verdict v) lies = sym (ap (effect_at_place n h port (command_of o.packet) v) lies)
 
 undue_at : (n : Node) (h : History) (port : ℕ) (o : Open) (place : Place) (turn : Turn) → place_in n o.packet ≡ Some place → None ≡ effect_due_at place turn → Refused ≡ effect_at_turn n h port o (Some turn)

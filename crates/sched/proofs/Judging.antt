@@ -83,7 +83,7 @@ pub record IsEnd (n : Node) (h : History) (event : Event) (outcome : Outcome) : 
 
 effect_turn : (n : Node) (h : History) (port : ℕ) (o : Open) (outcome : Outcome) → port < n.ports → opened h port ≡ Some o → IsDone outcome → (turn : Option Turn) → turn_of n port o ≡ turn → outcome ≡ effect_at_turn n h port o turn → IsEnd n h (Effect port) outcome
 effect_turn n h port o outcome there is done None at_turn told = absurd (subst IsDone told done)
-effect_turn n h port o outcome there is done (Some (turns.Ask helper map key argument)) at_turn told = absurd (subst IsDone told done)
+effect_turn n h port o outcome there is done (Some (turns.Ask question)) at_turn told = absurd (subst IsDone told done)
 effect_turn n h port o outcome there is done (Some (turns.Verdict verdict)) at_turn told = record { there = there; command = o; is_open = is; verdict = verdict; stands = at_turn; ended = told }
 
 effect_end : (n : Node) (h : History) (port : ℕ) (outcome : Outcome) → port < n.ports → IsDone outcome → (last : Option Open) → opened h port ≡ last → outcome ≡ effect_outcome n h port last → IsEnd n h (Effect port) outcome
@@ -100,7 +100,7 @@ publish_place n h port o verdict outcome there is done stands (Some places.Contr
 
 publish_turn : (n : Node) (h : History) (port : ℕ) (o : Open) (outcome : Outcome) → port < n.ports → opened h port ≡ Some o → IsDone outcome → (turn : Option Turn) → turn_of n port o ≡ turn → IsPublishedBy n h port o turn outcome → IsEnd n h (Publish port) outcome
 publish_turn n h port o outcome there is done None at_turn told = absurd (subst IsDone told done)
-publish_turn n h port o outcome there is done (Some (turns.Ask helper map key argument)) at_turn told = absurd (subst IsDone told done)
+publish_turn n h port o outcome there is done (Some (turns.Ask question)) at_turn told = absurd (subst IsDone told done)
 publish_turn n h port o outcome there is done (Some (turns.Verdict verdict)) at_turn told = publish_place n h port o verdict outcome there is done at_turn (place_in n o.packet) refl told
 
 publish_end : (n : Node) (h : History) (port : ℕ) (outcome : Outcome) → port < n.ports → IsDone outcome → (last : Option Open) → opened h port ≡ last → IsPublishOutcome n h port last outcome → IsEnd n h (Publish port) outcome

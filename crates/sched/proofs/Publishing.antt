@@ -280,7 +280,7 @@ pub record IsPublishDue (run : Option RunValue) (verdict : ℕ) : Type 0 where
   pub control : r.place ≡ places.Control
 
 verdict_is : (turn : Turn) (verdict : ℕ) → Some verdict ≡ verdict_at turn → turn ≡ turns.Verdict verdict
-verdict_is (turns.Ask helper map key argument) verdict is = absurd cc
+verdict_is (turns.Ask question) verdict is = absurd cc
 verdict_is (turns.Verdict v) verdict is = let same : verdict ≡ v = cc in ap turns.Verdict (sym same)
 
 due_at : (place : Place) (turn : Turn) (verdict : ℕ) → Some verdict ≡ publish_due_at place turn → (turn ≡ turns.Verdict verdict) × (place ≡ places.Control)
@@ -297,7 +297,7 @@ publish_is_due (Some r) verdict is = let both = due_at r.place r.turn verdict is
 
 -- of a command that is no control write nothing is done by a Publish
 elsewhere : (n : Node) (h : History) (port : ℕ) (o : Open) (place : Place) (turn : Turn) → place_in n o.packet ≡ Some place → place ≢ places.Control → IsPublishedBy n h port o (Some turn) Refused
-elsewhere n h port o place (turns.Ask helper map key argument) lies other = refl
+elsewhere n h port o place (turns.Ask question) lies other = refl
 elsewhere n h port o place (turns.Verdict v) lies other =
     subst (λ (x : Option Place). IsPublishedAt n h port (command_of o.packet) v x Refused) (sym lies) (by place other)
   where
@@ -308,7 +308,7 @@ elsewhere n h port o place (turns.Verdict v) lies other =
     by places.Control other = absurd (other refl)
 
 undue_control : (n : Node) (h : History) (port : ℕ) (o : Open) (turn : Turn) → None ≡ verdict_at turn → IsPublishedBy n h port o (Some turn) Refused
-undue_control n h port o (turns.Ask helper map key argument) none = refl
+undue_control n h port o (turns.Ask question) none = refl
 undue_control n h port o (turns.Verdict v) none = absurd cc
 
 undue_at : (n : Node) (h : History) (port : ℕ) (o : Open) (place : Place) (turn : Turn) → place_in n o.packet ≡ Some place → None ≡ publish_due_at place turn → IsPublishedBy n h port o (Some turn) Refused

@@ -7,7 +7,7 @@ use Rattle.machine.specs.declared.calls.Call.{Call}
 use Rattle.machine.specs.Memory.{Header, IsHeader}
 use Rattle.machine.specs.Runs.{IsSafe, call}
 use Rattle.machine.specs.Sizes.{Maps}
-use Rattle.machine.specs.Step.{Question, question}
+use Rattle.machine.specs.Step.{Question}
 use Rattle.rmap.specs.declared.places.Place.{Place}
 use Rattle.bver.specs.Justified.{AcceptedValue}
 use Rattle.bver.specs.Laws.{JustifiedIsSafe}
@@ -34,12 +34,12 @@ GoesOnFrom program header old before turn new after = (port : ℕ) (calls : List
 
 -- a run that asks stands at a question
 pub at_question : (program : Program) (header : Header) (turn : Turn) (frame : Frame) (stack : List ℕ) → IsAsk turn → StandsThere program header turn frame stack → IsAtQuestion frame
-at_question program header (turns.Ask helper map key argument) frame stack asks stands = record {
+at_question program header (turns.Ask question) frame stack asks stands = record {
   program = program;
   header = header;
   port = stands.port;
   calls = stands.calls;
-  asked = question helper map key argument;
+  asked = question;
   stack = stack;
   asks = stands.turns;
 }
@@ -48,11 +48,11 @@ at_question program header (turns.Verdict v) frame stack asks stands = absurd as
 -- a run that stands at a question can go on once that was answered
 pub paused : (program : Program) (header : Header) (turn : Turn) (old new : Frame) (stack : List ℕ) (told : ℕ) → IsAsk turn → StandsThere program header turn old stack
     → Answers told old new → IsPaused program header new stack
-paused program header (turns.Ask helper map key argument) old new stack told asks stands answered = record {
+paused program header (turns.Ask question) old new stack told asks stands answered = record {
   port = stands.port;
   low = stands.low;
-  calls = stands.calls ++ call (question helper map key argument) told ∷ [];
-  stands = answered program header stands.port stands.calls (question helper map key argument) stack stands.turns;
+  calls = stands.calls ++ call question told ∷ [];
+  stands = answered program header stands.port stands.calls question stack stands.turns;
 }
 paused program header (turns.Verdict v) old new stack told asks stands answered = absurd asks
 
@@ -72,10 +72,10 @@ stands_again program header turn old new before after ready on = record {
 stands_by : (program : Program) (sizes : Maps) (header : Header) (port : ℕ) (calls : List Call) (turn : Turn) (frame : Frame) (stack : List ℕ)
     → TurnsArePaths → IsSafe program sizes → IsHeader header → port < 32 → Turns program header port calls turn frame stack
     → turn_after program header port (answers_of calls) ≡ Some turn
-stands_by program sizes header port calls (turns.Ask helper map key argument) frame stack law safe is low asked =
+stands_by program sizes header port calls (turns.Ask question) frame stack law safe is low asked =
     let words = told_words program header port calls asked.steps asked.at asked.path in
     let by = law program sizes header port (answers_of calls) safe is low words in
-    (by.asks (question helper map key argument)).1 (record { calls = calls; answered = refl; steps = asked.steps; last = asked.at; on = asked.on; path = asked.path; asks = asked.asks })
+    (by.asks question).1 (record { calls = calls; answered = refl; steps = asked.steps; last = asked.at; on = asked.on; path = asked.path; asks = asked.asks })
 stands_by program sizes header port calls (turns.Verdict v) frame stack law safe is low run =
     let words = told_words program header port calls run.2.before run.2.last run.2.path in
     let by = law program sizes header port (answers_of calls) safe is low words in
@@ -113,8 +113,8 @@ begun n port h packet place a generation turn first frame before stack law safet
 asked_there : (program : Program) (header : Header) (port : ℕ) (calls : List Call) (turn : Turn) (old new : Frame) (stack : List ℕ) (told : ℕ) → IsAsk turn
     → Turns program header port calls turn old stack → Answers told old new
     → (more : List Call) × (answers_of more ≡ answers_of calls ++ told ∷ []) × IsAt program header port more new stack
-asked_there program header port calls (turns.Ask helper map key argument) old new stack told asks stands answered =
-    (calls ++ call (question helper map key argument) told ∷ [], map-append (λ (c : Call). c.answer) calls (call (question helper map key argument) told ∷ []), answered program header port calls (question helper map key argument) stack stands)
+asked_there program header port calls (turns.Ask question) old new stack told asks stands answered =
+    (calls ++ call question told ∷ [], map-append (λ (c : Call). c.answer) calls (call question told ∷ []), answered program header port calls question stack stands)
 asked_there program header port calls (turns.Verdict v) old new stack told asks stands answered = absurd asks
 
 -- a run that was answered and went on is that of its command with the answer

@@ -15,7 +15,6 @@ use Rattle.machine.specs.declared.kinds.MapKind.{MapKind}
 use Rattle.machine.specs.declared.kinds.MapKind.TheVariants as kinds
 use Rattle.machine.specs.Laws.{ArgumentsFit, NumbersFit}
 use Rattle.machine.specs.Sizes.{kind_of_map}
-use Rattle.machine.specs.Step.{question}
 use Rattle.bver.specs.Laws.{JustifiedIsSafe}
 use Rattle.brun.specs.declared.turns.Turn.{Turn}
 use Rattle.brun.specs.declared.turns.Turn.TheVariants as turns
@@ -67,7 +66,7 @@ place_word n h port c verdict (Some places.Control) = tt
 
 effect_turn_word : (n : Node) (h : History) (port : ℕ) (o : Open) (turn : Option Turn) → TellsWord (effect_at_turn n h port o turn)
 effect_turn_word n h port o None = tt
-effect_turn_word n h port o (Some (turns.Ask helper map key argument)) = tt
+effect_turn_word n h port o (Some (turns.Ask question)) = tt
 effect_turn_word n h port o (Some (turns.Verdict verdict)) = place_word n h port (command_of o.packet) verdict (place_in n o.packet)
 
 effect_word : (n : Node) (h : History) (port : ℕ) (last : Option Open) → TellsWord (effect_outcome n h port last)
@@ -91,7 +90,7 @@ publish_place_word n h port c verdict (Some places.Control) outcome told = contr
 
 publish_turn_word : (n : Node) (h : History) (port : ℕ) (o : Open) (turn : Option Turn) (outcome : Outcome) → IsPublishedBy n h port o turn outcome → TellsWord outcome
 publish_turn_word n h port o None outcome told = subst TellsWord (sym told) tt
-publish_turn_word n h port o (Some (turns.Ask helper map key argument)) outcome told = subst TellsWord (sym told) tt
+publish_turn_word n h port o (Some (turns.Ask question)) outcome told = subst TellsWord (sym told) tt
 publish_turn_word n h port o (Some (turns.Verdict verdict)) outcome told = publish_place_word n h port (command_of o.packet) verdict (place_in n o.packet) outcome told
 
 publish_word : (n : Node) (h : History) (port : ℕ) (last : Option Open) (outcome : Outcome) → IsPublishOutcome n h port last outcome → TellsWord outcome
@@ -177,7 +176,7 @@ module _ (law : ImagesAreRead) (safety : JustifiedIsSafe) (paths : TurnsArePaths
   turn_argument : (h : History) (port : ℕ) (o : Open) (turn : Option Turn) → port < n.ports → HasBytes h → IsLawful n h → opened h port ≡ Some o → AreWords o.answers → turn_of n port o ≡ turn → argument_asked turn < 2 ^ 64
   turn_argument h port o None there bytes lawful is words stands = omega arith
   turn_argument h port o (Some (turns.Verdict verdict)) there bytes lawful is words stands = omega arith
-  turn_argument h port o (Some (turns.Ask helper map key argument)) there bytes lawful is words stands =
+  turn_argument h port o (Some (turns.Ask question)) there bytes lawful is words stands =
       let leads = opened_taken h port o is in
       let first = began_lawful n port _ h leads lawful in
       let justified = published_justified law n o.before (slot_in n o.packet) node.factory first.0 in
@@ -185,9 +184,9 @@ module _ (law : ImagesAreRead) (safety : JustifiedIsSafe) (paths : TurnsArePaths
       let header = header_of_command o.packet kept (began_bytes port _ h leads bytes).1 in
       let low : port < 32 = omega (arith, there, node.few_ports) in
       let by = paths (program_of n o) n.sizes (header_in o.packet) port o.answers (safety (program_of n o) n.sizes justified) header low words in
-      let asked = (by.asks (question helper map key argument)).0 stands in
+      let asked = (by.asks question).0 stands in
       let bounded = fit (program_of n o) (header_in o.packet) port asked.calls asked.steps asked.last justified.limits header low asked.path in
-      asks (program_of n o) (header_in o.packet) asked.last (question helper map key argument) asked.on (bounded.registers 3) asked.asks
+      asks (program_of n o) (header_in o.packet) asked.last question asked.on (bounded.registers 3) asked.asks
 
   last_argument : (h : History) (port : ℕ) (last : Option Open) → port < n.ports → HasBytes h → IsLawful n h → opened h port ≡ last → HaveWords last → argument_asked (turn_by n port last) < 2 ^ 64
   last_argument h port None there bytes lawful is words = omega arith

@@ -10,8 +10,8 @@ use Rattle.machine.specs.Memory.{Header, IsHeader}
 use Rattle.machine.specs.Runs.{Path, entry, moves, answered, IsSafe, call}
 use Rattle.machine.specs.Sizes.{Maps}
 use Rattle.machine.specs.State.{State, entry_state}
-use Rattle.machine.specs.Step.{Question, question, Outcome, Next, Ask, Verdict, Trap, step}
-use Rattle.sched.specs.Turns.{asking, onward, turn_within, turn_after, answers_of, AreWords, HasAsked, HasEnded, StandsByPaths, TurnsArePaths}
+use Rattle.machine.specs.Step.{Question, Outcome, Next, Ask, Verdict, Trap, step}
+use Rattle.sched.specs.Turns.{onward, turn_within, turn_after, answers_of, AreWords, HasAsked, HasEnded, StandsByPaths, TurnsArePaths}
 
 -- ---- from paths to turns
 
@@ -21,7 +21,7 @@ onward-next go o t answers e = rw e refl
 onward-ask : (go : State → List ℕ → Option Turn) (o : Outcome) (asked : Question) (on : ℕ → State) (a : ℕ) (answers : List ℕ) → o ≡ Ask asked on → onward go (a ∷ answers) o ≡ go (on a) answers
 onward-ask go o asked on a answers e = rw e refl
 
-onward-asks : (go : State → List ℕ → Option Turn) (o : Outcome) (asked : Question) (on : ℕ → State) → o ≡ Ask asked on → onward go [] o ≡ Some (asking asked)
+onward-asks : (go : State → List ℕ → Option Turn) (o : Outcome) (asked : Question) (on : ℕ → State) → o ≡ Ask asked on → onward go [] o ≡ Some (turns.Ask asked)
 onward-asks go o asked on e = rw e refl
 
 onward-ends : (go : State → List ℕ → Option Turn) (o : Outcome) (v : ℕ) → o ≡ Verdict v → onward go [] o ≡ Some (turns.Verdict v)
@@ -55,7 +55,7 @@ stands program header port calls n s turn path few here =
 
 -- what is known where a turn was found
 abbrev Found : Program → Header → (port : ℕ) → (answers : List ℕ) → Turn → Type 0
-Found program header port answers (turns.Ask helper map key argument) = HasAsked program header port answers (question helper map key argument)
+Found program header port answers (turns.Ask question) = HasAsked program header port answers question
 Found program header port answers (turns.Verdict v) = HasEnded program header port answers v
 
 some-is : {A : Type 0} (x y : A) → ◌≡◌ {A = Option A} (Some x) (Some y) → x ≡ y
@@ -78,7 +78,7 @@ found-by program header port steps few further calls n s path rest words turn (N
     further calls (suc n) t (moves path is) rest words turn e
 found-by program header port steps few further calls n s path [] words turn (Ask asked on) is e =
     let here : HasAsked program header port (answers_of calls ++ []) asked = record { calls = calls; answered = sym (append-nil (answers_of calls)); steps = n; last = s; on = on; path = path; asks = is } in
-    subst (λ (t : Turn). Found program header port (answers_of calls ++ []) t) (some-is (asking asked) turn e) here
+    subst (λ (t : Turn). Found program header port (answers_of calls ++ []) t) (some-is (turns.Ask asked) turn e) here
 found-by program header port steps few further calls n s path (a ∷ rest) words turn (Ask asked on) is e =
     let there = further (calls ++ call asked a ∷ []) (suc n) (on a) (answered a path is (All-head (λ x. x < 2 ^ 64) a rest words)) rest (All-tail (λ x. x < 2 ^ 64) a rest words) turn e in
     subst (λ (answers : List ℕ). Found program header port answers turn) (answers-more calls asked a rest) there
@@ -102,8 +102,8 @@ stands-by program sizes header port answers safe is low words =
     let from = found program header port program.budget few [] 0 (entry_state port) entry answers words in
     record {
       asks = λ asked. (
-        λ e. from (asking asked) e,
-        λ (a : HasAsked program header port answers asked). subst (λ (told : List ℕ). turn_after program header port told ≡ Some (asking asked)) a.answered
+        λ e. from (turns.Ask asked) e,
+        λ (a : HasAsked program header port answers asked). subst (λ (told : List ℕ). turn_after program header port told ≡ Some (turns.Ask asked)) a.answered
             (stands program header port a.calls a.steps a.last _ a.path (few a.calls a.steps a.last a.path) (λ go. onward-asks go _ asked a.on a.asks)),
       );
       ends = λ v. (

@@ -116,7 +116,7 @@ effect_at_place n h port c verdict (Some places.Control) = Refused
 -- the same where the program has its verdict
 abbrev pub effect_at_turn : Node → History → (port : ℕ) → Open → Option Turn → Outcome
 effect_at_turn n h port o None = Refused
-effect_at_turn n h port o (Some (turns.Ask helper map key argument)) = Refused
+effect_at_turn n h port o (Some (turns.Ask question)) = Refused
 effect_at_turn n h port o (Some (turns.Verdict verdict)) =
     effect_at_place n h port (command_of o.packet) verdict (place_in n o.packet)
 
@@ -157,7 +157,7 @@ IsPublishedAt n h port c verdict (Some places.Control) outcome =
 -- the same where the program has its verdict
 abbrev pub IsPublishedBy : Node → History → (port : ℕ) → Open → Option Turn → Outcome → Type 0
 IsPublishedBy n h port o None outcome = outcome ≡ Refused
-IsPublishedBy n h port o (Some (turns.Ask helper map key argument)) outcome = outcome ≡ Refused
+IsPublishedBy n h port o (Some (turns.Ask question)) outcome = outcome ≡ Refused
 IsPublishedBy n h port o (Some (turns.Verdict verdict)) outcome =
     IsPublishedAt n h port (command_of o.packet) verdict (place_in n o.packet) outcome
 

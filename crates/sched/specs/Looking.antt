@@ -207,8 +207,8 @@ is_helper asked helper = helper_number asked == helper_number helper
 -- the cell, by map and key, for which a program that stands so asks that helper
 abbrev pub cell_asked : Helper → Option Turn → Option (ℕ × ℕ)
 cell_asked helper None = None
-cell_asked helper (Some (turns.Ask asked map key argument)) =
-    if is_helper asked helper then Some (map, key) else None
+cell_asked helper (Some (turns.Ask question)) =
+    if is_helper question.helper helper then Some (question.map, question.key) else None
 cell_asked helper (Some (turns.Verdict verdict)) = None
 
 -- whether it is that cell
@@ -254,7 +254,7 @@ raises turn (Publish port) map key = false
 -- the number to which a program that stands so raises a cell; of one that asks for none it says nothing
 abbrev pub argument_asked : Option Turn → ℕ
 argument_asked None = 0
-argument_asked (Some (turns.Ask helper map key argument)) = argument
+argument_asked (Some (turns.Ask question)) = question.argument
 argument_asked (Some (turns.Verdict verdict)) = 0
 
 -- the greatest number to which the cell was raised, 0 where it never was
@@ -279,7 +279,7 @@ cell_word n h map key = word_by_kind (kind_of_map n.sizes map) (tickets n h map 
 -- the verdict of a run that stands so; of one that has none it says nothing
 abbrev pub verdict_of : Option Turn → ℕ
 verdict_of None = 0
-verdict_of (Some (turns.Ask helper map key argument)) = 0
+verdict_of (Some (turns.Ask question)) = 0
 verdict_of (Some (turns.Verdict verdict)) = verdict
 
 -- the entry of that number that an open command of the port leaves, which was done with that status

@@ -11,15 +11,11 @@ use Rattle.machine.specs.Sizes.{Maps}
 use Rattle.machine.specs.State.{State, entry_state}
 use Rattle.machine.specs.Step.{Question, Outcome, Next, Ask, Verdict, Trap, step}
 
--- a helper's question, as a turn of a run
-abbrev pub asking : Question → Turn
-asking question = turns.Ask question.helper question.map question.key question.argument
-
 -- what follows a step with those answers to the questions to come: a question takes the first of them, or is where the
 -- run stands; a verdict leaves none over
 abbrev pub onward : (further : State → List ℕ → Option Turn) → (answers : List ℕ) → Outcome → Option Turn
 onward further answers (Next s) = further s answers
-onward further [] (Ask question on) = Some (asking question)
+onward further [] (Ask question on) = Some (turns.Ask question)
 onward further (answer ∷ answers) (Ask question on) = further (on answer) answers
 onward further [] (Verdict verdict) = Some (turns.Verdict verdict)
 onward further (answer ∷ answers) (Verdict verdict) = None
@@ -65,7 +61,7 @@ pub record HasEnded (program : Program) (header : Header) (port : ℕ) (answers 
 -- the program stands at a question exactly where a path with those answers asks it, and at a verdict exactly where a
 -- run with them ends so
 pub record StandsByPaths (program : Program) (header : Header) (port : ℕ) (answers : List ℕ) : Type 0 where
-  pub asks : (question : Question) → (turn_after program header port answers ≡ Some (asking question))
+  pub asks : (question : Question) → (turn_after program header port answers ≡ Some (turns.Ask question))
       ↔ HasAsked program header port answers question
   pub ends : (verdict : ℕ) → (turn_after program header port answers ≡ Some (turns.Verdict verdict))
       ↔ HasEnded program header port answers verdict

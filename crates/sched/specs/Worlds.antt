@@ -181,7 +181,7 @@ IsSameRunIfAny (Some old) (Some new) = IsSameRun old new
 
 -- a program stands at a question
 abbrev pub IsAsk : Turn → Type 0
-IsAsk (turns.Ask helper map key argument) = Unit {0}
+IsAsk (turns.Ask question) = Unit {0}
 IsAsk (turns.Verdict verdict) = ⊥
 
 -- where the command stands that is judged, if one is
@@ -196,7 +196,7 @@ Asks (Some r) = IsAsk r.turn
 
 -- the verdict of a program that stands so, if it has one
 abbrev pub verdict_at : Turn → Option ℕ
-verdict_at (turns.Ask helper map key argument) = None
+verdict_at (turns.Ask question) = None
 verdict_at (turns.Verdict verdict) = Some verdict
 
 -- the verdict of a command that ends at that place by an Effect, if it has one: a control write does not

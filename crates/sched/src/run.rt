@@ -118,7 +118,7 @@ impl Run {
     {
         match self.turn {
             Turn::Verdict(verdict) => Some(verdict),
-            Turn::Ask(_, _, _, _) => None,
+            Turn::Ask(_) => None,
         }
     }
 
@@ -131,8 +131,10 @@ impl Run {
         ensures asks { IfSome result (λ _. IsAsk self.now.turn) }
     {
         match self.turn {
-            Turn::Ask(asked, map, key, _) if asked.number() == helper.number() => Some((map, key)),
-            Turn::Ask(_, _, _, _) | Turn::Verdict(_) => None,
+            Turn::Ask(asked) if asked.helper.number() == helper.number() => {
+                Some((asked.map, asked.key))
+            }
+            Turn::Ask(_) | Turn::Verdict(_) => None,
         }
     }
 
@@ -141,7 +143,7 @@ impl Run {
         ensures { result ≡ argument_asked (Some self.now.turn) }
     {
         match self.turn {
-            Turn::Ask(_, _, _, argument) => argument,
+            Turn::Ask(asked) => asked.argument,
             Turn::Verdict(_) => 0,
         }
     }

@@ -4,12 +4,11 @@ use Rattle.std.proofs.lemmas.List.{map-append, append-nil}
 use Rattle.bpf.specs.Program.{Program}
 use Rattle.machine.specs.declared.calls.Call.{Call}
 use Rattle.stepper.specs.declared.outcomes.Outcome.TheVariants as told
-use Rattle.machine.specs.declared.helpers.Helper.{Helper}
 use Rattle.machine.specs.Memory.{Header}
 use Rattle.machine.specs.Sizes.{Maps}
 use Rattle.machine.specs.Laws.{QuestionsGoOn}
 use Rattle.machine.specs.State.{State, entry_state}
-use Rattle.machine.specs.Step.{Question, question, Outcome, Next, Ask, Verdict, Trap, after_answer, insn_at, step, finds_maps, step_with}
+use Rattle.machine.specs.Step.{Question, Outcome, Next, Ask, Verdict, Trap, after_answer, insn_at, step, finds_maps, step_with}
 use Rattle.machine.specs.Runs.{Path, moves, call}
 use Rattle.machine.specs.Runs as runs
 use Rattle.stepper.specs.Machine.{MachineValue, state_of, step_of, IsOutcome, IsAsk, IsSameRun}
@@ -23,22 +22,14 @@ outcome_moves (Ask question on) s t h = let e = h.0 in cc
 outcome_moves (Verdict verdict) s t h = let e = h.0 in cc
 outcome_moves Trap s t h = let e = h.0 in cc
 
-same_question : (asked : Question) (helper : Helper) (map key argument : ℕ) → asked.helper ≡ helper → asked.map ≡ map → asked.key ≡ key → asked.argument ≡ argument → asked ≡ question helper map key argument
-same_question asked helper map key argument one two three four =
-    ap (λ h. question h asked.map asked.key asked.argument) one ∙ ap (λ m. question helper m asked.key asked.argument) two
-    ∙ ap (λ k. question helper map k asked.argument) three ∙ ap (λ a. question helper map key a) four
-
-outcome_asks : (o : Outcome) (helper : Helper) (map key argument : ℕ) (s t : State) → IsOutcome o (told.Ask helper map key argument) s t → (on : ℕ → State) × (o ≡ Ask (question helper map key argument) on) × (t ≡ s)
-outcome_asks (Next u) helper map key argument s t h = let e = h.0 in absurd cc
-outcome_asks (Ask asked on) helper map key argument s t h =
+outcome_asks : (o : Outcome) (asked : Question) (s t : State) → IsOutcome o (told.Ask asked) s t → (on : ℕ → State) × (o ≡ Ask asked on) × (t ≡ s)
+outcome_asks (Next u) asked s t h = let e = h.0 in absurd cc
+outcome_asks (Ask other on) asked s t h =
     let e = h.0 in
-    let one : asked.helper ≡ helper = cc in
-    let two : asked.map ≡ map = cc in
-    let three : asked.key ≡ key = cc in
-    let four : asked.argument ≡ argument = cc in
-    (on, ap (λ (q : Question). Ask q on) (same_question asked helper map key argument one two three four), h.1)
-outcome_asks (Verdict verdict) helper map key argument s t h = let e = h.0 in absurd cc
-outcome_asks Trap helper map key argument s t h = let e = h.0 in absurd cc
+    let same : other ≡ asked = cc in
+    (on, ap (λ (q : Question). Ask q on) same, h.1)
+outcome_asks (Verdict verdict) asked s t h = let e = h.0 in absurd cc
+outcome_asks Trap asked s t h = let e = h.0 in absurd cc
 
 outcome_ends : (o : Outcome) (verdict : ℕ) (s t : State) → IsOutcome o (told.Verdict verdict) s t → o ≡ Verdict verdict
 outcome_ends (Next u) verdict s t h = let e = h.0 in cc
@@ -81,10 +72,10 @@ same_step : (sizes sizes' : Maps) (program program' : Program) (header header' :
 same_step sizes sizes' program program' header header' s s' e f g h = rw (e, f, g, h) refl
 
 -- the question stands after the outcome, which leaves the state
-pub still_asks : (m after : MachineValue) (helper : Helper) (map key argument : ℕ) → IsOutcome (step_of m) (told.Ask helper map key argument) (state_of m) (state_of after) → IsSameRun m after → IsAsk (step_of after)
-still_asks m after helper map key argument outcome same =
-    let told = outcome_asks _ helper map key argument _ _ outcome in
-    let again : step_of after ≡ Ask (question helper map key argument) told.0 = same_step _ _ _ _ _ _ (state_of after) (state_of m) same.sizes same.program same.header told.2 ∙ told.1 in
+pub still_asks : (m after : MachineValue) (asked : Question) → IsOutcome (step_of m) (told.Ask asked) (state_of m) (state_of after) → IsSameRun m after → IsAsk (step_of after)
+still_asks m after asked outcome same =
+    let told = outcome_asks _ asked _ _ outcome in
+    let again : step_of after ≡ Ask asked told.0 = same_step _ _ _ _ _ _ (state_of after) (state_of m) same.sizes same.program same.header told.2 ∙ told.1 in
     subst (λ (o : Outcome). IsAsk o) (sym again) tt
 
 module _ (program : Program) (header : Header) (sizes : Maps) (port : ℕ) (answers : List ℕ) where
@@ -109,25 +100,24 @@ module _ (program : Program) (header : Header) (sizes : Maps) (port : ℕ) (answ
   more_given : (calls : List Call) (c : Call) (left : List ℕ) → answers ≡ answers_of calls ++ (c.answer ∷ left) → answers ≡ answers_of (calls ++ c ∷ []) ++ left
   more_given calls c left e = e ∙ sym (ap (λ xs. xs ++ left) (map-append (λ d. d.answer) calls (c ∷ [])) ∙ append_assoc (answers_of calls) (c.answer ∷ []) left)
 
-  pub walk_asks : QuestionsGoOn → (n : ℕ) (m asked after : MachineValue) (helper : Helper) (map key argument answer : ℕ) (left : List ℕ) → IsAt program header sizes port answers n m (answer ∷ left) → IsOutcome (step_of m) (told.Ask helper map key argument) (state_of m) (state_of asked) → IsSameRun m asked → answer < 2 ^ 64 → state_of after ≡ after_answer (state_of asked) answer → IsSameRun asked after → IsAt program header sizes port answers (n + 1) after left
-  walk_asks goes_so n m asked after helper map key argument answer left at outcome same small goes_on same_after =
-      let told = outcome_asks _ helper map key argument _ _ outcome in
+  pub walk_asks : QuestionsGoOn → (n : ℕ) (m paused after : MachineValue) (asked : Question) (answer : ℕ) (left : List ℕ) → IsAt program header sizes port answers n m (answer ∷ left) → IsOutcome (step_of m) (told.Ask asked) (state_of m) (state_of paused) → IsSameRun m paused → answer < 2 ^ 64 → state_of after ≡ after_answer (state_of paused) answer → IsSameRun paused after → IsAt program header sizes port answers (n + 1) after left
+  walk_asks goes_so n m paused after asked answer left at outcome same small goes_on same_after =
+      let told = outcome_asks _ asked _ _ outcome in
       let with_sizes = here n m (answer ∷ left) _ at told.1 in
-      let asked_is = question helper map key argument in
-      let no_trap : Ask asked_is told.0 ≡ Trap → ⊥ = λ e. cc in
+      let no_trap : Ask asked told.0 ≡ Trap → ⊥ = λ e. cc in
       let bare = without_sizes sizes program header (state_of m) _ with_sizes no_trap in
-      let on_is = goes_so program header (state_of m) asked_is told.0 bare in
+      let on_is = goes_so program header (state_of m) asked told.0 bare in
       let reached : told.0 answer ≡ state_of after = ap (λ (f : ℕ → State). f answer) on_is ∙ sym (goes_on ∙ ap (λ s. after_answer s answer) told.2) in
-      let longer : ClearPath program header sizes port (at.calls ++ call asked_is answer ∷ []) _ (told.0 answer) =
+      let longer : ClearPath program header sizes port (at.calls ++ call asked answer ∷ []) _ (told.0 answer) =
       record { path = runs.answered answer at.way.path bare small; clear = (at.way.clear, λ e. no_trap (sym with_sizes ∙ e)) }
       in
       record {
         same_program = same_after.program ∙ same.program ∙ at.same_program;
         same_header = same_after.header ∙ same.header ∙ at.same_header;
         same_sizes = same_after.sizes ∙ same.sizes ∙ at.same_sizes;
-        calls = at.calls ++ call asked_is answer ∷ [];
+        calls = at.calls ++ call asked answer ∷ [];
         way = rw add-one (rw reached at longer);
-        given = more_given at.calls (call asked_is answer) left at.given;
+        given = more_given at.calls (call asked answer) left at.given;
       }
 
   pub walk_ends : (n limit verdict : ℕ) (m after : MachineValue) (left : List ℕ) → IsAt program header sizes port answers n m left → IsOutcome (step_of m) (told.Verdict verdict) (state_of m) (state_of after) → n < limit → WalkEnds program header sizes port answers limit verdict
@@ -151,9 +141,9 @@ module _ (program : Program) (header : Header) (sizes : Maps) (port : ℕ) (answ
   pub walk_stops : (limit : ℕ) (m : MachineValue) (left : List ℕ) → IsAt program header sizes port answers limit m left → Walk program header sizes port answers limit
   walk_stops limit m left at = record { calls = at.calls; left = left; last = state_of m; path = at.way.path; clear = at.way.clear; given = at.given }
 
-  pub walk_lacks : (n limit : ℕ) (m asked : MachineValue) (helper : Helper) (map key argument : ℕ) → IsAt program header sizes port answers n m [] → IsOutcome (step_of m) (told.Ask helper map key argument) (state_of m) (state_of asked) → n < limit → WalkAsks program header sizes port answers limit
-  walk_lacks n limit m asked helper map key argument at outcome below =
-      let told = outcome_asks _ helper map key argument _ _ outcome in
+  pub walk_lacks : (n limit : ℕ) (m paused : MachineValue) (asked : Question) → IsAt program header sizes port answers n m [] → IsOutcome (step_of m) (told.Ask asked) (state_of m) (state_of paused) → n < limit → WalkAsks program header sizes port answers limit
+  walk_lacks n limit m paused asked at outcome below =
+      let told = outcome_asks _ asked _ _ outcome in
       record {
         calls = at.calls;
         n = n;

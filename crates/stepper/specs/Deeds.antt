@@ -50,7 +50,7 @@ outcome_of s (deeds.Write register value slots) =
 outcome_of s (deeds.Put place bytes number) =
     Next (state (s.slot + 1) s.registers (byte_after s.stack bytes place number))
 outcome_of s (deeds.Go slot) = Next (state slot s.registers s.stack)
-outcome_of s (deeds.Ask helper map key argument) = Ask (question helper map key argument) (after_answer s)
+outcome_of s (deeds.Ask asked) = Ask asked (after_answer s)
 outcome_of s (deeds.Verdict verdict) = Verdict verdict
 outcome_of s deeds.Trap = Trap
 
@@ -73,7 +73,7 @@ abbrev pub IsPlaced : Deed → Type 0
 IsPlaced (deeds.Write register value slots) = slots ≤ 2
 IsPlaced (deeds.Put place bytes number) = place + bytes ≤ STACK_SIZE
 IsPlaced (deeds.Go slot) = Unit {0}
-IsPlaced (deeds.Ask helper map key argument) = Unit {0}
+IsPlaced (deeds.Ask asked) = Unit {0}
 IsPlaced (deeds.Verdict verdict) = Unit {0}
 IsPlaced deeds.Trap = Unit {0}
 

@@ -37,8 +37,7 @@ step_of m = step_with m.sizes m.program m.header (state_of m)
 -- what a machine tells of an outcome of the definition, and the state after it: as it was, where it is not the next one
 abbrev pub IsOutcome : Outcome → outcomes.Outcome → (before after : State) → Type 0
 IsOutcome (Next t) outcome before after = (outcome ≡ told.Next) × (after ≡ t)
-IsOutcome (Ask question on) outcome before after =
-    (outcome ≡ told.Ask question.helper question.map question.key question.argument) × (after ≡ before)
+IsOutcome (Ask asked on) outcome before after = (outcome ≡ told.Ask asked) × (after ≡ before)
 IsOutcome (Verdict verdict) outcome before after = (outcome ≡ told.Verdict verdict) × (after ≡ before)
 IsOutcome Trap outcome before after = (outcome ≡ told.Trap) × (after ≡ before)
 

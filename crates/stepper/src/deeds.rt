@@ -16,7 +16,9 @@ use bpf_insn::{
     AluOp, Callee, Comparison, FRAME_POINTER, Insn, LoadSize, MemoryOperand, Operand, REGISTERS,
     Register, Size, Swap, SwapBits, Width,
 };
-use machine::{Helper, MapKind, MapSizes, Region, Value, holds_words, loaded_value, word};
+use machine::{
+    Helper, MapKind, MapSizes, Question, Region, Value, holds_words, loaded_value, word,
+};
 
 /// What an instruction does.
 #[derive(Clone, Copy)]
@@ -35,13 +37,8 @@ pub enum Deed {
     },
     /// The next instruction is at the slot.
     Go(u32),
-    /// The helper asks the map for the key, with an argument.
-    Ask {
-        helper: Helper,
-        map: u8,
-        key: u16,
-        argument: u64,
-    },
+    /// A helper asks.
+    Ask(Question),
     /// The program ends with a verdict.
     Verdict(u64),
     /// A trap.
@@ -301,12 +298,12 @@ fn question(frame: Frame<'_>, sizes: &MapSizes, helper: Helper, map: u8, key: u1
         return Deed::Trap;
     }
     match argument(frame, helper) {
-        Some(argument) => Deed::Ask {
+        Some(argument) => Deed::Ask(Question {
             helper,
             map,
             key,
             argument,
-        },
+        }),
         None => Deed::Trap,
     }
 }

@@ -32,7 +32,7 @@ fn walk(mut machine: Machine<'_>, answers: &[u64], limit: u32) -> Ending
     for _step in 0..limit {
         match machine.step() {
             Outcome::Next => {}
-            Outcome::Ask { .. } => {
+            Outcome::Ask(_) => {
                 let Some((answer, rest)) = left.split_first() else {
                     return Ending::Unanswered;
                 };

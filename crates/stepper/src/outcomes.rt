@@ -10,20 +10,15 @@ ghost use Rattle.stepper.specs.Machine.{state_with, IsOutcomeOf};
 
 use crate::deeds::Deed;
 use bpf_insn::REGISTERS;
-use machine::{Helper, STACK_SIZE, Value};
+use machine::{Question, STACK_SIZE, Value};
 
 /// What one step of a machine came to.
 #[derive(Clone, Copy, Debug, PartialEq, Eq)]
 pub enum Outcome {
     /// The machine is at its next instruction.
     Next,
-    /// The helper asks the map of this index for a key, with an argument; `Machine::answer` goes on.
-    Ask {
-        helper: Helper,
-        map: u8,
-        key: u16,
-        argument: u64,
-    },
+    /// A helper asks; `Machine::answer` goes on.
+    Ask(Question),
     /// The program ended with this verdict.
     Verdict(u64),
     /// A trap: the machine cannot go on.
@@ -77,17 +72,7 @@ pub fn apply(
             *slot = target;
             Outcome::Next
         }
-        Deed::Ask {
-            helper,
-            map,
-            key,
-            argument,
-        } => Outcome::Ask {
-            helper,
-            map,
-            key,
-            argument,
-        },
+        Deed::Ask(asked) => Outcome::Ask(asked),
         Deed::Verdict(verdict) => Outcome::Verdict(verdict),
         Deed::Trap => Outcome::Trap,
     }

@@ -2,9 +2,8 @@
 use Rattle.std.proofs.Common.{◌≡◌, ℕ, ◌<◌, List, [], ◌∷◌, ◌++◌, length}
 use Rattle.bpf.specs.Program.{Program}
 use Rattle.machine.specs.declared.calls.Call.{Call}
-use Rattle.machine.specs.declared.helpers.Helper.{Helper}
 use Rattle.machine.specs.Memory.{Header}
-use Rattle.machine.specs.Step.{Question, question}
+use Rattle.machine.specs.Step.{Question}
 use Rattle.machine.specs.Runs.{call}
 use Rattle.brun.specs.declared.frame.Frame.{Frame}
 use Rattle.brun.specs.declared.turns.Turn.{Turn}
@@ -30,23 +29,23 @@ pub begins : (program : Program) (header : Header) (port : ℕ) (frame : Frame) 
 begins program header port frame stack low size stands =
     record { port = port; low = low; calls = []; stands = stands program header stack size }
 
-pub comes_to_question : (program : Program) (header : Header) (helper : Helper) (map key argument : ℕ) (old new : Frame) (before after : List ℕ) → Advances program header (turns.Ask helper map key argument) old new before after → IsPaused program header old before → IsAtQuestion new
-comes_to_question program header helper map key argument old new before after advances run =
+pub comes_to_question : (program : Program) (header : Header) (asked : Question) (old new : Frame) (before after : List ℕ) → Advances program header (turns.Ask asked) old new before after → IsPaused program header old before → IsAtQuestion new
+comes_to_question program header asked old new before after advances run =
     record {
       program = program;
       header = header;
       port = run.port;
       calls = run.calls;
-      asked = question helper map key argument;
+      asked = asked;
       stack = after;
       asks = advances run.port run.calls run.low run.stands;
     }
 
-pub goes_on : (program : Program) (header : Header) (helper : Helper) (map key argument answer : ℕ) (old asking new : Frame) (before after : List ℕ) → Advances program header (turns.Ask helper map key argument) old asking before after → Answers answer asking new → IsPaused program header old before → IsPaused program header new after
-goes_on program header helper map key argument answer old asking new before after advances answers run =
+pub goes_on : (program : Program) (header : Header) (asked : Question) (answer : ℕ) (old asking new : Frame) (before after : List ℕ) → Advances program header (turns.Ask asked) old asking before after → Answers answer asking new → IsPaused program header old before → IsPaused program header new after
+goes_on program header asked answer old asking new before after advances answers run =
     record {
       port = run.port;
       low = run.low;
-      calls = run.calls ++ call (question helper map key argument) answer ∷ [];
-      stands = answers program header run.port run.calls (question helper map key argument) after (advances run.port run.calls run.low run.stands);
+      calls = run.calls ++ call asked answer ∷ [];
+      stands = answers program header run.port run.calls asked after (advances run.port run.calls run.low run.stands);
     }

@@ -5,7 +5,7 @@ ghost use Rattle.std.specs.Prelude.{◌<◌};
 use brun::{Turn, advance, answer, run, start};
 use bver::Accepted;
 use cells::Cells;
-use machine::Helper;
+use machine::Question;
 use std::alloc::{AllocError, Global};
 use std::test::Fail;
 
@@ -26,17 +26,12 @@ pub fn verdict(alloc: Global, program: &Accepted, port: u8, old: u8) -> Result<u
 }
 
 /// Notes a question behind the others: `HELPER,MAP,KEY,ARGUMENT`, with `;` between two.
-fn note(
-    questions: &mut String,
-    helper: Helper,
-    map: u8,
-    key: u16,
-    argument: u64,
-) -> Result<(), AllocError> {
+fn note(questions: &mut String, asked: Question) -> Result<(), AllocError> {
     if !questions.is_empty() {
         questions.push(';')?;
     }
-    let number = helper.number();
+    let number = asked.helper.number();
+    let (map, key, argument) = (asked.map, asked.key, asked.argument);
     write!(questions, "{number},{map},{key},{argument}")
 }
 
@@ -57,16 +52,16 @@ pub fn turns_on(
     for told in answers {
         match advance(accepted, front, tail, stack, &mut paused) {
             Turn::Verdict(verdict) => return Ok(Some(verdict)),
-            Turn::Ask(helper, map, key, argument) => {
-                note(questions, helper, map, key, argument)?;
+            Turn::Ask(asked) => {
+                note(questions, asked)?;
                 answer(&mut paused, *told);
             }
         }
     }
     match advance(accepted, front, tail, stack, &mut paused) {
         Turn::Verdict(verdict) => Ok(Some(verdict)),
-        Turn::Ask(helper, map, key, argument) => {
-            note(questions, helper, map, key, argument)?;
+        Turn::Ask(asked) => {
+            note(questions, asked)?;
             Ok(None)
         }
     }

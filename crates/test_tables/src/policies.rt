@@ -55,7 +55,7 @@ fn numbers(alloc: Global, text: &str) -> Result<Vec<u64>, Fail> {
 fn draws(alloc: Global, calls: &[Call]) -> Result<String, AllocError> {
     let mut text = String::new(alloc);
     for call in calls {
-        let (map, key) = (call.map, call.key);
+        let (map, key) = (call.question.map, call.question.key);
         let comma = if text.is_empty() { "" } else { "," };
         write!(text, "{comma}{map}:{key}")?;
     }
@@ -66,7 +66,7 @@ fn draws(alloc: Global, calls: &[Call]) -> Result<String, AllocError> {
 fn questions(alloc: Global, calls: &[Call]) -> Result<String, AllocError> {
     let mut text = String::new(alloc);
     for call in calls {
-        let (map, key) = (call.map, call.key);
+        let (map, key) = (call.question.map, call.question.key);
         let between = if text.is_empty() { "" } else { ";" };
         write!(text, "{between}2,{map},{key},0")?;
     }

@@ -109,7 +109,7 @@ fn questions(alloc: Global, calls: &[Call]) -> Result<String, AllocError> {
     let mut text = String::new(alloc);
     for call in calls {
         let semicolon = if text.is_empty() { "" } else { ";" };
-        let (map, key) = (call.map, call.key);
+        let (map, key) = (call.question.map, call.question.key);
         write!(text, "{semicolon}2,{map},{key},0")?;
     }
     Ok(text)

@@ -2,7 +2,7 @@
 
 use crate::tests::checks::same;
 use bpf::Image;
-use machine::{Call, Helper, MapSizes};
+use machine::{Call, Helper, MapSizes, Question};
 use policy::{PolicyFault, Table, compile, decisions, headers_have_fields, table_is_unambiguous};
 use std::alloc::{AllocError, Global};
 use std::process::Abort;
@@ -17,10 +17,12 @@ fn tickets_of_a_table(rt: HostRuntime) -> Result<(), Fail> {
     let verdict = table.decide(&test_kit::FRONT, &test_kit::TAIL, &[5], &mut calls)?;
     same(&rt, "the verdict", verdict, 3);
     let drawn = |map: u8, key: u16, answer: u64| Call {
-        helper: Helper::Ticket,
-        map,
-        key,
-        argument: 0,
+        question: Question {
+            helper: Helper::Ticket,
+            map,
+            key,
+            argument: 0,
+        },
         answer,
     };
     same(

@@ -24,10 +24,10 @@ pub returns-in_default : goal.returns-in_default
 returns-in_default c =
     λ port entered.
     let at = along_left _ _ _ _ _ _ _ _ [] (none_left _ c.in_default.ensures.cases) (c.loop-step.invariant.at port entered) in
-    walk_lacks _ _ _ _ _ _ _ c.loop-step.machine c.step.new.self _ _ _ _ at c.in-Ask.ensures.outcome c.loop-step-test.true
+    walk_lacks _ _ _ _ _ _ _ c.loop-step.machine c.step.new.self _ at c.in-Ask.ensures.outcome c.loop-step-test.true
 
 pub answer-requires : goal.answer-requires
-answer-requires c = still_asks c.loop-step.machine c.step.new.self _ _ _ _ c.in-Ask.ensures.outcome c.in-Ask.ensures.run
+answer-requires c = still_asks c.loop-step.machine c.step.new.self _ c.in-Ask.ensures.outcome c.in-Ask.ensures.run
 
 pub returns-in-Verdict : goal.returns-in-Verdict
 returns-in-Verdict c =
@@ -56,7 +56,7 @@ loop-step-preserved c =
             at = λ port entered.
                 let at = along_left _ _ _ _ _ _ _ _ _ w.in-Some.ensures.cases.0 (c.loop-step.invariant.at port entered) in
                 let small = given_small c.args.answers.now (answers_of at.calls) _ _ at.given c.type_inv.answers in
-                walk_asks _ _ _ _ _ c.questions_go_on.ensures.steps _ before asked w.answer.new.self _ _ _ _ _ _ at w.in-Ask.ensures.outcome w.in-Ask.ensures.run small w.answer.ensures.state w.answer.ensures.run;
+                walk_asks _ _ _ _ _ c.questions_go_on.ensures.steps _ before asked w.answer.new.self _ _ _ at w.in-Ask.ensures.outcome w.in-Ask.ensures.run small w.answer.ensures.state w.answer.ensures.run;
           })
     ]
 
