@@ -6,7 +6,7 @@ use Rattle.std.specs.Io.KnownBytes.{Appends}
 use Rattle.job_decide.specs.DecideJob.{place_line}
 use Rattle.job_decide.specs.DecidedFile.{Decides}
 use Rattle.job_decide.specs.declared.decide.DecideWords.{DecideWords}
-use Rattle.policy.specs.TableFaults.{policy_fault_of}
+use Rattle.policy_table.specs.TableFaults.{policy_fault_of}
 use Rattle.job_parts.specs.declared.faults.Fault.TheVariants.{
   CannotRead,
   CannotWrite,

@@ -3,9 +3,9 @@ use Rattle.std.specs.Prelude.{◌≡◌, ◌⊎◌, ℕ, List, [], ◌∷◌, �
 use Rattle.clap.specs.Walk.{Row, first_of}
 use Rattle.clap.specs.Simple.{App, new_app, with_rule}
 use Rattle.machine.specs.declared.calls.Call.{Call}
-use Rattle.policy.specs.TableFaults.{table_fault_text}
-use Rattle.policy.specs.declared.matching.Match.{Match}
-use Rattle.policy.specs.declared.table_faults.TableFault.{TableFault}
+use Rattle.policy_table.specs.TableFaults.{table_fault_text}
+use Rattle.policy_table.specs.declared.matching.Match.{Match}
+use Rattle.policy_table.specs.declared.table_faults.TableFault.{TableFault}
 use Rattle.rmap.specs.Codes.{status_code}
 use Rattle.rmap.specs.Verdict.{verdict_number}
 use Rattle.rmap.specs.Windows.{WindowsValue}

@@ -2,10 +2,10 @@
 use Rattle.std.specs.Prelude.{◌≡◌, ℕ, List, Option, Some, None}
 use Rattle.std.specs.Io.KnownBytes.{Appends}
 use Rattle.machine.specs.Memory.{header}
-use Rattle.policy.specs.Counts.{after_draws, told_on}
-use Rattle.policy.specs.Matching.{matched}
-use Rattle.policy.specs.Meaning.{decision}
-use Rattle.policy.specs.declared.rules.Rule.{Rule}
+use Rattle.policy_table.specs.Counts.{after_draws, told_on}
+use Rattle.policy_table.specs.Matching.{matched}
+use Rattle.policy_table.specs.Meaning.{decision}
+use Rattle.policy_table.specs.declared.rules.Rule.{Rule}
 use Rattle.rmap.specs.Checks.{header_line}
 use Rattle.rmap.specs.Command.{CommandValue, command_of}
 use Rattle.rmap.specs.declared.discard.Discard.{Discard}

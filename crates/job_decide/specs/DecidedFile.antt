@@ -15,11 +15,11 @@ use Rattle.std.specs.Prelude.{
 }
 use Rattle.std.specs.Io.KnownBytes.{Appends}
 use Rattle.std.specs.Str.{IsUtf8}
-use Rattle.policy.specs.Compiled.{compile_fault}
-use Rattle.policy.specs.Lines.{IsTable}
-use Rattle.policy.specs.TableFaults.{IsTableFault, policy_fault_of}
-use Rattle.policy.specs.declared.rules.Rule.{Rule}
-use Rattle.policy.specs.declared.table_faults.TableFault.{TableFault}
+use Rattle.policy_table.specs.FirstFault.{compile_fault}
+use Rattle.policy_table.specs.Lines.{IsTable}
+use Rattle.policy_table.specs.TableFaults.{IsTableFault, policy_fault_of}
+use Rattle.policy_table.specs.declared.rules.Rule.{Rule}
+use Rattle.policy_table.specs.declared.table_faults.TableFault.{TableFault}
 use Rattle.spw.specs.Line.{lines_of}
 use Rattle.job_parts.specs.Files.{HoldsNoText, Reads}
 use Rattle.job_parts.specs.Printed.{fault_line}

@@ -1,6 +1,6 @@
 -- The packet lines of a text, and what is printed of each.
 use Rattle.std.specs.Prelude.{◌≡◌, ℕ, suc, List, [], ◌∷◌, ◌++◌, length, Option, Some, None}
-use Rattle.policy.specs.declared.rules.Rule.{Rule}
+use Rattle.policy_table.specs.declared.rules.Rule.{Rule}
 use Rattle.rmap.specs.Command.{discard_of}
 use Rattle.spw.specs.Cargo.{Cargo}
 use Rattle.job_nodes.specs.Feeds.{IsFed, IsNotFed}

@@ -4,7 +4,7 @@ use Rattle.std.specs.Io.KnownBytes.{Appends}
 use Rattle.basm.specs.Codes.{asm_code}
 use Rattle.bpf.specs.Fault.{image_fault_code, image_fault_slot}
 use Rattle.bver_form.specs.Codes.{refusal_code}
-use Rattle.policy.specs.Codes.{policy_fault_code}
+use Rattle.policy_table.specs.Codes.{policy_fault_code}
 use Rattle.job_parts.specs.BadLines.{bad_line_number}
 use Rattle.job_parts.specs.declared.faults.Fault.{Fault}
 use Rattle.job_parts.specs.declared.faults.Fault.TheVariants.{

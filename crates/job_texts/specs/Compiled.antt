@@ -5,10 +5,11 @@ use Rattle.std.specs.Str.{IsUtf8}
 use Rattle.bpf.specs.Program.{Program, image_bytes}
 use Rattle.bver.specs.Justified.{IsJustified}
 use Rattle.machine.specs.Sizes.{Maps}
-use Rattle.policy.specs.Compiled.{IsCompileFault, IsCompiled, compile_fault}
-use Rattle.policy.specs.Lines.{IsReadFault, IsTable}
-use Rattle.policy.specs.declared.faults.PolicyFault.{PolicyFault}
-use Rattle.policy.specs.declared.rules.Rule.{Rule}
+use Rattle.policy.specs.Compiled.{IsCompileFault, IsCompiled}
+use Rattle.policy_table.specs.FirstFault.{compile_fault}
+use Rattle.policy_table.specs.Lines.{IsReadFault, IsTable}
+use Rattle.policy_table.specs.declared.faults.PolicyFault.{PolicyFault}
+use Rattle.policy_table.specs.declared.rules.Rule.{Rule}
 use Rattle.spw.specs.Line.{lines_of}
 use Rattle.job_parts.specs.Files.{Reads, Writes, HoldsNoText}
 use Rattle.job_texts.specs.PolicyJob.{slots_line}

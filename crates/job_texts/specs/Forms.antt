@@ -4,8 +4,8 @@ use Rattle.std.specs.Io.KnownBytes.{Appends}
 use Rattle.std.specs.Str.{IsUtf8}
 use Rattle.bpf.specs.Program.{Program}
 use Rattle.basm.specs.Relation.{IsText}
-use Rattle.policy.specs.Lines.{IsTable}
-use Rattle.policy.specs.declared.rules.Rule.{Rule}
+use Rattle.policy_table.specs.Lines.{IsTable}
+use Rattle.policy_table.specs.declared.rules.Rule.{Rule}
 
 -- the bytes are the text of a program
 pub record AreProgramText (bytes : List ℕ) : Type 0 where

@@ -20,7 +20,7 @@ use Rattle.basm.specs.Codes.{asm_of_code}
 use Rattle.bpf.specs.Fault.{image_fault_of_code}
 use Rattle.bpf_insn.specs.Faults.{bad_insn_of_code}
 use Rattle.bver_form.specs.Codes.{refusal_of_code}
-use Rattle.policy.specs.Codes.{policy_fault_of_code}
+use Rattle.policy_table.specs.Codes.{policy_fault_of_code}
 use Rattle.rmap.specs.Codes.{discard_of_code, status_of_code}
 use Rattle.target.specs.Loads.{load_refusal_of_code}
 use Rattle.job_parts.specs.BadLines.{bad_line_of_number}

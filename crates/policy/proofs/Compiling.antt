@@ -27,14 +27,14 @@ use Rattle.rmap.specs.Command.{address_of, extended_of, increments, command_kind
 use Rattle.policy.specs.Code.{address_code, applied, behind_extended, behind_initiator, behind_key, behind_kind, behind_range, field_slots, field_test, kind_slots, kind_test, last_address_code, loaded, quota_slots, quota_test, range_test, rule_code, rules_code, skips_if, swapped, table_code, verdict_code}
 use Rattle.rmap.specs.Verdict.{verdict_number}
 use Rattle.policy.specs.Compiled.{HasMeaning}
-use Rattle.policy.specs.Laws.{DrawsAreAnswered}
-use Rattle.policy.specs.Limits.{FitsFields}
+use Rattle.policy_table.specs.Laws.{DrawsAreAnswered}
+use Rattle.policy_table.specs.Limits.{FitsFields}
 use Rattle.policy.specs.Meant.{table_program}
-use Rattle.policy.specs.Meaning.{AreWords, agrees, decision, fields_of, has_kind, last_address_of, lies_between, ruled}
-use Rattle.policy.specs.declared.rules.Quota.{Quota}
-use Rattle.policy.specs.declared.rules.Rule.{Rule}
-use Rattle.policy.specs.declared.rules.RuleKind.{RuleKind}
-use Rattle.policy.specs.declared.rules.RuleKind.TheVariants.{Read, Write, Rmw, Any}
+use Rattle.policy_table.specs.Meaning.{AreWords, agrees, decision, fields_of, has_kind, last_address_of, lies_between, ruled}
+use Rattle.policy_table.specs.declared.rules.Quota.{Quota}
+use Rattle.policy_table.specs.declared.rules.Rule.{Rule}
+use Rattle.policy_table.specs.declared.rules.RuleKind.{RuleKind}
+use Rattle.policy_table.specs.declared.rules.RuleKind.TheVariants.{Read, Write, Rmw, Any}
 use Rattle.rmap.specs.declared.verdict.Verdict.{Verdict}
 use Rattle.rmap.specs.declared.verdict.Verdict.TheVariants.{Authorised, InvalidKey, NotAuthorised, InvalidLogicalAddress}
 use Rattle.policy.proofs.Finishing.{Decision, Finishes, StandAt, branched, next, slot_after, split, stand}

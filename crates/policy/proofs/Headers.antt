@@ -24,8 +24,8 @@ use Rattle.machine.specs.State.{State}
 use Rattle.machine.specs.Step.{alu, bytes_at, load_value, loads}
 use Rattle.machine.specs.Words.{low_part, swapped_bytes, word}
 use Rattle.rmap.specs.Instruction.{has_increment_bit, kind_of}
-use Rattle.policy.specs.Meaning.{has_kind}
-use Rattle.policy.specs.declared.rules.RuleKind.TheVariants.{Read, Write, Rmw}
+use Rattle.policy_table.specs.Meaning.{has_kind}
+use Rattle.policy_table.specs.declared.rules.RuleKind.TheVariants.{Read, Write, Rmw}
 
 -- ---- bytes
 

@@ -1,16 +1,7 @@
-mod Outcomes
-mod Readings
-mod Numerals
 mod Finishing
 mod Headers
 mod Testing
 mod Compiling
 mod Weighing
-mod Fitting
 mod Refused
 mod Justified
-mod VerdictWords
-mod Walks
-mod Placing
-mod FirstMatches
-mod BadLines

@@ -1,8 +1,7 @@
 -- What the faults of tables tell.
 use Rattle.std.specs.Prelude.{All, ◌&&◌, nat_lt, if◌then◌else◌, slice_index}
 use Rattle.std.specs.Option.{option_or}
-use Rattle.std.proofs.Common.{◌≡◌, ◌<◌, ◌≤◌, ◌+◌, ℕ, suc, Bool, true, false, List, [], ◌∷◌, length, get_or, drop, Option, Some, None, refl, sym, ap, ◌∙◌, subst, add-one}
-use Rattle.std.proofs.Math.Seq.{drop-cons}
+use Rattle.std.proofs.Common.{◌≡◌, ◌≤◌, ℕ, suc, Bool, true, false, List, [], ◌∷◌, length, Option, Some, None, refl, subst}
 use Rattle.std.proofs.lemmas.Bool.{ltb-false, ltb-true, and_parts}
 use Rattle.std.proofs.lemmas.List.Elements.{All-cons, All-nil}
 use Rattle.machine.specs.declared.calls.Call.{Call}
@@ -12,12 +11,13 @@ use Rattle.machine.specs.Sizes.{IsInside, Maps, kind_of_map}
 use Rattle.machine.specs.declared.kinds.MapKind.{MapKind}
 use Rattle.machine.specs.declared.kinds.MapKind.TheVariants.{Counter, Peak}
 use Rattle.rmap.specs.Verdict.{verdict_number}
-use Rattle.policy.specs.Compiled.{HasCells, IsCompileFault, IsOfCounter, compile_fault, has_cell, quota_fault, rule_fault, rules_fault}
-use Rattle.policy.specs.Meaning.{decision, draw, holds, ruled}
-use Rattle.policy.specs.declared.faults.PolicyFault.{PolicyFault}
-use Rattle.policy.specs.declared.faults.PolicyFault.TheVariants.{TooLong, BadRange, Memory, NoCell, BadLine}
-use Rattle.policy.specs.declared.rules.Quota.{Quota}
-use Rattle.policy.specs.declared.rules.Rule.{Rule}
+use Rattle.policy.specs.Compiled.{HasCells, IsCompileFault, IsOfCounter}
+use Rattle.policy_table.specs.FirstFault.{compile_fault, has_cell, quota_fault, rule_fault, rules_fault}
+use Rattle.policy_table.specs.Meaning.{decision, draw, holds, ruled}
+use Rattle.policy_table.specs.declared.faults.PolicyFault.{PolicyFault}
+use Rattle.policy_table.specs.declared.faults.PolicyFault.TheVariants.{TooLong, BadRange, Memory, NoCell, BadLine}
+use Rattle.policy_table.specs.declared.rules.Quota.{Quota}
+use Rattle.policy_table.specs.declared.rules.Rule.{Rule}
 
 -- ---- the faults that a table can have
 
@@ -60,22 +60,6 @@ told_of first BadLine of_it is = absurd of_it
 
 pub is_told : (sizes : Maps) (rules : List Rule) (fault : PolicyFault) → compile_fault sizes rules ≡ Some fault → IsCompileFault (compile_fault sizes rules) fault
 is_told sizes rules fault is = told_of (compile_fault sizes rules) fault (subst (λ (f : Option PolicyFault). IsOfTable f) is (of_table sizes rules)) is
-
--- ---- rules one by one
-
-pub fault_behind : (sizes : Maps) (rules : List Rule) (i : ℕ) (d : Rule) (found : Option PolicyFault) (total : Option PolicyFault) → i < length rules
-    → found ≡ rule_fault sizes (get_or rules i d) → found ≡ None → rules_fault sizes (drop i rules) ≡ total → rules_fault sizes (drop (i + 1) rules) ≡ total
-fault_behind sizes rules i d found total within is none whole =
-    let next : rules_fault sizes (drop i rules) ≡ option_or (rule_fault sizes (get_or rules i d)) (rules_fault sizes (drop (suc i) rules)) = ap (λ (rs : List Rule). rules_fault sizes rs) (drop-cons rules i d within) in
-    let gone : option_or (rule_fault sizes (get_or rules i d)) (rules_fault sizes (drop (suc i) rules)) ≡ rules_fault sizes (drop (suc i) rules) = ap (λ (f : Option PolicyFault). option_or f (rules_fault sizes (drop (suc i) rules))) (sym is ∙ none) in
-    ap (λ (k : ℕ). rules_fault sizes (drop k rules)) (add-one i) ∙ sym (next ∙ gone) ∙ whole
-
-pub fault_here : (sizes : Maps) (rules : List Rule) (i : ℕ) (d : Rule) (found : Option PolicyFault) (fault : PolicyFault) (total : Option PolicyFault) → i < length rules
-    → found ≡ rule_fault sizes (get_or rules i d) → found ≡ Some fault → rules_fault sizes (drop i rules) ≡ total → Some fault ≡ total
-fault_here sizes rules i d found fault total within is some whole =
-    let next : rules_fault sizes (drop i rules) ≡ option_or (rule_fault sizes (get_or rules i d)) (rules_fault sizes (drop (suc i) rules)) = ap (λ (rs : List Rule). rules_fault sizes rs) (drop-cons rules i d within) in
-    let here : option_or (rule_fault sizes (get_or rules i d)) (rules_fault sizes (drop (suc i) rules)) ≡ Some fault = ap (λ (f : Option PolicyFault). option_or f (rules_fault sizes (drop (suc i) rules))) (sym is ∙ some) in
-    sym (next ∙ here) ∙ whole
 
 -- ---- cells
 

@@ -24,11 +24,11 @@ use Rattle.machine.specs.Step.{Next, Trap, after_answer, branches, compares, loa
 use Rattle.machine.specs.Words.{word}
 use Rattle.rmap.specs.Command.{address_of, command_kind}
 use Rattle.policy.specs.Code.{applied, field_slots, field_test, kind_slots, kind_test, loaded, masked_test, quota_slots, quota_test, range_test, set_to, set_to_bits, skips_if, verdict_code}
-use Rattle.policy.specs.Limits.{IsByteField, IsLimited}
-use Rattle.policy.specs.Meaning.{agrees, draw, fields_of, has_kind, last_address_of, lies_between, ruled}
-use Rattle.policy.specs.declared.rules.Quota.{Quota}
-use Rattle.policy.specs.declared.rules.RuleKind.{RuleKind}
-use Rattle.policy.specs.declared.rules.RuleKind.TheVariants.{Read, Write, Rmw, Any}
+use Rattle.policy_table.specs.Limits.{IsByteField, IsLimited}
+use Rattle.policy_table.specs.Meaning.{agrees, draw, fields_of, has_kind, last_address_of, lies_between, ruled}
+use Rattle.policy_table.specs.declared.rules.Quota.{Quota}
+use Rattle.policy_table.specs.declared.rules.RuleKind.{RuleKind}
+use Rattle.policy_table.specs.declared.rules.RuleKind.TheVariants.{Read, Write, Rmw, Any}
 use Rattle.policy.proofs.Finishing.{Decision, Finishes, IsOfFirst, Performs, StandAt, asked, next, stopped}
 use Rattle.policy.proofs.Headers.{below_fails, bits_moved, front_byte, front_loaded, is_read, is_rmw, is_write, reach_fails, same_word, word_moved}
 

@@ -1,13 +1,3 @@
-pub mod Codes
-pub mod Fields
-pub mod Lines
-pub mod Meaning
-pub mod Limits
-pub mod Laws
 pub mod Compiled
 pub mod Code
 pub mod Meant
-pub mod Matching
-pub mod Words
-pub mod TableFaults
-pub mod Counts

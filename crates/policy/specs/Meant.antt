@@ -9,9 +9,10 @@ use Rattle.bpf_insn.specs.declared.insn.Insn.{Insn}
 use Rattle.machine.specs.Sizes.{Maps}
 use Rattle.bver.specs.Justified.{IsJustified}
 use Rattle.policy.specs.Code.{table_code}
-use Rattle.policy.specs.Compiled.{HasMeaning, compile_fault}
-use Rattle.policy.specs.Limits.{FitsFields}
-use Rattle.policy.specs.declared.rules.Rule.{Rule}
+use Rattle.policy.specs.Compiled.{HasMeaning}
+use Rattle.policy_table.specs.FirstFault.{compile_fault}
+use Rattle.policy_table.specs.Limits.{FitsFields}
+use Rattle.policy_table.specs.declared.rules.Rule.{Rule}
 
 -- the program of these instructions, without a loop, in version 1 of the format
 abbrev pub straight_program : (budget : ℕ) → List Insn → Program

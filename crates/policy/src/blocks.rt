@@ -3,13 +3,13 @@
 
 ghost use Rattle.std.specs.Prelude.{◌≡◌, ◌≤◌, ◌<◌, ◌++◌, OnOk};
 ghost use Rattle.policy.specs.Code.{address_code, field_slots, field_test, kind_test, last_address_code, masked_test, quota_slots, quota_test, range_test, verdict_code};
-ghost use Rattle.policy.specs.Limits.{IsLimited};
+ghost use Rattle.policy_table.specs.Limits.{IsLimited};
 ghost use Rattle.rmap.specs.Verdict.{verdict_number};
 
 use crate::insns::{apply, load, register, set, set_bits, skip_if, source, swap};
-use crate::rules::{Quota, RuleKind};
 use bpf_insn::{AluOp, Callee, Condition, Insn, LoadSize, Operand};
 use machine::Helper;
+use policy_table::{Quota, RuleKind};
 use rmap::field::{ADDRESS, INSTRUCTION, LENGTH};
 use rmap::{
     INCREMENT_BIT, READ_BITS, READ_MASK, RMW_BITS, RMW_MASK, Verdict, WRITE_BITS, WRITE_MASK,

@@ -3,14 +3,14 @@
 
 ghost use Rattle.std.specs.Prelude.{◌≡◌, ◌≤◌, ◌++◌, All, IfOk, OnOk, length};
 ghost use Rattle.policy.specs.Code.{rule_code, table_code};
-ghost use Rattle.policy.specs.Limits.{FitsFields, IsLimited};
+ghost use Rattle.policy_table.specs.Limits.{FitsFields, IsLimited};
 
 use crate::blocks::{
     FRONT, TAIL, field_slots, push_address, push_field, push_kind, push_last_address, push_quota,
     push_range, push_verdict, quota_slots,
 };
-use crate::rules::Rule;
 use bpf_insn::Insn;
+use policy_table::Rule;
 use rmap::Verdict;
 use rmap::field::{EXTENDED, INITIATOR, KEY};
 use std::alloc::{AllocError, Global};

@@ -1,36 +1,18 @@
-//! Policy tables: rules that say which verdict an application gives to a command (ECSS-E-ST-50-52C,
-//! authorisation), as text, as their meaning and as programs.
+//! Policy tables as programs: [`compile`] makes the program that decides as a table does (ECSS-E-ST-50-52C,
+//! authorisation).
 //!
-//! A [`Table`] is read from text, one [`Rule`] a line. [`Table::decide`] says what a table means for the
-//! header of a command: the tickets that it draws, and its verdict; [`Table::matched`] says by which rule it decides, and
-//! [`Rule::mismatch`] which word of a rule does not agree. [`compile`] makes the program that does so.
+//! A [`Table`] is read from text, one [`Rule`] a line, and [`Table::decide`] says what it means for the header of a
+//! command: both stand in the crate `policy_table`, which has no word of programs.
 #![tactic(auto)]
 
 mod blocks;
-mod checks;
 mod code;
 mod compiler;
-mod counts;
-mod deciding;
-mod faults;
-mod fields;
 mod insns;
-mod laws;
-mod lines;
-mod matching;
-mod rules;
-mod table_faults;
-mod tables;
-mod words;
 
-pub use checks::faults_have_places;
 pub use compiler::compile;
-pub use counts::Counts;
-pub use deciding::last_address;
-pub use faults::PolicyFault;
-pub use laws::{decisions, first_rule_matches, headers_have_fields, table_is_unambiguous};
-pub use matching::Match;
-pub use rules::{Quota, Rule, RuleKind};
-pub use table_faults::TableFault;
-pub use tables::Table;
-pub use words::RuleWord;
+pub use policy_table::{
+    Counts, Match, PolicyFault, Quota, Rule, RuleKind, RuleWord, Table, TableFault, decisions,
+    faults_have_places, first_rule_matches, headers_have_fields, last_address,
+    table_is_unambiguous,
+};

@@ -12,10 +12,10 @@ use Rattle.machine.specs.Runs.{AreAnswered, IsSafe, Path, entry, moves, answered
 use Rattle.machine.specs.State.{State}
 use Rattle.machine.specs.Step.{Question, question, Ask, step}
 use Rattle.policy.specs.Compiled.{HasMeaning}
-use Rattle.policy.specs.Matching.{matching_quota}
-use Rattle.policy.specs.Meaning.{decision, draw, told_by}
-use Rattle.policy.specs.declared.rules.Quota.{Quota}
-use Rattle.policy.specs.declared.rules.Rule.{Rule}
+use Rattle.policy_table.specs.Matching.{matching_quota}
+use Rattle.policy_table.specs.Meaning.{decision, draw, told_by}
+use Rattle.policy_table.specs.declared.rules.Quota.{Quota}
+use Rattle.policy_table.specs.declared.rules.Rule.{Rule}
 use Rattle.sched.specs.declared.event.Event.{Event}
 use Rattle.sched.specs.declared.event.Event.TheVariants.{Take, Count, Ticket, Peak, Effect, Publish}
 use Rattle.sched.specs.declared.event.Outcome.{Outcome}

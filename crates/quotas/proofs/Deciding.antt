@@ -5,10 +5,10 @@ use Rattle.std.proofs.lemmas.Bool.{ltb-true}
 use Rattle.machine.specs.declared.calls.Call.{Call}
 use Rattle.machine.specs.Memory.{Header}
 use Rattle.rmap.specs.Verdict.{verdict_number}
-use Rattle.policy.specs.Matching.{EndsByMatch, matched_by, matching_quota}
-use Rattle.policy.specs.Meaning.{decision, draw, holds, ruled}
-use Rattle.policy.specs.declared.rules.Quota.{Quota}
-use Rattle.policy.specs.declared.rules.Rule.{Rule}
+use Rattle.policy_table.specs.Matching.{EndsByMatch, matched_by, matching_quota}
+use Rattle.policy_table.specs.Meaning.{decision, draw, holds, ruled}
+use Rattle.policy_table.specs.declared.rules.Quota.{Quota}
+use Rattle.policy_table.specs.declared.rules.Rule.{Rule}
 use Rattle.sched.specs.Turns.{answers_of}
 use Rattle.quotas.proofs.Ends.{answers_behind, snoc_last}
 

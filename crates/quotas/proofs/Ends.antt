@@ -4,7 +4,7 @@ use Rattle.std.specs.Prelude.{All}
 use Rattle.std.proofs.lemmas.List.Elements.{All-cons, All-head, All-nil, All-tail}
 use Rattle.machine.specs.declared.calls.Call.{Call}
 use Rattle.machine.specs.Runs.{AreAnswered}
-use Rattle.policy.specs.Meaning.{told_by}
+use Rattle.policy_table.specs.Meaning.{told_by}
 use Rattle.sched.specs.Turns.{answers_of}
 
 pub no_end : {A : Type 0} (xs : List A) (a : A) → [] ≡ xs ++ a ∷ [] → ⊥

@@ -2,10 +2,10 @@
 use Rattle.std.specs.Prelude.{◌≡◌, ◌≢◌, ◌≤◌, ◌<◌, ◌^◌, ℕ, true, List, [], ◌∷◌, ◌++◌, length, Option, Some, All}
 use Rattle.machine.specs.declared.calls.Call.{Call}
 use Rattle.policy.specs.Compiled.{HasMeaning}
-use Rattle.policy.specs.Matching.{EndsByMatch, matching_quota}
-use Rattle.policy.specs.Meaning.{told_by}
-use Rattle.policy.specs.declared.rules.Quota.{Quota}
-use Rattle.policy.specs.declared.rules.Rule.{Rule}
+use Rattle.policy_table.specs.Matching.{EndsByMatch, matching_quota}
+use Rattle.policy_table.specs.Meaning.{told_by}
+use Rattle.policy_table.specs.declared.rules.Quota.{Quota}
+use Rattle.policy_table.specs.declared.rules.Rule.{Rule}
 use Rattle.rmap.specs.declared.status.Status.{Status}
 use Rattle.sched.specs.declared.event.Event.{Event}
 use Rattle.sched.specs.declared.event.Event.TheVariants.{Take}

@@ -1,6 +1,6 @@
 -- What the job `decide` leaves in a folder: its reads changed nothing.
 use Rattle.std.proofs.Common.{◌≡◌, inl, inr, ℕ, List, Option, Some, None, ◌∙◌}
-use Rattle.policy.specs.declared.rules.Rule.{Rule}
+use Rattle.policy_table.specs.declared.rules.Rule.{Rule}
 use Rattle.job_parts.specs.declared.faults.Fault.{Fault}
 use Rattle.job_parts.specs.declared.faults.Fault.TheVariants.{
   CannotRead,

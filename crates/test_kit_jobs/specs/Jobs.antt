@@ -20,8 +20,8 @@ use Rattle.commands.specs.declared.jobs.Job.TheVariants.{
 }
 use Rattle.machine.specs.Sizes.{Maps}
 use Rattle.policy.specs.Compiled.{IsCompiled}
-use Rattle.policy.specs.Lines.{IsTable}
-use Rattle.policy.specs.declared.rules.Rule.{Rule}
+use Rattle.policy_table.specs.Lines.{IsTable}
+use Rattle.policy_table.specs.declared.rules.Rule.{Rule}
 use Rattle.test_kit_jobs.specs.Folders.{FolderValue, Sets, content_of}
 
 -- the one file has the text of a program, and the other was set to its image

@@ -40,13 +40,13 @@ use Rattle.bver_form.specs.Loops.{IsLoopFormed}
 use Rattle.bver.specs.Justified.{IsCovered, IsHead, IsJustified, IsPermittedAt, IsResultCovered}
 use Rattle.policy.specs.Code.{address_code, behind_extended, behind_initiator, behind_key, behind_kind, behind_range, field_slots, field_test, kind_slots, kind_test, last_address_code, masked_test, quota_slots, quota_test, range_test, rule_code, rules_code, set_to_bits, skips_if, verdict_code}
 use Rattle.rmap.specs.Verdict.{verdict_number}
-use Rattle.policy.specs.Compiled.{compile_fault, quota_fault, rules_fault}
-use Rattle.policy.specs.Limits.{FitsFields, IsLimited}
+use Rattle.policy_table.specs.FirstFault.{compile_fault, quota_fault, rules_fault}
+use Rattle.policy_table.specs.Limits.{FitsFields, IsLimited}
 use Rattle.policy.specs.Meant.{table_program}
-use Rattle.policy.specs.declared.rules.Quota.{Quota}
-use Rattle.policy.specs.declared.rules.Rule.{Rule}
-use Rattle.policy.specs.declared.rules.RuleKind.{RuleKind}
-use Rattle.policy.specs.declared.rules.RuleKind.TheVariants.{Read, Write, Rmw, Any}
+use Rattle.policy_table.specs.declared.rules.Quota.{Quota}
+use Rattle.policy_table.specs.declared.rules.Rule.{Rule}
+use Rattle.policy_table.specs.declared.rules.RuleKind.{RuleKind}
+use Rattle.policy_table.specs.declared.rules.RuleKind.TheVariants.{Read, Write, Rmw, Any}
 use Rattle.policy.proofs.Compiling.{in_turn}
 use Rattle.policy.proofs.Refused.{no_faults, no_rules_fault, quota_inside}
 use Rattle.policy.proofs.Justified.Known.{below, below_in_rules, between, comparing, drawing, entry, entry_below, front, is_entry, known, mapped, moved_number, moved_same, number, proper_front, proper_number, proper_tail, same_front, same_number, same_tail, tail, whole, whole_in_rules}

@@ -3,8 +3,8 @@ use Rattle.std.proofs.Math.Seq.{drop-cons}
 use Rattle.std.proofs.lemmas.List.Elements.{All-get_or}
 use Rattle.bpf_insn.specs.declared.insn.Insn.{Insn}
 use Rattle.policy.specs.Code.{rule_code, rules_code}
-use Rattle.policy.specs.Limits.{FitsFields}
-use Rattle.policy.specs.declared.rules.Rule.{Rule}
+use Rattle.policy_table.specs.Limits.{FitsFields}
+use Rattle.policy_table.specs.declared.rules.Rule.{Rule}
 use Rattle.policy.proofs.code.table_insns.Goals as goal
 
 -- one rule more, and the rules behind it

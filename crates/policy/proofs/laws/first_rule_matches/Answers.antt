@@ -1,9 +1,0 @@
-use Rattle.policy.proofs.FirstMatches.{first}
-use Rattle.policy.proofs.Walks.{decides}
-use Rattle.policy.proofs.laws.first_rule_matches.Goals as goal
-
-pub returns-clause-first : goal.returns-clause-first
-returns-clause-first c = first
-
-pub returns-clause-verdict : goal.returns-clause-verdict
-returns-clause-verdict c = decides

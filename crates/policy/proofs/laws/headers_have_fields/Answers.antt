@@ -1,5 +1,0 @@
-use Rattle.policy.proofs.Outcomes.{have_fields}
-use Rattle.policy.proofs.laws.headers_have_fields.Goals as goal
-
-pub returns : goal.returns
-returns c = have_fields

@@ -1,5 +1,0 @@
-use Rattle.policy.proofs.Fitting.{rules_fit}
-use Rattle.policy.proofs.tables.Table.read_for.Goals as goal
-
-pub invariant_of-result : goal.invariant_of-result
-invariant_of-result c = rules_fit _ _ c.in_ok-rules.ensures.read

@@ -1,0 +1,9 @@
+mod Outcomes
+mod Readings
+mod Numerals
+mod Fitting
+mod VerdictWords
+mod Walks
+mod Placing
+mod FirstMatches
+mod BadLines

@@ -1,0 +1,168 @@
+-- What tables decide, rule by rule.
+use Rattle.std.specs.Prelude.{slice_index, nat_lt, if◌then◌else◌}
+use Rattle.std.proofs.Common.{◌≡◌, ◌≤◌, ◌+◌, ◌-◌, ℕ, suc, Bool, true, false, List, [], ◌∷◌, ◌++◌, length, get_or, take, drop, Option, Some, None, refl, sym, ap, ◌∙◌, arith, append_assoc, add-zero}
+use Rattle.std.proofs.Math.Seq.{take-length}
+use Rattle.std.proofs.lemmas.List.Elements.{All-head, All-tail}
+use Rattle.machine.specs.declared.calls.Call.{Call}
+use Rattle.machine.specs.Memory.{Header}
+use Rattle.machine.specs.Runs.{AreAnswered}
+use Rattle.rmap.specs.Verdict.{verdict_number}
+use Rattle.policy_table.specs.Laws.{DrawsAreAnswered, DrawsAreFew, FirstRuleDecides, HeadersHaveFields, NoRuleRefuses}
+use Rattle.policy_table.specs.Meaning.{decision, draw, holds, ruled}
+use Rattle.policy_table.specs.declared.rules.Quota.{Quota}
+use Rattle.policy_table.specs.declared.rules.Rule.{Rule}
+
+pub have_fields : HeadersHaveFields
+have_fields c = record {
+  key = refl;
+  initiator = refl;
+  extended = refl;
+  address = refl;
+  length = refl;
+  kind = refl;
+  increment = refl;
+}
+
+-- one of two decisions
+abbrev chosen : Bool → (held other : List Call × ℕ) → List Call × ℕ
+chosen t held other = if t then held else other
+
+-- ---- how many draws
+
+few_drawn : (t : Bool) (c : Call) (code : ℕ) (rest : List Call × ℕ) (n : ℕ) → length rest.0 ≤ n
+    → length (chosen t (c ∷ [], code) (c ∷ rest.0, rest.1)).0 ≤ suc n
+few_drawn true c code rest n h = omega arith
+few_drawn false c code rest n h = omega (arith, h)
+
+few_ruled : (quota : Option Quota) (code : ℕ) (told : ℕ → ℕ) (rest : List Call × ℕ) (n : ℕ) → length rest.0 ≤ n
+    → length (ruled quota code told rest).0 ≤ suc n
+few_ruled None code told rest n h = omega arith
+few_ruled (Some quota) code told rest n h =
+    few_drawn (nat_lt (told 0) quota.limit) (draw quota (told 0)) code rest n h
+
+few_if : (t : Bool) (held other : List Call × ℕ) (n : ℕ) → length held.0 ≤ suc n → length other.0 ≤ n
+    → length (chosen t held other).0 ≤ suc n
+few_if true held other n h g = h
+few_if false held other n h g = omega (arith, g)
+
+pub draws_are_few : DrawsAreFew
+draws_are_few [] header told = omega arith
+draws_are_few (rule ∷ rules) header told =
+    few_if (holds rule header) (ruled rule.quota (verdict_number rule.verdict) told (decision rules header (λ k. told (suc k)))) (decision rules header told) (length rules)
+    (few_ruled rule.quota (verdict_number rule.verdict) told (decision rules header (λ k. told (suc k))) (length rules) (draws_are_few rules header (λ k. told (suc k))))
+    (draws_are_few rules header told)
+
+-- ---- their answers
+
+answered_drawn : (t : Bool) (quota : Quota) (code : ℕ) (told : ℕ → ℕ) (rest : List Call × ℕ) → AreAnswered (λ k. told (suc k)) rest.0
+    → AreAnswered told (chosen t (draw quota (told 0) ∷ [], code) (draw quota (told 0) ∷ rest.0, rest.1)).0
+answered_drawn true quota code told rest h = (refl, tt)
+answered_drawn false quota code told rest h = (refl, h)
+
+answered_ruled : (quota : Option Quota) (code : ℕ) (told : ℕ → ℕ) (rest : List Call × ℕ) → AreAnswered (λ k. told (suc k)) rest.0
+    → AreAnswered told (ruled quota code told rest).0
+answered_ruled None code told rest h = tt
+answered_ruled (Some quota) code told rest h = answered_drawn (nat_lt (told 0) quota.limit) quota code told rest h
+
+answered_if : (t : Bool) (told : ℕ → ℕ) (held other : List Call × ℕ) → AreAnswered told held.0 → AreAnswered told other.0
+    → AreAnswered told (chosen t held other).0
+answered_if true told held other h g = h
+answered_if false told held other h g = g
+
+pub draws_are_answered : DrawsAreAnswered
+draws_are_answered [] header told = tt
+draws_are_answered (rule ∷ rules) header told =
+    answered_if (holds rule header) told (ruled rule.quota (verdict_number rule.verdict) told (decision rules header (λ k. told (suc k)))) (decision rules header told)
+    (answered_ruled rule.quota (verdict_number rule.verdict) told (decision rules header (λ k. told (suc k))) (draws_are_answered rules header (λ k. told (suc k))))
+    (draws_are_answered rules header told)
+
+-- ---- which rule decides
+
+pub skipped : (t : Bool) (held other : List Call × ℕ) → t ≡ false → chosen t held other ≡ other
+skipped true held other e = cc
+skipped false held other e = refl
+
+pub taken : (t : Bool) (held other : List Call × ℕ) → t ≡ true → chosen t held other ≡ held
+taken true held other e = refl
+taken false held other e = cc
+
+pub unlimited : (quota : Option Quota) (code : ℕ) (told : ℕ → ℕ) (rest : List Call × ℕ) → quota ≡ None
+    → ruled quota code told rest ≡ ([], code)
+unlimited None code told rest e = refl
+unlimited (Some quota) code told rest e = cc
+
+-- a rule whose conditions do not hold says nothing
+pub passes_over : (rule : Rule) (rules : List Rule) (header : Header) (told : ℕ → ℕ) → holds rule header ≡ false
+    → decision (rule ∷ rules) header told ≡ decision rules header told
+passes_over rule rules header told e =
+    skipped (holds rule header) (ruled rule.quota (verdict_number rule.verdict) told (decision rules header (λ k. told (suc k)))) (decision rules header told) e
+
+-- a rule whose conditions hold rules
+pub rules_by : (rule : Rule) (rules : List Rule) (header : Header) (told : ℕ → ℕ) → holds rule header ≡ true
+    → decision (rule ∷ rules) header told ≡ ruled rule.quota (verdict_number rule.verdict) told (decision rules header (λ k. told (suc k)))
+rules_by rule rules header told e =
+    taken (holds rule header) (ruled rule.quota (verdict_number rule.verdict) told (decision rules header (λ k. told (suc k)))) (decision rules header told) e
+
+pub first_rule : FirstRuleDecides
+first_rule [] after rule header told all held none =
+    rules_by rule after header told held ∙ unlimited rule.quota (verdict_number rule.verdict) told (decision after header (λ k. told (suc k))) none
+first_rule (other ∷ before) after rule header told all held none =
+    let P : Rule → Type 0 = λ r. holds r header ≡ false in
+    passes_over other (before ++ rule ∷ after) header told (All-head P other before all)
+    ∙ first_rule before after rule header told (All-tail P other before all) held none
+
+pub no_rule : NoRuleRefuses
+no_rule [] header told all = refl
+no_rule (rule ∷ rules) header told all =
+    let P : Rule → Type 0 = λ r. holds r header ≡ false in
+    passes_over rule rules header told (All-head P rule rules all) ∙ no_rule rules header told (All-tail P rule rules all)
+
+-- ---- answers from a list, from one of them on
+
+-- the answers behind so many
+abbrev pub told_from : List ℕ → (drawn : ℕ) → ℕ → ℕ
+told_from answers drawn k = slice_index answers (drawn + k)
+
+pub decision_same : (rules : List Rule) (header : Header) (told other : ℕ → ℕ) → ((k : ℕ) → told k ≡ other k) → decision rules header told ≡ decision rules header other
+decision_same rules header told other same =
+    let functions : told ≡ other = λ i. λ k. same k i in ap (λ (f : ℕ → ℕ). decision rules header f) functions
+
+-- a list that is not empty, cut behind its first element
+pub cut : {X : Type 0} (xs : List X) (d : X) → 1 ≤ length xs → xs ≡ get_or xs 0 d ∷ take (length xs - 1) (drop 1 xs)
+cut [] d some = absurd (omega (arith, some))
+cut (x ∷ xs) d some =
+    let one_less : suc (length xs) - 1 ≡ length xs = omega arith in
+    sym (ap (λ (n : ℕ). x ∷ take n xs) one_less ∙ ap (λ (l : List _). x ∷ l) (take-length xs))
+
+limited : (found : Option Quota) (quota : Quota) (code : ℕ) (told : ℕ → ℕ) (rest : List Call × ℕ) → found ≡ Some quota → nat_lt (told 0) quota.limit ≡ false
+    → ruled found code told rest ≡ (draw quota (told 0) ∷ rest.0, rest.1)
+limited found quota code told rest is spent =
+    ap (λ (o : Option Quota). ruled o code told rest) is
+    ∙ skipped (nat_lt (told 0) quota.limit) (draw quota (told 0) ∷ [], code) (draw quota (told 0) ∷ rest.0, rest.1) spent
+
+-- a rule whose quota is spent has drawn, and the others decide by the answers behind
+draws_on : (rule : Rule) (later : List Rule) (header : Header) (answers : List ℕ) (drawn answer : ℕ) (quota : Quota)
+    → holds rule header ≡ true → rule.quota ≡ Some quota → answer ≡ slice_index answers drawn → nat_lt answer quota.limit ≡ false
+    → decision (rule ∷ later) header (told_from answers drawn) ≡ (draw quota answer ∷ (decision later header (told_from answers (drawn + 1))).0, (decision later header (told_from answers (drawn + 1))).1)
+draws_on rule later header answers drawn answer quota held is first spent =
+    let told : ℕ → ℕ = told_from answers drawn in
+    let rest : List Call × ℕ = decision later header (λ k. told (suc k)) in
+    let here : told 0 ≡ answer = ap (λ (i : ℕ). slice_index answers i) (add-zero drawn) ∙ sym first in
+    let behind : rest ≡ decision later header (told_from answers (drawn + 1)) = decision_same later header (λ k. told (suc k)) (told_from answers (drawn + 1)) (λ k. ap (λ (i : ℕ). slice_index answers i) (omega arith)) in
+    let pair : List Call × ℕ → List Call × ℕ = λ d. (draw quota answer ∷ d.0, d.1) in
+    let over : nat_lt (told 0) quota.limit ≡ false = ap (λ (a : ℕ). nat_lt a quota.limit) here ∙ spent in
+    rules_by rule later header told held ∙ limited rule.quota quota (verdict_number rule.verdict) told rest is over
+    ∙ ap (λ (a : ℕ). (draw quota a ∷ rest.0, rest.1)) here ∙ ap pair behind
+
+-- what is left to decide after a draw, with the draw behind the calls before it
+pub drawn_on : (whole : List Call × ℕ) (left later : List Rule) (rule : Rule) (header : Header) (answers : List ℕ) (drawn answer : ℕ) (quota : Quota) (before calls after : List Call)
+    → left ≡ rule ∷ later → holds rule header ≡ true → rule.quota ≡ Some quota → answer ≡ slice_index answers drawn → nat_lt answer quota.limit ≡ false
+    → after ≡ calls ++ draw quota answer ∷ []
+    → before ++ whole.0 ≡ calls ++ (decision left header (told_from answers drawn)).0 → whole.1 ≡ (decision left header (told_from answers drawn)).1
+    → (before ++ whole.0 ≡ after ++ (decision later header (told_from answers (drawn + 1))).0) × (whole.1 ≡ (decision later header (told_from answers (drawn + 1))).1)
+drawn_on whole left later rule header answers drawn answer quota before calls after parts held is first spent pushed draws verdict =
+    let rest : List Call × ℕ = decision later header (told_from answers (drawn + 1)) in
+    let step : decision left header (told_from answers drawn) ≡ (draw quota answer ∷ rest.0, rest.1) = ap (λ (rs : List Rule). decision rs header (told_from answers drawn)) parts ∙ draws_on rule later header answers drawn answer quota held is first spent in (
+      draws ∙ ap (λ (d : List Call × ℕ). calls ++ d.0) step ∙ sym (append_assoc calls (draw quota answer ∷ []) rest.0) ∙ ap (λ (cs : List Call). cs ++ rest.0) (sym pushed),
+      verdict ∙ ap (λ (d : List Call × ℕ). d.1) step,
+    )

@@ -1,0 +1,10 @@
+use Rattle.std.proofs.Common.{◌≡◌, ◌+◌, ◌-◌, ◌≤◌, length, vec_len}
+use Rattle.std.specs.Vec.{vec_capacity}
+use Rattle.machine.specs.Memory.{header}
+use Rattle.policy_table.proofs.Walks.{IsOnWay}
+use Rattle.policy_table.proofs.matching.match_of.Given as goal
+
+abbrev pub invariant-loop-rule : goal.invariant-loop-rule
+invariant-loop-rule l = (l.number ≡ l.rule-index)
+    × (vec_len l.calls + (length l.rules - l.rule-index) ≤ vec_capacity l.calls)
+    × IsOnWay l.rules (header l.front l.tail) l.fn.calls.items l.fn.counts l.rule-index l.calls.items l.counts

@@ -1,0 +1,11 @@
+pub mod Codes
+pub mod Fields
+pub mod Lines
+pub mod Meaning
+pub mod Limits
+pub mod Laws
+pub mod FirstFault
+pub mod Matching
+pub mod Words
+pub mod TableFaults
+pub mod Counts

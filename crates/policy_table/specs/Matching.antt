@@ -1,0 +1,115 @@
+-- By which rule a policy table decides, and the first word of a rule that does not agree with a header.
+use Rattle.std.specs.Prelude.{◌≡◌, ◌+◌, ◌++◌, ℕ, suc, true, not, nat_le, nat_lt, if◌then◌else◌, List, [], ◌∷◌, length, Option, Some, None, option_map}
+use Rattle.machine.specs.declared.calls.Call.{Call}
+use Rattle.machine.specs.Memory.{Header}
+use Rattle.policy_table.specs.Meaning.{agrees, decision, draw, fields_of, has_kind, holds, last_address_of}
+use Rattle.policy_table.specs.declared.matching.Match.{Match}
+use Rattle.policy_table.specs.declared.rules.Quota.{Quota}
+use Rattle.policy_table.specs.declared.rules.Rule.{Rule}
+use Rattle.policy_table.specs.declared.words.RuleWord.{RuleWord}
+use Rattle.policy_table.specs.declared.words.RuleWord.TheVariants as words
+use Rattle.rmap.specs.Command.{
+  CommandValue,
+  key_of,
+  initiator_of,
+  extended_of,
+  address_of,
+  command_kind,
+}
+use Rattle.rmap.specs.Verdict.{verdict_number}
+use Rattle.rmap.specs.declared.verdict.Verdict.{Verdict}
+use Rattle.rmap.specs.declared.verdict.Verdict.TheVariants.{NotAuthorised}
+
+-- the quota of a rule whose conditions hold, where its ticket is below the limit; one without a quota has
+-- none, and where
+-- the ticket is not below the limit the rest decides
+abbrev pub matched_by : Option Quota → (told : ℕ → ℕ) → (rest : Option Quota) → Option Quota
+matched_by None told rest = None
+matched_by (Some quota) told rest = if nat_lt (told 0) quota.limit then Some quota else rest
+
+-- the quota of the rule that decides, by the recursion of `decision`
+abbrev pub matching_quota : List Rule → Header → (told : ℕ → ℕ) → Option Quota
+matching_quota [] header told = None
+matching_quota (rule ∷ rules) header told =
+    if holds rule header
+    then matched_by rule.quota told (matching_quota rules header (λ k. told (suc k)))
+    else matching_quota rules header told
+
+-- the calls are the draws of a decision, each with its answer, and it ends by the match of a rule with this quota
+pub record EndsByMatch (rules : List Rule) (header : Header) (calls : List Call) (map key limit : ℕ) : Type 0 where
+  pub told : ℕ → ℕ
+  pub draws : calls ≡ (decision rules header told).0
+  pub quota : Quota
+  pub matched : matching_quota rules header told ≡ Some quota
+  pub of_map : quota.map ≡ map
+  pub of_cell : quota.cell ≡ key
+  pub of_limit : quota.limit ≡ limit
+
+-- ---- which rule
+
+-- the match of the rule of this number, with its draw, if it has one
+abbrev pub first_match : (number : ℕ) → (ticket : Option Call) → Verdict → Match
+first_match number ticket verdict = record { rule = Some number; ticket = ticket; verdict = verdict }
+
+-- no rule matches, and the command is not authorised
+abbrev pub no_match : Match
+no_match = record { rule = None; ticket = None; verdict = NotAuthorised }
+
+-- the same match where so many rules stand before
+abbrev pub behind : (before : ℕ) → Match → Match
+behind before m = record { rule = option_map (λ number. before + number) m.rule; ticket = m.ticket; verdict = m.verdict }
+
+-- a rule whose conditions hold: without a quota it matches, with one where its ticket is below the limit; else a later
+-- rule may
+abbrev pub match_by : Option Quota → Verdict → (told : ℕ → ℕ) → (rest : Match) → Match
+match_by None verdict told rest = first_match 1 None verdict
+match_by (Some quota) verdict told rest =
+    if nat_lt (told 0) quota.limit then first_match 1 (Some (draw quota (told 0))) verdict else behind 1 rest
+
+-- by which rule a table decides, by the recursion of `decision`
+abbrev pub matched : List Rule → Header → (told : ℕ → ℕ) → Match
+matched [] header told = no_match
+matched (rule ∷ rules) header told =
+    if holds rule header
+    then match_by rule.quota rule.verdict told (matched rules header (λ k. told (suc k)))
+    else behind 1 (matched rules header told)
+
+-- the rule of this number stands there, its conditions hold, and no rule before it matches
+pub record IsFirst (rules : List Rule) (header : Header) (told : ℕ → ℕ) (number : ℕ) : Type 0 where
+  pub before : List Rule
+  pub rule : Rule
+  pub rest : List Rule
+  pub rules_are : rules ≡ before ++ rule ∷ rest
+  pub place : number ≡ suc (length before)
+  pub conditions : holds rule header ≡ true
+  pub none_before : (matched before header told).rule ≡ None
+
+-- the rule by which a table decides is the first that matches
+abbrev pub FirstMatches : Type 0
+FirstMatches =
+    (rules : List Rule) (header : Header) (told : ℕ → ℕ) (number : ℕ)
+    → (matched rules header told).rule ≡ Some number → IsFirst rules header told number
+
+-- its verdict is that of the decision
+abbrev pub MatchDecides : Type 0
+MatchDecides =
+    (rules : List Rule) (header : Header) (told : ℕ → ℕ)
+    → verdict_number (matched rules header told).verdict ≡ (decision rules header told).1
+
+-- ---- which word
+
+-- the first word of a rule that does not agree with a command, in the order of the tests: kind, key, initiator logical
+-- address, extended address, first address, last address
+abbrev pub mismatch_of : Rule → CommandValue → Option RuleWord
+mismatch_of rule c =
+    if not (has_kind rule.kind (command_kind c)) then Some words.Kind
+    else if not (agrees rule.key (key_of c)) then Some words.Key
+    else if not (agrees rule.initiator (initiator_of c)) then Some words.Initiator
+    else if not (agrees rule.extended (extended_of c)) then Some words.Extended
+    else if not (nat_le rule.low (address_of c)) then Some words.Low
+    else if not (nat_le (last_address_of c) rule.high) then Some words.High
+    else None
+
+-- the same of a header
+abbrev pub mismatch : Rule → Header → Option RuleWord
+mismatch rule header = mismatch_of rule (fields_of header)

@@ -1,0 +1,70 @@
+//! How many tickets were drawn.
+
+ghost use Rattle.std.specs.Prelude.{◌≡◌, IfOk, replicate};
+ghost use Rattle.policy_table.specs.Counts.{after_draw, cell_place, next_ticket};
+ghost use Rattle.policy_table.specs.Meaning.{draw};
+
+use crate::rules::Quota;
+use machine::{Call, Helper, MAX_CELLS, MAX_MAPS, Question};
+use std::alloc::{AllocError, Global};
+use std::marker::Model;
+
+/// How many counts there are: as many cells as all maps have together, for each map.
+const COUNTS: usize = MAX_MAPS * MAX_CELLS as usize;
+
+/// How many tickets were drawn of each cell of the maps of a node, modulo 2^64. Contracts see the counts by the place of
+/// the cell.
+#[derive(Debug, Drop)]
+pub struct Counts {
+    counts: Vec<u64>,
+}
+
+impl Model for Counts {
+    ghost use Rattle.std.specs.Prelude.{ℕ, List};
+
+    ghost Value = { List ℕ };
+
+    ghost view = { λ c. c.counts.items };
+}
+
+/// The place of a cell among the counts.
+fn cell_place(quota: &Quota) -> usize
+    ensures { result ≡ cell_place quota.now.map quota.now.cell }
+{
+    usize::from(quota.map) * usize::from(MAX_CELLS) + usize::from(quota.cell)
+}
+
+impl Counts {
+    /// No ticket of any cell.
+    pub fn new(alloc: Global) -> Result<Counts, AllocError>
+        ensures { IfOk result (λ counts. counts ≡ replicate 2048 0) }
+    {
+        let mut counts = Vec::with_capacity(alloc, COUNTS)?;
+        for _cell in 0..COUNTS {
+            counts.push(0)?;
+        }
+        Ok(Counts { counts })
+    }
+
+    /// Draws a ticket of a quota's cell: its number is how many were drawn before. Of a cell that no node has it is 0.
+    pub fn draw(&mut self, quota: &Quota) -> Call
+        ensures drawn { result ≡ draw quota.now (next_ticket self.old quota.now) }
+        ensures counts { self.new ≡ after_draw self.old quota.now.map quota.now.cell }
+    {
+        let place = cell_place(quota);
+        let mut answer = 0;
+        if let Some(count) = self.counts.get_mut(place) {
+            answer = *count;
+            *count = count.wrapping_add(1);
+        }
+        Call {
+            question: Question {
+                helper: Helper::Ticket,
+                map: quota.map,
+                key: quota.cell,
+                argument: 0,
+            },
+            answer,
+        }
+    }
+}

@@ -1,0 +1,31 @@
+//! Policy tables as text and as what they mean: rules that say which verdict an application gives to a command
+//! (ECSS-E-ST-50-52C, authorisation).
+//!
+//! A [`Table`] is read from text, one [`Rule`] a line. [`Table::decide`] says what a table means for the
+//! header of a command: the tickets that it draws, and its verdict; [`Table::matched`] says by which rule it decides, and
+//! [`Rule::mismatch`] which word of a rule does not agree. The program of a table is made in the crate `policy`.
+#![tactic(auto)]
+
+mod checks;
+mod counts;
+mod deciding;
+mod faults;
+mod fields;
+mod laws;
+mod lines;
+mod matching;
+mod rules;
+mod table_faults;
+mod tables;
+mod words;
+
+pub use checks::faults_have_places;
+pub use counts::Counts;
+pub use deciding::last_address;
+pub use faults::PolicyFault;
+pub use laws::{decisions, first_rule_matches, headers_have_fields, table_is_unambiguous};
+pub use matching::Match;
+pub use rules::{Quota, Rule, RuleKind};
+pub use table_faults::TableFault;
+pub use tables::Table;
+pub use words::RuleWord;

@@ -1,0 +1,137 @@
+//! The lines of a policy table, one rule a line.
+
+ghost use Rattle.std.specs.Prelude.{◌≡◌, [], ◌∷◌, length, MatchOption, MatchResult, IfErr, IfOk};
+ghost use Rattle.spw.specs.Line.{lines_of, words_of};
+ghost use Rattle.policy_table.specs.Lines.{IsRule, IsTable};
+ghost use Rattle.policy_table.specs.TableFaults.{IsNoRule, IsUnread};
+ghost use Rattle.policy_table.specs.Words.{AreWordsOf, IsFirstBad, texts_of};
+
+use crate::fields::{address_of, field_of, kind_of, quota_of, verdict_of};
+use crate::rules::Rule;
+use crate::table_faults::TableFault;
+use crate::words::RuleWord;
+use spw::lines_of;
+use std::alloc::{AllocError, Global};
+
+/// The words of a line that writes a rule.
+#[derive(Drop)]
+struct Words<'a> {
+    kind: &'a str,
+    key: &'a str,
+    initiator: &'a str,
+    extended: &'a str,
+    low: &'a str,
+    high: &'a str,
+    quota: &'a str,
+    verdict: &'a str,
+}
+
+/// The eight words of a line, where it has so many.
+fn eight_words(line: &str) -> Option<Words<'_>>
+    ensures { MatchOption result (¬ (length (words_of line.now) ≡ 8)) (λ words. words_of line.now
+        ≡ words.kind.now ∷ words.key.now ∷ words.initiator.now ∷ words.extended.now
+        ∷ words.low.now ∷ words.high.now ∷ words.quota.now ∷ words.verdict.now ∷ []) }
+{
+    let mut words = line.split(' ').filter(|word| !word.is_empty());
+    let kind = words.next()?;
+    let key = words.next()?;
+    let initiator = words.next()?;
+    let extended = words.next()?;
+    let low = words.next()?;
+    let high = words.next()?;
+    let quota = words.next()?;
+    let verdict = words.next()?;
+    match words.next() {
+        None => Some(Words {
+            kind,
+            key,
+            initiator,
+            extended,
+            low,
+            high,
+            quota,
+            verdict,
+        }),
+        Some(_) => None,
+    }
+}
+
+/// How many words a line has.
+fn words_in(line: &str) -> usize
+    ensures { result ≡ length (words_of line.now) }
+{
+    let words = line.split(' ').filter(|word| !word.is_empty());
+    words.count()
+}
+
+/// The rule that eight words write, or the first of them that is none of its field.
+fn rule_of(words: &Words) -> Result<Rule, RuleWord>
+    ensures { MatchResult result (AreWordsOf (texts_of words.now))
+        (IsFirstBad (texts_of words.now)) }
+{
+    let Some(kind) = kind_of(words.kind) else {
+        return Err(RuleWord::Kind);
+    };
+    let Some(key) = field_of(words.key) else {
+        return Err(RuleWord::Key);
+    };
+    let Some(initiator) = field_of(words.initiator) else {
+        return Err(RuleWord::Initiator);
+    };
+    let Some(extended) = field_of(words.extended) else {
+        return Err(RuleWord::Extended);
+    };
+    let Some(low) = address_of(words.low) else {
+        return Err(RuleWord::Low);
+    };
+    let Some(high) = address_of(words.high) else {
+        return Err(RuleWord::High);
+    };
+    let Some(quota) = quota_of(words.quota) else {
+        return Err(RuleWord::Quota);
+    };
+    let Some(verdict) = verdict_of(words.verdict) else {
+        return Err(RuleWord::Verdict);
+    };
+    Ok(Rule {
+        kind,
+        key,
+        initiator,
+        extended,
+        low,
+        high,
+        quota,
+        verdict,
+    })
+}
+
+/// The rule that the line of this number writes, or why it writes none.
+fn read_rule(line: &str, number: usize) -> Result<Rule, TableFault>
+    ensures read { IfOk result (IsRule line.now) }
+    ensures fault { IfErr result (IsNoRule line.now number) }
+{
+    let Some(words) = eight_words(line) else {
+        let words = words_in(line);
+        return Err(TableFault::BadCount {
+            line: number,
+            words,
+        });
+    };
+    match rule_of(&words) {
+        Ok(rule) => Ok(rule),
+        Err(word) => Err(TableFault::BadWord { line: number, word }),
+    }
+}
+
+/// The rules of the lines of a text. A line is ended by a line feed, which the last may lack.
+pub fn read_rules(alloc: Global, text: &str) -> Result<Vec<Rule>, TableFault>
+    ensures read { IfOk result (λ rules. IsTable text.now rules.items) }
+    ensures fault { IfErr result (IsUnread (lines_of text.now)) }
+{
+    let mut rules = Vec::new(alloc);
+    for line in lines_of(text) {
+        let rule = read_rule(line, rules.len() + 1)?;
+        rules.push(rule).map_err(AllocError::from)?;
+    }
+    Ok(rules)
+}

@@ -1,0 +1,75 @@
+//! By which rule a table decides.
+
+ghost use Rattle.std.specs.Prelude.{◌≡◌, ◌+◌, ◌≤◌, ◌++◌, length, vec_len};
+ghost use Rattle.std.specs.Vec.{vec_capacity};
+ghost use Rattle.machine.specs.Memory.{header};
+ghost use Rattle.policy_table.specs.Counts.{after_draws, told_on};
+ghost use Rattle.policy_table.specs.Matching.{first_match, matched};
+ghost use Rattle.policy_table.specs.Meaning.{decision};
+
+use crate::counts::Counts;
+use crate::rules::Rule;
+use machine::Call;
+use rmap::Verdict;
+
+/// By which rule a table decides.
+#[derive(Clone, Copy, Debug, PartialEq, Eq)]
+pub struct Match {
+    /// The number of the first rule that matches, from 1; `None` where none does.
+    pub rule: Option<usize>,
+    /// The draw of this rule, where it has a quota: its answer is the ticket.
+    pub ticket: Option<Call>,
+    /// Its verdict; not authorised where no rule matches.
+    pub verdict: Verdict,
+}
+
+/// The match of the rule of this number.
+fn by_rule(rule: &Rule, number: usize, ticket: Option<Call>) -> Match
+    ensures { result ≡ first_match number ticket rule.now.verdict }
+{
+    Match {
+        rule: Some(number),
+        ticket,
+        verdict: rule.verdict,
+    }
+}
+
+/// By which rule a table of these rules decides. Each draw is appended to the calls, for which there is room.
+pub fn match_of(
+    rules: &[Rule],
+    front: &[u8; 4],
+    tail: &[u8; 12],
+    counts: &mut Counts,
+    calls: &mut Vec<Call>,
+) -> Match
+    requires { vec_len calls.old + length rules.now ≤ vec_capacity calls.old }
+    ensures found { result ≡ matched rules.now (header front.now tail.now)
+        (told_on counts.old rules.now (header front.now tail.now)) }
+    ensures draws { calls.new.items ≡ calls.old.items
+        ++ (decision rules.now (header front.now tail.now)
+        (told_on counts.old rules.now (header front.now tail.now))).0 }
+    ensures counts { counts.new ≡ after_draws counts.old
+        (decision rules.now (header front.now tail.now)
+        (told_on counts.old rules.now (header front.now tail.now))).0 }
+{
+    let mut number = 0;
+    for rule in rules {
+        number += 1;
+        if !rule.holds(front, tail) {
+            continue;
+        }
+        let Some(quota) = rule.quota else {
+            return by_rule(rule, number, None);
+        };
+        let call = counts.draw(&quota);
+        calls.push_reserved(call);
+        if call.answer < u64::from(quota.limit) {
+            return by_rule(rule, number, Some(call));
+        }
+    }
+    Match {
+        rule: None,
+        ticket: None,
+        verdict: Verdict::NotAuthorised,
+    }
+}

@@ -1,0 +1,214 @@
+//! Policy tables.
+
+ghost use Rattle.std.specs.Prelude.{◌≡◌, ◌+◌, ◌≤◌, ◌++◌, All, length, slice_index, vec_len, IfErr, IfOk, None, OnErr, OnOk, option_map};
+ghost use Rattle.std.specs.Vec.{vec_capacity};
+ghost use Rattle.machine.specs.Memory.{header};
+ghost use Rattle.spw.specs.Line.{lines_of};
+ghost use Rattle.policy_table.specs.FirstFault.{compile_fault};
+ghost use Rattle.policy_table.specs.Counts.{after_draws, told_on};
+ghost use Rattle.policy_table.specs.Limits.{FitsFields};
+ghost use Rattle.policy_table.specs.Lines.{IsReadFault, IsTable};
+ghost use Rattle.policy_table.specs.Matching.{matched};
+ghost use Rattle.policy_table.specs.Meaning.{decision, draw as draw_of, told_by};
+ghost use Rattle.policy_table.specs.TableFaults.{IsTableFault, policy_fault_of, table_fault};
+
+use crate::checks::{faults_have_places, table_fault};
+use crate::counts::Counts;
+use crate::faults::PolicyFault;
+use crate::lines::read_rules;
+use crate::matching::{Match, match_of};
+use crate::rules::{Quota, Rule};
+use crate::table_faults::TableFault;
+use machine::{Call, Helper, MapSizes, Question};
+use rmap::Verdict;
+use std::alloc::{AllocError, Global};
+use std::marker::Model;
+
+/// A policy table: rules in order, of which the first that matches gives the verdict.
+#[derive(Debug, Drop)]
+pub struct Table {
+    rules: Vec<Rule>,
+}
+
+impl Model for Table {
+    ghost use Rattle.std.specs.Prelude.{List};
+    ghost use Rattle.policy_table.specs.declared.rules.Rule.{Rule};
+
+    ghost Value = { List Rule };
+
+    ghost use Rattle.std.specs.Prelude.{All};
+    ghost use Rattle.policy_table.specs.Limits.{FitsFields};
+
+    ghost view = { λ t. t.rules.items };
+
+    ghost invariant = { λ t. All FitsFields t.rules.items };
+}
+
+/// The answer of that number, or 0 where there is none left.
+fn answer_at(answers: &[u64], drawn: usize) -> u64
+    ensures { result ≡ slice_index answers.now drawn }
+{
+    answers.get(drawn).copied().unwrap_or(0)
+}
+
+/// The ticket of a quota that was drawn, with its answer.
+fn draw(quota: &Quota, answer: u64) -> Call
+    ensures { result ≡ draw_of quota.now answer }
+{
+    Call {
+        question: Question {
+            helper: Helper::Ticket,
+            map: quota.map,
+            key: quota.cell,
+            argument: 0,
+        },
+        answer,
+    }
+}
+
+/// What rules say of a header. Each draw is appended to the calls, for which there is room.
+fn decide_by(
+    rules: &[Rule],
+    front: &[u8; 4],
+    tail: &[u8; 12],
+    answers: &[u64],
+    calls: &mut Vec<Call>,
+) -> u64
+    requires { vec_len calls.old + length rules.now ≤ vec_capacity calls.old }
+    ensures draws { calls.new.items ≡ calls.old.items
+        ++ (decision rules.now (header front.now tail.now) (told_by answers.now)).0 }
+    ensures verdict { result
+        ≡ (decision rules.now (header front.now tail.now) (told_by answers.now)).1 }
+{
+    let mut left = rules;
+    let mut drawn = 0;
+    while let [rule, later @ ..] = left {
+        left = later;
+        if !rule.holds(front, tail) {
+            continue;
+        }
+        let Some(quota) = rule.quota else {
+            return u64::from(rule.verdict.number());
+        };
+        let answer = answer_at(answers, drawn);
+        drawn += 1;
+        calls.push_reserved(draw(&quota, answer));
+        if answer < u64::from(quota.limit) {
+            return u64::from(rule.verdict.number());
+        }
+    }
+    u64::from(Verdict::NotAuthorised.number())
+}
+
+impl Table {
+    /// The table that a text writes, one rule a line.
+    ///
+    /// A line is ended by a line feed, which the last may lack. It has eight words, with spaces between
+    /// them: kind (`read`, `write`, `rmw` or `any`), key, initiator logical address and extended address
+    /// (two hexadecimal digits, or `*` for any), first and last address (eight hexadecimal digits), quota
+    /// (`-` for none, or `MAP:CELL:LIMIT` in decimal, with a limit of at most 2,147,483,647) and verdict
+    /// (`0`, `3`, `10` or `12`). The empty text is the table without rules.
+    ///
+    /// # Errors
+    ///
+    /// `BadLine` where a line is none of these, a blank one too; `Memory` where memory was refused.
+    pub fn read(alloc: Global, text: &str) -> Result<Table, PolicyFault>
+        ensures read { IfOk result (IsTable text.now) }
+        ensures fault { IfErr result (IsReadFault (lines_of text.now)) }
+    {
+        match read_rules(alloc, text) {
+            Ok(rules) => Ok(Table { rules }),
+            Err(fault) => Err(fault.fault()),
+        }
+    }
+
+    /// The table that a text writes, as [`Table::read`] reads it, which compiles for a node with maps of these sizes but for
+    /// want of memory.
+    ///
+    /// # Errors
+    ///
+    /// The first fault of the text with its place: of the first line that is no rule, or that for which the table is not
+    /// compiled (`compile` of the crate `policy`). `Memory` where memory was refused.
+    pub fn read_for(alloc: Global, text: &str, sizes: &MapSizes) -> Result<Table, TableFault>
+        ensures read { IfOk result (IsTable text.now) }
+        ensures faultless { IfOk result (λ table. compile_fault sizes.now table ≡ None) }
+        ensures fault { IfErr result (IsTableFault sizes.now (lines_of text.now)) }
+    {
+        faults_have_places();
+        let rules = read_rules(alloc, text)?;
+        if let Some(fault) = table_fault(rules.as_slice(), sizes) {
+            return Err(fault);
+        }
+        Ok(Table { rules })
+    }
+
+    /// The first fault of the table for a node with maps of these sizes, with its place: that for which it is not
+    /// compiled.
+    pub fn fault_for(&self, sizes: &MapSizes) -> Option<TableFault>
+        ensures place { result ≡ table_fault sizes.now self.now }
+        ensures fault { option_map policy_fault_of result ≡ compile_fault sizes.now self.now }
+    {
+        faults_have_places();
+        table_fault(self.rules.as_slice(), sizes)
+    }
+
+    /// The rules, in order.
+    pub fn rules(&self) -> &[Rule]
+        ensures rules { result.now ≡ self.now }
+        ensures fit { All FitsFields self.now }
+    {
+        self.rules.as_slice()
+    }
+
+    /// What the table says of a header, without being compiled: the first four bytes of the header, target
+    /// logical address to key, and the last twelve, initiator logical address to header CRC. The answers of
+    /// its draws are taken in order, and 0 where none is left. Each draw is appended to the calls.
+    ///
+    /// # Errors
+    ///
+    /// Where memory was refused; the calls are as they were.
+    pub fn decide(
+        &self,
+        front: &[u8; 4],
+        tail: &[u8; 12],
+        answers: &[u64],
+        calls: &mut Vec<Call>,
+    ) -> Result<u64, AllocError>
+        ensures draws { OnOk result (calls.new.items ≡ calls.old.items
+            ++ (decision self.now (header front.now tail.now) (told_by answers.now)).0) }
+        ensures verdict { IfOk result (λ verdict. verdict
+            ≡ (decision self.now (header front.now tail.now) (told_by answers.now)).1) }
+        ensures kept { OnErr result (calls.new.items ≡ calls.old.items) }
+    {
+        calls.reserve(self.rules.len())?;
+        Ok(decide_by(self.rules.as_slice(), front, tail, answers, calls))
+    }
+
+    /// By which rule the table decides on a header, whose parts are those of [`Table::decide`], where its draws are answered
+    /// by counts. Each draw is appended to the calls, and counted.
+    ///
+    /// # Errors
+    ///
+    /// Where memory was refused; calls and counts are as they were.
+    pub fn matched(
+        &self,
+        front: &[u8; 4],
+        tail: &[u8; 12],
+        counts: &mut Counts,
+        calls: &mut Vec<Call>,
+    ) -> Result<Match, AllocError>
+        ensures found { IfOk result (λ found. found ≡ matched self.now (header front.now tail.now)
+            (told_on counts.old self.now (header front.now tail.now))) }
+        ensures draws { OnOk result (calls.new.items ≡ calls.old.items
+            ++ (decision self.now (header front.now tail.now)
+            (told_on counts.old self.now (header front.now tail.now))).0) }
+        ensures counts { OnOk result (counts.new ≡ after_draws counts.old
+            (decision self.now (header front.now tail.now)
+            (told_on counts.old self.now (header front.now tail.now))).0) }
+        ensures kept { OnErr result ((calls.new.items ≡ calls.old.items)
+            × (counts.new ≡ counts.old)) }
+    {
+        calls.reserve(self.rules.len())?;
+        Ok(match_of(self.rules.as_slice(), front, tail, counts, calls))
+    }
+}
