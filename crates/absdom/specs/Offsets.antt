@@ -4,7 +4,7 @@ use Rattle.std.specs.Int.{int_min, int_max}
 
 -- ---- the statement
 
--- whether it does
+-- whether a pointer may have this offset into its region
 abbrev pub is_offset : ℤ → Bool
 is_offset z = int_le (negsuc 65535) z && int_le z (pos 65536)
 

@@ -30,7 +30,7 @@ pub record WritesBits (most : ℕ) (word : List ℕ) (bits : ℕ) : Type 0 where
   pub hexadecimal : IsHexadecimal most digits
   pub written : bits ≡ digits_value 16 digits
 
--- the same for bits that are those of a number of 32 bits
+-- `0x` and at most eight hexadecimal digits, which are the bits of a signed number of 32 bits
 pub record WritesPattern (word : List ℕ) (value : ℤ) : Type 0 where
   pub bits : ℕ
   pub written : WritesBits 8 word bits

@@ -122,7 +122,7 @@ pub record IsJudged (judging : Judging) (p : Cargo) (h after : PassValue) : Type
   pub calls : judging.calls ≡ judgement.calls
   pub ended : IsBanked judging between after ⊎ IsWindowed judging between after
 
--- that became of the packet and of the port
+-- what became of one packet and of its port: it was dropped, answered without a run, or judged
 abbrev pub IsDealt : Deed → Cargo → (h after : PassValue) → Type 0
 IsDealt Dropped p h after = IsDropped p h after
 IsDealt (Answered reply) p h after = IsUnjudged reply p h after

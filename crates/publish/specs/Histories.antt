@@ -3,7 +3,7 @@ use Rattle.std.specs.Prelude.{ℕ, List, [], ◌∷◌, ◌++◌}
 use Rattle.bver.specs.Justified.{AcceptedValue}
 use Rattle.publish.specs.declared.history.Publish.{Publish}
 
--- that program, published for that slot
+-- the publish of a program for a slot
 abbrev pub entry : ℕ → AcceptedValue → Publish
 entry slot program = record { slot = slot; program = program }
 

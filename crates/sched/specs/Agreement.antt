@@ -7,7 +7,7 @@ use Rattle.publish.specs.Published.{judging_program}
 use Rattle.sched.specs.History.{History, Start, Then}
 use Rattle.sched.specs.Looking.{Node, published, published_at}
 
--- one more at the end, where something was published
+-- the programs that were published, with one more at the end where an event published one
 abbrev pub with_published : Option (ℕ × Program) → List (ℕ × Program) → List (ℕ × Program)
 with_published None made = made
 with_published (Some next) made = made ++ next ∷ []

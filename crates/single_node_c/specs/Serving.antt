@@ -33,7 +33,7 @@ pub record ServesPacket (port : ℕ) (packet : Cargo) (before after : SingleNode
   pub left_is : left ≡ put_front room reply
   pub numbers_are : numbers ≡ served_numbers told (length reply)
 
--- the same of the bytes of a packet and the number of its end
+-- a packet of those bytes, with the end of that number, was served at that port (`ServesPacket`)
 pub record ServesBytes (port : ℕ) (bytes : List ℕ) (end : ℕ) (room left : List ℕ) (numbers : ServedNumbers)
     (before after : SingleNodeValue) : Type 0 where
   pub packet : Cargo

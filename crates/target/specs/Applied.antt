@@ -60,7 +60,7 @@ pub record IsEnded (old new : BankValue) (share : ShareValue) (holder after : Pa
   pub applied : fits old share judged ≡ true → IsApplied old new share holder after judged result bytes
   pub refused : fits old share judged ≡ false → IsRefused old new holder after judged result bytes
 
--- the same with the port's own share of the bank
+-- how a judged command ends at a bank, by the port's own share of it (`IsEnded`)
 abbrev pub IsFinished : (old new : BankValue) → (holder after : PassValue) → JudgedValue → Applied → List ℕ → Type 0
 IsFinished old new holder after judged result bytes =
     IsEnded old new (share_of holder judged.place) holder after judged result bytes
