@@ -1,5 +1,6 @@
 pub mod Held
 pub mod Numbers
+pub mod Parts
 pub mod Serving
 pub mod Journals
 pub mod Memory

@@ -10,7 +10,15 @@ use Rattle.single_node_c.specs.declared.numbers.BankNumbers.{BankNumbers}
 use Rattle.single_node_c.specs.declared.numbers.EntryNumbers.{EntryNumbers}
 use Rattle.single_node_c.specs.declared.numbers.MapNumbers.{MapNumbers}
 use Rattle.single_node_c.specs.declared.numbers.ServedNumbers.{ServedNumbers}
-use Rattle.single_node_c.specs.declared.numbers.TheConstants.{ANSWERED, DISCARDED, JUDGED}
+use Rattle.single_node_c.specs.declared.numbers.TheConstants.{
+  ANSWERED,
+  AT_BANK,
+  AT_WINDOW,
+  DISCARDED,
+  JUDGED,
+  NOWHERE,
+}
+use Rattle.single_node_c.specs.declared.parts.ServedParts.{ServedParts}
 use Rattle.spw.specs.declared.packets.End.{End}
 use Rattle.spw.specs.declared.packets.End.TheVariants.{Eop, Eep}
 use Rattle.target.specs.declared.config.BankConfig.{BankConfig}
@@ -43,14 +51,28 @@ status_of Unread = 1
 status_of (Done applied) = status_code applied.status
 status_of (Window status) = status_code status
 
--- the numbers of what is told of a packet, with a reply of so many bytes
-abbrev pub served_numbers : Told → (reply_length : ℕ) → ServedNumbers
-served_numbers told reply_length = record {
+-- where a packet's command ended: at its bank, in the boot window, or nowhere, where no program judged it
+abbrev pub place_of : Served → ℕ
+place_of (Stopped stop) = NOWHERE
+place_of Unread = NOWHERE
+place_of (Done applied) = AT_BANK
+place_of (Window status) = AT_WINDOW
+
+-- the numbers of what is told of a packet that asks for these parts, with so much room left in its bank's journal and a
+-- reply of so many bytes
+abbrev pub served_numbers : Told → ServedParts → (room reply_length : ℕ) → ServedNumbers
+served_numbers told parts room reply_length = record {
   verdict = told.verdict;
   generation = told.generation;
   reply_length = reply_length;
+  address = parts.address;
+  length = parts.length;
+  room = room;
   kind = kind_of told.served;
   status = status_of told.served;
+  command = parts.command;
+  place = place_of told.served;
+  extended = parts.extended;
 }
 
 -- the number of an end

@@ -1,5 +1,5 @@
 -- What it takes to judge in a node, and what a fresh node is made of.
-use Rattle.std.specs.Prelude.{◌≡◌, ◌≤◌, ℕ, List, All, map, Bool, true, false, Option, Some, None, Err, ◌&&◌}
+use Rattle.std.specs.Prelude.{◌≡◌, ◌≢◌, ◌≤◌, ℕ, List, All, map, Bool, true, false, Option, Some, None, Err, ◌&&◌}
 use Rattle.bank.specs.Limits.{is_ports}
 use Rattle.bpf.specs.Fault.{image_fault_code, image_fault_slot}
 use Rattle.bpf.specs.Program.{Program, image_bytes}
@@ -10,6 +10,7 @@ use Rattle.bver.specs.Justified.{AcceptedValue, IsJustified}
 use Rattle.bver.specs.Refusals.{IsRefusal}
 use Rattle.bver.specs.Unjustified.{TellsUnjustified}
 use Rattle.bver_form.specs.Codes.{refusal_code}
+use Rattle.bver_form.specs.declared.refusal.Refusal.TheVariants.{Memory as RefusedMemory}
 use Rattle.bver_form.specs.declared.refusal.Refused.{Refused}
 use Rattle.machine.specs.Runs.{IsSafe}
 use Rattle.machine.specs.Sizes.{Maps, AreSizes}
@@ -57,13 +58,13 @@ unfit_of faults.Loop = Image faults.Loop
 unfit_of (faults.Insn slot fault) = Image (faults.Insn slot fault)
 
 -- why an image may not judge in a node with those maps: the bytes are no image, and this is their first fault; or they
--- spell a program that the verifier refuses; or memory was refused
+-- spell a program that the verifier refuses, for another reason than want of memory; or memory was refused
 pub data IsImageUnfit (maps : Maps) (image : List ℕ) (fault : Unfit) : Type 0 where
   of_memory : fault ≡ Memory → IsImageUnfit maps image fault
   of_image : (first : ImageFault) → image_reading image ≡ Err first → fault ≡ Image first
       → IsImageUnfit maps image fault
-  of_program : (refused : Refused) → IsRefused maps image refused → fault ≡ ProgramUnfit refused
-      → IsImageUnfit maps image fault
+  of_program : (refused : Refused) → IsRefused maps image refused → refused.code ≢ RefusedMemory
+      → fault ≡ ProgramUnfit refused → IsImageUnfit maps image fault
 
 -- the same in a node with maps of those numbers: they are none that a node may have, which is tested first, or the image
 -- may not judge

@@ -1,14 +1,18 @@
 -- What a call that serves a packet does.
-use Rattle.std.specs.Prelude.{◌≡◌, ℕ, ◌++◌, List, length, drop, nat_le, nat_lt, Option, Some, None, if◌then◌else◌, is_none}
+use Rattle.std.specs.Prelude.{◌≡◌, ℕ, ◌++◌, List, length, drop, nat_le, nat_lt, Option, Some, None, if◌then◌else◌, is_none, slice_get}
+use Rattle.bank.specs.Records.{BankValue, room_left}
 use Rattle.rmap.specs.declared.reply.TheConstants.{MAX_REPLY}
 use Rattle.single_node.specs.Nodes.{SingleNodeValue}
 use Rattle.single_node.specs.Serving.{ServesTold}
 use Rattle.single_node.specs.declared.served.Told.{Told}
 use Rattle.single_node_c.specs.Numbers.{end_of, served_numbers}
+use Rattle.single_node_c.specs.Parts.{served_parts}
 use Rattle.single_node_c.specs.declared.codes.TheConstants.{NO_PORT, BAD_END, TOO_LONG, NO_ROOM}
 use Rattle.single_node_c.specs.declared.numbers.ServedNumbers.{ServedNumbers}
 use Rattle.spw.specs.Cargo.{Cargo}
 use Rattle.spw.specs.declared.packets.TheConstants.{MAX_PACKET}
+use Rattle.target.specs.declared.served.Served.{Served}
+use Rattle.target.specs.declared.served.Served.TheVariants.{Stopped, Unread, Done, Window}
 
 -- bytes at the front of a room, and behind them what was there
 abbrev pub put_front : (room bytes : List ℕ) → List ℕ
@@ -23,15 +27,30 @@ serve_test port size end room node =
     else if nat_lt room MAX_REPLY then Some NO_ROOM
     else None
 
+-- how many more entries the journal of a bank has room for, if there is that bank
+abbrev pub room_of : Option BankValue → ℕ
+room_of None = 0
+room_of (Some bank) = room_left bank.journal
+
+-- how many more entries the journal of the bank of that number has room for, behind a command that ended there
+abbrev pub room_behind : Served → (number : ℕ) → SingleNodeValue → ℕ
+room_behind (Stopped stop) number node = 0
+room_behind Unread number node = 0
+room_behind (Done applied) number node = room_of (slice_get node.banks number)
+room_behind (Window status) number node = 0
+
 -- the packet was served at that port as a node of one thread serves it (`ServesTold`). Its reply stands at the front of
--- the room, with the rest of it as before, and the numbers are those of what became of the packet
+-- the room, with the rest of it as before, and the numbers are those of what became of the packet, of what its command
+-- asked for, and of the room that the journal of its bank then has
 pub record ServesPacket (port : ℕ) (packet : Cargo) (before after : SingleNodeValue) (room left : List ℕ)
     (numbers : ServedNumbers) : Type 0 where
   pub told : Told
   pub reply : List ℕ
   pub serves : ServesTold told port packet before after reply
   pub left_is : left ≡ put_front room reply
-  pub numbers_are : numbers ≡ served_numbers told (length reply)
+  pub numbers_are : numbers
+      ≡ served_numbers told (served_parts packet) (room_behind told.served (served_parts packet).extended after)
+      (length reply)
 
 -- a packet of those bytes, with the end of that number, was served at that port (`ServesPacket`)
 pub record ServesBytes (port : ℕ) (bytes : List ℕ) (end : ℕ) (room left : List ℕ) (numbers : ServedNumbers)

@@ -12,5 +12,7 @@ mod lists;
 mod memory;
 mod numbers;
 mod opening;
+mod parts;
 mod serving;
 mod unfit;
+mod version;

@@ -1,8 +1,9 @@
 //! The structs of numbers that cross. The header has the same fields in the same order.
 
 ghost use Rattle.std.specs.Prelude.{◌≡◌};
-ghost use Rattle.single_node_c.specs.Numbers.{entry_numbers, end_number, end_of, kind_of, served_numbers, status_of};
+ghost use Rattle.single_node_c.specs.Numbers.{entry_numbers, end_number, end_of, kind_of, place_of, served_numbers, status_of};
 
+use crate::parts::ServedParts;
 use bank::Entry;
 use single_node::Told;
 use spw::End;
@@ -33,15 +34,21 @@ pub struct Why {
     pub slot: u16,
 }
 
-/// What became of a packet.
+/// What became of a packet, and what it asked for.
 #[repr(C)]
 #[derive(Clone, Copy)]
 pub struct ServedNumbers {
     pub verdict: u64,
     pub generation: u32,
     pub reply_length: u32,
+    pub address: u32,
+    pub length: u32,
+    pub room: u32,
     pub kind: u8,
     pub status: u8,
+    pub command: u8,
+    pub place: u8,
+    pub extended: u8,
 }
 
 /// An entry of a journal, but for its packet.
@@ -98,17 +105,44 @@ fn status_of(served: Served) -> u8
     }
 }
 
+/// The place of a packet that no program judged.
+pub const NOWHERE: u8 = 0;
+
+/// The place of a command that a bank carried out or answered.
+pub const AT_BANK: u8 = 1;
+
+/// The place of a command to the boot window.
+pub const AT_WINDOW: u8 = 2;
+
+/// Where a packet's command ended.
+fn place_of(served: Served) -> u8
+    ensures { result ≡ place_of served }
+{
+    match served {
+        Served::Stopped(_) | Served::Unread => NOWHERE,
+        Served::Done(_) => AT_BANK,
+        Served::Window(_) => AT_WINDOW,
+    }
+}
+
 impl ServedNumbers {
-    /// The numbers of what is told of a packet, with a reply of so many bytes.
-    pub fn of(told: Told, reply_length: u32) -> ServedNumbers
-        ensures { result ≡ served_numbers told reply_length }
+    /// The numbers of what is told of a packet that asks for these parts, with so much room left in its bank's journal and
+    /// a reply of so many bytes.
+    pub fn of(told: Told, parts: ServedParts, room: u32, reply_length: u32) -> ServedNumbers
+        ensures { result ≡ served_numbers told parts room reply_length }
     {
         ServedNumbers {
             verdict: told.verdict,
             generation: told.generation,
             reply_length,
+            address: parts.address,
+            length: parts.length,
+            room,
             kind: kind_of(told.served),
             status: status_of(told.served),
+            command: parts.command,
+            place: place_of(told.served),
+            extended: parts.extended,
         }
     }
 }

@@ -1,10 +1,10 @@
 //! One packet, from its bytes to those of its reply.
 
-ghost use Rattle.std.specs.Prelude.{◌≡◌, ◌≢◌, ◌<◌, ◌≤◌, IfOk, Some, length};
+ghost use Rattle.std.specs.Prelude.{◌≡◌, ◌≢◌, ◌<◌, ◌≤◌, IfOk, Some, length, slice_get};
 ghost use Rattle.rmap.specs.declared.reply.TheConstants.{MAX_REPLY};
 ghost use Rattle.single_node_c.specs.Held.{Becomes, IsCode, test_on};
 ghost use Rattle.single_node_c.specs.Numbers.{end_of};
-ghost use Rattle.single_node_c.specs.Serving.{ServesBytes, ServesPacket, serve_test};
+ghost use Rattle.single_node_c.specs.Serving.{ServesBytes, ServesPacket, room_behind, room_of, serve_test};
 ghost use Rattle.single_node_c.specs.declared.codes.TheConstants.{OK};
 ghost use Rattle.spw.specs.declared.packets.TheConstants.{MAX_PACKET};
 
@@ -13,10 +13,12 @@ use crate::handle::Handle;
 use crate::held::{put, take};
 use crate::lists::put_front;
 use crate::numbers::{ServedNumbers, end_of};
+use crate::parts::ServedParts;
 use rmap::{MAX_REPLY, ReplyBuf};
 use single_node::SingleNode;
 use spw::{End, MAX_PACKET, Packet};
 use std::alloc::{AllocError, Global};
+use target::Served;
 
 /// A packet of a copy of the bytes. `AllocError` where memory was refused.
 fn packet_of(alloc: Global, bytes: &[u8], end: End) -> Result<Packet, AllocError>
@@ -32,6 +34,26 @@ fn packet_of(alloc: Global, bytes: &[u8], end: End) -> Result<Packet, AllocError
     }
 }
 
+/// How many more entries the journal of the bank of that number has room for, if there is that bank.
+fn room_of(node: &SingleNode, number: u8) -> u32
+    ensures { result ≡ room_of (slice_get node.now.banks number) }
+{
+    if number >= node.banks() {
+        return 0;
+    }
+    node.bank(number).room_left()
+}
+
+/// How many more entries the journal of the bank of that number has room for, behind a command that ended there.
+fn room_behind(node: &SingleNode, served: Served, number: u8) -> u32
+    ensures { result ≡ room_behind served number node.now }
+{
+    match served {
+        Served::Stopped(_) | Served::Unread | Served::Window(_) => 0,
+        Served::Done(_) => room_of(node, number),
+    }
+}
+
 /// Serves a packet, and puts its reply at the front of the room for it.
 fn serve_packet(
     alloc: Global,
@@ -44,11 +66,13 @@ fn serve_packet(
     requires room { MAX_REPLY ≤ length room.old }
     ensures { ServesPacket port packet node.old node.new room.old room.new result }
 {
+    let parts = ServedParts::of(&packet);
     let mut reply = ReplyBuf::new();
     let told = node.serve_told(alloc, port, packet, &mut reply);
+    let left = room_behind(node, told.served, parts.extended);
     let bytes = reply.bytes();
     put_front(room, bytes);
-    ServedNumbers::of(told, bytes.len() as u32)
+    ServedNumbers::of(told, parts, left, bytes.len() as u32)
 }
 
 /// Serves the bytes of a packet, where the node may: a code.

@@ -1,0 +1,38 @@
+-- What a packet asks for, in numbers.
+use Rattle.std.specs.Prelude.{ℕ, Option, Some, None}
+use Rattle.rmap.specs.Command.{CommandValue, address_of, command_kind, command_of, discard_of, extended_of, length_of}
+use Rattle.rmap.specs.declared.discard.Discard.{Discard}
+use Rattle.rmap.specs.declared.kind.Kind.{Kind}
+use Rattle.rmap.specs.declared.kind.Kind.TheVariants.{Read, Write, Rmw, Unused}
+use Rattle.single_node_c.specs.declared.parts.ServedParts.{ServedParts}
+use Rattle.single_node_c.specs.declared.parts.TheConstants.{NO_COMMAND, READ, WRITE, RMW}
+use Rattle.spw.specs.Cargo.{Cargo}
+
+-- the number of a kind of command. An unused command code is none
+abbrev pub command_number : Kind → ℕ
+command_number Unused = NO_COMMAND
+command_number Read = READ
+command_number Write = WRITE
+command_number Rmw = RMW
+
+-- what a command asks for: its kind, and the fields of its header that say where and how much
+abbrev pub parts_of : CommandValue → ServedParts
+parts_of c = record {
+  command = command_number (command_kind c);
+  extended = extended_of c;
+  address = address_of c;
+  length = length_of c;
+}
+
+-- what is told where there is no command
+abbrev pub no_parts : ServedParts
+no_parts = record { command = NO_COMMAND; extended = 0; address = 0; length = 0 }
+
+-- what a packet asks for, by why it is no command, if it is none
+abbrev pub parts_unless : Option Discard → CommandValue → ServedParts
+parts_unless None c = parts_of c
+parts_unless (Some discard) c = no_parts
+
+-- what a packet asks for: the parts of its command, or zeros where it is none
+abbrev pub served_parts : Cargo → ServedParts
+served_parts p = parts_unless (discard_of p.bytes) (command_of p)
