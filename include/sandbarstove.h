@@ -2,23 +2,35 @@
  * @file sandbarstove.h
  * A SpaceWire RMAP target (ECSS-E-ST-50-52C) whose commands are judged by verified BPF programs.
  *
- * The archive is built for x86-64 Linux with the C library.
- *
  * The library keeps no state of its own: all that a target has hangs on its ::sandbar_node, and two nodes know nothing
  * of each other. It starts no threads, takes no locks, reads no clock and opens no files; of the C library it calls
- * malloc, realloc and free (and memcpy, memmove, memset). One node is for one call at a time: whoever shares a
- * node between tasks puts a lock of his own round each call. No call is for interrupt or signal handlers.
+ * malloc, realloc and free, for which sandbarstove_heap.h lets a program have others, and memcpy, memmove, memset. One
+ * node is for one call at a time: whoever shares a node between tasks puts a lock of his own round each call. No call is
+ * for interrupt or signal handlers.
  *
- * Every function but ::sandbar_crc returns a ::sandbar_code, that of the first test that fails, in the order in which
- * the function names them. At any code but ::SANDBAR_OK nothing was done, and nothing was written but @c why where it
- * is said. A pointer that goes with a length is not null, also where the length is 0, and names that many bytes or
- * structs; what is written to overlaps nothing else that is passed to the same call.
+ * Every function but ::sandbar_crc and ::sandbar_version returns a ::sandbar_code, that of the first test that fails, in
+ * the order in which the function names them; sandbarstove_text.h has a text for each. At any code but ::SANDBAR_OK
+ * nothing was done, and nothing was written but @c why where it is said. No pointer is null, also where it goes with a
+ * length of 0; one that goes with a length names that many bytes or structs, and what is written to overlaps nothing else
+ * that is passed to the same call.
  */
 #ifndef SANDBARSTOVE_H
 #define SANDBARSTOVE_H
 
 #include <stddef.h>
 #include <stdint.h>
+
+/** The number of this header: it rises with each change of a call, a struct or a number here. */
+#define SANDBAR_VERSION 2
+
+/** What compilers that know of it are told of a call: its pointers are not null, and its code is looked at. */
+#ifndef SANDBAR_CALL
+#if defined(__GNUC__)
+#define SANDBAR_CALL __attribute__((nonnull, warn_unused_result))
+#else
+#define SANDBAR_CALL
+#endif
+#endif
 
 #ifdef __cplusplus
 extern "C" {
@@ -59,13 +71,29 @@ enum sandbar_kind {
   SANDBAR_JUDGED = 2     /**< a program judged it; @c status is the reply's */
 };
 
+/** What a command asks for. */
+enum sandbar_command {
+  SANDBAR_NO_COMMAND = 0, /**< the packet is no command, or one whose code is unused */
+  SANDBAR_READ = 1,
+  SANDBAR_WRITE = 2,
+  SANDBAR_RMW = 3 /**< read-modify-write */
+};
+
+/** Where a command ended. */
+enum sandbar_place {
+  SANDBAR_NOWHERE = 0,  /**< no program judged it */
+  SANDBAR_AT_BANK = 1,  /**< at the bank of its extended address */
+  SANDBAR_AT_WINDOW = 2 /**< in the boot window, where programs are staged and loaded */
+};
+
 /**
  * One target. Zeros are a node that is not open. Only the library reads and writes its fields, and it is not copied
  * while it is open: of two copies that are closed the second frees what is free. 16 bytes.
  */
 typedef struct sandbar_node {
-  void *inside;  /* at 0 */
-  uint32_t live; /* at 8 */
+  uint64_t inside; /* where what it has is (at 0) */
+  uint32_t live;   /* at 8 */
+  uint32_t unused; /* at 12 */
 } sandbar_node;
 
 /** One bank of memory, which commands read and write. 12 bytes. */
@@ -87,18 +115,28 @@ typedef struct sandbar_why {
   uint16_t slot; /**< (at 2) */
 } sandbar_why;
 
-/** What became of a packet. 24 bytes. */
+/**
+ * What became of a packet, and what it asked for: a command was carried out where @c kind is ::SANDBAR_JUDGED and
+ * @c status is 0, and only then. What it asked for stands in its header; of a packet that is no command these are 0. 40
+ * bytes.
+ */
 typedef struct sandbar_served {
   uint64_t verdict;      /**< of the program, where one judged; 0 is yes (at 0) */
   uint32_t generation;   /**< of that program: 0 for the first, then 1, 2 .. as they were loaded (at 8) */
   uint32_t reply_length; /**< how many bytes of @c reply are to be sent; 0: none (at 12) */
-  uint8_t kind;          /**< ::sandbar_kind (at 16) */
-  uint8_t status;        /**< (at 17) */
+  uint32_t address;      /**< (at 16) */
+  uint32_t length;       /**< its data length; of a read-modify-write half are data and half are the mask (at 20) */
+  uint32_t room;         /**< at a bank: how many more entries its journal then has room for; else 0 (at 24) */
+  uint8_t kind;          /**< ::sandbar_kind (at 28) */
+  uint8_t status;        /**< (at 29) */
+  uint8_t command;       /**< ::sandbar_command (at 30) */
+  uint8_t place;         /**< ::sandbar_place (at 31) */
+  uint8_t extended;      /**< its extended address: the number of the bank, or 255 for the boot window (at 32) */
 } sandbar_served;
 
 /** An entry of a bank's journal, but for the packet. 32 bytes. */
 typedef struct sandbar_entry {
-  uint64_t number;        /**< among the judged commands of its port at this bank: 0, 1, 2 .. (at 0) */
+  uint64_t number;        /**< counts the entries of its port at this bank: 0, 1, 2 .. over all its journals (at 0) */
   uint64_t verdict;       /**< (at 8) */
   uint32_t generation;    /**< (at 16) */
   uint32_t packet_length; /**< (at 20) */
@@ -118,6 +156,7 @@ typedef struct sandbar_journal {
  * ::SANDBAR_REFUSED; ::SANDBAR_NO_MEMORY where the image cannot be looked at. Writes @p why at all codes: zeros but at
  * ::SANDBAR_BAD_IMAGE and ::SANDBAR_REFUSED.
  */
+SANDBAR_CALL
 uint32_t sandbar_verify(const sandbar_map *maps, size_t map_count, const uint8_t *image, size_t image_length,
                         sandbar_why *why);
 
@@ -132,6 +171,7 @@ uint32_t sandbar_verify(const sandbar_map *maps, size_t map_count, const uint8_t
  * @param ports how many ports it has, 1 to 32
  * @param banks 1 to 8 of them; the extended address of a bank is its place in the array
  */
+SANDBAR_CALL
 uint32_t sandbar_open(sandbar_node *node, uint8_t address, uint8_t ports, const sandbar_bank *banks, size_t bank_count,
                       const sandbar_map *maps, size_t map_count, const uint8_t *image, size_t image_length,
                       sandbar_why *why);
@@ -150,29 +190,35 @@ uint32_t sandbar_close(sandbar_node *node);
  * @param packet its first byte is the target's logical address
  * @param reply room for ::SANDBAR_MAX_REPLY bytes
  */
+SANDBAR_CALL
 uint32_t sandbar_serve(sandbar_node *node, uint8_t port, const uint8_t *packet, size_t packet_length, uint8_t end,
                        uint8_t *reply, size_t reply_room, sandbar_served *served);
 
 /** Tells how the journal of a bank stands. Codes: ::SANDBAR_NO_NODE, ::SANDBAR_NO_BANK. */
+SANDBAR_CALL
 uint32_t sandbar_journal_of(sandbar_node *node, uint8_t bank, sandbar_journal *journal);
 
 /**
  * Reads the entry at a place of a bank's journal, 0 for the oldest, and copies its packet to the front of @p packet.
  * Codes: ::SANDBAR_NO_NODE, ::SANDBAR_NO_BANK, ::SANDBAR_NO_ENTRY, ::SANDBAR_NO_ROOM.
  */
+SANDBAR_CALL
 uint32_t sandbar_entry_at(sandbar_node *node, uint8_t bank, uint32_t place, uint8_t *packet, size_t packet_room,
                           sandbar_entry *entry);
 
 /**
- * Begins a new journal with that room at a bank: the entries of the old one are gone. Numbers go on. Codes:
+ * Begins a new journal with that room at a bank: the entries of the old one are gone. Numbers go on. A bank whose journal
+ * is full carries no command out (status 1), so this is called when ::sandbar_served tells of no more @c room. Codes:
  * ::SANDBAR_NO_NODE, ::SANDBAR_NO_BANK, ::SANDBAR_BAD_CONFIG, ::SANDBAR_NO_MEMORY.
  */
+SANDBAR_CALL
 uint32_t sandbar_rotate(sandbar_node *node, uint8_t bank, uint32_t room);
 
 /**
  * Reads bytes of a bank, as the instrument does beside all commands. Codes: ::SANDBAR_NO_NODE, ::SANDBAR_NO_BANK,
  * ::SANDBAR_NO_ROOM where one lies outside the bank.
  */
+SANDBAR_CALL
 uint32_t sandbar_peek(sandbar_node *node, uint8_t bank, uint32_t address, uint8_t *bytes, size_t length);
 
 /**
@@ -180,11 +226,16 @@ uint32_t sandbar_peek(sandbar_node *node, uint8_t bank, uint32_t address, uint8_
  * new journal with that room: read the old entries first. Codes: ::SANDBAR_NO_NODE, ::SANDBAR_NO_BANK,
  * ::SANDBAR_NO_ROOM where one lies outside the bank, ::SANDBAR_BAD_CONFIG, ::SANDBAR_NO_MEMORY.
  */
+SANDBAR_CALL
 uint32_t sandbar_poke(sandbar_node *node, uint8_t bank, uint32_t address, const uint8_t *bytes, size_t length,
                       uint32_t room);
 
 /** The CRC of RMAP, for packets that are made. */
+SANDBAR_CALL
 uint8_t sandbar_crc(const uint8_t *bytes, size_t length);
+
+/** The ::SANDBAR_VERSION that the library was made with: where it is another than the header's, do not call it. */
+uint32_t sandbar_version(void);
 
 #ifdef __cplusplus
 }

@@ -5,6 +5,7 @@
 #include <stdio.h>
 
 static const uint8_t yes[] = IMAGE_OF(0);
+static const sandbar_bank bank = {0xA0000000u, 65536, 1024};
 
 /* The next packet of the link: its length, or -1 where the link is closed or cut. */
 static long receive(uint8_t *port, uint8_t *end, uint8_t *packet) {
@@ -22,9 +23,21 @@ static int send_reply(uint8_t port, const uint8_t *reply, uint32_t length) {
   return fwrite(head, 1, 4, stdout) == 4 && fwrite(reply, 1, length, stdout) == length && fflush(stdout) == 0;
 }
 
+/* What the instrument does when a command was carried out. This one says on standard error what was written. */
+static void act(const sandbar_served *served) {
+  if (served->place == SANDBAR_AT_BANK && served->command != SANDBAR_READ)
+    fprintf(stderr, "%lu bytes at %08lX of bank %u\n", (unsigned long)served->length, (unsigned long)served->address,
+            served->extended);
+}
+
+/* Turns the journal of a bank: what is wanted of its entries is kept first, and is given back then. */
+static void turn(sandbar_node *node, uint8_t number) {
+  uint32_t code = sandbar_rotate(node, number, bank.room);
+  if (code != SANDBAR_OK) fprintf(stderr, "the journal of bank %u is not turned: code %lu\n", number, (unsigned long)code);
+}
+
 int main(void) {
   static uint8_t packet[SANDBAR_MAX_PACKET], reply[SANDBAR_MAX_REPLY];
-  const sandbar_bank bank = {0xA0000000u, 65536, 1024};
   sandbar_node node = {0};
   sandbar_why why;
   sandbar_map none = {0, 0};
@@ -36,12 +49,13 @@ int main(void) {
   while ((length = receive(&port, &end, packet)) >= 0) {
     sandbar_served served;
     uint32_t code = sandbar_serve(&node, port, packet, (size_t)length, end, reply, sizeof reply, &served);
-    if (code == SANDBAR_NO_MEMORY) {
-      sandbar_rotate(&node, 0, 1024); /* what the old journal held is free then; the packet is lost, as on a busy link */
-      continue;
+    if (code == SANDBAR_NO_MEMORY) turn(&node, 0); /* the packet is lost, as on a busy link */
+    else if (code != SANDBAR_OK) fprintf(stderr, "a packet at port %u: code %u\n", port, code);
+    else {
+      if (served.reply_length > 0 && !send_reply(port, reply, served.reply_length)) status = 1;
+      if (served.kind == SANDBAR_JUDGED && served.status == 0) act(&served);
+      if (served.place == SANDBAR_AT_BANK && served.room == 0) turn(&node, served.extended);
     }
-    if (code != SANDBAR_OK) fprintf(stderr, "a packet at port %u: code %u\n", port, code);
-    else if (served.reply_length > 0 && !send_reply(port, reply, served.reply_length)) status = 1;
   }
   sandbar_close(&node);
   return status;

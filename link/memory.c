@@ -77,7 +77,7 @@ static void sizes(uint8_t ports) {
   printf("open, %u ports: %ld requests, %zu bytes in %ld blocks\n", ports, requests, held, blocks);
   size_t length = put_read(packet, 1, 0, 0xA0000000u, 16);
   requests = 0;
-  sandbar_serve(&node, 0, packet, length, SANDBAR_EOP, reply, sizeof reply, &served);
+  holds(sandbar_serve(&node, 0, packet, length, SANDBAR_EOP, reply, sizeof reply, &served) == SANDBAR_OK, "serve", 0);
   printf("a read: %ld requests\n", requests);
   holds(requests == 1, "one request a packet", requests);
   sandbar_close(&node);
@@ -98,7 +98,7 @@ static void openings(void) {
       holds(code == SANDBAR_OK && sandbar_close(&node) == SANDBAR_OK, "open", n);
       break;
     }
-    holds(code == SANDBAR_NO_MEMORY && node.live == 0 && node.inside == NULL && blocks == 0, "a refused opening", n);
+    holds(code == SANDBAR_NO_MEMORY && node.live == 0 && node.inside == 0 && blocks == 0, "a refused opening", n);
   }
   holds(blocks == 0, "all is given back", n);
   printf("openings: %ld requests refused in turn\n", n - 1);
@@ -117,7 +117,7 @@ static long load(long n) {
   holds(open_node(&node, 2, 16) == SANDBAR_OK, "open", n);
   holds(serve(&node, packet, put_write(packet, 0, 0xFF, 0, no, sizeof no)).status == 0, "stage", n);
   size_t length = put_write(packet, 1, 0xFF, 0x10000, control, 4);
-  sandbar_served served = {1, 2, 3, 4, 5};
+  sandbar_served served = {.verdict = 1, .generation = 2, .reply_length = 3, .kind = 4, .status = 5};
   memset(reply, 0xEE, sizeof reply);
   requests = 0;
   refuse_at = n;

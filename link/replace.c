@@ -10,7 +10,7 @@ static sandbar_node node;
 
 static sandbar_served serve(size_t length) {
   sandbar_served served = {0};
-  sandbar_serve(&node, 0, packet, length, SANDBAR_EOP, reply, sizeof reply, &served);
+  if (sandbar_serve(&node, 0, packet, length, SANDBAR_EOP, reply, sizeof reply, &served) != SANDBAR_OK) served.status = 255;
   return served;
 }
 

@@ -29,10 +29,10 @@ static sandbar_served serve(const char *what, uint8_t port, size_t length) {
 static void print_journal(void) {
   sandbar_journal journal;
   sandbar_entry entry;
-  sandbar_journal_of(&node, 0, &journal);
+  if (sandbar_journal_of(&node, 0, &journal) != SANDBAR_OK) exit(EXIT_FAILURE);
   printf("journal of %llu entries, %u loaded\n", (unsigned long long)journal.entries, journal.loaded);
   for (uint32_t place = 0; place < journal.entries; place += 1) {
-    sandbar_entry_at(&node, 0, place, packet, sizeof packet, &entry);
+    if (sandbar_entry_at(&node, 0, place, packet, sizeof packet, &entry) != SANDBAR_OK) exit(EXIT_FAILURE);
     printf("port %u number %llu generation %u verdict %llu status %u", entry.port, (unsigned long long)entry.number,
            entry.generation, (unsigned long long)entry.verdict, entry.status);
     print("", packet, entry.packet_length);
@@ -60,7 +60,7 @@ int main(void) {
   printf("status %u by generation %u\n", denied.status, denied.generation);
 
   print_journal();
-  sandbar_rotate(&node, 0, 4);
+  if (sandbar_rotate(&node, 0, 4) != SANDBAR_OK) return EXIT_FAILURE;
   print_journal();
   printf("close %u\n", sandbar_close(&node));
   return denied.status == 10 && denied.generation == 1 ? EXIT_SUCCESS : EXIT_FAILURE;

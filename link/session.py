@@ -1,13 +1,14 @@
 # A session over ctypes, with a shared object of the archive: session.py OBJECT
 import sys
-from ctypes import CDLL, Structure, byref, c_uint8, c_uint16, c_uint32, c_uint64, c_void_p
+from ctypes import CDLL, Structure, byref, c_uint8, c_uint16, c_uint32, c_uint64
 
-class Node(Structure):   _fields_ = [("inside", c_void_p), ("live", c_uint32)]
+class Node(Structure):   _fields_ = [("inside", c_uint64), ("live", c_uint32), ("unused", c_uint32)]
 class Bank(Structure):   _fields_ = [("base", c_uint32), ("size", c_uint32), ("room", c_uint32)]
 class Map(Structure):    _fields_ = [("cells", c_uint16), ("peak", c_uint16)]
 class Why(Structure):    _fields_ = [("code", c_uint16), ("slot", c_uint16)]
 class Served(Structure): _fields_ = [("verdict", c_uint64), ("generation", c_uint32), ("reply_length", c_uint32),
-                                     ("kind", c_uint8), ("status", c_uint8)]
+                                     ("address", c_uint32), ("length", c_uint32), ("room", c_uint32), ("kind", c_uint8),
+                                     ("status", c_uint8), ("command", c_uint8), ("place", c_uint8), ("extended", c_uint8)]
 
 target = CDLL(sys.argv[1])
 size = lambda n: c_uint64(n)                      # a size_t

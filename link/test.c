@@ -10,9 +10,12 @@ _Static_assert(sizeof(sandbar_bank) == 12 && offsetof(sandbar_bank, size) == 4 &
                "as the library has it");
 _Static_assert(sizeof(sandbar_map) == 4 && offsetof(sandbar_map, peak) == 2, "as the library has it");
 _Static_assert(sizeof(sandbar_why) == 4 && offsetof(sandbar_why, slot) == 2, "as the library has it");
-_Static_assert(sizeof(sandbar_served) == 24 && offsetof(sandbar_served, generation) == 8 &&
-                   offsetof(sandbar_served, reply_length) == 12 && offsetof(sandbar_served, kind) == 16 &&
-                   offsetof(sandbar_served, status) == 17,
+_Static_assert(sizeof(sandbar_served) == 40 && offsetof(sandbar_served, generation) == 8 &&
+                   offsetof(sandbar_served, reply_length) == 12 && offsetof(sandbar_served, address) == 16 &&
+                   offsetof(sandbar_served, length) == 20 && offsetof(sandbar_served, room) == 24 &&
+                   offsetof(sandbar_served, kind) == 28 && offsetof(sandbar_served, status) == 29 &&
+                   offsetof(sandbar_served, command) == 30 && offsetof(sandbar_served, place) == 31 &&
+                   offsetof(sandbar_served, extended) == 32,
                "as the library has it");
 _Static_assert(sizeof(sandbar_entry) == 32 && offsetof(sandbar_entry, verdict) == 8 &&
                    offsetof(sandbar_entry, generation) == 16 && offsetof(sandbar_entry, packet_length) == 20 &&
@@ -24,7 +27,8 @@ _Static_assert(sizeof(sandbar_journal) == 16 && offsetof(sandbar_journal, loaded
 static const uint8_t yes[] = IMAGE_OF(0), no[] = IMAGE_OF(10);
 static const sandbar_bank bank = {0xA0000000u, 65536, 1024};
 static const sandbar_map map = {1, 0};
-static const sandbar_served untouched_served = {0x1122334455667788u, 0x99AABBCCu, 0xDDEEFF01u, 0x23, 0x45};
+static const sandbar_served untouched_served = {
+    0x1122334455667788u, 0x99AABBCCu, 0xDDEEFF01u, 0x12345678u, 0x9ABCDEF0u, 0x13572468u, 0x23, 0x45, 0x67, 0x89, 0xAB};
 
 static int checks, failures;
 static unsigned codes_seen;
@@ -48,7 +52,15 @@ static void answers(uint32_t code, uint32_t wanted, const char *what) {
 
 static int same_served(const sandbar_served *a, const sandbar_served *b) {
   return a->verdict == b->verdict && a->generation == b->generation && a->reply_length == b->reply_length &&
-         a->kind == b->kind && a->status == b->status;
+         a->address == b->address && a->length == b->length && a->room == b->room && a->kind == b->kind &&
+         a->status == b->status && a->command == b->command && a->place == b->place && a->extended == b->extended;
+}
+
+/* What the command of a packet asked for, and the room that the journal of its bank has left. */
+static int asks(const sandbar_served *served, uint8_t command, uint8_t place, uint8_t extended, uint32_t address,
+                uint32_t length, uint32_t room) {
+  return served->command == command && served->place == place && served->extended == extended &&
+         served->address == address && served->length == length && served->room == room;
 }
 
 static sandbar_node opened(const sandbar_bank *banks, size_t count, const uint8_t *image, size_t length) {
@@ -274,14 +286,64 @@ static void openings(void) {
   answers(sandbar_open(&node, 1, 1, nine, 9, &map, 1, yes, sizeof yes, &why), SANDBAR_BAD_CONFIG, "9 banks");
   nine[7].size = 0;
   answers(sandbar_open(&node, 1, 1, nine, 8, &map, 1, yes, sizeof yes, &why), SANDBAR_BAD_CONFIG, "a bank of no bytes");
-  holds(node.inside == NULL && node.live == 0, "the node is not open");
+  holds(node.inside == 0 && node.live == 0, "the node is not open");
   nine[7].size = 1;
   answers(sandbar_open(&node, 1, 32, nine, 8, &map, 1, yes, sizeof yes, &why), SANDBAR_OK, "8 banks, 32 ports");
-  void *inside = node.inside;
+  uint64_t inside = node.inside;
   why.code = 9;
   answers(sandbar_open(&node, 1, 0, nine, 0, bad_maps, 2, yes, 1, &why), SANDBAR_IS_OPEN, "open again");
   holds(node.inside == inside && why.code == 9, "as before");
   answers(sandbar_close(&node), SANDBAR_OK, "close");
+}
+
+/* What is told of a command: what it asked for, where it ended, and the room that is left there. */
+static void told(void) {
+  const sandbar_bank banks[2] = {{0xA0000000u, 65536, 4}, {0x8000u, 16, 2}};
+  uint8_t packet[SANDBAR_MAX_PACKET], reply[SANDBAR_MAX_REPLY];
+  const uint8_t data[4] = {1, 2, 3, 4};
+  sandbar_node node = opened(banks, 2, yes, sizeof yes);
+  for (uint32_t k = 0; k < 3; k += 1) {
+    sandbar_served served = serve(&node, 0, packet, put_write(packet, 1, 1, 0x8004, data, 4), reply);
+    holds(served.status == (k < 2 ? 0 : 1), "a journal for two");
+    holds(asks(&served, SANDBAR_WRITE, SANDBAR_AT_BANK, 1, 0x8004, 4, k < 2 ? 1 - k : 0), "a write at bank 1");
+  }
+  sandbar_served served = serve(&node, 1, packet, put_read(packet, 2, 0, 0xA0000010u, 300), reply);
+  holds(asks(&served, SANDBAR_READ, SANDBAR_AT_BANK, 0, 0xA0000010u, 300, 3), "a read at bank 0");
+  served = serve(&node, 1, packet, put_read(packet, 3, 9, 0xA0000010u, 1), reply);
+  holds(served.kind == SANDBAR_ANSWERED && asks(&served, SANDBAR_READ, SANDBAR_NOWHERE, 9, 0xA0000010u, 1, 0), "no bank 9");
+  served = serve(&node, 1, packet, put_write(packet, 4, 0xFF, 0, yes, sizeof yes), reply);
+  holds(asks(&served, SANDBAR_WRITE, SANDBAR_AT_WINDOW, 0xFF, 0, sizeof yes, 0), "staged");
+  /* a read-modify-write: two bytes of data, two of mask */
+  size_t length = put_header(packet, 0x5C, 5, 0, 0xA0000000u, 4);
+  memcpy(packet + length, data, 4);
+  packet[length + 4] = sandbar_crc(data, 4);
+  served = serve(&node, 0, packet, length + 5, reply);
+  holds(served.status == 0 && asks(&served, SANDBAR_RMW, SANDBAR_AT_BANK, 0, 0xA0000000u, 4, 2), "a read-modify-write");
+  length = put_header(packet, 0x40, 6, 0, 0xA0000000u, 4);
+  served = serve(&node, 0, packet, length, reply);
+  holds(served.status == 2 && asks(&served, SANDBAR_NO_COMMAND, SANDBAR_NOWHERE, 0, 0xA0000000u, 4, 0), "an unused code");
+  packet[15] ^= 1;
+  served = serve(&node, 0, packet, length, reply);
+  holds(served.kind == SANDBAR_DISCARDED && asks(&served, 0, 0, 0, 0, 0, 0), "no command");
+  answers(sandbar_rotate(&node, 1, 9), SANDBAR_OK, "rotate");
+  served = serve(&node, 0, packet, put_read(packet, 7, 1, 0x8000u, 1), reply);
+  holds(served.room == 8, "the new journal's room");
+  answers(sandbar_close(&node), SANDBAR_OK, "close");
+}
+
+/* The CRC of each byte behind each other one: the step of the CRC, which is all of it, bit by bit. */
+static void crcs(void) {
+  int equal = 1;
+  for (unsigned first = 0; first < 256; first += 1) {
+    uint8_t bytes[2] = {(uint8_t)first, 0}, wanted = 0;
+    for (int byte = 0; byte < 2; byte += 1) {
+      bytes[1] = (uint8_t)(first * 7 + 3);
+      wanted ^= bytes[byte];
+      for (int bit = 0; bit < 8; bit += 1) wanted = (uint8_t)((wanted >> 1) ^ (wanted & 1 ? 0xE0 : 0));
+      equal &= sandbar_crc(bytes, (size_t)byte + 1) == wanted;
+    }
+  }
+  holds(equal, "the CRC, bit by bit");
 }
 
 /* What is not open, and what is not served. */
@@ -315,7 +377,10 @@ static void refusals(void) {
 int main(int count, char **words) {
   if (count != 3) return EXIT_FAILURE;
   holds(sandbar_crc((const uint8_t *)"123456789", 9) == 0x20, "the CRC of 123456789");
+  holds(sandbar_version() == SANDBAR_VERSION, "the library of this header");
+  crcs();
   first_session();
+  told();
   table(words[1], words[2]);
   loads();
   journals();

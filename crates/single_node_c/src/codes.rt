@@ -6,7 +6,7 @@ pub const OK: u32 = 0;
 /// Memory was refused.
 pub const NO_MEMORY: u32 = 1;
 
-/// The handle holds no node.
+/// The node is not open.
 pub const NO_NODE: u32 = 2;
 
 /// Ports, banks or a journal's room are outside their limits.
@@ -27,7 +27,7 @@ pub const NO_PORT: u32 = 7;
 /// There is no such bank.
 pub const NO_BANK: u32 = 8;
 
-/// The end of a packet is none of the two.
+/// The end of the packet is neither of the two.
 pub const BAD_END: u32 = 9;
 
 /// The packet has too many bytes.
@@ -39,5 +39,5 @@ pub const NO_ROOM: u32 = 11;
 /// The journal has no such entry.
 pub const NO_ENTRY: u32 = 12;
 
-/// The handle holds a node.
+/// The node is open.
 pub const IS_OPEN: u32 = 13;

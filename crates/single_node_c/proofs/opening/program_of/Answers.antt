@@ -19,4 +19,4 @@ returns-in-Err-2 c =
       spelled = c.in_ok-image.ensures.image;
       refusal = c.in-Err.ensures.refused;
       unjustified = c.in-Err.ensures.unjustified;
-    }) refl
+    }) (search rules) refl

@@ -1,0 +1,31 @@
+/**
+ * @file sandbarstove_text.h
+ * A text for each ::sandbar_code. `tools/header` makes it of the library's own comments.
+ */
+#ifndef SANDBARSTOVE_TEXT_H
+#define SANDBARSTOVE_TEXT_H
+
+#include "sandbarstove.h"
+
+/** What a code means, in a few words. */
+static inline const char *sandbar_text(uint32_t code) {
+  switch (code) {
+    case SANDBAR_OK: return "it was done";
+    case SANDBAR_NO_MEMORY: return "memory was refused";
+    case SANDBAR_NO_NODE: return "the node is not open";
+    case SANDBAR_BAD_CONFIG: return "ports, banks or a journal's room are outside their limits";
+    case SANDBAR_BAD_MAPS: return "the maps are none that a node may have";
+    case SANDBAR_BAD_IMAGE: return "the bytes are no image";
+    case SANDBAR_REFUSED: return "the verifier refuses the program";
+    case SANDBAR_NO_PORT: return "there is no such port";
+    case SANDBAR_NO_BANK: return "there is no such bank";
+    case SANDBAR_BAD_END: return "the end of the packet is neither of the two";
+    case SANDBAR_TOO_LONG: return "the packet has too many bytes";
+    case SANDBAR_NO_ROOM: return "the room is too small, or bytes lie outside the bank";
+    case SANDBAR_NO_ENTRY: return "the journal has no such entry";
+    case SANDBAR_IS_OPEN: return "the node is open";
+    default: return "no code of this library";
+  }
+}
+
+#endif
