@@ -1,4 +1,5 @@
-/* What the library asks of malloc, and what it does where it is refused. Linked with --wrap=malloc,realloc,free. */
+/* What the library asks of malloc, and what it does where it is refused. Linked with --wrap=malloc,realloc,free. A_PACKET: how
+ * often it asks for a packet: once, and not at all where a node has its memory inside (link/portable source). */
 #include "packets.h"
 
 #include <malloc.h>
@@ -11,6 +12,10 @@ void __real_free(void *block);
 void *__wrap_malloc(size_t size);
 void *__wrap_realloc(void *block, size_t size);
 void __wrap_free(void *block);
+
+#ifndef A_PACKET
+#define A_PACKET 1
+#endif
 
 static long requests, refuse_at, blocks;
 static size_t held;
@@ -79,7 +84,7 @@ static void sizes(uint8_t ports) {
   requests = 0;
   holds(sandbar_serve(&node, 0, packet, length, SANDBAR_EOP, reply, sizeof reply, &served) == SANDBAR_OK, "serve", 0);
   printf("a read: %ld requests\n", requests);
-  holds(requests == 1, "one request a packet", requests);
+  holds(requests == A_PACKET, "so many requests a packet", requests);
   sandbar_close(&node);
   holds(held == 0 && blocks == 0, "all is given back", 0);
 }
@@ -124,7 +129,7 @@ static long load(long n) {
   uint32_t code = sandbar_serve(&node, 0, packet, length, SANDBAR_EOP, reply, sizeof reply, &served);
   long asked = requests;
   refuse_at = 0;
-  if (n == 1) {
+  if (n == 1 && asked >= 1) {
     int same = served.verdict == 1 && served.generation == 2 && served.reply_length == 3 && served.status == 5;
     holds(code == SANDBAR_NO_MEMORY && same && reply[0] == 0xEE, "nothing is written", n);
   } else {

@@ -1,0 +1,44 @@
+/**
+ * @file sandbarstove_heap.h
+ * The heap of the library. The archive, and the C for other processors, ask a program for these three functions; over
+ * malloc, realloc and free they are link/heap.c, and over an array link/pool.c. A program without a heap brings its own.
+ */
+#ifndef SANDBARSTOVE_HEAP_H
+#define SANDBARSTOVE_HEAP_H
+
+#include <stdbool.h>
+#include <stddef.h>
+
+#ifdef __cplusplus
+extern "C" {
+#endif
+
+/** What a request comes to. */
+typedef struct rattle_block {
+  bool ok;  /**< whether there is a block */
+  void *at; /**< the block; where there is none any pointer that is not null, and nothing is read or written there */
+} rattle_block;
+
+/**
+ * A block of @p size bytes, with any bytes in it. A block of no bytes is one too, with an address that is not null.
+ *
+ * @param align a power of two, at most 16, which divides the address of the block
+ */
+rattle_block rattle_alloc(size_t size, size_t align);
+
+/**
+ * A block of @p size bytes that begins with the @p kept first bytes of @p block, as far as they fit; @p block is then given
+ * back. At a refusal @p block stays as it was.
+ *
+ * @param kept how many bytes @p block has
+ */
+rattle_block rattle_realloc(void *block, size_t kept, size_t size, size_t align);
+
+/** Gives a block back. */
+void rattle_dealloc(void *block);
+
+#ifdef __cplusplus
+}
+#endif
+
+#endif

@@ -1,0 +1,313 @@
+/* include/sandbarstove.h over a module of WebAssembly that wasm2c made C: each node is an instance of the module, with a memory
+ * of its own, into which what is lent is copied, and from which what was written is copied back. Numbers are little-endian
+ * there, whatever the processor. There is no state beside the instances: `verify` makes one for its own time, and the CRC
+ * needs none. */
+#include "sandbarstove.h"
+#include "sandbarstove_heap.h"
+#include "sandbarstove_module.h"
+
+typedef Z_sandbar_instance_t module;
+
+enum {
+  LIVE = 0x3A9,
+  ROOM = SANDBAR_MAX_PACKET + 1, /* a packet that is too long is seen to be */
+  SMALL = 128,                   /* room for the banks, or for what a call tells */
+  MAPS = 0, WHY = 48, IMAGE = 64 /* places in what is lent to be verified: nine maps, why, the image */
+};
+
+/* A node. The places are in the module's memory. */
+struct inside {
+  module it;
+  uint64_t node, packet, reply, small;
+};
+
+/* ---- the module's memory */
+
+static uint8_t *place(module *it, uint64_t at, size_t length) {
+  wasm_rt_memory_t *memory = Z_sandbarZ_memory(it);
+  if (at > memory->size || length > memory->size - at) sandbar_trap(WASM_RT_TRAP_OOB);
+#if WABT_BIG_ENDIAN
+  return memory->data + (memory->size - (size_t)at - length);
+#else
+  return memory->data + at;
+#endif
+}
+
+static void put(module *it, uint64_t at, const uint8_t *bytes, size_t length) {
+  uint8_t *to = place(it, at, length);
+#if WABT_BIG_ENDIAN
+  for (size_t k = 0; k < length; k += 1) to[length - 1 - k] = bytes[k];
+#else
+  if (length != 0) memcpy(to, bytes, length);
+#endif
+}
+
+static void take(module *it, uint64_t at, uint8_t *bytes, size_t length) {
+  const uint8_t *from = place(it, at, length);
+#if WABT_BIG_ENDIAN
+  for (size_t k = 0; k < length; k += 1) bytes[k] = from[length - 1 - k];
+#else
+  if (length != 0) memcpy(bytes, from, length);
+#endif
+}
+
+static void put_number(module *it, uint64_t at, uint64_t number, size_t bytes) {
+  uint8_t spelled[8];
+  for (size_t k = 0; k < bytes; k += 1) spelled[k] = (uint8_t)(number >> 8 * k);
+  put(it, at, spelled, bytes);
+}
+
+static uint64_t number(module *it, uint64_t at, size_t bytes) {
+  uint8_t spelled[8];
+  uint64_t is = 0;
+  take(it, at, spelled, bytes);
+  for (size_t k = bytes; k > 0; k -= 1) is = is << 8 | spelled[k - 1];
+  return is;
+}
+
+static size_t at_most(size_t a, size_t b) { return a < b ? a : b; }
+
+/* ---- instances */
+
+/* A fresh instance; NULL where memory was refused. */
+static struct inside *instance(void) {
+  rattle_block block = rattle_alloc(sizeof(struct inside), 16);
+  if (!block.ok) return NULL;
+  struct inside *inside = block.at;
+  memset(inside, 0, sizeof *inside);
+  if (!rt_take_memory(Z_sandbarZ_memory(&inside->it), SANDBAR_PAGES)) {
+    rattle_dealloc(inside);
+    return NULL;
+  }
+  Z_sandbar_instantiate(&inside->it);
+  return inside;
+}
+
+static void end(struct inside *inside) {
+  Z_sandbar_free(&inside->it);
+  rattle_dealloc(inside);
+}
+
+static struct inside *inside_of(const sandbar_node *node) {
+  return node->live == LIVE ? (struct inside *)(uintptr_t)node->inside : NULL;
+}
+
+/* ---- what is verified */
+
+/* Maps and an image in the module's memory: the place of both, 0 where memory was refused. */
+static uint64_t lend(module *it, const sandbar_map *maps, size_t map_count, const uint8_t *image, size_t image_length) {
+  uint64_t block = image_length > 0xFFFFFF ? 0 : Z_sandbarZ_malloc(it, IMAGE + image_length);
+  if (block == 0) return 0;
+  for (size_t k = 0; k < map_count; k += 1) {
+    put_number(it, block + MAPS + 4 * k, maps[k].cells, 2);
+    put_number(it, block + MAPS + 4 * k + 2, maps[k].peak, 2);
+  }
+  put_number(it, block + WHY, 0, 4);
+  put(it, block + IMAGE, image, image_length);
+  return block;
+}
+
+static void give_back(module *it, uint64_t block, sandbar_why *why) {
+  why->code = (uint16_t)number(it, block + WHY, 2);
+  why->slot = (uint16_t)number(it, block + WHY + 2, 2);
+  Z_sandbarZ_free(it, block);
+}
+
+uint32_t sandbar_verify(const sandbar_map *maps, size_t map_count, const uint8_t *image, size_t image_length,
+                        sandbar_why *why) {
+  uint32_t code = SANDBAR_NO_MEMORY;
+  size_t count = at_most(map_count, 9);
+  why->code = why->slot = 0;
+  struct inside *inside = instance();
+  if (inside == NULL) return code;
+  module *it = &inside->it;
+  uint64_t block = lend(it, maps, count, image, image_length);
+  if (block != 0) {
+    code = Z_sandbarZ_sandbar_verify(it, block + MAPS, count, block + IMAGE, image_length, block + WHY);
+    give_back(it, block, why);
+  }
+  end(inside);
+  return code;
+}
+
+/* ---- nodes */
+
+/* Room for what each call on a node copies; false where memory was refused. */
+static bool has_rooms(struct inside *inside) {
+  module *it = &inside->it;
+  inside->packet = Z_sandbarZ_malloc(it, ROOM);
+  inside->reply = Z_sandbarZ_malloc(it, SANDBAR_MAX_REPLY);
+  inside->small = Z_sandbarZ_malloc(it, SMALL);
+  inside->node = Z_sandbarZ_malloc(it, sizeof(sandbar_node));
+  if (inside->packet == 0 || inside->reply == 0 || inside->small == 0 || inside->node == 0) return false;
+  put_number(it, inside->node, 0, 8);
+  put_number(it, inside->node + 8, 0, 8);
+  return true;
+}
+
+static void put_banks(struct inside *inside, const sandbar_bank *banks, size_t count) {
+  for (size_t k = 0; k < count; k += 1) {
+    put_number(&inside->it, inside->small + 12 * k, banks[k].base, 4);
+    put_number(&inside->it, inside->small + 12 * k + 4, banks[k].size, 4);
+    put_number(&inside->it, inside->small + 12 * k + 8, banks[k].room, 4);
+  }
+}
+
+uint32_t sandbar_open(sandbar_node *node, uint8_t address, uint8_t ports, const sandbar_bank *banks, size_t bank_count,
+                      const sandbar_map *maps, size_t map_count, const uint8_t *image, size_t image_length,
+                      sandbar_why *why) {
+  if (inside_of(node) != NULL) return SANDBAR_IS_OPEN;
+  uint32_t code = SANDBAR_NO_MEMORY;
+  size_t bank_some = at_most(bank_count, 9), map_some = at_most(map_count, 9);
+  why->code = why->slot = 0;
+  struct inside *inside = instance();
+  if (inside == NULL) return code;
+  module *it = &inside->it;
+  uint64_t block = has_rooms(inside) ? lend(it, maps, map_some, image, image_length) : 0;
+  if (block != 0) {
+    put_banks(inside, banks, bank_some);
+    code = Z_sandbarZ_sandbar_open(it, inside->node, address, ports, inside->small, bank_some, block + MAPS, map_some,
+                                   block + IMAGE, image_length, block + WHY);
+    give_back(it, block, why);
+  }
+  if (code != SANDBAR_OK) {
+    end(inside);
+    return code;
+  }
+  node->inside = (uint64_t)(uintptr_t)inside;
+  node->live = LIVE;
+  return code;
+}
+
+uint32_t sandbar_close(sandbar_node *node) {
+  struct inside *inside = inside_of(node);
+  if (inside == NULL) return SANDBAR_NO_NODE;
+  uint32_t code = Z_sandbarZ_sandbar_close(&inside->it, inside->node);
+  end(inside);
+  node->inside = 0;
+  node->live = 0;
+  return code;
+}
+
+static void take_served(module *it, uint64_t at, sandbar_served *served) {
+  served->verdict = number(it, at, 8);
+  served->generation = (uint32_t)number(it, at + 8, 4);
+  served->reply_length = (uint32_t)number(it, at + 12, 4);
+  served->address = (uint32_t)number(it, at + 16, 4);
+  served->length = (uint32_t)number(it, at + 20, 4);
+  served->room = (uint32_t)number(it, at + 24, 4);
+  served->kind = (uint8_t)number(it, at + 28, 1);
+  served->status = (uint8_t)number(it, at + 29, 1);
+  served->command = (uint8_t)number(it, at + 30, 1);
+  served->place = (uint8_t)number(it, at + 31, 1);
+  served->extended = (uint8_t)number(it, at + 32, 1);
+}
+
+uint32_t sandbar_serve(sandbar_node *node, uint8_t port, const uint8_t *packet, size_t packet_length, uint8_t end,
+                       uint8_t *reply, size_t reply_room, sandbar_served *served) {
+  struct inside *inside = inside_of(node);
+  if (inside == NULL) return SANDBAR_NO_NODE;
+  module *it = &inside->it;
+  size_t length = at_most(packet_length, ROOM);
+  put(it, inside->packet, packet, length);
+  uint32_t code = Z_sandbarZ_sandbar_serve(it, inside->node, port, inside->packet, length, end, inside->reply,
+                                           at_most(reply_room, SANDBAR_MAX_REPLY), inside->small);
+  if (code != SANDBAR_OK) return code;
+  take_served(it, inside->small, served);
+  take(it, inside->reply, reply, served->reply_length);
+  return code;
+}
+
+/* ---- journals */
+
+uint32_t sandbar_journal_of(sandbar_node *node, uint8_t bank, sandbar_journal *journal) {
+  struct inside *inside = inside_of(node);
+  if (inside == NULL) return SANDBAR_NO_NODE;
+  module *it = &inside->it;
+  uint32_t code = Z_sandbarZ_sandbar_journal_of(it, inside->node, bank, inside->small);
+  if (code != SANDBAR_OK) return code;
+  journal->entries = number(it, inside->small, 8);
+  journal->loaded = (uint32_t)number(it, inside->small + 8, 4);
+  return code;
+}
+
+static void take_entry(module *it, uint64_t at, sandbar_entry *entry) {
+  entry->number = number(it, at, 8);
+  entry->verdict = number(it, at + 8, 8);
+  entry->generation = (uint32_t)number(it, at + 16, 4);
+  entry->packet_length = (uint32_t)number(it, at + 20, 4);
+  entry->port = (uint8_t)number(it, at + 24, 1);
+  entry->status = (uint8_t)number(it, at + 25, 1);
+  entry->end = (uint8_t)number(it, at + 26, 1);
+}
+
+uint32_t sandbar_entry_at(sandbar_node *node, uint8_t bank, uint32_t which, uint8_t *packet, size_t packet_room,
+                          sandbar_entry *entry) {
+  struct inside *inside = inside_of(node);
+  if (inside == NULL) return SANDBAR_NO_NODE;
+  module *it = &inside->it;
+  uint32_t code = Z_sandbarZ_sandbar_entry_at(it, inside->node, bank, which, inside->packet, at_most(packet_room, ROOM),
+                                              inside->small);
+  if (code != SANDBAR_OK) return code;
+  take_entry(it, inside->small, entry);
+  take(it, inside->packet, packet, entry->packet_length);
+  return code;
+}
+
+uint32_t sandbar_rotate(sandbar_node *node, uint8_t bank, uint32_t room) {
+  struct inside *inside = inside_of(node);
+  return inside == NULL ? SANDBAR_NO_NODE : Z_sandbarZ_sandbar_rotate(&inside->it, inside->node, bank, room);
+}
+
+/* ---- the memory of banks */
+
+enum { BANK = 1048576 /* the most bytes of a bank: a longer request lies outside each, and none of it is looked at */ };
+
+/* Reads through the room for a packet, piece by piece, so that no memory is asked for. A bank has all between two of its
+ * bytes: where the first and the last piece lie in it nothing is refused behind them. */
+uint32_t sandbar_peek(sandbar_node *node, uint8_t bank, uint32_t address, uint8_t *bytes, size_t length) {
+  struct inside *inside = inside_of(node);
+  if (inside == NULL) return SANDBAR_NO_NODE;
+  module *it = &inside->it;
+  size_t piece = at_most(length, SANDBAR_MAX_PACKET);
+  uint32_t code = Z_sandbarZ_sandbar_peek(it, inside->node, bank, address, inside->packet, piece);
+  if (code != SANDBAR_OK) return code;
+  if (length > BANK || length - piece > UINT32_MAX - address) return SANDBAR_NO_ROOM;
+  uint32_t last = address + (uint32_t)(length - piece);
+  code = Z_sandbarZ_sandbar_peek(it, inside->node, bank, last, inside->packet, piece);
+  for (size_t done = 0; code == SANDBAR_OK && done < length; done += piece) {
+    piece = at_most(length - done, SANDBAR_MAX_PACKET);
+    code = Z_sandbarZ_sandbar_peek(it, inside->node, bank, address + (uint32_t)done, inside->packet, piece);
+    if (code == SANDBAR_OK) take(it, inside->packet, bytes + done, piece);
+  }
+  return code;
+}
+
+uint32_t sandbar_poke(sandbar_node *node, uint8_t bank, uint32_t address, const uint8_t *bytes, size_t length,
+                      uint32_t room) {
+  struct inside *inside = inside_of(node);
+  if (inside == NULL) return SANDBAR_NO_NODE;
+  module *it = &inside->it;
+  size_t some = at_most(length, BANK + 1);
+  uint64_t block = Z_sandbarZ_malloc(it, some + 1);
+  if (block == 0) return SANDBAR_NO_MEMORY;
+  put(it, block, bytes, some);
+  uint32_t code = Z_sandbarZ_sandbar_poke(it, inside->node, bank, address, block, some, room);
+  Z_sandbarZ_free(it, block);
+  return code;
+}
+
+/* ---- calls without a node */
+
+/* The CRC bit by bit (ECSS-E-ST-50-52C, 8-bit CRC), and not the module's, which would want an instance. */
+uint8_t sandbar_crc(const uint8_t *bytes, size_t length) {
+  uint8_t crc = 0;
+  for (size_t k = 0; k < length; k += 1) {
+    crc ^= bytes[k];
+    for (int bit = 0; bit < 8; bit += 1) crc = (uint8_t)((crc >> 1) ^ (crc & 1 ? 0xE0 : 0));
+  }
+  return crc;
+}
+
+/* It looks at no instance. */
+uint32_t sandbar_version(void) { return Z_sandbarZ_sandbar_version(NULL); }

@@ -1,0 +1,138 @@
+# What link/portable test runs: sourced by it.
+
+data=$top/crates/test_tables/data
+rounds=${ROUNDS:-100}
+failed=0
+warnings=(-std=c11 -O2 -Wall -Wextra -Wpedantic -Werror "-I$top/include" "-I$here")
+wrap=-Wl,--wrap=malloc,--wrap=realloc,--wrap=free
+
+# bytes TOOL FILE..: how many bytes of code and constants.
+bytes() {
+    local tool=$1
+    shift
+    "$tool" "$@" | awk 'NR > 1 { sum += $1 } END { print sum }'
+}
+
+fails() {
+    echo "$1: FAILED: $2"
+    failed=1
+}
+
+# over NAME COMPILER QEMU SYSROOT REQUESTS LIBRARY..: the programs of link/ over a library, in $options. REQUESTS: how often it asks
+# for memory for a packet.
+over() {
+    local name=$1 compiler=$2 qemu=$3 sysroot=$4 requests=$5 program came
+    shift 5
+    rm -f "$work"/run-*
+    for program in test session fuzz; do
+        "$compiler" "${warnings[@]}" "${options[@]}" -static "$here/$program.c" "$@" -o "$work/run-$program" || { fails "$name" "$program.c"; return; }
+    done
+    "$compiler" "${warnings[@]}" "${options[@]}" -D_GNU_SOURCE "-DA_PACKET=$requests" "$wrap" "$here/memory.c" "$@" -o "$work/run-memory" ||
+        { fails "$name" memory.c; return; }
+    # shellcheck disable=SC2086
+    {
+        $qemu "$work/run-test" "$data/packets.txt" "$data/replies.txt" > "$work/said" || { cat "$work/said"; fails "$name" test; return; }
+        $qemu "$work/run-session" | cmp -s - "$here/session.out" || { fails "$name" session; return; }
+        $qemu ${sysroot:+-L $sysroot} "$work/run-memory" > "$work/memory" || { cat "$work/memory"; fails "$name" memory; return; }
+        came=$($qemu "$work/run-fuzz" "$rounds" 1 "$data/packets.txt" "$data/calls.txt" "$data/loops.txt") || came=
+    }
+    sums "$name" "$came" "$(head -n 1 "$work/said"), $(tail -n 1 "$work/said")"
+}
+
+# sums NAME CAME TOLD: the first library's sum is that of all.
+sums() {
+    : "${wanted:=$2}"
+    if [ "$2" = "$wanted" ] && [ -n "$2" ]; then echo "$1: $3, session, memory, sum ${2%%:*}"; else fails "$1" "the sum is ${2%%:*}"; fi
+}
+
+# asked NAME: whether the word has it.
+asked() { [[ $1 == *"$word"* ]]; }
+
+# has NAME COMPILER QEMU: whether both are there.
+has() {
+    asked "$1" || return 1
+    command -v "$2" > /dev/null && { [ -z "$3" ] || command -v "$3" > /dev/null; } || { echo "$1: skipped: $2 or $3 is missing"; return 1; }
+}
+
+# archived PROCESSOR PREFIX
+archived() {
+    local name="$1, archive"
+    has "$name" "$2-gcc" "qemu-$1" || return 0
+    archive "$1" "$work/$1.a"
+    options=()
+    over "$name" "$2-gcc" "qemu-$1" "/usr/$2" 1 "$work/$1.a" "$here/heap.c"
+    echo "    $(bytes "$2-size" "$work/$1.a") bytes of code and constants"
+}
+
+# compiled NAME PREFIX QEMU SYSROOT OPTION..: the C source. PREFIX ends in -, or is empty for this processor.
+compiled() {
+    local name="$1, source" prefix=$2 qemu=$3 sysroot=$4 file
+    shift 4
+    has "$name" "${prefix}gcc" "$qemu" || return 0
+    options=("$@")
+    for file in sandbarstove host rt heap; do
+        "${prefix}gcc" -std=c11 -O2 "$@" -c "$work/source/$file.c" -o "$work/$file.o" || { fails "$name" "$file.c"; return 0; }
+    done
+    over "$name" "${prefix}gcc" "$qemu" "$sysroot" 0 "$work"/{sandbarstove,host,rt,heap}.o
+    echo "    $(bytes "${prefix}size" "$work"/{sandbarstove,host,rt}.o) bytes of code and constants"
+}
+
+# bare NAME COMPILER START LINK BOARD.. -- OPTION..: without an OS, over a pool.
+bare() {
+    local name="$1, source, no OS" compiler=$2 start=$3 link=$4 board=() program words came
+    shift 4
+    while [ "$1" != -- ]; do board+=("$1"); shift; done
+    shift
+    has "$name" "$compiler" "${board[0]}" || return 0
+    local flags=(-std=c11 -Os -ffreestanding -fno-builtin -fno-common -ffunction-sections -fdata-sections -fno-pic -fno-stack-protector
+        -DSANDBAR_TRAP -DPORTABLE_PAGES=48 "-DPOOL=(10u << 20)" "-I$parts/bare/include" "-I$work/source" "-I$here" "$@")
+    for file in sandbarstove host rt pool; do
+        "$compiler" "${flags[@]}" -c "$work/source/$file.c" -o "$work/bare-$file.o" || { fails "$name" "$file.c"; return 0; }
+    done
+    for program in test session fuzz; do
+        case $program in
+        test) words='"packets", "replies"' ;;
+        session) words='0' ;;
+        fuzz) words="\"$rounds\", \"1\", \"packets\", \"calls\", \"loops\"" ;;
+        esac
+        "$compiler" "${flags[@]}" -nostdlib -static -no-pie "-DWORDS=$words" "-DDATA=\"$data\"" -Wl,--gc-sections,--build-id=none,--no-warnings \
+            -T "$parts/bare/$link" "$parts/bare/$start" "$parts/bare/bare.c" "$here/$program.c" \
+            "$work"/bare-{sandbarstove,host,rt,pool}.o -lgcc -o "$work/bare-$program" || { fails "$name" "$program.c"; return 0; }
+        timeout 600 "${board[@]}" -kernel "$work/bare-$program" < /dev/null > "$work/bare-$program.out" 2>&1 || true
+        tr -d '\r' < "$work/bare-$program.out" > "$work/said"
+        grep -q '^status 0$' "$work/said" || { tail -n 5 "$work/said"; fails "$name" "$program"; return 0; }
+        mv "$work/said" "$work/bare-$program.out"
+    done
+    grep -v '^status' "$work/bare-session.out" | cmp -s - "$here/session.out" || { fails "$name" session; return 0; }
+    came=$(grep nodes "$work/bare-fuzz.out")
+    sums "$name" "$came" "$(head -n 1 "$work/bare-test.out"), $(grep checks "$work/bare-test.out"), pool"
+    echo "    $(bytes "${compiler%gcc}size" "$work"/bare-{sandbarstove,host,rt,pool}.o) bytes of code and constants"
+}
+
+test_all() {
+    word=$1
+    needs cc gcc
+    if [ -n "${SANDBAR_MODULE:-}" ]; then cp "$SANDBAR_ARCHIVE" "$work/x86_64.a"; else module; fi
+    options=()
+    over "x86_64, archive" cc "" "" 1 "$work/x86_64.a" "$here/heap.c"
+    echo "    $(bytes size "$work/x86_64.a") bytes of code and constants"
+    mkdir "$work/source"
+    c_source "$work/source"
+    archived aarch64 aarch64-linux-gnu
+    archived riscv64 riscv64-linux-gnu
+    compiled x86_64 "" "" ""
+    compiled aarch64 aarch64-linux-gnu- qemu-aarch64 /usr/aarch64-linux-gnu
+    compiled riscv64 riscv64-linux-gnu- qemu-riscv64 /usr/riscv64-linux-gnu
+    compiled "arm (32 bits)" arm-linux-gnueabihf- qemu-arm /usr/arm-linux-gnueabihf
+    compiled "powerpc (32 bits, highest byte first)" powerpc-linux-gnu- qemu-ppc /usr/powerpc-linux-gnu
+    compiled "s390x (highest byte first)" s390x-linux-gnu- qemu-s390x /usr/s390x-linux-gnu
+    compiled "sparc leon3 (32 bits, highest byte first)" sparc64-linux-gnu- qemu-sparc32plus /usr/sparc64-linux-gnu -m32 -mcpu=leon3
+    bare "cortex-m7" arm-none-eabi-gcc m7.c m7.ld qemu-system-arm -M mps2-an500 -nographic -monitor none -serial none \
+        -semihosting-config enable=on,target=native -- -mcpu=cortex-m7 -mthumb
+    bare "riscv64" riscv64-linux-gnu-gcc riscv64.S ram.ld qemu-system-riscv64 -M virt -m 128M -bios none -nographic -monitor none \
+        -serial none -semihosting-config enable=on,target=native -- -march=rv64imac -mabi=lp64 -mcmodel=medany -Wl,--defsym=BASE=0x80000000
+    bare "sparc leon3" sparc64-linux-gnu-gcc leon3.S ram.ld qemu-system-sparc -M leon3_generic -nographic -monitor none \
+        -serial stdio -- -m32 -mcpu=leon3 -Wl,--defsym=BASE=0x40000000
+    [ "$failed" = 0 ] || stop "one failed"
+    echo "portable: all held"
+}
