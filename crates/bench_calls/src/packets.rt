@@ -5,11 +5,11 @@ ghost use Rattle.std.specs.Prelude.{◌≡◌, IfSome};
 use crate::{REFUSED, accepted};
 use bank::{Bank, Journal, Share};
 use bver::Accepted;
-use cells::Cells;
+use cells::{CellSeat, Cells};
 use rmap::{ReplyBuf, Windows};
 use spw::{End, Packet};
 use std::alloc::Global;
-use target::{RunContext, admit, judge_by};
+use node_parts::{RunContext, admit, judge_by};
 
 /// The address of the bank's first byte, its size, and the entries of the longest journal.
 const BASE: u32 = 0xA000_0000;
@@ -26,7 +26,7 @@ fn bank(alloc: Global) -> Option<(Bank, Share)> {
 }
 
 /// The context of that port, for programs of those maps.
-fn context(alloc: Global, program: &Accepted) -> Option<RunContext>
+fn context(alloc: Global, program: &Accepted) -> Option<RunContext<CellSeat>>
     ensures { IfSome result (λ context. context.seat.sizes ≡ program.now.sizes) }
 {
     let (_cells, mut seats) = Cells::new(alloc, &program.sizes(), 1).ok()?;
@@ -58,7 +58,7 @@ pub extern "C" fn speed_prepare(alloc: Global, bytes: &[u8], count: u32) -> u64 
 
 /// Judges a packet by the program and applies it to the bank: how many bytes its reply has.
 fn serve(
-    context: &mut RunContext,
+    context: &mut RunContext<CellSeat>,
     program: &Accepted,
     bank: &mut Bank,
     share: &mut Share,

@@ -6,7 +6,7 @@ use bver::MapSizes;
 use sched::{Event, Outcome, World, step};
 use spw::{End, Packet};
 use std::alloc::Global;
-use target::{BankConfig, NodeConfig};
+use node_parts::{BankConfig, NodeConfig};
 
 /// The world of a node of one port, with a bank of the longest journal and one map of one cell.
 fn world(alloc: Global, image: &[u8]) -> Option<World> {

@@ -9,7 +9,8 @@ use rmap::{ReplyBuf, Status};
 use spw::{End, Packet};
 use std::alloc::Global;
 use std::sync::Wait;
-use target::{BankConfig, Banks, NodeConfig, Pass, Served, banks_and_passes, serve_packet};
+use node_parts::{BankConfig, Banks, NodeConfig, Served};
+use target::{Pass, banks_and_passes, serve_packet};
 
 /// A read of the load result, which leaves no entry in a journal.
 pub(crate) const READ: [u8; 16] = [

@@ -15,7 +15,8 @@ use std::rt::Clock;
 use std::sync::Wait;
 use std::thread::Threads;
 use std::time::Instant;
-use target::{BankConfig, Node, NodeConfig, Pass};
+use node_parts::{BankConfig, NodeConfig};
+use target::{Node, Pass};
 
 /// How many packets each port is given: as many as its queue holds beside the end mark.
 const PACKETS: u16 = MAX_CAPACITY - 1;

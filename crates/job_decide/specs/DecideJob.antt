@@ -10,7 +10,7 @@ use Rattle.rmap.specs.Codes.{status_code}
 use Rattle.rmap.specs.Verdict.{verdict_number}
 use Rattle.rmap.specs.Windows.{WindowsValue}
 use Rattle.rmap.specs.declared.status.Status.{Status}
-use Rattle.target.specs.Nodes.{windows_of}
+use Rattle.node_parts.specs.Nodes.{windows_of}
 use Rattle.job_nodes.specs.JobNode.{own_bank}
 use Rattle.job_parts.specs.Arguments.{file_rule, option_rule}
 use Rattle.job_parts.specs.Options.{GivesPorts, GivesSizes, IsBadCount, IsBadList}

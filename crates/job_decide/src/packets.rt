@@ -7,7 +7,7 @@ ghost use Rattle.job_decide.specs.Decided.{IsRefused, TellsCommand, TellsDecisio
 ghost use Rattle.job_decide.specs.DecideJob.{match_line, own_windows, rule_text, ticket_text};
 ghost use Rattle.rmap.specs.Checks.{header_line};
 ghost use Rattle.rmap.specs.Command.{discard_of};
-ghost use Rattle.target.specs.Nodes.{windows_of};
+ghost use Rattle.node_parts.specs.Nodes.{windows_of};
 
 use crate::reasons::{check_failed, reasons};
 use job_nodes::judge::print_discard;

@@ -25,7 +25,7 @@ use Rattle.std.specs.Prelude.{
 use Rattle.std.specs.Io.KnownBytes.{Appends}
 use Rattle.spw.specs.Line.{IsPort, words_of}
 use Rattle.spw.specs.declared.faults.LineFault.TheVariants.{NoPort, TooLong}
-use Rattle.target.specs.declared.served.Served.{Served}
+use Rattle.node_parts.specs.declared.served.Served.{Served}
 use Rattle.bank.specs.Records.{JournalValue}
 use Rattle.job_parts.specs.Printed.{fault_line}
 use Rattle.job_parts.specs.declared.bad_lines.BadLine.{BadLine}

@@ -6,11 +6,11 @@ use Rattle.std.proofs.lemmas.Option.{get_or_from_slice_get}
 use Rattle.std.proofs.Math.Seq.{map-set_same}
 use Rattle.bank.specs.Records.{BankValue, JournalValue, JudgedValue, ShareValue, after_command, after_record, answer_of, has_room}
 use Rattle.spw.specs.Cargo.{Cargo}
-use Rattle.target.specs.Applied.{share_of}
-use Rattle.target.specs.Passes.{PassValue}
-use Rattle.target.specs.Served.{IsAnswered, PartsValue}
-use Rattle.target.specs.declared.served.Served.{Served}
-use Rattle.target.specs.declared.served.Served.TheVariants.{Stopped, Unread, Done, Window}
+use Rattle.node_parts.specs.Applied.{share_of}
+use Rattle.node_parts.specs.Passes.{PassValue}
+use Rattle.node_parts.specs.Served.{IsAnswered, PartsValue}
+use Rattle.node_parts.specs.declared.served.Served.{Served}
+use Rattle.node_parts.specs.declared.served.Served.TheVariants.{Stopped, Unread, Done, Window}
 use Rattle.single_node.specs.Nodes.{SingleNodeValue}
 use Rattle.single_node.specs.Serving.{Serves as ServesAlone}
 use Rattle.job_nodes.specs.JobNode.{HandsOut, IsJobNode, JobNodeValue, SetsBytes, alone, is_full, own_journal, rooms_of}

@@ -4,7 +4,7 @@ use Rattle.std.proofs.lemmas.List.{append-nil}
 use Rattle.std.proofs.lemmas.List.Concat.{flat_map-append}
 use Rattle.std.specs.Io.KnownBytes.{Appends}
 use Rattle.bpf.specs.Program.{Program}
-use Rattle.target.specs.declared.config.NodeConfig.{NodeConfig}
+use Rattle.node_parts.specs.declared.config.NodeConfig.{NodeConfig}
 use Rattle.sched.specs.History.{History, Start, Then, history_from}
 use Rattle.sched.specs.Looking.{Node}
 use Rattle.sched.specs.Worlds.{IsLawfulWorld, WorldValue, node_of}

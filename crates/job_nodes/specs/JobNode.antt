@@ -21,12 +21,12 @@ use Rattle.bank.specs.Records.{BankValue, JournalValue}
 use Rattle.bver.specs.Justified.{AcceptedValue}
 use Rattle.machine.specs.Sizes.{Maps}
 use Rattle.spw.specs.Cargo.{Cargo}
-use Rattle.publish.specs.declared.history.Publish.{Publish}
-use Rattle.target.specs.declared.config.BankConfig.{BankConfig}
-use Rattle.target.specs.declared.config.NodeConfig.{NodeConfig}
-use Rattle.target.specs.declared.served.Served.{Served}
-use Rattle.target.specs.Nodes.{bank_of, first_pass, first_programs}
-use Rattle.target.specs.Passes.{PassValue}
+use Rattle.node_programs.specs.declared.publishes.Publish.{Publish}
+use Rattle.node_parts.specs.declared.config.BankConfig.{BankConfig}
+use Rattle.node_parts.specs.declared.config.NodeConfig.{NodeConfig}
+use Rattle.node_parts.specs.declared.served.Served.{Served}
+use Rattle.node_parts.specs.Nodes.{bank_of, first_pass, first_programs}
+use Rattle.node_parts.specs.Passes.{PassValue}
 use Rattle.single_node.specs.Nodes.{Rotates, SetsMemory, SingleNodeValue, single_node}
 use Rattle.single_node.specs.Serving.{Serves as ServesAlone}
 use Rattle.job_nodes.specs.Feeds.{IsFed, IsNotFed}

@@ -22,7 +22,7 @@ use rmap::Discard;
 use spw::lines_of;
 use std::alloc::{AllocError, Global};
 use std::io::{self, Write};
-use target::{Served, Stop};
+use node_parts::{Served, Stop};
 
 /// `judge LINES [--image FILE] [--maps LIST] [--ports N]`.
 pub fn judge_command<'a>(alloc: Global) -> Result<Command<'a>, AllocError>

@@ -15,7 +15,7 @@ use single_node::SingleNode;
 use spw::Packet;
 use std::alloc::{AllocError, Global};
 use std::marker::Model;
-use target::{BankConfig, NodeConfig, Served};
+use node_parts::{BankConfig, NodeConfig, Served};
 
 /// The logical address of the node.
 const NODE_ADDRESS: u8 = 0xFE;

@@ -4,8 +4,8 @@ use base.Stored.{Gv}
 use Rattle.bver.specs.Justified.{AcceptedValue}
 use Rattle.machine.specs.Sizes.{Maps}
 use Rattle.spw.specs.Cargo.{Cargo}
-use Rattle.target.specs.Nodes as nodes
-use Rattle.target.specs.declared.config.NodeConfig.{NodeConfig}
+use Rattle.node_parts.specs.Nodes as nodes
+use Rattle.node_parts.specs.declared.config.NodeConfig.{NodeConfig}
 use Rattle.ports.specs.Serves.{AreServed, HaveServed}
 use Rattle.ports.specs.Sinks.{SentReply, SinkValue}
 use Rattle.ports.specs.declared.port.Port.{Port}

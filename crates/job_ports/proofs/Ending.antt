@@ -8,8 +8,8 @@ use base.Stored.{Gv}
 use Rattle.bver.specs.Justified.{AcceptedValue}
 use Rattle.spw.specs.Cargo.{Cargo}
 use Rattle.bank.specs.Records.{first_share}
-use Rattle.target.specs.Nodes.{first_pass}
-use Rattle.target.specs.Passes.{PassValue}
+use Rattle.node_parts.specs.Nodes.{first_pass}
+use Rattle.node_parts.specs.Passes.{PassValue}
 use Rattle.ports.specs.Queue.{IsServePassOf, put_of, taken_of}
 use Rattle.ports.specs.Serves.{AreServed, HaveServed, IsWorkerOf, total_of}
 use Rattle.ports.specs.Sinks.{SentReply, SinkValue}

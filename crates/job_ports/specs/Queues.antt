@@ -3,7 +3,7 @@ use Rattle.std.specs.Prelude.{◌≡◌, ◌<◌, ◌≤◌, ℕ, List, [], ◌�
 use base.Stored.{Gv}
 use Rattle.bver.specs.Justified.{AcceptedValue}
 use Rattle.spw.specs.Cargo.{Cargo}
-use Rattle.target.specs.Passes.{PassValue}
+use Rattle.node_parts.specs.Passes.{PassValue}
 use Rattle.ports.specs.Queue.{IsPutPassOf, IsServePassOf, put_of, taken_of}
 use Rattle.ports.specs.Sinks.{SinkValue}
 use Rattle.ports.specs.declared.item.Item.{Item}

@@ -5,8 +5,8 @@ use base.Stored.{Gv}
 use Rattle.bver.specs.Justified.{AcceptedValue}
 use Rattle.spw.specs.Cargo.{Cargo}
 use Rattle.spw.specs.Line.{lines_of}
-use Rattle.target.specs.Nodes.{first_pass}
-use Rattle.target.specs.Passes.{PassValue}
+use Rattle.node_parts.specs.Nodes.{first_pass}
+use Rattle.node_parts.specs.Passes.{PassValue}
 use Rattle.ports.specs.Serves.{total_of}
 use Rattle.ports.specs.Sinks.{SinkValue, replies_in}
 use Rattle.ports.specs.Worked.{HasServed}

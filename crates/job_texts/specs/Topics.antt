@@ -22,7 +22,7 @@ use Rattle.bpf_insn.specs.Faults.{bad_insn_of_code}
 use Rattle.bver_form.specs.Codes.{refusal_of_code}
 use Rattle.policy_table.specs.Codes.{policy_fault_of_code}
 use Rattle.rmap.specs.Codes.{discard_of_code, status_of_code}
-use Rattle.target.specs.Loads.{load_refusal_of_code}
+use Rattle.node_parts.specs.Loads.{load_refusal_of_code}
 use Rattle.job_parts.specs.BadLines.{bad_line_of_number}
 use Rattle.job_texts.specs.declared.topics.CodeKind.{CodeKind}
 use Rattle.job_texts.specs.declared.topics.CodeKind.TheVariants.{

@@ -1,7 +1,7 @@
 //! The codes that outputs tell, and what is said of each.
 
 ghost use Rattle.std.specs.Prelude.{◌≡◌, ◌↔◌, ◌<◌, ◌^◌, ◌++◌, ℕ, IfOk, IsTrue, MatchOption, Some, decimal, is_some};
-ghost use Rattle.target.specs.Loads.{load_refusal_of_code};
+ghost use Rattle.node_parts.specs.Loads.{load_refusal_of_code};
 ghost use Rattle.job_texts.specs.Topics.{HasNumber, IsCode, IsWritten, Writes, code_text, has_code, kind_at, kind_word};
 
 use basm::AsmCode;
@@ -12,7 +12,7 @@ use job_parts::bad_lines::BadLine;
 use policy::PolicyFault;
 use rmap::{Discard, Status};
 use std::alloc::{AllocError, Global};
-use target::LoadRefusal;
+use node_parts::LoadRefusal;
 
 /// What the bytes of an image's slot are where they spell no instruction.
 const NO_INSN: &str = "the bytes of a slot spell no instruction";

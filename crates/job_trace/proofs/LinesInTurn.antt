@@ -2,7 +2,7 @@
 use Rattle.std.proofs.Common.{◌≡◌, ◌<◌, ℕ, zero, suc, List, [], ◌∷◌, ◌++◌, length, take, drop, get_or, Option, Some, None, refl, sym, ap, subst, arith, ◌∙◌}
 use Rattle.spw.specs.Cargo.{Cargo}
 use Rattle.bpf.specs.Program.{Program}
-use Rattle.target.specs.declared.config.NodeConfig.{NodeConfig}
+use Rattle.node_parts.specs.declared.config.NodeConfig.{NodeConfig}
 use Rattle.sched.specs.History.{History}
 use Rattle.sched.specs.Looking.{Node}
 use Rattle.sched.specs.Worlds.{WorldValue, node_of}

@@ -7,12 +7,12 @@ use Rattle.rmap.specs.declared.places.Place.TheVariants.{Bank, Control}
 use Rattle.rmap.specs.declared.status.Status.{Status}
 use Rattle.rmap.specs.Command.{command_of}
 use Rattle.bank.specs.Records.{JudgedValue, fits, has_room}
-use Rattle.target.specs.Passes.{PassValue, IsPass}
-use Rattle.target.specs.declared.stop.Stop.TheVariants as stops
-use Rattle.target.specs.Steps.{IsStopped, IsUnread, IsJudgement}
-use Rattle.target.specs.Applied.{share_of}
-use Rattle.target.specs.Stagings.{IsStagingPlace}
-use Rattle.target.specs.Served.{EndsAtWindow, IsStagedAt}
+use Rattle.node_parts.specs.Passes.{PassValue, IsPass}
+use Rattle.node_parts.specs.declared.stop.Stop.TheVariants as stops
+use Rattle.node_parts.specs.Steps.{IsStopped, IsUnread, IsJudgement}
+use Rattle.node_parts.specs.Applied.{share_of}
+use Rattle.node_parts.specs.Stagings.{IsStagingPlace}
+use Rattle.node_parts.specs.Served.{EndsAtWindow, IsStagedAt}
 use Rattle.ports.specs.Due.{Judging, IsBanked, IsWindowed, HasFinished, HasLoadEnd, HasDealt}
 use Rattle.ports.specs.Due.Deed.{Dropped, Answered, Judged}
 use Rattle.ports.proofs.Places.{judged_bank}

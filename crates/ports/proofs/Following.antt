@@ -14,14 +14,14 @@ use Rattle.rmap.specs.declared.places.Place.TheVariants.{Bank, Staging, LoadResu
 use Rattle.rmap.specs.declared.status.Status.{Status}
 use Rattle.rmap.specs.Command.{command_of, command_kind}
 use Rattle.bank.specs.Records.{BankValue, ShareValue, JudgedValue, fits, has_room, next_share, first_share}
-use Rattle.publish.specs.declared.history.Publish.{Publish}
-use Rattle.publish.specs.Published.{judging_program}
-use Rattle.target.specs.Passes.{PassValue, SeatValue}
-use Rattle.target.specs.Slots.{slot_of}
-use Rattle.target.specs.Steps.{IsJudgement, IsVerdict}
-use Rattle.target.specs.Applied.{share_of, with_share}
-use Rattle.target.specs.Loaded.{EndsAs}
-use Rattle.target.specs.Served.{EndsAtWindow}
+use Rattle.node_programs.specs.declared.publishes.Publish.{Publish}
+use Rattle.node_programs.specs.Published.{judging_program}
+use Rattle.node_parts.specs.Passes.{PassValue, SeatValue}
+use Rattle.node_parts.specs.Slots.{slot_of}
+use Rattle.node_parts.specs.Steps.{IsJudgement, IsVerdict}
+use Rattle.node_parts.specs.Applied.{share_of, with_share}
+use Rattle.node_parts.specs.Loaded.{EndsAs}
+use Rattle.node_parts.specs.Served.{EndsAtWindow}
 use Rattle.ports.specs.Due.{Judging, Deed, Worked, IsBanked, IsWindowed, IsJudged, IsDealt, judgings}
 use Rattle.ports.specs.Due.Deed.{Dropped, Answered, Judged}
 use Rattle.ports.specs.Laws.{IsByPublished, calls_of, is_bank_of, is_entry_at, entries_at, number_at, SharesCount}

@@ -4,7 +4,7 @@ use Rattle.std.specs.Prelude.{map, filter}
 use mathlib.Core.List.{map-append}
 use Rattle.std.proofs.lemmas.List.Elements.{filter-append}
 use Rattle.spw.specs.Cargo.{Cargo}
-use Rattle.target.specs.Passes.{PassValue}
+use Rattle.node_parts.specs.Passes.{PassValue}
 use Rattle.ports.specs.declared.worker.Report.{Report}
 use Rattle.ports.specs.Due.{Deed, Worked, due, due_of, discarded, reply_in, is_reply, is_dropped}
 use Rattle.ports.specs.Sinks.{SentReply, cut, sent_at}

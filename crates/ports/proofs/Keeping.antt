@@ -8,11 +8,11 @@ use Rattle.rmap.specs.declared.places.Place.TheVariants.{Bank, Staging, LoadResu
 use Rattle.rmap.specs.declared.status.Status.{Status}
 use Rattle.bank.specs.declared.bank.Applied.{Applied}
 use Rattle.bank.specs.Records.{BankValue, ShareValue, JudgedValue, fits, next_share}
-use Rattle.publish.specs.declared.history.Publish.{Publish}
-use Rattle.target.specs.Passes.{PassValue}
-use Rattle.target.specs.Applied.{share_of, with_share, IsFinished}
-use Rattle.target.specs.Loaded.{EndsAs, IsLoadEnd}
-use Rattle.target.specs.Served.{EndsAtWindow, IsStagedAt}
+use Rattle.node_programs.specs.declared.publishes.Publish.{Publish}
+use Rattle.node_parts.specs.Passes.{PassValue}
+use Rattle.node_parts.specs.Applied.{share_of, with_share, IsFinished}
+use Rattle.node_parts.specs.Loaded.{EndsAs, IsLoadEnd}
+use Rattle.node_parts.specs.Served.{EndsAtWindow, IsStagedAt}
 use Rattle.ports.specs.Due.{Judging, IsBanked, IsWindowed}
 
 pub prefix_same : {A : Type 0} (xs ys : List A) → ys ≡ xs → IsPrefix xs ys

@@ -5,7 +5,7 @@ use mathlib.Core.List.{map-append}
 use mir.Val.{bool_byte}
 use Rattle.std.proofs.lemmas.List.{append-nil}
 use Rattle.spw.specs.Cargo.{Cargo}
-use Rattle.target.specs.Passes.{PassValue}
+use Rattle.node_parts.specs.Passes.{PassValue}
 use Rattle.ports.specs.declared.item.Item.TheVariants.{Data}
 use Rattle.ports.specs.declared.worker.Report.{Report}
 use Rattle.ports.specs.declared.worker.Worker.{Worker}

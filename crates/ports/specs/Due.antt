@@ -10,13 +10,13 @@ use Rattle.rmap.specs.Command.{discard_of}
 use Rattle.bver.specs.Justified.{AcceptedValue}
 use Rattle.bank.specs.declared.bank.Applied.{Applied}
 use Rattle.bank.specs.Records.{BankValue, JudgedValue, IsBank, fits, has_room}
-use Rattle.publish.specs.declared.history.Publish.{Publish}
-use Rattle.target.specs.Passes.{PassValue}
-use Rattle.target.specs.Steps.{IsStopped, IsUnread, IsJudgement}
-use Rattle.target.specs.declared.stop.Stop.TheVariants as stops
-use Rattle.target.specs.Applied.{share_of, IsFinished}
-use Rattle.target.specs.Loaded.{IsLoadEnd}
-use Rattle.target.specs.Served.{EndsAtWindow}
+use Rattle.node_programs.specs.declared.publishes.Publish.{Publish}
+use Rattle.node_parts.specs.Passes.{PassValue}
+use Rattle.node_parts.specs.Steps.{IsStopped, IsUnread, IsJudgement}
+use Rattle.node_parts.specs.declared.stop.Stop.TheVariants as stops
+use Rattle.node_parts.specs.Applied.{share_of, IsFinished}
+use Rattle.node_parts.specs.Loaded.{IsLoadEnd}
+use Rattle.node_parts.specs.Served.{EndsAtWindow}
 
 -- a command that was judged: the program and the calls of its run, whether it left an entry in a bank's journal, and
 -- the reply that is due

@@ -7,12 +7,12 @@ use Rattle.spw.specs.Cargo.{Cargo}
 use Rattle.rmap.specs.declared.places.Place.{Place}
 use Rattle.rmap.specs.declared.places.Place.TheVariants.{Bank, Staging, LoadResult, Control}
 use Rattle.rmap.specs.Command.{command_of, command_kind}
-use Rattle.publish.specs.declared.history.Publish.{Publish}
-use Rattle.publish.specs.Published.{judging_program}
-use Rattle.target.specs.Slots.{slot_of}
-use Rattle.target.specs.Passes.{PassValue}
-use Rattle.target.specs.Steps.{IsVerdict}
-use Rattle.target.specs.Applied.{share_of}
+use Rattle.node_programs.specs.declared.publishes.Publish.{Publish}
+use Rattle.node_programs.specs.Published.{judging_program}
+use Rattle.node_parts.specs.Slots.{slot_of}
+use Rattle.node_parts.specs.Passes.{PassValue}
+use Rattle.node_parts.specs.Steps.{IsVerdict}
+use Rattle.node_parts.specs.Applied.{share_of}
 use Rattle.ports.specs.Due.{Judging, Deed, Worked, judgings}
 
 -- the verdict on a command is that of a run, for that port and with its calls, of the program that a beginning of those

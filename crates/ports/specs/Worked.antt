@@ -1,7 +1,7 @@
 -- What a worker did until the end mark.
 use Rattle.std.specs.Prelude.{◌≡◌, ◌⊎◌, ℕ, ◌+◌, suc, List, [], ◌∷◌, ◌++◌, map}
 use Rattle.spw.specs.Cargo.{Cargo}
-use Rattle.target.specs.Passes.{PassValue}
+use Rattle.node_parts.specs.Passes.{PassValue}
 use Rattle.ports.specs.declared.item.Item.TheVariants.{Data, Mark}
 use Rattle.ports.specs.declared.worker.Report.{Report}
 use Rattle.ports.specs.declared.worker.Worker.{Worker}

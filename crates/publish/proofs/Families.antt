@@ -6,7 +6,7 @@ use lib.ListN.{get_elem?}
 use Rattle.atomic_table.proofs.Lists.{at_set, at_snoc}
 use Rattle.left_right.specs.Register.{Admits, TurnsAt}
 use Rattle.logbook.specs.Pages.{Book}
-use Rattle.publish.specs.declared.history.Publish.{Publish}
+use Rattle.node_programs.specs.declared.publishes.Publish.{Publish}
 use Rattle.publish.specs.Reached.{Reached}
 use Rattle.publish.specs.Sights.{IsInFamily, Sees}
 use Rattle.publish.proofs.Fronts.{prefix_self, prefix_trans}

@@ -1,7 +1,9 @@
 -- Beginnings of one list.
-use Rattle.std.proofs.Common.{◌≡◌, ℕ, zero, suc, ◌≤◌, List, [], ◌∷◌, ◌++◌, length, Some, slice_get, refl, ap, sym, ◌∙◌, arith, append_assoc, length-append}
+use Rattle.std.proofs.Common.{◌≡◌, ℕ, zero, suc, ◌≤◌, List, [], ◌∷◌, ◌++◌, length, Some, slice_get, refl, ap, sym, subst, ◌∙◌, arith, append_assoc, length-append}
 use Rattle.std.proofs.lemmas.List.{append-nil}
 use mathlib.Core.List.{IsPrefix}
+use Rattle.node_programs.specs.declared.publishes.Publish.{Publish}
+use Rattle.publish.specs.Reached.{Known, known}
 
 -- each list begins with itself
 pub prefix_self : {A : Type 0} (xs : List A) → IsPrefix xs xs
@@ -41,3 +43,9 @@ prefix_get [] ys k x p h = absurd cc
 prefix_get (y ∷ xs) [] k x p h = absurd (cc (p.1))
 prefix_get (y ∷ xs) (z ∷ ys) zero x p h = cc (p.1, h)
 prefix_get (y ∷ xs) (z ∷ ys) (suc k) x p h = prefix_get xs ys k x (p.0, cc (p.1)) h
+
+-- a reader that was told of programs which what it knew begins
+pub learnt : (old new : Known) (told programs : List Publish) → told ≡ programs → IsPrefix old.programs programs → (length old.programs ≤ length told → new ≡ known told old.inside) → new.programs ≡ programs
+learnt old new told programs is begins longer =
+    let less : length old.programs ≤ length told = subst (λ (l : List Publish). length old.programs ≤ length l) (sym is) (prefix_length old.programs programs begins) in
+    ap (λ (r : Known). r.programs) (longer less) ∙ is

@@ -6,7 +6,7 @@ use mathlib.Core.List.{IsPrefix}
 use prog.Atomic.{either}
 use Rattle.logbook.specs.Pages.{Cell, cell, keeps, gives, adds, Nib, no_nib, may_write, step, Moves, Goes}
 use Rattle.publish.specs.declared.history.Link.{Link}
-use Rattle.publish.specs.declared.history.Publish.{Publish}
+use Rattle.node_programs.specs.declared.publishes.Publish.{Publish}
 use Rattle.publish.specs.Chains.{programs_of, next_of, IsHome, AreHome, IsChained, Draws, Begins, Adds, Looks}
 use Rattle.publish.proofs.Fronts.{prefix_trans}
 

@@ -4,8 +4,8 @@ use Rattle.logbook.specs.Pages.{Cell, cell, Step, View, Book, Named, Nib, may_ma
 use Rattle.bpf.specs.declared.version.Version.TheVariants.{One}
 use Rattle.bver.specs.Justified.{AcceptedValue}
 use Rattle.publish.specs.declared.history.Link.{Link}
-use Rattle.publish.specs.declared.history.Publish.{Publish}
-use Rattle.publish.specs.Histories.{entry}
+use Rattle.node_programs.specs.declared.publishes.Publish.{Publish}
+use Rattle.node_programs.specs.Histories.{entry}
 
 -- that publish, behind which the pen of that cell adds
 abbrev pub link : Publish → ℕ → Link

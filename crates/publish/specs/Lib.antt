@@ -1,10 +1,4 @@
-pub mod Histories
 pub mod Chains
 pub mod Reached
-pub mod Published
 pub mod Tables
 pub mod Sights
-pub mod Laws
-pub mod Codes
-pub mod Staged
-pub mod Lending

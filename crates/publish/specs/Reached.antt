@@ -1,7 +1,7 @@
 -- How far a history was reached.
 use Rattle.std.specs.Prelude.{◌≡◌, List, Option, Some}
 use Rattle.logbook.specs.Pages.{Book}
-use Rattle.publish.specs.declared.history.Publish.{Publish}
+use Rattle.node_programs.specs.declared.publishes.Publish.{Publish}
 
 -- a family, and the programs with which its history begins
 pub record Reached : Type 0 where

@@ -4,7 +4,7 @@ use mathlib.Core.List.{IsPrefix}
 use mathlib.Core.Option.{some}
 use lib.ListN.{get_elem?}
 use Rattle.logbook.specs.Pages.{Book}
-use Rattle.publish.specs.declared.history.Publish.{Publish}
+use Rattle.node_programs.specs.declared.publishes.Publish.{Publish}
 use Rattle.publish.specs.Reached.{Reached}
 
 -- the table is of that family, and what each reader saw begins its programs

@@ -6,21 +6,14 @@ ghost use Rattle.std.specs.Arc.{arc_value};
 ghost use mathlib.Core.List.{IsPrefix};
 ghost use Rattle.logbook.specs.Pages.{may_write};
 ghost use Rattle.publish.specs.Chains.{head_of};
-ghost use Rattle.publish.specs.Histories.{entry, longer_history};
+ghost use Rattle.node_programs.specs.Histories.{entry, longer_history};
 ghost use Rattle.publish.specs.Reached.{reached};
 
 use bver::Accepted;
 use logbook::{Gain, Offer, Pen, Plain, Play, Rule, Seen, Start, Word};
+use node_programs::Publish;
 use std::marker::{Brand, Model};
 use std::sync::Arc;
-
-/// A program, and the slot for which it was published. No value of it is made.
-pub struct Publish {
-    /// The slot.
-    pub slot: u8,
-    /// The program.
-    pub program: Accepted,
-}
 
 /// A publish, and the key of the cell whose pen adds the next one. No value of it is made.
 pub(crate) struct Link {
@@ -105,7 +98,7 @@ impl Play<Link, u64> for Add {
 impl<'a> Plain<Adding<'a>, Link, u64> for Add {
     ghost use Rattle.std.specs.Prelude.{None};
     ghost use Rattle.std.specs.Arc.{arc_value};
-    ghost use Rattle.publish.specs.Histories.{entry};
+    ghost use Rattle.node_programs.specs.Histories.{entry};
     ghost use Rattle.publish.specs.Chains.{link};
 
     ghost ask = { λ x. link (entry x.publish.now.0 (arc_value x.publish.now.1)) x.fresh.nib.key };

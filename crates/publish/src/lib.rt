@@ -7,22 +7,21 @@
 //! program lie before it is published.
 #![tactic(auto)]
 
-mod faults;
 mod history;
 mod laws;
 mod programs;
 mod publisher;
 mod reader;
 mod rule;
-mod staging;
 mod table;
 mod told;
 
-pub use faults::PublishFault;
-pub use history::{Opened, ProgramFamily, Publish};
-pub use laws::{published_programs, readers_know_a_beginning};
+pub use history::{Opened, ProgramFamily};
+pub use laws::readers_know_a_beginning;
+pub use node_programs::{
+    LAST_SLOT, Publish, PublishFault, STAGING_BYTES, Staging, published_programs,
+};
 pub use programs::Programs;
-pub use publisher::{LAST_SLOT, Publisher};
+pub use publisher::Publisher;
 pub use reader::{Reader, Taken};
-pub use staging::{STAGING_BYTES, Staging};
 pub use told::Told;

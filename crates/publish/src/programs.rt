@@ -1,8 +1,8 @@
 //! A node's table of programs, as it is made.
 
 ghost use Rattle.std.specs.Prelude.{◌≡◌, ◌<◌, ◌∷◌, [], length, None, IfOk, replicate};
-ghost use Rattle.publish.specs.Histories.{entry};
-ghost use Rattle.publish.specs.Published.{sizes_of};
+ghost use Rattle.node_programs.specs.Histories.{entry};
+ghost use Rattle.node_programs.specs.Published.{sizes_of};
 ghost use Rattle.publish.specs.Reached.{known};
 
 use crate::history::{Front, Opened, ProgramFamily};

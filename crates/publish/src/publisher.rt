@@ -2,24 +2,22 @@
 
 ghost use Rattle.std.specs.Prelude.{◌≡◌, ◌<◌, ◌≤◌, ◌^◌, [], length, drop, fold, IfOk, OnOk, OnErr, IfErr, Err};
 ghost use mathlib.Core.List.{IsPrefix};
-ghost use Rattle.publish.specs.Histories.{longer_history};
-ghost use Rattle.publish.specs.Published.{sizes_of};
+ghost use Rattle.node_programs.specs.Histories.{longer_history};
+ghost use Rattle.node_programs.specs.Published.{sizes_of};
 ghost use Rattle.publish.specs.Reached.{reached};
 
-use crate::faults::PublishFault;
-use crate::history::{Front, History, ProgramFamily, Publish};
+use crate::history::{Front, History, ProgramFamily};
+use crate::reader::Reader;
 use crate::rule::{InFamily, Shows, Sight};
 use crate::table::Table;
 use crate::told::Told;
 use bver::{Accepted, MapSizes};
 use core::mem::replace_with;
 use left_right::writer::Writer;
+use node_programs::{LAST_SLOT, ProgramStore, PublishFault};
 use std::alloc::{AllocError, Global};
 use std::marker::Model;
 use std::sync::{Arc, Wait};
-
-/// The greatest slot of the four.
-pub const LAST_SLOT: u8 = 3;
 
 /// What changes the table of programs. Contracts see it as the list of what was published, which begins
 /// with the factory program. Its end waits for readers.
@@ -32,7 +30,7 @@ pub struct Publisher<J: ProgramFamily, R: Wait + Drop> {
 
 impl<J: ProgramFamily, R: Wait + Drop> Model for Publisher<J, R> {
     ghost use Rattle.std.specs.Prelude.{◌≡◌, List, [], drop};
-    ghost use Rattle.publish.specs.declared.history.Publish.{Publish};
+    ghost use Rattle.node_programs.specs.declared.publishes.Publish.{Publish};
 
     ghost Value = { List Publish };
 
@@ -58,7 +56,7 @@ impl<J: ProgramFamily, R: Wait + Drop> Publisher<J, R> {
     pub fn sizes(&self) -> MapSizes
         ensures { result ≡ sizes_of self.now }
     {
-        self.writer.published().shown(0).program.sizes()
+        self.writer.published().shown(0).program().sizes()
     }
 
     /// Publishes a program for a slot, and tells it. It may wait for readers. The condition is a program that was
@@ -125,6 +123,31 @@ impl<J: ProgramFamily, R: Wait + Drop> Publisher<J, R> {
         ensures same { self.new ≡ self.old }
     {
         self.history.begins_with(front);
+    }
+}
+
+/// What is published grows by [`Publisher::install`], which may wait, and the port's reader learns of it.
+impl<J: ProgramFamily, R: Wait + Drop> ProgramStore<Reader<J>> for Publisher<J, R> {
+    ghost published = { λ p. p };
+
+    ghost known = { λ r. r.programs };
+
+    fn sizes(&self) -> MapSizes {
+        self.writer.published().shown(0).program().sizes()
+    }
+
+    #[tactic(auto, using(crate::proofs::Fronts::learnt))]
+    fn publish(
+        &mut self,
+        _alloc: Global,
+        reader: &mut Reader<J>,
+        slot: u8,
+        program: Accepted,
+    ) -> Result<u32, PublishFault> {
+        let told = self.install(slot, program)?;
+        self.begins_with(reader.front());
+        reader.learn(&told);
+        Ok(told.generation())
     }
 }
 

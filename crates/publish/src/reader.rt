@@ -1,22 +1,21 @@
 //! What a port has of the table of programs.
 
 ghost use Rattle.std.specs.Prelude.{◌≡◌, ◌<◌, ◌≤◌, true, false, IfSome, Some, None, length};
-ghost use Rattle.std.specs.Arc.{arc_value};
 ghost use Rattle.std.specs.Borrow.{sem, RestsIfNone};
 ghost use mathlib.Core.List.{IsPrefix};
 ghost use Rattle.left_right.specs.Sides.{view};
 ghost use Rattle.bver.specs.Justified.{IsJustified};
-ghost use Rattle.publish.specs.Published.{judging_program, program_at, generation_at, sizes_of};
+ghost use Rattle.node_programs.specs.Published.{judging_program, program_at, generation_at, sizes_of};
 ghost use Rattle.publish.specs.Reached.{IsInside, known, reached};
-ghost use Rattle.publish.specs.Tables.{shown_program};
 ghost use Rattle.publish.specs.contracts.reader.Reader.{the_row};
 
 use crate::history::{Front, ProgramFamily};
 use crate::rule::{InFamily, Looks, Sight};
-use crate::table::{Shown, Table};
+use crate::table::Table;
 use crate::told::Told;
 use bver::{Accepted, MapSizes};
 use left_right::reader::{Reader as Entrance, Reading};
+use node_programs::Shown;
 use std::marker::Model;
 use std::mem;
 
@@ -35,7 +34,7 @@ impl<J: ProgramFamily> Model for Reader<J> {
     ghost use Rattle.core.specs.Option.{option_map};
     ghost use mathlib.Core.List.{IsPrefix};
     ghost use Rattle.left_right.specs.Sides.{view as sight};
-    ghost use Rattle.publish.specs.Published.{sizes_of as first_sizes};
+    ghost use Rattle.node_programs.specs.Published.{sizes_of as first_sizes};
     ghost use Rattle.publish.specs.Reached.{Known, known as knows};
 
     ghost Value = { Known };
@@ -96,7 +95,8 @@ impl<J: ProgramFamily> Reader<J> {
 
     /// The maps for which each program was accepted, with their kinds.
     pub fn sizes(&self) -> MapSizes
-        ensures { result ≡ sizes_of self.now.programs }
+        ensures value { result ≡ sizes_of self.now.programs }
+        ensures some { 0 < length self.now.programs }
     {
         self.sizes
     }
@@ -171,8 +171,8 @@ impl<J: ProgramFamily> Reader<J> {
     fn shown(&self, slot: u8) -> &Shown
         requires slot { slot < 4 }
         requires inside { IsInside self.now }
-        ensures value { judging_program self.now.programs slot ≡ Some (shown_program result.now) }
-        ensures sizes { (arc_value result.now.program).sizes ≡ sizes_of self.now.programs }
+        ensures value { judging_program self.now.programs slot ≡ Some result.now }
+        ensures sizes { result.now.0.sizes ≡ sizes_of self.now.programs }
     {
         let Some(reading) = &self.inside else {
             unreachable!()
@@ -198,9 +198,7 @@ impl<J: ProgramFamily> Taken<'_, J> {
         ensures sizes { result.now.sizes ≡ sizes_of self.now.reader.now.programs }
         ensures justified { IsJustified result.now.program result.now.sizes }
     {
-        let accepted: &Accepted = &self.reader.shown(self.slot).program;
-        let _image = accepted.image();
-        accepted
+        self.reader.shown(self.slot).program()
     }
 
     /// The generation of the program. The condition is one that [`Reader::take`] ensures of what it gives.
@@ -208,7 +206,7 @@ impl<J: ProgramFamily> Taken<'_, J> {
         requires { IsInside self.now.reader.now }
         ensures { generation_at self.now.reader.now.programs self.now.slot ≡ Some result }
     {
-        self.reader.shown(self.slot).generation
+        self.reader.shown(self.slot).generation()
     }
 }
 

@@ -1,8 +1,9 @@
 //! The rule of the table of programs, and what the steps on it tell.
 
-use crate::history::{ProgramFamily, Publish};
+use crate::history::ProgramFamily;
 use crate::table::Table;
 use crossbeam_utils::rule::{Outcome, Protocol};
+use node_programs::Publish;
 use std::collections::LinkedList;
 use std::marker::PhantomData;
 

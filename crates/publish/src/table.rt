@@ -2,39 +2,20 @@
 
 ghost use Rattle.std.specs.Prelude.{◌≡◌, ◌<◌, ◌≤◌, ◌^◌, ◌∷◌, [], length, IfOk, Some};
 ghost use Rattle.std.specs.Arc.{arc_value};
-ghost use Rattle.publish.specs.Histories.{entry, longer_history};
-ghost use Rattle.publish.specs.Published.{judging_program, sizes_of};
-ghost use Rattle.publish.specs.Tables.{shown_programs, shown_program};
+ghost use Rattle.node_programs.specs.Histories.{entry, longer_history};
+ghost use Rattle.node_programs.specs.Published.{judging_program, sizes_of};
 
 use crate::history::Front;
 use bver::Accepted;
 use left_right::Absorb;
+use node_programs::{Shown, published_programs};
 use std::alloc::AllocError;
 use std::marker::Model;
 use std::sync::Arc;
 
-/// The program that judges at a slot.
-#[derive(Drop)]
-pub(crate) struct Shown {
-    pub(crate) program: Arc<Accepted>,
-    pub(crate) generation: u32,
-}
-
-impl Shown {
-    /// Another owner of the same program.
-    fn another(&self) -> Result<Shown, AllocError>
-        ensures { IfOk result (λ s. shown_program s ≡ shown_program self.now) }
-    {
-        Ok(Shown {
-            program: Arc::try_clone(&self.program)?,
-            generation: self.generation,
-        })
-    }
-}
-
 /// The same programs once more.
 fn copied(slots: &[Shown; 4]) -> Result<[Shown; 4], AllocError>
-    ensures { IfOk result (λ s. shown_programs s ≡ shown_programs slots.now) }
+    ensures { IfOk result (λ s. s ≡ slots.now) }
 {
     let [reads, writes, rmws, window] = slots;
     Ok([
@@ -69,10 +50,7 @@ impl Table {
         requires { front.programs ≡ entry 0 (arc_value factory) ∷ [] }
         ensures { IfOk result (λ t. t ≡ front) }
     {
-        let window = Shown {
-            program: factory,
-            generation: 0,
-        };
+        let window = Shown::new(factory, 0);
         let slots = [
             window.another()?,
             window.another()?,
@@ -91,11 +69,9 @@ impl Table {
         requires sizes { (arc_value program).sizes ≡ sizes_of self.old.programs }
         ensures { self.new ≡ front }
     {
+        published_programs();
         let generation = self.front.len() as u32;
-        self.slots[usize::from(slot)] = Shown {
-            program,
-            generation,
-        };
+        self.slots[usize::from(slot)] = Shown::new(program, generation);
         self.front = front;
     }
 
@@ -120,8 +96,8 @@ impl Table {
     /// The program of a slot.
     pub(crate) fn shown(&self, slot: u8) -> &Shown
         requires { slot < 4 }
-        ensures value { judging_program self.now.programs slot ≡ Some (shown_program result.now) }
-        ensures sizes { (arc_value result.now.program).sizes ≡ sizes_of self.now.programs }
+        ensures value { judging_program self.now.programs slot ≡ Some result.now }
+        ensures sizes { result.now.0.sizes ≡ sizes_of self.now.programs }
     {
         &self.slots[usize::from(slot)]
     }

@@ -15,7 +15,7 @@ pub struct Told<J: ProgramFamily> {
 
 impl<J: ProgramFamily> Model for Told<J> {
     ghost use Rattle.std.specs.Prelude.{◌≡◌, ◌<◌, ◌≤◌, ◌^◌, List, length};
-    ghost use Rattle.publish.specs.declared.history.Publish.{Publish};
+    ghost use Rattle.node_programs.specs.declared.publishes.Publish.{Publish};
 
     ghost Value = { List Publish };
 

@@ -3,9 +3,9 @@ use Rattle.std.proofs.Common.{◌≡◌, ◌+◌, ◌==◌, ℕ, List, [], ◌�
 use Rattle.std.specs.Prelude.{map, option_map, if◌then◌else◌}
 use Rattle.std.proofs.lemmas.List.{length-append, length-map}
 use Rattle.bpf.specs.Program.{Program}
-use Rattle.publish.specs.declared.history.Publish.{Publish}
-use Rattle.publish.specs.Laws.{IsSetByNext}
-use Rattle.publish.specs.Published.{judging_program}
+use Rattle.node_programs.specs.declared.publishes.Publish.{Publish}
+use Rattle.node_programs.specs.Laws.{IsSetByNext}
+use Rattle.node_programs.specs.Published.{judging_program}
 use Rattle.sched.specs.Agreement.{with_published, all_published, slot_and_program, ArePublishesOf, program_and_generation, PublishedAgrees}
 use Rattle.sched.specs.History.{History, Start, Then}
 use Rattle.sched.specs.Looking.{Node, counted, published_at, published_behind, published, publishes}

@@ -7,7 +7,7 @@ use Rattle.rmap.specs.declared.places.Place.{Place}
 use Rattle.rmap.specs.Command.{command_kind, command_of}
 use Rattle.bver.specs.Justified.{AcceptedValue}
 use Rattle.bank.specs.Admission.{IsPlacedBy}
-use Rattle.target.specs.Slots.{slot_of}
+use Rattle.node_parts.specs.Slots.{slot_of}
 use Rattle.sched.specs.Begins.{BeginsAs, IsBegun}
 use Rattle.sched.specs.History.{History, taken}
 use Rattle.sched.specs.Looking.{Node, slot_in, published}

@@ -3,7 +3,7 @@ use Rattle.std.proofs.Common.{◌≡◌, ℕ, List, Some, None, sym, subst}
 use Rattle.std.specs.Prelude.{slice_set}
 use Rattle.rmap.specs.declared.status.Status.{Status}
 use Rattle.bank.specs.Records.{BankValue}
-use Rattle.target.specs.Pairs.{PairedCommandsFit, OwnStaysPaired, OthersStayPaired}
+use Rattle.node_parts.specs.Pairs.{PairedCommandsFit, OwnStaysPaired, OthersStayPaired}
 use Rattle.sched.specs.declared.event.Event.TheVariants.{Effect}
 use Rattle.sched.specs.declared.event.Outcome.TheVariants.{Refused, Done}
 use Rattle.sched.specs.Ends.{CanFinish, HasFinished}

@@ -16,8 +16,8 @@ use Rattle.bank.specs.Answer.{Answer, answer, effect_at as effect_with}
 use Rattle.bank.specs.Effect.{Memory, memory_at}
 use Rattle.bank.specs.Records.{BankValue, EntryValue, JudgedValue, ShareValue, after_command, after_record, answer_of, answer_on, base_of, entry_of, first_share, memory_of, next_share, numbers_of, replay}
 use Rattle.bank.specs.Records as banks
-use Rattle.publish.specs.Staged.{Staged, staged}
-use Rattle.target.specs.Stagings.{answer_at_place, after_place}
+use Rattle.node_programs.specs.Staged.{Staged, staged}
+use Rattle.node_parts.specs.Stagings.{answer_at_place, after_place}
 use Rattle.sched.specs.declared.event.Event.{Event}
 use Rattle.sched.specs.declared.event.Event.TheVariants.{Effect}
 use Rattle.sched.specs.declared.event.Outcome.TheVariants.{Refused, Done}

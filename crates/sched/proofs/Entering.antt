@@ -17,7 +17,7 @@ use Rattle.spw.specs.declared.packets.End.TheVariants.{Eop, Eep}
 use Rattle.bank.specs.Answer.{answer, effect_at, first_line, is_success, judged_line, status_of, status_with, verdict_line}
 use Rattle.bank.specs.Effect.{Memory}
 use Rattle.bank.specs.Records.{EntryValue, after_entry, numbers_of, replay}
-use Rattle.target.specs.declared.config.BankConfig.{BankConfig}
+use Rattle.node_parts.specs.declared.config.BankConfig.{BankConfig}
 use Rattle.sched.specs.declared.event.Event.{Event}
 use Rattle.sched.specs.declared.event.Outcome.TheVariants.{Done}
 use Rattle.sched.specs.History.{History, Then, Open, port_of, opened}

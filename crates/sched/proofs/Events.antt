@@ -7,8 +7,8 @@ use Rattle.rmap.specs.declared.places.Place.{Place}
 use Rattle.rmap.specs.Windows.{WindowsValue}
 use Rattle.machine.specs.Sizes.{Maps, IsInside, kind_of_map}
 use Rattle.bank.specs.Admission.{IsPlacedBy}
-use Rattle.target.specs.declared.stop.Stop.{Stop}
-use Rattle.target.specs.Steps.{IsStopped}
+use Rattle.node_parts.specs.declared.stop.Stop.{Stop}
+use Rattle.node_parts.specs.Steps.{IsStopped}
 use Rattle.machine.specs.declared.helpers.Helper.{Helper}
 use Rattle.machine.specs.Helpers.{takes_kind}
 use Rattle.sched.specs.declared.event.Event.{Event}

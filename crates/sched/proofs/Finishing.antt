@@ -14,8 +14,8 @@ use Rattle.rmap.specs.Windows.{WindowsValue, place_of, bank_place, boot_place, r
 use Rattle.machine.specs.Sizes.{Maps}
 use Rattle.bank.specs.Admission.{IsPlacedBy}
 use Rattle.bank.specs.Records.{BankValue, after_command, extent_of, fits, next_share}
-use Rattle.target.specs.Applied.{share_of, with_share}
-use Rattle.target.specs.Pairs.{IsPaired, PairedCommandsFit, OwnStaysPaired, OthersStayPaired}
+use Rattle.node_parts.specs.Applied.{share_of, with_share}
+use Rattle.node_parts.specs.Pairs.{IsPaired, PairedCommandsFit, OwnStaysPaired, OthersStayPaired}
 use Rattle.sched.specs.Ends.{judged_with, share_in, with_share_in, FitsBank, CanEnd, CanFinish, EndsAt, HasFinished}
 use Rattle.sched.specs.Worlds.{RunValue, PortValue, WorldValue, IsPortIn, ArePortsIn, IsRunUnder, IsRunUnderIfAny, IsWorld, pass_of_port}
 use Rattle.sched.proofs.Growth.{at_written, at_other}

@@ -17,9 +17,9 @@ use Rattle.bver.specs.Justified.{IsJustified}
 use Rattle.brun.specs.declared.turns.Turn.{Turn}
 use Rattle.brun.specs.declared.turns.Turn.TheVariants as turns
 use Rattle.bank.specs.Answer.{judged_line}
-use Rattle.target.specs.Loads.{control_of, published_result}
-use Rattle.target.specs.Outcomes.{Load, IsLoad}
-use Rattle.target.specs.Outcomes as loads
+use Rattle.node_parts.specs.Loads.{control_of, published_result}
+use Rattle.node_parts.specs.Outcomes.{Load, IsLoad}
+use Rattle.node_parts.specs.Outcomes as loads
 use Rattle.machine.specs.declared.helpers.Helper.{Helper}
 use Rattle.machine.specs.declared.helpers.Helper.TheVariants as helpers
 use Rattle.sched.specs.declared.event.Event.{Event}

@@ -17,13 +17,13 @@ use Rattle.bver.specs.Refusals.{IsRefusal}
 use Rattle.bver.specs.Unjustified.{TellsUnjustified}
 use Rattle.bank.specs.Limits.{is_ports}
 use Rattle.bank.specs.Records.{BankValue, first_share}
-use Rattle.target.specs.declared.config.BankConfig.{BankConfig}
-use Rattle.target.specs.declared.config.NodeConfig.{NodeConfig}
-use Rattle.target.specs.declared.faults.NodeFault.{NodeFault}
-use Rattle.target.specs.declared.faults.NodeFault.TheVariants as nodes
-use Rattle.target.specs.Nodes.{are_within, bank_of, first_pass, fresh_banks, limit_fault, windows_of, IsNodeFault}
-use Rattle.target.specs.Loads.{wants_verifier_memory}
-use Rattle.target.specs.Pairs.{MadeArePaired}
+use Rattle.node_parts.specs.declared.config.BankConfig.{BankConfig}
+use Rattle.node_parts.specs.declared.config.NodeConfig.{NodeConfig}
+use Rattle.node_parts.specs.declared.faults.NodeFault.{NodeFault}
+use Rattle.node_parts.specs.declared.faults.NodeFault.TheVariants as nodes
+use Rattle.node_parts.specs.Nodes.{are_within, bank_of, first_pass, fresh_banks, limit_fault, windows_of, IsNodeFault}
+use Rattle.node_parts.specs.Loads.{wants_verifier_memory}
+use Rattle.node_parts.specs.Pairs.{MadeArePaired}
 use Rattle.sched.specs.declared.faults.WorldFault.{WorldFault}
 use Rattle.sched.specs.declared.faults.WorldFault.TheVariants.{Memory as NoMemory, Image}
 use Rattle.sched.specs.Codes.{fault_of_node, fault_of_refusal}

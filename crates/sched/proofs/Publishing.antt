@@ -21,13 +21,13 @@ use Rattle.brun.specs.declared.turns.Turn.{Turn}
 use Rattle.brun.specs.declared.turns.Turn.TheVariants as turns
 use Rattle.bank.specs.Answer.{judged_line}
 use Rattle.bank.specs.Records.{EntryValue, numbers_of}
-use Rattle.publish.specs.Staged.{Staged}
-use Rattle.target.specs.declared.control.ControlData.{ControlData}
-use Rattle.target.specs.declared.refusal.LoadRefusal.{LoadRefusal}
-use Rattle.target.specs.Loads.{control_of, loaded_bytes, published_result, refused_result, wants_memory, IsPrepared, IsUnprepared, WantsToPrepare}
-use Rattle.target.specs.Loads as loading
-use Rattle.target.specs.Outcomes.{Load, IsLoad}
-use Rattle.target.specs.Outcomes as loads
+use Rattle.node_programs.specs.Staged.{Staged}
+use Rattle.node_parts.specs.declared.control.ControlData.{ControlData}
+use Rattle.node_parts.specs.declared.refusal.LoadRefusal.{LoadRefusal}
+use Rattle.node_parts.specs.Loads.{control_of, loaded_bytes, published_result, refused_result, wants_memory, IsPrepared, IsUnprepared, WantsToPrepare}
+use Rattle.node_parts.specs.Loads as loading
+use Rattle.node_parts.specs.Outcomes.{Load, IsLoad}
+use Rattle.node_parts.specs.Outcomes as loads
 use Rattle.sched.specs.declared.event.Event.TheVariants.{Publish}
 use Rattle.sched.specs.declared.event.Outcome.{Outcome}
 use Rattle.sched.specs.declared.event.Outcome.TheVariants.{Refused, Done}

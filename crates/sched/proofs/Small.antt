@@ -19,8 +19,8 @@ use Rattle.bver.specs.Laws.{JustifiedIsSafe}
 use Rattle.brun.specs.declared.turns.Turn.{Turn}
 use Rattle.brun.specs.declared.turns.Turn.TheVariants as turns
 use Rattle.bank.specs.Answer.{judged_line}
-use Rattle.target.specs.Outcomes.{Load}
-use Rattle.target.specs.Outcomes as loads
+use Rattle.node_parts.specs.Outcomes.{Load}
+use Rattle.node_parts.specs.Outcomes as loads
 use Rattle.machine.specs.declared.helpers.Helper.{Helper}
 use Rattle.machine.specs.declared.helpers.Helper.TheVariants as helpers
 use Rattle.sched.specs.declared.event.Event.{Event}

@@ -7,9 +7,9 @@ use Rattle.rmap.specs.Command.{command_of, discard_of}
 use Rattle.rmap.specs.Windows.{WindowsValue}
 use Rattle.bver.specs.Justified.{AcceptedValue}
 use Rattle.bank.specs.Admission.{IsPlacedBy}
-use Rattle.target.specs.declared.stop.Stop.{Stop}
-use Rattle.target.specs.declared.stop.Stop.TheVariants.{Discarded as NoCommand, Answered as Fault}
-use Rattle.target.specs.Steps.{IsStopped}
+use Rattle.node_parts.specs.declared.stop.Stop.{Stop}
+use Rattle.node_parts.specs.declared.stop.Stop.TheVariants.{Discarded as NoCommand, Answered as Fault}
+use Rattle.node_parts.specs.Steps.{IsStopped}
 use Rattle.sched.specs.declared.event.Event.TheVariants.{Take}
 use Rattle.sched.specs.declared.event.Outcome.{Outcome}
 use Rattle.sched.specs.declared.event.Outcome.TheVariants.{Refused, Answered, Taken}

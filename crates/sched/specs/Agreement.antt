@@ -2,8 +2,8 @@
 use Rattle.std.specs.Prelude.{◌≡◌, ℕ, List, [], ◌∷◌, ◌++◌, map, Option, Some, None, option_map}
 use Rattle.bpf.specs.Program.{Program}
 use Rattle.bver.specs.Justified.{AcceptedValue}
-use Rattle.publish.specs.declared.history.Publish.{Publish}
-use Rattle.publish.specs.Published.{judging_program}
+use Rattle.node_programs.specs.declared.publishes.Publish.{Publish}
+use Rattle.node_programs.specs.Published.{judging_program}
 use Rattle.sched.specs.History.{History, Start, Then}
 use Rattle.sched.specs.Looking.{Node, published, published_at}
 

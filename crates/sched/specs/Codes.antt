@@ -1,9 +1,9 @@
 -- The numbers of the faults.
 use Rattle.std.specs.Prelude.{ℕ, if◌then◌else◌}
 use Rattle.bver_form.specs.declared.refusal.Refusal.{Refusal}
-use Rattle.target.specs.declared.faults.NodeFault.{NodeFault}
-use Rattle.target.specs.declared.faults.NodeFault.TheVariants as nodes
-use Rattle.target.specs.Loads.{wants_verifier_memory}
+use Rattle.node_parts.specs.declared.faults.NodeFault.{NodeFault}
+use Rattle.node_parts.specs.declared.faults.NodeFault.TheVariants as nodes
+use Rattle.node_parts.specs.Loads.{wants_verifier_memory}
 use Rattle.sched.specs.declared.faults.WorldFault.{WorldFault}
 use Rattle.sched.specs.declared.faults.WorldFault.TheVariants.{Memory, Config, Image}
 

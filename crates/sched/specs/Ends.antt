@@ -37,12 +37,12 @@ use Rattle.bank.specs.Records.{
   memory_of,
   next_share,
 }
-use Rattle.publish.specs.Staged.{Staged, staged}
-use Rattle.target.specs.declared.control.ControlData.{ControlData}
-use Rattle.target.specs.Loads.{control_of, published_result, refused_result}
-use Rattle.target.specs.Outcomes.{IsLoad}
-use Rattle.target.specs.Outcomes as loads
-use Rattle.target.specs.Stagings.{IsStaged}
+use Rattle.node_programs.specs.Staged.{Staged, staged}
+use Rattle.node_parts.specs.declared.control.ControlData.{ControlData}
+use Rattle.node_parts.specs.Loads.{control_of, published_result, refused_result}
+use Rattle.node_parts.specs.Outcomes.{IsLoad}
+use Rattle.node_parts.specs.Outcomes as loads
+use Rattle.node_parts.specs.Stagings.{IsStaged}
 use Rattle.sched.specs.declared.control.Decision.{Decision}
 use Rattle.sched.specs.declared.control.Decision.TheVariants.{Stopped, NotLoaded, Loaded}
 use Rattle.sched.specs.Worlds.{PortValue, RunValue}

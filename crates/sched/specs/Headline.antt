@@ -29,10 +29,10 @@ use Rattle.bver.specs.Justified.{IsJustified}
 use Rattle.brun.specs.declared.turns.Turn.TheVariants as turns
 use Rattle.bank.specs.Answer.{judged_line}
 use Rattle.bank.specs.Effect.{Memory}
-use Rattle.publish.specs.Staged.{Staged, staged}
-use Rattle.target.specs.Loads.{control_of, published_result, refused_result}
-use Rattle.target.specs.Outcomes.{Load, IsLoad}
-use Rattle.target.specs.Outcomes as loads
+use Rattle.node_programs.specs.Staged.{Staged, staged}
+use Rattle.node_parts.specs.Loads.{control_of, published_result, refused_result}
+use Rattle.node_parts.specs.Outcomes.{Load, IsLoad}
+use Rattle.node_parts.specs.Outcomes as loads
 use Rattle.sched.specs.declared.event.Event.{Event}
 use Rattle.sched.specs.declared.event.Event.TheVariants.{Take, Count, Ticket, Peak, Effect, Publish}
 use Rattle.sched.specs.declared.event.Outcome.{Outcome}

@@ -15,11 +15,11 @@ use Rattle.brun.specs.declared.turns.Turn.{Turn}
 use Rattle.brun.specs.declared.turns.Turn.TheVariants as turns
 use Rattle.bank.specs.Answer.{Answer, answer, judged_line}
 use Rattle.bank.specs.Effect.{memory_at}
-use Rattle.target.specs.Loads.{control_of, published_result, refused_result}
-use Rattle.target.specs.declared.stop.Stop.{Stop}
-use Rattle.target.specs.declared.stop.Stop.TheVariants.{Discarded as NoCommand, Answered as Fault}
-use Rattle.target.specs.Outcomes.{Load, IsLoad}
-use Rattle.target.specs.Outcomes as loads
+use Rattle.node_parts.specs.Loads.{control_of, published_result, refused_result}
+use Rattle.node_parts.specs.declared.stop.Stop.{Stop}
+use Rattle.node_parts.specs.declared.stop.Stop.TheVariants.{Discarded as NoCommand, Answered as Fault}
+use Rattle.node_parts.specs.Outcomes.{Load, IsLoad}
+use Rattle.node_parts.specs.Outcomes as loads
 use Rattle.sched.specs.declared.event.Event.{Event}
 use Rattle.sched.specs.declared.event.Event.TheVariants.{Take, Count, Ticket, Peak, Effect, Publish}
 use Rattle.sched.specs.declared.event.Outcome.{Outcome}

@@ -50,11 +50,11 @@ use Rattle.brun.specs.Runs.{header}
 use Rattle.bank.specs.Answer.{effect_at, is_success}
 use Rattle.bank.specs.Effect.{Memory, memory_at}
 use Rattle.bank.specs.Records.{EntryValue, numbers_of, replay}
-use Rattle.publish.specs.Staged.{Staged, staged}
-use Rattle.target.specs.declared.config.BankConfig.{BankConfig}
-use Rattle.target.specs.Loads.{control_of, loaded_bytes}
-use Rattle.target.specs.Nodes.{windows_of, first_staging}
-use Rattle.target.specs.Slots.{slot_of}
+use Rattle.node_programs.specs.Staged.{Staged, staged}
+use Rattle.node_parts.specs.declared.config.BankConfig.{BankConfig}
+use Rattle.node_parts.specs.Loads.{control_of, loaded_bytes}
+use Rattle.node_parts.specs.Nodes.{windows_of, first_staging}
+use Rattle.node_parts.specs.Slots.{slot_of}
 use Rattle.spw.specs.Cargo.{Cargo}
 use Rattle.sched.specs.declared.event.Event.{Event}
 use Rattle.sched.specs.declared.event.Event.TheVariants.{Take, Count, Ticket, Peak, Effect, Publish}

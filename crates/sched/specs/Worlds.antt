@@ -40,12 +40,12 @@ use Rattle.brun.specs.Pauses.{Turns, AsksWithin}
 use Rattle.bank.specs.Admission.{IsPlacedBy}
 use Rattle.bank.specs.Effect.{Memory}
 use Rattle.bank.specs.Records.{BankValue, EntryValue, ShareValue, base_of, first_share, memory_of, numbers_of}
-use Rattle.publish.specs.Staged.{Staged}
-use Rattle.target.specs.declared.config.NodeConfig.{NodeConfig}
-use Rattle.target.specs.declared.faults.NodeFault.{NodeFault}
-use Rattle.target.specs.Nodes.{first_staging}
-use Rattle.target.specs.Pairs.{IsPaired}
-use Rattle.target.specs.Passes.{PassValue}
+use Rattle.node_programs.specs.Staged.{Staged}
+use Rattle.node_parts.specs.declared.config.NodeConfig.{NodeConfig}
+use Rattle.node_parts.specs.declared.faults.NodeFault.{NodeFault}
+use Rattle.node_parts.specs.Nodes.{first_staging}
+use Rattle.node_parts.specs.Pairs.{IsPaired}
+use Rattle.node_parts.specs.Passes.{PassValue}
 use Rattle.sched.specs.declared.event.Event.{Event}
 use Rattle.sched.specs.declared.event.Outcome.{Outcome}
 use Rattle.sched.specs.declared.faults.WorldFault.{WorldFault}

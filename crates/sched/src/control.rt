@@ -1,7 +1,7 @@
 //! The event Publish: a judged control write loads what its port staged.
 
 ghost use Rattle.std.specs.Prelude.{◌≡◌, ◌<◌, length, false, IfOk, IfErr, OnErr, IsSome};
-ghost use Rattle.target.specs.Loads.{control_of, wants_memory};
+ghost use Rattle.node_parts.specs.Loads.{control_of, wants_memory};
 ghost use Rattle.sched.specs.Ends.{IsDecisionOf, IsLoadDecision, ShowsInSlot, count_shown, load_result_of_decision, programs_shown, status_of_decision};
 ghost use Rattle.sched.specs.Worlds.{GoesOn};
 ghost use Rattle.sched.specs.declared.event.Event.TheVariants.{Publish as PublishEvent};
@@ -16,11 +16,11 @@ use crate::world::World;
 use bank::judged_fault;
 use bpf::image_laws;
 use machine::MapSizes;
-use publish::Staging;
+use node_programs::Staging;
 use rmap::Status;
 use std::alloc::Global;
 use std::sync::Arc;
-use target::{LoadRefusal, load_result_of, prepare, read_control};
+use node_parts::{LoadRefusal, load_result_of, prepare, read_control};
 
 /// What a judged control write comes to.
 #[derive(Drop)]

@@ -10,7 +10,7 @@ use crate::faults::WorldFault;
 use crate::reply::{Reply, reply_room};
 use crate::world::World;
 use std::alloc::Global;
-use target::{paired_commands_fit, pairs_stay};
+use node_parts::{paired_commands_fit, pairs_stay};
 
 impl World {
     /// The judged command of a port that is there takes its effect, where it is no control write. `Memory` where memory

@@ -6,7 +6,7 @@ ghost use Rattle.sched.specs.declared.faults.WorldFault.TheVariants.{Memory as N
 
 use bver::{Refusal, Refused};
 use std::alloc::{AllocError, AllocFailed};
-use target::NodeFault;
+use node_parts::NodeFault;
 use thiserror::Error;
 
 /// Why a world could not be made, or could not go on.

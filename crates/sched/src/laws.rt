@@ -11,7 +11,7 @@ use crate::event::Event;
 use bpf::image_laws;
 use bver::justified_programs;
 use machine::{numbers_fit, steps_ask};
-use publish::published_programs;
+use node_programs::published_programs;
 
 /// A law and no work: where a safe program stands after some answers, which are words, is where its paths lead.
 pub fn turns_are_paths()

@@ -7,7 +7,7 @@ ghost use Rattle.rmap.specs.Windows.{WindowsValue};
 ghost use Rattle.machine.specs.Helpers.{takes_kind};
 ghost use Rattle.machine.specs.Sizes.{IsInside, Maps, kind_of_map};
 ghost use Rattle.bank.specs.Records.{after_command, answer_of, fits, memory_of, next_share};
-ghost use Rattle.target.specs.Stagings.{IsStaged, IsStagingPlace};
+ghost use Rattle.node_parts.specs.Stagings.{IsStaged, IsStagingPlace};
 ghost use Rattle.sched.specs.Begins.{BeginsAt};
 ghost use Rattle.sched.specs.Ends.{CanEnd, CanFinish, EndsAt, HasFinished, IsReplyTo, IsWriteUnder, after_write, load_result_kept, share_in, with_share_in};
 ghost use Rattle.sched.specs.History.{Open, after_answer};
@@ -19,10 +19,10 @@ use crate::run::{Opening, Run};
 use crate::standing::Standing;
 use bank::{Bank, Judged, Share};
 use machine::{Helper, STACK_SIZE};
-use publish::Staging;
+use node_programs::Staging;
 use rmap::{Place, ReplyBuf, Status, Windows};
 use std::marker::Model;
-use target::{Banks, answer_staged};
+use node_parts::{Banks, answer_staged};
 
 /// What a port has: a share of each bank, its staging, the command that is judged, and the stack of its program.
 #[derive(Drop)]

@@ -26,7 +26,7 @@ use rmap::{Command, Place, Windows};
 use spw::Packet;
 use std::marker::Model;
 use std::sync::Arc;
-use target::slot;
+use node_parts::slot;
 
 /// A command that a port is to judge: its packet and place, and the program that its slot shows, with its generation.
 #[derive(Drop)]

@@ -1,7 +1,7 @@
 //! Steps and schedules.
 
 ghost use Rattle.std.specs.Prelude.{◌≡◌, length, IfOk, IfErr, OnErr};
-ghost use Rattle.target.specs.Nodes.{limit_fault};
+ghost use Rattle.node_parts.specs.Nodes.{limit_fault};
 ghost use Rattle.sched.specs.Headline.{AreJudgedOnce};
 ghost use Rattle.sched.specs.History.{Start, history_from};
 ghost use Rattle.sched.specs.Lawful.{IsLawful};
@@ -15,7 +15,7 @@ use crate::world::World;
 use bpf::Image;
 use machine::Helper;
 use std::alloc::Global;
-use target::NodeConfig;
+use node_parts::NodeConfig;
 
 /// One event: what it comes to, and the world goes on. `Memory` where memory was refused; the world is as it was then, and
 /// as it was where the event is refused.

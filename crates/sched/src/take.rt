@@ -20,7 +20,7 @@ use rmap::ReplyBuf;
 use spw::Packet;
 use std::alloc::{AllocError, Global};
 use std::sync::Arc;
-use target::{Stop, admit, slot};
+use node_parts::{Stop, admit, slot};
 
 /// What a packet comes to that its header stops, with the reply that is due then.
 fn stopped(alloc: Global, stop: Stop, reply: &ReplyBuf) -> Result<Outcome, AllocError>

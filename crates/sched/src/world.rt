@@ -4,7 +4,7 @@ ghost use Rattle.std.specs.Prelude.{◌≡◌, ◌<◌, ◌≤◌, ℕ, length, 
 ghost use Rattle.std.specs.Arc.{arc_value};
 ghost use Rattle.std.specs.List.{range_with_len};
 ghost use Rattle.machine.specs.Sizes.{IsInside};
-ghost use Rattle.target.specs.Nodes.{ArePortShares, AreSharesOf, fresh_banks, limit_fault};
+ghost use Rattle.node_parts.specs.Nodes.{ArePortShares, AreSharesOf, fresh_banks, limit_fault};
 ghost use Rattle.sched.specs.Headline.{IsNode};
 ghost use Rattle.sched.specs.History.{History, Start, opened};
 ghost use Rattle.sched.specs.Standing.{IsLent};
@@ -20,13 +20,13 @@ use bank::Bank;
 use bpf::Image;
 use bver::{Accepted, verify};
 use machine::MapSizes;
-use publish::Staging;
+use node_programs::Staging;
 use rmap::{MAX_BANKS, ReplyBuf, Windows};
 use spw::PORTS;
 use std::alloc::{AllocError, Global};
 use std::marker::Model;
 use std::sync::Arc;
-use target::{Banks, NodeConfig, PortShares, made_are_paired};
+use node_parts::{Banks, NodeConfig, PortShares, made_are_paired};
 
 /// The state of a node as plain values, between two events: its banks, the words of its cells, the program of each slot,
 /// and what each of its ports has. [`step`](crate::step) takes it from one event to the next. `reply` is room for the

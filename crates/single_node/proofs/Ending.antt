@@ -7,8 +7,8 @@ use Rattle.rmap.specs.declared.places.Place.{Place}
 use Rattle.rmap.specs.declared.places.Place.TheVariants.{Bank}
 use Rattle.bank.specs.Admission.{IsPlacedBy}
 use Rattle.bank.specs.Records.{BankValue, extent_of}
-use Rattle.target.specs.Pairs.{IsPaired}
-use Rattle.target.specs.Passes.{PassValue}
+use Rattle.node_parts.specs.Pairs.{IsPaired}
+use Rattle.node_parts.specs.Passes.{PassValue}
 use Rattle.single_node.proofs.Places.{judged_bank}
 
 -- the bank that a command has as its place is there, and the port has its share of it

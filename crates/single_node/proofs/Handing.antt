@@ -8,9 +8,9 @@ use Rattle.std.proofs.lemmas.Option.{get_or_from_slice_get}
 use Rattle.std.proofs.Math.Seq.{map-set_same}
 use Rattle.rmap.specs.declared.places.Place.TheVariants.{Bank}
 use Rattle.bank.specs.Records.{BankValue, JournalValue, ShareValue, after_setting, covers, extent_of}
-use Rattle.target.specs.Applied.{share_of}
-use Rattle.target.specs.Pairs.{IsPaired, IsShareOf}
-use Rattle.target.specs.Passes.{PassValue}
+use Rattle.node_parts.specs.Applied.{share_of}
+use Rattle.node_parts.specs.Pairs.{IsPaired, IsShareOf}
+use Rattle.node_parts.specs.Passes.{PassValue}
 use Rattle.single_node.specs.Nodes.{IsSingleNode, SingleNodeValue, covers_in, with_bank}
 use Rattle.single_node.proofs.Nodes.{at_other, at_written}
 

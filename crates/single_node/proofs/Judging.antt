@@ -6,13 +6,13 @@ use Rattle.rmap.specs.declared.places.Place.{Place}
 use Rattle.rmap.specs.Command.{command_kind, command_of}
 use Rattle.bver.specs.Justified.{AcceptedValue, IsJustified}
 use Rattle.bank.specs.Records.{AdmittedValue, JudgedValue, ShareValue}
-use Rattle.publish.specs.declared.history.Publish.{Publish}
-use Rattle.publish.specs.Laws.{IsLastFor}
-use Rattle.publish.specs.Published.{judging_program}
-use Rattle.publish.specs.Staged.{Staged}
-use Rattle.target.specs.Slots.{slot_of}
-use Rattle.target.specs.Passes.{RunContextValue, pass_of}
-use Rattle.target.specs.Steps.{IsAdmission, IsJudgedOnce, IsVerdict}
+use Rattle.node_programs.specs.declared.publishes.Publish.{Publish}
+use Rattle.node_programs.specs.Laws.{IsLastFor}
+use Rattle.node_programs.specs.Published.{judging_program}
+use Rattle.node_programs.specs.Staged.{Staged}
+use Rattle.node_parts.specs.Slots.{slot_of}
+use Rattle.node_parts.specs.Passes.{RunContextValue, pass_of}
+use Rattle.node_parts.specs.Steps.{IsAdmission, IsJudgedOnce, IsVerdict}
 use Rattle.single_node.specs.Judging.{IsLastJudgement}
 
 -- an admitted command that was judged once, by the program that its slot shows

@@ -2,7 +2,6 @@ mod Places
 mod Slots
 mod Prefixes
 mod Judging
-mod Loading
 mod Serving
 mod Making
 mod Nodes

@@ -11,20 +11,21 @@ use base.Stored.{Gv}
 use Rattle.spw.specs.Cargo.{Cargo}
 use Rattle.bank.specs.Records.{BankValue}
 use Rattle.bver.specs.Justified.{AcceptedValue}
-use Rattle.publish.specs.declared.history.Publish.{Publish}
-use Rattle.target.specs.declared.config.NodeConfig.{NodeConfig}
-use Rattle.target.specs.declared.served.Served.{Served}
-use Rattle.target.specs.declared.served.Served.TheVariants.{Stopped, Unread, Done, Window}
-use Rattle.target.specs.Nodes.{bank_of, first_pass, first_passes, first_programs, fresh_banks}
-use Rattle.target.specs.Pairs.{IsPaired, MadeArePaired, OthersStayPaired, OwnStaysPaired}
-use Rattle.target.specs.Passes.{PassValue}
-use Rattle.target.specs.Served.{PartsValue, parts}
+use Rattle.node_programs.specs.declared.publishes.Publish.{Publish}
+use Rattle.node_parts.specs.declared.config.NodeConfig.{NodeConfig}
+use Rattle.node_parts.specs.declared.served.Served.{Served}
+use Rattle.node_parts.specs.declared.served.Served.TheVariants.{Stopped, Unread, Done, Window}
+use Rattle.node_parts.specs.Nodes.{bank_of, first_pass, first_passes, first_programs, fresh_banks}
+use Rattle.node_parts.specs.Keeping.{AnsweredAreServed, LeavesAllPaired}
+use Rattle.node_parts.specs.Pairs.{MadeArePaired}
+use Rattle.node_parts.specs.Passes.{PassValue}
+use Rattle.node_parts.specs.Served.{PartsValue, parts}
 use Rattle.single_node.specs.Judging.{ServesAt}
 use Rattle.single_node.specs.Nodes.{IsInformed, IsSingleNode, SingleNodeValue, single_node}
 use Rattle.single_node.specs.Serving.{ServesTold}
 use Rattle.single_node.specs.declared.served.Told.{Told}
 use Rattle.single_node.proofs.Prefixes.{prefix_same}
-use Rattle.single_node.proofs.Serving.{answered, by_last, informed_grows, kept_or_longer, others_paired, own_paired, same_port, stays_informed, told}
+use Rattle.single_node.proofs.Serving.{answered, by_last, informed_grows, kept_or_longer, stays_informed, told}
 
 -- what stands at a place of a list of which one element was written
 pub at_written : {A : Type 0} (xs : List A) (k j : ℕ) (old new x : A) → slice_get xs k ≡ Some old → j ≡ k → slice_get (set xs k new) j ≡ Some x → x ≡ new
@@ -45,29 +46,18 @@ same_count (Done result) g v p old new h after reply s = ap (λ (x : PartsValue)
 same_count (Window status) g v p old new h after reply s = ap length s.ended.0
 
 -- a packet at a port leaves a node of one thread
-pub node_after : OwnStaysPaired → OthersStayPaired → (served : Served) (g v : ℕ) (p : Cargo) (before : SingleNodeValue) (banks : List BankValue) (programs : List Publish) (place : ℕ) (h after : PassValue) (reply : List ℕ)
+pub node_after : AnsweredAreServed → LeavesAllPaired → (served : Served) (g v : ℕ) (p : Cargo) (before : SingleNodeValue) (banks : List BankValue) (programs : List Publish) (place : ℕ) (h after : PassValue) (reply : List ℕ)
     → IsSingleNode before → slice_get before.passes place ≡ Some h → 0 < length before.programs → ServesAt served g v p (parts before.banks before.programs) (parts banks programs) h after reply
     → IsSingleNode (single_node banks programs (set before.passes place after))
-node_after own others served g v p before banks programs place h after reply is at some s =
+node_after law all served g v p before banks programs place h after reply is at some s =
     let old = parts before.banks before.programs in
     let new = parts banks programs in
     let paired = is.paired.each place h at in
     let informed = is.informed place h at in
     let grows = (kept_or_longer served g v p old new h after reply s).longer in
+    let by = law served p old new h after reply (answered served g v p old new h after reply s) paired in
     record {
-      paired = record {
-        each = λ i x found. elim (cases_eq i place) [
-          | inl here ↦ subst (λ (y : PassValue). IsPaired banks y) (sym (at_written before.passes place i h after x at here found)) (own_paired own served g v p old new h after reply s paired)
-          | inr apart ↦
-              let stood = at_other before.passes place i after x apart found in
-              let far : x.port ≢ h.port = λ e. apart (sym (is.paired.ports i x stood) ∙ e ∙ is.paired.ports place h at) in
-              others_paired others served g v p old new h after reply s x far (is.paired.each i x stood)
-        ];
-        ports = λ i x found. elim (cases_eq i place) [
-          | inl here ↦ ap (λ (y : PassValue). y.port) (at_written before.passes place i h after x at here found) ∙ same_port served g v p old new h after reply s ∙ is.paired.ports place h at ∙ sym here
-          | inr apart ↦ is.paired.ports i x (at_other before.passes place i after x apart found)
-        ];
-      };
+      paired = all served p old new h after reply by before.passes place is.paired at;
       informed = λ i x found. elim (cases_eq i place) [
         | inl here ↦ subst (λ (y : PassValue). IsInformed programs y) (sym (at_written before.passes place i h after x at here found)) (stays_informed served g v p old new h after reply some s informed)
         | inr apart ↦ informed_grows before.programs programs x some grows (is.informed i x (at_other before.passes place i after x apart found))

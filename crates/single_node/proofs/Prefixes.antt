@@ -2,8 +2,8 @@
 use Rattle.std.proofs.Common.{◌≡◌, ◌<◌, List, [], ◌∷◌, ◌++◌, length, refl, sym, ap, ◌∙◌, arith, append_assoc}
 use Rattle.std.proofs.lemmas.List.{append-nil}
 use mathlib.Core.List.{IsPrefix}
-use Rattle.publish.specs.declared.history.Publish.{Publish}
-use Rattle.publish.specs.Published.{sizes_of}
+use Rattle.node_programs.specs.declared.publishes.Publish.{Publish}
+use Rattle.node_programs.specs.Published.{sizes_of}
 
 pub prefix_same : (xs ys : List Publish) → ys ≡ xs → IsPrefix xs ys
 prefix_same xs ys same = ([], append-nil xs ∙ sym same)

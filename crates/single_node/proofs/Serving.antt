@@ -1,24 +1,24 @@
 -- What a packet leaves of a node of one thread.
-use Rattle.std.proofs.Common.{◌≡◌, ◌≢◌, ◌<◌, ◌⊎◌, inl, inr, ℕ, List, length, Option, None, Some, set, refl, sym, ap, ◌∙◌, subst}
+use Rattle.std.proofs.Common.{◌≡◌, ◌≢◌, ◌<◌, ◌⊎◌, inl, inr, ℕ, List, length, Option, None, Some, refl, sym, ap, ◌∙◌, subst}
 use mathlib.Core.List.{IsPrefix}
 use Rattle.spw.specs.Cargo.{Cargo}
 use Rattle.rmap.specs.declared.places.Place.{Place}
 use Rattle.rmap.specs.declared.places.Place.TheVariants.{Bank, Staging, LoadResult, Control}
 use Rattle.rmap.specs.declared.status.Status.{Status}
 use Rattle.rmap.specs.declared.status.Status.TheVariants.{Success}
-use Rattle.bank.specs.Records.{BankValue, JudgedValue, ShareValue, after_command, next_share}
+use Rattle.bank.specs.Records.{BankValue, JudgedValue, ShareValue}
 use Rattle.bver.specs.Justified.{AcceptedValue}
-use Rattle.publish.specs.declared.history.Publish.{Publish}
-use Rattle.publish.specs.Histories.{longer_history}
-use Rattle.publish.specs.Published.{sizes_of}
-use Rattle.target.specs.declared.served.Served.{Served}
-use Rattle.target.specs.declared.served.Served.TheVariants.{Stopped, Unread, Done, Window}
-use Rattle.target.specs.Applied.{share_of, with_share}
-use Rattle.target.specs.Loaded.{EndsAs}
-use Rattle.target.specs.Pairs.{IsPaired, OthersStayPaired, OwnStaysPaired}
-use Rattle.target.specs.Passes.{PassValue}
-use Rattle.target.specs.Served.{EndsAtWindow, IsAnswered, IsStagedAt, PartsValue}
-use Rattle.target.specs.Steps.{IsJudgement}
+use Rattle.node_programs.specs.declared.publishes.Publish.{Publish}
+use Rattle.node_programs.specs.Histories.{longer_history}
+use Rattle.node_programs.specs.Published.{sizes_of}
+use Rattle.node_parts.specs.declared.served.Served.{Served}
+use Rattle.node_parts.specs.declared.served.Served.TheVariants.{Stopped, Unread, Done, Window}
+use Rattle.node_parts.specs.Applied.{with_share}
+use Rattle.node_parts.specs.Loaded.{EndsAs}
+use Rattle.node_parts.specs.Pairs.{IsPaired}
+use Rattle.node_parts.specs.Passes.{PassValue}
+use Rattle.node_parts.specs.Served.{EndsAtWindow, IsAnswered, IsStagedAt, PartsValue}
+use Rattle.node_parts.specs.Steps.{IsJudgement}
 use Rattle.single_node.specs.Judging.{Ends, IsLastJudgement, ServesAt}
 use Rattle.single_node.specs.Nodes.{IsInformed}
 use Rattle.single_node.specs.Serving.{AreKeptOrLonger, IsByLast, IsTold}
@@ -196,82 +196,3 @@ stays_informed (Window status) g v p old new h after reply some s is =
 pub run_paired : (banks : List BankValue) (h between : PassValue) (p : Cargo) (j : JudgedValue) → IsJudgement h between p j → IsPaired banks h → IsPaired banks between
 run_paired banks h between p j is paired =
     subst (λ (x : PassValue). IsPaired banks x) (sym is.asked) (record { count = paired.count; windows = paired.windows; shares = paired.shares })
-
-staged_paired : (banks : List BankValue) (h after : PassValue) (j : JudgedValue) (status : Status) (reply : List ℕ) → IsStagedAt h after j status reply → IsPaired banks h → IsPaired banks after
-staged_paired banks h after j status reply end paired =
-    subst (λ (x : PassValue). IsPaired banks x) (sym end.rest) (record { count = paired.count; windows = paired.windows; shares = paired.shares })
-
-load_paired : (line : Option Status) (banks : List BankValue) (h after : PassValue) (old new : List Publish) (j : JudgedValue) (status : Status) → EndsAs line h after old new j status → IsPaired banks h → IsPaired banks after
-load_paired (Some s) banks h after old new j status end paired = subst (λ (x : PassValue). IsPaired banks x) (sym end.1) paired
-load_paired None banks h after old new j status end paired = elim end [
-  | inl loaded ↦ subst (λ (x : PassValue). IsPaired banks x) (sym loaded.holder_after) (record { count = paired.count; windows = paired.windows; shares = paired.shares })
-  | inr refused ↦ subst (λ (x : PassValue). IsPaired banks x) (sym refused.holder_after) (record { count = paired.count; windows = paired.windows; shares = paired.shares })
-]
-
-window_paired : (place : Place) (banks : List BankValue) (h after : PassValue) (old new : List Publish) (j : JudgedValue) (status : Status) (reply : List ℕ) → EndsAtWindow place h after old new j status reply → IsPaired banks h → IsPaired banks after
-window_paired (Bank k) banks h after old new j status reply end paired = absurd end
-window_paired Staging banks h after old new j status reply end paired = staged_paired banks h after j status reply end.0 paired
-window_paired LoadResult banks h after old new j status reply end paired = staged_paired banks h after j status reply end.0 paired
-window_paired Control banks h after old new j status reply end paired = load_paired _ banks h after old new j status end.ended paired
-
--- the port of a judged command
-pub port_of_run : (h between : PassValue) (p : Cargo) (j : JudgedValue) → IsJudgement h between p j → j.port ≡ between.port
-port_of_run h between p j is = is.judged_for.port_of ∙ sym (ap (λ (x : PassValue). x.port) is.asked)
-
--- whatever becomes of a packet, its port stays paired
-pub own_paired : OwnStaysPaired → (served : Served) (g v : ℕ) (p : Cargo) (old new : PartsValue) (h after : PassValue) (reply : List ℕ) → ServesAt served g v p old new h after reply → IsPaired old.banks h → IsPaired new.banks after
-own_paired own (Stopped stop) g v p old new h after reply s paired =
-    subst (λ (x : PartsValue). IsPaired x.banks after) (sym s.untouched.node) (subst (λ (x : PassValue). IsPaired old.banks x) (sym s.untouched.holder_after) paired)
-own_paired own Unread g v p old new h after reply s paired = absurd s
-own_paired own (Done result) g v p old new h after reply s paired =
-    let end = s.ended in
-    let between = run_paired old.banks h s.between p s.judged s.last.judgement paired in
-    let left = own old.banks s.between end.number s.judged end.before between (port_of_run h s.between p s.judged s.last.judgement) end.place end.bank in
-    let banks : new.banks ≡ set old.banks end.number (after_command end.before (share_of s.between s.judged.place) s.judged)
-    = ap (λ (x : PartsValue). x.banks) end.node ∙ ap (λ (b : BankValue). set old.banks end.number b) end.applied.bank in
-    subst (λ (x : PassValue). IsPaired new.banks x) (sym end.applied.shares) (subst (λ (l : List BankValue). IsPaired l (with_share s.between s.judged.place (next_share end.before (share_of s.between s.judged.place) s.judged))) (sym banks) left)
-own_paired own (Window status) g v p old new h after reply s paired =
-    subst (λ (l : List BankValue). IsPaired l after) (sym s.ended.0)
-    (window_paired s.judged.place old.banks s.between after old.programs new.programs s.judged status reply s.ended.1 (run_paired old.banks h s.between p s.judged s.last.judgement paired))
-
--- and so does every other port
-pub others_paired : OthersStayPaired → (served : Served) (g v : ℕ) (p : Cargo) (old new : PartsValue) (h after : PassValue) (reply : List ℕ) → ServesAt served g v p old new h after reply
-    → (other : PassValue) → other.port ≢ h.port → IsPaired old.banks other → IsPaired new.banks other
-others_paired others (Stopped stop) g v p old new h after reply s other apart paired = subst (λ (x : PartsValue). IsPaired x.banks other) (sym s.untouched.node) paired
-others_paired others Unread g v p old new h after reply s other apart paired = absurd s
-others_paired others (Done result) g v p old new h after reply s other apart paired =
-    let end = s.ended in
-    let far : other.port ≢ s.judged.port = λ e. apart (e ∙ s.last.judgement.judged_for.port_of) in
-    let banks : new.banks ≡ set old.banks end.number (after_command end.before (share_of s.between s.judged.place) s.judged)
-    = ap (λ (x : PartsValue). x.banks) end.node ∙ ap (λ (b : BankValue). set old.banks end.number b) end.applied.bank in
-    subst (λ (l : List BankValue). IsPaired l other) (sym banks) (others old.banks other end.number (share_of s.between s.judged.place) s.judged end.before paired far end.bank)
-others_paired others (Window status) g v p old new h after reply s other apart paired = subst (λ (l : List BankValue). IsPaired l other) (sym s.ended.0) paired
-
--- ---- the port keeps its number
-
-share_port : (h : PassValue) (place : Place) (share : ShareValue) → (with_share h place share).port ≡ h.port
-share_port h (Bank k) share = refl
-share_port h Staging share = refl
-share_port h LoadResult share = refl
-share_port h Control share = refl
-
-load_port : (line : Option Status) (h after : PassValue) (old new : List Publish) (j : JudgedValue) (status : Status) → EndsAs line h after old new j status → after.port ≡ h.port
-load_port (Some s) h after old new j status end = ap (λ (x : PassValue). x.port) end.1
-load_port None h after old new j status end = elim end [
-  | inl loaded ↦ ap (λ (x : PassValue). x.port) loaded.holder_after
-  | inr refused ↦ ap (λ (x : PassValue). x.port) refused.holder_after
-]
-
-window_port : (place : Place) (h after : PassValue) (old new : List Publish) (j : JudgedValue) (status : Status) (reply : List ℕ) → EndsAtWindow place h after old new j status reply → after.port ≡ h.port
-window_port (Bank k) h after old new j status reply end = absurd end
-window_port Staging h after old new j status reply end = ap (λ (x : PassValue). x.port) end.0.rest
-window_port LoadResult h after old new j status reply end = ap (λ (x : PassValue). x.port) end.0.rest
-window_port Control h after old new j status reply end = load_port _ h after old new j status end.ended
-
-pub same_port : (served : Served) (g v : ℕ) (p : Cargo) (old new : PartsValue) (h after : PassValue) (reply : List ℕ) → ServesAt served g v p old new h after reply → after.port ≡ h.port
-same_port (Stopped stop) g v p old new h after reply s = ap (λ (x : PassValue). x.port) s.untouched.holder_after
-same_port Unread g v p old new h after reply s = absurd s
-same_port (Done result) g v p old new h after reply s =
-    ap (λ (x : PassValue). x.port) s.ended.applied.shares ∙ share_port s.between s.judged.place _ ∙ ap (λ (x : PassValue). x.port) s.last.judgement.asked
-same_port (Window status) g v p old new h after reply s =
-    window_port s.judged.place s.between after old.programs new.programs s.judged status reply s.ended.1 ∙ ap (λ (x : PassValue). x.port) s.last.judgement.asked

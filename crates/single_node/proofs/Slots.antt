@@ -3,10 +3,10 @@ use Rattle.std.proofs.Common.{◌≡◌, ℕ, zero, suc, ◌+◌, ◌<◌, ◌==
 use Rattle.std.specs.Prelude.{map}
 use Rattle.machine.specs.Sizes.{Maps}
 use Rattle.bver.specs.Justified.{AcceptedValue}
-use Rattle.publish.specs.declared.history.Publish.{Publish}
-use Rattle.publish.specs.Histories.{entry, longer_history}
-use Rattle.publish.specs.Laws.{IsSetByNext}
-use Rattle.publish.specs.Published.{judging_program, judging_from, sizes_of, AreFor}
+use Rattle.node_programs.specs.declared.publishes.Publish.{Publish}
+use Rattle.node_programs.specs.Histories.{entry, longer_history}
+use Rattle.node_programs.specs.Laws.{IsSetByNext}
+use Rattle.node_programs.specs.Published.{judging_program, judging_from, sizes_of, AreFor}
 use Rattle.single_node.specs.Slots.{AreSlots}
 use Rattle.single_node.proofs.Prefixes.{sizes_stay}
 

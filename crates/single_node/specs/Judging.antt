@@ -2,16 +2,16 @@
 use Rattle.std.specs.Prelude.{◌≡◌, ℕ, List, Some, slice_get, slice_set}
 use Rattle.bank.specs.declared.bank.Applied.{Applied}
 use Rattle.bank.specs.Records.{AdmittedValue, BankValue, JudgedValue}
-use Rattle.publish.specs.declared.history.Publish.{Publish}
+use Rattle.node_programs.specs.declared.publishes.Publish.{Publish}
 use Rattle.rmap.specs.declared.places.Place.TheVariants.{Bank}
 use Rattle.spw.specs.Cargo.{Cargo}
-use Rattle.target.specs.Applied.{IsApplied, share_of}
-use Rattle.target.specs.Passes.{PassValue}
-use Rattle.target.specs.Served.{EndsAtWindow, IsUntouched, PartsValue, parts}
-use Rattle.target.specs.Steps.{IsAdmission, IsJudgement, IsStopped}
-use Rattle.target.specs.declared.served.Served.{Served}
-use Rattle.target.specs.declared.served.Served.TheVariants.{Stopped, Unread, Done, Window}
-use Rattle.target.specs.declared.stop.Stop.{Stop}
+use Rattle.node_parts.specs.Applied.{IsApplied, share_of}
+use Rattle.node_parts.specs.Passes.{PassValue}
+use Rattle.node_parts.specs.Served.{EndsAtWindow, IsUntouched, PartsValue, parts}
+use Rattle.node_parts.specs.Steps.{IsAdmission, IsJudgement, IsStopped}
+use Rattle.node_parts.specs.declared.served.Served.{Served}
+use Rattle.node_parts.specs.declared.served.Served.TheVariants.{Stopped, Unread, Done, Window}
+use Rattle.node_parts.specs.declared.stop.Stop.{Stop}
 use Rattle.single_node.specs.Serving.{IsJudgedByLast}
 
 -- the command of the packet was judged in one run, by the last program that was published for its slot, and the port

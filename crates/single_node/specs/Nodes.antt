@@ -13,13 +13,13 @@ use Rattle.bank.specs.Records.{
   replay,
 }
 use Rattle.bver.specs.Justified.{AcceptedValue}
-use Rattle.publish.specs.declared.history.Publish.{Publish}
-use Rattle.publish.specs.Published.{sizes_of}
-use Rattle.publish.specs.Staged.{Staged}
-use Rattle.target.specs.declared.config.NodeConfig.{NodeConfig}
-use Rattle.target.specs.Nodes.{first_passes, first_programs, fresh_banks}
-use Rattle.target.specs.Pairs.{ArePaired}
-use Rattle.target.specs.Passes.{PassValue}
+use Rattle.node_programs.specs.declared.publishes.Publish.{Publish}
+use Rattle.node_programs.specs.Published.{sizes_of}
+use Rattle.node_programs.specs.Staged.{Staged}
+use Rattle.node_parts.specs.declared.config.NodeConfig.{NodeConfig}
+use Rattle.node_parts.specs.Nodes.{first_passes, first_programs, fresh_banks}
+use Rattle.node_parts.specs.Pairs.{ArePaired}
+use Rattle.node_parts.specs.Passes.{PassValue}
 
 -- a node of one thread: its banks, the list of what was published, which begins with the factory program, and what
 -- each port has

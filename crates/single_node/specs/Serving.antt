@@ -5,15 +5,15 @@ use Rattle.rmap.specs.Command.{command_kind, command_of}
 use Rattle.rmap.specs.declared.status.Status.TheVariants.{Success}
 use Rattle.bank.specs.Records.{JudgedValue}
 use Rattle.bver.specs.Justified.{AcceptedValue}
-use Rattle.publish.specs.declared.history.Publish.{Publish}
-use Rattle.publish.specs.Histories.{longer_history}
-use Rattle.publish.specs.Laws.{IsLast}
-use Rattle.target.specs.declared.served.Served.{Served}
-use Rattle.target.specs.declared.served.Served.TheVariants.{Stopped, Unread, Done, Window}
-use Rattle.target.specs.Passes.{PassValue}
-use Rattle.target.specs.Served.{PartsValue, IsAnswered, parts}
-use Rattle.target.specs.Slots.{slot_of}
-use Rattle.target.specs.Steps.{IsJudgement}
+use Rattle.node_programs.specs.declared.publishes.Publish.{Publish}
+use Rattle.node_programs.specs.Histories.{longer_history}
+use Rattle.node_programs.specs.Laws.{IsLast}
+use Rattle.node_parts.specs.declared.served.Served.{Served}
+use Rattle.node_parts.specs.declared.served.Served.TheVariants.{Stopped, Unread, Done, Window}
+use Rattle.node_parts.specs.Passes.{PassValue}
+use Rattle.node_parts.specs.Served.{PartsValue, IsAnswered, parts}
+use Rattle.node_parts.specs.Slots.{slot_of}
+use Rattle.node_parts.specs.Steps.{IsJudgement}
 use Rattle.single_node.specs.Nodes.{SingleNodeValue}
 use Rattle.single_node.specs.declared.served.Told.{Told}
 

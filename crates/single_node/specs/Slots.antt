@@ -2,8 +2,8 @@
 use Rattle.std.specs.Prelude.{◌≡◌, ◌+◌, ℕ, List, [], ◌∷◌, length, map, Some}
 use Rattle.bver.specs.Justified.{AcceptedValue}
 use Rattle.machine.specs.Sizes.{Maps}
-use Rattle.publish.specs.declared.history.Publish.{Publish}
-use Rattle.publish.specs.Published.{AreFor, judging_program, sizes_of}
+use Rattle.node_programs.specs.declared.publishes.Publish.{Publish}
+use Rattle.node_programs.specs.Published.{AreFor, judging_program, sizes_of}
 
 -- the program in each of the four slots, with generation 0
 abbrev pub shown_in_all : AcceptedValue → List (AcceptedValue × ℕ)

@@ -2,8 +2,8 @@
 
 ghost use Rattle.std.specs.Prelude.{◌≡◌};
 ghost use Rattle.std.specs.Arc.{arc_value};
-ghost use Rattle.publish.specs.Histories.{longer_history};
-ghost use Rattle.target.specs.Nodes.{first_programs};
+ghost use Rattle.node_programs.specs.Histories.{longer_history};
+ghost use Rattle.node_parts.specs.Nodes.{first_programs};
 
 use crate::publishing::{Published, Publishing};
 use std::marker::Model;
@@ -16,7 +16,7 @@ pub(crate) struct ProgramList {
 
 impl Model for ProgramList {
     ghost use Rattle.std.specs.Prelude.{List};
-    ghost use Rattle.publish.specs.declared.history.Publish.{Publish};
+    ghost use Rattle.node_programs.specs.declared.publishes.Publish.{Publish};
 
     ghost Value = { List Publish };
 

@@ -5,8 +5,8 @@ ghost use base.Stored.{Gv};
 ghost use Rattle.bver.specs.Justified.{AcceptedValue};
 ghost use Rattle.cells.specs.Seats.{seat};
 ghost use Rattle.machine.specs.Sizes.{IsInside};
-ghost use Rattle.publish.specs.Published.{generation_at, sizes_of};
-ghost use Rattle.target.specs.Nodes.{AreSharesOf, IsNodeFault, first_passes, first_programs, limit_fault};
+ghost use Rattle.node_programs.specs.Published.{generation_at, sizes_of};
+ghost use Rattle.node_parts.specs.Nodes.{AreSharesOf, IsNodeFault, first_passes, first_programs, limit_fault};
 ghost use Rattle.single_node.specs.Nodes.{IsFresh, IsSingleNode, Rotates, SetsMemory, covers_in, staging_in};
 ghost use Rattle.single_node.specs.Serving.{Serves, ServesTold};
 
@@ -17,14 +17,15 @@ use bank::{Bank, Journal};
 use bver::Accepted;
 use cells::{CellSeat, Cells};
 use machine::{MapKind, MapSizes};
-use publish::Staging;
+use node_parts::{
+    Banks, NodeConfig, NodeFault, PortShares, RunContext, Served, made_are_paired,
+    packets_keep_pairs,
+};
+use node_programs::Staging;
 use rmap::{MAX_BANKS, ReplyBuf};
 use spw::{PORTS, Packet};
 use std::alloc::{AllocError, Global};
 use std::marker::Model;
-use target::{
-    Banks, NodeConfig, NodeFault, PortShares, RunContext, Served, made_are_paired, pairs_stay,
-};
 
 /// A node of one thread: banks, the cells of its maps, the program of each slot, and what each of its ports has. Contracts
 /// see the banks, the list of what was published, and each port's pass.
@@ -38,7 +39,7 @@ pub struct SingleNode {
 
 impl Model for SingleNode {
     ghost use Rattle.std.specs.Prelude.{◌≡◌};
-    ghost use Rattle.publish.specs.Published.{sizes_of};
+    ghost use Rattle.node_programs.specs.Published.{sizes_of};
     ghost use Rattle.single_node.specs.Nodes.{SingleNodeValue, IsSingleNode, single_node};
 
     ghost Value = { SingleNodeValue };
@@ -135,7 +136,7 @@ impl SingleNode {
         ensures serves { ServesTold result port packet self.old self.new reply.new }
         ensures node { IsSingleNode self.new }
     {
-        pairs_stay();
+        packets_keep_pairs();
         let place = usize::from(port);
         let banks = &mut self.banks;
         let programs = &mut self.programs;

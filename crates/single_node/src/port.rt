@@ -1,74 +1,48 @@
 //! What a port of a node of one thread has.
 
-ghost use Rattle.std.specs.Prelude.{◌≡◌, ◌<◌, IfErr, IfOk, OnErr, length, true};
+ghost use Rattle.std.specs.Prelude.{◌≡◌, ◌<◌, length, true};
 ghost use mathlib.Core.List.{IsPrefix};
 ghost use Rattle.bank.specs.Records.{fits};
-ghost use Rattle.publish.specs.Published.{sizes_of};
-ghost use Rattle.target.specs.Applied.{IsApplied, share_of};
-ghost use Rattle.target.specs.Loaded.{IsLoadEnd, IsPublished};
-ghost use Rattle.target.specs.Nodes.{first_programs, first_staging};
-ghost use Rattle.target.specs.Outcomes.{IsLoadRefusal};
-ghost use Rattle.target.specs.Passes.{pass_of};
-ghost use Rattle.target.specs.Served.{IsStagedAt};
-ghost use Rattle.target.specs.Stagings.{IsStagingPlace};
+ghost use Rattle.node_parts.specs.Applied.{IsApplied, share_of};
+ghost use Rattle.node_parts.specs.Loaded.{IsLoadEnd};
+ghost use Rattle.node_parts.specs.Passes.{pass_of};
+ghost use Rattle.node_parts.specs.Served.{IsStagedAt};
+ghost use Rattle.node_parts.specs.Stagings.{IsStagingPlace};
 ghost use Rattle.single_node.specs.Nodes.{IsInformed};
 ghost use Rattle.single_node.specs.Judging.{JudgesByLast};
 
 use crate::lists::ProgramList;
 use crate::programs::SlotPrograms;
-use bank::{Admitted, Applied, Bank, Judged, Share, judged_fault};
-use publish::{Staging, published_programs};
+use bank::{Admitted, Applied, Bank, Judged, Share};
+use cells::CellSeat;
+use node_parts::{RunContext, answer_staged, judge_by, load, slot};
+use node_programs::{Staging, published_programs};
 use rmap::{Place, ReplyBuf, Status, Windows};
 use std::alloc::Global;
 use std::marker::Model;
-use target::{
-    ControlData, LoadRefusal, RunContext, answer_staged, judge_by, load_result_of, prepare,
-    read_control, slot,
-};
 
 /// What a port has of its node: its context, with its seat at the cells, what it knows of the list of what was published,
 /// a share of each bank, and its staging.
 #[derive(Drop)]
 pub(crate) struct SinglePort {
-    context: RunContext,
+    context: RunContext<CellSeat>,
     known: ProgramList,
     shares: Vec<Share>,
     staging: Staging,
 }
 
 impl Model for SinglePort {
-    ghost use Rattle.target.specs.Passes.{PassValue, pass_of};
+    ghost use Rattle.node_parts.specs.Passes.{PassValue, pass_of};
 
     ghost Value = { PassValue };
 
     ghost view = { λ p. pass_of p.context p.known p.shares.items p.staging };
 }
 
-/// Publishes the staged program that control data ask for: its generation. The port then knows of it.
-fn publish_staged(
-    alloc: Global,
-    known: &mut ProgramList,
-    programs: &mut SlotPrograms,
-    staging: &Staging,
-    control: ControlData,
-) -> Result<u32, LoadRefusal>
-    requires { IsPrefix known.old programs.old }
-    ensures published { IfOk result (λ n. IsPublished control staging.now.bytes
-        programs.old programs.new known.old known.new n) }
-    ensures refused { IfErr result (IsLoadRefusal control staging.now.bytes
-        (sizes_of programs.old) (length programs.old)) }
-    ensures same { OnErr result ((programs.new ≡ programs.old) × (known.new ≡ known.old)) }
-{
-    let (slot, program) = prepare(alloc, staging, control, &programs.sizes())?;
-    let generation = programs.install(alloc, slot, program)?;
-    *known = programs.list();
-    Ok(generation)
-}
-
 impl SinglePort {
     /// A port as it is made.
     pub fn new(
-        context: RunContext,
+        context: RunContext<CellSeat>,
         known: ProgramList,
         shares: Vec<Share>,
         staging: Staging,
@@ -147,24 +121,7 @@ impl SinglePort {
         requires begins { IsPrefix self.old.programs programs.old }
         ensures { IsLoadEnd self.old self.new programs.old programs.new judged result reply.new }
     {
-        if let Some(status) = judged_fault(&judged.command(), judged.verdict()) {
-            judged.end(status, reply);
-            return status;
-        }
-        let control = read_control(judged.command().body());
         let known = &mut self.known;
-        let (status, loaded) = match publish_staged(
-            alloc,
-            known,
-            programs,
-            &self.staging,
-            control,
-        ) {
-            Ok(generation) => (Status::Success, load_result_of(generation)),
-            Err(refusal) => (Status::GeneralError, refusal.load_result()),
-        };
-        self.staging.set_load_result(loaded);
-        judged.end(status, reply);
-        status
+        load(alloc, known, programs, &mut self.staging, judged, reply)
     }
 }

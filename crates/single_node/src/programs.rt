@@ -2,67 +2,19 @@
 
 ghost use Rattle.std.specs.Prelude.{◌≡◌, ◌<◌, ◌≤◌, ◌+◌, ◌^◌, IfErr, IfOk, OnErr, OnOk, Some, length};
 ghost use Rattle.std.specs.Arc.{arc_value};
-ghost use Rattle.bver.specs.Justified.{IsJustified};
-ghost use Rattle.publish.specs.Histories.{longer_history};
-ghost use Rattle.publish.specs.Published.{generation_at, judging_program, sizes_of};
-ghost use Rattle.target.specs.Loads.{IsUnpublished};
-ghost use Rattle.target.specs.Nodes.{first_programs};
+ghost use Rattle.node_programs.specs.Histories.{longer_history};
+ghost use Rattle.node_programs.specs.Published.{judging_program, sizes_of};
+ghost use Rattle.node_programs.specs.Codes.{IsUnpublished};
+ghost use Rattle.node_parts.specs.Nodes.{first_programs};
 ghost use Rattle.single_node.specs.Slots.{shown_in_all};
 
 use crate::lists::ProgramList;
 use crate::publishing::Publishing;
 use bver::{Accepted, MapSizes};
-use publish::published_programs;
+use node_programs::{ProgramStore, PublishFault, Shown, published_programs};
 use std::alloc::{AllocError, Global};
 use std::marker::Model;
 use std::sync::Arc;
-use target::LoadRefusal;
-
-/// The program of a slot, with its generation.
-#[derive(Drop)]
-pub(crate) struct Shown {
-    program: Arc<Accepted>,
-    generation: u32,
-}
-
-impl Model for Shown {
-    ghost use Rattle.std.specs.Prelude.{ℕ};
-    ghost use Rattle.std.specs.Arc.{arc_value};
-    ghost use Rattle.bver.specs.Justified.{AcceptedValue};
-
-    ghost Value = { AcceptedValue × ℕ };
-
-    ghost view = { λ s. (arc_value s.program, s.generation) };
-}
-
-impl Shown {
-    /// The program, with generation 0.
-    fn first(program: &Arc<Accepted>) -> Result<Shown, AllocError>
-        ensures { IfOk result (λ shown. shown ≡ (arc_value program.now, 0)) }
-    {
-        Ok(Shown {
-            program: Arc::try_clone(program)?,
-            generation: 0,
-        })
-    }
-
-    /// The program.
-    pub fn program(&self) -> &Accepted
-        ensures value { result.now ≡ self.now.0 }
-        ensures justified { IsJustified self.now.0.program self.now.0.sizes }
-    {
-        let program: &Accepted = &self.program;
-        let _justified = program.image();
-        program
-    }
-
-    /// Its generation.
-    pub fn generation(&self) -> u32
-        ensures { result ≡ self.now.1 }
-    {
-        self.generation
-    }
-}
 
 /// The program in each slot, of generation 0.
 fn in_all_slots(program: &Arc<Accepted>) -> Result<[Shown; 4], AllocError>
@@ -87,7 +39,7 @@ pub(crate) struct SlotPrograms {
 
 impl Model for SlotPrograms {
     ghost use Rattle.std.specs.Prelude.{List};
-    ghost use Rattle.publish.specs.declared.history.Publish.{Publish};
+    ghost use Rattle.node_programs.specs.declared.publishes.Publish.{Publish};
     ghost use Rattle.single_node.specs.Slots.{AreSlots};
 
     ghost Value = { List Publish };
@@ -158,7 +110,7 @@ impl SlotPrograms {
         alloc: Global,
         slot: u8,
         program: Accepted,
-    ) -> Result<u32, LoadRefusal>
+    ) -> Result<u32, PublishFault>
         requires slot { slot ≤ 3 }
         requires sizes { program.sizes ≡ sizes_of self.old }
         ensures published { OnOk result (self.new ≡ longer_history self.old slot program) }
@@ -168,10 +120,10 @@ impl SlotPrograms {
         ensures fewer { OnOk result (length self.old < 2 ^ 32) }
     {
         if self.count == u32::MAX {
-            return Err(LoadRefusal::GenerationsFull);
+            return Err(PublishFault::GenerationsFull);
         }
         let Ok(program) = Arc::new(alloc, program) else {
-            return Err(LoadRefusal::Memory);
+            return Err(PublishFault::Memory);
         };
         let next = Publishing { slot, program };
         Ok(self.put(next))
@@ -190,11 +142,31 @@ impl SlotPrograms {
         let generation = self.count + 1;
         self.list.add(&next);
         let Publishing { slot, program } = next;
-        self.shown[usize::from(slot)] = Shown {
-            program,
-            generation,
-        };
+        self.shown[usize::from(slot)] = Shown::new(program, generation);
         self.count = generation;
         generation
+    }
+}
+
+/// What is published grows by [`SlotPrograms::install`], and the port then knows of all of it.
+impl ProgramStore<ProgramList> for SlotPrograms {
+    ghost published = { λ p. p };
+
+    ghost known = { λ l. l };
+
+    fn sizes(&self) -> MapSizes {
+        self.sizes
+    }
+
+    fn publish(
+        &mut self,
+        alloc: Global,
+        reader: &mut ProgramList,
+        slot: u8,
+        program: Accepted,
+    ) -> Result<u32, PublishFault> {
+        let generation = self.install(alloc, slot, program)?;
+        *reader = self.list();
+        Ok(generation)
     }
 }

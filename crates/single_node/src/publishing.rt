@@ -2,7 +2,7 @@
 
 ghost use Rattle.std.specs.Prelude.{◌≡◌, List, []};
 ghost use base.Fml.{ftrue};
-ghost use Rattle.publish.specs.declared.history.Publish.{Publish};
+ghost use Rattle.node_programs.specs.declared.publishes.Publish.{Publish};
 
 use bver::Accepted;
 use std::marker::Model;
@@ -27,7 +27,7 @@ impl Model for Published {
 
 impl Published {
     ghost use Rattle.std.specs.Arc.{arc_value};
-    ghost use Rattle.publish.specs.Histories.{longer_history};
+    ghost use Rattle.node_programs.specs.Histories.{longer_history};
 
     /// Nothing.
     pub(crate) fn new() -> Published

@@ -3,19 +3,19 @@
 ghost use Rattle.std.specs.Prelude.{◌≡◌, ◌<◌, length};
 ghost use mathlib.Core.List.{IsPrefix};
 ghost use Rattle.bank.specs.Admission.{IsPlacedBy};
-ghost use Rattle.target.specs.Pairs.{IsPaired};
-ghost use Rattle.target.specs.Served.{parts};
-ghost use Rattle.target.specs.declared.served.Served.TheVariants.{Stopped};
+ghost use Rattle.node_parts.specs.Pairs.{IsPaired};
+ghost use Rattle.node_parts.specs.Served.{parts};
+ghost use Rattle.node_parts.specs.declared.served.Served.TheVariants.{Stopped};
 ghost use Rattle.single_node.specs.Nodes.{IsInformed};
 ghost use Rattle.single_node.specs.Judging.{Ends, ServesAt};
 
 use crate::port::SinglePort;
 use crate::programs::SlotPrograms;
 use bank::Judged;
+use node_parts::{Banks, Served, Stop, admit, paired_commands_fit};
 use rmap::{Place, ReplyBuf};
 use spw::Packet;
 use std::alloc::Global;
-use target::{Banks, Served, Stop, admit, paired_commands_fit};
 
 /// What became of a packet, with the program that judged its command and what it said.
 #[derive(Clone, Copy, Debug, PartialEq, Eq)]

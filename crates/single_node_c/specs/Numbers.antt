@@ -21,11 +21,11 @@ use Rattle.single_node_c.specs.declared.numbers.TheConstants.{
 use Rattle.single_node_c.specs.declared.parts.ServedParts.{ServedParts}
 use Rattle.spw.specs.declared.packets.End.{End}
 use Rattle.spw.specs.declared.packets.End.TheVariants.{Eop, Eep}
-use Rattle.target.specs.declared.config.BankConfig.{BankConfig}
-use Rattle.target.specs.declared.served.Served.{Served}
-use Rattle.target.specs.declared.served.Served.TheVariants.{Stopped, Unread, Done, Window}
-use Rattle.target.specs.declared.stop.Stop.{Stop}
-use Rattle.target.specs.declared.stop.Stop.TheVariants.{Discarded, Answered}
+use Rattle.node_parts.specs.declared.config.BankConfig.{BankConfig}
+use Rattle.node_parts.specs.declared.served.Served.{Served}
+use Rattle.node_parts.specs.declared.served.Served.TheVariants.{Stopped, Unread, Done, Window}
+use Rattle.node_parts.specs.declared.stop.Stop.{Stop}
+use Rattle.node_parts.specs.declared.stop.Stop.TheVariants.{Discarded, Answered}
 
 -- the kind of a packet that its header stops
 abbrev pub kind_of_stop : Stop → ℕ

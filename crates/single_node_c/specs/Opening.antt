@@ -22,8 +22,8 @@ use Rattle.single_node_c.specs.declared.numbers.MapNumbers.{MapNumbers}
 use Rattle.single_node_c.specs.declared.numbers.Why.{Why}
 use Rattle.single_node_c.specs.declared.unfit.Unfit.{Unfit}
 use Rattle.single_node_c.specs.declared.unfit.Unfit.TheVariants.{Memory, Config, Maps as MapsUnfit, Image, Program as ProgramUnfit}
-use Rattle.target.specs.Nodes.{are_within, limit_fault}
-use Rattle.target.specs.declared.config.NodeConfig.{NodeConfig}
+use Rattle.node_parts.specs.Nodes.{are_within, limit_fault}
+use Rattle.node_parts.specs.declared.config.NodeConfig.{NodeConfig}
 
 -- ---- programs
 

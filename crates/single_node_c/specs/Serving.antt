@@ -11,8 +11,8 @@ use Rattle.single_node_c.specs.declared.codes.TheConstants.{NO_PORT, BAD_END, TO
 use Rattle.single_node_c.specs.declared.numbers.ServedNumbers.{ServedNumbers}
 use Rattle.spw.specs.Cargo.{Cargo}
 use Rattle.spw.specs.declared.packets.TheConstants.{MAX_PACKET}
-use Rattle.target.specs.declared.served.Served.{Served}
-use Rattle.target.specs.declared.served.Served.TheVariants.{Stopped, Unread, Done, Window}
+use Rattle.node_parts.specs.declared.served.Served.{Served}
+use Rattle.node_parts.specs.declared.served.Served.TheVariants.{Stopped, Unread, Done, Window}
 
 -- bytes at the front of a room, and behind them what was there
 abbrev pub put_front : (room bytes : List ℕ) → List ℕ

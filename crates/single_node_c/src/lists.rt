@@ -5,7 +5,7 @@ ghost use Rattle.single_node_c.specs.Numbers.{bank_of, kind_of_map, map_of};
 
 use crate::numbers::{BankNumbers, MapNumbers};
 use machine::MapKind;
-use target::BankConfig;
+use node_parts::BankConfig;
 
 /// The most maps that a node has.
 pub const MAX_MAPS: usize = 8;

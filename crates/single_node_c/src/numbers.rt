@@ -5,9 +5,9 @@ ghost use Rattle.single_node_c.specs.Numbers.{entry_numbers, end_number, end_of,
 
 use crate::parts::ServedParts;
 use bank::Entry;
+use node_parts::{Served, Stop};
 use single_node::Told;
 use spw::End;
-use target::{Served, Stop};
 
 /// One bank.
 #[repr(C)]

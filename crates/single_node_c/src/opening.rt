@@ -17,10 +17,10 @@ use crate::numbers::{BankNumbers, MapNumbers, Why};
 use crate::unfit::{Unfit, no_why};
 use bpf::{Image, ImageFault};
 use bver::{Accepted, MapSizes, Refusal, verify};
+use node_parts::{BankConfig, NodeConfig, NodeFault};
 use rmap::MAX_BANKS;
 use single_node::SingleNode;
 use std::alloc::Global;
-use target::{BankConfig, NodeConfig, NodeFault};
 
 /// The maps of these numbers, if a node may have them.
 fn sizes_of(numbers: &[MapNumbers]) -> Option<MapSizes>

@@ -14,11 +14,11 @@ use crate::held::{put, take};
 use crate::lists::put_front;
 use crate::numbers::{ServedNumbers, end_of};
 use crate::parts::ServedParts;
+use node_parts::Served;
 use rmap::{MAX_REPLY, ReplyBuf};
 use single_node::SingleNode;
 use spw::{End, MAX_PACKET, Packet};
 use std::alloc::{AllocError, Global};
-use target::Served;
 
 /// A packet of a copy of the bytes. `AllocError` where memory was refused.
 fn packet_of(alloc: Global, bytes: &[u8], end: End) -> Result<Packet, AllocError>

@@ -7,12 +7,13 @@ use Rattle.rmap.specs.declared.places.Place.{Place}
 use Rattle.rmap.specs.Command.{command_of, command_kind}
 use Rattle.bver.specs.Justified.{AcceptedValue, IsJustified}
 use Rattle.bank.specs.Records.{AdmittedValue, JudgedValue, ShareValue}
-use Rattle.publish.specs.declared.history.Publish.{Publish}
-use Rattle.publish.specs.Published.{judging_program, program_at, generation_at}
-use Rattle.publish.specs.Staged.{Staged}
-use Rattle.target.specs.Slots.{slot_of}
-use Rattle.target.specs.Passes.{RunContextValue, pass_of}
-use Rattle.target.specs.Steps.{IsAdmission, IsJudgedByTaken, IsJudgedOnce, IsJudgement, IsTaken, IsVerdict}
+use Rattle.node_programs.specs.declared.publishes.Publish.{Publish}
+use Rattle.node_programs.specs.Published.{judging_program, program_at, generation_at}
+use Rattle.node_programs.specs.Staged.{Staged}
+use Rattle.node_parts.specs.Slots.{slot_of}
+use Rattle.node_parts.specs.Passes.{RunContextValue, pass_of}
+use Rattle.node_parts.specs.Steps.{IsAdmission, IsJudgedOnce, IsJudgement, IsTaken, IsVerdict}
+use Rattle.target.specs.Steps.{IsJudgedByTaken}
 
 some_same : {A : Type 0} (x y : A) → Some x ≡ Some y → x ≡ y
 some_same x y e = cc

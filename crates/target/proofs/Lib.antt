@@ -1,11 +1,4 @@
-pub mod Codes
-pub mod Places
-pub mod Makings
-pub mod Pairings
-pub mod Services
 pub mod Askings
-pub mod Judgements
-pub mod Refusals
+pub mod Keeping
 pub mod Loadings
-pub mod Takings
-pub mod Reasons
+pub mod Judgements

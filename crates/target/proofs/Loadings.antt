@@ -1,63 +1,38 @@
--- How a control write ends that nothing stops.
-use Rattle.std.proofs.Common.{◌≡◌, ◌≤◌, ◌<◌, ℕ, List, [], length, Option, None, sym, ap, ap₂, subst, ◌∙◌, inl, inr}
+-- The maps of a node behind a load.
+use Rattle.std.proofs.Common.{◌≡◌, ◌<◌, List, [], ◌∷◌, length, Option, None, Some, ap, sym, ◌∙◌, arith, inl, inr}
 use mathlib.Core.List.{IsPrefix}
 use Rattle.rmap.specs.declared.status.Status.{Status}
-use Rattle.rmap.specs.declared.status.Status.TheVariants.{Success, GeneralError}
-use Rattle.rmap.specs.Command.{command_of}
-use Rattle.rmap.specs.Reply.{reply_of}
-use Rattle.bank.specs.Answer.{judged_line}
-use Rattle.bank.specs.Records.{JudgedValue, ShareValue}
-use Rattle.publish.specs.declared.history.Publish.{Publish}
-use Rattle.publish.specs.Published.{sizes_of}
-use Rattle.publish.specs.Reached.{Known, known}
-use Rattle.publish.specs.Staged.{Staged, staged}
-use Rattle.publish.proofs.Fronts.{prefix_length}
-use Rattle.target.specs.declared.control.ControlData.{ControlData}
-use Rattle.target.specs.declared.refusal.LoadRefusal.{LoadRefusal}
-use Rattle.target.specs.Passes.{RunContextValue, pass_of}
-use Rattle.target.specs.Loads.{published_result, refused_result}
-use Rattle.target.specs.Outcomes.{IsLoadRefusal}
-use Rattle.target.specs.Loaded.{IsPublished, control_in, EndsAs, HasLoaded, HasRefused, IsLoadEnd}
+use Rattle.bank.specs.Records.{JudgedValue}
+use Rattle.node_programs.specs.declared.publishes.Publish.{Publish}
+use Rattle.node_programs.specs.Published.{sizes_of}
+use Rattle.node_parts.specs.Loaded.{EndsAs}
+use Rattle.node_parts.specs.Passes.{PassValue}
 
--- a load that published
-pub ends_loaded : (b : RunContextValue) (known seen : List Publish) (shares : List ShareValue) (staging left : Staged) (old new : List Publish) (j : JudgedValue) (result : Status) (bytes loaded : List ℕ) (control : ControlData) (generation : ℕ)
-    → judged_line (command_of j.packet) j.verdict ≡ None → control ≡ control_in j
-    → IsPublished control staging.bytes old new known seen generation
-    → result ≡ Success → left ≡ staged staging.bytes loaded → loaded ≡ published_result generation
-    → bytes ≡ reply_of (command_of j.packet) result []
-    → IsLoadEnd (pass_of b known shares staging) (pass_of b seen shares left) old new j result bytes
-ends_loaded b known seen shares staging left old new j result bytes loaded control generation none asks published status kept tells reply =
-    let holder = pass_of b known shares staging in
-    let after = pass_of b seen shares left in
-    let has : HasLoaded holder after old new j result = record {
-      generation = generation;
-      published = subst (λ (x : ControlData). IsPublished x staging.bytes old new known seen generation) asks published;
-      status = status;
-      holder_after = ap (λ (s : Staged). pass_of b seen shares s) (kept ∙ ap (λ l. staged staging.bytes l) tells);
-    } in
-    record { ended = subst (λ (line : Option Status). EndsAs line holder after old new j result) (sym none) (inl has); reply = reply }
+-- a list that begins with another has its maps
+sizes_grow : (xs ys : List Publish) → 0 < length xs → IsPrefix xs ys → sizes_of ys ≡ sizes_of xs
+sizes_grow [] ys some pre = absurd (omega arith)
+sizes_grow (x ∷ xs) ys some pre = ap sizes_of (sym pre.1)
 
--- a load that was refused
-pub ends_refused : (b : RunContextValue) (known seen : List Publish) (shares : List ShareValue) (staging left : Staged) (old new : List Publish) (j : JudgedValue) (result : Status) (bytes loaded : List ℕ) (control : ControlData) (refusal : LoadRefusal)
-    → judged_line (command_of j.packet) j.verdict ≡ None → control ≡ control_in j
-    → IsLoadRefusal control staging.bytes (sizes_of old) (length old) refusal → seen ≡ known → new ≡ old
-    → result ≡ GeneralError → left ≡ staged staging.bytes loaded → loaded ≡ refused_result refusal
-    → bytes ≡ reply_of (command_of j.packet) result []
-    → IsLoadEnd (pass_of b known shares staging) (pass_of b seen shares left) old new j result bytes
-ends_refused b known seen shares staging left old new j result bytes loaded control refusal none asks refused knows same status kept tells reply =
-    let holder = pass_of b known shares staging in
-    let after = pass_of b seen shares left in
-    let has : HasRefused holder after old new j result = record {
-      refusal = refusal;
-      refused = subst (λ (x : ControlData). IsLoadRefusal x staging.bytes (sizes_of old) (length old) refusal) asks refused;
-      status = status;
-      same = same;
-      holder_after = ap₂ (λ (l : List Publish) (s : Staged). pass_of b l shares s) knows (kept ∙ ap (λ l. staged staging.bytes l) tells);
-    } in
-    record { ended = subst (λ (line : Option Status). EndsAs line holder after old new j result) (sym none) (inr has); reply = reply }
+-- a load leaves the port the maps that it knows, its seat, its windows and its shares
+pub record IsKept (h after : PassValue) : Type 0 where
+  pub sizes : sizes_of after.programs ≡ sizes_of h.programs
+  pub rest : (after.port ≡ h.port) × (after.seat ≡ h.seat) × (after.windows ≡ h.windows) × (after.shares ≡ h.shares)
 
--- a reader that was told of programs which what it knew begins
-pub learnt : (old new : Known) (told programs : List Publish) → told ≡ programs → IsPrefix old.programs programs → (length old.programs ≤ length told → new ≡ known told old.inside) → new.programs ≡ programs
-learnt old new told programs is begins longer =
-    let less : length old.programs ≤ length told = subst (λ (l : List Publish). length old.programs ≤ length l) (sym is) (prefix_length old.programs programs begins) in
-    ap (λ (r : Known). r.programs) (longer less) ∙ is
+same_rest : (h after : PassValue) → after ≡ h → IsKept h after
+same_rest h after same = record {
+  sizes = ap (λ (x : PassValue). sizes_of x.programs) same;
+  rest = (ap (λ (x : PassValue). x.port) same, ap (λ (x : PassValue). x.seat) same, ap (λ (x : PassValue). x.windows) same, ap (λ (x : PassValue). x.shares) same);
+}
+
+pub kept_by_load : (line : Option Status) (h after : PassValue) (old new : List Publish) (j : JudgedValue) (status : Status) → 0 < length h.programs → EndsAs line h after old new j status → IsKept h after
+kept_by_load (Some s) h after old new j status some end = same_rest h after end.1
+kept_by_load None h after old new j status some end = elim end [
+  | inl loaded ↦ record {
+    sizes = sizes_grow h.programs after.programs some loaded.published.keeps;
+    rest = (ap (λ (x : PassValue). x.port) loaded.holder_after, ap (λ (x : PassValue). x.seat) loaded.holder_after, ap (λ (x : PassValue). x.windows) loaded.holder_after, ap (λ (x : PassValue). x.shares) loaded.holder_after);
+  }
+  | inr refused ↦ record {
+    sizes = ap (λ (x : PassValue). sizes_of x.programs) refused.holder_after;
+    rest = (ap (λ (x : PassValue). x.port) refused.holder_after, ap (λ (x : PassValue). x.seat) refused.holder_after, ap (λ (x : PassValue). x.windows) refused.holder_after, ap (λ (x : PassValue). x.shares) refused.holder_after);
+  }
+]

@@ -2,11 +2,12 @@
 
 ghost use Rattle.std.specs.Prelude.{◌≡◌, length, true};
 ghost use Rattle.bank.specs.Records.{fits, is_next};
-ghost use Rattle.target.specs.Steps.{IsBankBelow};
-ghost use Rattle.target.specs.Applied.{IsFinished, share_of};
+ghost use Rattle.node_parts.specs.Steps.{IsBankBelow};
+ghost use Rattle.node_parts.specs.Applied.{IsFinished, share_of};
 
 use crate::pass::Pass;
 use bank::{Applied, Bank, Judged};
+use node_parts::shares_agree;
 use publish::ProgramFamily;
 use rmap::{Place, ReplyBuf};
 
@@ -36,7 +37,7 @@ fn end<J: ProgramFamily>(
 
 /// Applies a judged command to the bank of its place, with the port's share of it, and leaves the
 /// reply. Where [`Bank::fits`] says no, it is a general error, and nothing changes: that does not
-/// happen where bank and pass were made together ([`paired_commands_fit`](crate::paired_commands_fit)). The condition
+/// happen where bank and pass were made together ([`paired_commands_fit`](node_parts::paired_commands_fit)). The condition
 /// is the place of a bank of which the port has a share ([`Pass::banks`]).
 pub fn finish<J: ProgramFamily>(
     pass: &mut Pass<J>,
@@ -53,5 +54,6 @@ pub fn finish<J: ProgramFamily>(
     ensures agrees { fits bank.old (share_of pass.old judged.place) judged ≡ true
         → is_next bank.new (share_of pass.new judged.place) ≡ true }
 {
+    shares_agree();
     end(pass, bank, judged, reply)
 }

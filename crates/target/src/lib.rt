@@ -10,44 +10,27 @@
 #![tactic(auto)]
 
 mod applied;
-mod banks;
-mod config;
-mod control;
-mod faults;
-mod laws;
 mod loads;
 mod lock;
 mod node;
 mod parts;
 mod pass;
-mod refusal;
-mod run_context;
 mod served;
-mod shares;
-mod slots;
 mod staged;
 mod step;
-mod stop;
 
 pub use applied::finish;
-pub use banks::Banks;
-pub use config::{BankConfig, NodeConfig};
-pub use control::{ControlData, read_control};
-pub use faults::NodeFault;
-pub use laws::{
-    loads_are_taken, made_are_paired, paired_commands_fit, pairs_stay, refusals_tell_why,
-    staging_fills_its_window,
-};
-pub use loads::{load, prepare};
+pub use loads::load;
 pub use lock::BankLock;
 pub use node::Node;
+pub use node_parts::{
+    BankConfig, Banks, ControlData, LoadRefusal, NodeConfig, NodeFault, PortShares, RunContext,
+    Served, Stop, admit, answer_staged, judge_by, load_result_of, loads_are_taken, made_are_paired,
+    packets_keep_pairs, paired_commands_fit, pairs_stay, prepare, read_control, refusals_tell_why,
+    shares_agree, slot, staging_fills_its_window,
+};
 pub use parts::banks_and_passes;
 pub use pass::Pass;
-pub use refusal::{LoadRefusal, load_result_of};
-pub use run_context::RunContext;
-pub use served::{Served, serve_packet};
-pub use shares::PortShares;
-pub use slots::slot;
-pub use staged::{answer_staged, stage};
-pub use step::{Step, judge, judge_by};
-pub use stop::{Stop, admit};
+pub use served::serve_packet;
+pub use staged::stage;
+pub use step::{Step, judge};

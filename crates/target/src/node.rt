@@ -3,16 +3,15 @@
 ghost use Rattle.std.specs.Prelude.{◌≡◌, ◌<◌, ◌≤◌, ◌-◌, [], length, IfOk, IfErr, None};
 ghost use base.Stored.{Gv};
 ghost use Rattle.cells.specs.Seats.{cells};
-ghost use Rattle.target.specs.Nodes.{AreNumbered, IsNodeFault, first_passes, limit_fault};
+ghost use Rattle.node_parts.specs.Nodes.{IsNodeFault, first_passes, limit_fault};
+ghost use Rattle.target.specs.Nodes.{AreNumbered};
 
-use crate::banks::Banks;
-use crate::config::NodeConfig;
-use crate::faults::NodeFault;
 use crate::lock::BankLock;
 use crate::parts::banks_and_passes;
 use crate::pass::Pass;
 use bver::Accepted;
 use cells::Cells;
+use node_parts::{Banks, NodeConfig, NodeFault};
 use publish::{Opened, ProgramFamily, Publisher};
 use rmap::MAX_BANKS;
 use std::alloc::{AllocError, Global};

@@ -4,18 +4,16 @@ ghost use Rattle.std.specs.Prelude.{◌≡◌, ◌≤◌, ◌-◌, [], length, I
 ghost use base.Stored.{Gv};
 ghost use Rattle.bver.specs.Justified.{AcceptedValue};
 ghost use Rattle.cells.specs.Seats.{cells};
-ghost use Rattle.target.specs.Pairs.{ArePaired};
-ghost use Rattle.target.specs.Nodes.{AreFirst, AreSharesOf, IsNodeFault, fresh_banks, first_passes, first_programs, limit_fault};
+ghost use Rattle.node_parts.specs.Pairs.{ArePaired};
+ghost use Rattle.node_parts.specs.Nodes.{AreSharesOf, IsNodeFault, fresh_banks, first_passes, first_programs, limit_fault};
+ghost use Rattle.target.specs.Nodes.{AreFirst};
 
-use crate::banks::Banks;
-use crate::config::NodeConfig;
-use crate::faults::NodeFault;
 use crate::pass::Pass;
-use crate::run_context::RunContext;
-use crate::shares::PortShares;
 use bver::Accepted;
 use cells::{CellSeat, Cells};
-use publish::{Opened, ProgramFamily, Programs, Publisher, Reader, Staging};
+use node_parts::{Banks, NodeConfig, NodeFault, PortShares, RunContext, made_are_paired};
+use node_programs::Staging;
+use publish::{Opened, ProgramFamily, Programs, Publisher, Reader};
 use rmap::MAX_BANKS;
 use spw::PORTS;
 use std::alloc::{AllocError, Global};
@@ -79,6 +77,7 @@ pub fn banks_and_passes<J: ProgramFamily, R: Wait + Drop>(
     ensures limits { IfOk result (λ _. limit_fault config.now ≡ None) }
     ensures fault { IfErr result (IsNodeFault (limit_fault config.now)) }
 {
+    made_are_paired();
     let (banks, mut by_port) = Banks::new(alloc, config)?;
     let (cells, seats) = Cells::new(alloc, &config.sizes, config.ports)?;
     let (publisher, readers) = Programs::new(alloc, rt, opened, factory, config.ports)?;

@@ -1,12 +1,14 @@
 //! What a port has of its node.
 
 ghost use Rattle.std.specs.Prelude.{◌≡◌, ◌<◌, length, slice_get, Some};
-ghost use Rattle.target.specs.Passes.{IsPass, seat_of};
+ghost use Rattle.node_parts.specs.Passes.{IsPass};
+ghost use Rattle.target.specs.Passes.{seat_of};
 
-use crate::run_context::RunContext;
 use bank::Share;
 use cells::CellSeat;
-use publish::{ProgramFamily, Reader, Staging};
+use node_parts::RunContext;
+use node_programs::Staging;
+use publish::{ProgramFamily, Reader};
 use spw::PORTS;
 use std::marker::Model;
 
@@ -14,14 +16,14 @@ use std::marker::Model;
 /// of each bank, and its staging. Only [`banks_and_passes`](crate::banks_and_passes) makes passes.
 #[derive(Drop)]
 pub struct Pass<J: ProgramFamily> {
-    pub(crate) context: RunContext,
+    pub(crate) context: RunContext<CellSeat>,
     pub(crate) reader: Reader<J>,
     pub(crate) shares: Vec<Share>,
     pub(crate) staging: Staging,
 }
 
 impl<J: ProgramFamily> Model for Pass<J> {
-    ghost use Rattle.target.specs.Passes.{PassValue, IsPass, pass_of};
+    ghost use Rattle.node_parts.specs.Passes.{PassValue, IsPass, pass_of};
 
     ghost Value = { PassValue };
 

@@ -1,36 +1,21 @@
 //! The whole way of a packet.
 
 ghost use Rattle.std.specs.Prelude.{◌≡◌, ◌≢◌, ℕ, List, Some, length, slice_get, slice_set};
-ghost use Rattle.target.specs.Served.{IsServed, IsAnswered, parts};
-ghost use Rattle.target.specs.Passes.{PassValue};
-ghost use Rattle.target.specs.Pairs.{ArePaired, IsPaired};
+ghost use Rattle.node_parts.specs.Served.{IsServed, IsAnswered, parts};
+ghost use Rattle.node_parts.specs.Passes.{PassValue};
+ghost use Rattle.node_parts.specs.Pairs.{ArePaired, IsPaired};
 
 use crate::applied::finish;
-use crate::banks::Banks;
 use crate::loads::load;
 use crate::pass::Pass;
 use crate::staged::stage;
 use crate::step::{Step, judge};
-use crate::stop::Stop;
-use bank::{Applied, extents_stay};
+use node_parts::{Banks, Served, Stop, packets_keep_pairs};
 use publish::{ProgramFamily, Publisher};
-use rmap::{Place, ReplyBuf, Status};
+use rmap::{Place, ReplyBuf};
 use spw::Packet;
 use std::alloc::Global;
 use std::sync::Wait;
-
-/// What became of a packet.
-#[derive(Clone, Copy, Debug, PartialEq, Eq)]
-pub enum Served {
-    /// It went no further than its header.
-    Stopped(Stop),
-    /// No program judged it.
-    Unread,
-    /// It was judged, and ended so at its bank.
-    Done(Applied),
-    /// It was judged, and ended with that status in the boot window.
-    Window(Status),
-}
 
 /// What becomes of a packet, whatever the node and the port.
 fn serve<J: ProgramFamily, R: Wait + Drop>(
@@ -89,6 +74,6 @@ pub fn serve_packet<J: ProgramFamily, R: Wait + Drop>(
     ensures all { (passes : List PassValue) (k : ℕ) → ArePaired banks.old passes
         → slice_get passes k ≡ Some pass.old → ArePaired banks.new (slice_set passes k pass.new) }
 {
-    extents_stay();
+    packets_keep_pairs();
     serve(alloc, banks, publisher, pass, packet, reply)
 }

@@ -1,18 +1,15 @@
 //! The first half of a packet's way: its verdict.
 
 ghost use Rattle.std.specs.Prelude.{◌≡◌, IfErr, IfOk, OnErr};
-ghost use Rattle.publish.specs.Published.{sizes_of};
-ghost use Rattle.target.specs.Steps.{HasRun, IsJudgedByTaken, IsJudgedOnce, IsStep};
+ghost use Rattle.node_programs.specs.Published.{sizes_of};
+ghost use Rattle.target.specs.Steps.{IsJudgedByTaken, IsStep};
 
 use crate::pass::Pass;
-use crate::run_context::RunContext;
-use crate::slots::slot;
-use crate::stop::{Stop, admit};
 use bank::{Admitted, Judged};
-use brun::run;
-use bver::Accepted;
+use cells::CellSeat;
+use node_parts::{RunContext, Stop, admit, judge_by, slot};
 use publish::{ProgramFamily, Reader};
-use rmap::{Command, Discard, ReplyBuf, Status, put_reply};
+use rmap::{Discard, ReplyBuf, Status, put_reply};
 use spw::Packet;
 
 /// How far a packet came by itself. Each step but `Judged` hands the packet back as it came.
@@ -29,40 +26,10 @@ pub enum Step {
     Judged(Judged),
 }
 
-/// The verdict of the program on the header of the command: one run.
-fn verdict(context: &mut RunContext, program: &Accepted, command: &Command) -> u64
-    requires { context.old.seat.sizes ≡ program.now.sizes }
-    ensures { HasRun program.now context.old context.new command.now result }
-{
-    run(
-        program,
-        command.front(),
-        command.tail(),
-        context.port,
-        &mut context.stack,
-        &mut context.seat,
-    )
-}
-
-/// Judges an admitted command by the program of that generation: one run on its header, for the context's port. The
-/// condition is a program that was accepted for the maps at which the context has its seat.
-pub fn judge_by(
-    context: &mut RunContext,
-    program: &Accepted,
-    generation: u32,
-    admitted: Admitted,
-) -> Judged
-    requires { context.old.seat.sizes ≡ program.now.sizes }
-    ensures { IsJudgedOnce program.now generation context.old context.new admitted result }
-{
-    let verdict = verdict(context, program, &admitted.command());
-    Judged::of(admitted, context.port, generation, verdict)
-}
-
 /// Judges an admitted command by the program that the reader takes in the slot of its place: one run on its
 /// header. The command comes back where no program is given.
 fn judge_taken<J: ProgramFamily>(
-    context: &mut RunContext,
+    context: &mut RunContext<CellSeat>,
     reader: &mut Reader<J>,
     admitted: Admitted,
 ) -> Result<Judged, Admitted>
@@ -91,7 +58,7 @@ fn judge_taken<J: ProgramFamily>(
 pub fn judge<J: ProgramFamily>(pass: &mut Pass<J>, packet: Packet, reply: &mut ReplyBuf) -> Step
     ensures step { IsStep result packet pass.old pass.new reply.new }
 {
-    let admitted = match admit(packet, &pass.context.windows, reply) {
+    let admitted = match admit(packet, pass.context.windows(), reply) {
         Ok(admitted) => admitted,
         Err((Stop::Discarded(discard), packet)) => return Step::Discarded(discard, packet),
         Err((Stop::Answered(status), packet)) => return Step::Answered(status, packet),

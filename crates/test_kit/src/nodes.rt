@@ -8,7 +8,7 @@ use rmap::{ReplyBuf, Status};
 use spw::{Packet, read_line};
 use std::alloc::Global;
 use std::test::Fail;
-use target::BankConfig;
+use node_parts::BankConfig;
 
 /// The address of the bank's first byte.
 pub const BASE: u32 = 0xA000_0000;

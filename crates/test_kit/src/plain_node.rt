@@ -6,16 +6,15 @@ use crate::nodes::packet;
 use bank::{Bank, Judged};
 use bpf::Image;
 use bver::{Accepted, verify};
-use publish::{Opened, ProgramFamily, Publisher, Staging};
+use node_programs::Staging;
+use publish::{Opened, ProgramFamily, Publisher};
 use rmap::ReplyBuf;
 use spw::Packet;
 use std::alloc::Global;
 use std::sync::Wait;
 use std::test::Fail;
-use target::{
-    BankConfig, Banks, NodeConfig, NodeFault, Pass, Served, Step, banks_and_passes, judge,
-    serve_packet,
-};
+use node_parts::{BankConfig, Banks, NodeConfig, NodeFault, Served};
+use target::{Pass, Step, banks_and_passes, judge, serve_packet};
 
 /// A node of logical address 0xFE in one thread: its banks, what publishes its programs, the passes of its ports, and the
 /// reply to the packet that came last. Each call that is lent its parts is a method of one call: a test that makes several

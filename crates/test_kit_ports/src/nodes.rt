@@ -7,7 +7,8 @@ use publish::{Opened, ProgramFamily};
 use std::alloc::Global;
 use std::sync::Wait;
 use std::test::Fail;
-use target::{BankConfig, Node, NodeConfig, Pass};
+use node_parts::{BankConfig, NodeConfig};
+use target::{Node, Pass};
 use test_kit::{image_of_text, sizes};
 
 /// The program of a text, with that budget, for maps of those sizes.

@@ -11,7 +11,8 @@ use std::alloc::Global;
 use std::sync::Wait;
 use std::test::Fail;
 use std::thread::Threads;
-use target::{BankConfig, BankLock, Node, Pass};
+use node_parts::BankConfig;
+use target::{BankLock, Node, Pass};
 use test_kit::program;
 
 /// The bank of that number, behind its lock.

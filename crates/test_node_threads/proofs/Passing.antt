@@ -11,11 +11,12 @@ use Rattle.bver.specs.Justified.{AcceptedValue}
 use Rattle.bank.specs.declared.bank.Applied.{Applied}
 use Rattle.bank.specs.Records.{BankValue, ShareValue, JudgedValue, fits}
 use Rattle.cells.specs.Seats.{CellSeatValue, CellsValue, IsSeatOf}
-use Rattle.target.specs.declared.config.BankConfig.{BankConfig}
-use Rattle.target.specs.Nodes.{first_pass}
-use Rattle.target.specs.Passes.{PassValue, seat_of}
-use Rattle.target.specs.Steps.{IsJudgement}
-use Rattle.target.specs.Applied.{IsFinished, share_of, with_share}
+use Rattle.node_parts.specs.declared.config.BankConfig.{BankConfig}
+use Rattle.node_parts.specs.Nodes.{first_pass}
+use Rattle.node_parts.specs.Passes.{PassValue}
+use Rattle.target.specs.Passes.{seat_of}
+use Rattle.node_parts.specs.Steps.{IsJudgement}
+use Rattle.node_parts.specs.Applied.{IsFinished, share_of, with_share}
 use Rattle.test_node_threads.specs.Seats.{maps_of, IsAt}
 
 -- a run leaves the seat where it is

@@ -2,7 +2,7 @@
 use Rattle.std.specs.Prelude.{◌≡◌}
 use base.Stored.{Gv}
 use Rattle.machine.specs.Sizes.{Maps}
-use Rattle.target.specs.Passes.{SeatValue}
+use Rattle.node_parts.specs.Passes.{SeatValue}
 use Rattle.cells.specs.Seats.{CellsValue}
 
 -- the maps that a seat asks, and the name of their cells: no call changes them

@@ -10,7 +10,7 @@ use std::marker::Brand;
 use std::rt::Files;
 use std::sync::Wait;
 use std::test::Fail;
-use target::{Served, Stop};
+use node_parts::{Served, Stop};
 use test_kit::{PlainNode, bank, program};
 
 /// The line that `judge` prints of what became of a packet, with the reply that was due.

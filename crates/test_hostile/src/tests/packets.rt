@@ -12,7 +12,7 @@ use std::marker::Brand;
 use std::process::Abort;
 use std::sync::Wait;
 use std::test::Fail;
-use target::{BankConfig, Served, Stop};
+use node_parts::{BankConfig, Served, Stop};
 use test_kit::{BASE, PlainNode, Row, program};
 
 /// A packet, and how often which answer comes: to its beginnings with each marker, to the whole with each marker, and

@@ -8,7 +8,7 @@ use rmap::{ReplyBuf, Status, Windows};
 use std::alloc::Global;
 use std::process::Abort;
 use std::test::Fail;
-use target::{RunContext, admit, judge_by};
+use node_parts::{RunContext, admit, judge_by};
 use test_kit::{BASE, PLAIN_READ, Row, SpareBank, image_of_text, packet, word};
 
 /// What a packet is, the packet, the place of its bytes or why it stops, and the reply that is due.

@@ -11,7 +11,7 @@ use std::marker::Brand;
 use std::process::Abort;
 use std::sync::Wait;
 use std::test::Fail;
-use target::Served;
+use node_parts::Served;
 use test_kit::{PLAIN_READ, PlainNode, bank, program};
 
 /// How many entries the bank's journal has, and how many of them are port 0's.

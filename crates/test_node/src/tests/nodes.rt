@@ -13,7 +13,7 @@ use std::marker::Brand;
 use std::process::Abort;
 use std::sync::Wait;
 use std::test::Fail;
-use target::{BankConfig, NodeFault, Served, Stop};
+use node_parts::{BankConfig, NodeFault, Served, Stop};
 use test_kit::{PLAIN_READ, PLAIN_REPLY, PlainNode, bank, packet, program};
 
 /// What becomes of a packet at port 0 of a fresh node whose program always gives that verdict, and the reply.

@@ -14,7 +14,7 @@ use std::marker::Brand;
 use std::process::Abort;
 use std::sync::Wait;
 use std::test::Fail;
-use target::{BankConfig, NodeConfig, NodeFault};
+use node_parts::{BankConfig, NodeConfig, NodeFault};
 use test_kit::{
     BASE, LOAD, PLAIN_READ, PLAIN_WRITE, PlainNode, Row, STAGE, bank, image_of_text, packet,
     program,

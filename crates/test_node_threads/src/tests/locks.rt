@@ -13,7 +13,8 @@ use std::marker::Brand;
 use std::process::Abort;
 use std::sync::Wait;
 use std::test::Fail;
-use target::{BankConfig, BankLock, Node, NodeConfig, Pass, Step, finish, judge, load, stage};
+use node_parts::{BankConfig, NodeConfig};
+use target::{BankLock, Node, Pass, Step, finish, judge, load, stage};
 use test_kit::{
     BASE, LOAD, PLAIN_READ, PLAIN_WRITE, Random, STAGE, SpareBank, bank, packet, program,
 };

@@ -17,7 +17,8 @@ use std::process::Abort;
 use std::sync::Wait;
 use std::test::Fail;
 use std::thread::{Threads, map_vec};
-use target::{Node, NodeConfig, Pass, Step, finish, judge};
+use node_parts::NodeConfig;
+use target::{Node, Pass, Step, finish, judge};
 use test_kit::{PLAIN_READ, SpareBank, bank, counts, image_of_text};
 
 /// Draws a ticket for each command, and says yes to the first five.

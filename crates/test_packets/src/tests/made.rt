@@ -16,7 +16,7 @@ use std::marker::Brand;
 use std::process::Abort;
 use std::sync::Wait;
 use std::test::Fail;
-use target::{Served, Stop};
+use node_parts::{Served, Stop};
 use test_kit::{PlainNode, Random, bank, program};
 
 /// The codes of commands that are used.

@@ -1,7 +1,7 @@
 //! Stagings.
 
 use crate::tests::same;
-use publish::Staging;
+use node_programs::Staging;
 use std::test::*;
 
 #[test]

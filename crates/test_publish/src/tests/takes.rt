@@ -2,11 +2,12 @@
 
 ghost use Rattle.std.specs.Prelude.{◌≡◌, ◌<◌, IfSome, Some};
 ghost use mathlib.Core.List.{IsPrefix};
-ghost use Rattle.publish.specs.Published.{generation_at};
+ghost use Rattle.node_programs.specs.Published.{generation_at};
 
 use crate::tests::{program, same};
 use bver::MapSizes;
-use publish::{Opened, ProgramFamily, Programs, PublishFault, Reader};
+use node_programs::PublishFault;
+use publish::{Opened, ProgramFamily, Programs, Reader};
 use std::alloc::Global;
 use std::marker::Brand;
 use std::mem;

@@ -12,7 +12,7 @@ use std::marker::Brand;
 use std::process::Abort;
 use std::sync::Wait;
 use std::test::Fail;
-use target::Served;
+use node_parts::Served;
 use test_kit::{
     LOAD, PLAIN_READ, PLAIN_WRITE, PlainNode, STAGE, SpareBank, bank, image_of_text, packet,
 };

@@ -9,14 +9,16 @@ use bank::{Bank, BankFault, Journal};
 use brun::Counters;
 use cells::{CellSeat, Cells};
 use ports::{NoGate, Port, Replies};
-use publish::{Opened, ProgramFamily, Programs, STAGING_BYTES, Staging};
+use node_programs::{STAGING_BYTES, Staging};
+use publish::{Opened, ProgramFamily, Programs};
 use spw::read_line;
 use std::alloc::Global;
 use std::marker::Brand;
 use std::process::Abort;
 use std::sync::Wait;
 use std::test::Fail;
-use target::{BankConfig, Node, NodeConfig, NodeFault, Pass};
+use node_parts::{BankConfig, NodeConfig, NodeFault};
+use target::{Node, Pass};
 use test_kit::{BASE, PLAIN_READ, bank, counts, sizes};
 use test_kit_ports::{accepted, served_at, text_of};
 

@@ -10,7 +10,7 @@ use spw::Packet;
 use std::alloc::Global;
 use std::process::Abort;
 use std::test::Fail;
-use target::{NodeConfig, NodeFault, Served};
+use node_parts::{NodeConfig, NodeFault, Served};
 use test_kit::{BASE, LOAD, PLAIN_READ, PLAIN_REPLY, PLAIN_WRITE, STAGE, bank, packet};
 use test_kit_ports::accepted;
 

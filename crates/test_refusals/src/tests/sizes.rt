@@ -6,13 +6,15 @@ use bpf_insn::Insn;
 use bver::{Accepted, Op, Region};
 use cells::CellSeat;
 use ports::Item;
-use publish::{Reader, STAGING_BYTES, Staging};
+use node_programs::{STAGING_BYTES, Staging};
+use publish::Reader;
 use rmap::ReplyBuf;
 use spw::Packet;
 use std::marker::Brand;
 use std::mem::size_of;
 use std::test::Fail;
-use target::{Pass, RunContext};
+use node_parts::RunContext;
+use target::Pass;
 
 /// The parts, each with its bytes.
 const SIZES: &str = "\
@@ -44,7 +46,7 @@ fn parts_take_so_many_bytes(rt: HostRuntime) -> Result<(), Fail> {
         ("a bank", size_of::<Bank>()),
         ("a share of a bank", size_of::<Share>()),
         ("a pass", size_of::<Pass<Brand>>()),
-        ("its context", size_of::<RunContext>()),
+        ("its context", size_of::<RunContext<CellSeat>>()),
         ("its seat at the counters", size_of::<CellSeat>()),
         ("its reader of programs", size_of::<Reader<Brand>>()),
         ("its staging", size_of::<Staging>()),

@@ -9,7 +9,7 @@ use spw::Packet;
 use std::alloc::{AllocError, Global};
 use std::process::Abort;
 use std::test::Fail;
-use target::{BankConfig, NodeConfig};
+use node_parts::{BankConfig, NodeConfig};
 use test_kit::{BASE, LOAD, PLAIN_READ, PLAIN_WRITE, STAGE, bank, image_of_text, packet, sizes};
 
 /// Reads a cell, draws a ticket of it, raises a cell of the other map to that, and says yes.

@@ -8,7 +8,7 @@ use sched::{Event, Outcome, World, step};
 use std::alloc::Global;
 use std::process::Abort;
 use std::test::Fail;
-use target::{BankConfig, NodeConfig};
+use node_parts::{BankConfig, NodeConfig};
 use test_kit::{BASE, image_of_text, sizes};
 
 /// How many kinds of events there are, with the two ports: the kind of number k at port p has the number 2 k + p.

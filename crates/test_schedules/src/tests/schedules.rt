@@ -6,7 +6,7 @@ use sched::{Event, Outcome, Reply, World, run_schedule};
 use std::alloc::Global;
 use std::process::Abort;
 use std::test::Fail;
-use target::NodeConfig;
+use node_parts::NodeConfig;
 use test_kit::{Row, bank, image_of_text, sizes};
 
 /// A row has a name, the maps, how many ports there are, the room of the bank's journal, the factory

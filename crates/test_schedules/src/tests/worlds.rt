@@ -6,7 +6,7 @@ use sched::{World, run_schedule};
 use std::alloc::Global;
 use std::process::Abort;
 use std::test::Fail;
-use target::{BankConfig, NodeConfig};
+use node_parts::{BankConfig, NodeConfig};
 use test_kit::{BASE, Row, image_of_text, sizes, word};
 
 /// A row begins as those of schedules do, up to the events. It ends with what the world then has: the first bytes of its

@@ -1,6 +1,6 @@
 use Rattle.std.proofs.Common.{◌≡◌, ◌∙◌, ℕ, List, ap, length, map, subst, sym}
 use Rattle.std.specs.Prelude.{vec_items, vec_len, zip}
-use Rattle.target.specs.declared.config.BankConfig.{BankConfig}
+use Rattle.node_parts.specs.declared.config.BankConfig.{BankConfig}
 use Rattle.ports.specs.Serves.{AreServed}
 use Rattle.job_ports.specs.Queues.{IsDesk, new_worker}
 use Rattle.job_ports.proofs.Desking.{desk_count, desk_served, own_passes}

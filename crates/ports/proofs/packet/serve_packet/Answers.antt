@@ -1,6 +1,6 @@
 use Rattle.std.proofs.Common.{rules, arith, length, sym, ap, ◌∙◌}
 use Rattle.rmap.specs.declared.places.Place.TheVariants.{Bank}
-use Rattle.target.specs.Passes.{PassValue}
+use Rattle.node_parts.specs.Passes.{PassValue}
 use Rattle.ports.proofs.Dealing.{answered, unread, banked, staged, loaded, below}
 use Rattle.ports.proofs.packet.serve_packet.Goals as goal
 

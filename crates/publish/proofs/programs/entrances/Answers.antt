@@ -1,6 +1,6 @@
 use Rattle.std.proofs.Common.{List, refl, sym, subst}
 use mathlib.Core.List.{IsPrefix}
-use Rattle.publish.specs.declared.history.Publish.{Publish}
+use Rattle.node_programs.specs.declared.publishes.Publish.{Publish}
 use Rattle.publish.proofs.Families.{admits}
 use Rattle.publish.proofs.programs.entrances.Goals as goal
 

@@ -4,7 +4,7 @@ use Rattle.std.specs.List.{range_with_len}
 use Rattle.std.proofs.lemmas.List.{get_or_read, get_or-set_other}
 use Rattle.std.proofs.lemmas.List.FromFn.{map-range_with_len_more}
 use Rattle.bank.specs.Records.{ShareValue, first_share}
-use Rattle.target.specs.Nodes.{ArePortShares}
+use Rattle.node_parts.specs.Nodes.{ArePortShares}
 use Rattle.sched.specs.Worlds.{PortValue, first_port}
 use Rattle.sched.proofs.world.free_ports.Goals as goal
 

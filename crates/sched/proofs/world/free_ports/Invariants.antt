@@ -1,7 +1,7 @@
 use Rattle.std.proofs.Common.{◌≡◌, ◌≤◌, ℕ, [], length, get_or}
 use Rattle.std.specs.Prelude.{map}
 use Rattle.std.specs.List.{range_with_len}
-use Rattle.target.specs.Nodes.{ArePortShares}
+use Rattle.node_parts.specs.Nodes.{ArePortShares}
 use Rattle.sched.specs.Worlds.{first_port}
 use Rattle.sched.proofs.world.free_ports.Given as goal
 

@@ -2,7 +2,7 @@ use Rattle.std.proofs.Common.{◌≡◌, ◌∙◌, arith, length, rules, sym}
 use Rattle.std.specs.Prelude.{replicate}
 use Rattle.std.proofs.lemmas.List.FromFn.{map-range_with_len_more}
 use Rattle.bank.specs.Records.{first_share}
-use Rattle.target.specs.Nodes.{first_pass}
+use Rattle.node_parts.specs.Nodes.{first_pass}
 use Rattle.single_node.proofs.Making.{last_of, later, taken}
 use Rattle.single_node.proofs.node.first_ports.Goals as goal
 

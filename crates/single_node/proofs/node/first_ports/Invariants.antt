@@ -5,7 +5,7 @@ use base.Stored.{Gv}
 use Rattle.bver.specs.Justified.{AcceptedValue}
 use Rattle.bank.specs.Records.{first_share}
 use Rattle.cells.specs.Seats.{seat}
-use Rattle.target.specs.Nodes.{first_pass, first_programs}
+use Rattle.node_parts.specs.Nodes.{first_pass, first_programs}
 use Rattle.single_node.proofs.node.first_ports.Given as goal
 
 abbrev pub invariant-loop-port : goal.invariant-loop-port

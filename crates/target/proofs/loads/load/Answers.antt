@@ -1,33 +1,12 @@
-use Rattle.std.proofs.Common.{◌≡◌, rules, subst, None, []}
-use Rattle.rmap.specs.Command.{command_of}
-use Rattle.rmap.specs.Reply.{reply_of}
-use Rattle.bank.specs.Answer.{judged_line}
-use Rattle.target.specs.Passes.{PassValue, pass_of}
-use Rattle.target.specs.Loaded.{IsLoadEnd, control_in}
-use Rattle.target.proofs.Loadings.{ends_loaded, ends_refused}
+use Rattle.std.proofs.Common.{subst, rules}
+use Rattle.node_parts.specs.Loaded.{IsLoadEnd}
+use Rattle.node_parts.specs.Passes.{PassValue, pass_of}
+use Rattle.target.proofs.Loadings.{kept_by_load}
 use Rattle.target.proofs.loads.load.Goals as goal
-use Rattle.target.proofs.loads.load.Goals.{in-Ok, in-Err}
 
 pub returns : goal.returns
 returns g c =
     let b = c.pass.inside.context in
-    let known = c.pass.inside.reader.programs in
-    let seen = c.publish_staged.new.reader.programs in
     let shares = c.pass.inside.shares.items in
-    let staging = c.pass.inside.staging in
-    let left = c.set_load_result.new.self in
-    let old = c.args.publisher.now in
-    let new = c.publish_staged.new.publisher in
-    let judged = c.args.judged in
-    let status = c.match-publish_staged.status.0 in
-    let bytes = c.end-2.new.reply in
-    let loaded = c.match-publish_staged.status.1 in
-    let control = c.read_control-control.result in
-    let none : judged_line (command_of judged.packet) judged.verdict ≡ None = search rules in
-    let asks : control ≡ control_in judged = search rules in
-    let reply : bytes ≡ reply_of (command_of judged.packet) status [] = search rules in
-    let ended : IsLoadEnd (pass_of b known shares staging) (pass_of b seen shares left) old new judged status bytes = elim c.match-publish_staged.branch [
-      | in-Ok w ↦ ends_loaded b known seen shares staging left old new judged status bytes loaded control w.in-Ok.generation none asks (search rules) (search rules) (search rules) (search rules) reply
-      | in-Err w ↦ ends_refused b known seen shares staging left old new judged status bytes loaded control w.in-Err.refusal none asks (search rules) (search rules) (search rules) (search rules) (search rules) (search rules) reply
-    ] in
-    subst (λ (h : PassValue). IsLoadEnd h (pass_of b seen shares left) old new judged status bytes) c.pass.view_is ended
+    let after = pass_of b c.load.new.reader.programs shares c.load.new.staging in
+    subst (λ (h : PassValue). IsLoadEnd h after c.args.publisher.now c.load.new.store c.args.judged c.load.result c.load.new.reply) c.pass.view_is (c.load.ensures b shares)

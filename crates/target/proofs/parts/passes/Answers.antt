@@ -3,12 +3,12 @@ use Rattle.std.proofs.lemmas.List.FromFn.{map-range_with_len_more}
 use Rattle.std.specs.Prelude.{replicate}
 use Rattle.std.proofs.lemmas.List.{length-replicate, length-map, get_or_read, get_or-set_other, replicate_more}
 use Rattle.cells.specs.Seats.{CellSeatValue}
-use Rattle.publish.specs.Published.{sizes_of}
+use Rattle.node_programs.specs.Published.{sizes_of}
 use Rattle.publish.specs.Reached.{Known}
 use Rattle.target.proofs.Askings.{same_before, same_last}
 use Rattle.bank.specs.Records.{ShareValue, first_share}
-use Rattle.target.specs.Passes.{RunContextValue}
-use Rattle.target.specs.Nodes.{range_of, first_pass}
+use Rattle.node_parts.specs.Passes.{RunContextValue}
+use Rattle.node_parts.specs.Nodes.{range_of, first_pass}
 use Rattle.target.proofs.parts.passes.Goals as goal
 
 -- the shares that are taken are those of the port

@@ -2,7 +2,8 @@ use Rattle.std.proofs.Common.{◌≡◌, ◌<◌, ◌≤◌, ◌-◌, ℕ, [], l
 use Rattle.std.specs.Prelude.{map, replicate}
 use Rattle.std.specs.List.{range_with_len}
 use Rattle.bver.specs.Justified.{AcceptedValue}
-use Rattle.target.specs.Nodes.{AreFirst, first_pass}
+use Rattle.node_parts.specs.Nodes.{first_pass}
+use Rattle.target.specs.Nodes.{AreFirst}
 use base.Stored.{Gv}
 use Rattle.bank.specs.Records.{first_share}
 use Rattle.target.proofs.parts.passes.Given as goal

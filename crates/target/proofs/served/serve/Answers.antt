@@ -1,8 +1,8 @@
 use Rattle.std.proofs.Common.{◌≡◌, length, sym, ap, ◌∙◌, arith}
 use Rattle.rmap.specs.Command.{command_of}
-use Rattle.target.specs.Passes.{PassValue}
-use Rattle.target.proofs.Places.{judged_bank}
-use Rattle.target.proofs.Services.{kept_at_load}
+use Rattle.node_parts.specs.Passes.{PassValue}
+use Rattle.node_parts.proofs.Places.{judged_bank}
+use Rattle.target.proofs.Keeping.{kept_at_load}
 use Rattle.target.proofs.served.serve.Goals as goal
 
 pub bank_mut-requires : goal.bank_mut-requires

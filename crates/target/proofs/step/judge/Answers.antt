@@ -1,6 +1,7 @@
 use Rattle.std.proofs.Common.{rules, subst}
-use Rattle.target.specs.Passes.{PassValue, pass_of}
-use Rattle.target.specs.Steps.{IsAdmission, IsJudgedByTaken, IsJudgement}
+use Rattle.node_parts.specs.Passes.{PassValue, pass_of}
+use Rattle.node_parts.specs.Steps.{IsAdmission, IsJudgement}
+use Rattle.target.specs.Steps.{IsJudgedByTaken}
 use Rattle.target.proofs.Judgements.{judgement_of}
 use Rattle.target.proofs.step.judge.Goals as goal
 

@@ -5,11 +5,11 @@ use base.Stored.{Gv}
 use Rattle.bank.specs.Records.{BankValue}
 use Rattle.bver.specs.Justified.{AcceptedValue}
 use Rattle.machine.specs.Sizes.{Maps}
-use Rattle.publish.specs.declared.history.Publish.{Publish}
-use Rattle.target.specs.Nodes.{bank_of, fresh_banks}
-use Rattle.target.specs.Nodes as nodes
-use Rattle.target.specs.Passes.{PassValue}
-use Rattle.target.specs.declared.config.NodeConfig.{NodeConfig}
+use Rattle.node_programs.specs.declared.publishes.Publish.{Publish}
+use Rattle.node_parts.specs.Nodes.{bank_of, fresh_banks}
+use Rattle.node_parts.specs.Nodes as nodes
+use Rattle.node_parts.specs.Passes.{PassValue}
+use Rattle.node_parts.specs.declared.config.NodeConfig.{NodeConfig}
 use Rattle.single_node.specs.Nodes.{SingleNodeValue}
 use Rattle.job_nodes.specs.JobNode.{IsConfig, first_passes, job_node, own_bank, rooms_of}
 use Rattle.job_nodes.proofs.node.JobNode.new.Goals as goal

@@ -1,6 +1,6 @@
 use Rattle.std.proofs.Common.{length, refl, ap, subst, ◌∙◌}
 use Rattle.machine.specs.Sizes.{Maps}
-use Rattle.target.specs.contracts.banks.Banks.{the_view}
+use Rattle.node_parts.specs.contracts.banks.Banks.{the_view}
 use Rattle.bver.specs.Justified.{IsJustified}
 use Rattle.sched.specs.Worlds.{WorldValue, shown_in_all}
 use Rattle.sched.proofs.Making.{IsMade, made_of, made_world}

@@ -1,7 +1,7 @@
 use Rattle.std.proofs.Common.{ap, subst, arith, ◌∙◌, length, ◌<◌}
 use Rattle.std.specs.Arc.{arc_value}
 use Rattle.rmap.specs.Command.{command_kind}
-use Rattle.target.specs.Slots.{slot_of}
+use Rattle.node_parts.specs.Slots.{slot_of}
 use Rattle.sched.specs.Begins.{HasBegun}
 use Rattle.sched.specs.contracts.world.World.{the_view}
 use Rattle.sched.specs.contracts.shown.Shown.{the_view as shown_view}

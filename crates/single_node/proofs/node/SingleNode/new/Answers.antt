@@ -2,8 +2,8 @@ use Rattle.std.proofs.Common.{◌≡◌, ◌∙◌, [], ap, subst, sym}
 use Rattle.std.specs.Prelude.{replicate}
 use Rattle.cells.specs.Seats.{CellsValue, seat}
 use Rattle.machine.specs.Sizes.{Maps}
-use Rattle.publish.specs.Published.{sizes_of}
-use Rattle.target.specs.Nodes.{first_passes}
+use Rattle.node_programs.specs.Published.{sizes_of}
+use Rattle.node_parts.specs.Nodes.{first_passes}
 use Rattle.single_node.specs.Nodes.{IsSingleNode, single_node}
 use Rattle.single_node.proofs.Nodes.{fresh_node}
 use Rattle.single_node.proofs.node.SingleNode.new.Goals as goal

@@ -2,11 +2,11 @@ use Rattle.std.proofs.Common.{◌≡◌, List, Some, ap₂, rules, subst, sym, �
 use mathlib.Core.List.{IsPrefix}
 use Rattle.rmap.specs.Command.{command_kind, command_of}
 use Rattle.bver.specs.Justified.{AcceptedValue, IsJustified}
-use Rattle.publish.specs.declared.history.Publish.{Publish}
-use Rattle.publish.specs.Published.{judging_program}
-use Rattle.target.specs.Passes.{PassValue, pass_of}
-use Rattle.target.specs.Slots.{slot_of}
-use Rattle.target.specs.Steps.{IsAdmission}
+use Rattle.node_programs.specs.declared.publishes.Publish.{Publish}
+use Rattle.node_programs.specs.Published.{judging_program}
+use Rattle.node_parts.specs.Passes.{PassValue, pass_of}
+use Rattle.node_parts.specs.Slots.{slot_of}
+use Rattle.node_parts.specs.Steps.{IsAdmission}
 use Rattle.single_node.specs.Judging.{IsLastJudgement}
 use Rattle.single_node.proofs.Judging.{last_judgement}
 use Rattle.single_node.proofs.port.SinglePort.judge.Goals as goal

@@ -1,6 +1,6 @@
 use Rattle.std.proofs.Common.{◌≡◌, ◌<◌, ◌+◌, ◌∙◌, ap, arith, refl, sym}
 use Rattle.std.specs.Arc.{arc_value}
-use Rattle.publish.specs.Published.{sizes_of}
+use Rattle.node_programs.specs.Published.{sizes_of}
 use Rattle.single_node.proofs.Slots.{longer_slots}
 use Rattle.single_node.proofs.programs.SlotPrograms.put.Goals as goal
 

@@ -33,7 +33,7 @@ use Rattle.single_node.proofs.publishing.Published.longer.Code as code
 use Rattle.single_node.specs.contracts.publishing.Published as list
 use Rattle.single_node.specs.contracts.publishing.Publishing as next
 use Rattle.std.specs.Arc.{arc_value}
-use Rattle.publish.specs.Histories.{longer_history}
+use Rattle.node_programs.specs.Histories.{longer_history}
 
 abbrev stayed : Stays (f.ended).signature.params (f.ended).kept
 stayed = (stay_none_ref (0 ∷ []) tt (plain (λ _. list.the_row)) yes, (stay_none_ref (1 ∷ []) tt (plain (λ _. next.the_row)) yes, tt))

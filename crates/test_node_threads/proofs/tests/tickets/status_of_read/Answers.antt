@@ -1,5 +1,5 @@
 use Rattle.std.proofs.Common.{ap, arith}
-use Rattle.target.specs.Passes.{PassValue}
+use Rattle.node_parts.specs.Passes.{PassValue}
 use Rattle.test_node_threads.specs.Seats.{maps_of}
 use Rattle.test_node_threads.proofs.Passing.{seat_of_run, seat_of_end}
 use Rattle.test_node_threads.proofs.tests.tickets.status_of_read.Goals as goal

@@ -1,0 +1,10 @@
+pub mod Codes
+pub mod Places
+pub mod Makings
+pub mod Pairings
+pub mod Services
+pub mod Askings
+pub mod Refusals
+pub mod Loadings
+pub mod Takings
+pub mod Reasons

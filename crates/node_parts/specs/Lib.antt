@@ -1,0 +1,15 @@
+pub mod Codes
+pub mod Passes
+pub mod Slots
+pub mod Steps
+pub mod Nodes
+pub mod Applied
+pub mod Stagings
+pub mod Loads
+pub mod Outcomes
+pub mod Loaded
+pub mod Loans
+pub mod Served
+pub mod Pairs
+pub mod Keeping
+pub mod Laws

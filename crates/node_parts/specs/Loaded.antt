@@ -1,0 +1,70 @@
+-- How a judged control write ends.
+use Rattle.std.specs.Prelude.{◌≡◌, ◌⊎◌, ℕ, List, [], length, Option, Some, None}
+use mathlib.Core.List.{IsPrefix}
+use Rattle.rmap.specs.declared.status.Status.{Status}
+use Rattle.rmap.specs.declared.status.Status.TheVariants.{Success, GeneralError}
+use Rattle.rmap.specs.Command.{command_of}
+use Rattle.rmap.specs.Reply.{reply_of}
+use Rattle.bank.specs.Answer.{judged_line}
+use Rattle.bank.specs.Records.{JudgedValue}
+use Rattle.bver.specs.Justified.{AcceptedValue}
+use Rattle.node_programs.specs.Histories.{longer_history}
+use Rattle.node_programs.specs.Published.{sizes_of}
+use Rattle.node_programs.specs.declared.publishes.Publish.{Publish}
+use Rattle.node_programs.specs.Staged.{staged}
+use Rattle.node_parts.specs.declared.control.ControlData.{ControlData}
+use Rattle.node_parts.specs.declared.refusal.LoadRefusal.{LoadRefusal}
+use Rattle.node_parts.specs.Passes.{PassValue}
+use Rattle.node_parts.specs.Loads.{control_of, published_result, refused_result}
+use Rattle.node_parts.specs.Outcomes.{IsLoad, IsLoadRefusal, Published}
+
+-- what a control write asks for
+abbrev pub control_in : JudgedValue → ControlData
+control_in j = control_of (command_of j.packet).body
+
+-- the staged program was published for the slot that the control data ask, with that generation, and the
+-- reader, which keeps what it knew, knows all that was published, and nothing else
+pub record IsPublished (control : ControlData) (staged : List ℕ) (old new known seen : List Publish)
+    (generation : ℕ) : Type 0 where
+  pub slot : ℕ
+  pub program : AcceptedValue
+  pub load : IsLoad control staged (sizes_of old) (length old) (Published slot program)
+  pub extends : new ≡ longer_history old slot program
+  pub place : generation ≡ length old
+  pub told : IsPrefix new seen
+  pub keeps : IsPrefix known seen
+  pub learnt : seen ≡ new
+
+-- a port that has learnt so much, with that load result
+abbrev pub after_load : PassValue → (seen : List Publish) → (load_result : List ℕ) → PassValue
+after_load h seen load_result = record h { programs = seen; staging = staged h.staging.bytes load_result }
+
+-- the staged program was published, and the load result has its generation
+pub record HasLoaded (holder after : PassValue) (old new : List Publish) (j : JudgedValue)
+    (result : Status) : Type 0 where
+  pub generation : ℕ
+  pub published : IsPublished (control_in j) holder.staging.bytes old new holder.programs after.programs generation
+  pub status : result ≡ Success
+  pub holder_after : after ≡ after_load holder after.programs (published_result generation)
+
+-- the load was refused, which the load result tells, and nothing else changed
+pub record HasRefused (holder after : PassValue) (old new : List Publish) (j : JudgedValue)
+    (result : Status) : Type 0 where
+  pub refusal : LoadRefusal
+  pub refused : IsLoadRefusal (control_in j) holder.staging.bytes (sizes_of old) (length old) refusal
+  pub status : result ≡ GeneralError
+  pub same : new ≡ old
+  pub holder_after : after ≡ after_load holder holder.programs (refused_result refusal)
+
+-- how a judged control write ends, by what stops it: where nothing does, the load decides
+abbrev pub EndsAs : Option Status → (holder after : PassValue) → (old new : List Publish) → JudgedValue → Status
+    → Type 0
+EndsAs (Some status) holder after old new j result = (result ≡ status) × (after ≡ holder) × (new ≡ old)
+EndsAs None holder after old new j result =
+    HasLoaded holder after old new j result ⊎ HasRefused holder after old new j result
+
+-- how a judged control write ends: first the verdict decides, then the body, then the load
+pub record IsLoadEnd (holder after : PassValue) (old new : List Publish) (j : JudgedValue) (result : Status)
+    (bytes : List ℕ) : Type 0 where
+  pub ended : EndsAs (judged_line (command_of j.packet) j.verdict) holder after old new j result
+  pub reply : bytes ≡ reply_of (command_of j.packet) result []

@@ -1,0 +1,68 @@
+//! Laws about banks and ports, about staging, and about loads. Each function does no work: its contract is the law.
+
+ghost use Rattle.std.specs.Prelude.{◌≡◌};
+ghost use Rattle.node_parts.specs.Pairs.{MadeArePaired, PairedCommandsFit, OwnStaysPaired, OthersStayPaired};
+ghost use Rattle.node_parts.specs.Keeping.{AnsweredAreServed, AppliedSharesAgree, LeavesAllPaired, LeavesOthersPaired, LeavesOwnPaired, PairedAreAnswered};
+ghost use Rattle.node_parts.specs.Laws.{LoadsAreTaken, RefusalsTellWhy};
+
+use bank::extents_stay;
+use bver_form::first_faults;
+use node_programs::{STAGING_BYTES, published_programs};
+use rmap::STAGING_SIZE;
+
+/// A law and no work: the banks and the passes of all ports are paired as they are made.
+pub fn made_are_paired()
+    ensures { MadeArePaired }
+{}
+
+/// A law and no work: where banks and a port are paired, a command that was judged for the port fits
+/// the bank of its place, so that it is applied.
+pub fn paired_commands_fit()
+    ensures { PairedCommandsFit }
+{}
+
+/// A law and no work: a command that is applied with the share of its port leaves banks and ports
+/// paired, its own and every other.
+pub fn pairs_stay()
+    ensures own { OwnStaysPaired }
+    ensures others { OthersStayPaired }
+{
+    extents_stay();
+}
+
+/// A law and no work: what a packet that was served leaves of banks and ports. Where they are paired no command is
+/// refused, and they stay so, and all other ports.
+pub fn packets_keep_pairs()
+    ensures answered { PairedAreAnswered }
+    ensures served { AnsweredAreServed }
+    ensures own { LeavesOwnPaired }
+    ensures others { LeavesOthersPaired }
+    ensures all { LeavesAllPaired }
+{
+    extents_stay();
+}
+
+/// A law and no work: where a command is applied, share and count agree before, and so they do afterwards.
+pub fn shares_agree()
+    ensures { AppliedSharesAgree }
+{}
+
+/// A law and no work: a port stages as many bytes as the boot window has addresses for.
+pub fn staging_fills_its_window()
+    ensures { STAGING_BYTES ≡ STAGING_SIZE }
+{}
+
+/// A law and no work: behind a port's own load, a command that the loaded slot judges is judged by the loaded
+/// program or a later one.
+pub fn loads_are_taken()
+    ensures { LoadsAreTaken }
+{
+    published_programs();
+}
+
+/// A law and no work: what the refusal of a load says, by its code and its slot.
+pub fn refusals_tell_why()
+    ensures { RefusalsTellWhy }
+{
+    first_faults();
+}

@@ -1,0 +1,14 @@
+//! What was published.
+
+use bver::Accepted;
+
+/// The greatest slot of the four.
+pub const LAST_SLOT: u8 = 3;
+
+/// A program, and the slot for which it was published. No value of it is made.
+pub struct Publish {
+    /// The slot.
+    pub slot: u8,
+    /// The program.
+    pub program: Accepted,
+}

@@ -1,6 +1,0 @@
-use Rattle.std.proofs.Common.{ℕ, List, ap, replicate}
-use Rattle.publish.specs.Staged.{staged}
-use Rattle.publish.proofs.staging.Staging.new.Goals as goal
-
-pub returns : goal.returns
-returns c = ap (λ (bytes : List ℕ). staged bytes (replicate 8 0)) c.in_ok-zeros.ensures

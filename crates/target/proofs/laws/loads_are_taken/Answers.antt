@@ -1,5 +1,0 @@
-use Rattle.target.proofs.Takings.{loads_are_taken}
-use Rattle.target.proofs.laws.loads_are_taken.Goals as goal
-
-pub returns : goal.returns
-returns c = loads_are_taken c.published_programs.ensures.later

@@ -1,5 +1,0 @@
-use Rattle.target.proofs.Pairings.{made_are_paired}
-use Rattle.target.proofs.laws.made_are_paired.Goals as goal
-
-pub returns : goal.returns
-returns c = made_are_paired

@@ -1,5 +1,0 @@
-use Rattle.target.proofs.Reasons.{refusals_tell_why}
-use Rattle.target.proofs.laws.refusals_tell_why.Goals as goal
-
-pub returns : goal.returns
-returns c = refusals_tell_why c.first_faults.ensures.known
