@@ -2,8 +2,8 @@
 use Rattle.std.proofs.Common.{◌≡◌, ◌+◌, ◌*◌, ◌++◌, ◌∷◌, ℕ, List, [], refl, ap, ◌∙◌, append_assoc, arith}
 use Rattle.rmap.specs.Instruction.{packet_type, command_code, reply_address_length}
 use Rattle.std.specs.Prelude.{decimal}
-use Rattle.rmap.specs.Writing.{command_with}
-use Rattle.rmap.specs.declared.write.CommandFields.{CommandFields}
+use Rattle.initiator.specs.Writing.{command_with}
+use Rattle.initiator.specs.declared.write.CommandFields.{CommandFields}
 use Rattle.hex.specs.Hex.{encode_upper}
 use Rattle.rmap.specs.Command.{bytes_of}
 use Rattle.job_packets.specs.Requests.{fields_with, instruction_with, line_of, marked_line}

@@ -3,8 +3,8 @@ use Rattle.std.specs.Prelude.{◌+◌, ◌*◌, ◌/◌, ◌%◌, ◌==◌, ◌&
 use Rattle.spw.specs.Written.{packet_line}
 use Rattle.spw.specs.declared.packets.End.TheVariants.{Eop}
 use Rattle.rmap.specs.Command.{bytes_of}
-use Rattle.rmap.specs.Writing.{command_with}
-use Rattle.rmap.specs.declared.write.CommandFields.{CommandFields}
+use Rattle.initiator.specs.Writing.{command_with}
+use Rattle.initiator.specs.declared.write.CommandFields.{CommandFields}
 use Rattle.job_packets.specs.declared.packet_options.HeaderWords.{HeaderWords}
 use Rattle.job_packets.specs.declared.requests.Request.{Request}
 

@@ -8,7 +8,8 @@ ghost use Rattle.job_packets.specs.Requests.{has_reply_address};
 use crate::packet_options::HeaderWords;
 use crate::requests::{Request, add_line};
 use byteorder::{BigEndian, ByteOrder};
-use rmap::{BOOT_WINDOW, CONTROL_SIZE, LOAD_REGISTER, LOAD_RESULT_SIZE, MAX_DATA, body_with_crc};
+use initiator::body_with_crc;
+use rmap::{BOOT_WINDOW, CONTROL_SIZE, LOAD_REGISTER, LOAD_RESULT_SIZE, MAX_DATA};
 use std::alloc::{AllocError, Global};
 
 /// The command code of a write with reply and increment.

@@ -1,11 +1,12 @@
 //! The commands that are requested of the job `packet`, each as its packet line.
 
 ghost use Rattle.std.specs.Prelude.{◌≡◌, ◌≤◌, ◌<◌, ◌^◌, ◌++◌, IfOk, IsTrue, OnOk, length, string_bytes, true};
-ghost use Rattle.rmap.specs.Writing.{AreFields, command_with};
+ghost use Rattle.initiator.specs.Writing.{AreFields, command_with};
 ghost use Rattle.job_packets.specs.Requests.{fields_with, has_reply_address, line_of, marked_line};
 
 use crate::packet_options::HeaderWords;
-use rmap::{CommandFields, Instruction, write_command};
+use initiator::{CommandFields, write_command};
+use rmap::Instruction;
 use std::alloc::{AllocError, Global};
 
 /// A command: its code, and the fields that differ from packet to packet.

@@ -1,7 +1,8 @@
 //! Packet lines in words.
 
+use initiator::{NoReply, Reply};
 use rcrc::crc;
-use rmap::{Command, Discard, Instruction, Kind, NoReply, PROTOCOL, Reply, Status};
+use rmap::{Command, Discard, Instruction, Kind, PROTOCOL, Status};
 use spw::{End, LineFault, Packet, read_line, read_port, words_of};
 use std::alloc::{AllocError, Global};
 

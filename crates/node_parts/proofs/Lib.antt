@@ -1,5 +1,4 @@
 pub mod Codes
-pub mod Places
 pub mod Makings
 pub mod Pairings
 pub mod Services

@@ -1,5 +1,5 @@
 -- Banks and ports that were made together stay paired.
-use Rattle.std.proofs.Common.{◌≡◌, ◌≢◌, ℕ, ◌+◌, ◌<◌, List, [], ◌∷◌, Bool, true, false, cond, eqb, ltb, ◌&&◌, length, get_or, set, Option, None, Some, refl, sym, ap, ◌∙◌, arith, inl, inr, subst}
+use Rattle.std.proofs.Common.{◌≡◌, ◌≢◌, ℕ, ◌+◌, ◌<◌, List, [], ◌∷◌, Bool, true, false, eqb, ltb, ◌&&◌, length, get_or, set, Option, None, Some, refl, sym, ap, ◌∙◌, arith, inl, inr, subst}
 use Rattle.std.specs.Prelude.{map, replicate, slice_get, if◌then◌else◌, option_map}
 use Rattle.std.proofs.lemmas.Option.{slice_get-map, slice_get_within, get_or_from_slice_get, slice_get-get_or}
 use Rattle.std.proofs.lemmas.List.{length-set, length-map, length-replicate, get_or-replicate, get_or-set_other}
@@ -11,8 +11,8 @@ use Rattle.std.proofs.lemmas.Bool.{cases_eq}
 use Rattle.std.proofs.lemmas.Bool.Decides.{nat_tests}
 use Rattle.rmap.specs.declared.places.Place.{Place}
 use Rattle.rmap.specs.declared.places.Place.TheVariants.{Bank}
-use Rattle.rmap.specs.Command.{CommandValue, command_of, extended_of}
-use Rattle.rmap.specs.Windows.{WindowsValue, bank_place, lies_inside}
+use Rattle.rmap.specs.Command.{command_of}
+use Rattle.rmap.specs.Windows.{lies_inside}
 use Rattle.bver.specs.Justified.{AcceptedValue}
 use Rattle.bank.specs.declared.bank.Applied.{Applied}
 use Rattle.bank.specs.Admission.{IsPlacedBy}
@@ -31,7 +31,6 @@ use Rattle.node_parts.specs.Steps.{IsBankBelow, IsJudgement}
 use Rattle.node_parts.specs.Applied.{share_of, with_share}
 use Rattle.node_parts.specs.Keeping.{AppliedSharesAgree}
 use Rattle.node_parts.specs.Pairs.{IsShareOf, IsPaired, MadeArePaired, PairedCommandsFit, OwnStaysPaired, OthersStayPaired}
-use Rattle.node_parts.proofs.Places.{is_in_bank, no_bank, same_bank}
 
 both : (a b : Bool) → (a && b) ≡ true → (a ≡ true) × (b ≡ true)
 both true b e = (refl, e)
@@ -163,23 +162,6 @@ pub others_stay_paired : ExtentsStay → OthersStayPaired
 others_stay_paired keeps banks h k share j b paired apart at =
     pair_set banks k b (after_command b share j) h at (keeps b share j) paired (other_share b share j h.port (share_of h (Bank k)) (paired.shares k b at) apart)
 
--- a bank whose number is the place of a command has a window that the command lies in
-record IsInWindow (w : WindowsValue) (c : CommandValue) (k : ℕ) : Type 0 where
-  pub range : ℕ × ℕ
-  pub window : slice_get w.banks k ≡ Some range
-  pub inside : lies_inside range.0 range.1 c ≡ true
-
-given : (b : Bool) (x place : Place) → cond b (Some x) None ≡ Some place → (b ≡ true) × (x ≡ place)
-given true x place e = (refl, cc)
-given false x place e = absurd cc
-
-in_window : (w : WindowsValue) (c : CommandValue) (k : ℕ) (found : Option (ℕ × ℕ)) → slice_get w.banks (extended_of c) ≡ found → bank_place found c ≡ Some (Bank k) → IsInWindow w c k
-in_window w c k None e h = let clash : true ≡ false = sym (ap is_in_bank h) ∙ no_bank c in absurd cc
-in_window w c k (Some range) e h =
-    let found = given (lies_inside range.0 range.1 c) (Bank (extended_of c)) (Bank k) h in
-    let same : extended_of c ≡ k = same_bank (extended_of c) k found.1 in
-    record { range = range; window = subst (λ n. slice_get w.banks n ≡ Some range) same e; inside = found.0 }
-
 some_same : {A : Type 0} (x y : A) → Some x ≡ Some y → x ≡ y
 some_same x y e = cc
 
@@ -191,7 +173,7 @@ pub paired_commands_fit : PairedCommandsFit
 paired_commands_fit banks h k j b paired port placed place at =
     let share = paired.shares k b at in
     let c = command_of j.packet in
-    let found = in_window h.windows c k (slice_get h.windows.banks (extended_of c)) refl (placed.lies ∙ ap (λ x. Some x) place) in
+    let found = placed.inside k place in
     let window : slice_get (map extent_of banks) k ≡ Some found.range = subst (λ l. slice_get l k ≡ Some found.range) paired.windows found.window in
     let same : found.range ≡ extent_of b = extent_at banks k b found.range at window in
     let inside : lies_inside b.first (length b.bytes) c ≡ true = subst (λ (r : ℕ × ℕ). lies_inside r.0 r.1 c ≡ true) same found.inside in

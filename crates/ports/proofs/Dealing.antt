@@ -5,7 +5,6 @@ use Rattle.rmap.specs.declared.discard.Discard.{Discard}
 use Rattle.rmap.specs.declared.places.Place.{Place}
 use Rattle.rmap.specs.declared.places.Place.TheVariants.{Bank, Control}
 use Rattle.rmap.specs.declared.status.Status.{Status}
-use Rattle.rmap.specs.Command.{command_of}
 use Rattle.bank.specs.Records.{JudgedValue, fits, has_room}
 use Rattle.node_parts.specs.Passes.{PassValue, IsPass}
 use Rattle.node_parts.specs.declared.stop.Stop.TheVariants as stops
@@ -15,7 +14,6 @@ use Rattle.node_parts.specs.Stagings.{IsStagingPlace}
 use Rattle.node_parts.specs.Served.{EndsAtWindow, IsStagedAt}
 use Rattle.ports.specs.Due.{Judging, IsBanked, IsWindowed, HasFinished, HasLoadEnd, HasDealt}
 use Rattle.ports.specs.Due.Deed.{Dropped, Answered, Judged}
-use Rattle.ports.proofs.Places.{judged_bank}
 
 pub stopped : (h after : PassValue) (p : Cargo) (d : Discard) (reply : List ℕ) → IsStopped (stops.Discarded d) p h.windows reply → after ≡ h → HasDealt p h after reply true
 stopped h after p d reply is same = record {
@@ -87,6 +85,6 @@ loaded h between after p j reply is at end =
 -- a bank that a judged command has as its place is one of the node's
 pub below : (h between : PassValue) (p : Cargo) (j : JudgedValue) (k banks : ℕ) → IsPass h → IsJudgement h between p j → j.place ≡ Bank k → length h.shares ≡ banks → k < banks
 below h between p j k banks pass is at count =
-    let inside = judged_bank h.windows (command_of p) j.place k is.judged_for.placed.lies at in
+    let inside : k < length h.windows.banks = (is.judged_for.placed.inside k at).below in
     let shares = pass.shares in
     omega (arith, inside, shares, count)

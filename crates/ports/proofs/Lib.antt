@@ -1,7 +1,6 @@
 mod Rules
 mod Joining
 mod Sending
-mod Places
 mod Keeping
 mod Following
 mod Serving

@@ -1,20 +1,19 @@
 -- Laws about the definitions.
-use Rattle.std.specs.Prelude.{◌≡◌, ◌≤◌, ◌<◌, ◌↔◌, ℕ, List, [], ◌++◌, length, All, None, true, false, bit_and}
+use Rattle.std.specs.Prelude.{◌≡◌, ◌≤◌, ◌<◌, ◌↔◌, ℕ, List, ◌++◌, length, take, All, None, false, bit_and}
+use Rattle.spw.specs.Cargo.{Cargo}
 use Rattle.spw.specs.declared.packets.End.{End}
+use Rattle.spw.specs.declared.packets.TheConstants.{MAX_PACKET}
 use Rattle.rmap.specs.declared.checks.TheConstants.{MAX_DATA}
 use Rattle.rmap.specs.declared.instruction.TheConstants.{READ_MASK, READ_BITS, WRITE_MASK, WRITE_BITS, RMW_MASK}
 use Rattle.rmap.specs.declared.instruction.TheConstants.{RMW_BITS, INCREMENT_BIT}
 use Rattle.rmap.specs.declared.kind.Kind.TheVariants.{Read, Write, Rmw}
 use Rattle.rmap.specs.declared.reply.TheConstants.{MAX_REPLY}
 use Rattle.rmap.specs.declared.status.Status.{Status}
-use Rattle.rmap.specs.Instruction.{carries_data, has_increment_bit, kind_of}
-use Rattle.rmap.specs.Command.{CommandValue, IsHeader, IsCommand, bytes_of, discard_of, front_fields, tail_fields}
-use Rattle.rmap.specs.Command.{wants_reply}
-use Rattle.rmap.specs.Checks.{body_line}
-use Rattle.rmap.specs.Reply.{reply_of, reply_path_of, with_crc}
-use Rattle.rmap.specs.ReplyReading.{Answers, IsReply, ReplyValue, behind_path, reply_to}
-use Rattle.rmap.specs.declared.write.CommandFields.{CommandFields}
-use Rattle.rmap.specs.Writing.{AreFields, Fit, HasFields, command_with}
+use Rattle.rmap.specs.Instruction.{has_increment_bit, kind_of}
+use Rattle.rmap.specs.Command.{CommandValue, IsHeader, IsCommand, discard_of, command_of, front_fields, tail_fields}
+use Rattle.rmap.specs.Windows.{WindowsValue}
+use Rattle.rmap.specs.Checks.{header_check, header_line, body_line}
+use Rattle.rmap.specs.Reply.{reply_of}
 
 -- a command that stands to the bytes and whose packet ended so
 pub record IsReadAs (bytes : List ℕ) (end : End) : Type 0 where
@@ -55,34 +54,26 @@ pub record MasksTellKinds : Type 0 where
   pub rmw : (byte : ℕ) → byte < 256 → (bit_and byte RMW_MASK ≡ RMW_BITS) ↔ (kind_of byte ≡ Rmw)
   pub increment : (byte : ℕ) → byte < 256 → (bit_and byte INCREMENT_BIT ≡ 0) ↔ (has_increment_bit byte ≡ false)
 
--- bytes are at most one reply
-abbrev pub ReplyIsUnique : Type 0
-ReplyIsUnique = (bytes : List ℕ) (r s : ReplyValue) → IsReply bytes r → IsReply bytes s → r ≡ s
+-- the parts of two headers are the same
+pub record HaveSameHeader (c d : CommandValue) : Type 0 where
+  pub front : c.front ≡ d.front
+  pub reply_address : c.reply_address ≡ d.reply_address
+  pub tail : c.tail ≡ d.tail
 
--- what is written behind the path of a reply that is wanted
-abbrev pub RepliesHavePaths : Type 0
-RepliesHavePaths =
-    (c : CommandValue) (status : Status) (bytes : List ℕ) → wants_reply c ≡ true
-    → reply_of c status bytes ≡ reply_path_of c.reply_address ++ behind_path c status bytes
+-- the first 4,200 bytes of a packet, with its end
+abbrev pub cut_to_longest : Cargo → Cargo
+cut_to_longest p = record { bytes = take MAX_PACKET p.bytes; end = p.end }
 
--- what is written behind the path of a reply is read as the reply with that status and those data, and with the
--- command's fields
-abbrev pub WrittenRepliesAreRead : Type 0
-WrittenRepliesAreRead =
-    (c : CommandValue) (status : Status) (bytes : List ℕ) → IsHeader c → All (λ b. b < 256) c.tail
-    → length bytes ≤ MAX_DATA
-    → IsReply (behind_path c status bytes) (reply_to c status bytes) × Answers c status bytes (reply_to c status bytes)
-
--- what is made of fields is a command with those fields
-abbrev pub MadeCommandsAreRead : Type 0
-MadeCommandsAreRead =
-    (f : CommandFields) (body : List ℕ) → AreFields f → Fit f
-    → IsCommand (bytes_of (command_with f body)) (command_with f body) × HasFields f body (command_with f body)
-
--- at a command that is made no check of the body holds: with as many data as its length says and their CRC, or with
--- no body where it carries none
-pub record MadeBodiesAreRight : Type 0 where
-  pub carried : (f : CommandFields) (bytes : List ℕ) → AreFields f → carries_data (kind_of f.instruction.0) ≡ true
-      → length bytes ≡ f.length → body_line (command_with f (with_crc bytes)) ≡ None
-  pub without : (f : CommandFields) → carries_data (kind_of f.instruction.0) ≡ false
-      → body_line (command_with f []) ≡ None
+-- of a packet with 4,200 bytes or more the first 4,200 are discarded for the same reason, have the same header, and are
+-- stopped by the same check of it; and where no check of the header stops them, the same check of the body does
+pub record LongPacketIsCut : Type 0 where
+  pub discarded : (p : Cargo) → MAX_PACKET ≤ length p.bytes
+      → discard_of (cut_to_longest p).bytes ≡ discard_of p.bytes
+  pub header : (p : Cargo) → MAX_PACKET ≤ length p.bytes
+      → HaveSameHeader (command_of (cut_to_longest p)) (command_of p)
+  pub checks : (p : Cargo) (w : WindowsValue) → MAX_PACKET ≤ length p.bytes
+      → header_check (command_of (cut_to_longest p)) w ≡ header_check (command_of p) w
+  pub line : (p : Cargo) (w : WindowsValue) → MAX_PACKET ≤ length p.bytes
+      → header_line (command_of (cut_to_longest p)) w ≡ header_line (command_of p) w
+  pub body : (p : Cargo) (w : WindowsValue) → MAX_PACKET ≤ length p.bytes → header_line (command_of p) w ≡ None
+      → body_line (command_of (cut_to_longest p)) ≡ body_line (command_of p)

@@ -2,9 +2,8 @@ pub mod Codes
 pub mod Verdict
 pub mod Instruction
 pub mod Command
+pub mod Flaws
 pub mod Windows
 pub mod Checks
 pub mod Reply
-pub mod ReplyReading
-pub mod Writing
 pub mod Laws

@@ -1,6 +1,6 @@
 -- Where the bytes of a command lie. The standard leaves open what is behind the addresses
 -- (ECSS-E-ST-50-52C, extended address field and address field): this is a choice of this target.
-use Rattle.std.specs.Prelude.{ℕ, ◌+◌, Bool, ◌==◌, ◌&&◌, ◌||◌, not, nat_le, nat_lt, if◌then◌else◌, List, slice_get}
+use Rattle.std.specs.Prelude.{◌≡◌, ◌<◌, ℕ, ◌+◌, Bool, true, ◌==◌, ◌&&◌, ◌||◌, not, nat_le, nat_lt, if◌then◌else◌, List, length, slice_get}
 use Rattle.std.specs.Prelude.{Option, None, Some}
 use Rattle.rmap.specs.declared.boot.TheConstants.{BOOT_WINDOW, STAGING_SIZE, LOAD_REGISTER, LOAD_RESULT_SIZE}
 use Rattle.rmap.specs.declared.boot.TheConstants.{CONTROL_SIZE}
@@ -15,6 +15,10 @@ use Rattle.rmap.specs.Command.{CommandValue, extended_of, address_of, length_of,
 pub record WindowsValue : Type 0 where
   pub node_address : ℕ
   pub banks : List (ℕ × ℕ)
+
+-- the address is in the range of that base and size
+abbrev pub begins_inside : (base size : ℕ) → CommandValue → Bool
+begins_inside base size c = nat_le base (address_of c) && nat_lt (address_of c) (base + size)
 
 -- the address lies inside, and with increment the data does not pass the end
 abbrev pub lies_inside : (base size : ℕ) → CommandValue → Bool
@@ -50,3 +54,14 @@ bank_place (Some bank) c = if lies_inside bank.0 bank.1 c then Some (Bank (exten
 -- the extended address names a bank, or the boot window; nothing else is allowed
 abbrev pub place_of : CommandValue → WindowsValue → Option Place
 place_of c w = bank_place (slice_get w.banks (extended_of c)) c
+
+-- under those windows there is a bank of that number, and the bytes of the command lie in it
+pub record LiesInBank (w : WindowsValue) (c : CommandValue) (k : ℕ) : Type 0 where
+  pub below : k < length w.banks
+  pub range : ℕ × ℕ
+  pub window : slice_get w.banks k ≡ Some range
+  pub inside : lies_inside range.0 range.1 c ≡ true
+
+-- where the place is a bank, there is that bank, and the bytes of the command lie in it
+abbrev pub IsWithinBank : WindowsValue → CommandValue → Place → Type 0
+IsWithinBank w c place = (k : ℕ) → place ≡ Bank k → LiesInBank w c k

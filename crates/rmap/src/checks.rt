@@ -1,12 +1,14 @@
 //! The checks of a command that need no program.
 
-ghost use Rattle.std.specs.Prelude.{◌≡◌, MatchResult, None, Some};
+ghost use Rattle.std.specs.Prelude.{◌≡◌, IfOk, MatchResult, length, None, Some};
+ghost use Rattle.rmap.specs.Windows.{IsWithinBank, begins_inside, place_of};
 ghost use Rattle.rmap.specs.Command.{length_of};
-ghost use Rattle.rmap.specs.Windows.{place_of};
-ghost use Rattle.rmap.specs.Checks.{Passes, Stops, header_line, body_line, wanted_length, has_wrong_rmw_length};
+ghost use Rattle.rmap.specs.Checks.{Faults, HasPlace, Passes, Stops, body_check, body_line, content_check, has_wrong_rmw_length, header_line, is_at_register, miss_of, wanted_length};
 
-use crate::boot::{BOOT_WINDOW, boot_place};
+use crate::body_faults::BodyFault;
+use crate::boot::{BOOT_WINDOW, LOAD_REGISTER, LOAD_RESULT_SIZE, boot_place};
 use crate::command::Command;
+use crate::header_faults::{HeaderFault, NoPlace};
 use crate::kind::Kind;
 use crate::places::Place;
 use crate::status::Status;
@@ -45,41 +47,95 @@ fn has_wrong_rmw_length(kind: Kind, length: u32) -> bool
     }
 }
 
-/// Where the bytes of the command lie, or the first fault of its header: an unused code, a logical
+/// Whether the address is that of a byte of the load register.
+fn is_at_register(command: &Command) -> bool
+    ensures { result ≡ is_at_register command.now }
+{
+    let address = command.address();
+    LOAD_REGISTER <= address && address < LOAD_REGISTER + LOAD_RESULT_SIZE
+}
+
+/// Whether the first address is in the range of that base and size.
+fn begins_inside(command: &Command, base: u32, size: u32) -> bool
+    ensures { result ≡ begins_inside base size command.now }
+{
+    let address = u64::from(command.address());
+    u64::from(base) <= address && address < u64::from(base) + u64::from(size)
+}
+
+/// Why the command's bytes have no place, where [`place`] gives none.
+fn miss(command: &Command, windows: &Windows) -> NoPlace
+    ensures { result ≡ miss_of command.now windows.now }
+{
+    let extended = command.extended();
+    let address = command.address();
+    let length = command.length();
+    match windows.bank(extended) {
+        Some((base, size)) if command.increments() && begins_inside(command, base, size) => {
+            NoPlace::BehindBank { address, length }
+        }
+        Some(_) => NoPlace::OutsideBank { address },
+        None if extended != BOOT_WINDOW => NoPlace::NoBank { extended },
+        None if is_at_register(command) => NoPlace::OtherAtRegister { address },
+        None => NoPlace::OutsideBootWindow { address, length },
+    }
+}
+
+/// Where the bytes of the command lie, or the first check of its header that holds: an unused code, a logical
 /// address other than the node's, a wrong length of a read-modify-write, more than 1,024 bytes to
-/// verify, then more than 4,096 bytes or a place that is not allowed (ECSS-E-ST-50-52C, error and
+/// verify, more than 4,096 bytes, then a place that is not allowed (ECSS-E-ST-50-52C, error and
 /// status codes).
-pub fn checked_place(command: &Command, windows: &Windows) -> Result<Place, Status>
-    ensures { MatchResult result (Passes command.now windows.now) (Stops command.now windows.now) }
+pub fn header_check(command: &Command, windows: &Windows) -> Result<Place, HeaderFault>
+    ensures { MatchResult result (HasPlace command.now windows.now) (Faults command.now windows.now) }
 {
     let length = command.length();
     let kind = command.kind();
     if matches!(kind, Kind::Unused) {
-        return Err(Status::UnusedCode);
+        let instruction = command.instruction();
+        return Err(HeaderFault::UnusedCode { instruction });
     }
-    if command.target() != windows.node_address() {
-        return Err(Status::InvalidLogicalAddress);
+    let (target, node) = (command.target(), windows.node_address());
+    if target != node {
+        return Err(HeaderFault::OtherNode { target, node });
     }
     if has_wrong_rmw_length(kind, length) {
-        return Err(Status::RmwDataLength);
+        return Err(HeaderFault::WrongRmwLength { length });
     }
     if command.verifies() && length > VERIFY_BUFFER {
-        return Err(Status::VerifyBufferOverrun);
+        return Err(HeaderFault::TooManyToVerify { length });
     }
     if length > MAX_DATA {
-        return Err(Status::NotAuthorised);
+        return Err(HeaderFault::TooManyBytes { length });
     }
-    place(command, windows).ok_or(Status::NotAuthorised)
+    match place(command, windows) {
+        Some(place) => Ok(place),
+        None => Err(HeaderFault::NoPlace(miss(command, windows))),
+    }
 }
 
-/// The first fault of the header, or `None`: that of [`checked_place`].
+/// Where the bytes of the command lie, or the status of the first check of its header that holds: that of
+/// [`header_check`]. A bank that is the place is one of the
+/// windows', and the bytes lie in it.
+#[tactic(auto, using(crate::proofs::BankPlaces::lies_in_bank))]
+pub fn checked_place(command: &Command, windows: &Windows) -> Result<Place, Status>
+    ensures checked { MatchResult result (Passes command.now windows.now) (Stops command.now windows.now) }
+    ensures inside { IfOk result (IsWithinBank windows.now command.now) }
+{
+    match header_check(command, windows) {
+        Ok(place) => Ok(place),
+        Err(fault) => Err(fault.status()),
+    }
+}
+
+/// The status of the first check of the header that holds, or `None`: that of [`checked_place`].
 pub fn header_fault(command: &Command, windows: &Windows) -> Option<Status>
     ensures { result ≡ header_line command.now windows.now }
 {
     checked_place(command, windows).err()
 }
 
-/// The bytes that should follow the header.
+/// The bytes that should follow the header: data and one byte of CRC behind a write and a read-modify-write, none
+/// behind a read and an unused code.
 fn wanted_length(command: &Command) -> usize
     ensures { result ≡ wanted_length command.now }
 {
@@ -89,21 +145,38 @@ fn wanted_length(command: &Command) -> usize
     }
 }
 
-/// The first fault of the body, or `None`: an error end of packet, then too few or too many bytes,
-/// then a wrong data CRC (ECSS-E-ST-50-52C, error and status codes). A write and a read-modify-write
-/// want their data and one byte of CRC; a read wants nothing, and so does an unused code.
+/// The first check of what follows the header that holds, however the packet ended: too few or too many bytes, then a
+/// wrong data CRC (ECSS-E-ST-50-52C, error and status codes).
+pub fn content_check(command: &Command) -> Option<BodyFault>
+    ensures { result ≡ content_check command.now }
+{
+    let body = command.body();
+    let found = body.len();
+    let wanted = wanted_length(command);
+    if found < wanted {
+        return Some(BodyFault::TooFewBytes { found, wanted });
+    }
+    if found > wanted {
+        return Some(BodyFault::TooManyBytes { found, wanted });
+    }
+    let (sent, data) = body.split_last()?;
+    let (found, right) = (*sent, crc(data));
+    (found != right).then_some(BodyFault::WrongDataCrc { found, right })
+}
+
+/// The first check of the body that holds, or `None`: an error end of packet, then those of [`content_check`].
+pub fn body_check(command: &Command) -> Option<BodyFault>
+    ensures { result ≡ body_check command.now }
+{
+    match command.end() {
+        End::Eep => Some(BodyFault::ErrorEnd),
+        End::Eop => content_check(command),
+    }
+}
+
+/// The status of the first check of the body that holds, or `None`: that of [`body_check`].
 pub fn body_fault(command: &Command) -> Option<Status>
     ensures { result ≡ body_line command.now }
 {
-    let body = command.body();
-    let wanted = wanted_length(command);
-    match command.end() {
-        End::Eep => Some(Status::ErrorEndOfPacket),
-        End::Eop if body.len() < wanted => Some(Status::EarlyEndOfPacket),
-        End::Eop if body.len() > wanted => Some(Status::TooMuchData),
-        End::Eop => match body.split_last() {
-            Some((sent, data)) if *sent != crc(data) => Some(Status::InvalidDataCrc),
-            _ => None,
-        },
-    }
+    body_check(command).map(BodyFault::status)
 }

@@ -2,7 +2,12 @@
 
 ghost use Rattle.std.specs.Prelude.{◌≡◌, Some, IfSome};
 ghost use Rattle.rmap.specs.Codes.{discard_code, discard_of_code};
+ghost use Rattle.rmap.specs.Flaws.{flaw_of};
+ghost use Rattle.rmap.specs.Command.{IsDiscarded};
 
+use crate::field;
+use crate::instruction::Instruction;
+use rcrc::crc;
 use thiserror::Error;
 
 const SHORT: &str = "\
@@ -75,6 +80,56 @@ impl Discard {
             Discard::Protocol => PROTOCOL,
             Discard::Reply => REPLY,
             Discard::HeaderCrc => HEADER_CRC,
+        }
+    }
+}
+
+/// What was found where a packet is discarded: [`Discard`], with the bytes that are wrong and those that are right.
+#[derive(Clone, Copy, Debug, PartialEq, Eq)]
+pub enum Flaw {
+    /// Fewer bytes than the header has.
+    TooShort,
+    /// Another protocol identifier than that of RMAP.
+    OtherProtocol {
+        /// The protocol identifier.
+        found: u8,
+    },
+    /// The packet type of a reply.
+    IsReply,
+    /// A header CRC that is not that of the header.
+    WrongHeaderCrc {
+        /// The header CRC.
+        found: u8,
+        /// That of the header.
+        right: u8,
+    },
+}
+
+impl Flaw {
+    /// What was found in these bytes. The condition is that they are discarded for that reason.
+    pub fn of(bytes: &[u8], reason: Discard) -> Flaw
+        requires { IsDiscarded bytes.now reason }
+        ensures { result ≡ flaw_of bytes.now reason }
+    {
+        match reason {
+            Discard::Short => Flaw::TooShort,
+            Discard::Protocol => Flaw::OtherProtocol {
+                found: bytes[field::PROTOCOL],
+            },
+            Discard::Reply => Flaw::IsReply,
+            Discard::HeaderCrc => Flaw::wrong_crc(bytes),
+        }
+    }
+
+    fn wrong_crc(bytes: &[u8]) -> Flaw
+        requires { IsDiscarded bytes.now Discard.HeaderCrc }
+        ensures { result ≡ flaw_of bytes.now Discard.HeaderCrc }
+    {
+        let address = Instruction(bytes[field::INSTRUCTION]).reply_address_len();
+        let last = field::CHECKED + address;
+        Flaw::WrongHeaderCrc {
+            found: bytes[last],
+            right: crc(&bytes[..last]),
         }
     }
 }

@@ -5,7 +5,10 @@
 /// The target logical address, in the front.
 pub const TARGET: usize = 0;
 
-/// The instruction, in the front. The protocol identifier stands before it.
+/// The protocol identifier, in the front.
+pub const PROTOCOL: usize = 1;
+
+/// The instruction, in the front.
 pub const INSTRUCTION: usize = 2;
 
 /// The key, in the front.

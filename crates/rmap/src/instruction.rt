@@ -1,6 +1,6 @@
 //! The instruction byte.
 
-ghost use Rattle.std.specs.Prelude.{◌≡◌, ◌≤◌, ◌<◌, ◌==◌};
+ghost use Rattle.std.specs.Prelude.{◌≡◌, ◌≤◌, ◌<◌, ◌*◌, ◌==◌};
 ghost use Rattle.std.specs.Int.{bit_at};
 ghost use Rattle.rmap.specs.Instruction.{packet_type, command_code, kind_of, has_write_bit, has_verify_bit, has_reply_bit, has_increment_bit, reply_address_length};
 ghost use Rattle.rmap.specs.Reply.{reply_instruction};
@@ -37,6 +37,18 @@ pub const INCREMENT_BIT: u8 = 0b0000_0100;
 pub struct Instruction(pub u8);
 
 impl Instruction {
+    /// The instruction of a command with this code (bits 5 to 2: write, verify, reply, increment), and with a reply
+    /// address of so many words of four bytes (ECSS-E-ST-50-52C, instruction field).
+    pub fn command(code: u8, reply_address_words: u8) -> Instruction
+        requires code { code < 16 }
+        requires words { reply_address_words < 4 }
+        ensures kind { packet_type result.0 ≡ 1 }
+        ensures code { command_code result.0 ≡ code }
+        ensures words { reply_address_length result.0 ≡ 4 * reply_address_words }
+    {
+        Instruction(64 + 4 * code + reply_address_words)
+    }
+
     /// Bits 7 and 6: 0 is a reply, 1 a command, 2 and 3 are reserved.
     fn packet_type(self) -> u8
         ensures { result ≡ packet_type self.0 }
@@ -45,7 +57,7 @@ impl Instruction {
     }
 
     /// Bits 5 to 2.
-    fn code(self) -> u8
+    pub fn code(self) -> u8
         ensures { result ≡ command_code self.0 }
     {
         self.0 >> 2 & 0b1111

@@ -1,6 +1,6 @@
 //! Laws about commands and replies. Each function does nothing: its contract is the law.
 
-ghost use Rattle.rmap.specs.Laws.{CommandsAreKept, KeptAreCommands, CommandIsUnique, CommandsAreLaidOut, MadeBodiesAreRight, MadeCommandsAreRead, MasksTellKinds, RepliesAreShort, RepliesHavePaths, ReplyIsUnique, WrittenRepliesAreRead};
+ghost use Rattle.rmap.specs.Laws.{CommandsAreKept, KeptAreCommands, CommandIsUnique, CommandsAreLaidOut, LongPacketIsCut, MasksTellKinds, RepliesAreShort};
 
 /// A law and no work: bytes are discarded exactly where no command stands to them.
 pub fn discard_is_exact()
@@ -32,22 +32,9 @@ pub fn masks_tell_kinds()
     ensures { MasksTellKinds }
 {}
 
-/// A law and no work: bytes are at most one reply.
-pub fn reply_is_unique()
-    ensures { ReplyIsUnique }
-{}
-
-/// A law and no work: what [`put_reply`](crate::put_reply) writes, behind its path, is read by
-/// [`Reply::view`](crate::Reply::view) as the reply with that status and those data, and with the command's initiator,
-/// target and transaction identifier; and it is no other reply, by [`reply_is_unique`].
-pub fn written_replies_are_read()
-    ensures paths { RepliesHavePaths }
-    ensures read { WrittenRepliesAreRead }
-{}
-
-/// A law and no work: what [`write_command`](crate::write_command) makes of fields is a command with those fields, and
-/// no other, by [`command_is_unique`]; and no check of the body holds of it where its body is the data and their CRC.
-pub fn made_commands_are_read()
-    ensures read { MadeCommandsAreRead }
-    ensures bodies { MadeBodiesAreRight }
+/// A law and no work: of a packet with 4,200 bytes or more the first 4,200 are discarded for the same reason, or have the
+/// same header, at which the same check holds; and where none does, the same check of the body. So a target that keeps
+/// no more than [`MAX_PACKET`](spw::MAX_PACKET) bytes of a packet answers it as it would answer all of it.
+pub fn long_packet_is_cut()
+    ensures { LongPacketIsCut }
 {}

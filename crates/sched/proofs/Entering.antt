@@ -1,19 +1,18 @@
 -- What a judged command leaves in the journal and the memory of its bank, as looking back finds it.
 use Rattle.std.proofs.Common.{◌≡◌, ◌+◌, ◌==◌, ℕ, List, [], ◌∷◌, ◌++◌, length, Bool, true, false, eqb, Option, Some, None, refl, sym, ap, ◌∙◌}
-use Rattle.std.specs.Prelude.{if◌then◌else◌}
+use Rattle.std.specs.Prelude.{if◌then◌else◌, option_map}
 use Rattle.std.proofs.lemmas.List.{length-append, map-append, append-nil}
 use Rattle.std.proofs.lemmas.List.Elements.{filter-append}
 use Rattle.std.proofs.lemmas.List.Sums.{fold-append}
 use Rattle.rmap.specs.declared.places.Place.{Place}
 use Rattle.rmap.specs.declared.status.Status.{Status}
-use Rattle.rmap.specs.declared.status.Status.TheVariants.{InvalidDataCrc, EarlyEndOfPacket, TooMuchData}
 use Rattle.rmap.specs.declared.verdict.Verdict.{Verdict}
 use Rattle.rmap.specs.declared.verdict.Verdict.TheVariants as verdicts
 use Rattle.rmap.specs.Verdict.{verdict_of}
 use Rattle.rmap.specs.Command.{CommandValue, command_of}
-use Rattle.rmap.specs.Checks.{body_line, body_line_at}
-use Rattle.spw.specs.declared.packets.End.{End}
-use Rattle.spw.specs.declared.packets.End.TheVariants.{Eop, Eep}
+use Rattle.rmap.specs.declared.body_faults.BodyFault.{BodyFault}
+use Rattle.rmap.specs.declared.body_faults.BodyFault.TheVariants.{ErrorEnd, TooFewBytes, TooManyBytes, WrongDataCrc}
+use Rattle.rmap.specs.Checks.{body_check, body_line, body_status}
 use Rattle.bank.specs.Answer.{answer, effect_at, first_line, is_success, judged_line, status_of, status_with, verdict_line}
 use Rattle.bank.specs.Effect.{Memory}
 use Rattle.bank.specs.Records.{EntryValue, after_entry, numbers_of, replay}
@@ -64,24 +63,18 @@ no_success c v status e = by (verdict_of v) e
     is-none : (x : Status) → ◌≡◌ {A = Option Status} None (Some x) → ⊥
     is-none x is = cc
 
-    data_crc : (wrong : Bool) → (if wrong then Some InvalidDataCrc else None) ≡ Some status → is_success status ≡ false
-    data_crc true is = ap is_success (sym (some-is _ _ is))
-    data_crc false is = absurd (is-none status is)
+    failing : (fault : BodyFault) → is_success (body_status fault) ≡ false
+    failing ErrorEnd = refl
+    failing (TooFewBytes found wanted) = refl
+    failing (TooManyBytes found wanted) = refl
+    failing (WrongDataCrc found right) = refl
 
-    many : (much wrong : Bool) → (if much then Some TooMuchData else if wrong then Some InvalidDataCrc else None) ≡ Some status → is_success status ≡ false
-    many true wrong is = ap is_success (sym (some-is _ _ is))
-    many false wrong is = data_crc wrong is
-
-    few : (short much wrong : Bool) → (if short then Some EarlyEndOfPacket else if much then Some TooMuchData else if wrong then Some InvalidDataCrc else None) ≡ Some status → is_success status ≡ false
-    few true much wrong is = ap is_success (sym (some-is _ _ is))
-    few false much wrong is = many much wrong is
-
-    body : (end : End) → body_line_at end c ≡ Some status → is_success status ≡ false
-    body Eep is = ap is_success (sym (some-is _ _ is))
-    body Eop is = few _ _ _ is
+    body : (fault : Option BodyFault) → option_map body_status fault ≡ Some status → is_success status ≡ false
+    body None is = absurd (is-none status is)
+    body (Some fault) is = ap is_success (sym (some-is _ _ is)) ∙ failing fault
 
     by : (verdict : Verdict) → first_line (verdict_line verdict) (body_line c) ≡ Some status → is_success status ≡ false
-    by verdicts.Authorised is = body c.end is
+    by verdicts.Authorised is = body (body_check c) is
     by verdicts.InvalidKey is = ap is_success (sym (some-is _ _ is))
     by verdicts.NotAuthorised is = ap is_success (sym (some-is _ _ is))
     by verdicts.InvalidLogicalAddress is = ap is_success (sym (some-is _ _ is))

@@ -2,19 +2,17 @@
 use Rattle.std.proofs.Common.{◌≡◌, ◌<◌, ◌∙◌, ℕ, List, ap, length, subst, sym}
 use Rattle.std.proofs.lemmas.List.{length-map}
 use Rattle.spw.specs.Cargo.{Cargo}
-use Rattle.rmap.specs.Command.{command_of}
 use Rattle.rmap.specs.declared.places.Place.{Place}
 use Rattle.rmap.specs.declared.places.Place.TheVariants.{Bank}
 use Rattle.bank.specs.Admission.{IsPlacedBy}
 use Rattle.bank.specs.Records.{BankValue, extent_of}
 use Rattle.node_parts.specs.Pairs.{IsPaired}
 use Rattle.node_parts.specs.Passes.{PassValue}
-use Rattle.single_node.proofs.Places.{judged_bank}
 
 -- the bank that a command has as its place is there, and the port has its share of it
 pub bank_there : (banks : List BankValue) (h : PassValue) (p : Cargo) (place : Place) (k : ℕ) → IsPaired banks h → IsPlacedBy h.windows p place → place ≡ Bank k → (k < length banks) × (k < length h.shares)
 bank_there banks h p place k paired placed at =
-    let below : k < length h.windows.banks = judged_bank h.windows (command_of p) place k placed.lies at in
+    let below : k < length h.windows.banks = (placed.inside k at).below in
     let same : length h.windows.banks ≡ length banks = ap length paired.windows ∙ length-map banks extent_of in
     let there : k < length banks = subst (λ (n : ℕ). k < n) same below in
     (there, subst (λ (n : ℕ). k < n) (sym paired.count) there)

@@ -1,4 +1,3 @@
-mod Places
 mod Slots
 mod Prefixes
 mod Judging

@@ -1,4 +1,5 @@
 pub mod Feeding
+pub mod Filling
 pub mod HexWords
 pub mod LineLemmas
 pub mod WrittenLines

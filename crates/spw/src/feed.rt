@@ -1,6 +1,6 @@
 //! Packets that arrive in pieces.
 
-ghost use Rattle.std.specs.Prelude.{◌≡◌, ◌<◌, ◌+◌, ◌↔◌, ◌++◌, [], length, IsErrOf, IfOk, IfErr, OnOk, OnErr};
+ghost use Rattle.std.specs.Prelude.{◌≡◌, ◌<◌, ◌≤◌, ◌+◌, ◌↔◌, ◌++◌, [], length, take, IsErrOf, IfOk, IfErr, OnOk, OnErr};
 ghost use Rattle.std.specs.Bool.{Decides};
 ghost use Rattle.spw.specs.Feeding.{PacketIsJoin};
 
@@ -61,6 +61,18 @@ impl Feed {
             unreachable!();
         }
         Ok(())
+    }
+
+    /// Takes as many of the bytes as a packet has room for behind what is held, and drops the others.
+    pub fn fill(&mut self, bytes: &[u8])
+        ensures filled { self.new ≡ take MAX_PACKET (self.old ++ bytes.now) }
+        ensures short { length self.old ≤ MAX_PACKET }
+    {
+        let room = MAX_PACKET - self.held.len();
+        let count = room.min(bytes.len());
+        if self.held.extend_from_slice(&bytes[..count]).is_err() {
+            unreachable!();
+        }
     }
 
     /// Ends the packet: the packet of what is held, with that marker. Nothing is held then. The only

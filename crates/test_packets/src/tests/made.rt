@@ -2,14 +2,12 @@
 //! and what a fresh node replies to them is read, behind its path where there is one.
 
 ghost use Rattle.std.specs.Prelude.{◌≡◌, ◌<◌, ◌≤◌};
-ghost use Rattle.rmap.specs.Writing.{AreFields};
+ghost use Rattle.initiator.specs.Writing.{AreFields};
 
 use crate::tests::checks::{check, same};
+use initiator::{CommandFields, Reply, body_with_crc, write_command};
 use publish::{Opened, ProgramFamily};
-use rmap::{
-    Command, CommandFields, Instruction, Kind, Reply, Status, body_fault, body_with_crc,
-    write_command,
-};
+use rmap::{Command, Instruction, Kind, Status, body_fault};
 use spw::{End, Packet};
 use std::alloc::{AllocError, Global};
 use std::marker::Brand;

@@ -1,5 +1,5 @@
 use Rattle.std.proofs.Common.{◌+◌, ◌*◌, ◌/◌, ◌∙◌, ℕ, List, ap, length, refl}
-use Rattle.rmap.specs.declared.write.CommandFields.{CommandFields}
+use Rattle.initiator.specs.declared.write.CommandFields.{CommandFields}
 use Rattle.job_packets.proofs.Instructions.{instruction_is, same_command}
 use Rattle.job_packets.proofs.requests.fields_with.Goals as goal
 

@@ -1,7 +1,5 @@
 use Rattle.std.proofs.Common.{◌≡◌, length, sym, ap, ◌∙◌, arith}
-use Rattle.rmap.specs.Command.{command_of}
 use Rattle.node_parts.specs.Passes.{PassValue}
-use Rattle.node_parts.proofs.Places.{judged_bank}
 use Rattle.target.proofs.Keeping.{kept_at_load}
 use Rattle.target.proofs.served.serve.Goals as goal
 
@@ -9,7 +7,7 @@ pub bank_mut-requires : goal.bank_mut-requires
 bank_mut-requires g c =
     let run = c.in-Judged.ensures.step.0 in
     let windows = c.args.pass.now.windows in
-    let below = judged_bank windows (command_of c.args.packet) c.in-Judged.judged.place _ run.judged_for.placed.lies (sym c.place.ensures.value ∙ c.in-Bank.is) in
+    let below = (run.judged_for.placed.inside _ (sym c.place.ensures.value ∙ c.in-Bank.is)).below in
     let same : length windows.banks ≡ length c.args.banks.now = omega (arith, c.banks-banks.ensures.holder.shares, c.requires) in
     rw (← same) below
 
@@ -18,7 +16,7 @@ finish-requires g c =
     let run = c.in-Judged.ensures.step.0 in
     let windows = c.args.pass.now.windows in
     let at = sym c.place.ensures.value ∙ c.in-Bank.is in
-    let below = judged_bank windows (command_of c.args.packet) c.in-Judged.judged.place _ run.judged_for.placed.lies at in
+    let below = (run.judged_for.placed.inside _ at).below in
     let same : length windows.banks ≡ length c.args.pass.now.shares = sym c.banks-banks.ensures.holder.shares in
     rw (run.asked, ← same) (_, at, below)
 

@@ -1,0 +1,4 @@
+pub mod Made
+pub mod MadeRead
+pub mod RepliesRead
+pub mod RepliesWritten

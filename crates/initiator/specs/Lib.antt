@@ -1,0 +1,3 @@
+pub mod ReplyReading
+pub mod Writing
+pub mod Laws

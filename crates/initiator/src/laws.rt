@@ -1,0 +1,23 @@
+//! Laws about commands that are made and replies that are read. Each function does nothing: its contract is the law.
+
+ghost use Rattle.initiator.specs.Laws.{MadeBodiesAreRight, MadeCommandsAreRead, RepliesHavePaths, ReplyIsUnique, WrittenRepliesAreRead};
+
+/// A law and no work: bytes are at most one reply.
+pub fn reply_is_unique()
+    ensures { ReplyIsUnique }
+{}
+
+/// A law and no work: what [`put_reply`](rmap::put_reply) writes, behind its path, is read by
+/// [`Reply::view`](crate::Reply::view) as the reply with that status and those data, and with the command's initiator,
+/// target and transaction identifier; and it is no other reply, by [`reply_is_unique`].
+pub fn written_replies_are_read()
+    ensures paths { RepliesHavePaths }
+    ensures read { WrittenRepliesAreRead }
+{}
+
+/// A law and no work: what [`write_command`](crate::write_command) makes of fields is a command with those fields, and
+/// no other, by [`command_is_unique`](rmap::command_is_unique); and no check of the body holds of it where its body is the data and their CRC.
+pub fn made_commands_are_read()
+    ensures read { MadeCommandsAreRead }
+    ensures bodies { MadeBodiesAreRight }
+{}

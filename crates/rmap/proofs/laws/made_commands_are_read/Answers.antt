@@ -1,8 +1,0 @@
-use Rattle.rmap.proofs.MadeRead.{bodies_are_right, made_is_read}
-use Rattle.rmap.proofs.laws.made_commands_are_read.Goals as goal
-
-pub returns-clause-read : goal.returns-clause-read
-returns-clause-read c = made_is_read
-
-pub returns-clause-bodies : goal.returns-clause-bodies
-returns-clause-bodies c = bodies_are_right

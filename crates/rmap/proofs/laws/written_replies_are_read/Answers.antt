@@ -1,8 +1,0 @@
-use Rattle.rmap.proofs.RepliesWritten.{has_path, written_is_read}
-use Rattle.rmap.proofs.laws.written_replies_are_read.Goals as goal
-
-pub returns-clause-paths : goal.returns-clause-paths
-returns-clause-paths c = has_path
-
-pub returns-clause-read : goal.returns-clause-read
-returns-clause-read c = written_is_read

@@ -1,6 +1,0 @@
-use Rattle.std.proofs.Common.{◌∙◌}
-use Rattle.rmap.proofs.RepliesRead.{replies_are_read}
-use Rattle.rmap.proofs.reply_view.Reply.view.Goals as goal
-
-pub returns-clause-only : goal.returns-clause-only
-returns-clause-only c = λ r h. c.read.ensures ∙ replies_are_read c.args.bytes.now r h
