@@ -15,7 +15,7 @@ use Rattle.rmap.specs.declared.kind.Kind.{Kind}
 use Rattle.rmap.specs.declared.kind.Kind.TheVariants.{Read, Write, Rmw, Unused}
 use Rattle.rmap.specs.Command.{CommandValue, address_of, length_of, command_kind, increments}
 use Rattle.rmap.specs.Checks.{data_of}
-use Rattle.bank.specs.Effect.{Memory, IsWithin, byte_at, byte_after, bytes_read, address_of_byte, modified_byte, modified_bytes, effect_of, effect}
+use Rattle.bank.specs.Effect.{Memory, IsWithin, byte_at, byte_after_data, bytes_read, address_of_byte, modified_byte, modified_bytes, effect_of, effect}
 use Rattle.bank.specs.Laws.{IsPartOf}
 use Rattle.rmap.specs.Windows.{lies_inside}
 use Rattle.bank.specs.Admission.{IsAdmissible}
@@ -174,7 +174,7 @@ pub record BeginsAt (first : ℕ) (c : CommandValue) (k start : ℕ) : Type 0 wh
 abbrev IsApart : CommandValue → ℕ → Type 0
 IsApart c x = (x < address_of c) ⊎ ((address_of c < x) × (address_of c + length_of c ≤ x))
 
-stays : (next : Bool) (m : Memory) (c : CommandValue) (bytes : List ℕ) (x : ℕ) → increments c ≡ next → length bytes ≤ length_of c → IsApart c x → byte_after m c bytes x ≡ byte_at m x
+stays : (next : Bool) (m : Memory) (c : CommandValue) (bytes : List ℕ) (x : ℕ) → increments c ≡ next → length bytes ≤ length_of c → IsApart c x → byte_after_data m c bytes x ≡ byte_at m x
 stays true m c bytes x next few (inl below) = after_below m c bytes x next below
 stays true m c bytes x next few (inr past) = after_above m c bytes x next (omega (arith, past.0)) (omega (arith, past.1))
 stays false m c bytes x again few (inl below) = after_other m c bytes x again (λ e. omega arith)

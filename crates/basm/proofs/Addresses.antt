@@ -11,12 +11,12 @@ use Rattle.bpf_insn.specs.declared.insn.Insn.TheVariants.{LoadAddress}
 use Rattle.basm_lex.specs.Numbers.{WritesNumber}
 use Rattle.basm_lex.specs.Operands.{WritesRegister}
 use Rattle.basm.specs.Relation.{Four, WritesOperands}
-use Rattle.bpf_parts.specs.Kinds.{address_of}
+use Rattle.bpf_parts.specs.Kinds.{wide_address}
 
 abbrev pub IsKind : ℕ → ℤ → Option Address → Type 0
 IsKind subtype first o = IfSome o (λ found. (address_subtype found ≡ subtype) × (address_first found ≡ first))
 
-pub address_is : (subtype : ℕ) (first second : ℤ) → IsKind subtype first (address_of subtype first second)
+pub address_is : (subtype : ℕ) (first second : ℤ) → IsKind subtype first (wide_address subtype first second)
 address_is subtype first second =
     let P : Option Address → Type 0 = IsKind subtype first in
     cond_both (subtype == 1) (Some (MapByFile first)) _ P (λ yes. (sym (eqb-true subtype 1 yes), refl)) (λ no.
@@ -33,7 +33,7 @@ pub load_address : (names : List ℕ → Option ℕ) (slot : ℕ) (xs : List (Li
 load_address names slot xs dst subtype first second address four same = rw (same.0, same.1, same.2) four
 
 -- an address by its own numbers
-pub address_again : (address : Address) → address_of (address_subtype address) (address_first address) (address_second address) ≡ Some address
+pub address_again : (address : Address) → wide_address (address_subtype address) (address_first address) (address_second address) ≡ Some address
 address_again (MapByFile first) = refl
 address_again (MapValueByFile first second) = refl
 address_again (Variable first) = refl

@@ -28,7 +28,7 @@ use Rattle.bpf_insn.specs.declared.decoder.BadInsn.{BadInsn}
 use Rattle.bpf_insn.specs.declared.decoder.BadInsn.TheVariants as faults
 use Rattle.bpf_insn.specs.Spelling.{fields, second_immediate, Spells}
 use Rattle.bpf_insn.specs.Faults.{opcode_of, uses_dst, uses_src, has_register_over, IsFault}
-use Rattle.bpf_parts.specs.Kinds.{swap_bits_of, address_of, callee_of}
+use Rattle.bpf_parts.specs.Kinds.{swap_bits_of, wide_address, callee_of}
 use Rattle.bpf_insn.specs.Reading.{◌>>=◌, register_of, meant_of, wide_of, pair_of, load_of, store_of, arithmetic_of, negation_of, byte_swap_of, two_operands_of, move_of, jump_of, call_of, branch_of, comparison_of, has_fields, fields_in, reading_of, reading}
 use Rattle.bpf_insn.proofs.Spelled.{reading-spelled}
 
@@ -148,7 +148,7 @@ explained_pair : (i : Insn) (d s : ℕ) (o m : ℤ) (next : Option Fields) (dst 
 unfolding pair_of
 explained_pair i d s o m next dst g h =
     either i d s next (nat_eq s 0) _ _ h
-    (either i d s next (nat_eq s 5) _ _ h (selected i d s next (address_of s m g.immediate) _ h))
+    (either i d s next (nat_eq s 5) _ _ h (selected i d s next (wide_address s m g.immediate) _ h))
 
 explained_wide : (i : Insn) (d s : ℕ) (o m : ℤ) (next : Option Fields) → uses_dst i ≡ true → uses_src i ≡ false → is_some (second_immediate i) ≡ true → explains i d s next (wide_of (fields 0x18 d s o m) next) ≡ true
 unfolding wide_of

@@ -19,7 +19,7 @@ use Rattle.bpf_insn.specs.declared.insn.Insn.TheVariants.{Alu, Negate, ByteSwap,
 use Rattle.bpf_insn.specs.declared.fields.Fields.{Fields}
 use Rattle.bpf_insn.specs.declared.decoder.BadInsn.{BadInsn}
 use Rattle.bpf_insn.specs.declared.decoder.BadInsn.TheVariants as faults
-use Rattle.bpf_parts.specs.Kinds.{address_of, extension_of}
+use Rattle.bpf_parts.specs.Kinds.{wide_address, extension_of}
 use Rattle.bpf_insn.specs.Spelling.{fields, first_fields, second_immediate, second_fields, bytes_of, AreSlotBytes, IsInsn, Spells}
 use Rattle.bpf_parts.specs.Operands.{IsOperand}
 use Rattle.bpf_insn.specs.Reading.{◌>>=◌, register_of, operand_of, register_move, constant_of, meant_of, wide_of, pair_of, load_of, store_of, arithmetic_of, negation_of, byte_swap_of, two_operands_of, move_of, jump_of, call_of, branch_of, comparison_of, fields_in, same_fields, same_second, has_fields, reading_of, reading}
@@ -150,7 +150,7 @@ one_of : (dst : ℕ) (b : Bool) (x y : Option Address) → IsLoad dst x → IsLo
 one_of dst true x y p q = p
 one_of dst false x y p q = q
 
-address_is : (dst subtype : ℕ) (first second : ℤ) → dst ≤ 10 → FitsSigned w32 first → FitsSigned w32 second → IsLoad dst (address_of subtype first second)
+address_is : (dst subtype : ℕ) (first second : ℤ) → dst ≤ 10 → FitsSigned w32 first → FitsSigned w32 second → IsLoad dst (wide_address subtype first second)
 address_is dst subtype first second p q r =
     one_of dst (nat_eq subtype 1) _ _ (loads dst (MapByFile first) (p, q, sfits_lit tt))
     (one_of dst (nat_eq subtype 2) _ _ (loads dst (MapValueByFile first second) (p, q, r))

@@ -20,7 +20,7 @@ use Rattle.bpf_insn.specs.declared.fields.Fields.{Fields}
 use Rattle.bpf_insn.specs.declared.decoder.BadInsn.{BadInsn}
 use Rattle.bpf_insn.specs.declared.decoder.BadInsn.TheVariants as faults
 use Rattle.bpf_parts.specs.Kinds.{alu_of, extension_of, swap_of, swap_bits_of, condition_of, size_of, load_size_of}
-use Rattle.bpf_parts.specs.Kinds.{address_of, callee_of}
+use Rattle.bpf_parts.specs.Kinds.{wide_address, callee_of}
 use Rattle.bpf_insn.specs.Spelling.{fields, first_fields, second_immediate}
 
 -- the next step of a reading, unless a fault was found
@@ -142,7 +142,7 @@ unfoldable pub pair_of : Fields → ℕ → Fields → Result Insn BadInsn
 pair_of f dst second =
     if f.src == 0 then Ok (Wide dst (constant_of f.immediate second.immediate))
     else (if f.src == 5 then Ok (LoadMap dst f.immediate)
-    else (ok_or (address_of f.src f.immediate second.immediate) faults.Unused >>=
+    else (ok_or (wide_address f.src f.immediate second.immediate) faults.Unused >>=
     (λ address. Ok (LoadAddress dst address))))
 
 -- an instruction of the class LD: only the one of two slots, where the next slot is there

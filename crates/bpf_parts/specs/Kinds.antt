@@ -103,8 +103,8 @@ load_size_of code =
     else None))))))
 
 -- the address of a subtype and of the two immediates (section 5.4)
-abbrev pub address_of : ℕ → ℤ → ℤ → Option Address
-address_of subtype first second =
+abbrev pub wide_address : ℕ → ℤ → ℤ → Option Address
+wide_address subtype first second =
     if subtype == 1 then Some (MapByFile first)
     else (if subtype == 2 then Some (MapValueByFile first second)
     else (if subtype == 3 then Some (Variable first)

@@ -2,7 +2,7 @@
 
 ghost use Rattle.std.specs.Prelude.{◌≡◌, ◌<◌};
 ghost use Rattle.bpf_parts.specs.Codes.{address_subtype, address_first, address_second};
-ghost use Rattle.bpf_parts.specs.Kinds.{address_of};
+ghost use Rattle.bpf_parts.specs.Kinds.{wide_address};
 
 /// What a two-slot load of another kind than a constant or a map's index names (RFC 9669, section
 /// 5.4), with its immediates: subtypes 1, 2, 3, 4 and 6.
@@ -56,7 +56,7 @@ impl Address {
     /// The address of this subtype with these immediates. `None` where the subtype is none of an
     /// address. A second immediate that the subtype does not use is left out.
     pub fn from_parts(subtype: u8, first: i32, second: i32) -> Option<Address>
-        ensures { result ≡ address_of subtype first second }
+        ensures { result ≡ wide_address subtype first second }
     {
         match subtype {
             1 => Some(Address::MapByFile(first)),

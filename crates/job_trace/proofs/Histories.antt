@@ -11,9 +11,9 @@ use Rattle.machine.specs.declared.helpers.Helper.TheVariants as helpers
 use Rattle.rmap.specs.declared.status.Status.{Status}
 use Rattle.spw.specs.Cargo.{Cargo}
 use Rattle.sched.specs.Answers.{answering}
-use Rattle.sched.specs.History.{History, Then, Open, opened, taken, after_answer}
+use Rattle.sched.specs.History.{History, Then, Open, opened, taken, after_told}
 use Rattle.sched.specs.Standing.{IsLent, IsLentOf}
-use Rattle.sched.specs.Looking.{Node, header_in, program_of, slot_in}
+use Rattle.sched.specs.Looking.{Node, header_in, program_of, slot_of_packet}
 use Rattle.sched.specs.Worlds.{GoesOn, IsLawfulWorld, IsWorldOf, WorldValue}
 use Rattle.sched.specs.declared.standing.Standing.{Standing}
 use Rattle.sched.specs.declared.event.Event.{Event}
@@ -37,7 +37,7 @@ pub opened_taken : (h : History) (port : ℕ) (packet : Cargo) (generation : ℕ
 opened_taken h port packet generation = rw (own port) refl
 
 -- what is open behind an answer at its port
-opened_told : (h : History) (port : ℕ) (helper : Helper) (told : ℕ) → opened (Then h (answering helper port) (Told told)) port ≡ after_answer told (opened h port)
+opened_told : (h : History) (port : ℕ) (helper : Helper) (told : ℕ) → opened (Then h (answering helper port) (Told told)) port ≡ after_told told (opened h port)
 opened_told h port helpers.Count told = rw (own port) refl
 opened_told h port helpers.Ticket told = rw (own port) refl
 opened_told h port helpers.Peak told = rw (own port) refl
@@ -57,7 +57,7 @@ answers_more port answers told event outcome a b c all asks is_told goes n h pac
     let next : IsLawfulWorld n (Then later (answering asks.0 port) (Told told)) c =
     subst (λ (e : Event). IsLawfulWorld n (Then later e (Told told)) c) asks.1
     (subst (λ (o : Outcome). IsLawfulWorld n (Then later event o) c) is_told (goes n later so_far.2)) in
-    (Then later (answering asks.0 port) (Told told), more asks.0 told so_far.1, next, opened_told later port asks.0 told ∙ ap (after_answer told) so_far.3)
+    (Then later (answering asks.0 port) (Told told), more asks.0 told so_far.1, next, opened_told later port asks.0 told ∙ ap (after_told told) so_far.3)
 
 -- ---- runs
 
@@ -77,7 +77,7 @@ prints_run port answers w old mid new j program head sizes budget s lent program
     let own : IsLentOf n port o j = subst (λ (last : Option Open). IsLent n port last (Some j)) is_open (lent n h world) in
     let lines = lines_are program (program_of n o) head (header_in o.packet) sizes n.sizes budget s (entry_state port) answers o.answers
     (program_is ∙ own.program) (head_is ∙ own.header_is) (sizes_are ∙ own.sizes) (budget_is ∙ ap (λ (p : Program). p.budget) own.program) s_is (sym told) in
-    let line : taken_line port j.slot j.generation ≡ taken_line port (slot_in n o.packet) o.generation = rw (own.slot, own.generation) refl in
+    let line : taken_line port j.slot j.generation ≡ taken_line port (slot_of_packet n o.packet) o.generation = rw (own.slot, own.generation) refl in
     appends_both old mid new _ _ (subst (λ (text : List ℕ). Appends old mid text) line first) (subst (λ (text : List ℕ). Appends mid new text) lines rest)
 
 -- ---- commands

@@ -4,7 +4,7 @@ use Rattle.clap.specs.Simple.{App}
 use Rattle.bpf.specs.Program.{Program}
 use Rattle.machine.specs.State.{entry_state}
 use Rattle.sched.specs.History.{Open}
-use Rattle.sched.specs.Looking.{Node, header_in, program_of, slot_in}
+use Rattle.sched.specs.Looking.{Node, header_in, program_of, slot_of_packet}
 use Rattle.job_parts.specs.Lines.{lines_app}
 use Rattle.job_trace.specs.Runs.{lines_within}
 
@@ -28,4 +28,4 @@ run_lines n port o = run_lines_of (program_of n o) n port o
 
 -- what is printed of an open command of a port, up to its reply
 abbrev pub command_lines : Node → (port : ℕ) → Open → List ℕ
-command_lines n port o = taken_line port (slot_in n o.packet) o.generation ++ run_lines n port o
+command_lines n port o = taken_line port (slot_of_packet n o.packet) o.generation ++ run_lines n port o

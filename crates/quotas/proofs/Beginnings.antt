@@ -10,7 +10,7 @@ use Rattle.sched.specs.declared.event.Outcome.TheVariants.{Told}
 use Rattle.sched.specs.Headline.{Begins, whole, longer}
 use Rattle.sched.specs.History.{History, Then, port_of}
 use Rattle.sched.specs.Lawful.{IsLawful, told_on}
-use Rattle.sched.specs.Looking.{Node, argument_asked, cell_asked, draws, is_cell, is_told, tickets, turn_at}
+use Rattle.sched.specs.Looking.{Node, argument_asked, cell_asked, draws, is_cell_of_node, is_told, tickets, turn_at}
 use Rattle.quotas.specs.Matches.{IsDraw}
 
 pub ordered : {a b h : History} → Begins a h → Begins b h → Begins a b ⊎ Begins b a
@@ -46,7 +46,7 @@ ticket_counts n h event outcome map key answer draw =
 
 -- ---- what a draw is told
 
-told_there : (n : Node) (h : History) (map key argument : ℕ) (cell : Option (ℕ × ℕ)) → is_cell cell map key ≡ true → told_on n h helpers.Ticket argument cell ≡ Told (tickets n h map key % 2 ^ 64)
+told_there : (n : Node) (h : History) (map key argument : ℕ) (cell : Option (ℕ × ℕ)) → is_cell_of_node cell map key ≡ true → told_on n h helpers.Ticket argument cell ≡ Told (tickets n h map key % 2 ^ 64)
 told_there n h map key argument None is = cc
 told_there n h map key argument (Some cell) is =
     let parts = and_parts (cell.0 == map) (cell.1 == key) is in

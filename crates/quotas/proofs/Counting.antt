@@ -21,9 +21,9 @@ use Rattle.sched.specs.declared.event.Event.TheVariants.{Take, Count, Ticket, Pe
 use Rattle.sched.specs.declared.event.Outcome.{Outcome}
 use Rattle.sched.specs.declared.event.Outcome.TheVariants.{Refused, Discarded, Answered, Taken, Told, Done}
 use Rattle.sched.specs.Headline.{Begins, EveryScheduleJudgesOnce, IsJudgedOnce, whole, longer}
-use Rattle.sched.specs.History.{History, Start, Then, Open, after_answer, opened, opened_by, port_of, taken_by, with_answer}
+use Rattle.sched.specs.History.{History, Start, Then, Open, after_told, opened, opened_by, port_of, taken_by, with_answer}
 use Rattle.sched.specs.Lawful.{IsLawful, IsOutcomeAt, IsPublishOutcome, IsPublishedBy, effect_at_turn, effect_outcome, take_outcome, helper_outcome}
-use Rattle.sched.specs.Looking.{Node, cell_asked, draws, header_in, is_cell, program_of, turn_at, turn_by, turn_of}
+use Rattle.sched.specs.Looking.{Node, cell_asked, draws, header_in, is_cell_of_node, program_of, turn_at, turn_by, turn_of}
 use Rattle.sched.specs.Turns.{AreWords, HasAsked, HasEnded, TurnsArePaths, answers_of}
 use Rattle.quotas.specs.Matches.{IsMatched, MatchesAreCounted, from_take}
 use Rattle.quotas.proofs.Beginnings.{lawful_before}
@@ -63,7 +63,7 @@ not_taken h generation (Effect port) o answers last e is = none-is o e
 not_taken h generation (Publish port) o answers last e is = none-is o e
 
 told_here : (h : History) (port : ℕ) (event : Event) (told : ℕ) (open_before : Option Open) (o : Open) (answers : List ℕ) (last : ℕ) → port_of event ≡ port → opened h port ≡ open_before
-    → after_answer told open_before ≡ Some o → o.answers ≡ answers ++ last ∷ [] → WasTold (Then h event (Told told)) port o answers last
+    → after_told told open_before ≡ Some o → o.answers ≡ answers ++ last ∷ [] → WasTold (Then h event (Told told)) port o answers last
 told_here h port event told None o answers last own there e is = absurd (none-is o e)
 told_here h port event told (Some p) o answers last own there e is =
     let grown : with_answer told p ≡ o = some-is _ o e in
@@ -143,7 +143,7 @@ ticket_asked n h (Peak port) told map key o at is_open asks =
     let refused : helper_outcome n h helpers.Peak (turn_at n h port) ≡ Refused = ap (helper_outcome n h helpers.Peak) asks in
     let no : Told told ≡ Refused = at ∙ refused in cc
 ticket_asked n h (Ticket port) told map key o at is_open asks =
-    ap (λ (t : Option Turn). is_cell (cell_asked helpers.Ticket t) map key) asks ∙ and_from (map == map) (key == key) (eq-eqb map map refl) (eq-eqb key key refl)
+    ap (λ (t : Option Turn). is_cell_of_node (cell_asked helpers.Ticket t) map key) asks ∙ and_from (map == map) (key == key) (eq-eqb map map refl) (eq-eqb key key refl)
 ticket_asked n h (Effect port) told map key o at is_open asks =
     let stands : turn_of n port o ≡ Some (turns.Ask (question helpers.Ticket map key 0)) = sym (ap (λ (x : Option Open). turn_by n port x) is_open) ∙ asks in
     let refused : effect_outcome n h port (opened h port) ≡ Refused = ap (λ (x : Option Open). effect_outcome n h port x) is_open ∙ ap (λ (t : Option Turn). effect_at_turn n h port o t) stands in

@@ -7,7 +7,7 @@ use Rattle.rmap.specs.declared.kind.Kind.TheVariants.{Read, Write, Rmw, Unused}
 use Rattle.rmap.specs.declared.places.Place.{Place}
 use Rattle.rmap.specs.declared.places.Place.TheVariants.{Bank, Staging, LoadResult, Control}
 use Rattle.rmap.specs.Command.{CommandValue, extended_of, command_kind}
-use Rattle.rmap.specs.Windows.{WindowsValue, IsWithinBank, LiesInBank, place_of, bank_place, boot_place, register_of, is_register, is_staged, lies_inside}
+use Rattle.rmap.specs.Windows.{WindowsValue, IsWithinBank, LiesInBank, place_of, bank_place, boot_place, load_register_of, is_register, is_staged, lies_inside}
 
 -- whether the place is a bank
 abbrev is_in_bank : Option Place → Bool
@@ -21,7 +21,7 @@ either : (b : Bool) (x y : Option Place) → is_in_bank x ≡ false → is_in_ba
 either true x y h k = h
 either false x y h k = k
 
-no_register : (kind : Kind) (c : CommandValue) → is_in_bank (register_of kind c) ≡ false
+no_register : (kind : Kind) (c : CommandValue) → is_in_bank (load_register_of kind c) ≡ false
 no_register Read c = either (is_register 8 c) (Some LoadResult) None refl refl
 no_register Write c = either (is_register 4 c) (Some Control) None refl refl
 no_register Rmw c = refl
@@ -29,7 +29,7 @@ no_register Unused c = refl
 
 -- the boot window is no bank
 no_bank : (c : CommandValue) → is_in_bank (bank_place None c) ≡ false
-no_bank c = either (eqb (extended_of c) 255) (boot_place c) None (either (is_staged c) (Some Staging) (register_of (command_kind c) c) refl (no_register (command_kind c) c)) refl
+no_bank c = either (eqb (extended_of c) 255) (boot_place c) None (either (is_staged c) (Some Staging) (load_register_of (command_kind c) c) refl (no_register (command_kind c) c)) refl
 
 given : (b : Bool) (x place : Place) → cond b (Some x) None ≡ Some place → (b ≡ true) × (x ≡ place)
 given true x place e = (refl, cc)

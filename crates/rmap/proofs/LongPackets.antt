@@ -13,7 +13,7 @@ use Rattle.rmap.specs.declared.places.Place.{Place}
 use Rattle.rmap.specs.declared.places.Place.TheVariants.{Staging}
 use Rattle.rmap.specs.Instruction.{carries_data, is_used}
 use Rattle.rmap.specs.Command.{CommandValue, command_of, command_kind, discard_of, instruction_of, length_of, path_length, target_of, verifies}
-use Rattle.rmap.specs.Windows.{WindowsValue, bank_place, is_staged, place_of, register_of}
+use Rattle.rmap.specs.Windows.{WindowsValue, bank_place, is_staged, place_of, load_register_of}
 use Rattle.rmap.specs.Checks.{body_line, body_line_at, has_wrong_rmw_length, header_check, header_line, header_status, miss_in, miss_of, wanted_length}
 use Rattle.rmap.specs.Laws.{HaveSameHeader, LongPacketIsCut, cut_to_longest}
 
@@ -68,7 +68,7 @@ of_parts f r t b e = record { front = f; reply_address = r; tail = t; body = b; 
 
 -- the checks of a header look at the front and the tail
 module _ (f t r u b d : List ℕ) (e : End) where
-  same_register : (kind : Kind) → register_of kind (of_parts f r t b e) ≡ register_of kind (of_parts f u t d e)
+  same_register : (kind : Kind) → load_register_of kind (of_parts f r t b e) ≡ load_register_of kind (of_parts f u t d e)
   unfolding of_parts
   same_register Read = refl
   same_register Write = refl

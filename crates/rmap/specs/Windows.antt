@@ -35,16 +35,16 @@ abbrev pub is_register : ℕ → CommandValue → Bool
 is_register size c = address_of c == LOAD_REGISTER && length_of c == size && increments c
 
 -- at 0x10000 the load result is read whole, and a control write written whole
-abbrev pub register_of : Kind → CommandValue → Option Place
-register_of Read c = if is_register LOAD_RESULT_SIZE c then Some LoadResult else None
-register_of Write c = if is_register CONTROL_SIZE c then Some Control else None
-register_of Rmw c = None
-register_of Unused c = None
+abbrev pub load_register_of : Kind → CommandValue → Option Place
+load_register_of Read c = if is_register LOAD_RESULT_SIZE c then Some LoadResult else None
+load_register_of Write c = if is_register CONTROL_SIZE c then Some Control else None
+load_register_of Rmw c = None
+load_register_of Unused c = None
 
 -- the boot window: staging, the load result and control writes
 abbrev pub boot_place : CommandValue → Option Place
 boot_place c =
-    if is_staged c then Some Staging else register_of (command_kind c) c
+    if is_staged c then Some Staging else load_register_of (command_kind c) c
 
 -- the bank of the extended address, where the command's bytes lie in it, or else the boot window
 abbrev pub bank_place : Option (ℕ × ℕ) → CommandValue → Option Place

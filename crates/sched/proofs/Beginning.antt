@@ -10,7 +10,7 @@ use Rattle.bank.specs.Admission.{IsPlacedBy}
 use Rattle.node_parts.specs.Slots.{slot_of}
 use Rattle.sched.specs.Begins.{BeginsAs, IsBegun}
 use Rattle.sched.specs.History.{History, taken}
-use Rattle.sched.specs.Looking.{Node, slot_in, published}
+use Rattle.sched.specs.Looking.{Node, slot_of_packet, published}
 use Rattle.sched.specs.Worlds.{RunValue, WorldValue, IsFor, IsRunOf, IsRunUnder, IsRunWith, IsShownAs, IsWorld, IsWorldOf}
 use Rattle.sched.proofs.Taking.{shown_there}
 
@@ -39,12 +39,12 @@ begin_under old w packet place slot shown a r begins fits = record {
 
 -- what the slot shows is what is published there
 begin_shown : (old w : WorldValue) (packet : Cargo) (place : Place) (slot : ℕ) (shown : AcceptedValue × ℕ) (a : AcceptedValue) (r : RunValue) → IsBegin old w packet place slot shown a r
-    → (n : Node) (h : History) → IsWorldOf n h old → IsShownAs n (published n h (slot_in n packet)) shown
+    → (n : Node) (h : History) → IsWorldOf n h old → IsShownAs n (published n h (slot_of_packet n packet)) shown
 begin_shown old w packet place slot shown a r begins n h world =
     shown_there n h old packet place slot shown world begins.placed begins.slot_is (subst (λ (v : WorldValue). slice_get v.programs slot ≡ Some shown) begins.is begins.there)
 
 begin_generation : (old w : WorldValue) (packet : Cargo) (place : Place) (slot : ℕ) (shown : AcceptedValue × ℕ) (a : AcceptedValue) (r : RunValue) → IsBegin old w packet place slot shown a r
-    → (n : Node) (h : History) → IsWorldOf n h old → r.generation ≡ (published n h (slot_in n packet)).1
+    → (n : Node) (h : History) → IsWorldOf n h old → r.generation ≡ (published n h (slot_of_packet n packet)).1
 begin_generation old w packet place slot shown a r begins n h world =
     begins.with.generation_is ∙ (begin_shown old w packet place slot shown a r begins n h world).generation
 

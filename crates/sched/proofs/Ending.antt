@@ -24,7 +24,7 @@ use Rattle.sched.specs.declared.event.Outcome.TheVariants.{Refused, Done}
 use Rattle.sched.specs.Ends.{judged_with, share_in, with_share_in, EndsAt}
 use Rattle.sched.specs.History.{History, Then, Open, port_of, opened}
 use Rattle.sched.specs.Lawful.{bank_answer, staging_answer, load_result_answer, done, effect_at_place, effect_at_turn, effect_outcome}
-use Rattle.sched.specs.Looking.{Node, place_in, turn_of, verdict_of, staging, staged_at, staged_behind, entry_left, has_room, entered, entries_at, entries, first_memory, memory}
+use Rattle.sched.specs.Looking.{Node, place_in, turn_of, verdict_at, staging, staged_at, staged_behind, entry_left, has_room, entered, entries_at, entries, first_memory, memory}
 use Rattle.sched.specs.Worlds.{RunValue, PortValue, WorldValue, AreBanksOf, GoesOn, IsBankOf, IsJudging, IsPortOf, IsRunOf, IsShareWith, effect_due, effect_due_at, verdict_at}
 use Rattle.sched.proofs.Growth.{IsPortBehind, OthersKeepCounts, at_written, at_other, ports_changed, left_all}
 use Rattle.sched.proofs.Entering.{entries_done, numbers_same, numbers_other, entered_other, entered_memory}
@@ -61,7 +61,7 @@ same_answer n h k port verdict o r b below packet is =
     ∙ ap (λ (room : Bool). answer (memory n h k) room (command_of o.packet) verdict) (same_room n k port (entries n h k) (memory n h k) b below is)
 
 -- the entry that a bank makes is the one that looking back finds
-same_entry : (n : Node) (port verdict number : ℕ) (o : Open) (r : RunValue) (share : ShareValue) (status given : Status) → share.number ≡ number → r.packet ≡ o.packet → r.generation ≡ o.generation → verdict ≡ verdict_of (turn_of n port o) → given ≡ status
+same_entry : (n : Node) (port verdict number : ℕ) (o : Open) (r : RunValue) (share : ShareValue) (status given : Status) → share.number ≡ number → r.packet ≡ o.packet → r.generation ≡ o.generation → verdict ≡ verdict_at (turn_of n port o) → given ≡ status
     → entry_of share (judged_with port verdict r) given ≡ entry_left n port number o status
 same_entry n port verdict number o r share status given counts packet generation turn is = rw (counts, packet, generation, turn, is) refl
 
@@ -110,7 +110,7 @@ record IsAtBank (n : Node) (h : History) (port verdict k : ℕ) (p : PortValue) 
   is_open : opened h port ≡ Some o
   run : IsRunOf n port o r
   lies : place_in n o.packet ≡ Some (places.Bank k)
-  ended : verdict ≡ verdict_of (turn_of n port o)
+  ended : verdict ≡ verdict_at (turn_of n port o)
   bank : IsBankOf n k (entries n h k) (memory n h k) b
   holder : (share_in p k port).port ≡ port
   next : (share_in p k port).number ≡ length (numbers_of port (entries n h k))
@@ -362,7 +362,7 @@ effect_at_bank w port verdict k p r b status reply judged place there status_is 
       is_open = command.is_open;
       run = command.run;
       lies = lies;
-      ended = sym (ap verdict_of stands);
+      ended = sym (ap verdict_at stands);
       bank = old.banks_are.each k b there;
       holder = share.holder;
       next = share.next;

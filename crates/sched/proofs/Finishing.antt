@@ -10,7 +10,7 @@ use Rattle.rmap.specs.declared.places.Place.{Place}
 use Rattle.rmap.specs.declared.places.Place.TheVariants as places
 use Rattle.rmap.specs.declared.status.Status.{Status}
 use Rattle.rmap.specs.Command.{CommandValue, command_of, command_kind, extended_of}
-use Rattle.rmap.specs.Windows.{WindowsValue, place_of, bank_place, boot_place, register_of, is_register, is_staged, lies_inside}
+use Rattle.rmap.specs.Windows.{WindowsValue, place_of, bank_place, boot_place, load_register_of, is_register, is_staged, lies_inside}
 use Rattle.machine.specs.Sizes.{Maps}
 use Rattle.bank.specs.Admission.{IsPlacedBy}
 use Rattle.bank.specs.Records.{BankValue, after_command, extent_of, fits, next_share}
@@ -35,7 +35,7 @@ either : (b : Bool) (x y : Option Place) → IsNoBank x → IsNoBank y → IsNoB
 either true x y first second = first
 either false x y first second = second
 
-no_register : (kind : Kind) (c : CommandValue) → IsNoBank (register_of kind c)
+no_register : (kind : Kind) (c : CommandValue) → IsNoBank (load_register_of kind c)
 no_register Read c = either (is_register 8 c) (Some places.LoadResult) None tt tt
 no_register Write c = either (is_register 4 c) (Some places.Control) None tt tt
 no_register Rmw c = tt
@@ -43,7 +43,7 @@ no_register Unused c = tt
 
 -- the boot window is no bank
 no_bank : (c : CommandValue) → IsNoBank (bank_place None c)
-no_bank c = either (extended_of c == 255) (boot_place c) None (either (is_staged c) (Some places.Staging) (register_of (command_kind c) c) tt (no_register (command_kind c) c)) tt
+no_bank c = either (extended_of c == 255) (boot_place c) None (either (is_staged c) (Some places.Staging) (load_register_of (command_kind c) c) tt (no_register (command_kind c) c)) tt
 
 same_bank : (j k : ℕ) → places.Bank j ≡ places.Bank k → j ≡ k
 same_bank j k e = cc

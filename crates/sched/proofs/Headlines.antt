@@ -25,7 +25,7 @@ use Rattle.sched.specs.declared.event.Outcome.TheVariants.{Refused, Discarded, A
 use Rattle.sched.specs.Headline.{AreJudgedOnce, EndsBy, EveryScheduleJudgesOnce, HasBytes, IsEffectOf, IsJudgedOnce, IsJudgedOnceIfDone, IsLoadOf, IsStoppedWrite, IsNode, IsWriteEnd, memory_left}
 use Rattle.sched.specs.History.{History, Start, Then, Open, port_of, opened}
 use Rattle.sched.specs.Lawful.{IsLawful, IsControlled, IsLoaded, bank_answer, staging_answer, load_result_answer, done, effect_at_place}
-use Rattle.sched.specs.Looking.{Node, place_in, slot_in, header_in, staging, staged_at, staged_behind, entry_left, has_room, entered, entries, first_memory, memory, published_behind, publishes, published, program_of}
+use Rattle.sched.specs.Looking.{Node, place_in, slot_of_packet, header_in, staging, staged_at, staged_behind, entry_left, has_room, entered, entries, first_memory, memory, published_behind, publishes, published, program_of}
 use Rattle.sched.specs.Turns.{TurnsArePaths}
 use Rattle.sched.proofs.Ending.{IsNoBank, entries_stay}
 use Rattle.sched.proofs.Entering.{entries_done, entered_memory}
@@ -187,7 +187,7 @@ judged_once law safety paths fit asks n h event outcome node bytes lawful done =
     let o = end.command in
     let leads = opened_taken h (port_of event) o end.is_open in
     let first = began_lawful n (port_of event) _ h leads lawful.0 in
-    let justified = published_justified law n o.before (slot_in n o.packet) node.factory first.0 in
+    let justified = published_justified law n o.before (slot_of_packet n o.packet) node.factory first.0 in
     let safe = safety (program_of n o) n.sizes justified in
     let told = generation_told n o.before (port_of event) o.packet o.generation first.1 in
     let words = open_words law safety paths fit asks n node h (port_of event) o bytes lawful.0 end.is_open in

@@ -27,9 +27,9 @@ use Rattle.sched.specs.declared.event.Event.TheVariants.{Take, Count, Ticket, Pe
 use Rattle.sched.specs.declared.event.Outcome.{Outcome}
 use Rattle.sched.specs.declared.event.Outcome.TheVariants.{Refused, Discarded, Answered, Taken, Told, Done}
 use Rattle.sched.specs.Headline.{HasBytes, LeadsTo, same, further}
-use Rattle.sched.specs.History.{History, Start, Then, Open, port_of, taken_by, after_answer, opened_by, opened}
+use Rattle.sched.specs.History.{History, Start, Then, Open, port_of, taken_by, after_told, opened_by, opened}
 use Rattle.sched.specs.Lawful.{IsLawful, IsOutcome, IsOutcomeAt, IsControlled, IsDecided, IsLoaded, IsPublishedAt, IsPublishedBy, IsPublishOutcome, effect_at_place, effect_at_turn, effect_outcome, header_outcome, packet_outcome, take_outcome, told_on}
-use Rattle.sched.specs.Looking.{Node, windows_in, place_in, slot_in, argument_asked, cell_asked, turn_at, turn_of, staging, published_at, published_behind, publishes, published}
+use Rattle.sched.specs.Looking.{Node, windows_in, place_in, slot_of_packet, argument_asked, cell_asked, turn_at, turn_of, staging, published_at, published_behind, publishes, published}
 use Rattle.sched.proofs.Publishing.{loaded_program}
 
 -- ---- what is left of an outcome
@@ -210,19 +210,19 @@ began_lawful n port first h same lawful = lawful
 began_lawful n port first h (further leads others) lawful = began_lawful n port first _ leads lawful.0
 
 -- a Taken tells the generation that is published in the slot of its packet
-taken_header : (n : Node) (h : History) (p : Cargo) (generation : ℕ) (line : Option Status) → Taken generation ≡ header_outcome n h p line → generation ≡ (published n h (slot_in n p)).1
+taken_header : (n : Node) (h : History) (p : Cargo) (generation : ℕ) (line : Option Status) → Taken generation ≡ header_outcome n h p line → generation ≡ (published n h (slot_of_packet n p)).1
 taken_header n h p generation (Some status) e = absurd cc
 taken_header n h p generation None e = cc
 
-taken_packet : (n : Node) (h : History) (p : Cargo) (generation : ℕ) (discard : Option Discard) → Taken generation ≡ packet_outcome n h p discard → generation ≡ (published n h (slot_in n p)).1
+taken_packet : (n : Node) (h : History) (p : Cargo) (generation : ℕ) (discard : Option Discard) → Taken generation ≡ packet_outcome n h p discard → generation ≡ (published n h (slot_of_packet n p)).1
 taken_packet n h p generation (Some discard) e = absurd cc
 taken_packet n h p generation None e = taken_header n h p generation (header_line (command_of p) (windows_in n)) e
 
-taken_generation : (n : Node) (h : History) (p : Cargo) (generation : ℕ) (last : Option Open) → Taken generation ≡ take_outcome n h p last → generation ≡ (published n h (slot_in n p)).1
+taken_generation : (n : Node) (h : History) (p : Cargo) (generation : ℕ) (last : Option Open) → Taken generation ≡ take_outcome n h p last → generation ≡ (published n h (slot_of_packet n p)).1
 taken_generation n h p generation None e = taken_packet n h p generation (discard_of p.bytes) e
 taken_generation n h p generation (Some o) e = absurd cc
 
-pub generation_told : (n : Node) (h : History) (port : ℕ) (p : Cargo) (generation : ℕ) → IsOutcome n h (Take port p) (Taken generation) → (published n h (slot_in n p)).1 ≡ generation
+pub generation_told : (n : Node) (h : History) (port : ℕ) (p : Cargo) (generation : ℕ) → IsOutcome n h (Take port p) (Taken generation) → (published n h (slot_of_packet n p)).1 ≡ generation
 generation_told n h port p generation is =
     let there = at_a_port n h (Take port p) (Taken generation) (λ e. absurd cc) is in
     sym (taken_generation n h p generation (opened h port) (is.here there))

@@ -7,7 +7,7 @@ use Rattle.sched.specs.declared.event.Event.{Event}
 use Rattle.sched.specs.declared.event.Event.TheVariants.{Take, Count, Ticket, Peak, Effect, Publish}
 use Rattle.sched.specs.declared.event.Outcome.{Outcome}
 use Rattle.sched.specs.declared.event.Outcome.TheVariants.{Refused, Discarded, Answered, Taken, Told, Done}
-use Rattle.sched.specs.History.{History, Start, Then, Open, port_of, taken_by, after_answer, opened_by, opened}
+use Rattle.sched.specs.History.{History, Start, Then, Open, port_of, taken_by, after_told, opened_by, opened}
 use Rattle.sched.specs.Headline.{Begins, whole, longer, LeadsTo, same, further, OpenedBehindDone}
 
 -- the beginning that ends with the Take of an open command
@@ -22,7 +22,7 @@ none-is x e = cc
 
 -- an answer leaves where the command was taken
 answered-from : (h : History) (port n : ℕ) (last : Option Open) (o : Open) → ((p : Open) → last ≡ Some p → LeadsTo port (from_take port p) h)
-    → after_answer n last ≡ Some o → LeadsTo port (from_take port o) h
+    → after_told n last ≡ Some o → LeadsTo port (from_take port o) h
 answered-from h port n None o before e = absurd (none-is o e)
 answered-from h port n (Some p) o before e =
     subst (λ (x : Open). LeadsTo port (from_take port x) h) (some-is _ o e) (before p refl)
@@ -66,7 +66,7 @@ opened_taken (Then h event outcome) port o e =
 -- ---- behind a command that was done
 
 -- an answer leaves what stood before the Take
-answered_behind : (first : History) (told : ℕ) (last : Option Open) (o : Open) → ((p : Open) → last ≡ Some p → Begins first p.before) → after_answer told last ≡ Some o → Begins first o.before
+answered_behind : (first : History) (told : ℕ) (last : Option Open) (o : Open) → ((p : Open) → last ≡ Some p → Begins first p.before) → after_told told last ≡ Some o → Begins first o.before
 answered_behind first told None o before e = absurd (none-is o e)
 answered_behind first told (Some p) o before e = subst (λ (x : Open). Begins first x.before) (some-is _ o e) (before p refl)
 

@@ -17,7 +17,7 @@ use Rattle.brun.specs.declared.turns.Turn.{Turn}
 use Rattle.brun.specs.declared.turns.Turn.TheVariants as turns
 use Rattle.brun.specs.Pauses.{IsAsking, IsAt, IsAtQuestion, IsPaused, Turns}
 use Rattle.sched.specs.History.{History, Open, taken, with_answer}
-use Rattle.sched.specs.Looking.{Node, windows_in, header_in, slot_in, published, program_of}
+use Rattle.sched.specs.Looking.{Node, windows_in, header_in, slot_of_packet, published, program_of}
 use Rattle.sched.specs.Turns.{answers_of, TurnsArePaths, turn_after}
 use Rattle.sched.specs.Worlds.{RunValue, StandsThere, IsAsk, IsFor, IsRunOf}
 use Rattle.sched.proofs.Turns.{told_words}
@@ -102,7 +102,7 @@ run_of n port o r calls law safety is low packet generation placed program accep
 
 -- a run that has just begun is that of the command that was just taken
 pub begun : (n : Node) (port : ℕ) (h : History) (packet : Cargo) (place : Place) (a : AcceptedValue) (generation : ℕ) (turn : Turn) (first frame : Frame) (before stack : List ℕ)
-    → TurnsArePaths → JustifiedIsSafe → IsHeader (header_in packet) → port < 32 → IsPlacedBy (windows_in n) packet place → a.program ≡ (published n h (slot_in n packet)).0 → IsFor n a
+    → TurnsArePaths → JustifiedIsSafe → IsHeader (header_in packet) → port < 32 → IsPlacedBy (windows_in n) packet place → a.program ≡ (published n h (slot_of_packet n packet)).0 → IsFor n a
     → IsAt a.program (header_in packet) port [] first before → GoesOnFrom a.program (header_in packet) first before turn frame stack
     → IsRunOf n port (taken packet generation h) (record { packet = packet; place = place; program = a; generation = generation; turn = turn; frame = frame; stack = stack })
 begun n port h packet place a generation turn first frame before stack law safety is low placed program accepted starts on =

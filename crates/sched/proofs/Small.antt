@@ -28,9 +28,9 @@ use Rattle.sched.specs.declared.event.Event.TheVariants.{Take, Count, Ticket, Pe
 use Rattle.sched.specs.declared.event.Outcome.{Outcome}
 use Rattle.sched.specs.declared.event.Outcome.TheVariants.{Refused, Discarded, Answered, Taken, Told, Done}
 use Rattle.sched.specs.Headline.{HasBytes, IsNode}
-use Rattle.sched.specs.History.{History, Start, Then, Open, port_of, taken_by, after_answer, opened_by, opened}
+use Rattle.sched.specs.History.{History, Start, Then, Open, port_of, taken_by, after_told, opened_by, opened}
 use Rattle.sched.specs.Lawful.{IsLawful, IsOutcome, IsOutcomeAt, IsControlled, IsLoaded, IsPublishedAt, IsPublishedBy, IsPublishOutcome, told_of_cell, told_on, effect_at_place, effect_at_turn, effect_outcome, header_outcome, packet_outcome, take_outcome}
-use Rattle.sched.specs.Looking.{Node, windows_in, place_in, slot_in, header_in, argument_asked, cell_asked, is_told, raises, turn_at, turn_by, turn_of, tickets, peaks, word_by_kind, cell_word, program_of}
+use Rattle.sched.specs.Looking.{Node, windows_in, place_in, slot_of_packet, header_in, argument_asked, cell_asked, is_told, raises, turn_at, turn_by, turn_of, tickets, peaks, word_by_kind, cell_word, program_of}
 use Rattle.sched.specs.Turns.{AreWords, HasAsked, TurnsArePaths}
 use Rattle.sched.proofs.Headers.{header_of_command}
 use Rattle.sched.proofs.Judging.{at_a_port, began_bytes, began_lawful, published_justified, taken_kept}
@@ -142,7 +142,7 @@ taken_words h generation (Peak port) = tt
 taken_words h generation (Effect port) = tt
 taken_words h generation (Publish port) = tt
 
-answered_words : (told : ℕ) (last : Option Open) → told < 2 ^ 64 → HaveWords last → HaveWords (after_answer told last)
+answered_words : (told : ℕ) (last : Option Open) → told < 2 ^ 64 → HaveWords last → HaveWords (after_told told last)
 answered_words told None word before = tt
 answered_words told (Some o) word before = All-push (λ answer. answer < 2 ^ 64) o.answers told before word
 
@@ -179,7 +179,7 @@ module _ (law : ImagesAreRead) (safety : JustifiedIsSafe) (paths : TurnsArePaths
   turn_argument h port o (Some (turns.Ask question)) there bytes lawful is words stands =
       let leads = opened_taken h port o is in
       let first = began_lawful n port _ h leads lawful in
-      let justified = published_justified law n o.before (slot_in n o.packet) node.factory first.0 in
+      let justified = published_justified law n o.before (slot_of_packet n o.packet) node.factory first.0 in
       let kept = taken_kept n o.before port o.packet o.generation first.1 in
       let header = header_of_command o.packet kept (began_bytes port _ h leads bytes).1 in
       let low : port < 32 = omega (arith, there, node.few_ports) in

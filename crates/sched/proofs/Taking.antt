@@ -16,7 +16,7 @@ use Rattle.sched.specs.declared.event.Outcome.TheVariants.{Refused, Answered, Ta
 use Rattle.sched.specs.Begins.{IsBegun}
 use Rattle.sched.specs.History.{History, Open, taken, opened}
 use Rattle.sched.specs.Lawful.{header_outcome, packet_outcome, take_outcome, stop_outcome}
-use Rattle.sched.specs.Looking.{Node, windows_in, slot_at, slot_in, staging, published, entries}
+use Rattle.sched.specs.Looking.{Node, windows_in, slot_at, slot_of_packet, staging, published, entries}
 use Rattle.sched.specs.Worlds.{RunValue, PortValue, WorldValue, GoesOn, IsJudging, IsPortOf, IsRunOf, IsShownAs, IsWorldOf}
 use Rattle.sched.proofs.Growth.{IsPortBehind, LeavesAll, ports_changed, left_all}
 use Rattle.sched.proofs.Telling.{outcome_here}
@@ -70,7 +70,7 @@ take_stopped w port packet p stop reply outcome there below none stops is n h wo
 -- ---- taken
 
 -- a command that no check of its header stops is taken
-taken_outcome : (n : Node) (h : History) (packet : Cargo) (place : Place) (generation : ℕ) → IsPlacedBy (windows_in n) packet place → generation ≡ (published n h (slot_in n packet)).1
+taken_outcome : (n : Node) (h : History) (packet : Cargo) (place : Place) (generation : ℕ) → IsPlacedBy (windows_in n) packet place → generation ≡ (published n h (slot_of_packet n packet)).1
     → Taken generation ≡ packet_outcome n h packet (discard_of packet.bytes)
 taken_outcome n h packet place generation placed is =
     ap Taken is ∙ sym (ap (header_outcome n h packet) placed.allowed) ∙ sym (ap (packet_outcome n h packet) placed.command)
@@ -110,13 +110,13 @@ take_taken w port packet place p r there below none placed begun n h world =
 -- ---- the program of a slot
 
 -- the slot of a command's place is the one that looking back names
-slot_placed : (n : Node) (packet : Cargo) (place : Place) → IsPlacedBy (windows_in n) packet place → slot_in n packet ≡ slot_at (command_of packet) (Some place)
+slot_placed : (n : Node) (packet : Cargo) (place : Place) → IsPlacedBy (windows_in n) packet place → slot_of_packet n packet ≡ slot_at (command_of packet) (Some place)
 slot_placed n packet place placed = ap (slot_at (command_of packet)) placed.lies
 
 -- the program that is shown in the slot of a command's place is the one that is published there
 pub shown_there : (n : Node) (h : History) (w : WorldValue) (packet : Cargo) (place : Place) (slot : ℕ) (shown : AcceptedValue × ℕ) → IsWorldOf n h w → IsPlacedBy w.windows packet place
-    → slot ≡ slot_at (command_of packet) (Some place) → slice_get w.programs slot ≡ Some shown → IsShownAs n (published n h (slot_in n packet)) shown
+    → slot ≡ slot_at (command_of packet) (Some place) → slice_get w.programs slot ≡ Some shown → IsShownAs n (published n h (slot_of_packet n packet)) shown
 shown_there n h w packet place slot shown world placed is there =
     let placed_here = subst (λ (windows : WindowsValue). IsPlacedBy windows packet place) world.windows_are placed in
-    let same : slot ≡ slot_in n packet = is ∙ sym (slot_placed n packet place placed_here) in
+    let same : slot ≡ slot_of_packet n packet = is ∙ sym (slot_placed n packet place placed_here) in
     subst (λ (s : ℕ). IsShownAs n (published n h s) shown) same (world.programs_are slot shown there)

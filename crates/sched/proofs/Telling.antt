@@ -15,9 +15,9 @@ use Rattle.sched.specs.declared.event.Event.TheVariants.{Count, Ticket, Peak}
 use Rattle.sched.specs.declared.event.Outcome.{Outcome}
 use Rattle.sched.specs.declared.event.Outcome.TheVariants.{Refused, Told}
 use Rattle.sched.specs.Answers.{answering, told_of_word, word_behind}
-use Rattle.sched.specs.History.{History, Then, Open, port_of, after_answer, opened}
+use Rattle.sched.specs.History.{History, Then, Open, port_of, after_told, opened}
 use Rattle.sched.specs.Lawful.{IsOutcome, IsOutcomeAt, helper_outcome, told_of_cell, told_on}
-use Rattle.sched.specs.Looking.{Node, argument_asked, cell_asked, is_cell, turn_by, turn_at, staging, tickets, peaks, word_by_kind, cell_word, entries}
+use Rattle.sched.specs.Looking.{Node, argument_asked, cell_asked, is_cell_of_node, turn_by, turn_at, staging, tickets, peaks, word_by_kind, cell_word, entries}
 use Rattle.sched.specs.Worlds.{RunValue, PortValue, WorldValue, AreWordsOf, GoesOn, IsJudging, IsPortOf, IsWorldOf, turn_in, with_word, word_at}
 use Rattle.sched.proofs.Growth.{IsPortBehind, ports_changed, left_all}
 
@@ -38,7 +38,7 @@ outcome_here n h event outcome ports there count is = record {
 -- a port whose program was told that
 pub record IsTold (told : ℕ) (p q : PortValue) : Type 0 where
   pub rest : q ≡ record p { run = q.run }
-  pub run : (n : Node) (port : ℕ) (last : Option Open) → port < 32 → IsJudging n port last p.run → IsJudging n port (after_answer told last) q.run
+  pub run : (n : Node) (port : ℕ) (last : Option Open) → port < 32 → IsJudging n port last p.run → IsJudging n port (after_told told last) q.run
 
 -- behind an answer the port is that of its command with the answer
 told_port : (n : Node) (h : History) (event : Event) (told port : ℕ) (p q : PortValue) → port < 32 → IsTold told p q
@@ -147,7 +147,7 @@ ticket_words n h port map key told next words asked there inside kind read count
     let now : ℕ → ℕ → ℕ = λ x y. word_by_kind (kind_of_map n.sizes x) (tickets n h x y + 1) (peaks n h x y) in
     let new : next ≡ now map key = counts ∙ next_word told (tickets n h map key) read ∙ sym (ap (λ (c : MapKind). word_by_kind c (tickets n h map key + 1) (peaks n h map key)) kind) in
     let drawn = words_written n.sizes words (cell_word n h) now map key next there inside new are m k here ∙ say_drawn (kind_of_map n.sizes m) ((map == m) && (key == k)) (tickets n h m k) (peaks n h m k) in
-    subst (λ (c : Option (ℕ × ℕ)). word_at (with_word words map key next) m k ≡ word_by_kind (kind_of_map n.sizes m) (if is_cell c m k then tickets n h m k + 1 else tickets n h m k) (peaks n h m k)) (sym asked) drawn
+    subst (λ (c : Option (ℕ × ℕ)). word_at (with_word words map key next) m k ≡ word_by_kind (kind_of_map n.sizes m) (if is_cell_of_node c m k then tickets n h m k + 1 else tickets n h m k) (peaks n h m k)) (sym asked) drawn
 
 raised_words : (n : Node) (h : History) (port map key next : ℕ) (words : List (List ℕ)) → cell_asked helpers.Peak (turn_at n h port) ≡ Some (map, key) → map < length words → key < length (get_or words map [])
     → kind_of_map n.sizes map ≡ kinds.Peak → next ≡ max (peaks n h map key) (argument_asked (turn_at n h port)) → AreWordsOf n.sizes (cell_word n h) words
@@ -158,7 +158,7 @@ raised_words n h port map key next words asked there inside kind raised are = λ
     let new : next ≡ now map key = raised ∙ sym (ap (λ (c : MapKind). word_by_kind c (tickets n h map key) (max (peaks n h map key) argument)) kind) in
     let drawn = words_written n.sizes words (cell_word n h) now map key next there inside new are m k here
     ∙ say_raised (kind_of_map n.sizes m) ((map == m) && (key == k)) (tickets n h m k) (peaks n h m k) (max (peaks n h m k) argument) in
-    subst (λ (c : Option (ℕ × ℕ)). word_at (with_word words map key next) m k ≡ word_by_kind (kind_of_map n.sizes m) (tickets n h m k) (if is_cell c m k then max (peaks n h m k) argument else peaks n h m k)) (sym asked) drawn
+    subst (λ (c : Option (ℕ × ℕ)). word_at (with_word words map key next) m k ≡ word_by_kind (kind_of_map n.sizes m) (tickets n h m k) (if is_cell_of_node c m k then max (peaks n h m k) argument else peaks n h m k)) (sym asked) drawn
 
 -- the number to which a port raises is what looking back finds there
 argument_here : (n : Node) (h : History) (port argument : ℕ) (p : PortValue) → argument ≡ argument_asked (turn_in p.run)

@@ -5,7 +5,7 @@ use Rattle.rmap.specs.declared.places.Place.{Place}
 use Rattle.bver.specs.Justified.{AcceptedValue}
 use Rattle.bank.specs.Admission.{IsPlacedBy}
 use Rattle.sched.specs.History.{History, taken}
-use Rattle.sched.specs.Looking.{Node, published, slot_in, windows_in}
+use Rattle.sched.specs.Looking.{Node, published, slot_of_packet, windows_in}
 use Rattle.sched.specs.Worlds.{PortValue, RunValue, WorldValue, IsFor, IsRunOf, IsRunUnder, IsRunWith, IsWorldOf}
 
 -- the run fits the world, and behind each history of the world it is that of the packet's command, just taken at the
@@ -13,12 +13,12 @@ use Rattle.sched.specs.Worlds.{PortValue, RunValue, WorldValue, IsFor, IsRunOf, 
 pub record IsBegun (w : WorldValue) (port : ℕ) (packet : Cargo) (r : RunValue) : Type 0 where
   pub under : IsRunUnder w.windows w.sizes r
   pub run : (n : Node) (h : History) → IsWorldOf n h w → IsRunOf n port (taken packet r.generation h) r
-  pub generation : (n : Node) (h : History) → IsWorldOf n h w → r.generation ≡ (published n h (slot_in n packet)).1
+  pub generation : (n : Node) (h : History) → IsWorldOf n h w → r.generation ≡ (published n h (slot_of_packet n packet)).1
 
 -- what a run says that began, of every node and history
 abbrev pub BeginsAs : (port : ℕ) → Cargo → Place → AcceptedValue → (generation : ℕ) → RunValue → Type 0
 BeginsAs port packet place a generation r = (n : Node) (h : History) → IsPlacedBy (windows_in n) packet place
-    → a.program ≡ (published n h (slot_in n packet)).0 → IsFor n a → IsRunOf n port (taken packet generation h) r
+    → a.program ≡ (published n h (slot_of_packet n packet)).0 → IsFor n a → IsRunOf n port (taken packet generation h) r
 
 -- the run is that of the packet's command, which that program of that generation has begun to judge
 pub record HasBegun (port : ℕ) (packet : Cargo) (place : Place) (a : AcceptedValue) (generation : ℕ) (r : RunValue) :

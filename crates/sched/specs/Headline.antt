@@ -42,7 +42,7 @@ use Rattle.sched.specs.Lawful.{IsLawful, IsLoaded, bank_answer, staging_answer, 
 use Rattle.sched.specs.Looking.{
   Node,
   place_in,
-  slot_in,
+  slot_of_packet,
   header_in,
   staging,
   publishes,
@@ -213,7 +213,7 @@ pub record IsJudgedOnce (n : Node) (h : History) (event : Event) (outcome : Outc
   pub is_open : opened h (port_of event) ≡ Some taken
   pub once : LeadsTo (port_of event) (Then taken.before (Take (port_of event) taken.packet) (Taken taken.generation)) h
   pub alone : AreDoneWithin (port_of event) h taken.before
-  pub judged_by : published n taken.before (slot_in n taken.packet) ≡ (program_of n taken, taken.generation)
+  pub judged_by : published n taken.before (slot_of_packet n taken.packet) ≡ (program_of n taken, taken.generation)
   pub justified : IsJustified (program_of n taken) n.sizes
   pub safe : IsSafe (program_of n taken) n.sizes
   pub header : IsHeader (header_in taken.packet)

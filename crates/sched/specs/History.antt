@@ -52,9 +52,9 @@ abbrev pub with_answer : ℕ → Open → Open
 with_answer told o = record o { answers = o.answers ++ told ∷ [] }
 
 -- the same, where one is open
-abbrev pub after_answer : ℕ → Option Open → Option Open
-after_answer told None = None
-after_answer told (Some o) = Some (with_answer told o)
+abbrev pub after_told : ℕ → Option Open → Option Open
+after_told told None = None
+after_told told (Some o) = Some (with_answer told o)
 
 -- the open command of a port behind an event of its own, by what that came to: Taken opens one, Told answers it, and
 -- with Done none is open
@@ -63,7 +63,7 @@ opened_by h last event Refused = last
 opened_by h last event (Discarded discard) = last
 opened_by h last event (Answered status reply) = last
 opened_by h last event (Taken generation) = taken_by h generation event
-opened_by h last event (Told told) = after_answer told last
+opened_by h last event (Told told) = after_told told last
 opened_by h last event (Done status reply loaded) = None
 
 -- the open command of a port: the last that was taken there, if none was done since

@@ -29,7 +29,7 @@ use Rattle.sched.specs.Looking.{
   Node,
   windows_in,
   place_in,
-  slot_in,
+  slot_of_packet,
   staging,
   publishes,
   published,
@@ -56,7 +56,7 @@ stop_outcome (Fault status) reply = Answered status reply
 -- program that is published in its slot
 abbrev pub header_outcome : Node → History → Cargo → Option Status → Outcome
 header_outcome n h p (Some status) = Answered status (reply_of (command_of p) status [])
-header_outcome n h p None = Taken (published n h (slot_in n p)).1
+header_outcome n h p None = Taken (published n h (slot_of_packet n p)).1
 
 -- what a packet comes to: discarded where it is no command
 abbrev pub packet_outcome : Node → History → Cargo → Option Discard → Outcome

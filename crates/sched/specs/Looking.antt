@@ -87,8 +87,8 @@ slot_at c None = 0
 slot_at c (Some place) = slot_of (command_kind c) place
 
 -- the slot of the program that judges a packet's command in a node
-abbrev pub slot_in : Node → Cargo → ℕ
-slot_in n p = slot_at (command_of p) (place_in n p)
+abbrev pub slot_of_packet : Node → Cargo → ℕ
+slot_of_packet n p = slot_at (command_of p) (place_in n p)
 
 -- what a program sees of a packet's command
 abbrev pub header_in : Cargo → Header
@@ -183,7 +183,7 @@ published n (Then h event outcome) slot =
 
 -- the program that judges an open command: the one of its slot when it was taken
 abbrev pub program_of : Node → Open → Program
-program_of n o = (published n o.before (slot_in n o.packet)).0
+program_of n o = (published n o.before (slot_of_packet n o.packet)).0
 
 -- where the program of an open command of the port stands
 abbrev pub turn_of : Node → (port : ℕ) → Open → Option Turn
@@ -212,9 +212,9 @@ cell_asked helper (Some (turns.Ask question)) =
 cell_asked helper (Some (turns.Verdict verdict)) = None
 
 -- whether it is that cell
-abbrev pub is_cell : Option (ℕ × ℕ) → (map key : ℕ) → Bool
-is_cell None map key = false
-is_cell (Some cell) map key = cell.0 == map && cell.1 == key
+abbrev pub is_cell_of_node : Option (ℕ × ℕ) → (map key : ℕ) → Bool
+is_cell_of_node None map key = false
+is_cell_of_node (Some cell) map key = cell.0 == map && cell.1 == key
 
 -- whether an outcome is an answer
 abbrev pub is_told : Outcome → Bool
@@ -229,7 +229,7 @@ is_told (Done status reply loaded) = false
 abbrev pub draws : Option Turn → Event → (map key : ℕ) → Bool
 draws turn (Take port packet) map key = false
 draws turn (Count port) map key = false
-draws turn (Ticket port) map key = is_cell (cell_asked helpers.Ticket turn) map key
+draws turn (Ticket port) map key = is_cell_of_node (cell_asked helpers.Ticket turn) map key
 draws turn (Peak port) map key = false
 draws turn (Effect port) map key = false
 draws turn (Publish port) map key = false
@@ -247,7 +247,7 @@ abbrev pub raises : Option Turn → Event → (map key : ℕ) → Bool
 raises turn (Take port packet) map key = false
 raises turn (Count port) map key = false
 raises turn (Ticket port) map key = false
-raises turn (Peak port) map key = is_cell (cell_asked helpers.Peak turn) map key
+raises turn (Peak port) map key = is_cell_of_node (cell_asked helpers.Peak turn) map key
 raises turn (Effect port) map key = false
 raises turn (Publish port) map key = false
 
@@ -277,10 +277,10 @@ cell_word n h map key = word_by_kind (kind_of_map n.sizes map) (tickets n h map 
 -- ---- banks
 
 -- the verdict of a run that stands so; of one that has none it says nothing
-abbrev pub verdict_of : Option Turn → ℕ
-verdict_of None = 0
-verdict_of (Some (turns.Ask question)) = 0
-verdict_of (Some (turns.Verdict verdict)) = verdict
+abbrev pub verdict_at : Option Turn → ℕ
+verdict_at None = 0
+verdict_at (Some (turns.Ask question)) = 0
+verdict_at (Some (turns.Verdict verdict)) = verdict
 
 -- the entry of that number that an open command of the port leaves, which was done with that status
 abbrev pub entry_left : Node → (port number : ℕ) → Open → Status → EntryValue
@@ -289,7 +289,7 @@ entry_left n port number o status = record {
   number = number;
   packet = o.packet;
   generation = o.generation;
-  verdict = verdict_of (turn_of n port o);
+  verdict = verdict_at (turn_of n port o);
   status = status;
 }
 

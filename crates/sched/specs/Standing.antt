@@ -2,7 +2,7 @@
 use Rattle.std.specs.Prelude.{◌≡◌, ℕ, Option, Some, None}
 use Rattle.machine.specs.Memory.{header}
 use Rattle.sched.specs.History.{Open}
-use Rattle.sched.specs.Looking.{Node, header_in, place_in, program_of, slot_in, turn_of}
+use Rattle.sched.specs.Looking.{Node, header_in, place_in, program_of, slot_of_packet, turn_of}
 use Rattle.sched.specs.declared.standing.Standing.{Standing}
 
 -- what is lent is the open command of the port: the program of its Take with generation and slot, accepted for the maps of
@@ -11,7 +11,7 @@ pub record IsLentOf (n : Node) (port : ℕ) (o : Open) (j : Standing) : Type 0 w
   pub program : j.program.now.program ≡ program_of n o
   pub sizes : j.program.now.sizes ≡ n.sizes
   pub generation : j.generation ≡ o.generation
-  pub slot : j.slot ≡ slot_in n o.packet
+  pub slot : j.slot ≡ slot_of_packet n o.packet
   pub header_is : header j.front.now j.tail.now ≡ header_in o.packet
   pub place : place_in n o.packet ≡ Some j.place
   pub turn : turn_of n port o ≡ Some j.turn

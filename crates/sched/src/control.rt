@@ -16,11 +16,11 @@ use crate::world::World;
 use bank::judged_fault;
 use bpf::image_laws;
 use machine::MapSizes;
+use node_parts::{LoadRefusal, load_result_of, prepare, read_control};
 use node_programs::Staging;
 use rmap::Status;
 use std::alloc::Global;
 use std::sync::Arc;
-use node_parts::{LoadRefusal, load_result_of, prepare, read_control};
 
 /// What a judged control write comes to.
 #[derive(Drop)]

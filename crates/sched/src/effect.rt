@@ -9,8 +9,8 @@ use crate::event::Outcome;
 use crate::faults::WorldFault;
 use crate::reply::{Reply, reply_room};
 use crate::world::World;
-use std::alloc::Global;
 use node_parts::{paired_commands_fit, pairs_stay};
+use std::alloc::Global;
 
 impl World {
     /// The judged command of a port that is there takes its effect, where it is no control write. `Memory` where memory

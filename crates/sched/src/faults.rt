@@ -5,8 +5,8 @@ ghost use Rattle.sched.specs.Codes.{fault_of_node, fault_of_refusal, world_fault
 ghost use Rattle.sched.specs.declared.faults.WorldFault.TheVariants.{Memory as NoMemory};
 
 use bver::{Refusal, Refused};
-use std::alloc::{AllocError, AllocFailed};
 use node_parts::NodeFault;
+use std::alloc::{AllocError, AllocFailed};
 use thiserror::Error;
 
 /// Why a world could not be made, or could not go on.

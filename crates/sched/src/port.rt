@@ -10,7 +10,7 @@ ghost use Rattle.bank.specs.Records.{after_command, answer_of, fits, memory_of, 
 ghost use Rattle.node_parts.specs.Stagings.{IsStaged, IsStagingPlace};
 ghost use Rattle.sched.specs.Begins.{BeginsAt};
 ghost use Rattle.sched.specs.Ends.{CanEnd, CanFinish, EndsAt, HasFinished, IsReplyTo, IsWriteUnder, after_write, load_result_kept, share_in, with_share_in};
-ghost use Rattle.sched.specs.History.{Open, after_answer};
+ghost use Rattle.sched.specs.History.{Open, after_told};
 ghost use Rattle.sched.specs.Standing.{IsLent};
 ghost use Rattle.sched.specs.Looking.{Node, argument_asked, cell_asked};
 ghost use Rattle.sched.specs.Worlds.{Asks, IsJudging, IsRunUnderIfAny, IsSameRunIfAny, effect_due, publish_due, turn_in};
@@ -19,10 +19,10 @@ use crate::run::{Opening, Run};
 use crate::standing::Standing;
 use bank::{Bank, Judged, Share};
 use machine::{Helper, STACK_SIZE};
+use node_parts::{Banks, answer_staged};
 use node_programs::Staging;
 use rmap::{Place, ReplyBuf, Status, Windows};
 use std::marker::Model;
-use node_parts::{Banks, answer_staged};
 
 /// What a port has: a share of each bank, its staging, the command that is judged, and the stack of its program.
 #[derive(Drop)]
@@ -125,7 +125,7 @@ impl Port {
         ensures same { IsSameRunIfAny self.old.run self.new.run }
         ensures run { (n : Node) (port : ℕ) (last : Option Open) → port < 32
             → IsJudging n port last self.old.run
-            → IsJudging n port (after_answer told last) self.new.run }
+            → IsJudging n port (after_told told last) self.new.run }
     {
         match &mut self.run {
             Some(run) => run.tell(told, &mut self.stack),

@@ -22,11 +22,11 @@ use bank::{Admitted, Judged};
 use brun::{Paused, Turn, advance, answer, start};
 use bver::{Accepted, justified_programs};
 use machine::{Helper, STACK_SIZE};
+use node_parts::slot;
 use rmap::{Command, Place, Windows};
 use spw::Packet;
 use std::marker::Model;
 use std::sync::Arc;
-use node_parts::slot;
 
 /// A command that a port is to judge: its packet and place, and the program that its slot shows, with its generation.
 #[derive(Drop)]

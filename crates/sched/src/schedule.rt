@@ -14,8 +14,8 @@ use crate::laws::{event_brings_bytes, every_schedule_judges_once};
 use crate::world::World;
 use bpf::Image;
 use machine::Helper;
-use std::alloc::Global;
 use node_parts::NodeConfig;
+use std::alloc::Global;
 
 /// One event: what it comes to, and the world goes on. `Memory` where memory was refused; the world is as it was then, and
 /// as it was where the event is refused.

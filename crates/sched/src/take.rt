@@ -16,11 +16,11 @@ use crate::reply::{Reply, reply_room};
 use crate::run::Opening;
 use crate::world::World;
 use bank::Admitted;
+use node_parts::{Stop, admit, slot};
 use rmap::ReplyBuf;
 use spw::Packet;
 use std::alloc::{AllocError, Global};
 use std::sync::Arc;
-use node_parts::{Stop, admit, slot};
 
 /// What a packet comes to that its header stops, with the reply that is due then.
 fn stopped(alloc: Global, stop: Stop, reply: &ReplyBuf) -> Result<Outcome, AllocError>

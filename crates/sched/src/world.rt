@@ -20,13 +20,13 @@ use bank::Bank;
 use bpf::Image;
 use bver::{Accepted, verify};
 use machine::MapSizes;
+use node_parts::{Banks, NodeConfig, PortShares, made_are_paired};
 use node_programs::Staging;
 use rmap::{MAX_BANKS, ReplyBuf, Windows};
 use spw::PORTS;
 use std::alloc::{AllocError, Global};
 use std::marker::Model;
 use std::sync::Arc;
-use node_parts::{Banks, NodeConfig, PortShares, made_are_paired};
 
 /// The state of a node as plain values, between two events: its banks, the words of its cells, the program of each slot,
 /// and what each of its ports has. [`step`](crate::step) takes it from one event to the next. `reply` is room for the

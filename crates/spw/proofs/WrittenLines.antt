@@ -14,6 +14,7 @@ use Rattle.hex.proofs.HexLemmas.{decode_of-encode_upper}
 use Rattle.spw.specs.Cargo.{Cargo}
 use Rattle.spw.specs.Line.{IsHex, IsPacketLine, bytes_written, marker_word, words_of}
 use Rattle.spw.specs.Written.{packet_line}
+use Rattle.spw.specs.declared.lines.TheConstants.{PORTS}
 use Rattle.spw.specs.declared.packets.End.{End}
 use Rattle.spw.specs.declared.packets.End.TheVariants.{Eop, Eep}
 use Rattle.spw.proofs.HexWords.{hex_from_decode}
@@ -83,9 +84,10 @@ kept d (b ∷ bytes) end some =
     ∙ ap (λ l. d ∷ l) (word_is_kept (encode_upper (b ∷ bytes)) (marker_word end ∷ []) (omega arith) ∙ ap (λ l. encode_upper (b ∷ bytes) ∷ l) (marker_is_kept end))
 
 -- the words of the line
-words_are : (port : ℕ) (cargo : Cargo) → port ≤ 31 → All (λ byte. byte < 256) cargo.bytes → words_of (packet_line port cargo) ≡ decimal port ∷ (words_between cargo.bytes ++ marker_word cargo.end ∷ [])
+words_are : (port : ℕ) (cargo : Cargo) → port < PORTS → All (λ byte. byte < 256) cargo.bytes → words_of (packet_line port cargo) ≡ decimal port ∷ (words_between cargo.bytes ++ marker_word cargo.end ∷ [])
 words_are port cargo few bytes =
-    let numeral = decimal_is_IsNumeral port (omega (arith, few)) in
+    let below : port < 32 = few in
+    let numeral = decimal_is_IsNumeral port (omega (arith, below)) in
     let first : HasNoSpace (decimal port) = digits_have_no_space 10 (decimal port) (omega arith) numeral.0.1 in
     let hex = digits_write cargo.bytes bytes in
     let second : HasNoSpace (encode_upper cargo.bytes) = digits_have_no_space 16 (encode_upper cargo.bytes) (omega arith) hex.0.1 in
@@ -103,9 +105,10 @@ between_writes [] h = refl
 between_writes (b ∷ bytes) h = (digits_write (b ∷ bytes) h).1 ∙ sym (append-nil (bytes_written (encode_upper (b ∷ bytes))))
 
 -- the line is read as the packet that it writes
-pub line_is_read : (port : ℕ) (cargo : Cargo) → port ≤ 31 → All (λ byte. byte < 256) cargo.bytes → IsPacketLine (packet_line port cargo) port cargo
+pub line_is_read : (port : ℕ) (cargo : Cargo) → port < PORTS → All (λ byte. byte < 256) cargo.bytes → IsPacketLine (packet_line port cargo) port cargo
 line_is_read port cargo few bytes =
-    let numeral = decimal_is_IsNumeral port (omega (arith, few)) in
+    let below : port < 32 = few in
+    let numeral = decimal_is_IsNumeral port (omega (arith, below)) in
     record {
       first = decimal port;
       between = words_between cargo.bytes;

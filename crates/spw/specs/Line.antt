@@ -5,6 +5,7 @@ use Rattle.std.specs.Char.{digit_value}
 use Rattle.std.specs.List.{slice_split, flat_map, onto_first}
 use Rattle.std.specs.Str.Parse.{AllDigits, IsNumeral, digits_value}
 use Rattle.spw.specs.Cargo.{Cargo}
+use Rattle.spw.specs.declared.lines.TheConstants.{PORTS}
 use Rattle.spw.specs.declared.packets.TheConstants.{MAX_PACKET}
 use Rattle.spw.specs.declared.faults.LineFault.{LineFault}
 use Rattle.spw.specs.declared.faults.LineFault.TheVariants.{NoPort, BadHex, BadMarker, TooLong, Memory}
@@ -22,7 +23,7 @@ words_of line = filter (λ word. not (length word == 0)) (slice_split (λ code. 
 
 -- a port: decimal digits that write a number from 0 to 31
 abbrev pub IsPort : List ℕ → Type 0
-IsPort word = IsNumeral 10 word × (digits_value 10 word ≤ 31)
+IsPort word = IsNumeral 10 word × (digits_value 10 word < PORTS)
 
 -- the word writes this port
 abbrev pub WritesPort : List ℕ → ℕ → Type 0
