@@ -25,7 +25,8 @@ use Rattle.bpf_parts.specs.Sizes.{size_bytes}
 use Rattle.machine.specs.State.{State, state, register_after}
 use Rattle.machine.specs.declared.helpers.Helper.{Helper}
 use Rattle.machine.specs.Helpers.{helper_of}
-use Rattle.machine.specs.Step.{Question, Outcome, Next, Ask, Verdict, Trap, perform, insn_at, operand, writes, puts, stores, compares, branches, lands, asks, calls, exits, map_at, calls_helper, argument_of}
+use Rattle.machine.specs.declared.calls.Question.{Question}
+use Rattle.machine.specs.Step.{Outcome, Next, Ask, Verdict, Trap, perform, insn_at, operand, writes, puts, stores, compares, branches, lands, asks, calls, exits, map_at, calls_helper, argument_of}
 use Rattle.bver_form.specs.Jumps.{target}
 use Rattle.bver_form.specs.Loops.{IsEdge, GoesTo}
 

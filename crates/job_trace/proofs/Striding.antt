@@ -9,7 +9,8 @@ use Rattle.machine.specs.Sizes.{Maps}
 use Rattle.machine.specs.Laws.{QuestionsGoOn}
 use Rattle.machine.specs.Runs.{call}
 use Rattle.machine.specs.State.{State}
-use Rattle.machine.specs.Step.{Question, Outcome, Next, Ask, Verdict, Trap, after_answer, insn_at, step, finds_maps, step_with}
+use Rattle.machine.specs.declared.calls.Question.{Question}
+use Rattle.machine.specs.Step.{Outcome, Next, Ask, Verdict, Trap, after_answer, insn_at, step, finds_maps, step_with}
 use Rattle.stepper.specs.declared.outcomes.Outcome.TheVariants as told
 use Rattle.stepper.specs.Machine.{MachineValue, state_of, step_of, IsOutcome, IsAsk, IsSameRun}
 use Rattle.job_parts.specs.Printed.{PrintsMore}

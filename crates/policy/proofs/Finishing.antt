@@ -14,7 +14,8 @@ use Rattle.machine.specs.declared.values.Value.{Value}
 use Rattle.machine.specs.Memory.{Header}
 use Rattle.machine.specs.Runs.{Ends, GoesOn, call}
 use Rattle.machine.specs.State.{State, state}
-use Rattle.machine.specs.Step.{Question, Outcome, Next, Ask, Verdict, branches, knows_flow, perform, step}
+use Rattle.machine.specs.declared.calls.Question.{Question}
+use Rattle.machine.specs.Step.{Outcome, Next, Ask, Verdict, branches, knows_flow, perform, step}
 
 -- the draws and the verdict of a table
 abbrev pub Decision : Type 0

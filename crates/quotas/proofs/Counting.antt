@@ -10,7 +10,8 @@ use Rattle.machine.specs.declared.helpers.Helper.TheVariants as helpers
 use Rattle.machine.specs.Memory.{Header, IsHeader}
 use Rattle.machine.specs.Runs.{AreAnswered, IsSafe, Path, entry, moves, answered, call}
 use Rattle.machine.specs.State.{State}
-use Rattle.machine.specs.Step.{Question, question, Ask, step}
+use Rattle.machine.specs.declared.calls.Question.{Question}
+use Rattle.machine.specs.Step.{question, Ask, step}
 use Rattle.policy.specs.Compiled.{HasMeaning}
 use Rattle.policy_table.specs.Matching.{matching_quota}
 use Rattle.policy_table.specs.Meaning.{decision, draw, told_by}

@@ -7,7 +7,7 @@ use Rattle.machine.specs.declared.calls.Call.{Call}
 use Rattle.machine.specs.Memory.{Header, IsHeader}
 use Rattle.machine.specs.Runs.{IsSafe, call}
 use Rattle.machine.specs.Sizes.{Maps}
-use Rattle.machine.specs.Step.{Question}
+use Rattle.machine.specs.declared.calls.Question.{Question}
 use Rattle.rmap.specs.declared.places.Place.{Place}
 use Rattle.bver.specs.Justified.{AcceptedValue}
 use Rattle.bver.specs.Laws.{JustifiedIsSafe}

@@ -10,7 +10,8 @@ use Rattle.machine.specs.Memory.{Header, IsHeader}
 use Rattle.machine.specs.Runs.{Path, entry, moves, answered, IsSafe, call}
 use Rattle.machine.specs.Sizes.{Maps}
 use Rattle.machine.specs.State.{State, entry_state}
-use Rattle.machine.specs.Step.{Question, Outcome, Next, Ask, Verdict, Trap, step}
+use Rattle.machine.specs.declared.calls.Question.{Question}
+use Rattle.machine.specs.Step.{Outcome, Next, Ask, Verdict, Trap, step}
 use Rattle.sched.specs.Turns.{onward, turn_within, turn_after, answers_of, AreWords, HasAsked, HasEnded, StandsByPaths, TurnsArePaths}
 
 -- ---- from paths to turns

@@ -9,7 +9,8 @@ use Rattle.machine.specs.Memory.{Header, IsHeader}
 use Rattle.machine.specs.Runs.{Path, IsSafe}
 use Rattle.machine.specs.Sizes.{Maps}
 use Rattle.machine.specs.State.{State, entry_state}
-use Rattle.machine.specs.Step.{Question, Outcome, Next, Ask, Verdict, Trap, step}
+use Rattle.machine.specs.declared.calls.Question.{Question}
+use Rattle.machine.specs.Step.{Outcome, Next, Ask, Verdict, Trap, step}
 
 -- what follows a step with those answers to the questions to come: a question takes the first of them, or is where the
 -- run stands; a verdict leaves none over

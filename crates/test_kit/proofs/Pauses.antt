@@ -3,7 +3,7 @@ use Rattle.std.proofs.Common.{◌≡◌, ℕ, ◌<◌, List, [], ◌∷◌, ◌+
 use Rattle.bpf.specs.Program.{Program}
 use Rattle.machine.specs.declared.calls.Call.{Call}
 use Rattle.machine.specs.Memory.{Header}
-use Rattle.machine.specs.Step.{Question}
+use Rattle.machine.specs.declared.calls.Question.{Question}
 use Rattle.machine.specs.Runs.{call}
 use Rattle.brun.specs.declared.frame.Frame.{Frame}
 use Rattle.brun.specs.declared.turns.Turn.{Turn}

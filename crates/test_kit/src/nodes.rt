@@ -3,12 +3,12 @@
 use crate::images::image_of_text;
 use bank::{Bank, Journal, Judged, Share};
 use bver::{Accepted, MapSizes, verify};
+use node_parts::BankConfig;
 use publish::{Opened, ProgramFamily, Publisher};
 use rmap::{ReplyBuf, Status};
 use spw::{Packet, read_line};
 use std::alloc::Global;
 use std::test::Fail;
-use node_parts::BankConfig;
 
 /// The address of the bank's first byte.
 pub const BASE: u32 = 0xA000_0000;

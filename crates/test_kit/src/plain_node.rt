@@ -6,6 +6,7 @@ use crate::nodes::packet;
 use bank::{Bank, Judged};
 use bpf::Image;
 use bver::{Accepted, verify};
+use node_parts::{BankConfig, Banks, NodeConfig, NodeFault, Served};
 use node_programs::Staging;
 use publish::{Opened, ProgramFamily, Publisher};
 use rmap::ReplyBuf;
@@ -13,7 +14,6 @@ use spw::Packet;
 use std::alloc::Global;
 use std::sync::Wait;
 use std::test::Fail;
-use node_parts::{BankConfig, Banks, NodeConfig, NodeFault, Served};
 use target::{Pass, Step, banks_and_passes, judge, serve_packet};
 
 /// A node of logical address 0xFE in one thread: its banks, what publishes its programs, the passes of its ports, and the
