@@ -12,7 +12,7 @@ use Rattle.absdom.specs.declared.kinds.AbsKind.TheVariants.{Unset, Num}
 use Rattle.absdom.specs.State.{StateValue, entry_kinds, kind_in, kind_at, after_call}
 use Rattle.absdom.specs.Fits.{IsAmong, FitsKind, Fits}
 use Rattle.absdom.specs.Laws.{EntryFits, CallFits}
-use Rattle.absdom.proofs.MarkSteps.{marked_bytes}
+use Rattle.absdom_stack.proofs.MarkSteps.{marked_bytes}
 use Rattle.absdom.proofs.FitsState.{fits_after}
 
 at_start : IsAmong (pos 0) (pos 0, pos 0)

@@ -23,15 +23,15 @@ use Rattle.absdom.specs.declared.kinds.AbsKind.{AbsKind}
 use Rattle.absdom.specs.declared.kinds.AbsKind.TheVariants.{Unset, Num, Ptr, Map}
 use Rattle.absdom_num.specs.declared.ranges.Range.{Range}
 use Rattle.absdom.specs.State.{StateValue, range_at}
-use Rattle.absdom.specs.Marks.{mark_at, all_marked}
-use Rattle.absdom.specs.StackWords.{is_stack_word}
-use Rattle.absdom.specs.declared.spill.Spill.{Spill}
-use Rattle.absdom.specs.declared.spill.Spill.TheVariants.{Forgets, Keeps}
+use Rattle.absdom_stack.specs.Marks.{mark_at, all_marked}
+use Rattle.absdom_stack.specs.StackWords.{is_stack_word}
+use Rattle.absdom_stack.specs.declared.spill.Spill.{Spill}
+use Rattle.absdom_stack.specs.declared.spill.Spill.TheVariants.{Forgets, Keeps}
 use Rattle.absdom.specs.Effect.{both_places, access_places, is_set, loaded_range, read_range, read_kind, load_kind}
 use Rattle.absdom.specs.Fits.{IsAmong, FitsKind, IsByte, IsReadIn, Fits}
 use Rattle.absdom.proofs.FitsAlu.{FitsResult}
-use Rattle.absdom.proofs.MarkSteps.{marked_bytes}
-use Rattle.absdom.proofs.WordSteps.{word_test}
+use Rattle.absdom_stack.proofs.MarkSteps.{marked_bytes}
+use Rattle.absdom_stack.proofs.WordSteps.{word_test}
 
 -- a place between two others, with room for its bytes
 pub record IsBetween (size bytes first last place : ℕ) : Type 0 where

@@ -26,16 +26,18 @@ use Rattle.absdom.specs.declared.kinds.AbsKind.{AbsKind}
 use Rattle.absdom.specs.declared.kinds.AbsKind.TheVariants.{Unset, Num, Ptr, Map}
 use Rattle.absdom.specs.Kinds.{number_of}
 use Rattle.absdom.specs.State.{StateValue, kind_in, kind_at, range_at, with_kind}
-use Rattle.absdom.specs.Marks.{mark_at, all_marked, marks_after}
-use Rattle.absdom.specs.StackWords.{range_in, is_touched}
-use Rattle.absdom.specs.declared.spill.Spill.{Spill}
-use Rattle.absdom.specs.Effect.{operand_kind, alu_kind, unary_kind, load_kind, access_places, stored_marks, stored_ranges, with_stored, after_write_at, after_store, with_result, map_kind}
+use Rattle.absdom_stack.specs.Marks.{mark_at, all_marked, marks_after}
+use Rattle.absdom_stack.specs.StackWords.{range_in, is_touched}
+use Rattle.absdom_stack.specs.declared.spill.Spill.{Spill}
+use Rattle.absdom.specs.Effect.{operand_kind, alu_kind, unary_kind, load_kind, access_places, with_stored, after_write_at, after_store, with_result, map_kind}
+use Rattle.absdom_stack.specs.StackWords.{stored_ranges}
+use Rattle.absdom_stack.specs.Marks.{stored_marks}
 use Rattle.absdom.specs.Fits.{FitsKind, IsByte, IsReadIn, Fits, GoesOn, IsSound, IsIndex}
 use Rattle.absdom.specs.Laws.{ApplyFits}
 use Rattle.absdom.proofs.FitsAlu.{FitsResult, alu_fits, computed_alone_fits}
 use Rattle.absdom.proofs.FitsMemory.{IsBetween, HasPlace, place_between, IsNumber, little_fits, word_below, load_fits}
-use Rattle.absdom.proofs.MarkSteps.{marked_bytes, all_marked_from, mark_is_new}
-use Rattle.absdom.proofs.WordSteps.{set_at, apart, IsFilled, filled_at, touched_at, left_at}
+use Rattle.absdom_stack.proofs.MarkSteps.{marked_bytes, all_marked_from, mark_is_new}
+use Rattle.absdom_stack.proofs.WordSteps.{set_at, apart, IsFilled, filled_at, touched_at, left_at}
 
 -- ---- registers
 

@@ -23,16 +23,17 @@ use Rattle.absdom.specs.declared.kinds.AbsKind.TheVariants.{Unset, Num, Ptr, Map
 use Rattle.absdom.specs.Offsets.{AreAmong}
 use Rattle.absdom.specs.Kinds.{number_of, IsKindBelow}
 use Rattle.absdom.specs.State.{StateValue, IsBelow, kind_in, kind_at, range_at, with_kind, IsProper, IsWhole}
-use Rattle.absdom.specs.Marks.{mark_at, marks_after, AreMarkedIn}
-use Rattle.absdom.specs.StackWords.{range_in, is_touched, is_stack_word, AreRangesWithin}
-use Rattle.absdom.specs.declared.spill.Spill.{Spill}
-use Rattle.absdom.specs.declared.spill.Spill.TheVariants.{Forgets, Keeps}
-use Rattle.absdom.specs.Effect.{operand_kind, alu_kind, unary_kind, both_places, access_places, is_set, loaded_range, read_range, read_kind, load_kind, stored_ranges, with_stored, after_write_at, after_write_to, after_store, with_result, map_kind}
+use Rattle.absdom_stack.specs.Marks.{mark_at, marks_after, AreMarkedIn}
+use Rattle.absdom_stack.specs.StackWords.{range_in, is_touched, is_stack_word, AreRangesWithin}
+use Rattle.absdom_stack.specs.declared.spill.Spill.{Spill}
+use Rattle.absdom_stack.specs.declared.spill.Spill.TheVariants.{Forgets, Keeps}
+use Rattle.absdom.specs.Effect.{operand_kind, alu_kind, unary_kind, both_places, access_places, is_set, loaded_range, read_range, read_kind, load_kind, with_stored, after_write_at, after_write_to, after_store, with_result, map_kind}
+use Rattle.absdom_stack.specs.StackWords.{stored_ranges}
 use Rattle.absdom.specs.Laws.{ApplyGrows as StatesGrow, IsGrown, CallGrows}
 use Rattle.absdom.proofs.Order.{region_from_test, kind_below-refl}
 use Rattle.absdom.proofs.FitsMemory.{IsBetween, HasPlace, place_between, word_below}
-use Rattle.absdom.proofs.MarkSteps.{marked_bytes, all_marked_from, mark_stays, mark_made, mark_is_new}
-use Rattle.absdom.proofs.WordSteps.{whole_proper, within_whole, word_test, word_if, apart, not_touching, IsFilled, filled_at, touched_at, left_at, stored_each}
+use Rattle.absdom_stack.proofs.MarkSteps.{marked_bytes, all_marked_from, mark_stays, mark_made, mark_is_new}
+use Rattle.absdom_stack.proofs.WordSteps.{whole_proper, within_whole, word_test, word_if, apart, not_touching, IsFilled, filled_at, touched_at, left_at, stored_each}
 use Rattle.absdom.proofs.GrowAlu.{IsKindGrown, alu_grows, computed_alone_grows}
 
 -- ---- registers

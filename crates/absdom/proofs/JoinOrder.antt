@@ -9,7 +9,7 @@ use Rattle.absdom.specs.declared.kinds.AbsKind.TheVariants.{Unset, Num, Ptr, Map
 use Rattle.absdom.specs.Offsets.{joined_offsets, AreAmong}
 use Rattle.absdom.specs.Kinds.{same_region, joined_kinds, IsKindBelow}
 use Rattle.absdom.specs.State.{IsBelow, kind_at, range_at}
-use Rattle.absdom.specs.Marks.{mark_at}
+use Rattle.absdom_stack.specs.Marks.{mark_at}
 use Rattle.absdom.specs.Laws.{JoinIsAbove, JoinIsLeast, JoinGrows}
 use Rattle.absdom.proofs.Order.{region_from_test, same_region-refl, below_is_transitive}
 

@@ -25,17 +25,17 @@ use Rattle.absdom.specs.declared.kinds.AbsKind.{AbsKind}
 use Rattle.absdom.specs.declared.kinds.AbsKind.TheVariants.{Unset, Num, Ptr, Map}
 use Rattle.absdom.specs.Kinds.{number_of, IsKindBelow}
 use Rattle.absdom.specs.State.{StateValue, IsBelow, IsProper, IsWhole, kind_at, with_kind, after_call}
-use Rattle.absdom.specs.StackWords.{AreAllWhole}
-use Rattle.absdom.specs.declared.spill.Spill.{Spill}
-use Rattle.absdom.specs.declared.spill.Spill.TheVariants.{Forgets}
+use Rattle.absdom_stack.specs.StackWords.{AreAllWhole}
+use Rattle.absdom_stack.specs.declared.spill.Spill.{Spill}
+use Rattle.absdom_stack.specs.declared.spill.Spill.TheVariants.{Forgets}
 use Rattle.absdom.specs.Effect.{operand_kind, with_stored, after_write_at, after_write_to, after_store, with_result}
 use Rattle.absdom.specs.Edges.{compared_range, with_source, edge_state, edge_states, unrefined_edges, is_itself, edges_of, compared_edges}
 use Rattle.absdom.specs.Laws.{IsLeftBy, ApplyLeaves, CallLeaves, ForgetsAll, AreEdgesBelow, RefineShrinks}
 use Rattle.absdom.proofs.Order.{below_is_reflexive}
 use Rattle.absdom.proofs.Narrowing.{write_same}
 use Rattle.absdom.proofs.GrowState.{operand_proper, with_kind_grows}
-use Rattle.absdom.proofs.MarkSteps.{stored_stays}
-use Rattle.absdom.proofs.WordSteps.{still_whole, stored_each, whole_proper}
+use Rattle.absdom_stack.proofs.MarkSteps.{stored_stays}
+use Rattle.absdom_stack.proofs.WordSteps.{still_whole, stored_each, whole_proper}
 
 -- ---- what an instruction leaves
 

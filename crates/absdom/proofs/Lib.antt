@@ -1,5 +1,3 @@
-pub mod MarkSteps
-pub mod WordSteps
 pub mod StateSteps
 pub mod Order
 pub mod FitsAlu
@@ -12,6 +10,4 @@ pub mod GrowAlu
 pub mod GrowState
 pub mod GrowEdges
 pub mod Narrowing
-pub mod MarkBits
-pub mod MarkMasks
 pub mod Leaving

@@ -12,10 +12,10 @@ use Rattle.machine.specs.Memory.{little_endian}
 use Rattle.absdom_num.specs.declared.ranges.Range.{Range}
 use Rattle.absdom_num.specs.Ranges.{IsWithin}
 use Rattle.absdom.specs.State.{kind_at, range_at}
-use Rattle.absdom.specs.Marks.{mark_at}
+use Rattle.absdom_stack.specs.Marks.{mark_at}
 use Rattle.absdom.specs.Fits.{FitsKind, IsReadIn}
 use Rattle.absdom.specs.Laws.{BelowFits, BelowIsReflexive, BelowIsTransitive, BelowIsAntisymmetric}
-use Rattle.absdom.proofs.MarkSteps.{still_marked}
+use Rattle.absdom_stack.proofs.MarkSteps.{still_marked}
 
 pub region_from_test : (r s : Region) → same_region r s ≡ true → r ≡ s
 region_from_test Front Front e = refl

@@ -2,8 +2,8 @@
 use Rattle.std.proofs.Common.{◌≡◌, ℕ, zero, suc, Bool, true, false, ◌↔◌, IsTrue, sym, ◌∙◌, List, [], ◌∷◌, set}
 use Rattle.absdom.specs.declared.kinds.AbsKind.{AbsKind}
 use Rattle.absdom.specs.State.{StateValue, IsBelow, AreBelow, kind_in, IsProper}
-use Rattle.absdom.specs.Marks.{AreMarkedIn}
-use Rattle.absdom.specs.StackWords.{AreRangesWithin}
+use Rattle.absdom_stack.specs.Marks.{AreMarkedIn}
+use Rattle.absdom_stack.specs.StackWords.{AreRangesWithin}
 
 -- states are below where their kinds, their marks and their ranges are
 pub below_by_ranges : (a b : StateValue) (r : Bool) → AreBelow a.kinds b.kinds → AreMarkedIn b.marks a.marks → (IsTrue r ↔ AreRangesWithin a.ranges b.ranges) → IsTrue r ↔ IsBelow a b

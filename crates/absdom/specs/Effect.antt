@@ -1,7 +1,7 @@
 -- What an instruction does to what is known, or why it is refused (a choice of this project). Operands are
 -- tested first, the destination before the source, and of each whether it is set and then its kind.
-use Rattle.std.specs.Prelude.{◌≡◌, ℕ, ◌+◌, ◌-◌, ◌^◌, ◌/◌, ◌≤◌, Bool, true, ◌||◌, ◌==◌, nat_lt, nat_le, if◌then◌else◌}
-use Rattle.std.specs.Prelude.{slice_set, ℤ, pos, negsuc, ◌+ℤ◌, ◌-ℤ◌, List, Option, Some, None, Result, Ok, Err}
+use Rattle.std.specs.Prelude.{◌≡◌, ℕ, ◌+◌, ◌-◌, ◌^◌, ◌/◌, Bool, true, ◌||◌, nat_lt, nat_le, if◌then◌else◌}
+use Rattle.std.specs.Prelude.{ℤ, pos, negsuc, ◌+ℤ◌, ◌-ℤ◌, List, Option, Some, None, Result, Ok, Err}
 use Rattle.bpf_parts.specs.declared.operation.Width.{Width}
 use Rattle.bpf_parts.specs.declared.operation.Width.TheVariants.{Bits32, Bits64}
 use Rattle.bpf_parts.specs.declared.operation.AluOp.{AluOp}
@@ -20,7 +20,6 @@ use Rattle.machine.specs.declared.regions.Region.TheVariants.{Front, Tail, Stack
 use Rattle.machine.specs.Words.{word, signed_value}
 use Rattle.bpf_parts.specs.Sizes.{size_bytes, load_bytes}
 use Rattle.machine.specs.Memory.{place_of}
-use Rattle.machine.specs.declared.regions.TheConstants.{STACK_SIZE}
 use Rattle.absdom_num.specs.declared.ranges.Range.{Range}
 use Rattle.absdom_num.specs.Tables.{single_range, alu_range, negated_range, extended_range, swapped_range}
 use Rattle.absdom.specs.declared.cause.Cause.{Cause}
@@ -31,10 +30,10 @@ use Rattle.absdom.specs.declared.kinds.AbsKind.TheVariants.{Unset, Num, Ptr, Map
 use Rattle.absdom.specs.Offsets.{offsets_within}
 use Rattle.absdom.specs.Kinds.{number_of}
 use Rattle.absdom.specs.State.{StateValue, kind_at, range_at, with_kind, with_stack}
-use Rattle.absdom.specs.Marks.{all_marked, marks_after}
-use Rattle.absdom.specs.StackWords.{widened, is_stack_word}
-use Rattle.absdom.specs.declared.spill.Spill.{Spill}
-use Rattle.absdom.specs.declared.spill.Spill.TheVariants.{Forgets, Keeps}
+use Rattle.absdom_stack.specs.Marks.{all_marked, stored_marks}
+use Rattle.absdom_stack.specs.StackWords.{is_stack_word, stored_ranges}
+use Rattle.absdom_stack.specs.declared.spill.Spill.{Spill}
+use Rattle.absdom_stack.specs.declared.spill.Spill.TheVariants.{Forgets, Keeps}
 
 -- ---- the statement
 
@@ -185,18 +184,6 @@ load_kind spill a size (Ptr region offsets) offset =
     read_kind spill a size region (access_places region (load_bytes size) offsets offset)
 load_kind spill a size (Map index) offset = Err KindMismatch
 
--- a store of so many bytes sets them where it has one place, and no byte else
-abbrev pub stored_marks : List Bool → (bytes : ℕ) → ℕ × ℕ → List Bool
-stored_marks marks bytes places = if places.0 == places.1 then marks_after marks places.0 bytes else marks
-
--- where numbers keep their ranges, a store to one word of the stack gives that word the range of the number that is
--- stored; after every other store nothing is known of a word that it may touch
-abbrev pub stored_ranges : Spill → List Range → (bytes : ℕ) → ℕ × ℕ → Range → List Range
-stored_ranges Forgets ranges bytes places value = widened ranges places.0 (places.1 + bytes - 1)
-stored_ranges Keeps ranges bytes places value =
-    if is_stack_word bytes places then slice_set ranges (places.0 / 8) value
-    else widened ranges places.0 (places.1 + bytes - 1)
-
 -- what is known after a store of a number of that range
 abbrev pub with_stored : Spill → StateValue → (bytes : ℕ) → ℕ × ℕ → Range → StateValue
 with_stored spill a bytes places value =
@@ -262,15 +249,6 @@ after_insn spill a (Call callee number) = Ok a
 after_insn spill a Exit = Ok a
 
 -- ---- what else contracts and proofs say
-
--- ---- loads and stores (RFC 9669, section 5)
-
--- the bytes at both places lie in the stack
-pub record AreInside (bytes : ℕ) (places : ℕ × ℕ) : Type 0 where
-  pub first : places.0 + bytes ≤ STACK_SIZE
-  pub last : places.1 + bytes ≤ STACK_SIZE
-
--- ---- instructions
 
 -- a change in place: the state becomes what is given, or stays what it was where it is refused
 abbrev pub Becomes : Result (Unit {0}) Cause → (old new : StateValue) → (given : Result StateValue Cause) → Type 0

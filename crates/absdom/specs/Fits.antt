@@ -16,7 +16,7 @@ use Rattle.absdom.specs.declared.cause.Cause.{Cause}
 use Rattle.absdom.specs.declared.kinds.AbsKind.{AbsKind}
 use Rattle.absdom.specs.declared.kinds.AbsKind.TheVariants.{Unset, Num, Ptr, Map}
 use Rattle.absdom.specs.State.{StateValue, kind_at, range_at}
-use Rattle.absdom.specs.Marks.{mark_at, all_marked}
+use Rattle.absdom_stack.specs.Marks.{mark_at, all_marked}
 use Rattle.absdom.specs.Edges.{Edges}
 
 -- an offset is one of these

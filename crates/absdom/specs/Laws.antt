@@ -15,10 +15,10 @@ use Rattle.machine.specs.Step.{perform, after_answer}
 use Rattle.machine.specs.Laws.{is_store}
 use Rattle.absdom_num.specs.Ranges.{IsRange}
 use Rattle.absdom.specs.declared.cause.Cause.{Cause}
-use Rattle.absdom.specs.Marks.{mark_at}
-use Rattle.absdom.specs.StackWords.{AreAllWhole}
-use Rattle.absdom.specs.declared.spill.Spill.{Spill}
-use Rattle.absdom.specs.declared.spill.Spill.TheVariants.{Forgets}
+use Rattle.absdom_stack.specs.Marks.{mark_at}
+use Rattle.absdom_stack.specs.StackWords.{AreAllWhole}
+use Rattle.absdom_stack.specs.declared.spill.Spill.{Spill}
+use Rattle.absdom_stack.specs.declared.spill.Spill.TheVariants.{Forgets}
 use Rattle.absdom.specs.State.{StateValue, IsWhole, IsBelow, IsJoin, IsEntry, AreAlike, kind_at, range_at, after_call}
 use Rattle.absdom.specs.Effect.{after_insn}
 use Rattle.absdom.specs.Edges.{Edges, refined_edges}

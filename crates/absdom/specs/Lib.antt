@@ -9,4 +9,3 @@ pub mod Effect
 pub mod Edges
 pub mod Fits
 pub mod Laws
-pub mod Bits

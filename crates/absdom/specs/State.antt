@@ -10,8 +10,8 @@ use Rattle.absdom_num.specs.Tables.{whole_range}
 use Rattle.absdom.specs.declared.kinds.AbsKind.{AbsKind}
 use Rattle.absdom.specs.declared.kinds.AbsKind.TheVariants.{Unset, Num, Ptr, Map}
 use Rattle.absdom.specs.Kinds.{joined_kinds, IsKindBelow}
-use Rattle.absdom.specs.Marks.{mark_at, all_marked, AreInBoth, AreMarkedIn}
-use Rattle.absdom.specs.StackWords.{range_in, AreAllWhole, AreRangesJoined, AreRangesWithin}
+use Rattle.absdom_stack.specs.Marks.{mark_at, all_marked, AreInBoth, AreMarkedIn}
+use Rattle.absdom_stack.specs.StackWords.{range_in, AreAllWhole, AreRangesJoined, AreRangesWithin}
 
 -- ---- the statement
 

@@ -4,15 +4,15 @@ ghost use Rattle.std.specs.Prelude.{◌≡◌, ◌+◌, ◌-◌, ◌^◌, ◌<�
 ghost use Rattle.bpf_parts.specs.Sizes.{size_bytes, load_bytes};
 ghost use Rattle.machine.specs.Memory.{place_within, place_of};
 ghost use Rattle.absdom.specs.Offsets.{IsOffset};
-ghost use Rattle.absdom.specs.Effect.{access_places, is_set, loaded_range, kept_range, read_range, load_kind, after_stack_write, AreInside, Becomes, Stores};
+ghost use Rattle.absdom.specs.Effect.{access_places, is_set, loaded_range, kept_range, read_range, load_kind, after_stack_write, Becomes, Stores};
+ghost use Rattle.absdom_stack.specs.Marks.{AreInside};
 
 use crate::cause::Cause;
 use crate::kinds::AbsKind;
 use crate::offsets::Offsets;
-use crate::spill::Spill;
-use crate::stack_words::{WORD_BYTES, is_stack_word};
 use crate::state::State;
 use absdom_num::Range;
+use absdom_stack::{Spill, WORD_BYTES, is_stack_word};
 use bpf_insn::{LoadSize, Size};
 use machine::{Region, STACK_SIZE};
 

@@ -9,9 +9,9 @@ use crate::access::{load, store};
 use crate::arithmetic::{alu, byte_swap, move_signed, negate};
 use crate::cause::Cause;
 use crate::kinds::AbsKind;
-use crate::spill::Spill;
 use crate::state::State;
 use absdom_num::Range;
+use absdom_stack::Spill;
 use bpf_insn::{AluOp, Insn, LoadSize, MemoryOperand, Operand, Register, Size, Width};
 
 /// What is known of an operand: a register's kind, or the number of an immediate with its sign extended.

@@ -5,7 +5,7 @@
 //! word of eight bytes, and changes in place. [`State::apply`] does what an instruction does to it, or says why the
 //! instruction is refused; whether numbers on the stack keep their ranges is told by a [`Spill`]. [`refine`] tells
 //! the ranges on the two edges of a comparison. The definitions are in `specs/`: `Kinds` has the kinds and their
-//! order, `StackWords` the ranges of the stack, `Effect` what an instruction does to all that is known, `Fits` which
+//! order, `Effect` what an instruction does to all that is known, `Fits` which
 //! states of the machine a state stands for, and `Laws` what holds of all this.
 #![tactic(auto)]
 
@@ -16,13 +16,11 @@ mod edges;
 mod effect;
 mod kinds;
 mod laws;
-mod marks;
 mod offsets;
-mod spill;
-mod stack_words;
 mod state;
 
 pub use absdom_num::{Edges, Operands};
+pub use absdom_stack::Spill;
 pub use cause::Cause;
 pub use edges::refine;
 pub use kinds::AbsKind;
@@ -32,5 +30,4 @@ pub use laws::{
 };
 pub use machine::Region;
 pub use offsets::Offsets;
-pub use spill::Spill;
 pub use state::State;

@@ -4,16 +4,15 @@ ghost use Rattle.std.specs.Prelude.{◌≡◌, ◌+◌, ◌<◌, ◌≤◌, ◌-
 ghost use Rattle.machine.specs.declared.regions.TheConstants.{STACK_SIZE};
 ghost use Rattle.absdom.specs.Kinds.{joined_kinds, IsKindBelow};
 ghost use Rattle.absdom.specs.State.{IsState, IsWhole, IsBelow, IsJoin, IsEntry, kind_at, kind_in, range_at, with_kind, with_stack, after_call, entry_kinds, AreJoined, AreBelow};
-ghost use Rattle.absdom.specs.Marks.{mark_at, all_marked};
-ghost use Rattle.absdom.specs.StackWords.{all_whole, range_in, AreAllWhole};
-ghost use Rattle.absdom.specs.Effect.{with_stored, AreInside};
+ghost use Rattle.absdom_stack.specs.Marks.{mark_at, all_marked};
+ghost use Rattle.absdom_stack.specs.StackWords.{all_whole, range_in, AreAllWhole};
+ghost use Rattle.absdom.specs.Effect.{with_stored};
+ghost use Rattle.absdom_stack.specs.Marks.{AreInside};
 
 use crate::kinds::AbsKind;
-use crate::marks::Marks;
 use crate::offsets::Offsets;
-use crate::spill::Spill;
-use crate::stack_words::{STACK_WORDS, StackWords};
 use absdom_num::Range;
+use absdom_stack::{Marks, STACK_WORDS, Spill, StackWords};
 use bpf_insn::{REGISTERS, Register};
 use machine::Region;
 use std::marker::Model;

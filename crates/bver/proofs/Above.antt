@@ -18,11 +18,11 @@ use Rattle.absdom.specs.declared.kinds.AbsKind.{AbsKind}
 use Rattle.absdom.specs.declared.kinds.AbsKind.TheVariants.{Unset, Num, Ptr, Map}
 use Rattle.absdom.specs.Kinds.{IsKindBelow}
 use Rattle.absdom.specs.State.{StateValue, IsBelow, IsWhole, after_call, kind_at}
-use Rattle.absdom.specs.StackWords.{AreAllWhole, AreRangesWithin}
+use Rattle.absdom_stack.specs.StackWords.{AreAllWhole, AreRangesWithin}
 use Rattle.absdom.specs.Effect.{after_insn}
 use Rattle.absdom.specs.Edges.{Edges, refined_edges}
 use Rattle.absdom.specs.Laws.{BelowIsTransitive, ApplyGrows, RefineGrows, CallGrows, IsGrown, IsEdgeBelow, AreEdgesGrown}
-use Rattle.absdom.specs.declared.spill.Spill.{Spill}
+use Rattle.absdom_stack.specs.declared.spill.Spill.{Spill}
 use Rattle.bver_form.specs.Jumps.{first_slot, target}
 use Rattle.bver_form.specs.Lowered.{is_lowered}
 use Rattle.bver.specs.Heads.{AreWidenedRanges, AreUnset, BodyValue, Falls, IsWidened, IsWidenedKind, IsWithinBound, counts, opens, keeps, opened_kind, is_number, retains, forgets}

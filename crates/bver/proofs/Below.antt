@@ -17,10 +17,10 @@ use Rattle.absdom.specs.declared.cause.Cause.{Cause}
 use Rattle.absdom.specs.Edges.{Edges}
 use Rattle.absdom.specs.Effect.{after_insn}
 use Rattle.absdom.specs.State.{StateValue, IsEntry, IsBelow, IsWhole, entry_kinds}
-use Rattle.absdom.specs.StackWords.{AreAllWhole}
+use Rattle.absdom_stack.specs.StackWords.{AreAllWhole}
 use Rattle.absdom.specs.Laws.{ApplyGrows, BelowIsReflexive, BelowIsTransitive, CallGrows, RefineGrows}
-use Rattle.absdom.specs.declared.spill.Spill.{Spill}
-use Rattle.absdom.specs.Spill.{spill_of}
+use Rattle.absdom_stack.specs.declared.spill.Spill.{Spill}
+use Rattle.absdom_stack.specs.Spill.{spill_of}
 use Rattle.bver_form.specs.declared.refusal.Refused.{Refused}
 use Rattle.bver_form.specs.Jumps.{target}
 use Rattle.bver_form.specs.Targets.{IsKept, IsPlain}

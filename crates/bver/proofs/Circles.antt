@@ -11,8 +11,8 @@ use Rattle.machine.specs.Step.{insn_at}
 use Rattle.absdom.specs.declared.kinds.AbsKind.{AbsKind}
 use Rattle.absdom.specs.declared.kinds.AbsKind.TheVariants.{Unset, Num, Ptr, Map}
 use Rattle.absdom.specs.State.{StateValue, IsBelow, IsWhole, kind_at}
-use Rattle.absdom.specs.StackWords.{AreAllWhole}
-use Rattle.absdom.specs.Spill.{spill_of}
+use Rattle.absdom_stack.specs.StackWords.{AreAllWhole}
+use Rattle.absdom_stack.specs.Spill.{spill_of}
 use Rattle.bver_form.specs.Form.{IsFormed}
 use Rattle.bver_form.specs.Laws.{LoopsAreEntered}
 use Rattle.bver_form.specs.Loops.{ComesIn, IsEdge, IsInside, IsLoopFormed, IsNestedOrApart, holds, step_down}

@@ -24,7 +24,7 @@ use Rattle.absdom.specs.declared.kinds.AbsKind.{AbsKind}
 use Rattle.absdom.specs.declared.kinds.AbsKind.TheVariants.{Unset, Num, Ptr, Map}
 use Rattle.absdom.specs.Kinds.{IsKindBelow, number_of}
 use Rattle.absdom.specs.State.{StateValue, IsBelow, IsProper, IsWhole, kind_at, with_kind}
-use Rattle.absdom.specs.StackWords.{AreAllWhole}
+use Rattle.absdom_stack.specs.StackWords.{AreAllWhole}
 use Rattle.absdom.specs.Edges.{Edges, compared_edges, edge_state, refined_edges}
 use Rattle.absdom.specs.Laws.{AreEdgesBelow, RefineShrinks}
 use Rattle.bver_form.specs.Form.{IsFormed}

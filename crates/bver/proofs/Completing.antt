@@ -17,8 +17,8 @@ use Rattle.absdom.specs.declared.kinds.AbsKind.TheVariants.{Unset}
 use Rattle.absdom.specs.Edges.{Edges, refined_edges}
 use Rattle.absdom.specs.State.{StateValue, IsBelow, IsWhole, kind_at}
 use Rattle.absdom.specs.Laws.{ApplyGrows, ApplyLeaves, BelowIsReflexive, BelowIsTransitive, CallGrows, CallLeaves, RefineGrows, RefineShrinks}
-use Rattle.absdom.specs.declared.spill.Spill.{Spill}
-use Rattle.absdom.specs.Spill.{spill_of}
+use Rattle.absdom_stack.specs.declared.spill.Spill.{Spill}
+use Rattle.absdom_stack.specs.Spill.{spill_of}
 use Rattle.bver_form.specs.declared.refusal.Refused.{Refused}
 use Rattle.bver_form.specs.Form.{IsFormed}
 use Rattle.bver_form.specs.Jumps.{target}

@@ -10,7 +10,7 @@ use Rattle.absdom.specs.State.{StateValue, after_call}
 use Rattle.absdom.specs.Effect.{after_insn}
 use Rattle.absdom.specs.Edges.{Edges, refined_edges}
 use Rattle.absdom.specs.Laws.{BelowIsReflexive, BelowIsTransitive}
-use Rattle.absdom.specs.declared.spill.Spill.{Spill}
+use Rattle.absdom_stack.specs.declared.spill.Spill.{Spill}
 use Rattle.bver_form.specs.Form.{target}
 use Rattle.bver.specs.Justified.{IsCovered, IsCoveredIfAny, IsResultCovered, AreEdgesCovered, Proceeds, IsPermitted, IsPermittedAt, knowledge_at}
 

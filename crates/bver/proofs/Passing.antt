@@ -12,7 +12,7 @@ use Rattle.machine.specs.declared.regions.Region.{Region}
 use Rattle.machine.specs.Step.{insn_at}
 use Rattle.absdom.specs.State.{StateValue, IsWhole}
 use Rattle.absdom.specs.Laws.{BelowIsReflexive, BelowIsTransitive}
-use Rattle.absdom.specs.Spill.{spill_of}
+use Rattle.absdom_stack.specs.Spill.{spill_of}
 use Rattle.bver.specs.Heads.{AreHeadsAt}
 use Rattle.bver.specs.Justified.{IsCoveredIfAny, IsPermitted, IsPermittedAt, region_at}
 use Rattle.bver.specs.Table.{TableValue, AreEntries, knowledge_beside, knowledge_in}

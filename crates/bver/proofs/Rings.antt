@@ -14,7 +14,7 @@ use Rattle.absdom.specs.Edges.{Edges}
 use Rattle.absdom.specs.Effect.{after_insn}
 use Rattle.absdom.specs.State.{StateValue, IsBelow, after_call}
 use Rattle.absdom.specs.Laws.{ApplyLeaves, AreEdgesBelow, BelowIsReflexive, CallLeaves, IsLeftBy, RefineShrinks}
-use Rattle.absdom.specs.Spill.{spill_of}
+use Rattle.absdom_stack.specs.Spill.{spill_of}
 use Rattle.bver_form.specs.Form.{IsFormed}
 use Rattle.bver_form.specs.Jumps.{IsFirstSlot, IsJump, target}
 use Rattle.bver_form.specs.Loops.{GoesTo, IsEdge}

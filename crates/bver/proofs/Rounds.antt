@@ -13,8 +13,8 @@ use Rattle.absdom_num.specs.declared.ranges.Range.{Range}
 use Rattle.absdom.specs.declared.kinds.AbsKind.{AbsKind}
 use Rattle.absdom.specs.declared.kinds.AbsKind.TheVariants.{Unset, Num, Ptr, Map}
 use Rattle.absdom.specs.Kinds.{IsKindBelow}
-use Rattle.absdom.specs.Marks.{AreMarkedIn}
-use Rattle.absdom.specs.StackWords.{AreAllWhole, AreRangesWithin}
+use Rattle.absdom_stack.specs.Marks.{AreMarkedIn}
+use Rattle.absdom_stack.specs.StackWords.{AreAllWhole, AreRangesWithin}
 use Rattle.absdom.specs.State.{StateValue, IsBelow, IsWhole, IsProper, kind_at, kind_in}
 use Rattle.absdom.specs.Laws.{BelowIsTransitive, IsLeftBy}
 use Rattle.bver_form.specs.Loops.{holds}

@@ -25,8 +25,8 @@ use Rattle.absdom.specs.declared.kinds.AbsKind.{AbsKind}
 use Rattle.absdom.specs.declared.kinds.AbsKind.TheVariants.{Unset, Num, Ptr, Map}
 use Rattle.absdom.specs.State.{StateValue, kind_at}
 use Rattle.absdom.specs.Fits.{Fits, FitsKind}
-use Rattle.absdom.specs.declared.spill.Spill.{Spill}
-use Rattle.absdom.specs.Spill.{spill_of}
+use Rattle.absdom_stack.specs.declared.spill.Spill.{Spill}
+use Rattle.absdom_stack.specs.Spill.{spill_of}
 use Rattle.bver_form.specs.Loops.{IsEdge, weight_left}
 use Rattle.bver.specs.Justified.{AsksCell, AsksKind, MayCall, IsHead, IsPermittedAt, IsJustified}
 use Rattle.bver.proofs.Standing.{Laws, Stands, Continues, continues, performs_here, permitted_here, stands}

@@ -33,8 +33,8 @@ use Rattle.absdom.specs.State.{StateValue, after_call, kind_at}
 use Rattle.absdom.specs.Effect.{after_insn}
 use Rattle.absdom.specs.Fits.{Fits, FitsKind, FitsEdge, IsSound, IsIndex, GoesStraight, TakesEdge, edge_where}
 use Rattle.absdom.specs.Laws.{BelowFits, CallFits, EntryFits, ApplyFits, RefineFits}
-use Rattle.absdom.specs.declared.spill.Spill.{Spill}
-use Rattle.absdom.specs.Spill.{spill_of}
+use Rattle.absdom_stack.specs.declared.spill.Spill.{Spill}
+use Rattle.absdom_stack.specs.Spill.{spill_of}
 use Rattle.bver_form.specs.Form.{IsAllowed, IsFormed}
 use Rattle.bver_form.specs.Support.{IsSupportedCall, IsSupportedFlow}
 use Rattle.bver_form.specs.Jumps.{target}

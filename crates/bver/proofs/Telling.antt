@@ -13,7 +13,7 @@ use Rattle.absdom.specs.declared.cause.Cause.{Cause}
 use Rattle.absdom.specs.Edges.{Edges}
 use Rattle.absdom.specs.Effect.{after_insn}
 use Rattle.absdom.specs.State.{StateValue}
-use Rattle.absdom.specs.Spill.{spill_of}
+use Rattle.absdom_stack.specs.Spill.{spill_of}
 use Rattle.bver_form.specs.declared.refusal.Refused.{Refused}
 use Rattle.bver.specs.Heads.{IsClosingFault, IsDeclared}
 use Rattle.bver.specs.Leading.{EntersOutside}

@@ -20,10 +20,10 @@ use Rattle.absdom.specs.declared.kinds.AbsKind.{AbsKind}
 use Rattle.absdom.specs.declared.kinds.AbsKind.TheVariants.{Unset, Num, Ptr, Map}
 use Rattle.absdom.specs.Kinds.{IsKindBelow}
 use Rattle.absdom.specs.State.{StateValue, IsBelow, IsProper, IsWhole, kind_at, with_kind}
-use Rattle.absdom.specs.StackWords.{AreRangesWithin}
+use Rattle.absdom_stack.specs.StackWords.{AreRangesWithin}
 use Rattle.absdom.specs.Effect.{sum_kind, with_result}
 use Rattle.absdom.specs.Laws.{ApplyLeaves, BelowIsReflexive, BelowIsTransitive, CallLeaves, IsLeftBy, RefineShrinks}
-use Rattle.absdom.specs.Spill.{spill_of}
+use Rattle.absdom_stack.specs.Spill.{spill_of}
 use Rattle.bver_form.specs.Form.{IsFormed}
 use Rattle.bver_form.specs.Loops.{ComesIn, IsEdge, IsInside, IsLoopFormed, holds, step_down}
 use Rattle.bver.specs.Heads.{AreWidenedRanges, IsWidened, IsWidenedKind, counts, keeps, opens, retains, forgets}

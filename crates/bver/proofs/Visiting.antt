@@ -11,7 +11,7 @@ use Rattle.machine.specs.declared.regions.Region.{Region}
 use Rattle.machine.specs.Step.{insn_at}
 use Rattle.absdom.specs.State.{StateValue, IsEntry, IsWhole}
 use Rattle.absdom.specs.Laws.{BelowIsTransitive}
-use Rattle.absdom.specs.Spill.{spill_of}
+use Rattle.absdom_stack.specs.Spill.{spill_of}
 use Rattle.bver_form.specs.Form.{IsFormed}
 use Rattle.bver_form.specs.Jumps.{first_slot}
 use Rattle.bver.specs.Heads.{AreHeadsAt, IsDeclared}

@@ -19,7 +19,7 @@ use Rattle.absdom.specs.Kinds.{IsKindBelow}
 use Rattle.absdom.specs.State.{StateValue, IsBelow, kind_at, kind_in, with_kind}
 use Rattle.absdom.specs.State.{IsWhole, IsProper}
 use Rattle.absdom.specs.Laws.{BelowIsReflexive}
-use Rattle.absdom.specs.StackWords.{AreAllWhole, AreRangesWithin}
+use Rattle.absdom_stack.specs.StackWords.{AreAllWhole, AreRangesWithin}
 use Rattle.bver_form.specs.Form.{IsFormed}
 use Rattle.bver_form.specs.Jumps.{is_loop_back}
 use Rattle.bver.specs.Justified.{HasStore, IsHead, IsOpen, IsStoreAt, IsWrittenBy, IsWrittenIn}

@@ -29,7 +29,7 @@ use Rattle.absdom.specs.declared.kinds.AbsKind.{AbsKind}
 use Rattle.absdom.specs.declared.kinds.AbsKind.TheVariants.{Unset, Num, Ptr, Map}
 use Rattle.absdom.specs.Kinds.{IsKindBelow}
 use Rattle.absdom.specs.State.{StateValue, kind_at}
-use Rattle.absdom.specs.StackWords.{AreAllWhole}
+use Rattle.absdom_stack.specs.StackWords.{AreAllWhole}
 use Rattle.bver_form.specs.declared.refusal.Refusal.{Refusal}
 use Rattle.bver_form.specs.declared.refusal.Refusal.TheVariants.{LoopEntry}
 use Rattle.bver_form.specs.declared.refusal.Refused.{Refused}

@@ -57,10 +57,10 @@ use Rattle.absdom.specs.declared.cause.Cause.{Cause}
 use Rattle.absdom.specs.declared.kinds.AbsKind.{AbsKind}
 use Rattle.absdom.specs.declared.kinds.AbsKind.TheVariants.{Unset, Num, Ptr, Map}
 use Rattle.absdom.specs.State.{StateValue, IsEntry, IsBelow, after_call, kind_at}
-use Rattle.absdom.specs.StackWords.{AreAllWhole}
-use Rattle.absdom.specs.declared.spill.Spill.{Spill}
-use Rattle.absdom.specs.declared.spill.Spill.TheVariants.{Keeps}
-use Rattle.absdom.specs.Spill.{spill_of}
+use Rattle.absdom_stack.specs.StackWords.{AreAllWhole}
+use Rattle.absdom_stack.specs.declared.spill.Spill.{Spill}
+use Rattle.absdom_stack.specs.declared.spill.Spill.TheVariants.{Keeps}
+use Rattle.absdom_stack.specs.Spill.{spill_of}
 use Rattle.absdom.specs.Effect.{after_insn}
 use Rattle.absdom.specs.Edges.{Edges, refined_edges}
 use Rattle.absdom.specs.State.{IsWhole}

@@ -42,8 +42,8 @@ use Rattle.absdom.specs.declared.cause.Cause.{Cause}
 use Rattle.absdom.specs.Edges.{Edges}
 use Rattle.absdom.specs.Effect.{after_insn}
 use Rattle.absdom.specs.State.{StateValue, IsWhole, after_call}
-use Rattle.absdom.specs.declared.spill.Spill.{Spill}
-use Rattle.absdom.specs.Spill.{spill_of}
+use Rattle.absdom_stack.specs.declared.spill.Spill.{Spill}
+use Rattle.absdom_stack.specs.Spill.{spill_of}
 use Rattle.bver_form.specs.Jumps.{target}
 use Rattle.bver_form.specs.Lowered.{is_lowered}
 use Rattle.bver.specs.Heads.{Falls, IsDeclared, IsWidened, IsWithinBound}

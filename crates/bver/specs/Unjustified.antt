@@ -5,9 +5,9 @@ use Rattle.bpf_insn.specs.declared.insn.Insn.{Insn}
 use Rattle.machine.specs.Sizes.{Maps}
 use Rattle.machine.specs.Step.{insn_at}
 use Rattle.absdom.specs.State.{StateValue, IsWhole}
-use Rattle.absdom.specs.StackWords.{AreAllWhole}
-use Rattle.absdom.specs.declared.spill.Spill.{Spill}
-use Rattle.absdom.specs.Spill.{spill_of}
+use Rattle.absdom_stack.specs.StackWords.{AreAllWhole}
+use Rattle.absdom_stack.specs.declared.spill.Spill.{Spill}
+use Rattle.absdom_stack.specs.Spill.{spill_of}
 use Rattle.bver_form.specs.declared.refusal.Refusal.TheVariants.{Memory}
 use Rattle.bver_form.specs.declared.refusal.Refused.{Refused}
 use Rattle.bver.specs.Justified.{HasStore, IsEntered, IsHead, IsJustified, IsPermitted, IsPermittedAt}

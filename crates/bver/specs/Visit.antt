@@ -32,7 +32,7 @@ use Rattle.machine.specs.Step.{insn_at}
 use Rattle.absdom.specs.declared.cause.Cause.{Cause}
 use Rattle.absdom.specs.Edges.{Edges}
 use Rattle.absdom.specs.State.{StateValue, IsBelow, IsWhole}
-use Rattle.absdom.specs.Spill.{spill_of}
+use Rattle.absdom_stack.specs.Spill.{spill_of}
 use Rattle.bver_form.specs.Jumps.{first_slot, target}
 use Rattle.bver.specs.Justified.{
   AreEdgesCovered,

@@ -5,7 +5,7 @@ ghost use Rattle.bpf_insn.specs.Spelling.{slots_of};
 ghost use Rattle.machine.specs.Helpers.{helper_of};
 ghost use Rattle.machine.specs.Step.{insn_at, is_map, knows_helper};
 ghost use Rattle.absdom.specs.Effect.{after_insn};
-ghost use Rattle.absdom.specs.Spill.{spill_of};
+ghost use Rattle.absdom_stack.specs.Spill.{spill_of};
 ghost use Rattle.absdom.specs.Edges.{edge_state, edge_states};
 ghost use Rattle.absdom.specs.Kinds.{map_of, number_of};
 ghost use Rattle.absdom.specs.State.{after_call, kind_at};

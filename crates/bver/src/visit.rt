@@ -5,7 +5,7 @@ ghost use Rattle.bpf.specs.Program.{IsProgram};
 ghost use Rattle.machine.specs.Helpers.{takes_kind};
 ghost use Rattle.machine.specs.Sizes.{kind_of_map};
 ghost use Rattle.machine.specs.Step.{insn_at};
-ghost use Rattle.absdom.specs.Spill.{spill_of};
+ghost use Rattle.absdom_stack.specs.Spill.{spill_of};
 ghost use Rattle.bver_form.specs.Form.{IsFormed};
 ghost use Rattle.bver_form.specs.Jumps.{first_slot, is_loop_back, target};
 ghost use Rattle.bver.specs.Heads.{IsDeclared};

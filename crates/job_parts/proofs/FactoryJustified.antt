@@ -15,8 +15,8 @@ use Rattle.absdom_num.specs.Tables.{whole_range}
 use Rattle.absdom.specs.declared.kinds.AbsKind.{AbsKind}
 use Rattle.absdom.specs.declared.kinds.AbsKind.TheVariants.{Num, Unset}
 use Rattle.absdom.specs.Kinds.{IsKindBelow}
-use Rattle.absdom.specs.Marks.{mark_at}
-use Rattle.absdom.specs.StackWords.{AreAllWhole, all_whole, range_in}
+use Rattle.absdom_stack.specs.Marks.{mark_at}
+use Rattle.absdom_stack.specs.StackWords.{AreAllWhole, all_whole, range_in}
 use Rattle.absdom.specs.State.{AreBelow, IsBelow, IsEntry, IsProper, IsWhole, StateValue, entry_kinds, kind_in}
 use Rattle.bver_form.specs.Form.{IsAllowed}
 use Rattle.bver_form.specs.Loops.{IsLoopFormed}
@@ -25,7 +25,7 @@ use Rattle.bver_form.specs.declared.refusal.Refusal.TheVariants as refusals
 use Rattle.bver_form.specs.declared.refusal.Refused.{Refused}
 use Rattle.bver.specs.Unjustified.{TellsUnjustified}
 use Rattle.bver.specs.Justified.{IsHead, IsJustified, IsPermittedAt}
-use Rattle.absdom.specs.Spill.{spill_of}
+use Rattle.absdom_stack.specs.Spill.{spill_of}
 use Rattle.job_parts.specs.Factory.{factory}
 
 -- ---- two states

@@ -14,8 +14,8 @@ use Rattle.absdom_num.specs.Tables.{alu_range, low_range, row, single_range, who
 use Rattle.absdom.specs.declared.kinds.AbsKind.{AbsKind}
 use Rattle.absdom.specs.declared.kinds.AbsKind.TheVariants.{Unset, Num, Ptr, Map}
 use Rattle.absdom.specs.Kinds.{IsKindBelow}
-use Rattle.absdom.specs.Marks.{mark_at}
-use Rattle.absdom.specs.StackWords.{AreAllWhole, all_whole, range_in}
+use Rattle.absdom_stack.specs.Marks.{mark_at}
+use Rattle.absdom_stack.specs.StackWords.{AreAllWhole, all_whole, range_in}
 use Rattle.absdom.specs.State.{AreBelow, IsBelow, IsEntry, IsProper, IsWhole, StateValue, entry_kinds, kind_in}
 
 -- ---- states

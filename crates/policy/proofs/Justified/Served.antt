@@ -8,7 +8,7 @@ use Rattle.bpf_parts.specs.Operands.{distance_of}
 use Rattle.bpf_insn.specs.Spelling.{slots_of}
 use Rattle.machine.specs.Sizes.{Maps}
 use Rattle.absdom.specs.Effect.{after_insn}
-use Rattle.absdom.specs.declared.spill.Spill.TheVariants.{Forgets}
+use Rattle.absdom_stack.specs.declared.spill.Spill.TheVariants.{Forgets}
 use Rattle.absdom.specs.State.{IsWhole, StateValue, after_call}
 use Rattle.bver_form.specs.Jumps.{jump_distance, target}
 use Rattle.bver_form.specs.Support.{IsSupported, LeavesFrame}

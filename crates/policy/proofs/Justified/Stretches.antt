@@ -21,7 +21,7 @@ use Rattle.absdom.specs.declared.cause.Cause.{Cause}
 use Rattle.absdom.specs.declared.kinds.AbsKind.{AbsKind}
 use Rattle.absdom.specs.declared.kinds.AbsKind.TheVariants.{Map}
 use Rattle.absdom.specs.Edges.{Edges, refined_edges}
-use Rattle.absdom.specs.declared.spill.Spill.TheVariants.{Forgets}
+use Rattle.absdom_stack.specs.declared.spill.Spill.TheVariants.{Forgets}
 use Rattle.absdom.specs.Effect.{after_insn, alu_kind, load_kind, map_kind, operand_kind, with_result}
 use Rattle.absdom.specs.Laws.{AreEdgesBelow, BelowIsReflexive, BelowIsTransitive, RefineShrinks}
 use Rattle.absdom.specs.State.{IsBelow, IsWhole, StateValue, kind_at, with_kind}

@@ -28,7 +28,7 @@ use Rattle.absdom.specs.declared.kinds.AbsKind.{AbsKind}
 use Rattle.absdom.specs.declared.kinds.AbsKind.TheVariants.{Unset, Num, Map}
 use Rattle.absdom.specs.declared.cause.Cause.{Cause}
 use Rattle.absdom.specs.Edges.{refined_edges}
-use Rattle.absdom.specs.declared.spill.Spill.TheVariants.{Forgets}
+use Rattle.absdom_stack.specs.declared.spill.Spill.TheVariants.{Forgets}
 use Rattle.absdom.specs.Effect.{load_kind, map_kind, with_result}
 use Rattle.absdom.specs.Kinds.{IsKindBelow}
 use Rattle.absdom.specs.Laws.{BelowIsReflexive, BelowIsTransitive, RefineShrinks}

@@ -1,7 +1,7 @@
 use Rattle.std.proofs.Common.{rules, ◌≡◌}
 use Rattle.bpf_insn.specs.declared.flow.Flow.TheVariants.{GoesOn}
 use Rattle.bpf_insn.specs.Flow.{flow_of}
-use Rattle.absdom.specs.Spill.{spill_of}
+use Rattle.absdom_stack.specs.Spill.{spill_of}
 use Rattle.bver.specs.Table.{knowledge_in}
 use Rattle.bver.proofs.Below.{straight_fault, straight_least}
 use Rattle.bver.proofs.Telling.{compared_told, refuted_told, straight_told}

@@ -1,6 +1,6 @@
 use Rattle.std.proofs.Common.{rules, ◌≡◌, ◌+◌, Err, Some, IsTrue}
 use Rattle.bpf_insn.specs.Spelling.{slots_of}
-use Rattle.absdom.specs.Spill.{spill_of}
+use Rattle.absdom_stack.specs.Spill.{spill_of}
 use Rattle.bver.specs.Justified.{IsCoveredIfAny, IsPermitted, accessed_region}
 use Rattle.bver.specs.Leading.{AreLoweredBack, jumping_state, IsFlowFault, IsWidenedIfAny, LeadsBelow}
 use Rattle.bver_form.specs.Lowered.{IsSettled}

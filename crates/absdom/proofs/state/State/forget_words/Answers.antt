@@ -1,7 +1,7 @@
 use Rattle.std.proofs.Common.{◌∙◌, ap, sym, subst, length}
 use Rattle.absdom_num.specs.declared.ranges.Range.{Range}
 use Rattle.absdom_num.specs.Ranges.{IsRange}
-use Rattle.absdom.proofs.WordSteps.{length-whole, whole_proper}
+use Rattle.absdom_stack.proofs.WordSteps.{length-whole, whole_proper}
 use Rattle.absdom.proofs.state.State.forget_words.Goals as goal
 
 pub invariant_of-self : goal.invariant_of-self

@@ -1,5 +1,5 @@
 use Rattle.std.proofs.Common.{rules}
-use Rattle.absdom.proofs.WordSteps.{joined_unset}
+use Rattle.absdom_stack.proofs.WordSteps.{joined_unset}
 use Rattle.absdom.proofs.state.State.join.Goals as goal
 
 pub invariant_of-self : goal.invariant_of-self

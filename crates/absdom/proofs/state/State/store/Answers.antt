@@ -1,7 +1,7 @@
 use Rattle.std.proofs.Common.{◌∙◌, ap, length, rules}
 use Rattle.absdom_num.specs.Ranges.{IsRange}
-use Rattle.absdom.proofs.MarkSteps.{length-stored_marks}
-use Rattle.absdom.proofs.WordSteps.{whole_proper, length-stored, stored_each, stored_unset}
+use Rattle.absdom_stack.proofs.MarkSteps.{length-stored_marks}
+use Rattle.absdom_stack.proofs.WordSteps.{whole_proper, length-stored, stored_each, stored_unset}
 use Rattle.absdom.proofs.state.State.store.Goals as goal
 
 pub invariant_of-self : goal.invariant_of-self

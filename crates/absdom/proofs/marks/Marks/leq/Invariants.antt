@@ -1,6 +1,0 @@
-use Rattle.std.proofs.Common.{◌*◌, ◌<◌, ◌≡◌, ℕ, true}
-use Rattle.absdom.specs.Marks.{mark_at}
-use Rattle.absdom.proofs.marks.Marks.leq.Given as goal
-
-abbrev pub invariant-loop-word : goal.invariant-loop-word
-invariant-loop-word l = (p : ℕ) → p < 64 * l.word → mark_at l.other p ≡ true → mark_at l.self p ≡ true

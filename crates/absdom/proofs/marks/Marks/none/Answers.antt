@@ -1,8 +1,0 @@
-use Rattle.absdom.proofs.MarkBits.{length-marks, no_words, unmarked}
-use Rattle.absdom.proofs.marks.Marks.none.Goals as goal
-
-pub returns-clause-none : goal.returns-clause-none
-returns-clause-none c = unmarked
-
-pub returns-clause-length : goal.returns-clause-length
-returns-clause-length c = length-marks no_words

@@ -1,5 +1,0 @@
-use Rattle.absdom.proofs.WordSteps.{widened_words}
-use Rattle.absdom.proofs.stack_words.StackWords.widen.Goals as goal
-
-pub invariant_of-self : goal.invariant_of-self
-invariant_of-self c = rw c.widen.ensures (widened_words c.self.inside.ranges c.args.first c.args.last c.self.invariant)

@@ -1,0 +1,4 @@
+pub mod MarkSteps
+pub mod WordSteps
+mod MarkBits
+mod MarkMasks

@@ -1,0 +1,4 @@
+pub mod Marks
+pub mod StackWords
+pub mod Spill
+pub mod Bits

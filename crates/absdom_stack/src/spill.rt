@@ -1,0 +1,27 @@
+//! Whether numbers on the stack keep their ranges.
+
+ghost use Rattle.std.specs.Prelude.{◌≡◌};
+ghost use Rattle.absdom_stack.specs.Spill.{spill_of};
+
+use bpf::Version;
+
+/// Whether a number that a program puts on the stack keeps its range there.
+#[derive(Clone, Copy, Debug, PartialEq, Eq)]
+pub enum Spill {
+    /// It does not: what is loaded from the stack is any number of its size.
+    Forgets,
+    /// It does, where it fills a word of the stack: what is loaded from the word has its range.
+    Keeps,
+}
+
+impl Spill {
+    /// What a version of the format says: ranges are kept in version 2.
+    pub fn of_version(version: Version) -> Spill
+        ensures { result ≡ spill_of version }
+    {
+        match version {
+            Version::One => Spill::Forgets,
+            Version::Two => Spill::Keeps,
+        }
+    }
+}
