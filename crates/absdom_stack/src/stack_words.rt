@@ -103,14 +103,7 @@ impl StackWords {
     }
 
     /// A store of a number of that range in so many bytes, from `lowest` on or from any byte up to `highest`.
-    pub fn store(
-        &mut self,
-        spill: Spill,
-        bytes: usize,
-        lowest: usize,
-        highest: usize,
-        value: Range,
-    )
+    pub fn store(&mut self, spill: Spill, bytes: usize, lowest: usize, highest: usize, value: Range)
         requires bytes { 1 ≤ bytes }
         requires inside { AreInside bytes (lowest, highest) }
         ensures { self.new ≡ stored_ranges spill self.old bytes (lowest, highest) value }

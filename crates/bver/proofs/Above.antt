@@ -1,7 +1,7 @@
 -- What a pass knows is below what every table says under which the program is justified.
-use Rattle.std.proofs.Common.{◌≡◌, ◌≢◌, ◌≤◌, ℕ, ◌+◌, ap, ℤ, pos, negsuc, Bool, true, false, List, Option, None, Some, Result, Ok, Err, ◌⊎◌, inl, inr, refl, sym, subst, arith}
-use Rattle.std.specs.Prelude.{IsTrue, IsFalse, if◌then◌else◌, is_some}
-use Rattle.std.proofs.lemmas.Bool.{cases_eq, cases_lt, false≢true}
+use Rattle.std.proofs.Common.{◌≡◌, ◌≢◌, ◌≤◌, ℕ, ◌+◌, Bool, true, false, List, Option, None, Some, Result, Ok, Err, inl, inr, refl, sym, subst, arith}
+use Rattle.std.specs.Prelude.{IsTrue}
+use Rattle.std.proofs.lemmas.Bool.{cases_lt, false≢true}
 use Rattle.std.proofs.lemmas.List.{get_or_past}
 use Rattle.bpf.specs.declared.loops.Loop.{Loop}
 use Rattle.bpf.specs.Program.{Program}
@@ -12,7 +12,6 @@ use Rattle.bpf_parts.specs.Operands.{distance_of}
 use Rattle.machine.specs.Sizes.{Maps}
 use Rattle.machine.specs.declared.helpers.Helper.{Helper}
 use Rattle.machine.specs.Helpers.{helper_of}
-use Rattle.machine.specs.Step.{insn_at}
 use Rattle.absdom.specs.declared.cause.Cause.{Cause}
 use Rattle.absdom.specs.declared.kinds.AbsKind.{AbsKind}
 use Rattle.absdom.specs.declared.kinds.AbsKind.TheVariants.{Unset, Num, Ptr, Map}
@@ -23,12 +22,10 @@ use Rattle.absdom.specs.Effect.{after_insn}
 use Rattle.absdom.specs.Edges.{Edges, refined_edges}
 use Rattle.absdom.specs.Laws.{BelowIsTransitive, ApplyGrows, RefineGrows, CallGrows, IsGrown, IsEdgeBelow, AreEdgesGrown}
 use Rattle.absdom_stack.specs.declared.spill.Spill.{Spill}
-use Rattle.bver_form.specs.Jumps.{first_slot, target}
+use Rattle.bver_form.specs.Jumps.{target}
 use Rattle.bver_form.specs.Lowered.{is_lowered}
-use Rattle.bver.specs.Heads.{AreWidenedRanges, AreUnset, BodyValue, Falls, IsWidened, IsWidenedKind, IsWithinBound, counts, opens, keeps, opened_kind, is_number, retains, forgets}
-use Rattle.bver.specs.Table.{TableValue, knowledge_in}
-use Rattle.bver.specs.Visit.{IsGrown as HasGrown, IsLeast, IsLeastOf}
-use Rattle.bver.specs.Justified.{AreEdgesCovered, AsksCell, HasStore, IsCovered, IsCoveredIfAny, IsHead, IsNumber, IsOpen, IsPermitted, IsResultCovered, Proceeds, knowledge_at, AsksKind, MayAsk, MayCall}
+use Rattle.bver_pass.specs.Heads.{AreWidenedRanges, AreUnset, BodyValue, Falls, IsWidened, IsWidenedKind, IsWithinBound, counts, opens, keeps, opened_kind, is_number, retains, forgets}
+use Rattle.bver_pass.specs.Justified.{AreEdgesCovered, AsksCell, HasStore, IsCovered, IsCoveredIfAny, IsHead, IsNumber, IsOpen, IsPermitted, IsResultCovered, Proceeds, knowledge_at, AsksKind, MayAsk, MayCall}
 use Rattle.bver.proofs.Rounds.{ranges_whole, words_of}
 
 -- ---- what a table permits of a state, it permits of a smaller one
@@ -198,39 +195,3 @@ unset_above (Map i) (Num b) nothing is_open below = absurd below
 pub falls_unset : (b : BodyValue) (head : Option StateValue) (edge above : StateValue) (register : ℕ) → register ≢ b.declared.register → IsHead b.program b.declared above → IsBelow edge above → Falls b head edge register → kind_at above register ≡ Unset
 falls_unset b head edge above register other stands below falls =
     unset_above (kind_at edge register) (kind_at above register) falls.edge_number (stands.others register other falls.written) (below.kinds register)
-
--- ---- what comes to a slot
-
--- a table in which one slot changed, to the least that covers a state too
-pub least_at : (old new : TableValue) (slot : ℕ) (state : StateValue) → IsLeast (knowledge_in old slot) state (knowledge_in new slot) → ((k : ℕ) → k ≢ slot → knowledge_in new k ≡ knowledge_in old k) → IsLeastOf (λ above. IsCovered state (above slot)) old new
-least_at old new slot state least others above grown covered k = by_place (cases_eq k slot)
-  where
-    here : (there : Option StateValue) → IsCoveredIfAny (knowledge_in old slot) there → IsCovered state there → IsCoveredIfAny (knowledge_in new slot) there
-    here None was now = absurd now
-    here (Some b) was now = least b was now
-
-    by_place : k ≡ slot ⊎ k ≢ slot → IsCoveredIfAny (knowledge_in new k) (above k)
-    by_place (inl same) = subst (λ (i : ℕ). IsCoveredIfAny (knowledge_in new i) (above i)) (sym same) (here (above slot) (grown slot) covered)
-    by_place (inr other) = subst (λ (o : Option StateValue). IsCoveredIfAny o (above k)) (sym (others k other)) (grown k)
-
--- a table that did not change
-pub least_same : (followed : (ℕ → Option StateValue) → Type 0) (old new : TableValue) → new ≡ old → IsLeastOf followed old new
-least_same followed old new same above grown covered = subst (λ (t : TableValue). HasGrown (knowledge_in t) above) (sym same) grown
-
--- a state that goes on: joined where the slot has an entry, else the running one
-pub least_next : (old new : TableValue) (runs : Bool) (next : ℕ) (state : StateValue) → (IsFalse runs → IsLeast (knowledge_in old next) state (knowledge_in new next)) → (IsTrue runs → new ≡ old) → ((k : ℕ) → k ≢ next → knowledge_in new k ≡ knowledge_in old k) → IsLeastOf (λ above. IsCovered state (above next)) old new
-least_next old new true next state least same others = least_same (λ above. IsCovered state (above next)) old new (same refl)
-least_next old new false next state least same others = least_at old new next state (least refl) others
-
--- a slot to which a jump leads
-lands_at : (p : Program) (z : ℤ) (landing : ℕ) → first_slot p z ≡ Some landing → z ≡ pos landing
-lands_at p (pos k) landing is = by_begin (is_some (insn_at p k)) is
-  where
-    by_begin : (b : Bool) → (if b then Some k else None) ≡ Some landing → pos k ≡ pos landing
-    by_begin true same = let here : k ≡ landing = cc in ap (λ (i : ℕ). pos i) here
-    by_begin false same = absurd cc
-lands_at p (negsuc n) landing is = absurd cc
-
-pub least_landing : (p : Program) (z : ℤ) (landing : ℕ) (old new : TableValue) (state : StateValue) → first_slot p z ≡ Some landing → IsLeast (knowledge_in old landing) state (knowledge_in new landing) → ((k : ℕ) → k ≢ landing → knowledge_in new k ≡ knowledge_in old k) → IsLeastOf (λ above. IsCovered state (knowledge_at above z)) old new
-least_landing p z landing old new state lands least others =
-    subst (λ (y : ℤ). IsLeastOf (λ above. IsCovered state (knowledge_at above y)) old new) (sym (lands_at p z landing lands)) (least_at old new landing state least others)

@@ -18,14 +18,16 @@ use Rattle.bver_form.specs.Laws.{LoopsAreEntered}
 use Rattle.bver_form.specs.Loops.{ComesIn, IsEdge, IsInside, IsLoopFormed, IsNestedOrApart, holds, step_down}
 use Rattle.bver_form.specs.Lowered.{is_lowered}
 use Rattle.bver_form.specs.Targets.{IsKept}
-use Rattle.bver.specs.Heads.{IsDeclared, IsWidened, IsWidenedKind, counts, is_number, keeps, opened_kind, opens}
-use Rattle.bver.specs.Justified.{HasStore, IsCovered, IsCoveredIfAny, IsEntered, IsHead, IsWrittenIn}
-use Rattle.bver.specs.Leading.{IsFollowedBelow, IsLeastVisit, IsWidenedIfAny, LeadsBelow, widens, stays}
-use Rattle.bver.specs.Table.{TableValue, knowledge_in}
-use Rattle.bver.specs.Visit.{AreWhole, HasNext, IsInsnVisit, IsLeastEntry, VisitValue, visited_state}
+use Rattle.bver_pass.specs.Heads.{IsDeclared, IsWidened, IsWidenedKind, counts, is_number, keeps, opened_kind, opens}
+use Rattle.bver_pass.specs.Justified.{HasStore, IsCovered, IsCoveredIfAny, IsEntered, IsHead, IsWrittenIn}
+use Rattle.bver_pass.specs.Leading.{IsFollowedBelow, IsLeastVisit, IsWidenedIfAny, LeadsBelow, widens, stays}
+use Rattle.bver_pass.specs.Table.{TableValue, knowledge_in}
+use Rattle.bver_pass.specs.Visit.{AreWhole, HasNext, IsInsnVisit, IsLeastEntry, VisitValue, visited_state}
 use Rattle.bver.proofs.Below.{StaysBelow, below_next, below_none, below_skip, comes_below, comes_whole}
-use Rattle.bver.proofs.Counters.{inside_of, same_place}
-use Rattle.bver.proofs.Keeping.{head_kept, kept_begins}
+use Rattle.bver.proofs.Counters.{same_place}
+use Rattle.bver_pass.proofs.Loops.{inside_of}
+use Rattle.bver.proofs.Keeping.{kept_begins}
+use Rattle.bver_pass.proofs.Keeping.{head_kept}
 use Rattle.bver.proofs.Widening.{wide_is}
 use Rattle.bver.proofs.Rings.{IsBehind, ring, ring_any, ring_behind, ring_more}
 use Rattle.bver.proofs.Rounds.{IsRound, alone, below_all, below_alone, below_marked, below_ranged, counter_range, kind_alone, marked, marks_marked, ranged, ranges_ranged, words_all, words_of, words_whole}

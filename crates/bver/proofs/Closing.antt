@@ -30,10 +30,10 @@ use Rattle.absdom.specs.Laws.{AreEdgesBelow, RefineShrinks}
 use Rattle.bver_form.specs.Form.{IsFormed}
 use Rattle.bver_form.specs.Loops.{back_jump}
 use Rattle.bver_form.specs.Lowered.{is_lowered}
-use Rattle.bver.specs.Heads.{Falls, IsDeclared, is_number}
-use Rattle.bver.specs.Justified.{HasStore, IsHead, IsStoreAt, IsWrittenBy, IsWrittenIn}
-use Rattle.bver.specs.Leading.{jumping_state, taken_state}
-use Rattle.bver.proofs.Counters.{holds_at}
+use Rattle.bver_pass.specs.Heads.{Falls, IsDeclared, is_number}
+use Rattle.bver_pass.specs.Justified.{HasStore, IsHead, IsStoreAt, IsWrittenBy, IsWrittenIn}
+use Rattle.bver_pass.specs.Leading.{jumping_state, taken_state}
+use Rattle.bver_pass.proofs.Loops.{holds_at}
 use Rattle.bver.proofs.Widening.{frame_kept, unstored, unwritten}
 use Rattle.bver.proofs.Rounds.{IsRound, closes, kind_less, ranges_less}
 use Rattle.bver.proofs.Turns.{Leaves, range_back}

@@ -26,17 +26,17 @@ use Rattle.bver_form.specs.Laws.{LoopsAreEntered}
 use Rattle.bver_form.specs.Loops.{back_jump}
 use Rattle.bver_form.specs.Lowered.{count_of, is_lowered}
 use Rattle.bver_form.specs.Targets.{IsKept}
-use Rattle.bver.specs.Heads.{AreUnset, Falls, HasLowered, IsDeclared}
-use Rattle.bver.specs.Justified.{AreEdgesCovered, IsCovered, IsCoveredIfAny, IsEntered, IsHead, IsPermitted, knowledge_at}
-use Rattle.bver.specs.Leading.{IsLeastVisit, AreLoweredBack, IsLeastVisitIfAny, IsLoweredBack, IsLoweredBackIfAny, IsUncovered, IsVisitFaultIfAny, jumping_if_any, jumping_state, taken_state}
-use Rattle.bver.specs.Table.{TableValue, knowledge_in}
-use Rattle.bver.specs.Unjustified.{Justifies}
-use Rattle.bver.specs.Visit.{AreWhole, IsInsnVisit, IsLeastEntry, IsVisit, VisitValue, visited_state}
+use Rattle.bver_pass.specs.Heads.{AreUnset, Falls, HasLowered, IsDeclared}
+use Rattle.bver_pass.specs.Justified.{AreEdgesCovered, IsCovered, IsCoveredIfAny, IsEntered, IsHead, IsPermitted, knowledge_at}
+use Rattle.bver_pass.specs.Leading.{IsLeastVisit, AreLoweredBack, IsLeastVisitIfAny, IsLoweredBack, IsLoweredBackIfAny, IsUncovered, IsVisitFaultIfAny, jumping_if_any, jumping_state, taken_state}
+use Rattle.bver_pass.specs.Table.{TableValue, knowledge_in}
+use Rattle.bver_pass.specs.Unjustified.{Justifies}
+use Rattle.bver_pass.specs.Visit.{AreWhole, IsInsnVisit, IsLeastEntry, IsVisit, VisitValue, visited_state}
 use Rattle.bver.proofs.Above.{falls_unset}
 use Rattle.bver.proofs.Below.{IsRefusedBack, Order, StaysBelow, below_none, below_skip, comes_whole, head_in, here_covered, justified_next, permitted_there, visit_refuted}
 use Rattle.bver.proofs.Circles.{IsCircle, IsTurningIfAny, circle_next, circle_none, circle_skip, comes_none, comes_round, formed_in, widened_round}
 use Rattle.bver.proofs.Closing.{back_covered}
-use Rattle.bver.proofs.Keeping.{to_head}
+use Rattle.bver_pass.proofs.Keeping.{to_head}
 use Rattle.bver.proofs.Rings.{IsBehind}
 use Rattle.bver.proofs.Rounds.{IsRound}
 use Rattle.bver.proofs.Slots.{has_next}

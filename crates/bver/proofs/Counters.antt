@@ -18,6 +18,7 @@ use Rattle.machine.specs.State.{State}
 use Rattle.machine.specs.Step.{Outcome, Next, Ask, Verdict, Trap, perform, insn_at, alu, writes, compares}
 use Rattle.bver.proofs.Arrivals.{After, LeadsTo, at_once, by_answer, is_after}
 use Rattle.bver_form.specs.Loops.{IsCounted, ComesIn, IsLoopFormed, holds, step_down, back_jump}
+use Rattle.bver_pass.proofs.Loops.{from_eqb, holds_at, inside_of, loop_in}
 
 -- the number of a value, and 0 of any other
 abbrev pub amount : Value → ℕ
@@ -30,14 +31,6 @@ amount (Map index) = 0
 abbrev pub values_of : List Loop → State → ℕ → ℕ
 values_of [] s head = 0
 values_of (l ∷ ls) s head = if l.head == head then amount (s.registers l.register) else values_of ls s head
-
--- a declared loop is one, and its head is not below the least
-pub loop_in : (slots least : ℕ) (ls : List Loop) (k : ℕ) (d : Loop) → AreLoops slots least ls → k < length ls → (least ≤ (slice_index_or ls k d).head) × IsLoop slots (slice_index_or ls k d)
-loop_in slots least [] k d h below = absurd (omega arith)
-loop_in slots least (l ∷ ls) zero d h below = (h.0, h.1)
-loop_in slots least (l ∷ ls) (suc k) d h below =
-    let rest = loop_in slots (l.head + 1) ls k d h.2 (omega arith) in
-    (omega (arith, h.0, rest.0), rest.1)
 
 -- loops at two places have two heads
 pub same_place : (slots least : ℕ) (ls : List Loop) (k j : ℕ) (d : Loop) → AreLoops slots least ls → k < length ls → j < length ls → (slice_index_or ls k d).head ≡ (slice_index_or ls j d).head → k ≡ j
@@ -58,9 +51,6 @@ eqb_same n = grind (arith, nat_tests)
 
 to_eqb : (m n : ℕ) → m ≡ n → eqb m n ≡ true
 to_eqb m n same = grind (arith, nat_tests, same)
-
-pub from_eqb : (m n : ℕ) → eqb m n ≡ true → m ≡ n
-from_eqb m n same = grind (arith, nat_tests, same)
 
 eqb_other : (m n : ℕ) → m < n → eqb m n ≡ false
 eqb_other m n below = grind (arith, nat_tests)
@@ -134,12 +124,6 @@ goes_back header l s t n is e =
     (subst (λ (v : Value). IsTurn s n (compares NotEqual Bits64 s distance v (Num (word (pos 0))))) (sym is) (turns s distance n))
 
 -- ---- what a step does to the counter of a loop
-
-pub inside_of : (l : Loop) (k : ℕ) → IsTrue (holds l k) → (l.head ≤ k) × (k ≤ l.back)
-inside_of l k inside = grind (arith, nat_tests, inside)
-
-pub holds_at : (l : Loop) (k : ℕ) → l.head ≤ k → k ≤ l.back → holds l k ≡ true
-holds_at l k above below = grind (arith, nat_tests, above, below)
 
 -- a number from one to another
 abbrev pub IsNumberIn : Value → (low high : ℕ) → Type 0

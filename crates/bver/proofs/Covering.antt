@@ -1,5 +1,5 @@
 -- What is covered stays covered where more is.
-use Rattle.std.proofs.Common.{ℕ, ◌+◌, ℤ, pos, negsuc, Option, None, Some, Result, Ok, Err}
+use Rattle.std.proofs.Common.{ℕ, ◌+◌, Option, None, Some, Result, Ok, Err}
 use Rattle.bpf_insn.specs.declared.insn.Insn.{Insn}
 use Rattle.bpf_insn.specs.declared.insn.Insn.TheVariants.{Alu, Negate, MoveSigned, ByteSwap, Load, Store, Jump, Goto, Wide, LoadMap, LoadAddress, Call, Exit}
 use Rattle.bpf_insn.specs.Spelling.{slots_of}
@@ -9,27 +9,11 @@ use Rattle.absdom.specs.declared.cause.Cause.{Cause}
 use Rattle.absdom.specs.State.{StateValue, after_call}
 use Rattle.absdom.specs.Effect.{after_insn}
 use Rattle.absdom.specs.Edges.{Edges, refined_edges}
-use Rattle.absdom.specs.Laws.{BelowIsReflexive, BelowIsTransitive}
+use Rattle.absdom.specs.Laws.{BelowIsTransitive}
 use Rattle.absdom_stack.specs.declared.spill.Spill.{Spill}
 use Rattle.bver_form.specs.Form.{target}
-use Rattle.bver.specs.Justified.{IsCovered, IsCoveredIfAny, IsResultCovered, AreEdgesCovered, Proceeds, IsPermitted, IsPermittedAt, knowledge_at}
-
--- all that one table knows is covered by the other
-abbrev pub AreCovered : (old new : ℕ → Option StateValue) → Type 0
-AreCovered old new = (slot : ℕ) → IsCoveredIfAny (old slot) (new slot)
-
-pub covers_itself : BelowIsReflexive → (o : Option StateValue) → IsCoveredIfAny o o
-covers_itself reflexive None = tt
-covers_itself reflexive (Some a) = reflexive a
-
-pub covered_more : BelowIsTransitive → (a : StateValue) (x y : Option StateValue) → IsCovered a x → IsCoveredIfAny x y → IsCovered a y
-covered_more transitive a None y h g = absurd h
-covered_more transitive a (Some b) None h g = absurd g
-covered_more transitive a (Some b) (Some d) h g = transitive a b d h g
-
-pub any_covered_more : BelowIsTransitive → (o x y : Option StateValue) → IsCoveredIfAny o x → IsCoveredIfAny x y → IsCoveredIfAny o y
-any_covered_more transitive None x y h g = tt
-any_covered_more transitive (Some a) x y h g = covered_more transitive a x y h g
+use Rattle.bver_pass.specs.Justified.{IsCoveredIfAny, IsResultCovered, AreEdgesCovered, Proceeds, IsPermitted, IsPermittedAt, knowledge_at}
+use Rattle.bver_pass.proofs.Covering.{AreCovered, any_covered_more, covered_more, known_covered}
 
 result_covered_more : BelowIsTransitive → (r : Result StateValue Cause) (x y : Option StateValue) → IsResultCovered r x → IsCoveredIfAny x y → IsResultCovered r y
 result_covered_more transitive (Err cause) x y h g = absurd h
@@ -39,10 +23,6 @@ edges_covered_more : BelowIsTransitive → (r : Result Edges Cause) (x y z w : O
 edges_covered_more transitive (Err cause) x y z w h g f = absurd h
 edges_covered_more transitive (Ok edges) x y z w h g f =
     (any_covered_more transitive edges.taken x y h.0 g, any_covered_more transitive edges.not_taken z w h.1 f)
-
-pub known_covered : (old new : ℕ → Option StateValue) → AreCovered old new → (z : ℤ) → IsCoveredIfAny (knowledge_at old z) (knowledge_at new z)
-known_covered old new grown (pos slot) = grown slot
-known_covered old new grown (negsuc n) = tt
 
 proceeds_more : BelowIsTransitive → (spill : Spill) (old new : ℕ → Option StateValue) (slot : ℕ) (a : StateValue) (insn : Insn) → AreCovered old new → Proceeds spill old slot a insn → Proceeds spill new slot a insn
 proceeds_more transitive spill old new slot a insn grown h =

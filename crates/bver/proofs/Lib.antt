@@ -7,8 +7,6 @@ pub mod Standing
 pub mod Arrivals
 pub mod Counters
 pub mod Widening
-pub mod Masks
-pub mod Lowering
 pub mod Safety
 pub mod Regions
 pub mod Above

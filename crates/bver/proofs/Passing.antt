@@ -1,8 +1,8 @@
 -- From one slot of a pass to the next: what is known at the slots that were visited, at those with entries, and where
 -- the running state stands.
-use Rattle.std.proofs.Common.{◌≡◌, ◌≢◌, ℕ, ◌+◌, ◌<◌, ◌≤◌, inl, inr, Bool, true, false, Option, None, Some, List, length, refl, sym, ap, subst, ◌∙◌, arith}
+use Rattle.std.proofs.Common.{◌≡◌, ◌≢◌, ℕ, ◌+◌, ◌<◌, ◌≤◌, Bool, true, false, Option, None, Some, List, length, refl, sym, ap, subst, ◌∙◌, arith}
 use Rattle.std.specs.Prelude.{slice_set, IfSome, IsSome, IsTrue, nat_lt, if◌then◌else◌, ◌==◌}
-use Rattle.std.proofs.lemmas.Bool.{cases_lt, false≢true}
+use Rattle.std.proofs.lemmas.Bool.{false≢true}
 use Rattle.std.proofs.lemmas.Bool.Decides.{nat_tests}
 use Rattle.bpf.specs.Program.{Program, IsProgram}
 use Rattle.bpf_insn.specs.declared.insn.Insn.{Insn}
@@ -13,15 +13,19 @@ use Rattle.machine.specs.Step.{insn_at}
 use Rattle.absdom.specs.State.{StateValue, IsWhole}
 use Rattle.absdom.specs.Laws.{BelowIsReflexive, BelowIsTransitive}
 use Rattle.absdom_stack.specs.Spill.{spill_of}
-use Rattle.bver.specs.Heads.{AreHeadsAt}
-use Rattle.bver.specs.Justified.{IsCoveredIfAny, IsPermitted, IsPermittedAt, region_at}
-use Rattle.bver.specs.Table.{TableValue, AreEntries, knowledge_beside, knowledge_in}
+use Rattle.bver_pass.specs.Heads.{AreHeadsAt}
+use Rattle.bver_pass.specs.Justified.{IsCoveredIfAny, IsPermitted, IsPermittedAt, region_at}
+use Rattle.bver_pass.specs.Table.{TableValue, AreEntries, knowledge_beside, knowledge_in}
 use Rattle.bver_form.specs.Targets.{IsKept, IsPlain}
-use Rattle.bver.specs.Visit.{AreWhole, IsExtended, IsInsnVisit, IsVisit, VisitValue, AreEntered, AreVisited, ArePermitted, visited_state}
-use Rattle.bver.proofs.Covering.{AreCovered, any_covered_more, covers_itself, permitted_at_more}
-use Rattle.bver.proofs.Keeping.{kept_begins, known_begins, known_plain}
+use Rattle.bver_pass.specs.Visit.{AreWhole, IsExtended, IsInsnVisit, IsVisit, VisitValue, AreEntered, AreVisited, ArePermitted, visited_state}
+use Rattle.bver.proofs.Covering.{permitted_at_more}
+use Rattle.bver_pass.proofs.Covering.{AreCovered, any_covered_more, covers_itself}
+use Rattle.bver.proofs.Keeping.{kept_begins, known_begins}
+use Rattle.bver_pass.proofs.Keeping.{known_plain}
 use Rattle.bver.proofs.Slots.{goes_further, none_between}
-use Rattle.bver.proofs.Visiting.{Grows, extended_before, extended_twice, permitted_next, visited_next, visited_none}
+use Rattle.bver.proofs.Visiting.{Grows, extended_before, permitted_next, visited_next, visited_none}
+use Rattle.bver_pass.proofs.Extending.{extended_twice}
+use Rattle.bver_pass.proofs.Carried.{by_order, carried_any, carried_covers}
 
 -- the running state stands at that slot: the next one from here on where an instruction begins, to which no jump leads
 pub record StandsAt (p : Program) (slot next : ℕ) : Type 0 where
@@ -43,32 +47,6 @@ pub record IsPassing (p : Program) (maps : Maps) (table : TableValue) (runs : Bo
   pub behind : (k : ℕ) → k < slot → IsCoveredIfAny (knowledge_in table k) (known k)
 
 -- ---- by cases
-
-by_order : (P : Type 0) (k slot : ℕ) → (k < slot → P) → (k ≡ slot → P) → (slot < k → P) → P
-by_order P k slot below same beyond =
-    elim (cases_lt k slot) [
-      | inl earlier ↦ below earlier
-      | inr past ↦ elim (cases_lt slot k) [ inl after ↦ beyond after | inr at ↦ same (omega (arith, past, at)) ]
-    ]
-
--- the running state where it stands
-pub carried_here : (t : TableValue) (next : ℕ) (state : StateValue) (k : ℕ) → k ≡ next → knowledge_beside t true next state k ≡ Some state
-carried_here t next state k same = grind (arith, nat_tests, same)
-
--- what holds of the running state where it stands, and else of what the table knows
-carried_any : (P : Option StateValue → Type 0) (t : TableValue) (runs : Bool) (next : ℕ) (state : StateValue) (k : ℕ) → (IsTrue runs → k ≡ next → P (Some state)) → ((IsTrue runs → k ≢ next) → P (knowledge_in t k)) → P (knowledge_beside t runs next state k)
-carried_any P t false next state k stands known = known (λ on. absurd (false≢true on))
-carried_any P t true next state k stands known =
-    by_order (P (knowledge_beside t true next state k)) k next
-    (λ below. subst P (sym (other (λ same. omega (arith, same, below)))) (known (λ on same. omega (arith, same, below))))
-    (λ same. subst P (sym (here same)) (stands refl same))
-    (λ beyond. subst P (sym (other (λ same. omega (arith, same, beyond)))) (known (λ on same. omega (arith, same, beyond))))
-  where
-    here : k ≡ next → knowledge_beside t true next state k ≡ Some state
-    here same = grind (arith, nat_tests, same)
-
-    other : k ≢ next → knowledge_beside t true next state k ≡ knowledge_in t k
-    other apart = grind (arith, nat_tests, apart)
 
 -- what holds of the running state where a slot is visited with it, and else of what the table knows
 visited_any : (P : Option StateValue → Type 0) (runs : Bool) (state : StateValue) (t : TableValue) (slot : ℕ) → (IsTrue runs → P (Some state)) → (runs ≡ false → P (knowledge_in t slot)) → P (visited_state runs state t slot)
@@ -99,17 +77,6 @@ revised_any P before slot here after k earlier same later =
     (λ below. subst P (sym (revised_before before slot here after k below)) (earlier below))
     (λ at. subst P (sym (revised_here before slot here after k at)) (same at))
     (λ beyond. subst P (sym (revised_after before slot here after k beyond)) (later beyond))
-
--- ---- the table beside the running state
-
--- what the table knows is covered, since it knows nothing where the running state stands
-pub carried_covers : BelowIsReflexive → (t : TableValue) (runs : Bool) (next : ℕ) (state : StateValue) → AreEntries t → (IsTrue runs → IsKept t.program next → ⊥) → AreCovered (knowledge_in t) (knowledge_beside t runs next state)
-carried_covers reflexive t runs next state entries plain k =
-    carried_any (λ o. IsCoveredIfAny (knowledge_in t k) o) t runs next state k
-    (λ on same.
-    let none : knowledge_in t k ≡ None = ap (knowledge_in t) same ∙ known_plain t next entries (plain on) in
-    subst (λ (o : Option StateValue). IsCoveredIfAny o (Some state)) (sym none) tt)
-    (λ apart. covers_itself reflexive (knowledge_in t k))
 
 -- ---- a visit
 

@@ -18,9 +18,9 @@ use Rattle.absdom_stack.specs.Spill.{spill_of}
 use Rattle.bver_form.specs.Form.{IsFormed}
 use Rattle.bver_form.specs.Jumps.{IsFirstSlot, IsJump, target}
 use Rattle.bver_form.specs.Loops.{GoesTo, IsEdge}
-use Rattle.bver.specs.Justified.{IsCovered, IsCoveredIfAny, edges_of_comparison, knowledge_at}
-use Rattle.bver.specs.Leading.{BranchesBelow, GivesBelow, LeadsBelow}
-use Rattle.bver.specs.Visit.{HasNext, IsNext, VisitValue}
+use Rattle.bver_pass.specs.Justified.{IsCovered, IsCoveredIfAny, edges_of_comparison, knowledge_at}
+use Rattle.bver_pass.specs.Leading.{BranchesBelow, GivesBelow, LeadsBelow}
+use Rattle.bver_pass.specs.Visit.{HasNext, IsNext, VisitValue}
 use Rattle.bver.proofs.Rounds.{marked}
 
 -- ---- what covers all but in the loop

@@ -18,8 +18,8 @@ use Rattle.absdom_stack.specs.StackWords.{AreAllWhole, AreRangesWithin}
 use Rattle.absdom.specs.State.{StateValue, IsBelow, IsWhole, IsProper, kind_at, kind_in}
 use Rattle.absdom.specs.Laws.{BelowIsTransitive, IsLeftBy}
 use Rattle.bver_form.specs.Loops.{holds}
-use Rattle.bver.specs.Heads.{is_number}
-use Rattle.bver.specs.Justified.{HasStore, IsHead, IsOpen, IsStoreAt, IsWrittenBy, IsWrittenIn}
+use Rattle.bver_pass.specs.Heads.{is_number}
+use Rattle.bver_pass.specs.Justified.{HasStore, IsHead, IsOpen, IsStoreAt, IsWrittenBy, IsWrittenIn}
 
 -- the values of a loop's counter at a slot of it: at the back it was taken down already
 abbrev pub counter_range : Loop → (slot : ℕ) → ℕ × ℕ

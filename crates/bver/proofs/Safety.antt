@@ -28,10 +28,11 @@ use Rattle.absdom.specs.Fits.{Fits, FitsKind}
 use Rattle.absdom_stack.specs.declared.spill.Spill.{Spill}
 use Rattle.absdom_stack.specs.Spill.{spill_of}
 use Rattle.bver_form.specs.Loops.{IsEdge, weight_left}
-use Rattle.bver.specs.Justified.{AsksCell, AsksKind, MayCall, IsHead, IsPermittedAt, IsJustified}
+use Rattle.bver_pass.specs.Justified.{AsksCell, AsksKind, MayCall, IsHead, IsPermittedAt, IsJustified}
 use Rattle.bver.proofs.Standing.{Laws, Stands, Continues, continues, performs_here, permitted_here, stands}
 use Rattle.bver.proofs.Arrivals.{LeadsTo, at_once, by_answer, edge_of}
-use Rattle.bver.proofs.Counters.{AreCounting, IsBegun, IsStepped, IsNumberIn, begun, begun_high, inside_of, loop_in, stepped, values_at, values_of}
+use Rattle.bver.proofs.Counters.{AreCounting, IsBegun, IsStepped, IsNumberIn, begun, begun_high, stepped, values_at, values_of}
+use Rattle.bver_pass.proofs.Loops.{inside_of, loop_in}
 
 -- ---- at the head of a loop
 

@@ -39,7 +39,7 @@ use Rattle.bver_form.specs.Form.{IsAllowed, IsFormed}
 use Rattle.bver_form.specs.Support.{IsSupportedCall, IsSupportedFlow}
 use Rattle.bver_form.specs.Jumps.{target}
 use Rattle.bver_form.specs.Laws.{BeginsWithinWeight, EachStepTakesOne, OneIsLeft, LoopsAreEntered}
-use Rattle.bver.specs.Justified.{AsksCell, MayCall, IsCovered, IsCoveredIfAny, IsResultCovered, AreEdgesCovered, IsNumber, Proceeds, IsPermitted, IsPermittedAt, IsJustified, knowledge_at}
+use Rattle.bver_pass.specs.Justified.{AsksCell, MayCall, IsCovered, IsCoveredIfAny, IsResultCovered, AreEdgesCovered, IsNumber, Proceeds, IsPermitted, IsPermittedAt, IsJustified, knowledge_at}
 use Rattle.bver.proofs.Slots.{insn_in}
 
 -- the laws of what is known, of steps, and of loops

@@ -26,11 +26,11 @@ use Rattle.absdom.specs.Laws.{ApplyLeaves, BelowIsReflexive, BelowIsTransitive, 
 use Rattle.absdom_stack.specs.Spill.{spill_of}
 use Rattle.bver_form.specs.Form.{IsFormed}
 use Rattle.bver_form.specs.Loops.{ComesIn, IsEdge, IsInside, IsLoopFormed, holds, step_down}
-use Rattle.bver.specs.Heads.{AreWidenedRanges, IsWidened, IsWidenedKind, counts, keeps, opens, retains, forgets}
-use Rattle.bver.specs.Justified.{HasStore, IsCovered, IsHead, IsWrittenBy, IsWrittenIn}
-use Rattle.bver.specs.Leading.{GivesBelow, LeadsBelow}
-use Rattle.bver.specs.Visit.{HasNext, VisitValue}
-use Rattle.bver.proofs.Counters.{holds_at, inside_of}
+use Rattle.bver_pass.specs.Heads.{AreWidenedRanges, IsWidened, IsWidenedKind, counts, keeps, opens, retains, forgets}
+use Rattle.bver_pass.specs.Justified.{HasStore, IsCovered, IsHead, IsWrittenBy, IsWrittenIn}
+use Rattle.bver_pass.specs.Leading.{GivesBelow, LeadsBelow}
+use Rattle.bver_pass.specs.Visit.{HasNext, VisitValue}
+use Rattle.bver_pass.proofs.Loops.{holds_at, inside_of}
 use Rattle.bver.proofs.Widening.{kind_below-refl}
 use Rattle.bver.proofs.Rings.{leads_by, ring, ring_any, ring_behind}
 use Rattle.bver.proofs.Rounds.{AreWords, IsRound, below_all, counter_range, ranges_less, ranges_same, round_left, round_less, round_there, words_of}

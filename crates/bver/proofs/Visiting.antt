@@ -14,36 +14,20 @@ use Rattle.absdom.specs.Laws.{BelowIsTransitive}
 use Rattle.absdom_stack.specs.Spill.{spill_of}
 use Rattle.bver_form.specs.Form.{IsFormed}
 use Rattle.bver_form.specs.Jumps.{first_slot}
-use Rattle.bver.specs.Heads.{AreHeadsAt, IsDeclared}
-use Rattle.bver.specs.Justified.{IsCovered, IsCoveredIfAny, IsEntered, IsHead, IsPermittedAt, IsJudged, region_at}
-use Rattle.bver.specs.Visit.{AreWhole, IsGrown, IsPlaced, IsExtended, AreEntered, AreHeadsBefore, AreVisited, ArePermitted}
-use Rattle.bver.specs.Table.{TableValue, knowledge_in}
-use Rattle.bver.proofs.Counters.{loop_in, same_place}
-use Rattle.bver.proofs.Covering.{any_covered_more, covered_more, permitted_at_more}
+use Rattle.bver_pass.specs.Heads.{AreHeadsAt, IsDeclared}
+use Rattle.bver_pass.specs.Justified.{IsCovered, IsCoveredIfAny, IsEntered, IsHead, IsPermittedAt, IsJudged, region_at}
+use Rattle.bver_pass.specs.Visit.{AreWhole, IsGrown, IsPlaced, IsExtended, AreEntered, AreHeadsBefore, AreVisited, ArePermitted}
+use Rattle.bver_pass.specs.Table.{TableValue}
+use Rattle.bver.proofs.Counters.{same_place}
+use Rattle.bver_pass.proofs.Loops.{loop_in}
+use Rattle.bver.proofs.Covering.{permitted_at_more}
+use Rattle.bver_pass.proofs.Covering.{covered_more}
 
 -- ---- the table
-
--- a table that grew twice
-pub extended_twice : BelowIsTransitive → (from : ℕ) (old mid new : TableValue) → IsExtended from old mid → IsExtended from mid new → IsExtended from old new
-extended_twice transitive from old mid new f g = record {
-  program = g.program ∙ f.program;
-  grown = λ k. any_covered_more transitive (knowledge_in old k) (knowledge_in mid k) (knowledge_in new k) (f.grown k) (g.grown k);
-  kept = λ k before. g.kept k before ∙ f.kept k before;
-  whole = λ whole. g.whole (f.whole whole);
-}
 
 -- a table that grew after a slot grew from it on
 pub extended_before : (slot : ℕ) (old new : TableValue) → IsExtended (slot + 1) old new → IsExtended slot old new
 extended_before slot old new f = record { program = f.program; grown = f.grown; kept = λ k below. f.kept k (omega (arith, below)); whole = f.whole }
-
--- a table in which a slot from there on is the only one that changed
-pub changed_at : (from slot : ℕ) (old new : TableValue) → from ≤ slot → new.program ≡ old.program → IsGrown (knowledge_in old) (knowledge_in new) → ((k : ℕ) → k ≢ slot → knowledge_in new k ≡ knowledge_in old k) → (AreWhole (knowledge_in old) → AreWhole (knowledge_in new)) → IsExtended from old new
-changed_at from slot old new above program grown others whole = record {
-  program = program;
-  grown = grown;
-  kept = λ k below. others k (λ same. omega (arith, below, same, above));
-  whole = whole;
-}
 
 -- where a jump lands an instruction begins
 pub lands_first : (p : Program) (z : ℤ) (slot : ℕ) → first_slot p z ≡ Some slot → IsSome (insn_at p slot)

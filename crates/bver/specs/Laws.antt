@@ -4,7 +4,7 @@ use Rattle.bpf.specs.Program.{Program}
 use Rattle.machine.specs.declared.regions.Region.{Region}
 use Rattle.machine.specs.Sizes.{Maps}
 use Rattle.machine.specs.Runs.{IsSafe}
-use Rattle.bver.specs.Justified.{IsJustified, IsJudged}
+use Rattle.bver_pass.specs.Justified.{IsJustified, IsJudged}
 use Rattle.bver.specs.Resolved.{IsResolved}
 
 -- a justified program is safe: no run of it traps, and each ends within the budget

@@ -1,13 +1,7 @@
-pub mod Codes
 pub mod Refusals
 pub mod Justified
 pub mod Operations
 pub mod Resolved
-pub mod Heads
-pub mod Written
-pub mod Table
 pub mod Unjustified
-pub mod Visit
-pub mod Leading
 pub mod Told
 pub mod Laws

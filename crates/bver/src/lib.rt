@@ -7,13 +7,8 @@
 #![tactic(auto)]
 
 mod accepted;
-mod body;
-mod edges;
 mod laws;
 mod passes;
-mod table;
-mod visit;
-mod written;
 
 pub use absdom::{Region, State};
 pub use accepted::{Accepted, explain, verify};

@@ -3,24 +3,19 @@
 ghost use Rattle.std.specs.Prelude.{◌≡◌, ◌<◌, ℕ, IfErr, IfOk, IsSome, IsTrue, OnErr, OnOk, Option, Some, None, length, if◌then◌else◌};
 ghost use Rattle.machine.specs.Step.{insn_at};
 ghost use Rattle.bver_form.specs.Form.{IsFormed};
-ghost use Rattle.bver.specs.Heads.{AreHeadsAt, HasLowered, IsWidened, IsWithinBound};
+ghost use Rattle.bver_pass.specs.Heads.{AreHeadsAt, HasLowered, IsWidened, IsWithinBound};
 ghost use Rattle.absdom.specs.State.{StateValue};
-ghost use Rattle.bver.specs.Justified.{IsCovered, IsCoveredIfAny, IsJudged};
-ghost use Rattle.bver.specs.Leading.{EntersOutside, EntersOutsideIfAny, IsLeastVisit, IsLeastVisitIfAny, IsWidenedAt, IsWidenedIfAny, IsVisitFaultIfAny};
+ghost use Rattle.bver_pass.specs.Justified.{IsCovered, IsCoveredIfAny, IsJudged};
+ghost use Rattle.bver_pass.specs.Leading.{EntersOutside, EntersOutsideIfAny, IsLeastVisit, IsLeastVisitIfAny, IsWidenedAt, IsWidenedIfAny, IsVisitFaultIfAny};
 ghost use Rattle.bver_form.specs.Lowered.{IsMore, IsSettled};
-ghost use Rattle.bver.specs.Refusals.{IsValueFault};
-ghost use Rattle.bver.specs.Table.{knowledge_in};
-ghost use Rattle.bver.specs.Told.{TellsKnown};
+ghost use Rattle.bver_pass.specs.Refusals.{IsValueFault};
+ghost use Rattle.bver_pass.specs.Table.{knowledge_in};
+ghost use Rattle.bver_pass.specs.Told.{TellsKnown};
 ghost use Rattle.bver_form.specs.Targets.{IsKept};
-ghost use Rattle.bver.specs.Unjustified.{Justifies};
-ghost use Rattle.bver.specs.Visit.{AreEntered, IsExtended, IsInsnVisit, IsLeastEntry, IsLeastOf, IsTableOf, IsVisit, visited_state};
-ghost use Rattle.bver.specs.Written.{AreWrittenByLoops};
+ghost use Rattle.bver_pass.specs.Unjustified.{Justifies};
+ghost use Rattle.bver_pass.specs.Visit.{AreEntered, IsExtended, IsInsnVisit, IsLeastEntry, IsLeastOf, IsTableOf, IsVisit, visited_state};
+ghost use Rattle.bver_pass.specs.Written.{AreWrittenByLoops};
 
-use crate::body::Body;
-use crate::edges::{accessed_region, flow};
-use crate::table::Table;
-use crate::visit::Visit;
-use crate::written::Written;
 use absdom::{
     Region, State, after_call_grows, apply_grows, apply_leaves, order_of_states, refine_grows,
     refine_shrinks,
@@ -28,6 +23,7 @@ use absdom::{
 use bpf::{Image, MAX_LOOPS};
 use bpf_insn::Insn;
 use bver_form::{Lowered, Refused, loops_are_counted};
+use bver_pass::{Body, Table, Visit, Written, accessed_region, flow};
 use machine::MapSizes;
 
 /// Widens what is known at a head, where the loop is entered within its bound.

@@ -1,5 +1,5 @@
 use Rattle.std.proofs.Common.{refl}
-use Rattle.bver.specs.Leading.{stays}
+use Rattle.bver_pass.specs.Leading.{stays}
 use Rattle.bver.proofs.passes.arrive.Goals as goal
 
 pub returns-then-runs-clause-widened : goal.returns-then-runs-clause-widened

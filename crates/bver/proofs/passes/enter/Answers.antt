@@ -1,9 +1,9 @@
 use Rattle.std.proofs.Common.{rules, ◌≡◌, Some, subst, ℕ}
 use Rattle.bpf.specs.Program.{Program}
 use Rattle.absdom.specs.State.{IsWhole}
-use Rattle.bver.specs.Heads.{AreHeadsAt, IsDeclared, IsWidened, IsWithinBound}
-use Rattle.bver.specs.Justified.{IsHead}
-use Rattle.bver.specs.Leading.{EntersOutside, widens}
+use Rattle.bver_pass.specs.Heads.{AreHeadsAt, IsDeclared, IsWidened, IsWithinBound}
+use Rattle.bver_pass.specs.Justified.{IsHead}
+use Rattle.bver_pass.specs.Leading.{EntersOutside, widens}
 use Rattle.bver.proofs.Keeping.{known_kept}
 use Rattle.bver.proofs.Widening.{widened_above, widened_head}
 use Rattle.bver.proofs.Visiting.{heads_of}

@@ -2,12 +2,12 @@ use Rattle.std.proofs.Common.{rules, ◌≡◌, ◌<◌, ℕ, Option, length, �
 use Rattle.std.proofs.Math.ListN.{length-set}
 use Rattle.machine.specs.Step.{insn_at}
 use Rattle.bver_form.specs.Lowered.{IsMore, IsSettled}
-use Rattle.bver.specs.Leading.{IsLeastVisitIfAny, IsVisitFaultIfAny}
+use Rattle.bver_pass.specs.Leading.{IsLeastVisitIfAny, IsVisitFaultIfAny}
 use Rattle.absdom.specs.State.{IsWhole, StateValue}
-use Rattle.bver.specs.Heads.{HasLowered}
-use Rattle.bver.specs.Table.{knowledge_in}
-use Rattle.bver.specs.Unjustified.{Justifies}
-use Rattle.bver.specs.Visit.{IsVisit, VisitValue, visited_state}
+use Rattle.bver_pass.specs.Heads.{HasLowered}
+use Rattle.bver_pass.specs.Table.{knowledge_in}
+use Rattle.bver_pass.specs.Unjustified.{Justifies}
+use Rattle.bver_pass.specs.Visit.{IsVisit, VisitValue, visited_state}
 use Rattle.bver.proofs.Completing.{Rules, complete_next, complete_none, complete_refuted, refuses_all}
 use Rattle.bver.proofs.Passing.{passing_none, passing_plain, passing_slot, visit_at, visit_of, visited_program}
 use Rattle.bver.proofs.Visiting.{judged}

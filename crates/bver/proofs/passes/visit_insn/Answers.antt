@@ -1,13 +1,13 @@
 use Rattle.std.proofs.Common.{rules, ◌≡◌, ◌+◌, Err, Some, IsTrue}
 use Rattle.bpf_insn.specs.Spelling.{slots_of}
 use Rattle.absdom_stack.specs.Spill.{spill_of}
-use Rattle.bver.specs.Justified.{IsCoveredIfAny, IsPermitted, accessed_region}
-use Rattle.bver.specs.Leading.{AreLoweredBack, jumping_state, IsFlowFault, IsWidenedIfAny, LeadsBelow}
+use Rattle.bver_pass.specs.Justified.{IsCoveredIfAny, IsPermitted, accessed_region}
+use Rattle.bver_pass.specs.Leading.{AreLoweredBack, jumping_state, IsFlowFault, IsWidenedIfAny, LeadsBelow}
 use Rattle.bver_form.specs.Lowered.{IsSettled}
-use Rattle.bver.specs.Table.{knowledge_beside, knowledge_in}
+use Rattle.bver_pass.specs.Table.{knowledge_beside, knowledge_in}
 use Rattle.bver_form.specs.Targets.{IsPlain}
-use Rattle.bver.specs.Visit.{IsExtended, IsLeastNext, IsLeastOf, visited_state}
-use Rattle.bver.specs.Heads.{AreHeadsAt}
+use Rattle.bver_pass.specs.Visit.{IsExtended, IsLeastNext, IsLeastOf, visited_state}
+use Rattle.bver_pass.specs.Heads.{AreHeadsAt}
 use Rattle.bver.proofs.Below.{leads_fault, least_insn}
 use Rattle.bver.proofs.Passing.{insn_visit}
 use Rattle.bver.proofs.Slots.{has_next}

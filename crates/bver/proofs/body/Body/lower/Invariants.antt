@@ -1,9 +1,0 @@
-use Rattle.std.proofs.Common.{◌<◌}
-use Rattle.bver.specs.Heads.{AreLowered}
-use Rattle.bver.specs.Table.{knowledge_in}
-use Rattle.bver.proofs.body.Body.lower.Given as goal
-
--- the registers so far are lowered where they fall
-abbrev pub invariant-loop-number : goal.invariant-loop-number
-invariant-loop-number l =
-    AreLowered l.self (knowledge_in l.table l.self.declared.head) l.edge (λ r. r < l.number) l.fn.lowered l.lowered

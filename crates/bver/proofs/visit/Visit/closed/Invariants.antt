@@ -1,7 +1,0 @@
-use Rattle.std.proofs.Common.{◌≡◌}
-use Rattle.bver.proofs.Widening.{NoneBefore}
-use Rattle.bver.proofs.visit.Visit.closed.Given as goal
-
-abbrev pub invariant-loop-place : goal.invariant-loop-place
-invariant-loop-place l =
-    NoneBefore (λ m. m.back ≡ l.self.slot × m.head ≡ l.head) l.self.program l.place

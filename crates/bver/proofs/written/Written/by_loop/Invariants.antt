@@ -1,9 +1,0 @@
-use Rattle.std.proofs.Common.{◌+◌, ◌≤◌}
-use Rattle.bver.proofs.Masks.{IsWrittenSoFar}
-use Rattle.bver.proofs.written.Written.by_loop.Given as goal
-
-abbrev pub invariant-loop-slot : goal.invariant-loop-slot
-invariant-loop-slot l = record {
-  so_far : IsWrittenSoFar l.image l.declared l.slot l.written;
-  near : l.slot ≤ l.declared.back + 1;
-}

@@ -1,0 +1,11 @@
+pub mod Covering
+pub mod Extending
+pub mod Keeping
+pub mod Carried
+pub mod Loops
+pub mod Widening
+pub mod Masks
+pub mod Lowering
+pub mod Landing
+pub mod Straight
+pub mod Telling
