@@ -116,7 +116,6 @@ pub fn header_check(command: &Command, windows: &Windows) -> Result<Place, Heade
 /// Where the bytes of the command lie, or the status of the first check of its header that holds: that of
 /// [`header_check`]. A bank that is the place is one of the
 /// windows', and the bytes lie in it.
-#[tactic(auto, using(crate::proofs::BankPlaces::lies_in_bank))]
 pub fn checked_place(command: &Command, windows: &Windows) -> Result<Place, Status>
     ensures checked { MatchResult result (Passes command.now windows.now) (Stops command.now windows.now) }
     ensures inside { IfOk result (IsWithinBank windows.now command.now) }
