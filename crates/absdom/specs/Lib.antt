@@ -1,9 +1,6 @@
 pub mod Codes
 pub mod Kinds
 pub mod State
-pub mod Marks
-pub mod StackWords
-pub mod Spill
 pub mod Offsets
 pub mod Effect
 pub mod Edges
