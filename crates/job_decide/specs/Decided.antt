@@ -1,21 +1,34 @@
 -- What is printed of a packet, and the tickets that were drawn.
-use Rattle.std.specs.Prelude.{◌≡◌, ℕ, List, Option, Some, None}
+use Rattle.std.specs.Prelude.{◌≡◌, ℕ, List, [], Option, Some, None}
 use Rattle.std.specs.Io.KnownBytes.{Appends}
-use Rattle.machine.specs.Memory.{header}
+use Rattle.machine.specs.declared.calls.Call.{Call}
+use Rattle.machine.specs.Memory.{Header, header}
 use Rattle.policy_table.specs.Counts.{after_draws, told_on}
 use Rattle.policy_table.specs.Matching.{matched}
 use Rattle.policy_table.specs.Meaning.{decision}
+use Rattle.policy_table.specs.Passing.{passed_rules}
+use Rattle.policy_table.specs.declared.mismatches.Passed.{Passed}
 use Rattle.policy_table.specs.declared.rules.Rule.{Rule}
-use Rattle.rmap.specs.Checks.{header_line}
+use Rattle.rmap.specs.Checks.{header_check, header_status}
 use Rattle.rmap.specs.Command.{CommandValue, command_of}
 use Rattle.rmap.specs.declared.discard.Discard.{Discard}
+use Rattle.rmap.specs.declared.header_faults.HeaderFault.{HeaderFault}
 use Rattle.rmap.specs.declared.status.Status.{Status}
+use Rattle.rmap.specs.declared.verdict.Verdict.{Verdict}
+use Rattle.rmap.specs.declared.verdict.Verdict.TheVariants.{Authorised, InvalidKey, NotAuthorised, InvalidLogicalAddress}
 use Rattle.spw.specs.Cargo.{Cargo}
 use Rattle.job_nodes.specs.JudgeJob.{discard_line}
 use Rattle.job_parts.specs.Printed.{PrintsMore}
 use Rattle.job_parts.specs.declared.faults.Fault.{Fault}
 use Rattle.job_parts.specs.declared.faults.Fault.TheVariants.{NoMemory}
 use Rattle.job_decide.specs.DecideJob.{match_line, own_windows, status_text}
+
+-- why rules do not match of which that is told: those before the one that decides, where it refuses
+abbrev pub told_passed : Verdict → List Rule → Header → (draws : List Call) → List Passed
+told_passed Authorised rules header draws = []
+told_passed InvalidKey rules header draws = passed_rules rules header draws
+told_passed NotAuthorised rules header draws = passed_rules rules header draws
+told_passed InvalidLogicalAddress rules header draws = passed_rules rules header draws
 
 -- the rule by which the table decides on the header of the command was told, as the counts answer its draws, and more
 -- behind it; and the counts are those behind its draws
@@ -34,11 +47,12 @@ pub record TellsStatus (port : ℕ) (status : Status) (old new : Option (List �
   pub line : Appends old told (status_text port status)
   pub more : PrintsMore told new
 
--- of a command that a check of its header answers the status was told, and nothing drawn; on any other the table
+-- of a command whose header is found to have a fault the status was told, and nothing drawn; on any other the table
 -- decides
-abbrev pub TellsCommand : (port : ℕ) → List Rule → CommandValue → Option Status → (before after : List ℕ)
+abbrev pub TellsCommand : (port : ℕ) → List Rule → CommandValue → Option HeaderFault → (before after : List ℕ)
     → (old new : Option (List ℕ)) → Type 0
-TellsCommand port rules c (Some status) before after old new = (after ≡ before) × TellsStatus port status old new
+TellsCommand port rules c (Some fault) before after old new =
+    (after ≡ before) × TellsStatus port (header_status fault) old new
 TellsCommand port rules c None before after old new = TellsDecision port rules c before after old new
 
 -- of a packet that is no command the reason was told, and nothing drawn
@@ -47,7 +61,7 @@ abbrev pub TellsPacket : (port : ℕ) → List Rule → Cargo → Option Discard
 TellsPacket port rules p (Some discard) before after old new =
     (after ≡ before) × Appends old new (discard_line port discard)
 TellsPacket port rules p None before after old new =
-    TellsCommand port rules (command_of p) (header_line (command_of p) own_windows) before after old new
+    TellsCommand port rules (command_of p) (header_check (command_of p) own_windows) before after old new
 
 -- memory was refused, and nothing printed
 abbrev pub IsRefused : (old new : Option (List ℕ)) → Fault → Type 0

@@ -1,23 +1,24 @@
 //! What is printed of a packet.
 
-ghost use Rattle.std.specs.Prelude.{◌≡◌, IfErr, OnOk};
+ghost use Rattle.std.specs.Prelude.{◌≡◌, IfErr, IfOk, OnOk};
+ghost use Rattle.machine.specs.Memory.{header};
 ghost use Rattle.job_parts.specs.Printed.{PrintsMore, Prints};
 ghost use Rattle.job_parts.specs.Stops.{StopsBy};
-ghost use Rattle.job_decide.specs.Decided.{IsRefused, TellsCommand, TellsDecision, TellsPacket, TellsStatus};
+ghost use Rattle.job_decide.specs.Decided.{IsRefused, TellsCommand, TellsDecision, TellsPacket, TellsStatus, told_passed};
 ghost use Rattle.job_decide.specs.DecideJob.{match_line, own_windows, rule_text, ticket_text};
-ghost use Rattle.rmap.specs.Checks.{header_line};
+ghost use Rattle.rmap.specs.Checks.{header_check};
 ghost use Rattle.rmap.specs.Command.{discard_of};
 ghost use Rattle.node_parts.specs.Nodes.{windows_of};
 
-use crate::reasons::{check_failed, reasons};
+use crate::reasons::{fault_text, reasons};
 use job_nodes::judge::print_discard;
 use job_nodes::node::node_config;
 use job_parts::stops::Halt;
 use machine::{Call, MapSizes};
-use policy::{Counts, Match, Table};
-use rmap::{Command, Status, Windows, header_fault};
+use policy::{Counts, Match, Passed, Table};
+use rmap::{Command, Status, Verdict, Windows, header_check};
 use spw::Packet;
-use std::alloc::Global;
+use std::alloc::{AllocError, Global};
 use std::io::{self, Write};
 
 /// The address of the node of the jobs, and where its bank lies.
@@ -74,6 +75,26 @@ fn print_match<W: Write>(out: &mut W, port: u8, found: Match) -> io::Result<()>
     print_ticket(out, found.ticket)
 }
 
+/// Why the rules before the one that decides do not match, where it refuses; nothing is to be said where it does not.
+fn passed_by(
+    alloc: Global,
+    table: &Table,
+    verdict: Verdict,
+    front: &[u8; 4],
+    tail: &[u8; 12],
+    draws: &[Call],
+) -> Result<Vec<Passed>, AllocError>
+    ensures { IfOk result (λ all. all.items
+        ≡ told_passed verdict table.now (header front.now tail.now) draws.now) }
+{
+    match verdict {
+        Verdict::Authorised => Ok(Vec::new(alloc)),
+        Verdict::InvalidKey | Verdict::NotAuthorised | Verdict::InvalidLogicalAddress => {
+            table.passed(alloc, front, tail, draws)
+        }
+    }
+}
+
 /// Decides on a command that no check of its header answers, and prints by which rule, and why by no rule before.
 fn decide_admitted<'a, W: Write>(
     alloc: Global,
@@ -87,9 +108,11 @@ fn decide_admitted<'a, W: Write>(
         (W.contents out.old) (W.contents out.new)) }
     ensures stops { IfErr result (StopsBy (IsRefused (W.contents out.old) (W.contents out.new))) }
 {
+    let (front, tail) = (command.front(), command.tail());
     let mut calls = Vec::new(alloc);
-    let found = table.matched(command.front(), command.tail(), counts, &mut calls)?;
-    let why = reasons(alloc, table.rules(), &found, calls.as_slice(), command)?;
+    let found = table.matched(front, tail, counts, &mut calls)?;
+    let passed = passed_by(alloc, table, found.verdict, front, tail, calls.as_slice())?;
+    let why = reasons(alloc, passed.as_slice())?;
     print_match(out, port, found)?;
     Ok(print_more(out, why.as_str())?)
 }
@@ -104,16 +127,17 @@ fn decide_on<'a, W: Write>(
     out: &mut W,
 ) -> Result<(), Halt<'a>>
     ensures told { OnOk result (TellsCommand port table.now command.now
-        (header_line command.now own_windows) counts.old counts.new
+        (header_check command.now own_windows) counts.old counts.new
         (W.contents out.old) (W.contents out.new)) }
     ensures stops { IfErr result (StopsBy (IsRefused (W.contents out.old) (W.contents out.new))) }
 {
-    let windows = own_windows();
-    let Some(status) = header_fault(command, &windows) else {
-        return decide_admitted(alloc, table, counts, port, command, out);
-    };
-    let why = check_failed(alloc, command, &windows, status)?;
-    Ok(print_answered(out, port, status, why.as_str())?)
+    match header_check(command, &own_windows()) {
+        Ok(_place) => decide_admitted(alloc, table, counts, port, command, out),
+        Err(fault) => {
+            let why = fault_text(alloc, fault)?;
+            Ok(print_answered(out, port, fault.status(), why.as_str())?)
+        }
+    }
 }
 
 /// Decides on a packet, and prints what comes of it.

@@ -12,7 +12,7 @@ mod insns;
 
 pub use compiler::compile;
 pub use policy_table::{
-    Counts, Match, PolicyFault, Quota, Rule, RuleKind, RuleWord, Table, TableFault, decisions,
-    faults_have_places, first_rule_matches, headers_have_fields, last_address,
-    table_is_unambiguous,
+    Counts, Match, Mismatch, OtherByte, Passed, PolicyFault, Quota, Rule, RuleKind, RuleWord,
+    Table, TableFault, decisions, faults_have_places, first_rule_matches, headers_have_fields,
+    last_address, table_is_unambiguous,
 };

@@ -1,8 +1,11 @@
 mod Outcomes
+mod Answering
 mod Readings
 mod Numerals
 mod Fitting
 mod VerdictWords
+mod Mismatching
+mod PassingBy
 mod Walks
 mod Placing
 mod FirstMatches

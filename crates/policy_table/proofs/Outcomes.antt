@@ -117,52 +117,8 @@ no_rule (rule ∷ rules) header told all =
     let P : Rule → Type 0 = λ r. holds r header ≡ false in
     passes_over rule rules header told (All-head P rule rules all) ∙ no_rule rules header told (All-tail P rule rules all)
 
--- ---- answers from a list, from one of them on
-
--- the answers behind so many
-abbrev pub told_from : List ℕ → (drawn : ℕ) → ℕ → ℕ
-told_from answers drawn k = slice_index answers (drawn + k)
+-- ---- answers that are the same
 
 pub decision_same : (rules : List Rule) (header : Header) (told other : ℕ → ℕ) → ((k : ℕ) → told k ≡ other k) → decision rules header told ≡ decision rules header other
 decision_same rules header told other same =
     let functions : told ≡ other = λ i. λ k. same k i in ap (λ (f : ℕ → ℕ). decision rules header f) functions
-
--- a list that is not empty, cut behind its first element
-pub cut : {X : Type 0} (xs : List X) (d : X) → 1 ≤ length xs → xs ≡ get_or xs 0 d ∷ take (length xs - 1) (drop 1 xs)
-cut [] d some = absurd (omega (arith, some))
-cut (x ∷ xs) d some =
-    let one_less : suc (length xs) - 1 ≡ length xs = omega arith in
-    sym (ap (λ (n : ℕ). x ∷ take n xs) one_less ∙ ap (λ (l : List _). x ∷ l) (take-length xs))
-
-limited : (found : Option Quota) (quota : Quota) (code : ℕ) (told : ℕ → ℕ) (rest : List Call × ℕ) → found ≡ Some quota → nat_lt (told 0) quota.limit ≡ false
-    → ruled found code told rest ≡ (draw quota (told 0) ∷ rest.0, rest.1)
-limited found quota code told rest is spent =
-    ap (λ (o : Option Quota). ruled o code told rest) is
-    ∙ skipped (nat_lt (told 0) quota.limit) (draw quota (told 0) ∷ [], code) (draw quota (told 0) ∷ rest.0, rest.1) spent
-
--- a rule whose quota is spent has drawn, and the others decide by the answers behind
-draws_on : (rule : Rule) (later : List Rule) (header : Header) (answers : List ℕ) (drawn answer : ℕ) (quota : Quota)
-    → holds rule header ≡ true → rule.quota ≡ Some quota → answer ≡ slice_index answers drawn → nat_lt answer quota.limit ≡ false
-    → decision (rule ∷ later) header (told_from answers drawn) ≡ (draw quota answer ∷ (decision later header (told_from answers (drawn + 1))).0, (decision later header (told_from answers (drawn + 1))).1)
-draws_on rule later header answers drawn answer quota held is first spent =
-    let told : ℕ → ℕ = told_from answers drawn in
-    let rest : List Call × ℕ = decision later header (λ k. told (suc k)) in
-    let here : told 0 ≡ answer = ap (λ (i : ℕ). slice_index answers i) (add-zero drawn) ∙ sym first in
-    let behind : rest ≡ decision later header (told_from answers (drawn + 1)) = decision_same later header (λ k. told (suc k)) (told_from answers (drawn + 1)) (λ k. ap (λ (i : ℕ). slice_index answers i) (omega arith)) in
-    let pair : List Call × ℕ → List Call × ℕ = λ d. (draw quota answer ∷ d.0, d.1) in
-    let over : nat_lt (told 0) quota.limit ≡ false = ap (λ (a : ℕ). nat_lt a quota.limit) here ∙ spent in
-    rules_by rule later header told held ∙ limited rule.quota quota (verdict_number rule.verdict) told rest is over
-    ∙ ap (λ (a : ℕ). (draw quota a ∷ rest.0, rest.1)) here ∙ ap pair behind
-
--- what is left to decide after a draw, with the draw behind the calls before it
-pub drawn_on : (whole : List Call × ℕ) (left later : List Rule) (rule : Rule) (header : Header) (answers : List ℕ) (drawn answer : ℕ) (quota : Quota) (before calls after : List Call)
-    → left ≡ rule ∷ later → holds rule header ≡ true → rule.quota ≡ Some quota → answer ≡ slice_index answers drawn → nat_lt answer quota.limit ≡ false
-    → after ≡ calls ++ draw quota answer ∷ []
-    → before ++ whole.0 ≡ calls ++ (decision left header (told_from answers drawn)).0 → whole.1 ≡ (decision left header (told_from answers drawn)).1
-    → (before ++ whole.0 ≡ after ++ (decision later header (told_from answers (drawn + 1))).0) × (whole.1 ≡ (decision later header (told_from answers (drawn + 1))).1)
-drawn_on whole left later rule header answers drawn answer quota before calls after parts held is first spent pushed draws verdict =
-    let rest : List Call × ℕ = decision later header (told_from answers (drawn + 1)) in
-    let step : decision left header (told_from answers drawn) ≡ (draw quota answer ∷ rest.0, rest.1) = ap (λ (rs : List Rule). decision rs header (told_from answers drawn)) parts ∙ draws_on rule later header answers drawn answer quota held is first spent in (
-      draws ∙ ap (λ (d : List Call × ℕ). calls ++ d.0) step ∙ sym (append_assoc calls (draw quota answer ∷ []) rest.0) ∙ ap (λ (cs : List Call). cs ++ rest.0) (sym pushed),
-      verdict ∙ ap (λ (d : List Call × ℕ). d.1) step,
-    )

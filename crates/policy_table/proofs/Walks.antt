@@ -1,4 +1,4 @@
--- What a table draws of counts, and by which rule it decides, rule by rule.
+-- What a table draws of whatever its tickets are drawn, and by which rule it decides, rule by rule.
 use Rattle.std.specs.Prelude.{nat_lt, if◌then◌else◌}
 use Rattle.std.proofs.Common.{◌≡◌, ◌<◌, ◌+◌, ◌++◌, ℕ, suc, Bool, true, false, List, [], ◌∷◌, length, get_or, drop, Option, Some, None, refl, sym, ap, ◌∙◌, arith, append_assoc, add-one}
 use Rattle.std.specs.Prelude.{option_map}
@@ -7,221 +7,223 @@ use Rattle.machine.specs.declared.calls.Call.{Call}
 use Rattle.machine.specs.Memory.{Header}
 use Rattle.rmap.specs.Verdict.{verdict_number}
 use Rattle.rmap.specs.declared.verdict.Verdict.{Verdict}
-use Rattle.policy_table.specs.Counts.{after_draw, after_draws, next_ticket, ticket_before, tickets_of, told_on}
 use Rattle.policy_table.specs.Matching.{MatchDecides, behind, first_match, match_by, matched, no_match}
 use Rattle.policy_table.specs.Meaning.{decision, draw, holds, ruled, told_by}
+use Rattle.policy_table.specs.Tickets.{left_behind, ticket_before, tickets_given}
+use Rattle.policy_table.specs.Walked.{IsWalked, told}
 use Rattle.policy_table.specs.declared.matching.Match.{Match}
 use Rattle.policy_table.specs.declared.rules.Quota.{Quota}
 use Rattle.policy_table.specs.declared.rules.Rule.{Rule}
 
--- the draws of a table, by which rule it decides, and the counts behind it
-pub record Walk : Type 0 where
+-- the draws of a table, by which rule it decides, and what is left of the tickets behind it
+pub record Walk (S : Type 0) : Type 0 where
   pub calls : List Call
   pub found : Match
-  pub counts : List ℕ
+  pub left : S
 
-abbrev pub walk_with : List Call → Match → List ℕ → Walk
-walk_with calls found counts = record { calls = calls; found = found; counts = counts }
+module _ {S : Type 0} (next : S → (map cell : ℕ) → ℕ) (leaves : S → (map cell : ℕ) → S) where
+  abbrev pub walk_with : List Call → Match → S → (Walk S)
+  walk_with calls found counts = record { calls = calls; found = found; left = counts }
 
--- a walk behind one rule more
-abbrev pub later : Walk → Walk
-later w = walk_with w.calls (behind 1 w.found) w.counts
+  -- a walk behind one rule more
+  abbrev pub later : (Walk S) → (Walk S)
+  later w = walk_with w.calls (behind 1 w.found) w.left
 
--- a rule whose conditions hold, before a walk over the rest
-abbrev pub walk_by : Option Quota → Verdict → (counts : List ℕ) → (rest : List ℕ → Walk) → Walk
-walk_by None verdict counts rest = walk_with [] (first_match 1 None verdict) counts
-walk_by (Some quota) verdict counts rest =
-    if nat_lt (next_ticket counts quota) quota.limit
-    then walk_with (draw quota (next_ticket counts quota) ∷ []) (first_match 1 (Some (draw quota (next_ticket counts quota))) verdict) (after_draw counts quota.map quota.cell)
-    else walk_with (draw quota (next_ticket counts quota) ∷ (rest (after_draw counts quota.map quota.cell)).calls) (behind 1 (rest (after_draw counts quota.map quota.cell)).found) (rest (after_draw counts quota.map quota.cell)).counts
+  -- a rule whose conditions hold, before a walk over the rest
+  abbrev pub walk_by : Option Quota → Verdict → (counts : S) → (rest : S → (Walk S)) → (Walk S)
+  walk_by None verdict counts rest = walk_with [] (first_match 1 None verdict) counts
+  walk_by (Some quota) verdict counts rest =
+      if nat_lt (next counts quota.map quota.cell) quota.limit
+      then walk_with (draw quota (next counts quota.map quota.cell) ∷ []) (first_match 1 (Some (draw quota (next counts quota.map quota.cell))) verdict) (leaves counts quota.map quota.cell)
+      else walk_with (draw quota (next counts quota.map quota.cell) ∷ (rest (leaves counts quota.map quota.cell)).calls) (behind 1 (rest (leaves counts quota.map quota.cell)).found) (rest (leaves counts quota.map quota.cell)).left
 
-abbrev pub walk : List Rule → Header → List ℕ → Walk
-walk [] header counts = walk_with [] no_match counts
-walk (rule ∷ rules) header counts =
-    if holds rule header
-    then walk_by rule.quota rule.verdict counts (λ after. walk rules header after)
-    else later (walk rules header counts)
+  abbrev pub walk : List Rule → Header → S → (Walk S)
+  walk [] header counts = walk_with [] no_match counts
+  walk (rule ∷ rules) header counts =
+      if holds rule header
+      then walk_by rule.quota rule.verdict counts (λ after. walk rules header after)
+      else later (walk rules header counts)
 
--- ---- it is the decision
+  -- ---- it is the decision
 
--- the walk of a decision
-abbrev told_walk : (counts : List ℕ) → List Call × ℕ → Match → Walk
-told_walk counts d m = walk_with d.0 m (after_draws counts d.0)
+  -- the walk of a decision
+  abbrev told_walk : (counts : S) → List Call × ℕ → Match → (Walk S)
+  told_walk counts d m = walk_with d.0 m (left_behind leaves counts d.0)
 
-abbrev decided_walk : List Rule → Header → List ℕ → Walk
-decided_walk rules header counts = told_walk counts (decision rules header (told_on counts rules header)) (matched rules header (told_on counts rules header))
+  abbrev decided_walk : List Rule → Header → S → (Walk S)
+  decided_walk rules header counts = told_walk counts (decision rules header (told next leaves rules header counts)) (matched rules header (told next leaves rules header counts))
 
-drawn_step : (t : Bool) (quota : Quota) (verdict : Verdict) (counts : List ℕ) (w : Walk) (d : List Call × ℕ) (m : Match)
-    → w ≡ told_walk (after_draw counts quota.map quota.cell) d m
-    → (if t then walk_with (draw quota (next_ticket counts quota) ∷ []) (first_match 1 (Some (draw quota (next_ticket counts quota))) verdict) (after_draw counts quota.map quota.cell) else walk_with (draw quota (next_ticket counts quota) ∷ w.calls) (behind 1 w.found) w.counts)
-    ≡ told_walk counts (if t then (draw quota (next_ticket counts quota) ∷ [], verdict_number verdict) else (draw quota (next_ticket counts quota) ∷ d.0, d.1)) (if t then first_match 1 (Some (draw quota (next_ticket counts quota))) verdict else behind 1 m)
-drawn_step true quota verdict counts w d m is = refl
-drawn_step false quota verdict counts w d m is =
-    ap (λ (v : Walk). walk_with (draw quota (next_ticket counts quota) ∷ v.calls) (behind 1 v.found) v.counts) is
+  drawn_step : (t : Bool) (quota : Quota) (verdict : Verdict) (counts : S) (w : (Walk S)) (d : List Call × ℕ) (m : Match)
+      → w ≡ told_walk (leaves counts quota.map quota.cell) d m
+      → (if t then walk_with (draw quota (next counts quota.map quota.cell) ∷ []) (first_match 1 (Some (draw quota (next counts quota.map quota.cell))) verdict) (leaves counts quota.map quota.cell) else walk_with (draw quota (next counts quota.map quota.cell) ∷ w.calls) (behind 1 w.found) w.left)
+      ≡ told_walk counts (if t then (draw quota (next counts quota.map quota.cell) ∷ [], verdict_number verdict) else (draw quota (next counts quota.map quota.cell) ∷ d.0, d.1)) (if t then first_match 1 (Some (draw quota (next counts quota.map quota.cell))) verdict else behind 1 m)
+  drawn_step true quota verdict counts w d m is = refl
+  drawn_step false quota verdict counts w d m is =
+      ap (λ (v : (Walk S)). walk_with (draw quota (next counts quota.map quota.cell) ∷ v.calls) (behind 1 v.found) v.left) is
 
-held_step : (quota : Option Quota) (verdict : Verdict) (counts : List ℕ) (rules : List Rule) (header : Header)
-    → ((after : List ℕ) → walk rules header after ≡ decided_walk rules header after)
-    → walk_by quota verdict counts (λ after. walk rules header after)
-    ≡ told_walk counts
-    (ruled quota (verdict_number verdict) (told_by (ticket_before quota counts (λ after. tickets_of rules header after))) (decision rules header (λ k. told_by (ticket_before quota counts (λ after. tickets_of rules header after)) (suc k))))
-    (match_by quota verdict (told_by (ticket_before quota counts (λ after. tickets_of rules header after))) (matched rules header (λ k. told_by (ticket_before quota counts (λ after. tickets_of rules header after)) (suc k))))
-held_step None verdict counts rules header all = refl
-held_step (Some quota) verdict counts rules header all =
-    let after : List ℕ = after_draw counts quota.map quota.cell in
-    drawn_step (nat_lt (next_ticket counts quota) quota.limit) quota verdict counts (walk rules header after) (decision rules header (told_on after rules header)) (matched rules header (told_on after rules header)) (all after)
+  held_step : (quota : Option Quota) (verdict : Verdict) (counts : S) (rules : List Rule) (header : Header)
+      → ((after : S) → walk rules header after ≡ decided_walk rules header after)
+      → walk_by quota verdict counts (λ after. walk rules header after)
+      ≡ told_walk counts
+      (ruled quota (verdict_number verdict) (told_by (ticket_before next leaves quota counts (λ after. tickets_given next leaves rules header after))) (decision rules header (λ k. told_by (ticket_before next leaves quota counts (λ after. tickets_given next leaves rules header after)) (suc k))))
+      (match_by quota verdict (told_by (ticket_before next leaves quota counts (λ after. tickets_given next leaves rules header after))) (matched rules header (λ k. told_by (ticket_before next leaves quota counts (λ after. tickets_given next leaves rules header after)) (suc k))))
+  held_step None verdict counts rules header all = refl
+  held_step (Some quota) verdict counts rules header all =
+      let after : S = leaves counts quota.map quota.cell in
+      drawn_step (nat_lt (next counts quota.map quota.cell) quota.limit) quota verdict counts (walk rules header after) (decision rules header (told next leaves rules header after)) (matched rules header (told next leaves rules header after)) (all after)
 
-abbrev tickets_if : Bool → Rule → List Rule → Header → List ℕ → ℕ → ℕ
-tickets_if t rule rules header counts =
-    told_by (if t then ticket_before rule.quota counts (λ after. tickets_of rules header after) else tickets_of rules header counts)
+  abbrev tickets_if : Bool → Rule → List Rule → Header → S → ℕ → ℕ
+  tickets_if t rule rules header counts =
+      told_by (if t then ticket_before next leaves rule.quota counts (λ after. tickets_given next leaves rules header after) else tickets_given next leaves rules header counts)
 
-rule_step : (t : Bool) (rule : Rule) (rules : List Rule) (header : Header) (counts : List ℕ)
-    → ((after : List ℕ) → walk rules header after ≡ decided_walk rules header after)
-    → (if t then walk_by rule.quota rule.verdict counts (λ after. walk rules header after) else later (walk rules header counts))
-    ≡ told_walk counts
-    (if t then ruled rule.quota (verdict_number rule.verdict) (tickets_if t rule rules header counts) (decision rules header (λ k. tickets_if t rule rules header counts (suc k))) else decision rules header (tickets_if t rule rules header counts))
-    (if t then match_by rule.quota rule.verdict (tickets_if t rule rules header counts) (matched rules header (λ k. tickets_if t rule rules header counts (suc k))) else behind 1 (matched rules header (tickets_if t rule rules header counts)))
-rule_step true rule rules header counts all = held_step rule.quota rule.verdict counts rules header all
-rule_step false rule rules header counts all = ap later (all counts)
+  rule_step : (t : Bool) (rule : Rule) (rules : List Rule) (header : Header) (counts : S)
+      → ((after : S) → walk rules header after ≡ decided_walk rules header after)
+      → (if t then walk_by rule.quota rule.verdict counts (λ after. walk rules header after) else later (walk rules header counts))
+      ≡ told_walk counts
+      (if t then ruled rule.quota (verdict_number rule.verdict) (tickets_if t rule rules header counts) (decision rules header (λ k. tickets_if t rule rules header counts (suc k))) else decision rules header (tickets_if t rule rules header counts))
+      (if t then match_by rule.quota rule.verdict (tickets_if t rule rules header counts) (matched rules header (λ k. tickets_if t rule rules header counts (suc k))) else behind 1 (matched rules header (tickets_if t rule rules header counts)))
+  rule_step true rule rules header counts all = held_step rule.quota rule.verdict counts rules header all
+  rule_step false rule rules header counts all = ap later (all counts)
 
--- a walk over rules is their decision
-pub walk_is : (rules : List Rule) (header : Header) (counts : List ℕ) → walk rules header counts ≡ decided_walk rules header counts
-walk_is [] header counts = refl
-walk_is (rule ∷ rules) header counts =
-    rule_step (holds rule header) rule rules header counts (λ after. walk_is rules header after)
+  -- a walk over rules is their decision
+  pub walk_is : (rules : List Rule) (header : Header) (counts : S) → walk rules header counts ≡ decided_walk rules header counts
+  walk_is [] header counts = refl
+  walk_is (rule ∷ rules) header counts =
+      rule_step (holds rule header) rule rules header counts (λ after. walk_is rules header after)
 
--- ---- rule by rule
+  -- ---- rule by rule
 
--- a match behind so many rules and one more
-behind_more : (n : ℕ) (m : Match) → behind n (behind 1 m) ≡ behind (n + 1) m
-behind_more n m = ap (λ (r : Option ℕ). record { rule = r; ticket = m.ticket; verdict = m.verdict }) (moved n m.rule)
-  where
-    moved : (n : ℕ) (r : Option ℕ) → option_map (λ k. n + k) (option_map (λ k. 1 + k) r) ≡ option_map (λ k. n + 1 + k) r
-    moved n None = refl
-    moved n (Some k) = ap Some (omega arith)
+  -- a match behind so many rules and one more
+  behind_more : (n : ℕ) (m : Match) → behind n (behind 1 m) ≡ behind (n + 1) m
+  behind_more n m = ap (λ (r : Option ℕ). record { rule = r; ticket = m.ticket; verdict = m.verdict }) (moved n m.rule)
+    where
+      moved : (n : ℕ) (r : Option ℕ) → option_map (λ k. n + k) (option_map (λ k. 1 + k) r) ≡ option_map (λ k. n + 1 + k) r
+      moved n None = refl
+      moved n (Some k) = ap Some (omega arith)
 
--- so far these calls and counts, and what is left is a walk over the rules from this one on
-pub record IsOnWay (rules : List Rule) (header : Header) (first : List Call) (counts : List ℕ) (n : ℕ) (calls : List Call) (now : List ℕ) : Type 0 where
-  pub calls_are : first ++ (walk rules header counts).calls ≡ calls ++ (walk (drop n rules) header now).calls
-  pub found : (walk rules header counts).found ≡ behind n (walk (drop n rules) header now).found
-  pub counts_are : (walk rules header counts).counts ≡ (walk (drop n rules) header now).counts
+  -- so far these calls and counts, and what is left is a walk over the rules from this one on
+  pub record IsOnWay (rules : List Rule) (header : Header) (first : List Call) (counts : S) (n : ℕ) (calls : List Call) (now : S) : Type 0 where
+    pub calls_are : first ++ (walk rules header counts).calls ≡ calls ++ (walk (drop n rules) header now).calls
+    pub found : (walk rules header counts).found ≡ behind n (walk (drop n rules) header now).found
+    pub counts_are : (walk rules header counts).left ≡ (walk (drop n rules) header now).left
 
--- nothing stands before the first rule
-behind_none : (m : Match) → m ≡ behind 0 m
-behind_none m = ap (λ (r : Option ℕ). record { rule = r; ticket = m.ticket; verdict = m.verdict }) (same m.rule)
-  where
-    same : (r : Option ℕ) → r ≡ option_map (λ k. 0 + k) r
-    same None = refl
-    same (Some k) = ap Some (omega arith)
+  -- nothing stands before the first rule
+  behind_none : (m : Match) → m ≡ behind 0 m
+  behind_none m = ap (λ (r : Option ℕ). record { rule = r; ticket = m.ticket; verdict = m.verdict }) (same m.rule)
+    where
+      same : (r : Option ℕ) → r ≡ option_map (λ k. 0 + k) r
+      same None = refl
+      same (Some k) = ap Some (omega arith)
 
-pub begins : (rules : List Rule) (header : Header) (first : List Call) (counts : List ℕ) → IsOnWay rules header first counts 0 first counts
-begins rules header first counts = record {
-  calls_are = refl;
-  found = behind_none (walk rules header counts).found;
-  counts_are = refl;
-}
+  pub begins : (rules : List Rule) (header : Header) (first : List Call) (counts : S) → IsOnWay rules header first counts 0 first counts
+  begins rules header first counts = record {
+    calls_are = refl;
+    found = behind_none (walk rules header counts).found;
+    counts_are = refl;
+  }
 
--- the walk from a rule on
-from_rule : (rules : List Rule) (header : Header) (now : List ℕ) (n : ℕ) (d : Rule) → n < length rules
-    → walk (drop n rules) header now ≡ walk (get_or rules n d ∷ drop (suc n) rules) header now
-from_rule rules header now n d within = ap (λ (rs : List Rule). walk rs header now) (drop-cons rules n d within)
+  -- the walk from a rule on
+  from_rule : (rules : List Rule) (header : Header) (now : S) (n : ℕ) (d : Rule) → n < length rules
+      → walk (drop n rules) header now ≡ walk (get_or rules n d ∷ drop (suc n) rules) header now
+  from_rule rules header now n d within = ap (λ (rs : List Rule). walk rs header now) (drop-cons rules n d within)
 
-walk_if : (t u : Bool) (held other : Walk) → t ≡ u → (if t then held else other) ≡ (if u then held else other)
-walk_if t u held other is = ap (λ (b : Bool). if b then held else other) is
+  walk_if : (t u : Bool) (held other : (Walk S)) → t ≡ u → (if t then held else other) ≡ (if u then held else other)
+  walk_if t u held other is = ap (λ (b : Bool). if b then held else other) is
 
--- a rule whose conditions do not hold is passed
-pub passes : (rules : List Rule) (header : Header) (first : List Call) (counts : List ℕ) (n : ℕ) (calls : List Call) (now : List ℕ) (d : Rule)
-    → n < length rules → holds (get_or rules n d) header ≡ false → IsOnWay rules header first counts n calls now
-    → IsOnWay rules header first counts (n + 1) calls now
-passes rules header first counts n calls now d within fails way =
-    let rule : Rule = get_or rules n d in
-    let rest : List Rule = drop (suc n) rules in
-    let step : walk (drop n rules) header now ≡ later (walk rest header now) =
-    from_rule rules header now n d within ∙ walk_if (holds rule header) false (walk_by rule.quota rule.verdict now (λ after. walk rest header after)) (later (walk rest header now)) fails in
-    let next : walk rest header now ≡ walk (drop (n + 1) rules) header now = ap (λ (k : ℕ). walk (drop k rules) header now) (sym (add-one n)) in
-    let whole : walk (drop n rules) header now ≡ later (walk (drop (n + 1) rules) header now) = step ∙ ap later next in
-    record {
-      calls_are = way.calls_are ∙ ap (λ (w : Walk). calls ++ w.calls) whole;
-      found = way.found ∙ ap (λ (w : Walk). behind n w.found) whole ∙ behind_more n (walk (drop (n + 1) rules) header now).found;
-      counts_are = way.counts_are ∙ ap (λ (w : Walk). w.counts) whole;
-    }
+  -- a rule whose conditions do not hold is passed
+  pub passes : (rules : List Rule) (header : Header) (first : List Call) (counts : S) (n : ℕ) (calls : List Call) (now : S) (d : Rule)
+      → n < length rules → holds (get_or rules n d) header ≡ false → IsOnWay rules header first counts n calls now
+      → IsOnWay rules header first counts (n + 1) calls now
+  passes rules header first counts n calls now d within fails way =
+      let rule : Rule = get_or rules n d in
+      let rest : List Rule = drop (suc n) rules in
+      let step : walk (drop n rules) header now ≡ later (walk rest header now) =
+      from_rule rules header now n d within ∙ walk_if (holds rule header) false (walk_by rule.quota rule.verdict now (λ after. walk rest header after)) (later (walk rest header now)) fails in
+      let next : walk rest header now ≡ walk (drop (n + 1) rules) header now = ap (λ (k : ℕ). walk (drop k rules) header now) (sym (add-one n)) in
+      let whole : walk (drop n rules) header now ≡ later (walk (drop (n + 1) rules) header now) = step ∙ ap later next in
+      record {
+        calls_are = way.calls_are ∙ ap (λ (w : (Walk S)). calls ++ w.calls) whole;
+        found = way.found ∙ ap (λ (w : (Walk S)). behind n w.found) whole ∙ behind_more n (walk (drop (n + 1) rules) header now).found;
+        counts_are = way.counts_are ∙ ap (λ (w : (Walk S)). w.left) whole;
+      }
 
--- the walk from a rule on whose conditions hold
-held : (rules : List Rule) (header : Header) (now : List ℕ) (n : ℕ) (d : Rule) → n < length rules → holds (get_or rules n d) header ≡ true
-    → walk (drop n rules) header now ≡ walk_by (get_or rules n d).quota (get_or rules n d).verdict now (λ after. walk (drop (suc n) rules) header after)
-held rules header now n d within is =
-    let rule : Rule = get_or rules n d in
-    let rest : List Rule = drop (suc n) rules in
-    from_rule rules header now n d within ∙ walk_if (holds rule header) true (walk_by rule.quota rule.verdict now (λ after. walk rest header after)) (later (walk rest header now)) is
+  -- the walk from a rule on whose conditions hold
+  held : (rules : List Rule) (header : Header) (now : S) (n : ℕ) (d : Rule) → n < length rules → holds (get_or rules n d) header ≡ true
+      → walk (drop n rules) header now ≡ walk_by (get_or rules n d).quota (get_or rules n d).verdict now (λ after. walk (drop (suc n) rules) header after)
+  held rules header now n d within is =
+      let rule : Rule = get_or rules n d in
+      let rest : List Rule = drop (suc n) rules in
+      from_rule rules header now n d within ∙ walk_if (holds rule header) true (walk_by rule.quota rule.verdict now (λ after. walk rest header after)) (later (walk rest header now)) is
 
--- the same where it has a quota
-held_quota : (rules : List Rule) (header : Header) (now : List ℕ) (n : ℕ) (d : Rule) (quota : Quota) (t : Bool) → n < length rules → holds (get_or rules n d) header ≡ true
-    → (get_or rules n d).quota ≡ Some quota → nat_lt (next_ticket now quota) quota.limit ≡ t
-    → walk (drop n rules) header now
-    ≡ (if t
-    then walk_with (draw quota (next_ticket now quota) ∷ []) (first_match 1 (Some (draw quota (next_ticket now quota))) (get_or rules n d).verdict) (after_draw now quota.map quota.cell)
-    else walk_with (draw quota (next_ticket now quota) ∷ (walk (drop (suc n) rules) header (after_draw now quota.map quota.cell)).calls) (behind 1 (walk (drop (suc n) rules) header (after_draw now quota.map quota.cell)).found) (walk (drop (suc n) rules) header (after_draw now quota.map quota.cell)).counts)
-held_quota rules header now n d quota t within is has test =
-    let verdict : Verdict = (get_or rules n d).verdict in
-    let rest : List ℕ → Walk = λ after. walk (drop (suc n) rules) header after in
-    held rules header now n d within is
-    ∙ ap (λ (q : Option Quota). walk_by q verdict now rest) has
-    ∙ walk_if (nat_lt (next_ticket now quota) quota.limit) t (walk_with (draw quota (next_ticket now quota) ∷ []) (first_match 1 (Some (draw quota (next_ticket now quota))) verdict) (after_draw now quota.map quota.cell))
-    (walk_with (draw quota (next_ticket now quota) ∷ (rest (after_draw now quota.map quota.cell)).calls) (behind 1 (rest (after_draw now quota.map quota.cell)).found) (rest (after_draw now quota.map quota.cell)).counts) test
+  -- the same where it has a quota
+  held_quota : (rules : List Rule) (header : Header) (now : S) (n : ℕ) (d : Rule) (quota : Quota) (t : Bool) → n < length rules → holds (get_or rules n d) header ≡ true
+      → (get_or rules n d).quota ≡ Some quota → nat_lt (next now quota.map quota.cell) quota.limit ≡ t
+      → walk (drop n rules) header now
+      ≡ (if t
+      then walk_with (draw quota (next now quota.map quota.cell) ∷ []) (first_match 1 (Some (draw quota (next now quota.map quota.cell))) (get_or rules n d).verdict) (leaves now quota.map quota.cell)
+      else walk_with (draw quota (next now quota.map quota.cell) ∷ (walk (drop (suc n) rules) header (leaves now quota.map quota.cell)).calls) (behind 1 (walk (drop (suc n) rules) header (leaves now quota.map quota.cell)).found) (walk (drop (suc n) rules) header (leaves now quota.map quota.cell)).left)
+  held_quota rules header now n d quota t within is has test =
+      let verdict : Verdict = (get_or rules n d).verdict in
+      let rest : S → (Walk S) = λ after. walk (drop (suc n) rules) header after in
+      held rules header now n d within is
+      ∙ ap (λ (q : Option Quota). walk_by q verdict now rest) has
+      ∙ walk_if (nat_lt (next now quota.map quota.cell) quota.limit) t (walk_with (draw quota (next now quota.map quota.cell) ∷ []) (first_match 1 (Some (draw quota (next now quota.map quota.cell))) verdict) (leaves now quota.map quota.cell))
+      (walk_with (draw quota (next now quota.map quota.cell) ∷ (rest (leaves now quota.map quota.cell)).calls) (behind 1 (rest (leaves now quota.map quota.cell)).found) (rest (leaves now quota.map quota.cell)).left) test
 
--- a rule whose quota is spent has drawn
-pub draws : (rules : List Rule) (header : Header) (first : List Call) (counts : List ℕ) (n : ℕ) (calls : List Call) (now : List ℕ) (d : Rule) (quota : Quota)
-    → n < length rules → holds (get_or rules n d) header ≡ true → (get_or rules n d).quota ≡ Some quota → nat_lt (next_ticket now quota) quota.limit ≡ false
-    → IsOnWay rules header first counts n calls now
-    → IsOnWay rules header first counts (n + 1) (calls ++ draw quota (next_ticket now quota) ∷ []) (after_draw now quota.map quota.cell)
-draws rules header first counts n calls now d quota within is has spent way =
-    let after : List ℕ = after_draw now quota.map quota.cell in
-    let call : Call = draw quota (next_ticket now quota) in
-    let from : ℕ → Walk = λ k. walk (drop k rules) header after in
-    let drawn : Walk → Walk = λ w. walk_with (call ∷ w.calls) (behind 1 w.found) w.counts in
-    let whole : walk (drop n rules) header now ≡ drawn (from (n + 1)) = held_quota rules header now n d quota false within is has spent ∙ ap (λ (k : ℕ). drawn (from k)) (sym (add-one n)) in
-    record {
-      calls_are = way.calls_are ∙ ap (λ (w : Walk). calls ++ w.calls) whole ∙ sym (append_assoc calls (call ∷ []) (from (n + 1)).calls);
-      found = way.found ∙ ap (λ (w : Walk). behind n w.found) whole ∙ behind_more n (from (n + 1)).found;
-      counts_are = way.counts_are ∙ ap (λ (w : Walk). w.counts) whole;
-    }
+  -- a rule whose quota is spent has drawn
+  pub draws : (rules : List Rule) (header : Header) (first : List Call) (counts : S) (n : ℕ) (calls : List Call) (now : S) (d : Rule) (quota : Quota)
+      → n < length rules → holds (get_or rules n d) header ≡ true → (get_or rules n d).quota ≡ Some quota → nat_lt (next now quota.map quota.cell) quota.limit ≡ false
+      → IsOnWay rules header first counts n calls now
+      → IsOnWay rules header first counts (n + 1) (calls ++ draw quota (next now quota.map quota.cell) ∷ []) (leaves now quota.map quota.cell)
+  draws rules header first counts n calls now d quota within is has spent way =
+      let after : S = leaves now quota.map quota.cell in
+      let call : Call = draw quota (next now quota.map quota.cell) in
+      let from : ℕ → (Walk S) = λ k. walk (drop k rules) header after in
+      let drawn : (Walk S) → (Walk S) = λ w. walk_with (call ∷ w.calls) (behind 1 w.found) w.left in
+      let whole : walk (drop n rules) header now ≡ drawn (from (n + 1)) = held_quota rules header now n d quota false within is has spent ∙ ap (λ (k : ℕ). drawn (from k)) (sym (add-one n)) in
+      record {
+        calls_are = way.calls_are ∙ ap (λ (w : (Walk S)). calls ++ w.calls) whole ∙ sym (append_assoc calls (call ∷ []) (from (n + 1)).calls);
+        found = way.found ∙ ap (λ (w : (Walk S)). behind n w.found) whole ∙ behind_more n (from (n + 1)).found;
+        counts_are = way.counts_are ∙ ap (λ (w : (Walk S)). w.left) whole;
+      }
 
--- ---- the end
+  -- ---- the end
 
--- what a loop over the rules leaves, and gives
-pub record IsWalked (rules : List Rule) (header : Header) (first : List Call) (counts : List ℕ) (found : Match) (calls : List Call) (now : List ℕ) : Type 0 where
-  pub found_is : found ≡ matched rules header (told_on counts rules header)
-  pub calls_are : calls ≡ first ++ (decision rules header (told_on counts rules header)).0
-  pub counts_are : now ≡ after_draws counts (decision rules header (told_on counts rules header)).0
+  walked : (rules : List Rule) (header : Header) (first : List Call) (counts : S) (n : ℕ) (calls : List Call) (now : S) (end : (Walk S))
+      → walk (drop n rules) header now ≡ end → IsOnWay rules header first counts n calls now
+      → IsWalked next leaves rules header counts end.left first (calls ++ end.calls) (behind n end.found)
+  walked rules header first counts n calls now end is way =
+      let whole = walk_is rules header counts in
+      record {
+        found_is = sym (way.found ∙ ap (λ (w : (Walk S)). behind n w.found) is) ∙ ap (λ (w : (Walk S)). w.found) whole;
+        calls_are = sym (way.calls_are ∙ ap (λ (w : (Walk S)). calls ++ w.calls) is) ∙ ap (λ (w : (Walk S)). first ++ w.calls) whole;
+        left_is = sym (way.counts_are ∙ ap (λ (w : (Walk S)). w.left) is) ∙ ap (λ (w : (Walk S)). w.left) whole;
+      }
 
-walked : (rules : List Rule) (header : Header) (first : List Call) (counts : List ℕ) (n : ℕ) (calls : List Call) (now : List ℕ) (end : Walk)
-    → walk (drop n rules) header now ≡ end → IsOnWay rules header first counts n calls now
-    → IsWalked rules header first counts (behind n end.found) (calls ++ end.calls) end.counts
-walked rules header first counts n calls now end is way =
-    let whole = walk_is rules header counts in
-    record {
-      found_is = sym (way.found ∙ ap (λ (w : Walk). behind n w.found) is) ∙ ap (λ (w : Walk). w.found) whole;
-      calls_are = sym (way.calls_are ∙ ap (λ (w : Walk). calls ++ w.calls) is) ∙ ap (λ (w : Walk). first ++ w.calls) whole;
-      counts_are = sym (way.counts_are ∙ ap (λ (w : Walk). w.counts) is) ∙ ap (λ (w : Walk). w.counts) whole;
-    }
+  -- a rule without a quota matches
+  pub ends_by_rule : (rules : List Rule) (header : Header) (first : List Call) (counts : S) (n : ℕ) (calls : List Call) (now : S) (d : Rule)
+      → n < length rules → holds (get_or rules n d) header ≡ true → (get_or rules n d).quota ≡ None
+      → IsOnWay rules header first counts n calls now
+      → IsWalked next leaves rules header counts now first (calls ++ []) (first_match (n + 1) None (get_or rules n d).verdict)
+  ends_by_rule rules header first counts n calls now d within is none way =
+      let verdict : Verdict = (get_or rules n d).verdict in
+      walked rules header first counts n calls now (walk_with [] (first_match 1 None verdict) now)
+      (held rules header now n d within is ∙ ap (λ (q : Option Quota). walk_by q verdict now (λ after. walk (drop (suc n) rules) header after)) none) way
 
--- a rule without a quota matches
-pub ends_by_rule : (rules : List Rule) (header : Header) (first : List Call) (counts : List ℕ) (n : ℕ) (calls : List Call) (now : List ℕ) (d : Rule)
-    → n < length rules → holds (get_or rules n d) header ≡ true → (get_or rules n d).quota ≡ None
-    → IsOnWay rules header first counts n calls now
-    → IsWalked rules header first counts (first_match (n + 1) None (get_or rules n d).verdict) (calls ++ []) now
-ends_by_rule rules header first counts n calls now d within is none way =
-    let verdict : Verdict = (get_or rules n d).verdict in
-    walked rules header first counts n calls now (walk_with [] (first_match 1 None verdict) now)
-    (held rules header now n d within is ∙ ap (λ (q : Option Quota). walk_by q verdict now (λ after. walk (drop (suc n) rules) header after)) none) way
+  -- a rule whose ticket is below its limit matches
+  pub ends_by_ticket : (rules : List Rule) (header : Header) (first : List Call) (counts : S) (n : ℕ) (calls : List Call) (now : S) (d : Rule) (quota : Quota)
+      → n < length rules → holds (get_or rules n d) header ≡ true → (get_or rules n d).quota ≡ Some quota → nat_lt (next now quota.map quota.cell) quota.limit ≡ true
+      → IsOnWay rules header first counts n calls now
+      → IsWalked next leaves rules header counts (leaves now quota.map quota.cell) first (calls ++ draw quota (next now quota.map quota.cell) ∷ []) (first_match (n + 1) (Some (draw quota (next now quota.map quota.cell))) (get_or rules n d).verdict)
+  ends_by_ticket rules header first counts n calls now d quota within is has below way =
+      walked rules header first counts n calls now (walk_with (draw quota (next now quota.map quota.cell) ∷ []) (first_match 1 (Some (draw quota (next now quota.map quota.cell))) (get_or rules n d).verdict) (leaves now quota.map quota.cell))
+      (held_quota rules header now n d quota true within is has below) way
 
--- a rule whose ticket is below its limit matches
-pub ends_by_ticket : (rules : List Rule) (header : Header) (first : List Call) (counts : List ℕ) (n : ℕ) (calls : List Call) (now : List ℕ) (d : Rule) (quota : Quota)
-    → n < length rules → holds (get_or rules n d) header ≡ true → (get_or rules n d).quota ≡ Some quota → nat_lt (next_ticket now quota) quota.limit ≡ true
-    → IsOnWay rules header first counts n calls now
-    → IsWalked rules header first counts (first_match (n + 1) (Some (draw quota (next_ticket now quota))) (get_or rules n d).verdict) (calls ++ draw quota (next_ticket now quota) ∷ []) (after_draw now quota.map quota.cell)
-ends_by_ticket rules header first counts n calls now d quota within is has below way =
-    walked rules header first counts n calls now (walk_with (draw quota (next_ticket now quota) ∷ []) (first_match 1 (Some (draw quota (next_ticket now quota))) (get_or rules n d).verdict) (after_draw now quota.map quota.cell))
-    (held_quota rules header now n d quota true within is has below) way
+  -- no rule matches
+  pub ends_by_none : (rules : List Rule) (header : Header) (first : List Call) (counts : S) (n : ℕ) (calls : List Call) (now : S)
+      → drop n rules ≡ [] → IsOnWay rules header first counts n calls now → IsWalked next leaves rules header counts now first (calls ++ []) no_match
+  ends_by_none rules header first counts n calls now none way =
+      walked rules header first counts n calls now (walk_with [] no_match now) (ap (λ (rs : List Rule). walk rs header now) none) way
 
 -- a match that was made of the number and the draw of a rule
 pub made_without : (found : Match) (number n : ℕ) (verdict : Verdict) → found ≡ first_match (number + 1) None verdict → number ≡ n → found ≡ first_match (n + 1) None verdict
@@ -231,12 +233,6 @@ pub made_with : (found : Match) (number n : ℕ) (call other : Call) (verdict : 
     → found ≡ first_match (n + 1) (Some other) verdict
 made_with found number n call other verdict is at drawn =
     is ∙ ap (λ (k : ℕ). first_match (k + 1) (Some call) verdict) at ∙ ap (λ (c : Call). first_match (n + 1) (Some c) verdict) drawn
-
--- no rule matches
-pub ends_by_none : (rules : List Rule) (header : Header) (first : List Call) (counts : List ℕ) (n : ℕ) (calls : List Call) (now : List ℕ)
-    → drop n rules ≡ [] → IsOnWay rules header first counts n calls now → IsWalked rules header first counts no_match (calls ++ []) now
-ends_by_none rules header first counts n calls now none way =
-    walked rules header first counts n calls now (walk_with [] no_match now) (ap (λ (rs : List Rule). walk rs header now) none) way
 
 -- ---- the first that matches
 

@@ -5,10 +5,9 @@ use Rattle.std.specs.Prelude.{
   ◌*◌,
   ◌%◌,
   ◌^◌,
+  nat_lt,
   if◌then◌else◌,
   List,
-  [],
-  ◌∷◌,
   slice_index,
   slice_set,
   Option,
@@ -17,45 +16,36 @@ use Rattle.std.specs.Prelude.{
 }
 use Rattle.machine.specs.declared.calls.Call.{Call}
 use Rattle.machine.specs.Memory.{Header}
-use Rattle.policy_table.specs.Meaning.{holds, told_by}
-use Rattle.policy_table.specs.declared.rules.Quota.{Quota}
+use Rattle.policy_table.specs.Meaning.{told_by}
+use Rattle.policy_table.specs.Tickets.{left_behind, tickets_given}
 use Rattle.policy_table.specs.declared.rules.Rule.{Rule}
 
--- the place of a cell among the counts: no map has more than 256
-abbrev pub cell_place : (map cell : ℕ) → ℕ
-cell_place map cell = map * 256 + cell
+-- the place of a cell among the counts; no map has a cell from 256 on
+abbrev pub cell_place : (map cell : ℕ) → Option ℕ
+cell_place map cell = if nat_lt cell 256 then Some (map * 256 + cell) else None
 
--- how many tickets of a cell were drawn
+-- the count at a place, and 0 where there is none
+abbrev pub count_at : List ℕ → Option ℕ → ℕ
+count_at counts None = 0
+count_at counts (Some place) = slice_index counts place
+
+-- one more at a place, modulo 2^64; no more where there is none
+abbrev pub one_more_at : List ℕ → Option ℕ → List ℕ
+one_more_at counts None = counts
+one_more_at counts (Some place) = slice_set counts place ((slice_index counts place + 1) % 2 ^ 64)
+
+-- how many tickets of a cell were drawn, which is the number of the next; of a cell that no node has none ever is
 abbrev pub drawn_of : List ℕ → (map cell : ℕ) → ℕ
-drawn_of counts map cell = slice_index counts (cell_place map cell)
+drawn_of counts map cell = count_at counts (cell_place map cell)
 
--- the ticket of a quota that is drawn next
-abbrev pub next_ticket : List ℕ → Quota → ℕ
-next_ticket counts quota = drawn_of counts quota.map quota.cell
-
--- the counts after one ticket of a cell was drawn, modulo 2^64
+-- the counts after one ticket of a cell was drawn
 abbrev pub after_draw : List ℕ → (map cell : ℕ) → List ℕ
-after_draw counts map cell = slice_set counts (cell_place map cell) ((drawn_of counts map cell + 1) % 2 ^ 64)
+after_draw counts map cell = one_more_at counts (cell_place map cell)
 
 -- the counts after some draws
 abbrev pub after_draws : List ℕ → List Call → List ℕ
-after_draws counts [] = counts
-after_draws counts (c ∷ cs) = after_draws (after_draw counts c.question.map c.question.key) cs
-
--- the ticket of a rule whose conditions hold, before those of the rest
-abbrev pub ticket_before : Option Quota → (counts : List ℕ) → (rest : List ℕ → List ℕ) → List ℕ
-ticket_before None counts rest = []
-ticket_before (Some quota) counts rest =
-    next_ticket counts quota ∷ rest (after_draw counts quota.map quota.cell)
-
--- the tickets that rules are given, in order, as long as none of them matches
-abbrev pub tickets_of : List Rule → Header → (counts : List ℕ) → List ℕ
-tickets_of [] header counts = []
-tickets_of (rule ∷ rules) header counts =
-    if holds rule header
-    then ticket_before rule.quota counts (λ after. tickets_of rules header after)
-    else tickets_of rules header counts
+after_draws counts calls = left_behind after_draw counts calls
 
 -- the answers of the counts to the draws of a table
 abbrev pub told_on : List ℕ → List Rule → Header → ℕ → ℕ
-told_on counts rules header = told_by (tickets_of rules header counts)
+told_on counts rules header = told_by (tickets_given drawn_of after_draw rules header counts)

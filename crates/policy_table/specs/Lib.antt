@@ -5,7 +5,11 @@ pub mod Meaning
 pub mod Limits
 pub mod Laws
 pub mod FirstFault
+pub mod Mismatches
+pub mod Passing
 pub mod Matching
 pub mod Words
 pub mod TableFaults
+pub mod Tickets
 pub mod Counts
+pub mod Walked

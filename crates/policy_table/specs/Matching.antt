@@ -1,27 +1,16 @@
--- By which rule a policy table decides, and the first word of a rule that does not agree with a header.
-use Rattle.std.specs.Prelude.{◌≡◌, ◌+◌, ◌++◌, ℕ, suc, true, not, nat_le, nat_lt, if◌then◌else◌, List, [], ◌∷◌, length, Option, Some, None, option_map}
+-- By which rule a policy table decides.
+use Rattle.std.specs.Prelude.{◌≡◌, ◌+◌, ◌++◌, ℕ, suc, true, nat_lt, if◌then◌else◌, List, [], ◌∷◌, length, Option, Some, None, option_map}
 use Rattle.machine.specs.declared.calls.Call.{Call}
 use Rattle.machine.specs.Memory.{Header}
-use Rattle.policy_table.specs.Meaning.{agrees, decision, draw, fields_of, has_kind, holds, last_address_of}
+use Rattle.policy_table.specs.Meaning.{decision, draw, holds}
 use Rattle.policy_table.specs.declared.matching.Match.{Match}
 use Rattle.policy_table.specs.declared.rules.Quota.{Quota}
 use Rattle.policy_table.specs.declared.rules.Rule.{Rule}
-use Rattle.policy_table.specs.declared.words.RuleWord.{RuleWord}
-use Rattle.policy_table.specs.declared.words.RuleWord.TheVariants as words
-use Rattle.rmap.specs.Command.{
-  CommandValue,
-  key_of,
-  initiator_of,
-  extended_of,
-  address_of,
-  command_kind,
-}
 use Rattle.rmap.specs.Verdict.{verdict_number}
 use Rattle.rmap.specs.declared.verdict.Verdict.{Verdict}
 use Rattle.rmap.specs.declared.verdict.Verdict.TheVariants.{NotAuthorised}
 
--- the quota of a rule whose conditions hold, where its ticket is below the limit; one without a quota has
--- none, and where
+-- the quota of a rule whose conditions hold, where its ticket is below the limit; one without a quota has none, and where
 -- the ticket is not below the limit the rest decides
 abbrev pub matched_by : Option Quota → (told : ℕ → ℕ) → (rest : Option Quota) → Option Quota
 matched_by None told rest = None
@@ -95,21 +84,3 @@ abbrev pub MatchDecides : Type 0
 MatchDecides =
     (rules : List Rule) (header : Header) (told : ℕ → ℕ)
     → verdict_number (matched rules header told).verdict ≡ (decision rules header told).1
-
--- ---- which word
-
--- the first word of a rule that does not agree with a command, in the order of the tests: kind, key, initiator logical
--- address, extended address, first address, last address
-abbrev pub mismatch_of : Rule → CommandValue → Option RuleWord
-mismatch_of rule c =
-    if not (has_kind rule.kind (command_kind c)) then Some words.Kind
-    else if not (agrees rule.key (key_of c)) then Some words.Key
-    else if not (agrees rule.initiator (initiator_of c)) then Some words.Initiator
-    else if not (agrees rule.extended (extended_of c)) then Some words.Extended
-    else if not (nat_le rule.low (address_of c)) then Some words.Low
-    else if not (nat_le (last_address_of c) rule.high) then Some words.High
-    else None
-
--- the same of a header
-abbrev pub mismatch : Rule → Header → Option RuleWord
-mismatch rule header = mismatch_of rule (fields_of header)

@@ -93,7 +93,10 @@ holds rule header = holds_of rule (fields_of header)
 
 -- the ticket of a quota that is drawn, with its answer
 abbrev pub draw : Quota → (answer : ℕ) → Call
-draw quota answer = record { helper = Ticket; map = quota.map; key = quota.cell; argument = 0; answer = answer }
+draw quota answer = record {
+  question = record { helper = Ticket; map = quota.map; key = quota.cell; argument = 0 };
+  answer = answer;
+}
 
 -- a rule whose conditions hold: without a quota it matches, with one it draws a ticket and matches where that is
 -- below the limit; else the rest decides

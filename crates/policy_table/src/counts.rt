@@ -1,11 +1,12 @@
 //! How many tickets were drawn.
 
 ghost use Rattle.std.specs.Prelude.{◌≡◌, IfOk, replicate};
-ghost use Rattle.policy_table.specs.Counts.{after_draw, cell_place, next_ticket};
+ghost use Rattle.policy_table.specs.Counts.{after_draw, cell_place, drawn_of};
 ghost use Rattle.policy_table.specs.Meaning.{draw};
 
 use crate::rules::Quota;
-use machine::{Call, Helper, MAX_CELLS, MAX_MAPS, Question};
+use crate::tickets::Tickets;
+use machine::{Call, MAX_CELLS, MAX_MAPS};
 use std::alloc::{AllocError, Global};
 use std::marker::Model;
 
@@ -27,11 +28,15 @@ impl Model for Counts {
     ghost view = { λ c. c.counts.items };
 }
 
-/// The place of a cell among the counts.
-fn cell_place(quota: &Quota) -> usize
+/// The place of a cell among the counts, where a map may have the cell.
+fn cell_place(quota: &Quota) -> Option<usize>
     ensures { result ≡ cell_place quota.now.map quota.now.cell }
 {
-    usize::from(quota.map) * usize::from(MAX_CELLS) + usize::from(quota.cell)
+    if quota.cell < MAX_CELLS {
+        Some(usize::from(quota.map) * usize::from(MAX_CELLS) + usize::from(quota.cell))
+    } else {
+        None
+    }
 }
 
 impl Counts {
@@ -46,25 +51,29 @@ impl Counts {
         Ok(Counts { counts })
     }
 
-    /// Draws a ticket of a quota's cell: its number is how many were drawn before. Of a cell that no node has it is 0.
+    /// Draws a ticket of a quota's cell: its number is how many were drawn before. Of a cell that no node has it is 0, and
+    /// none is counted.
     pub fn draw(&mut self, quota: &Quota) -> Call
-        ensures drawn { result ≡ draw quota.now (next_ticket self.old quota.now) }
+        ensures drawn { result ≡ draw quota.now (drawn_of self.old quota.now.map quota.now.cell) }
         ensures counts { self.new ≡ after_draw self.old quota.now.map quota.now.cell }
     {
-        let place = cell_place(quota);
         let mut answer = 0;
-        if let Some(count) = self.counts.get_mut(place) {
-            answer = *count;
-            *count = count.wrapping_add(1);
+        if let Some(place) = cell_place(quota) {
+            if let Some(count) = self.counts.get_mut(place) {
+                answer = *count;
+                *count = count.wrapping_add(1);
+            }
         }
-        Call {
-            question: Question {
-                helper: Helper::Ticket,
-                map: quota.map,
-                key: quota.cell,
-                argument: 0,
-            },
-            answer,
-        }
+        quota.draw(answer)
+    }
+}
+
+impl Tickets for Counts {
+    ghost next = { drawn_of };
+
+    ghost after = { after_draw };
+
+    fn draw_ticket(&mut self, quota: &Quota) -> Call {
+        self.draw(quota)
     }
 }

@@ -5,12 +5,13 @@ ghost use Rattle.byteorder.specs.Endian.{big_number};
 ghost use Rattle.machine.specs.Memory.{header};
 ghost use Rattle.rmap.specs.Command.{address_of as address_in};
 ghost use Rattle.rmap.specs.Instruction.{has_increment_bit, kind_of};
-ghost use Rattle.policy_table.specs.Matching.{mismatch};
-ghost use Rattle.policy_table.specs.Meaning.{agrees, fields_of, has_kind, holds, last_address_of, lies_between};
+ghost use Rattle.policy_table.specs.Meaning.{fields_of, has_kind, holds, last_address_of};
+ghost use Rattle.policy_table.specs.Mismatches.{mismatch, passed, range_mismatch};
 
+use crate::mismatches::{Mismatch, Passed, other_byte, spent};
 use crate::rules::{Rule, RuleKind};
-use crate::words::RuleWord;
 use byteorder::{BigEndian, ByteOrder};
+use machine::Call;
 use rmap::field::{ADDRESS, EXTENDED, INITIATOR, INSTRUCTION, KEY, LENGTH};
 use rmap::{Instruction, Kind};
 
@@ -24,13 +25,6 @@ fn has_kind(wanted: RuleKind, kind: Kind) -> bool
         RuleKind::Write => kind == Kind::Write,
         RuleKind::Rmw => kind == Kind::Rmw,
     }
-}
-
-/// Whether a field agrees with a byte.
-fn agrees(wanted: Option<u8>, byte: u8) -> bool
-    ensures { result ≡ agrees wanted byte }
-{
-    wanted.is_none_or(|value| byte == value)
 }
 
 /// The first address that a header names.
@@ -61,11 +55,42 @@ pub fn last_address(front: &[u8; 4], tail: &[u8; 12]) -> u64
     }
 }
 
-/// Whether the addresses that a header names lie in the range.
-fn lies_between(low: u32, high: u32, front: &[u8; 4], tail: &[u8; 12]) -> bool
-    ensures { result ≡ lies_between low high (fields_of (header front.now tail.now)) }
+/// How the addresses that a header names do not lie in the range.
+fn range_mismatch(low: u32, high: u32, front: &[u8; 4], tail: &[u8; 12]) -> Option<Mismatch>
+    ensures { result ≡ range_mismatch low high (fields_of (header front.now tail.now)) }
 {
-    low <= first_address(tail) && last_address(front, tail) <= u64::from(high)
+    let address = first_address(tail);
+    if address < low {
+        return Some(Mismatch::Low { low, address });
+    }
+    let last = last_address(front, tail);
+    if last > u64::from(high) {
+        return Some(Mismatch::High { high, last });
+    }
+    None
+}
+
+/// The first word of a rule that does not agree with a header.
+fn first_mismatch(rule: &Rule, front: &[u8; 4], tail: &[u8; 12]) -> Option<Mismatch>
+    ensures { result ≡ mismatch rule.now (header front.now tail.now) }
+{
+    let kind = Instruction(front[INSTRUCTION]).kind();
+    if !has_kind(rule.kind, kind) {
+        return Some(Mismatch::Kind {
+            wanted: rule.kind,
+            given: kind,
+        });
+    }
+    if let Some(bytes) = other_byte(rule.key, front[KEY]) {
+        return Some(Mismatch::Key(bytes));
+    }
+    if let Some(bytes) = other_byte(rule.initiator, tail[INITIATOR]) {
+        return Some(Mismatch::Initiator(bytes));
+    }
+    if let Some(bytes) = other_byte(rule.extended, tail[EXTENDED]) {
+        return Some(Mismatch::Extended(bytes));
+    }
+    range_mismatch(rule.low, rule.high, front, tail)
 }
 
 impl Rule {
@@ -74,37 +99,26 @@ impl Rule {
     pub fn holds(&self, front: &[u8; 4], tail: &[u8; 12]) -> bool
         ensures { result ≡ holds self.now (header front.now tail.now) }
     {
-        has_kind(self.kind, Instruction(front[INSTRUCTION]).kind())
-            && agrees(self.key, front[KEY])
-            && agrees(self.initiator, tail[INITIATOR])
-            && agrees(self.extended, tail[EXTENDED])
-            && lies_between(self.low, self.high, front, tail)
+        self.mismatch(front, tail).is_none()
     }
 
     /// The first word of the rule that does not agree with a header, in the order of the tests: kind, key, initiator
     /// logical address, extended address, first address, last address. `None` where the rule's conditions hold.
-    pub fn mismatch(&self, front: &[u8; 4], tail: &[u8; 12]) -> Option<RuleWord>
+    pub fn mismatch(&self, front: &[u8; 4], tail: &[u8; 12]) -> Option<Mismatch>
         ensures word { result ≡ mismatch self.now (header front.now tail.now) }
         ensures none { is_none result ≡ holds self.now (header front.now tail.now) }
     {
-        if !has_kind(self.kind, Instruction(front[INSTRUCTION]).kind()) {
-            return Some(RuleWord::Kind);
+        first_mismatch(self, front, tail)
+    }
+
+    /// Why the rule does not match a header, where this is the draw of its quota. `None` where it matches, and where it has
+    /// a quota and nothing was drawn.
+    pub fn passed(&self, front: &[u8; 4], tail: &[u8; 12], drawn: Option<Call>) -> Option<Passed>
+        ensures { result ≡ passed self.now (header front.now tail.now) drawn }
+    {
+        if let Some(found) = self.mismatch(front, tail) {
+            return Some(Passed::Unlike(found));
         }
-        if !agrees(self.key, front[KEY]) {
-            return Some(RuleWord::Key);
-        }
-        if !agrees(self.initiator, tail[INITIATOR]) {
-            return Some(RuleWord::Initiator);
-        }
-        if !agrees(self.extended, tail[EXTENDED]) {
-            return Some(RuleWord::Extended);
-        }
-        if first_address(tail) < self.low {
-            return Some(RuleWord::Low);
-        }
-        if last_address(front, tail) > u64::from(self.high) {
-            return Some(RuleWord::High);
-        }
-        None
+        spent(self.quota, drawn)
     }
 }

@@ -3,7 +3,7 @@
 //!
 //! A [`Table`] is read from text, one [`Rule`] a line. [`Table::decide`] says what a table means for the
 //! header of a command: the tickets that it draws, and its verdict; [`Table::matched`] says by which rule it decides, and
-//! [`Rule::mismatch`] which word of a rule does not agree. The program of a table is made in the crate `policy`.
+//! [`Rule::passed`] why a rule does not match. The program of a table is made in the crate `policy`.
 #![tactic(auto)]
 
 mod checks;
@@ -14,9 +14,12 @@ mod fields;
 mod laws;
 mod lines;
 mod matching;
+mod mismatches;
+mod passing;
 mod rules;
 mod table_faults;
 mod tables;
+mod tickets;
 mod words;
 
 pub use checks::faults_have_places;
@@ -25,6 +28,7 @@ pub use deciding::last_address;
 pub use faults::PolicyFault;
 pub use laws::{decisions, first_rule_matches, headers_have_fields, table_is_unambiguous};
 pub use matching::Match;
+pub use mismatches::{Mismatch, OtherByte, Passed};
 pub use rules::{Quota, Rule, RuleKind};
 pub use table_faults::TableFault;
 pub use tables::Table;

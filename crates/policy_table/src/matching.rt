@@ -1,14 +1,13 @@
 //! By which rule a table decides.
 
-ghost use Rattle.std.specs.Prelude.{◌≡◌, ◌+◌, ◌≤◌, ◌++◌, length, vec_len};
+ghost use Rattle.std.specs.Prelude.{◌≡◌, ◌+◌, ◌≤◌, length, vec_len};
 ghost use Rattle.std.specs.Vec.{vec_capacity};
 ghost use Rattle.machine.specs.Memory.{header};
-ghost use Rattle.policy_table.specs.Counts.{after_draws, told_on};
-ghost use Rattle.policy_table.specs.Matching.{first_match, matched};
-ghost use Rattle.policy_table.specs.Meaning.{decision};
+ghost use Rattle.policy_table.specs.Matching.{first_match};
+ghost use Rattle.policy_table.specs.Walked.{IsWalked};
 
-use crate::counts::Counts;
 use crate::rules::Rule;
+use crate::tickets::Tickets;
 use machine::Call;
 use rmap::Verdict;
 
@@ -34,23 +33,18 @@ fn by_rule(rule: &Rule, number: usize, ticket: Option<Call>) -> Match
     }
 }
 
-/// By which rule a table of these rules decides. Each draw is appended to the calls, for which there is room.
-pub fn match_of(
+/// By which rule a table of these rules decides, where its draws are answered by those tickets. Each draw is appended to
+/// the calls, for which there is room.
+pub fn match_of<T: Tickets>(
     rules: &[Rule],
     front: &[u8; 4],
     tail: &[u8; 12],
-    counts: &mut Counts,
+    tickets: &mut T,
     calls: &mut Vec<Call>,
 ) -> Match
     requires { vec_len calls.old + length rules.now ≤ vec_capacity calls.old }
-    ensures found { result ≡ matched rules.now (header front.now tail.now)
-        (told_on counts.old rules.now (header front.now tail.now)) }
-    ensures draws { calls.new.items ≡ calls.old.items
-        ++ (decision rules.now (header front.now tail.now)
-        (told_on counts.old rules.now (header front.now tail.now))).0 }
-    ensures counts { counts.new ≡ after_draws counts.old
-        (decision rules.now (header front.now tail.now)
-        (told_on counts.old rules.now (header front.now tail.now))).0 }
+    ensures { IsWalked T.next T.after rules.now (header front.now tail.now)
+        tickets.old tickets.new calls.old.items calls.new.items result }
 {
     let mut number = 0;
     for rule in rules {
@@ -61,7 +55,7 @@ pub fn match_of(
         let Some(quota) = rule.quota else {
             return by_rule(rule, number, None);
         };
-        let call = counts.draw(&quota);
+        let call = tickets.draw_ticket(&quota);
         calls.push_reserved(call);
         if call.answer < u64::from(quota.limit) {
             return by_rule(rule, number, Some(call));

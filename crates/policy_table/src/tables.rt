@@ -1,6 +1,6 @@
 //! Policy tables.
 
-ghost use Rattle.std.specs.Prelude.{◌≡◌, ◌+◌, ◌≤◌, ◌++◌, All, length, slice_index, vec_len, IfErr, IfOk, None, OnErr, OnOk, option_map};
+ghost use Rattle.std.specs.Prelude.{◌≡◌, ◌+◌, ◌≤◌, ◌++◌, All, length, vec_len, IfErr, IfOk, None, OnErr, OnOk, option_map};
 ghost use Rattle.std.specs.Vec.{vec_capacity};
 ghost use Rattle.machine.specs.Memory.{header};
 ghost use Rattle.spw.specs.Line.{lines_of};
@@ -9,18 +9,22 @@ ghost use Rattle.policy_table.specs.Counts.{after_draws, told_on};
 ghost use Rattle.policy_table.specs.Limits.{FitsFields};
 ghost use Rattle.policy_table.specs.Lines.{IsReadFault, IsTable};
 ghost use Rattle.policy_table.specs.Matching.{matched};
-ghost use Rattle.policy_table.specs.Meaning.{decision, draw as draw_of, told_by};
+ghost use Rattle.policy_table.specs.Meaning.{decision, told_by};
+ghost use Rattle.policy_table.specs.Passing.{passed_rules};
 ghost use Rattle.policy_table.specs.TableFaults.{IsTableFault, policy_fault_of, table_fault};
 
 use crate::checks::{faults_have_places, table_fault};
 use crate::counts::Counts;
 use crate::faults::PolicyFault;
+use crate::laws::first_rule_matches;
 use crate::lines::read_rules;
 use crate::matching::{Match, match_of};
-use crate::rules::{Quota, Rule};
+use crate::mismatches::Passed;
+use crate::passing::passed_rules;
+use crate::rules::Rule;
 use crate::table_faults::TableFault;
-use machine::{Call, Helper, MapSizes, Question};
-use rmap::Verdict;
+use crate::tickets::Answers;
+use machine::{Call, MapSizes};
 use std::alloc::{AllocError, Global};
 use std::marker::Model;
 
@@ -44,28 +48,6 @@ impl Model for Table {
     ghost invariant = { λ t. All FitsFields t.rules.items };
 }
 
-/// The answer of that number, or 0 where there is none left.
-fn answer_at(answers: &[u64], drawn: usize) -> u64
-    ensures { result ≡ slice_index answers.now drawn }
-{
-    answers.get(drawn).copied().unwrap_or(0)
-}
-
-/// The ticket of a quota that was drawn, with its answer.
-fn draw(quota: &Quota, answer: u64) -> Call
-    ensures { result ≡ draw_of quota.now answer }
-{
-    Call {
-        question: Question {
-            helper: Helper::Ticket,
-            map: quota.map,
-            key: quota.cell,
-            argument: 0,
-        },
-        answer,
-    }
-}
-
 /// What rules say of a header. Each draw is appended to the calls, for which there is room.
 fn decide_by(
     rules: &[Rule],
@@ -80,24 +62,10 @@ fn decide_by(
     ensures verdict { result
         ≡ (decision rules.now (header front.now tail.now) (told_by answers.now)).1 }
 {
-    let mut left = rules;
-    let mut drawn = 0;
-    while let [rule, later @ ..] = left {
-        left = later;
-        if !rule.holds(front, tail) {
-            continue;
-        }
-        let Some(quota) = rule.quota else {
-            return u64::from(rule.verdict.number());
-        };
-        let answer = answer_at(answers, drawn);
-        drawn += 1;
-        calls.push_reserved(draw(&quota, answer));
-        if answer < u64::from(quota.limit) {
-            return u64::from(rule.verdict.number());
-        }
-    }
-    u64::from(Verdict::NotAuthorised.number())
+    first_rule_matches();
+    let mut answers = Answers::new(answers);
+    let found = match_of(rules, front, tail, &mut answers, calls);
+    u64::from(found.verdict.number())
 }
 
 impl Table {
@@ -210,5 +178,23 @@ impl Table {
     {
         calls.reserve(self.rules.len())?;
         Ok(match_of(self.rules.as_slice(), front, tail, counts, calls))
+    }
+
+    /// Why the rules before the one that decides on a header do not match, where these are the draws of the table, in order.
+    ///
+    /// # Errors
+    ///
+    /// Where memory was refused.
+    pub fn passed(
+        &self,
+        alloc: Global,
+        front: &[u8; 4],
+        tail: &[u8; 12],
+        draws: &[Call],
+    ) -> Result<Vec<Passed>, AllocError>
+        ensures { IfOk result (λ all. all.items
+            ≡ passed_rules self.now (header front.now tail.now) draws.now) }
+    {
+        passed_rules(alloc, self.rules.as_slice(), front, tail, draws)
     }
 }

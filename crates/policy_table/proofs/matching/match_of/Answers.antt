@@ -4,79 +4,51 @@ use Rattle.std.proofs.lemmas.List.{append-nil, drop_all}
 use Rattle.std.specs.Prelude.{nat_lt}
 use Rattle.machine.specs.declared.calls.Call.{Call}
 use Rattle.machine.specs.Memory.{header}
-use Rattle.policy_table.specs.Counts.{next_ticket}
 use Rattle.policy_table.specs.Meaning.{draw}
 use Rattle.policy_table.proofs.Walks.{IsOnWay, draws, ends_by_none, ends_by_rule, ends_by_ticket, made_with, made_without}
 use Rattle.policy_table.proofs.matching.match_of.Goals as goal
 
-pub returns-in_default-clause-found : goal.returns-in_default-clause-found
-returns-in_default-clause-found c =
-    let w = ends_by_rule c.args.rules.now (header c.args.front.now c.args.tail.now) c.args.calls.now.items c.args.counts.now c.loop-rule.rule-index c.loop-rule.calls.items c.loop-rule.counts _ c.loop-rule-test.true (sym c.holds.ensures ∙ c.if-not-holds.false) c.in_default.is c.loop-rule.invariant.2 in
-    made_without _ _ _ _ c.by_rule.ensures c.loop-rule.invariant.0 ∙ w.found_is
+pub returns-in_default : goal.returns-in_default
+returns-in_default g c =
+    let w = ends_by_rule g.T.Tickets.next g.T.Tickets.after c.args.rules.now (header c.args.front.now c.args.tail.now) c.args.calls.now.items c.args.tickets.now c.loop-rule.rule-index c.loop-rule.calls.items c.loop-rule.tickets _ c.loop-rule-test.true (sym c.holds.ensures ∙ c.if-not-holds.false) c.in_default.is c.loop-rule.invariant.2 in record {
+      found_is = made_without _ _ _ _ c.by_rule.ensures c.loop-rule.invariant.0 ∙ w.found_is;
+      calls_are = sym (append-nil c.loop-rule.calls.items) ∙ w.calls_are;
+      left_is = w.left_is;
+    }
 
-pub returns-in_default-clause-draws : goal.returns-in_default-clause-draws
-returns-in_default-clause-draws c =
-    let w = ends_by_rule c.args.rules.now (header c.args.front.now c.args.tail.now) c.args.calls.now.items c.args.counts.now c.loop-rule.rule-index c.loop-rule.calls.items c.loop-rule.counts _ c.loop-rule-test.true (sym c.holds.ensures ∙ c.if-not-holds.false) c.in_default.is c.loop-rule.invariant.2 in
-    sym (append-nil c.loop-rule.calls.items) ∙ w.calls_are
-
-pub returns-in_default-clause-counts : goal.returns-in_default-clause-counts
-returns-in_default-clause-counts c =
-    let w = ends_by_rule c.args.rules.now (header c.args.front.now c.args.tail.now) c.args.calls.now.items c.args.counts.now c.loop-rule.rule-index c.loop-rule.calls.items c.loop-rule.counts _ c.loop-rule-test.true (sym c.holds.ensures ∙ c.if-not-holds.false) c.in_default.is c.loop-rule.invariant.2 in
-    w.counts_are
-
-pub returns-then-call-from-clause-found : goal.returns-then-call-from-clause-found
-returns-then-call-from-clause-found c =
+pub returns-then-call-from : goal.returns-then-call-from
+returns-then-call-from g c =
     let quota = c.in-Some.quota in
-    let drawn = c.draw-call.ensures.drawn in
-    let answer : c.draw-call.result.answer ≡ next_ticket c.loop-rule.counts quota = ap (λ (call : Call). call.answer) drawn in
-    let below : nat_lt (next_ticket c.loop-rule.counts quota) quota.limit ≡ true = lt-ltb (next_ticket c.loop-rule.counts quota) quota.limit (omega (arith, c.if-call-from.true, c.from.ensures, answer)) in
-    let w = ends_by_ticket c.args.rules.now (header c.args.front.now c.args.tail.now) c.args.calls.now.items c.args.counts.now c.loop-rule.rule-index c.loop-rule.calls.items c.loop-rule.counts _ quota c.loop-rule-test.true (sym c.holds.ensures ∙ c.if-not-holds.false) c.in-Some.is below c.loop-rule.invariant.2 in
-    made_with _ _ _ _ _ _ c.by_rule-then-call-from.ensures c.loop-rule.invariant.0 drawn ∙ w.found_is
-
-pub returns-then-call-from-clause-draws : goal.returns-then-call-from-clause-draws
-returns-then-call-from-clause-draws c =
-    let quota = c.in-Some.quota in
-    let drawn = c.draw-call.ensures.drawn in
-    let answer : c.draw-call.result.answer ≡ next_ticket c.loop-rule.counts quota = ap (λ (call : Call). call.answer) drawn in
-    let below : nat_lt (next_ticket c.loop-rule.counts quota) quota.limit ≡ true = lt-ltb (next_ticket c.loop-rule.counts quota) quota.limit (omega (arith, c.if-call-from.true, c.from.ensures, answer)) in
-    let w = ends_by_ticket c.args.rules.now (header c.args.front.now c.args.tail.now) c.args.calls.now.items c.args.counts.now c.loop-rule.rule-index c.loop-rule.calls.items c.loop-rule.counts _ quota c.loop-rule-test.true (sym c.holds.ensures ∙ c.if-not-holds.false) c.in-Some.is below c.loop-rule.invariant.2 in
-    c.push_reserved.ensures.items ∙ ap (λ (call : Call). c.loop-rule.calls.items ++ call ∷ []) drawn ∙ w.calls_are
-
-pub returns-then-call-from-clause-counts : goal.returns-then-call-from-clause-counts
-returns-then-call-from-clause-counts c =
-    let quota = c.in-Some.quota in
-    let drawn = c.draw-call.ensures.drawn in
-    let answer : c.draw-call.result.answer ≡ next_ticket c.loop-rule.counts quota = ap (λ (call : Call). call.answer) drawn in
-    let below : nat_lt (next_ticket c.loop-rule.counts quota) quota.limit ≡ true = lt-ltb (next_ticket c.loop-rule.counts quota) quota.limit (omega (arith, c.if-call-from.true, c.from.ensures, answer)) in
-    let w = ends_by_ticket c.args.rules.now (header c.args.front.now c.args.tail.now) c.args.calls.now.items c.args.counts.now c.loop-rule.rule-index c.loop-rule.calls.items c.loop-rule.counts _ quota c.loop-rule-test.true (sym c.holds.ensures ∙ c.if-not-holds.false) c.in-Some.is below c.loop-rule.invariant.2 in
-    c.draw-call.ensures.counts ∙ w.counts_are
+    let drawn = c.draw_ticket-call.ensures.drawn in
+    let ticket : ℕ = g.T.Tickets.next c.loop-rule.tickets quota.map quota.cell in
+    let answer : c.draw_ticket-call.result.answer ≡ ticket = ap (λ (call : Call). call.answer) drawn in
+    let below : nat_lt ticket quota.limit ≡ true = lt-ltb ticket quota.limit (omega (arith, c.if-call-from.true, c.from.ensures, answer)) in
+    let w = ends_by_ticket g.T.Tickets.next g.T.Tickets.after c.args.rules.now (header c.args.front.now c.args.tail.now) c.args.calls.now.items c.args.tickets.now c.loop-rule.rule-index c.loop-rule.calls.items c.loop-rule.tickets _ quota c.loop-rule-test.true (sym c.holds.ensures ∙ c.if-not-holds.false) c.in-Some.is below c.loop-rule.invariant.2 in record {
+      found_is = made_with _ _ _ _ _ _ c.by_rule-then-call-from.ensures c.loop-rule.invariant.0 drawn ∙ w.found_is;
+      calls_are = c.push_reserved.ensures.items ∙ ap (λ (call : Call). c.loop-rule.calls.items ++ call ∷ []) drawn ∙ w.calls_are;
+      left_is = c.draw_ticket-call.ensures.left ∙ w.left_is;
+    }
 
 pub loop-rule-preserved : goal.loop-rule-preserved
-loop-rule-preserved c =
+loop-rule-preserved g c =
     let quota = c.in-Some.quota in
-    let drawn = c.draw-call.ensures.drawn in
-    let answer : c.draw-call.result.answer ≡ next_ticket c.loop-rule.counts quota = ap (λ (call : Call). call.answer) drawn in
-    let spent : nat_lt (next_ticket c.loop-rule.counts quota) quota.limit ≡ false = le-ltb (next_ticket c.loop-rule.counts quota) quota.limit (omega (arith, c.if-call-from.false, c.from.ensures, answer)) in
-    let way = draws c.args.rules.now (header c.args.front.now c.args.tail.now) c.args.calls.now.items c.args.counts.now c.loop-rule.rule-index c.loop-rule.calls.items c.loop-rule.counts _ quota c.loop-rule-test.true (sym c.holds.ensures ∙ c.if-not-holds.false) c.in-Some.is spent c.loop-rule.invariant.2 in
+    let drawn = c.draw_ticket-call.ensures.drawn in
+    let ticket : ℕ = g.T.Tickets.next c.loop-rule.tickets quota.map quota.cell in
+    let answer : c.draw_ticket-call.result.answer ≡ ticket = ap (λ (call : Call). call.answer) drawn in
+    let spent : nat_lt ticket quota.limit ≡ false = le-ltb ticket quota.limit (omega (arith, c.if-call-from.false, c.from.ensures, answer)) in
+    let way = draws g.T.Tickets.next g.T.Tickets.after c.args.rules.now (header c.args.front.now c.args.tail.now) c.args.calls.now.items c.args.tickets.now c.loop-rule.rule-index c.loop-rule.calls.items c.loop-rule.tickets _ quota c.loop-rule-test.true (sym c.holds.ensures ∙ c.if-not-holds.false) c.in-Some.is spent c.loop-rule.invariant.2 in
     let pushed = c.push_reserved.ensures.items ∙ ap (λ (call : Call). c.loop-rule.calls.items ++ call ∷ []) drawn in
     let next : ℕ = c.loop-rule.rule-index + 1 in
-    let on : List Call → List ℕ → Type 0 = λ calls counts. IsOnWay c.args.rules.now (header c.args.front.now c.args.tail.now) c.args.calls.now.items c.args.counts.now next calls counts in (
+    let on : List Call → _ → Type 0 = λ calls tickets. IsOnWay g.T.Tickets.next g.T.Tickets.after c.args.rules.now (header c.args.front.now c.args.tail.now) c.args.calls.now.items c.args.tickets.now next calls tickets in (
       omega (arith, c.loop-rule.invariant.0),
       omega (arith, c.loop-rule-test.true, c.loop-rule.invariant.1, c.push_reserved.ensures.len, c.push_reserved.ensures.capacity),
-      subst (λ (calls : List Call). on calls c.draw-call.new.self) (sym pushed) (subst (λ (counts : List ℕ). on (c.loop-rule.calls.items ++ draw quota (next_ticket c.loop-rule.counts quota) ∷ []) counts) (sym c.draw-call.ensures.counts) way),
+      subst (λ (calls : List Call). on calls c.draw_ticket-call.new.self) (sym pushed) (subst (λ tickets. on (c.loop-rule.calls.items ++ draw quota ticket ∷ []) tickets) (sym c.draw_ticket-call.ensures.left) way),
     )
 
-pub returns-clause-found : goal.returns-clause-found
-returns-clause-found c =
-    let w = ends_by_none c.args.rules.now (header c.args.front.now c.args.tail.now) c.args.calls.now.items c.args.counts.now c.loop-rule.rule-index c.loop-rule.calls.items c.loop-rule.counts (drop_all c.loop-rule.rule-index c.args.rules.now (omega (arith, c.loop-rule-test.false))) c.loop-rule.invariant.2 in
-    w.found_is
-
-pub returns-clause-draws : goal.returns-clause-draws
-returns-clause-draws c =
-    let w = ends_by_none c.args.rules.now (header c.args.front.now c.args.tail.now) c.args.calls.now.items c.args.counts.now c.loop-rule.rule-index c.loop-rule.calls.items c.loop-rule.counts (drop_all c.loop-rule.rule-index c.args.rules.now (omega (arith, c.loop-rule-test.false))) c.loop-rule.invariant.2 in
-    sym (append-nil c.loop-rule.calls.items) ∙ w.calls_are
-
-pub returns-clause-counts : goal.returns-clause-counts
-returns-clause-counts c =
-    let w = ends_by_none c.args.rules.now (header c.args.front.now c.args.tail.now) c.args.calls.now.items c.args.counts.now c.loop-rule.rule-index c.loop-rule.calls.items c.loop-rule.counts (drop_all c.loop-rule.rule-index c.args.rules.now (omega (arith, c.loop-rule-test.false))) c.loop-rule.invariant.2 in
-    w.counts_are
+pub returns : goal.returns
+returns g c =
+    let w = ends_by_none g.T.Tickets.next g.T.Tickets.after c.args.rules.now (header c.args.front.now c.args.tail.now) c.args.calls.now.items c.args.tickets.now c.loop-rule.rule-index c.loop-rule.calls.items c.loop-rule.tickets (drop_all c.loop-rule.rule-index c.args.rules.now (omega (arith, c.loop-rule-test.false))) c.loop-rule.invariant.2 in record {
+      found_is = w.found_is;
+      calls_are = sym (append-nil c.loop-rule.calls.items) ∙ w.calls_are;
+      left_is = w.left_is;
+    }

@@ -1,0 +1,17 @@
+use Rattle.std.proofs.lemmas.List.{drop_all}
+use Rattle.std.proofs.Common.{◌≡◌, ◌++◌, ◌∷◌, [], List, sym, ap, ◌∙◌, subst, arith}
+use Rattle.machine.specs.Memory.{header}
+use Rattle.machine.specs.declared.calls.Call.{Call}
+use Rattle.policy_table.specs.Mismatches.{passed}
+use Rattle.policy_table.specs.Passing.{passed_rules as passed_by}
+use Rattle.policy_table.specs.declared.mismatches.Passed.{Passed}
+use Rattle.policy_table.proofs.PassingBy.{passes_one, stops_behind, stops_there}
+use Rattle.policy_table.proofs.passing.passed_rules.Goals as goal
+
+pub returns-in_default : goal.returns-in_default
+returns-in_default c =
+    stops_there c.args.rules.now (header c.args.front.now c.args.tail.now) c.loop-rule.rule-index c.loop-rule.left.now _ c.loop-rule.all.items _ c.loop-rule-test.true (sym c.passed.ensures ∙ c.in_default.is) c.loop-rule.invariant
+
+pub returns : goal.returns
+returns c =
+    stops_behind c.args.rules.now (header c.args.front.now c.args.tail.now) c.loop-rule.rule-index c.loop-rule.left.now c.loop-rule.all.items _ (drop_all c.loop-rule.rule-index c.args.rules.now (omega (arith, c.loop-rule-test.false))) c.loop-rule.invariant

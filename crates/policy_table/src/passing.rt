@@ -1,0 +1,53 @@
+//! Why the rules before the one that decides do not match.
+
+ghost use Rattle.std.specs.Prelude.{◌≡◌, IfOk, slice_get};
+ghost use Rattle.machine.specs.Memory.{header};
+ghost use Rattle.policy_table.specs.Passing.{draws_behind, passed_rules};
+
+use crate::mismatches::Passed;
+use crate::rules::Rule;
+use machine::Call;
+use std::alloc::{AllocError, Global};
+
+/// The first draw.
+fn first_of(draws: &[Call]) -> Option<Call>
+    ensures { result ≡ slice_get draws.now 0 }
+{
+    draws.get(0).copied()
+}
+
+/// The draws behind those of a rule that does not match.
+fn draws_behind<'c>(why: &Passed, draws: &'c [Call]) -> &'c [Call]
+    ensures { result.now ≡ draws_behind why.now draws.now }
+{
+    match why {
+        Passed::Unlike(_) => draws,
+        Passed::Spent { .. } => match draws {
+            [_, later @ ..] => later,
+            [] => draws,
+        },
+    }
+}
+
+/// Why the first of these rules do not match a header, up to the one that does, where these are their draws, in order.
+pub fn passed_rules(
+    alloc: Global,
+    rules: &[Rule],
+    front: &[u8; 4],
+    tail: &[u8; 12],
+    draws: &[Call],
+) -> Result<Vec<Passed>, AllocError>
+    ensures { IfOk result (λ all. all.items
+        ≡ passed_rules rules.now (header front.now tail.now) draws.now) }
+{
+    let mut all = Vec::new(alloc);
+    let mut left = draws;
+    for rule in rules {
+        let Some(why) = rule.passed(front, tail, first_of(left)) else {
+            return Ok(all);
+        };
+        left = draws_behind(&why, left);
+        all.push(why)?;
+    }
+    Ok(all)
+}
