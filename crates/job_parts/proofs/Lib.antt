@@ -2,4 +2,5 @@ mod FactoryImage
 mod FactoryJustified
 mod HexPrinted
 mod HexText
+mod InTurn
 mod MapLists

@@ -10,3 +10,4 @@ pub mod Reading
 pub mod Replies
 pub mod Statuses
 pub mod Stops
+pub mod Turns

@@ -12,6 +12,8 @@ pub mod options;
 pub mod printing;
 pub mod programs;
 pub mod replies;
+pub mod status;
 pub mod stops;
 pub mod storage;
+pub mod turns;
 pub mod usage;

@@ -1,9 +1,13 @@
 //! Why a job stops.
 
 ghost use Rattle.std.specs.Prelude.{◌≡◌};
+ghost use Rattle.job_parts.specs.Stops.{fault_at, halt_at};
 ghost use Rattle.job_parts.specs.declared.faults.Fault.TheVariants.{NoMemory};
 ghost use Rattle.job_parts.specs.declared.stops.Halt.TheVariants.{Ended, Unwritten};
+ghost use Rattle.job_parts.specs.declared.stops.LineEnd.TheVariants.{Bad, NoMemory as OutOfMemory};
+ghost use Rattle.job_parts.specs.declared.stops.LineHalt.TheVariants.{Ended as EndedAt, Unwritten as UnwrittenAt};
 
+use crate::bad_lines::BadLine;
 use crate::faults::Fault;
 use std::alloc::AllocError;
 use std::io;
@@ -48,5 +52,79 @@ impl From<io::Error> for Halt<'_> {
 
     fn from(_refused: io::Error) -> Self {
         Halt::Unwritten(WriteFault)
+    }
+}
+
+/// What ends a job at one of its lines.
+#[derive(Clone, Copy, Debug, PartialEq, Eq)]
+pub enum LineEnd {
+    /// This is wrong with the line.
+    Bad(BadLine),
+    /// Memory was refused to what comes of the line.
+    NoMemory,
+}
+
+impl LineEnd {
+    /// The fault that ends the job, where the line is the one of that number, from 1.
+    pub fn at<'a>(self, number: usize) -> Fault<'a>
+        ensures { result ≡ fault_at number self }
+    {
+        match self {
+            LineEnd::Bad(fault) => Fault::BadLine { number, fault },
+            LineEnd::NoMemory => Fault::NoMemory,
+        }
+    }
+}
+
+/// Why a job stops at one of its lines.
+#[derive(Clone, Copy, Debug, PartialEq, Eq)]
+pub enum LineHalt {
+    /// What ends it, which is still to be printed.
+    Ended(LineEnd),
+    /// The writer failed.
+    Unwritten(WriteFault),
+}
+
+impl LineHalt {
+    /// Why the job stops, where the line is the one of that number, from 1.
+    pub fn at<'a>(self, number: usize) -> Halt<'a>
+        ensures { result ≡ halt_at number self }
+    {
+        match self {
+            LineHalt::Ended(end) => Halt::Ended(end.at(number)),
+            LineHalt::Unwritten(fault) => Halt::Unwritten(fault),
+        }
+    }
+}
+
+impl From<LineEnd> for LineHalt {
+    ghost from_gives = { λ end stop. stop ≡ EndedAt end };
+
+    fn from(end: LineEnd) -> Self {
+        LineHalt::Ended(end)
+    }
+}
+
+impl From<BadLine> for LineHalt {
+    ghost from_gives = { λ fault stop. stop ≡ EndedAt (Bad fault) };
+
+    fn from(fault: BadLine) -> Self {
+        LineHalt::Ended(LineEnd::Bad(fault))
+    }
+}
+
+impl From<AllocError> for LineHalt {
+    ghost from_gives = { λ _ stop. stop ≡ EndedAt OutOfMemory };
+
+    fn from(_refused: AllocError) -> Self {
+        LineHalt::Ended(LineEnd::NoMemory)
+    }
+}
+
+impl From<io::Error> for LineHalt {
+    ghost from_gives = { λ _ stop. stop ≡ UnwrittenAt (record {}) };
+
+    fn from(_refused: io::Error) -> Self {
+        LineHalt::Unwritten(WriteFault)
     }
 }
