@@ -37,6 +37,26 @@ over() {
         came=$($qemu "$work/run-fuzz" "$rounds" 1 "$data/packets.txt" "$data/calls.txt" "$data/loops.txt") || came=
     }
     sums "$name" "$came" "$(head -n 1 "$work/said"), $(tail -n 1 "$work/said"), memory"
+    for program in bench stack; do
+        "$compiler" "${warnings[@]}" "${options[@]}" -D_GNU_SOURCE -pthread -static "$here/$program.c" "$@" -o "$work/run-$program" ||
+            { fails "$name" "$program.c"; return; }
+    done
+    # shellcheck disable=SC2086
+    echo "    stack: $($qemu "$work/run-stack" | tr '\n' ' ')"
+    if [ -z "$qemu" ]; then
+        echo "    $("$work/run-bench" 200000)"
+    else
+        echo "    $((($(traced 300) - $(traced 100)) / 200)) instructions a packet"
+    fi
+}
+
+# traced N: how many instructions QEMU meets while so many packets are served.
+traced() {
+    rm -f "$work/trace"
+    mkfifo "$work/trace"
+    $qemu -singlestep -d exec,nochain -D "$work/trace" "$work/run-bench" "$1" > /dev/null &
+    grep -c '^Trace' "$work/trace"
+    wait $!
 }
 
 # sums NAME CAME TOLD: the first library's sum is that of all.
