@@ -10,7 +10,7 @@ use Rattle.policy_table.proofs.passing.passed_rules.Goals as goal
 
 pub returns-in_default : goal.returns-in_default
 returns-in_default c =
-    stops_there c.args.rules.now (header c.args.front.now c.args.tail.now) c.loop-rule.rule-index c.loop-rule.left.now _ c.loop-rule.all.items _ c.loop-rule-test.true (sym c.passed.ensures ∙ c.in_default.is) c.loop-rule.invariant
+    stops_there c.args.rules.now (header c.args.front.now c.args.tail.now) c.loop-rule.rule-index c.loop-rule.left.now _ c.loop-rule.all.items _ c.loop-rule-test.true (let none = sym c.passed.ensures ∙ c.in_default.is in rw (c.first_of.ensures) at none) c.loop-rule.invariant
 
 pub returns : goal.returns
 returns c =
