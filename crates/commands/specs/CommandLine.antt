@@ -11,13 +11,13 @@ use Rattle.job_parts.specs.Lines.{NamesLines, SpoilsLines}
 use Rattle.job_parts.specs.Options.{GivesNode, SpoilsNode}
 use Rattle.job_texts.specs.AsmJob.{asm_app, NamesAsm}
 use Rattle.job_texts.specs.DisJob.{dis_app, NamesDis}
-use Rattle.job_texts.specs.ExplainJob.{explain_app, NamesExplain, SpoilsExplain}
+use Rattle.job_codes.specs.ExplainJob.{explain_app, NamesExplain, SpoilsExplain}
 use Rattle.job_texts.specs.Images.{NamesImage, SpoilsImage}
 use Rattle.job_packets.specs.PacketJob.{packet_app, NamesPacket, SpoilsPacket}
 use Rattle.job_texts.specs.PolicyJob.{policy_app, NamesPolicy, SpoilsPolicy}
 use Rattle.job_packets.specs.ShowJob.{show_app, NamesShow}
 use Rattle.job_texts.specs.VerifyJob.{verify_app}
-use Rattle.job_texts.specs.WhyJob.{why_app}
+use Rattle.job_codes.specs.WhyJob.{why_app}
 use Rattle.job_nodes.specs.JudgeJob.{judge_app}
 use Rattle.job_nodes.specs.SimJob.{sim_app}
 use Rattle.job_ports.specs.ServeJob.{serve_app}

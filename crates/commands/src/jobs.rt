@@ -1,10 +1,11 @@
 //! The jobs of `rmapctl`.
 
-ghost use Rattle.std.specs.Prelude.{◌≡◌, IfErr, IfOk, MatchOption, OnOk, false};
-ghost use Rattle.commands.specs.Performed.{IsDone, IsEnded, Performs, decides, makes_packets, tells_why};
-ghost use Rattle.commands.specs.declared.jobs.Job.TheVariants.{Decide, Packet, Why};
+ghost use Rattle.std.specs.Prelude.{◌≡◌, IfErr, IfOk};
+ghost use Rattle.commands.specs.Performed.{IsDone, IsEnded, Performs};
 ghost use Rattle.job_parts.specs.Stops.{StopsBy};
 
+use job_codes::explain::{ExplainWords, explain};
+use job_codes::why::why_file;
 use job_decide::decide::{DecideWords, decide_file};
 use job_nodes::judge::judge_file;
 use job_nodes::sim::sim_file;
@@ -12,16 +13,15 @@ use job_packets::made_packets::packet_file;
 use job_packets::packet::PacketWords;
 use job_packets::show::{ShowWords, show_file};
 use job_parts::lines::LinesArgs;
+use job_parts::status::Status;
 use job_parts::stops::{Halt, WriteFault};
 use job_parts::storage::Files;
 use job_ports::serve::serve_file;
 use job_texts::asm::{AsmWords, assemble_file};
 use job_texts::dis::{DisWords, disassemble_file};
-use job_texts::explain::{ExplainWords, explain};
 use job_texts::images::ImageArgs;
 use job_texts::policies::{PolicyWords, compile_file};
 use job_texts::verify::verify_file;
-use job_texts::why::why_file;
 use job_trace::trace::trace_file;
 use publish::{Opened, ProgramFamily};
 use std::alloc::Global;
@@ -61,42 +61,7 @@ pub enum Job {
     Decide(DecideWords),
 }
 
-impl Job {
-    /// The words of the job `why`.
-    fn why(&self) -> Option<&ImageArgs>
-        ensures { MatchOption result (tells_why self.now ≡ false)
-            (λ args. self.now ≡ Why args.now) }
-    {
-        match self {
-            Job::Why(args) => Some(args),
-            _ => None,
-        }
-    }
-
-    /// The words of the job `packet`.
-    fn packet(&self) -> Option<&PacketWords>
-        ensures { MatchOption result (makes_packets self.now ≡ false)
-            (λ words. self.now ≡ Packet words.now) }
-    {
-        match self {
-            Job::Packet(words) => Some(words),
-            _ => None,
-        }
-    }
-
-    /// The words of the job `decide`.
-    fn decide(&self) -> Option<&DecideWords>
-        ensures { MatchOption result (decides self.now ≡ false)
-            (λ words. self.now ≡ Decide words.now) }
-    {
-        match self {
-            Job::Decide(words) => Some(words),
-            _ => None,
-        }
-    }
-}
-
-/// Does a job but `why`, `packet` and `decide`, up to its end or the fault that ends it, which is still to be printed.
+/// Does a job, up to its end or the fault that ends it, which is still to be printed.
 fn attempt<'a, J: ProgramFamily + Send + 'static, R: Threads + Wait + Sync, F: Files, W: Write>(
     rt: &R,
     alloc: Global,
@@ -104,12 +69,9 @@ fn attempt<'a, J: ProgramFamily + Send + 'static, R: Threads + Wait + Sync, F: F
     job: &'a Job,
     files: &mut F,
     out: &mut W,
-) -> Result<(), Halt<'a>>
-    requires opened { opened ≡ J.book }
-    requires asked { tells_why job.now ≡ false }
-    requires other { makes_packets job.now ≡ false }
-    requires told { decides job.now ≡ false }
-    ensures done { OnOk result (IsDone F.reads F.writes job.now files.old files.new
+) -> Result<Status, Halt<'a>>
+    requires { opened ≡ J.book }
+    ensures done { IfOk result (IsDone F.reads F.writes job.now files.old files.new
         (W.contents out.old) (W.contents out.new)) }
     ensures stops { IfErr result (StopsBy (IsEnded F.reads F.writes job.now files.old files.new
         (W.contents out.old) (W.contents out.new))) }
@@ -126,13 +88,14 @@ fn attempt<'a, J: ProgramFamily + Send + 'static, R: Threads + Wait + Sync, F: F
         Job::Verify(args) => verify_file(alloc, args.image.as_str(), args.sizes, files, out),
         Job::Policy(words) => compile_file(alloc, words, files, out),
         Job::Explain(words) => explain(alloc, words, out),
-        Job::Why(_) | Job::Packet(_) | Job::Decide(_) => unreachable!(),
+        Job::Why(args) => why_file(alloc, args, files, out),
+        Job::Packet(words) => packet_file(alloc, words, files, out),
         Job::Show(words) => show_file(alloc, words.lines.as_str(), files, out),
+        Job::Decide(words) => decide_file(alloc, words, files, out),
     }
 }
 
 /// Does a job, where a node that it makes has that history of programs.
-#[tactic(auto, using(crate::proofs::Explaining::left_behind, crate::proofs::Explaining::performs_why, crate::proofs::Explaining::performs_packet, crate::proofs::Explaining::performs_decide))]
 fn perform_opened<J: ProgramFamily + Send + 'static, R: Threads + Wait + Sync, F: Files, W: Write>(
     rt: &R,
     alloc: Global,
@@ -140,33 +103,24 @@ fn perform_opened<J: ProgramFamily + Send + 'static, R: Threads + Wait + Sync, F
     job: &Job,
     files: &mut F,
     out: &mut W,
-) -> Result<u8, WriteFault>
+) -> Result<Status, WriteFault>
     requires { opened ≡ J.book }
     ensures { IfOk result (Performs F.reads F.writes job.now files.old files.new
         (W.contents out.old) (W.contents out.new)) }
 {
-    if let Some(args) = job.why() {
-        return why_file(alloc, args, files, out);
-    }
-    if let Some(words) = job.packet() {
-        return packet_file(alloc, words, files, out);
-    }
-    if let Some(words) = job.decide() {
-        return decide_file(alloc, words, files, out);
-    }
     match attempt::<J, _, _, _>(rt, alloc, opened, job, files, out) {
-        Ok(()) => Ok(0),
+        Ok(status) => Ok(status),
         Err(Halt::Ended(fault)) => {
             writeln!(out, "{fault}")?;
-            Ok(1)
+            Ok(Status::Failed)
         }
         Err(Halt::Unwritten(fault)) => Err(fault),
     }
 }
 
-/// Does a job over any files and any writer, and gives the exit status: 1 where an image was
-/// refused or a fault was printed, 2 where there are no packets such as `packet` was to make, else 0. What the writer
-/// holds back is not flushed. It may wait: `serve` has a node, whose end does, and starts threads and waits for them.
+/// Does a job over any files and any writer, and gives the exit status: `Failed` where an image was refused or a fault was
+/// printed, `Misused` where there are no packets such as `packet` was to make, else `Done`. What the writer holds back is
+/// not flushed. It may wait: `serve` has a node, whose end does, and starts threads and waits for them.
 ///
 /// `WriteFault` where the writer failed; nothing is written after that.
 pub fn perform<R: Threads + Wait + Sync, F: Files, W: Write>(
@@ -175,7 +129,7 @@ pub fn perform<R: Threads + Wait + Sync, F: Files, W: Write>(
     job: &Job,
     files: &mut F,
     out: &mut W,
-) -> Result<u8, WriteFault>
+) -> Result<Status, WriteFault>
     ensures { IfOk result (Performs F.reads F.writes job.now files.old files.new
         (W.contents out.old) (W.contents out.new)) }
 {

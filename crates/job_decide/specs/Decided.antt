@@ -19,8 +19,8 @@ use Rattle.rmap.specs.declared.verdict.Verdict.TheVariants.{Authorised, InvalidK
 use Rattle.spw.specs.Cargo.{Cargo}
 use Rattle.job_nodes.specs.JudgeJob.{discard_line}
 use Rattle.job_parts.specs.Printed.{PrintsMore}
-use Rattle.job_parts.specs.declared.faults.Fault.{Fault}
-use Rattle.job_parts.specs.declared.faults.Fault.TheVariants.{NoMemory}
+use Rattle.job_parts.specs.declared.stops.LineEnd.{LineEnd}
+use Rattle.job_parts.specs.declared.stops.LineEnd.TheVariants.{NoMemory}
 use Rattle.job_decide.specs.DecideJob.{match_line, own_windows, status_text}
 
 -- why rules do not match of which that is told: those before the one that decides, where it refuses
@@ -64,5 +64,5 @@ TellsPacket port rules p None before after old new =
     TellsCommand port rules (command_of p) (header_check (command_of p) own_windows) before after old new
 
 -- memory was refused, and nothing printed
-abbrev pub IsRefused : (old new : Option (List ℕ)) → Fault → Type 0
-IsRefused old new fault = (fault ≡ NoMemory) × (new ≡ old)
+abbrev pub IsRefused : (old new : Option (List ℕ)) → LineEnd → Type 0
+IsRefused old new end = (end ≡ NoMemory) × (new ≡ old)

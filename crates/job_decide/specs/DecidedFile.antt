@@ -3,8 +3,6 @@ use Rattle.std.specs.Prelude.{
   ◌≡◌,
   ◌⊎◌,
   ℕ,
-  zero,
-  suc,
   List,
   [],
   Option,
@@ -23,6 +21,7 @@ use Rattle.policy_table.specs.declared.table_faults.TableFault.{TableFault}
 use Rattle.spw.specs.Line.{lines_of}
 use Rattle.job_parts.specs.Files.{HoldsNoText, Reads}
 use Rattle.job_parts.specs.Printed.{fault_line}
+use Rattle.job_parts.specs.Turns.{AreTaken, StopsIn}
 use Rattle.job_parts.specs.declared.faults.Fault.{Fault}
 use Rattle.job_parts.specs.declared.faults.Fault.TheVariants.{
   CannotRead,
@@ -34,23 +33,24 @@ use Rattle.job_parts.specs.declared.faults.Fault.TheVariants.{
   Refused,
   BadLine,
 }
+use Rattle.job_parts.specs.declared.status.Status.{Status}
+use Rattle.job_parts.specs.declared.status.Status.TheVariants.{Done, Failed, Misused}
 use Rattle.job_decide.specs.DecideJob.{place_line}
-use Rattle.job_decide.specs.DecidedLines.{DecidesAll, StopsAt}
+use Rattle.job_decide.specs.DecidedLines.{DecidesLine, IsBadLine}
 use Rattle.job_decide.specs.declared.decide.DecideWords.{DecideWords}
-use Rattle.job_decide.specs.declared.decide.Held.{Held}
+use Rattle.job_decide.specs.declared.decide.Deciding.{Deciding}
 use Rattle.job_decide.specs.declared.decide.Unready.{Unready}
 use Rattle.job_decide.specs.declared.decide.Unready.TheVariants.{Ended, BadTable}
 
--- what is held before the first line: nothing of any port, and no ticket was drawn
-abbrev pub first_held : (ports : ℕ) → Held
-first_held ports = record { feeds = replicate ports []; counts = replicate 2048 0 }
+-- what decides by these rules before the first line: nothing is held of any port, and no ticket was drawn
+abbrev pub at_first : List Rule → (ports : ℕ) → Deciding
+at_first rules ports = record { table = rules; feeds = replicate ports []; counts = replicate 2048 0 }
 
--- the line of a fault was printed, and for a table behind it a line with the place
-abbrev pub TellsUnready : Unready → (old new : Option (List ℕ)) → Type 0
-TellsUnready (Ended fault) old new = Appends old new (fault_line fault)
-TellsUnready (BadTable fault) old new =
-    (told : Option (List ℕ)) × Appends old told (fault_line (IsBadTable (policy_fault_of fault)))
-    × Appends told new (place_line fault)
+-- the line of a table's fault was printed, and behind it a line with the place
+pub record TellsTableFault (fault : TableFault) (old new : Option (List ℕ)) : Type 0 where
+  pub told : Option (List ℕ)
+  pub line : Appends old told (fault_line (IsBadTable (policy_fault_of fault)))
+  pub place : Appends told new (place_line fault)
 
 module _ {S : Type 0} (reads : Reads S) (words : DecideWords) where
   -- the file of lines was read, and is UTF-8
@@ -68,10 +68,10 @@ module _ {S : Type 0} (reads : Reads S) (words : DecideWords) where
     pub is_table : IsTable table rules
     pub faultless : compile_fault words.sizes rules ≡ None
 
-  -- the same, with the table, and what is held before the first line
-  pub record IsReady (before : S) (text : List ℕ) (rules : List Rule) (held : Held) (after : S) : Type 0 where
-    pub given : IsGiven before text rules after
-    pub first : held ≡ first_held words.ports
+  -- the same, with what decides by the table before the first line
+  pub record IsReady (before : S) (text : List ℕ) (deciding : Deciding) (after : S) : Type 0 where
+    pub given : IsGiven before text deciding.table after
+    pub first : deciding ≡ at_first deciding.table words.ports
 
   -- the file of the table was read behind that of the lines, and this is the first fault of the table, with its place
   pub record HoldsTableFault (before after : S) (fault : TableFault) : Type 0 where
@@ -110,44 +110,32 @@ module _ {S : Type 0} (reads : Reads S) (words : DecideWords) where
   pub record DecidesFile (before after : S) (old new : Option (List ℕ)) : Type 0 where
     pub text : List ℕ
     pub rules : List Rule
-    pub left : Held
+    pub left : Deciding
     pub given : IsGiven before text rules after
-    pub all : DecidesAll rules (lines_of text) (first_held words.ports) left old new
+    pub all : AreTaken DecidesLine (lines_of text) (at_first rules words.ports) left old new
 
   -- each line up to one was taken in turn, and that one is bad
   pub record StopsFile (before after : S) (old new : Option (List ℕ)) (fault : Fault) : Type 0 where
     pub text : List ℕ
     pub rules : List Rule
-    pub left : Held
+    pub left : Deciding
     pub given : IsGiven before text rules after
-    pub stop : StopsAt rules (lines_of text) (first_held words.ports) left old new fault
+    pub stop : StopsIn DecidesLine IsBadLine (lines_of text) (at_first rules words.ports) left old new fault
 
   -- why not all lines were taken
   abbrev pub IsNotDecided : (before after : S) → (old new : Option (List ℕ)) → Fault → Type 0
   IsNotDecided before after old new fault =
       ((new ≡ old) × IsUnread before after fault) ⊎ StopsFile before after old new fault
 
-  -- the fault ended the job: not all lines were taken, or it is the first fault of the table
-  abbrev pub IsEndedBy : (before after : S) → (old new : Option (List ℕ)) → Fault → Type 0
-  IsEndedBy before after old new fault =
-      IsNotDecided before after old new fault
-      ⊎ ((new ≡ old) × (place : TableFault) × HoldsTableFault before after place × (fault ≡ IsBadTable (policy_fault_of place)))
-
-  -- a fault ended the job, and its line was printed behind what came before
-  pub record TellsEnd (before after : S) (old new : Option (List ℕ)) : Type 0 where
-    pub fault : Fault
-    pub printed : Option (List ℕ)
-    pub ended : IsNotDecided before after old printed fault
-    pub line : Appends printed new (fault_line fault)
-
   -- the table has a fault, which was told with its place
   pub record TellsTable (before after : S) (old new : Option (List ℕ)) : Type 0 where
     pub fault : TableFault
     pub held : HoldsTableFault before after fault
-    pub told : TellsUnready (BadTable fault) old new
+    pub told : TellsTableFault fault old new
 
-  -- what `decide` reads and prints, by its exit status: 0 where all lines were taken, else 1
-  abbrev pub Decides : (before after : S) → (old new : Option (List ℕ)) → (status : ℕ) → Type 0
-  Decides before after old new zero = DecidesFile before after old new
-  Decides before after old new (suc zero) = TellsTable before after old new ⊎ TellsEnd before after old new
-  Decides before after old new (suc (suc n)) = ⊥
+  -- what `decide` reads and prints where no fault ends it, by its exit status: 0 where all lines were taken, 1 where the
+  -- table has a fault
+  abbrev pub Decides : (before after : S) → (old new : Option (List ℕ)) → Status → Type 0
+  Decides before after old new Done = DecidesFile before after old new
+  Decides before after old new Failed = TellsTable before after old new
+  Decides before after old new Misused = ⊥

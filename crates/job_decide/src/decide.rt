@@ -5,11 +5,10 @@ ghost use Rattle.clap.specs.Simple.{app_of};
 ghost use Rattle.clap.specs.declared.builder.command.Command.TheViews.{out-Command as fields_of};
 ghost use Rattle.clap.specs.Walk.{rows_of};
 ghost use Rattle.clap.specs.Matches.{found_of};
-ghost use Rattle.spw.specs.Line.{lines_of};
 ghost use Rattle.job_parts.specs.Stops.{StopsBy};
 ghost use Rattle.job_decide.specs.DecideJob.{NamesDecide, RefusesDecide, decide_app};
-ghost use Rattle.job_decide.specs.DecidedFile.{Decides, IsReady, IsUnready, TellsUnready};
-ghost use Rattle.job_decide.specs.DecidedLines.{DecidesAll, DecidesLine, IsBadAt, StopsAt};
+ghost use Rattle.job_decide.specs.DecidedFile.{Decides, IsNotDecided, IsReady, IsUnready, TellsTableFault};
+ghost use Rattle.job_decide.specs.DecidedLines.{DecidesLine, IsBadLine};
 ghost use Rattle.job_decide.specs.declared.decide.Unready.TheVariants.{BadTable, Ended};
 ghost use Rattle.job_parts.specs.declared.faults.Fault.TheVariants.{NoMemory};
 
@@ -20,14 +19,15 @@ use job_parts::arguments::{file, name_of, option};
 use job_parts::faults::Fault;
 use job_parts::options::{maps_option, ports_of, sizes_of};
 use job_parts::programs::text_in;
-use job_parts::stops::{Halt, WriteFault};
+use job_parts::status::Status;
+use job_parts::stops::{Halt, LineHalt};
 use job_parts::storage::Files;
+use job_parts::turns::{TakesLines, take_lines};
 use job_parts::usage::UsageFault;
 use machine::MapSizes;
 use policy::{Counts, Table, TableFault};
-use spw::lines_of;
 use std::alloc::{AllocError, Global};
-use std::io::Write;
+use std::io::{self, Write};
 
 /// The words of the job `decide`.
 #[derive(Debug, Drop)]
@@ -79,58 +79,27 @@ pub fn decide_job(alloc: Global, found: &ArgMatches) -> Result<DecideWords, Usag
     })
 }
 
-/// What is held between lines: what each port has of a packet that has not ended, and how many tickets were drawn.
+/// What decides on packet lines by a table: the table, what each port has of a packet that has not ended, and how many
+/// tickets were drawn.
 #[derive(Drop)]
-struct Held {
+struct Deciding {
+    table: Table,
     feeds: Feeds,
     counts: Counts,
 }
 
-/// Takes one line, and decides on the packet that it ends. `number` is that of the line.
-fn decide_line<'a, W: Write>(
-    alloc: Global,
-    table: &Table,
-    held: &mut Held,
-    line: &str,
-    number: usize,
-    out: &mut W,
-) -> Result<(), Halt<'a>>
-    ensures decided { OnOk result (DecidesLine table.now line.now held.old held.new
-        (W.contents out.old) (W.contents out.new)) }
-    ensures stops { IfErr result (StopsBy (IsBadAt line.now number held.old held.new
-        (W.contents out.old) (W.contents out.new))) }
-{
-    let came = held
-        .feeds
-        .take_line(alloc, line)
-        .map_err(|fault| Fault::BadLine { number, fault })?;
-    match came {
-        Some((port, packet)) => {
-            decide_packet(alloc, table, &mut held.counts, port, &packet, out)
-        }
-        None => Ok(()),
-    }
-}
+impl TakesLines for Deciding {
+    ghost takes = { DecidesLine };
 
-/// Decides on the packets of each line of a text in turn.
-fn decide_text<'a, W: Write>(
-    alloc: Global,
-    table: &Table,
-    held: &mut Held,
-    text: &str,
-    out: &mut W,
-) -> Result<(), Halt<'a>>
-    ensures decided { OnOk result (DecidesAll table.now (lines_of text.now) held.old held.new
-        (W.contents out.old) (W.contents out.new)) }
-    ensures stops { IfErr result (StopsBy (StopsAt table.now (lines_of text.now) held.old held.new
-        (W.contents out.old) (W.contents out.new))) }
-{
-    let mut number: usize = 0;
-    for line in lines_of(text) {
-        number += 1;
-        decide_line(alloc, table, held, line, number, out)?;
+    ghost stops = { IsBadLine };
+
+    /// Takes one line, and decides on the packet that it ends.
+    fn take<W: Write>(&mut self, alloc: Global, line: &str, out: &mut W) -> Result<(), LineHalt> {
+        let Some((port, packet)) = self.feeds.take_line(alloc, line)? else {
+            return Ok(());
+        };
+        decide_packet(alloc, &self.table, &mut self.counts, port, &packet, out)
     }
-    Ok(())
 }
 
 /// Why nothing is decided.
@@ -166,14 +135,14 @@ impl From<AllocError> for Unready<'_> {
     }
 }
 
-/// The text of the file of lines, the table, and what is held before the first line.
+/// The text of the file of lines, and what decides on them by the table, before the first line.
 fn ready<'a, F: Files>(
     alloc: Global,
     words: &'a DecideWords,
     files: &mut F,
-) -> Result<(String, Table, Held), Unready<'a>>
+) -> Result<(String, Deciding), Unready<'a>>
     ensures ready { IfOk result (λ made. IsReady F.reads words.now files.old
-        (string_bytes made.0) made.1 made.2 files.new) }
+        (string_bytes made.0) made.1 files.new) }
     ensures unready { IfErr result (IsUnready F.reads words.now files.old files.new) }
 {
     let text = text_in(alloc, files, words.lines.as_str())?;
@@ -181,51 +150,49 @@ fn ready<'a, F: Files>(
     let table = Table::read_for(alloc, rules.as_str(), &words.sizes)?;
     let feeds = Feeds::new(alloc, words.ports)?;
     let counts = Counts::new(alloc)?;
-    Ok((text, table, Held { feeds, counts }))
+    let deciding = Deciding {
+        table,
+        feeds,
+        counts,
+    };
+    Ok((text, deciding))
 }
 
-/// Prints why nothing is decided: the line of the fault, and for a table a line with its place.
-fn print_unready<W: Write>(out: &mut W, unready: &Unready) -> Result<(), WriteFault>
-    ensures { OnOk result (TellsUnready unready.now (W.contents out.old) (W.contents out.new)) }
+/// Prints the fault of a table: its line, and a line with its place.
+fn print_table_fault<W: Write>(out: &mut W, fault: &TableFault) -> io::Result<()>
+    ensures { OnOk result (TellsTableFault fault.now (W.contents out.old) (W.contents out.new)) }
 {
-    match unready {
-        Unready::Ended(fault) => writeln!(out, "{fault}")?,
-        Unready::BadTable(fault) => {
-            let code = fault.fault().code();
-            writeln!(out, "policy fault {code}")?;
-            writeln!(out, "    {fault}")?;
-        }
-    }
-    Ok(())
+    let code = fault.fault().code();
+    writeln!(out, "policy fault {code}")?;
+    writeln!(out, "    {fault}")
 }
 
-/// Decides on the packets of a file by the table of another, for a node with these maps and ports, and gives the exit
-/// status. For each packet it prints what becomes of it, as docs/COMMANDS.md has it.
+/// Decides on the packets of a file by the table of another, for a node with these maps and ports. For each packet it
+/// prints what becomes of it, as docs/COMMANDS.md has it. Where the table has a fault that is printed, with its place, and
+/// the job failed.
 ///
-/// Faults are found in this order, and printed: the file of lines (`CannotRead`, also where it is not UTF-8), the file of
-/// the table, the table, and then each line.
-pub fn decide_file<F: Files, W: Write>(
+/// Faults are found in this order: the file of lines (`CannotRead`, also where it is not UTF-8), the file of the table, the
+/// table, and then each line.
+pub fn decide_file<'a, F: Files, W: Write>(
     alloc: Global,
-    words: &DecideWords,
+    words: &'a DecideWords,
     files: &mut F,
     out: &mut W,
-) -> Result<u8, WriteFault>
-    ensures { IfOk result (Decides F.reads words.now files.old files.new
+) -> Result<Status, Halt<'a>>
+    ensures done { IfOk result (Decides F.reads words.now files.old files.new
         (W.contents out.old) (W.contents out.new)) }
+    ensures stops { IfErr result (StopsBy (IsNotDecided F.reads words.now files.old files.new
+        (W.contents out.old) (W.contents out.new))) }
 {
-    let (text, table, mut held) = match ready(alloc, words, files) {
-        Ok(made) => made,
-        Err(unready) => {
-            print_unready(out, &unready)?;
-            return Ok(1);
+    match ready(alloc, words, files) {
+        Ok((text, mut deciding)) => {
+            take_lines(alloc, &mut deciding, text.as_str(), out)?;
+            Ok(Status::Done)
         }
-    };
-    match decide_text(alloc, &table, &mut held, text.as_str(), out) {
-        Ok(()) => Ok(0),
-        Err(Halt::Ended(fault)) => {
-            writeln!(out, "{fault}")?;
-            Ok(1)
+        Err(Unready::Ended(fault)) => Err(Halt::Ended(fault)),
+        Err(Unready::BadTable(fault)) => {
+            print_table_fault(out, &fault)?;
+            Ok(Status::Failed)
         }
-        Err(Halt::Unwritten(fault)) => Err(fault),
     }
 }

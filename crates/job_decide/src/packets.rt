@@ -3,7 +3,7 @@
 ghost use Rattle.std.specs.Prelude.{◌≡◌, IfErr, IfOk, OnOk};
 ghost use Rattle.machine.specs.Memory.{header};
 ghost use Rattle.job_parts.specs.Printed.{PrintsMore, Prints};
-ghost use Rattle.job_parts.specs.Stops.{StopsBy};
+ghost use Rattle.job_parts.specs.Stops.{StopsLineBy};
 ghost use Rattle.job_decide.specs.Decided.{IsRefused, TellsCommand, TellsDecision, TellsPacket, TellsStatus, told_passed};
 ghost use Rattle.job_decide.specs.DecideJob.{match_line, own_windows, rule_text, ticket_text};
 ghost use Rattle.rmap.specs.Checks.{header_check};
@@ -13,7 +13,7 @@ ghost use Rattle.node_parts.specs.Nodes.{windows_of};
 use crate::reasons::{fault_text, reasons};
 use job_nodes::judge::print_discard;
 use job_nodes::node::node_config;
-use job_parts::stops::Halt;
+use job_parts::stops::LineHalt;
 use machine::{Call, MapSizes};
 use policy::{Counts, Match, Passed, Table};
 use rmap::{Command, Status, Verdict, Windows, header_check};
@@ -96,17 +96,17 @@ fn passed_by(
 }
 
 /// Decides on a command that no check of its header answers, and prints by which rule, and why by no rule before.
-fn decide_admitted<'a, W: Write>(
+fn decide_admitted<W: Write>(
     alloc: Global,
     table: &Table,
     counts: &mut Counts,
     port: u8,
     command: &Command,
     out: &mut W,
-) -> Result<(), Halt<'a>>
+) -> Result<(), LineHalt>
     ensures told { OnOk result (TellsDecision port table.now command.now counts.old counts.new
         (W.contents out.old) (W.contents out.new)) }
-    ensures stops { IfErr result (StopsBy (IsRefused (W.contents out.old) (W.contents out.new))) }
+    ensures stops { IfErr result (StopsLineBy (IsRefused (W.contents out.old) (W.contents out.new))) }
 {
     let (front, tail) = (command.front(), command.tail());
     let mut calls = Vec::new(alloc);
@@ -118,18 +118,18 @@ fn decide_admitted<'a, W: Write>(
 }
 
 /// Prints the status of a command that a check of its header answers, or decides on it.
-fn decide_on<'a, W: Write>(
+fn decide_on<W: Write>(
     alloc: Global,
     table: &Table,
     counts: &mut Counts,
     port: u8,
     command: &Command,
     out: &mut W,
-) -> Result<(), Halt<'a>>
+) -> Result<(), LineHalt>
     ensures told { OnOk result (TellsCommand port table.now command.now
         (header_check command.now own_windows) counts.old counts.new
         (W.contents out.old) (W.contents out.new)) }
-    ensures stops { IfErr result (StopsBy (IsRefused (W.contents out.old) (W.contents out.new))) }
+    ensures stops { IfErr result (StopsLineBy (IsRefused (W.contents out.old) (W.contents out.new))) }
 {
     match header_check(command, &own_windows()) {
         Ok(_place) => decide_admitted(alloc, table, counts, port, command, out),
@@ -141,17 +141,17 @@ fn decide_on<'a, W: Write>(
 }
 
 /// Decides on a packet, and prints what comes of it.
-pub fn decide_packet<'a, W: Write>(
+pub fn decide_packet<W: Write>(
     alloc: Global,
     table: &Table,
     counts: &mut Counts,
     port: u8,
     packet: &Packet,
     out: &mut W,
-) -> Result<(), Halt<'a>>
+) -> Result<(), LineHalt>
     ensures told { OnOk result (TellsPacket port table.now packet.now (discard_of packet.now.bytes)
         counts.old counts.new (W.contents out.old) (W.contents out.new)) }
-    ensures stops { IfErr result (StopsBy (IsRefused (W.contents out.old) (W.contents out.new))) }
+    ensures stops { IfErr result (StopsLineBy (IsRefused (W.contents out.old) (W.contents out.new))) }
 {
     match Command::view(packet) {
         Ok(command) => decide_on(alloc, table, counts, port, &command, out),

@@ -3,8 +3,9 @@ use Rattle.std.proofs.Common.{◌≡◌, ◌+◌, ℕ, suc, Bool, true, false, L
 use Rattle.std.specs.Prelude.{◌||◌}
 use Rattle.std.proofs.lemmas.List.{length-append}
 use Rattle.job_nodes.specs.JobNode.{JobNodeValue}
-use Rattle.job_live.specs.Talking.{Comes, Sends}
-use Rattle.job_live.specs.LiveJob.{AnswersNext, Exchanges, Talks}
+use Rattle.job_parts.specs.declared.stops.Halt.{Halt}
+use Rattle.job_live.specs.Talking.{Comes, Misses, Sends}
+use Rattle.job_live.specs.LiveJob.{AnswersNext, Exchanges, IsBrokenOff, IsUnanswered, Talks}
 
 -- behind false stands the other alone
 or_false : (a b : Bool) → a ≡ false → (a || b) ≡ (b || false)
@@ -65,3 +66,16 @@ pub goes_on : {T : Type 0} (came : Comes T) (sent : Sends T) (number : ℕ) (a b
 goes_on {T} came sent number a b c s t u went some_bad is_bad both way exchanged is both_is =
     let one = subst (λ (w : Option Bool). Exchanges came sent number w b c t u) is exchanged in
     subst (λ (x : Bool). IsUnderWay came sent (number + 1) a c s u x) (sym both_is) (next_one came sent number a b c s t u one.0 some_bad is_bad way one.1)
+
+-- A line that was not answered, behind those that were.
+pub breaks_off : {T : Type 0} (came : Comes T) (sent unsent : Sends T) (missed : Misses T) (number : ℕ) (a b : JobNodeValue) (s t u : T) (some_bad : Bool) (halt : Halt)
+    → IsUnderWay came sent number a b s t some_bad → IsUnanswered came sent unsent missed number b t u halt
+    → IsBrokenOff came sent unsent missed a s u halt
+breaks_off came sent unsent missed number a b s t u some_bad halt way unanswered = record {
+  lines = way.lines;
+  left = b;
+  last = t;
+  some_bad = some_bad;
+  talks = way.talks;
+  unanswered = subst (λ (n : ℕ). IsUnanswered came sent unsent missed n b t u halt) way.counted unanswered;
+}

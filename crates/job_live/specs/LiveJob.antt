@@ -1,6 +1,8 @@
 -- The job `live`: its words, and the talk that it holds.
-use Rattle.std.specs.Prelude.{◌≡◌, ◌⊎◌, ◌||◌, ℕ, zero, suc, Bool, true, false, List, [], ◌∷◌, length, codes, Option, Some, None}
+use Rattle.std.specs.Prelude.{◌≡◌, ◌⊎◌, ◌||◌, ℕ, suc, Bool, true, false, List, [], ◌∷◌, length, codes, Option, Some, None}
+use Rattle.std.specs.Borrow.{Bor}
 use Rattle.clap.specs.Simple.{App, new_app}
+use Rattle.bpf.specs.Program.{Program}
 use Rattle.bver.specs.Justified.{AcceptedValue, IsJustified}
 use Rattle.machine.specs.Runs.{IsSafe}
 use Rattle.job_parts.specs.Files.{Reads}
@@ -8,22 +10,16 @@ use Rattle.job_parts.specs.Given.{HoldsNoProgram, HoldsProgram}
 use Rattle.job_parts.specs.Options.{image_name, with_node_options}
 use Rattle.job_parts.specs.Printed.{fault_line}
 use Rattle.job_parts.specs.declared.faults.Fault.{Fault}
-use Rattle.job_parts.specs.declared.faults.Fault.TheVariants.{
-  CannotRead,
-  CannotWrite,
-  NoMemory,
-  BadText,
-  BadTable,
-  BadImage,
-  Refused,
-  BadLine,
-}
+use Rattle.job_parts.specs.declared.faults.Fault.TheVariants.{CannotRead, NoMemory}
 use Rattle.job_parts.specs.declared.options.NodeWords.{NodeWords}
+use Rattle.job_parts.specs.declared.status.Status.{Status}
+use Rattle.job_parts.specs.declared.status.Status.TheVariants.{Done, Failed, Misused}
 use Rattle.job_parts.specs.declared.stops.Halt.{Halt}
 use Rattle.job_parts.specs.declared.stops.Halt.TheVariants.{Ended, Unwritten}
+use Rattle.job_parts.specs.declared.stops.WriteFault.{WriteFault}
 use Rattle.job_nodes.specs.JobNode.{IsFresh, JobNodeValue}
 use Rattle.job_live.specs.Answering.{Answers}
-use Rattle.job_live.specs.Talking.{Comes, Sends}
+use Rattle.job_live.specs.Talking.{Comes, Misses, Sends}
 
 -- `live [--image FILE] [--maps LIST] [--ports N]`
 abbrev pub live_app : App
@@ -59,14 +55,6 @@ module _ {T : Type 0} (came : Comes T) (sent : Sends T) where
   Exchanges number (Some is_bad) before after start stop =
       (line : List ℕ) × AnswersNext line number before after start stop is_bad
 
-  -- so a talk began
-  pub record BeginsTalk (before : JobNodeValue) (start : T) : Type 0 where
-    pub lines : List (List ℕ)
-    pub after : JobNodeValue
-    pub stop : T
-    pub some_bad : Bool
-    pub talks : Talks lines 0 before after start stop some_bad
-
   -- a whole talk: behind its lines no more came, or more than are counted
   pub record IsWholeTalk (before after : JobNodeValue) (start stop : T) (some_bad : Bool) : Type 0 where
     pub lines : List (List ℕ)
@@ -74,21 +62,34 @@ module _ {T : Type 0} (came : Comes T) (sent : Sends T) where
     pub talks : Talks lines 0 before after start last some_bad
     pub ended : came last None stop ⊎ ((stop ≡ last) × (length lines ≡ most_lines))
 
--- what ends a talk before its end: a line cannot be read, or memory was refused
-abbrev pub IsTalkFault : Fault → Type 0
-IsTalkFault (CannotRead file) = file.now ≡ codes "-"
-IsTalkFault (CannotWrite file) = ⊥
-IsTalkFault NoMemory = Unit {0}
-IsTalkFault (BadText fault) = ⊥
-IsTalkFault (BadTable fault) = ⊥
-IsTalkFault (BadImage fault) = ⊥
-IsTalkFault (Refused refused) = ⊥
-IsTalkFault (BadLine number fault) = ⊥
+module _ {T : Type 0} (came : Comes T) (sent unsent : Sends T) (missed : Misses T) where
+  -- a line came, and an answer was made to it on the node, of which not all could be sent
+  pub record LosesAnswer (number : ℕ) (before : JobNodeValue) (start stop : T) : Type 0 where
+    pub line : List ℕ
+    pub heard : T
+    pub after : JobNodeValue
+    pub text : List ℕ
+    pub is_bad : Bool
+    pub line_came : came start (Some line) heard
+    pub answered : Answers line number before after (Some []) (Some text) is_bad
+    pub lost : unsent heard text stop
 
--- the same, or an answer could not be sent
-abbrev pub IsTalkHalt : Halt → Type 0
-IsTalkHalt (Ended fault) = IsTalkFault fault
-IsTalkHalt (Unwritten refused) = Unit {0}
+  -- why no line of this number was answered: it could not be read; it came, but memory was refused to its answer, of which
+  -- nothing was sent; or its answer could not be sent
+  abbrev pub IsUnanswered : (number : ℕ) (before : JobNodeValue) (start stop : T) → Halt → Type 0
+  IsUnanswered number before start stop (Ended fault) =
+      ((file : Bor (List ℕ)) × (fault ≡ CannotRead file) × (file.now ≡ codes "-") × missed start stop)
+      ⊎ ((fault ≡ NoMemory) × (line : List ℕ) × came start (Some line) stop)
+  IsUnanswered number before start stop (Unwritten refused) = LosesAnswer number before start stop
+
+  -- some lines came and were answered in turn, and then the next was not
+  pub record IsBrokenOff (before : JobNodeValue) (start stop : T) (halt : Halt) : Type 0 where
+    pub lines : List (List ℕ)
+    pub left : JobNodeValue
+    pub last : T
+    pub some_bad : Bool
+    pub talks : Talks came sent lines 0 before left start last some_bad
+    pub unanswered : IsUnanswered (suc (length lines)) left last stop halt
 
 module _ {S : Type 0} (reads : Reads S) (words : NodeWords) where
   -- the node is a fresh one of these words, whose commands the program judges that its files give, which is justified on it,
@@ -101,48 +102,61 @@ module _ {S : Type 0} (reads : Reads S) (words : NodeWords) where
     pub safe : IsSafe program.program words.sizes
     pub fresh : IsFresh words.ports program node
 
-  -- there is no such node: there is no program, or memory was refused
+  -- the program was read, but memory was refused to the node
+  pub record IsNodeUnmade (before after : S) (fault : Fault) : Type 0 where
+    pub program : Program
+    pub given : HoldsProgram reads before (image_name words) program after
+    pub is_fault : fault ≡ NoMemory
+
+  -- there is no such node: there is no program, or memory was refused behind it
   abbrev pub IsNoLiveNode : (before after : S) → Fault → Type 0
   IsNoLiveNode before after fault =
-      HoldsNoProgram reads before (image_name words) words.sizes after fault ⊎ (fault ≡ NoMemory)
+      HoldsNoProgram reads before (image_name words) words.sizes after fault ⊎ IsNodeUnmade before after fault
 
-module _ {S T : Type 0} (reads : Reads S) (came : Comes T) (sent : Sends T) (words : NodeWords) where
-  -- a whole talk was held on the node of the words
-  pub record HoldsTalk (before after : S) (start stop : T) (some_bad : Bool) : Type 0 where
-    pub fresh : JobNodeValue
-    pub left : JobNodeValue
-    pub node : IsLiveNode reads words before fresh after
-    pub talk : IsWholeTalk came sent fresh left start stop some_bad
+module _ {S T : Type 0} (reads : Reads S) (came : Comes T) (sent unsent : Sends T) (missed : Misses T) (words : NodeWords)
+  where
+    -- a whole talk was held on the node of the words
+    pub record HoldsTalk (before after : S) (start stop : T) (some_bad : Bool) : Type 0 where
+      pub fresh : JobNodeValue
+      pub left : JobNodeValue
+      pub node : IsLiveNode reads words before fresh after
+      pub talk : IsWholeTalk came sent fresh left start stop some_bad
 
-  -- a talk on the node of the words began
-  pub record BeginsToTalk (before after : S) (start : T) : Type 0 where
-    pub fresh : JobNodeValue
-    pub node : IsLiveNode reads words before fresh after
-    pub talk : BeginsTalk came sent fresh start
+    -- a talk on the node of the words was broken off
+    pub record BreaksTalk (before after : S) (start stop : T) (halt : Halt) : Type 0 where
+      pub fresh : JobNodeValue
+      pub node : IsLiveNode reads words before fresh after
+      pub broken : IsBrokenOff came sent unsent missed fresh start stop halt
 
-  -- why no whole talk was held: there is no such node, and nothing came or was sent; or a talk began, and then a line could
-  -- not be read, an answer could not be sent, or memory was refused
-  abbrev pub IsCutOff : (before after : S) (start stop : T) → Halt → Type 0
-  IsCutOff before after start stop (Ended fault) =
-      (IsNoLiveNode reads words before after fault × (stop ≡ start))
-      ⊎ (IsTalkFault fault × BeginsToTalk before after start)
-  IsCutOff before after start stop (Unwritten refused) = BeginsToTalk before after start
+    -- why no whole talk was held: there is no such node, and nothing came or was sent; or a talk was broken off
+    abbrev pub IsCutOff : (before after : S) (start stop : T) → Halt → Type 0
+    IsCutOff before after start stop (Ended fault) =
+        (IsNoLiveNode reads words before after fault × (stop ≡ start))
+        ⊎ BreaksTalk before after start stop (Ended fault)
+    IsCutOff before after start stop (Unwritten refused) = BreaksTalk before after start stop (Unwritten refused)
 
-  -- a fault cut the talk off, and its line was sent last
-  pub record TellsFault (before after : S) (start stop : T) : Type 0 where
-    pub fault : Fault
-    pub broken : T
-    pub cut_off : IsCutOff before after start broken (Ended fault)
-    pub told : sent broken (fault_line fault) stop
+    -- a fault cut the talk off, and its line was sent last
+    pub record TellsFault (before after : S) (start stop : T) : Type 0 where
+      pub fault : Fault
+      pub broken : T
+      pub cut_off : IsCutOff before after start broken (Ended fault)
+      pub told : sent broken (fault_line fault) stop
 
-  -- the exit status is 0 where a whole talk was held and no line was bad, and 1 where one was, or a fault cut it off
-  abbrev pub Lives : (before after : S) (start stop : T) → (status : ℕ) → Type 0
-  Lives before after start stop zero = HoldsTalk before after start stop false
-  Lives before after start stop (suc zero) =
-      HoldsTalk before after start stop true ⊎ TellsFault before after start stop
-  Lives before after start stop (suc (suc n)) = ⊥
+    -- a fault cut the talk off, and its line could not be sent, or memory was refused to it
+    pub record LosesFault (before after : S) (start stop : T) : Type 0 where
+      pub fault : Fault
+      pub broken : T
+      pub cut_off : IsCutOff before after start broken (Ended fault)
+      pub lost : unsent broken (fault_line fault) stop ⊎ (stop ≡ broken)
 
-  -- the last bytes could not be sent: there is no such node, or a talk began
-  abbrev pub IsUnsent : (before after : S) (start : T) → Type 0
-  IsUnsent before after start =
-      ((fault : Fault) × IsNoLiveNode reads words before after fault) ⊎ BeginsToTalk before after start
+    -- the exit status is 0 where a whole talk was held and no line was bad, and 1 where one was, or a fault cut it off
+    abbrev pub Lives : (before after : S) (start stop : T) → Status → Type 0
+    Lives before after start stop Done = HoldsTalk before after start stop false
+    Lives before after start stop Failed =
+        HoldsTalk before after start stop true ⊎ TellsFault before after start stop
+    Lives before after start stop Misused = ⊥
+
+    -- the last text could not be sent: the answer to a line, or the line of a fault
+    abbrev pub IsUnsent : (before after : S) (start stop : T) → WriteFault → Type 0
+    IsUnsent before after start stop refused =
+        IsCutOff before after start stop (Unwritten refused) ⊎ LosesFault before after start stop

@@ -9,6 +9,10 @@ Comes T = T → Option (List ℕ) → T → Type 0
 abbrev pub Sends : Type 0 → Type 1
 Sends T = T → List ℕ → T → Type 0
 
+-- between two states of a talk: what was done where the next line could not be read
+abbrev pub Misses : Type 0 → Type 1
+Misses T = T → T → Type 0
+
 -- the line that was given, if one was
 abbrev pub line_given : (is_given : Bool) → List ℕ → Option (List ℕ)
 line_given true line = Some line

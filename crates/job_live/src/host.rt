@@ -76,6 +76,10 @@ impl<I: BufRead + Drop, W: Write + Drop> Talk for HostTalk<I, W> {
 
     ghost sent = { λ _ _ _. ⊤ };
 
+    ghost missed = { λ _ _. ⊤ };
+
+    ghost unsent = { λ _ _ _. ⊤ };
+
     fn next(&mut self, line: &mut String) -> Result<bool, Cannot> {
         let is_given = self.read().map_err(|_| Cannot)?;
         self.give(line).map_err(|_| Cannot)?;

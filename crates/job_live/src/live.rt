@@ -1,10 +1,11 @@
 //! The job `live`.
 
-ghost use Rattle.std.specs.Prelude.{◌≡◌, ◌||◌, IfErr, IfOk, OnOk, false};
+ghost use Rattle.std.specs.Prelude.{◌≡◌, ◌||◌, ◌⊎◌, IfErr, IfOk, OnOk, false, if◌then◌else◌};
 ghost use Rattle.clap.specs.Simple.{app_of};
 ghost use Rattle.clap.specs.declared.builder.command.Command.TheViews.{out-Command as fields_of};
 ghost use Rattle.job_parts.specs.Printed.{fault_line};
-ghost use Rattle.job_live.specs.LiveJob.{BeginsTalk, Exchanges, HoldsTalk, IsCutOff, IsLiveNode, IsNoLiveNode, IsTalkHalt, IsUnsent, IsWholeTalk, Lives, live_app};
+ghost use Rattle.job_parts.specs.declared.status.Status.TheVariants.{Done, Failed};
+ghost use Rattle.job_live.specs.LiveJob.{Exchanges, HoldsTalk, IsBrokenOff, IsCutOff, IsLiveNode, IsNoLiveNode, IsUnanswered, IsUnsent, IsWholeTalk, Lives, live_app};
 
 use crate::answering::answer;
 use crate::talk::Talk;
@@ -13,6 +14,7 @@ use job_nodes::node::JobNode;
 use job_parts::factory::judging_program;
 use job_parts::faults::Fault;
 use job_parts::options::{NodeWords, node_arguments};
+use job_parts::status::Status;
 use job_parts::stops::{Halt, WriteFault};
 use job_parts::storage::Files;
 use std::alloc::{AllocError, Global};
@@ -39,7 +41,8 @@ fn exchange<'a, T: Talk>(
 ) -> Result<Option<bool>, Halt<'a>>
     ensures exchanged { IfOk result (λ went. Exchanges T.came T.sent number went
         node.old node.new talk.old talk.new) }
-    ensures stops { IfErr result (λ stop. IsTalkHalt stop) }
+    ensures stops { IfErr result (IsUnanswered T.came T.sent T.unsent T.missed number node.old
+        talk.old talk.new) }
 {
     let mut line = String::new(alloc);
     let Ok(is_given) = talk.next(&mut line) else {
@@ -68,8 +71,8 @@ fn either(first: bool, second: bool) -> bool
 /// Holds a talk to its end: whether one of its lines was bad.
 fn hold<'a, T: Talk>(alloc: Global, node: &mut JobNode, talk: &mut T) -> Result<bool, Halt<'a>>
     ensures held { IfOk result (IsWholeTalk T.came T.sent node.old node.new talk.old talk.new) }
-    ensures stops { IfErr result (λ stop. BeginsTalk T.came T.sent node.old talk.old
-        × IsTalkHalt stop) }
+    ensures stops { IfErr result (IsBrokenOff T.came T.sent T.unsent T.missed node.old
+        talk.old talk.new) }
 {
     let mut some_bad = false;
     for number in 1..usize::MAX {
@@ -102,9 +105,9 @@ fn live_on<'a, F: Files, T: Talk>(
     files: &mut F,
     talk: &mut T,
 ) -> Result<bool, Halt<'a>>
-    ensures held { IfOk result (HoldsTalk F.reads T.came T.sent words.now
+    ensures held { IfOk result (HoldsTalk F.reads T.came T.sent T.unsent T.missed words.now
         files.old files.new talk.old talk.new) }
-    ensures stops { IfErr result (IsCutOff F.reads T.came T.sent words.now
+    ensures stops { IfErr result (IsCutOff F.reads T.came T.sent T.unsent T.missed words.now
         files.old files.new talk.old talk.new) }
 {
     let mut node = live_node(alloc, words, files)?;
@@ -113,15 +116,28 @@ fn live_on<'a, F: Files, T: Talk>(
 
 /// Sends the line of the fault that cut a talk off.
 fn tell<T: Talk>(alloc: Global, fault: &Fault<'_>, talk: &mut T) -> Result<(), WriteFault>
-    ensures { OnOk result (T.sent talk.old (fault_line fault.now) talk.new) }
+    ensures told { OnOk result (T.sent talk.old (fault_line fault.now) talk.new) }
+    ensures lost { IfErr result (λ _.
+        T.unsent talk.old (fault_line fault.now) talk.new ⊎ (talk.new ≡ talk.old)) }
 {
     let mut text = Vec::new(alloc);
     writeln!(text, "{fault}")?;
     talk.send(text.as_slice()).map_err(|_| WriteFault)
 }
 
-/// Answers the lines of a talk as they come, on the node of these words, and gives the exit status: 1 where a line was bad,
-/// or a fault cut the talk off, else 0. What is due for a line is sent before the next is asked for.
+/// The exit status of a whole talk.
+fn status_of(some_bad: bool) -> Status
+    ensures { result ≡ (if some_bad then Failed else Done) }
+{
+    if some_bad {
+        Status::Failed
+    } else {
+        Status::Done
+    }
+}
+
+/// Answers the lines of a talk as they come, on the node of these words, and gives the exit status: `Failed` where a line
+/// was bad, or a fault cut the talk off, else `Done`. What is due for a line is sent before the next is asked for.
 ///
 /// What cuts it off is told last: what [`judging_program`] refuses, `CannotRead` where a line cannot be read, `NoMemory`.
 ///
@@ -131,18 +147,18 @@ pub fn live<F: Files, T: Talk>(
     words: &NodeWords,
     files: &mut F,
     talk: &mut T,
-) -> Result<u8, WriteFault>
-    ensures lives { IfOk result (Lives F.reads T.came T.sent words.now
+) -> Result<Status, WriteFault>
+    ensures lives { IfOk result (Lives F.reads T.came T.sent T.unsent T.missed words.now
         files.old files.new talk.old talk.new) }
-    ensures unsent { IfErr result (λ _. IsUnsent F.reads T.came T.sent words.now
-        files.old files.new talk.old) }
+    ensures unsent { IfErr result (IsUnsent F.reads T.came T.sent T.unsent T.missed words.now
+        files.old files.new talk.old talk.new) }
 {
     match live_on(alloc, words, files, talk) {
-        Ok(some_bad) => Ok(u8::from(some_bad)),
-        Err(Halt::Ended(fault)) => {
+        Ok(some_bad) => Ok(status_of(some_bad)),
+        Err(halt) => {
+            let fault = halt.fault()?;
             tell(alloc, &fault, talk)?;
-            Ok(1)
+            Ok(Status::Failed)
         }
-        Err(Halt::Unwritten(fault)) => Err(fault),
     }
 }

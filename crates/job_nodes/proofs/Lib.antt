@@ -1,6 +1,5 @@
 mod Continuing
 mod FirstWords
-mod LinesInTurn
 pub mod LinesRound
 mod OneBank
 mod Simulating

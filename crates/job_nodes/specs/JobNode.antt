@@ -30,6 +30,7 @@ use Rattle.node_parts.specs.Passes.{PassValue}
 use Rattle.single_node.specs.Nodes.{Rotates, SetsMemory, SingleNodeValue, single_node}
 use Rattle.single_node.specs.Serving.{Serves as ServesAlone}
 use Rattle.job_nodes.specs.Feeds.{IsFed, IsNotFed}
+use Rattle.job_nodes.specs.declared.node.TheConstants.{BANK_BASE, BANK_ROOM, BANK_SIZE, NODE_ADDRESS}
 use Rattle.job_parts.specs.declared.bad_lines.BadLine.{BadLine}
 
 -- the node's banks, the programs that were published of it, what each port has of it, the bytes that each port
@@ -48,11 +49,11 @@ job_node banks programs passes held reply =
 
 -- logical address FE, and one bank of 65,536 zero bytes at A0000000 with room for 1,024 entries
 abbrev pub own_bank : BankConfig
-own_bank = record { base = 2684354560; size = 65536; room = 1024 }
+own_bank = record { base = BANK_BASE; size = BANK_SIZE; room = BANK_ROOM }
 
 -- an empty journal with room for 1,024 entries
 abbrev pub own_journal : JournalValue
-own_journal = record { entries = []; room = 1024 }
+own_journal = record { entries = []; room = BANK_ROOM }
 
 -- how many entries the journal of each bank has room for
 abbrev pub rooms_of : List BankValue → List ℕ
@@ -65,14 +66,14 @@ pub record IsJobNode (s : JobNodeValue) : Type 0 where
 
 -- the configuration of the node with so many ports, and maps of these sizes
 pub record IsConfig (ports : ℕ) (sizes : Maps) (config : NodeConfig) : Type 0 where
-  pub address : config.address ≡ 254
+  pub address : config.address ≡ NODE_ADDRESS
   pub ports_are : config.ports ≡ ports
   pub banks : config.banks.now ≡ own_bank ∷ []
   pub sizes_are : config.sizes ≡ sizes
 
 -- what each of so many ports has of a fresh node at first, with seats at those cells
 abbrev pub first_passes : (ports : ℕ) → AcceptedValue → (home : Gv) → List PassValue
-first_passes ports program home = map (first_pass 254 (own_bank ∷ []) program home) (range_with_len 0 ports)
+first_passes ports program home = map (first_pass NODE_ADDRESS (own_bank ∷ []) program home) (range_with_len 0 ports)
 
 -- a fresh node with so many ports, at each of which the program judges, and which hold nothing
 abbrev pub IsFresh : (ports : ℕ) → AcceptedValue → JobNodeValue → Type 0

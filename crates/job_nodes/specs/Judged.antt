@@ -4,10 +4,11 @@ use Rattle.bver.specs.Justified.{AcceptedValue}
 use Rattle.spw.specs.Line.{lines_of}
 use Rattle.job_parts.specs.Files.{Reads}
 use Rattle.job_parts.specs.Given.{AreGiven, IsNotReady}
+use Rattle.job_parts.specs.Turns.{AreTaken, StopsIn}
 use Rattle.job_parts.specs.declared.faults.Fault.{Fault}
 use Rattle.job_parts.specs.declared.lines.LinesArgs.{LinesArgs}
 use Rattle.job_nodes.specs.JobNode.{JobNodeValue, IsFresh}
-use Rattle.job_nodes.specs.Lines.{IsBadLine, JudgesAll}
+use Rattle.job_nodes.specs.Lines.{IsBadLine, Judges}
 
 module _ {S : Type 0} (reads : Reads S) (args : LinesArgs) where
   -- the text is that of the file of lines, and the node is a fresh one of these arguments, whose commands the program
@@ -23,15 +24,15 @@ module _ {S : Type 0} (reads : Reads S) (args : LinesArgs) where
     pub fresh : JobNodeValue
     pub left : JobNodeValue
     pub ready : IsReady before text fresh after
-    pub all : JudgesAll (lines_of text) fresh left old new
+    pub all : AreTaken Judges (lines_of text) fresh left old new
 
-  -- each line up to a bad one was judged in turn on that node
+  -- each line before a bad one was judged in turn on that node
   pub record StopsAtLine (before after : S) (old new : Option (List ℕ)) (fault : Fault) : Type 0 where
     pub text : List ℕ
     pub fresh : JobNodeValue
     pub left : JobNodeValue
     pub ready : IsReady before text fresh after
-    pub bad : IsBadLine (lines_of text) fresh left old new fault
+    pub bad : StopsIn Judges IsBadLine (lines_of text) fresh left old new fault
 
   -- why not all lines were judged: nothing was printed where lines or program cannot be read
   abbrev pub IsNotJudged : (before after : S) → (old new : Option (List ℕ)) → Fault → Type 0

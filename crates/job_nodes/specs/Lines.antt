@@ -1,22 +1,12 @@
--- The packet lines of a text, and what is printed of each.
-use Rattle.std.specs.Prelude.{◌≡◌, ℕ, suc, List, [], ◌∷◌, ◌++◌, length, Option, Some, None}
+-- A packet line that is judged, and what is printed of it.
+use Rattle.std.specs.Prelude.{◌≡◌, ℕ, List, Option, Some, None}
 use Rattle.std.specs.Io.KnownBytes.{Appends}
 use Rattle.node_parts.specs.declared.served.Served.{Served}
 use Rattle.node_parts.specs.declared.served.Served.TheVariants.{Stopped, Unread, Done, Window}
 use Rattle.node_parts.specs.declared.stop.Stop.TheVariants.{Discarded, Answered}
 use Rattle.job_parts.specs.Replies.{reply_line}
-use Rattle.job_parts.specs.declared.bad_lines.BadLine.{BadLine}
-use Rattle.job_parts.specs.declared.faults.Fault.{Fault}
-use Rattle.job_parts.specs.declared.faults.Fault.TheVariants.{
-  CannotRead,
-  CannotWrite,
-  NoMemory,
-  BadText,
-  BadTable,
-  BadImage,
-  Refused,
-  BadLine as AtLine,
-}
+use Rattle.job_parts.specs.Turns.{SeesEnd}
+use Rattle.job_parts.specs.declared.stops.LineEnd.TheVariants.{Bad, NoMemory}
 use Rattle.job_nodes.specs.JobNode.{JobNodeValue, RefusesLine, TakesLine}
 use Rattle.job_nodes.specs.JudgeJob.{discard_line}
 
@@ -39,45 +29,7 @@ pub record Judges (line : List ℕ) (before after : JobNodeValue) (old new : Opt
   pub taken : TakesLine line came before after
   pub printed : IsPrinted came after.reply old new
 
--- the lines were judged in turn, each on the node that the earlier ones left
-abbrev pub JudgesAll : List (List ℕ) → (before after : JobNodeValue) → (old new : Option (List ℕ)) → Type 0
-JudgesAll [] before after old new = (after ≡ before) × (new ≡ old)
-JudgesAll (line ∷ lines) before after old new =
-    (next : JobNodeValue) × (between : Option (List ℕ)) × Judges line before next old between
-    × JudgesAll lines next after between new
-
--- the line of this number is bad
-abbrev pub IsBadPacket : List ℕ → ℕ → (before after : JobNodeValue) → (old new : Option (List ℕ)) → Fault → Type 0
-IsBadPacket line count before after old new (CannotRead file) = ⊥
-IsBadPacket line count before after old new (CannotWrite file) = ⊥
-IsBadPacket line count before after old new NoMemory = ⊥
-IsBadPacket line count before after old new (BadText fault) = ⊥
-IsBadPacket line count before after old new (BadTable fault) = ⊥
-IsBadPacket line count before after old new (BadImage fault) = ⊥
-IsBadPacket line count before after old new (Refused refused) = ⊥
-IsBadPacket line count before after old new (AtLine number fault) =
-    (number ≡ count) × RefusesLine line fault before after × (new ≡ old)
-
--- the lines up to the one of this number, counted from 1, were judged in turn, and that one, whose fault this is, was
--- not
-pub record StopsAt (lines : List (List ℕ)) (before after : JobNodeValue) (old new : Option (List ℕ)) (number : ℕ)
-    (fault : BadLine) : Type 0 where
-  pub judged : List (List ℕ)
-  pub line : List ℕ
-  pub rest : List (List ℕ)
-  pub between : JobNodeValue
-  pub lines_are : lines ≡ judged ++ line ∷ rest
-  pub place : number ≡ suc (length judged)
-  pub all : JudgesAll judged before between old new
-  pub bad : RefusesLine line fault between after
-
--- a line is bad
-abbrev pub IsBadLine : List (List ℕ) → (before after : JobNodeValue) → (old new : Option (List ℕ)) → Fault → Type 0
-IsBadLine lines before after old new (CannotRead file) = ⊥
-IsBadLine lines before after old new (CannotWrite file) = ⊥
-IsBadLine lines before after old new NoMemory = ⊥
-IsBadLine lines before after old new (BadText fault) = ⊥
-IsBadLine lines before after old new (BadTable fault) = ⊥
-IsBadLine lines before after old new (BadImage fault) = ⊥
-IsBadLine lines before after old new (Refused refused) = ⊥
-IsBadLine lines before after old new (AtLine number fault) = StopsAt lines before after old new number fault
+-- the node did not take the line, with which this is wrong, and nothing was printed
+abbrev pub IsBadLine : List ℕ → SeesEnd JobNodeValue
+IsBadLine line before after old new (Bad fault) = RefusesLine line fault before after × (new ≡ old)
+IsBadLine line before after old new NoMemory = ⊥

@@ -4,35 +4,29 @@ use Rattle.std.specs.Io.KnownBytes.{Appends}
 use Rattle.bpf.specs.Program.{Program}
 use Rattle.bver.specs.Justified.{AcceptedValue}
 use Rattle.spw.specs.Line.{lines_of}
-use Rattle.sched.specs.History.{Start, history_from}
+use Rattle.sched.specs.History.{History, Start, history_from}
 use Rattle.sched.specs.Looking.{Node}
 use Rattle.sched.specs.Worlds.{GoesOn, IsLawfulWorld, IsWorldOf, WorldValue}
 use Rattle.sched.specs.declared.event.Event.{Event}
 use Rattle.sched.specs.declared.event.Outcome.{Outcome}
 use Rattle.job_parts.specs.Files.{Reads}
 use Rattle.job_parts.specs.Given.{AreGiven, IsNotReady}
-use Rattle.job_parts.specs.declared.bad_lines.BadLine.{BadLine}
+use Rattle.job_parts.specs.Stops.{fault_at}
+use Rattle.job_parts.specs.Turns.{SeesEnd}
 use Rattle.job_parts.specs.declared.faults.Fault.{Fault}
-use Rattle.job_parts.specs.declared.faults.Fault.TheVariants.{
-  CannotRead,
-  CannotWrite,
-  NoMemory,
-  BadText,
-  BadTable,
-  BadImage,
-  Refused,
-  BadLine as AtLine,
-}
 use Rattle.job_parts.specs.declared.lines.LinesArgs.{LinesArgs}
 use Rattle.job_parts.specs.declared.options.NodeWords.{NodeWords}
+use Rattle.job_parts.specs.declared.stops.LineEnd.{LineEnd}
+use Rattle.job_parts.specs.declared.stops.LineEnd.TheVariants.{Bad, NoMemory}
 use Rattle.job_nodes.specs.EventLines.{IsBadEvent, IsEventOf}
 use Rattle.job_nodes.specs.JobNode.{own_bank}
 use Rattle.job_nodes.specs.SimJob.{outcome_line, outcome_lines}
+use Rattle.job_nodes.specs.declared.node.TheConstants.{NODE_ADDRESS}
 
 -- the node of these words, with that factory program: logical address FE, and the one bank that the jobs have
 abbrev pub node_by : NodeWords → Program → Node
 node_by words program =
-    record { address = 254; ports = words.ports; banks = own_bank ∷ []; sizes = words.sizes; factory = program }
+    record { address = NODE_ADDRESS; ports = words.ports; banks = own_bank ∷ []; sizes = words.sizes; factory = program }
 
 -- ---- lines and events
 
@@ -43,41 +37,41 @@ WriteEvents ports [] (event ∷ events) = ⊥
 WriteEvents ports (line ∷ lines) [] = ⊥
 WriteEvents ports (line ∷ lines) (event ∷ events) = IsEventOf ports line event × WriteEvents ports lines events
 
--- the lines write events of the node; these outcomes, one for each, are lawful behind its beginning, and lead
--- to the world
--- that is left; and the lines of the outcomes were printed
-pub record Simulates (n : Node) (lines : List (List ℕ)) (left : WorldValue) (old new : Option (List ℕ)) : Type 0 where
+-- the lines write events of the node, which has that history; these outcomes, one for each, are lawful behind it, and lead
+-- to the world that is left; and the lines of the outcomes were printed
+pub record SimulatesFrom (n : Node) (h : History) (lines : List (List ℕ)) (left : WorldValue) (old new : Option (List ℕ)) :
+    Type 0 where
   pub events : List Event
   pub outcomes : List Outcome
   pub written : WriteEvents n.ports lines events
   pub count : length outcomes ≡ length events
-  pub lawful : IsLawfulWorld n (history_from Start events outcomes) left
+  pub lawful : IsLawfulWorld n (history_from h events outcomes) left
   pub printed : Appends old new (outcome_lines outcomes)
 
--- the lines up to the one of this number, counted from 1, were simulated; that is the line
-pub record SimulatesUpTo (n : Node) (lines : List (List ℕ)) (number : ℕ) (line : List ℕ) (old new : Option (List ℕ)) :
-    Type 0 where
+-- the same from the beginning of the node on
+abbrev pub Simulates : Node → List (List ℕ) → (left : WorldValue) → (old new : Option (List ℕ)) → Type 0
+Simulates n lines left old new = SimulatesFrom n Start lines left old new
+
+-- why a line is not simulated: it writes no event at one of so many ports, and this is what is wrong with it; or memory was
+-- refused to its event
+abbrev pub IsNotStepped : (ports : ℕ) → List ℕ → LineEnd → Type 0
+IsNotStepped ports line (Bad fault) = IsBadEvent ports line fault
+IsNotStepped ports line NoMemory = Unit {0}
+
+-- the lines before one were simulated, and that one, which is counted from 1, ends the job with this fault: nothing was
+-- printed of it
+pub record IsCutShort (n : Node) (lines : List (List ℕ)) (old new : Option (List ℕ)) (fault : Fault) : Type 0 where
   pub front : List (List ℕ)
+  pub line : List ℕ
   pub rest : List (List ℕ)
   pub left : WorldValue
+  pub end : LineEnd
   pub lines_are : lines ≡ front ++ line ∷ rest
-  pub place : number ≡ suc (length front)
   pub all : Simulates n front left old new
+  pub is_fault : fault ≡ fault_at (suc (length front)) end
+  pub bad : IsNotStepped n.ports line end
 
--- why not all lines were simulated: one writes no event of the node, or memory was refused to the event of one. What
--- was printed is that of the lines before it
-abbrev pub IsCutShort : Node → List (List ℕ) → (old new : Option (List ℕ)) → Fault → Type 0
-IsCutShort n lines old new (CannotRead file) = ⊥
-IsCutShort n lines old new (CannotWrite file) = ⊥
-IsCutShort n lines old new NoMemory = (number : ℕ) × (line : List ℕ) × SimulatesUpTo n lines number line old new
-IsCutShort n lines old new (BadText fault) = ⊥
-IsCutShort n lines old new (BadTable fault) = ⊥
-IsCutShort n lines old new (BadImage fault) = ⊥
-IsCutShort n lines old new (Refused refused) = ⊥
-IsCutShort n lines old new (AtLine number fault) =
-    (line : List ℕ) × SimulatesUpTo n lines number line old new × IsBadEvent n.ports line fault
-
--- ---- from a world on
+-- ---- a line
 
 -- the line writes an event at a port of the world, which goes on by it, and the line of its outcome was printed
 pub record Steps (line : List ℕ) (before after : WorldValue) (old new : Option (List ℕ)) : Type 0 where
@@ -87,22 +81,9 @@ pub record Steps (line : List ℕ) (before after : WorldValue) (old new : Option
   pub goes_on : GoesOn event outcome before after
   pub printed : Appends old new (outcome_line outcome)
 
--- the line of this number writes no event at one of so many ports
-abbrev pub IsNoEventAt : (ports : ℕ) → List ℕ → (number : ℕ) → Fault → Type 0
-IsNoEventAt ports line number fault = (bad : BadLine) × (fault ≡ AtLine number bad) × IsBadEvent ports line bad
-
--- the line of this number writes no event at a port of the world, or memory was refused to it
-abbrev pub IsStuckAt : List ℕ → (number : ℕ) → (before : WorldValue) → (old new : Option (List ℕ)) → Fault → Type 0
-IsStuckAt line number before old new fault =
-    (new ≡ old) × ((fault ≡ NoMemory) ⊎ IsNoEventAt (length before.ports) line number fault)
-
--- the lines were simulated from the beginning of each node whose world that was
-abbrev pub SimulatesAll : List (List ℕ) → (before after : WorldValue) → (old new : Option (List ℕ)) → Type 0
-SimulatesAll lines before after old new = (n : Node) → IsWorldOf n Start before → Simulates n lines after old new
-
--- not all of them were, from the beginning of each node whose world that was
-abbrev pub IsStuck : List (List ℕ) → (before : WorldValue) → (old new : Option (List ℕ)) → Fault → Type 0
-IsStuck lines before old new fault = (n : Node) → IsWorldOf n Start before → IsCutShort n lines old new fault
+-- the line is not simulated, and nothing was printed
+abbrev pub IsStuck : List ℕ → SeesEnd WorldValue
+IsStuck line before after old new end = IsNotStepped (length before.ports) line end × (new ≡ old)
 
 -- ---- the whole job
 

@@ -10,21 +10,30 @@ use bank::Journal;
 use bver::{Accepted, MapSizes};
 use job_parts::bad_lines::BadLine;
 use job_parts::faults::Fault;
+use node_parts::{BankConfig, NodeConfig, Served};
 use rmap::ReplyBuf;
 use single_node::SingleNode;
 use spw::Packet;
 use std::alloc::{AllocError, Global};
 use std::marker::Model;
-use node_parts::{BankConfig, NodeConfig, Served};
 
 /// The logical address of the node.
-const NODE_ADDRESS: u8 = 0xFE;
+pub const NODE_ADDRESS: u8 = 0xFE;
 
-/// The bank of the node: 65,536 bytes, and 1,024 entries of its journal.
+/// The first address of the bank of the node.
+pub const BANK_BASE: u32 = 0xA000_0000;
+
+/// How many bytes the bank of the node has.
+pub const BANK_SIZE: u32 = 0x1_0000;
+
+/// How many entries the journal of the bank has room for.
+pub const BANK_ROOM: u32 = 1024;
+
+/// The bank of the node.
 const BANK: BankConfig = BankConfig {
-    base: 0xA000_0000,
-    size: 0x1_0000,
-    room: 1024,
+    base: BANK_BASE,
+    size: BANK_SIZE,
+    room: BANK_ROOM,
 };
 
 /// The configuration of the node of the jobs, with so many ports and with maps of these sizes.
@@ -85,8 +94,16 @@ impl JobNode {
         })
     }
 
-    /// What becomes of a packet that comes in at a port. It takes memory only where it loads.
-    fn serve(&mut self, alloc: Global, port: u8, packet: Packet) -> Served
+    /// How many ports the node has.
+    pub fn ports(&self) -> u8
+        ensures { result ≡ length self.now.passes }
+    {
+        self.node.ports()
+    }
+
+    /// What becomes of a packet that comes in at a port; the reply that is due is then [`JobNode::reply`]. It takes memory
+    /// only where it loads. The condition is a port below [`JobNode::ports`].
+    pub fn serve(&mut self, alloc: Global, port: u8, packet: Packet) -> Served
         requires { port < length self.old.passes }
         ensures { Serves result port packet self.old self.new }
     {

@@ -1,15 +1,15 @@
 //! The job `sim`.
 
-ghost use Rattle.std.specs.Prelude.{◌≡◌, IfErr, IfOk, OnOk, false, string_bytes};
+ghost use Rattle.std.specs.Prelude.{◌≡◌, IfErr, IfOk, MatchResult, OnOk, false, string_bytes};
 ghost use Rattle.clap.specs.Simple.{app_of};
 ghost use Rattle.clap.specs.declared.builder.command.Command.TheViews.{out-Command as fields_of};
-ghost use Rattle.spw.specs.Line.{lines_of};
 ghost use Rattle.job_parts.specs.Given.{IsNotReady};
 ghost use Rattle.job_parts.specs.Printed.{Prints};
+ghost use Rattle.job_parts.specs.Statuses.{IsDoneWith};
 ghost use Rattle.job_parts.specs.Stops.{StopsBy};
-ghost use Rattle.job_nodes.specs.EventLines.{IsEventOf};
+ghost use Rattle.job_nodes.specs.EventLines.{IsBadEvent, IsEventOf};
 ghost use Rattle.job_nodes.specs.SimJob.{outcome_line, sim_app, status_line};
-ghost use Rattle.job_nodes.specs.Simulated.{IsNoEventAt, IsNotSimulated, IsSet, IsStuck, IsStuckAt, SimulatesAll, SimulatesFile, Steps};
+ghost use Rattle.job_nodes.specs.Simulated.{IsNotSimulated, IsSet, IsStuck, SimulatesFile, Steps};
 
 use crate::events::read_event;
 use crate::node::node_config;
@@ -18,13 +18,14 @@ use job_parts::bad_lines::BadLine;
 use job_parts::faults::Fault;
 use job_parts::lines::{LinesArgs, lines_and_program, lines_command};
 use job_parts::replies::print_bytes;
-use job_parts::stops::Halt;
+use job_parts::status::Status;
+use job_parts::stops::{Halt, LineEnd, LineHalt};
 use job_parts::storage::Files;
-use rmap::Status;
+use job_parts::turns::{TakesLines, take_lines};
 use sched::{Event, Outcome, World, step};
-use spw::lines_of;
 use std::alloc::{AllocError, Global};
 use std::io::{self, Write};
+use std::marker::Model;
 
 /// `sim LINES [--image FILE] [--maps LIST] [--ports N]`.
 pub fn sim_command<'a>(alloc: Global) -> Result<Command<'a>, AllocError>
@@ -37,7 +38,12 @@ pub fn sim_command<'a>(alloc: Global) -> Result<Command<'a>, AllocError>
 }
 
 /// Prints a status and a reply: `WHAT S HEX`, or `WHAT S -` where no reply is due and it has no bytes.
-fn print_status<W: Write>(out: &mut W, what: &str, status: Status, reply: &[u8]) -> io::Result<()>
+fn print_status<W: Write>(
+    out: &mut W,
+    what: &str,
+    status: rmap::Status,
+    reply: &[u8],
+) -> io::Result<()>
     ensures { OnOk result
         (Prints W.contents out.old out.new (status_line what.now status reply.now)) }
 {
@@ -64,58 +70,46 @@ fn print_outcome<W: Write>(out: &mut W, outcome: &Outcome) -> io::Result<()>
     }
 }
 
-/// The event that the line of this number writes, at one of so many ports.
-fn event_at<'a>(alloc: Global, ports: u8, line: &str, number: usize) -> Result<Event, Fault<'a>>
-    ensures event { IfOk result (IsEventOf ports line.now) }
-    ensures bad { IfErr result (IsNoEventAt ports line.now number) }
+/// The event that a line writes, at one of so many ports.
+fn event_at(alloc: Global, ports: u8, line: &str) -> Result<Event, BadLine>
+    ensures { MatchResult result (IsEventOf ports line.now) (IsBadEvent ports line.now) }
 {
-    let event = read_event(alloc, line).map_err(|fault| Fault::BadLine { number, fault })?;
-    if event.port() >= ports {
-        let fault = BadLine::NoPort;
-        return Err(Fault::BadLine { number, fault });
+    let event = read_event(alloc, line)?;
+    if event.port() < ports {
+        Ok(event)
+    } else {
+        Err(BadLine::NoPort)
     }
-    Ok(event)
 }
 
-/// Takes one line: the world steps by its event, and what that comes to is printed. `number` is that of the line.
-fn sim_line<'a, W: Write>(
-    alloc: Global,
-    world: &mut World,
-    line: &str,
-    number: usize,
-    out: &mut W,
-) -> Result<(), Halt<'a>>
-    ensures stepped { OnOk result (Steps line.now world.old world.new
-        (W.contents out.old) (W.contents out.new)) }
-    ensures stops { IfErr result (StopsBy (IsStuckAt line.now number world.old
-        (W.contents out.old) (W.contents out.new))) }
-{
-    let event = event_at(alloc, world.ports(), line, number)?;
-    // Memory alone can be refused to it: the port of the event is one of the world.
-    let Ok(outcome) = step(alloc, world, event) else {
-        return Err(Halt::Ended(Fault::NoMemory));
-    };
-    Ok(print_outcome(out, &outcome)?)
+/// A world that steps by event lines. Contracts see the world.
+#[derive(Drop)]
+pub struct Simulating {
+    world: World,
 }
 
-/// Takes each line of a text in turn.
-fn sim_text<'a, W: Write>(
-    alloc: Global,
-    world: &mut World,
-    text: &str,
-    out: &mut W,
-) -> Result<(), Halt<'a>>
-    ensures simulated { OnOk result (SimulatesAll (lines_of text.now) world.old world.new
-        (W.contents out.old) (W.contents out.new)) }
-    ensures stops { IfErr result (StopsBy (IsStuck (lines_of text.now) world.old
-        (W.contents out.old) (W.contents out.new))) }
-{
-    let mut number: usize = 0;
-    for line in lines_of(text) {
-        number += 1;
-        sim_line(alloc, world, line, number, out)?;
+impl Model for Simulating {
+    ghost use Rattle.sched.specs.Worlds.{WorldValue};
+
+    ghost Value = { WorldValue };
+
+    ghost view = { λ s. s.world };
+}
+
+impl TakesLines for Simulating {
+    ghost takes = { Steps };
+
+    ghost stops = { IsStuck };
+
+    /// Takes one line: the world steps by its event, and what that comes to is printed.
+    fn take<W: Write>(&mut self, alloc: Global, line: &str, out: &mut W) -> Result<(), LineHalt> {
+        let event = event_at(alloc, self.world.ports(), line)?;
+        // Memory alone can be refused to it: the port of the event is one of the world.
+        let Ok(outcome) = step(alloc, &mut self.world, event) else {
+            return Err(LineHalt::Ended(LineEnd::NoMemory));
+        };
+        Ok(print_outcome(out, &outcome)?)
     }
-    Ok(())
 }
 
 /// The text of the file of events, and the world of a node of these arguments behind no event, in each of whose slots
@@ -124,7 +118,7 @@ fn lines_and_world<'a, F: Files>(
     alloc: Global,
     args: &'a LinesArgs,
     files: &mut F,
-) -> Result<(String, World), Fault<'a>>
+) -> Result<(String, Simulating), Fault<'a>>
     ensures set { IfOk result
         (λ made. IsSet F.reads args.now files.old (string_bytes made.0) made.1 files.new) }
     ensures refused { IfErr result (IsNotReady F.reads args.now files.old files.new) }
@@ -133,7 +127,7 @@ fn lines_and_world<'a, F: Files>(
     let config = node_config(args.node.ports, args.node.sizes);
     // Memory alone can be refused to it: the command line gives no other number of ports than a node has.
     let world = World::with_factory(alloc, &config, program).map_err(|_| Fault::NoMemory)?;
-    Ok((text, world))
+    Ok((text, Simulating { world }))
 }
 
 /// Steps through the events of a file, in order, from the beginning of the node of these arguments, whose programs are
@@ -147,12 +141,13 @@ pub fn sim_file<'a, F: Files, W: Write>(
     args: &'a LinesArgs,
     files: &mut F,
     out: &mut W,
-) -> Result<(), Halt<'a>>
-    ensures done { OnOk result (SimulatesFile F.reads args.now files.old files.new
-        (W.contents out.old) (W.contents out.new)) }
+) -> Result<Status, Halt<'a>>
+    ensures done { IfOk result (IsDoneWith (SimulatesFile F.reads args.now files.old files.new
+        (W.contents out.old) (W.contents out.new))) }
     ensures stops { IfErr result (StopsBy (IsNotSimulated F.reads args.now files.old files.new
         (W.contents out.old) (W.contents out.new))) }
 {
-    let (text, mut world) = lines_and_world(alloc, args, files)?;
-    sim_text(alloc, &mut world, text.as_str(), out)
+    let (text, mut simulating) = lines_and_world(alloc, args, files)?;
+    take_lines(alloc, &mut simulating, text.as_str(), out)?;
+    Ok(Status::Done)
 }

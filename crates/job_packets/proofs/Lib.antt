@@ -2,4 +2,3 @@ mod AddedArguments
 mod HexDigits
 mod Instructions
 mod NoOrders
-mod ShownLines

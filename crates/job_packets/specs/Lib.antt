@@ -6,3 +6,4 @@ pub mod PacketJob
 pub mod PacketOptions
 pub mod Requests
 pub mod ShowJob
+pub mod Shown

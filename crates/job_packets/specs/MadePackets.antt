@@ -3,11 +3,10 @@ use Rattle.std.specs.Prelude.{
   ◌≡◌,
   ◌+◌,
   ◌&&◌,
+  ◌⊎◌,
   nat_lt,
   nat_le,
   ℕ,
-  zero,
-  suc,
   Bool,
   if◌then◌else◌,
   List,
@@ -26,18 +25,11 @@ use Rattle.spw.specs.declared.packets.TheConstants.{MAX_PACKET}
 use Rattle.rmap.specs.Reply.{with_crc}
 use Rattle.rmap.specs.declared.boot.TheConstants.{STAGING_SIZE}
 use Rattle.job_parts.specs.Files.{Reads}
-use Rattle.job_parts.specs.Printed.{fault_line}
+use Rattle.job_parts.specs.Reading.{IsUnread}
 use Rattle.job_parts.specs.declared.faults.Fault.{Fault}
-use Rattle.job_parts.specs.declared.faults.Fault.TheVariants.{
-  CannotRead,
-  CannotWrite,
-  NoMemory,
-  BadText,
-  BadTable,
-  BadImage,
-  Refused,
-  BadLine,
-}
+use Rattle.job_parts.specs.declared.faults.Fault.TheVariants.{NoMemory}
+use Rattle.job_parts.specs.declared.status.Status.{Status}
+use Rattle.job_parts.specs.declared.status.Status.TheVariants.{Done, Failed, Misused}
 use Rattle.job_packets.specs.Loads.{with_load}
 use Rattle.job_packets.specs.Requests.{has_reply_address, line_of}
 use Rattle.job_packets.specs.declared.orders.Order.{Order}
@@ -132,27 +124,24 @@ module _ {S : Type 0} (reads : Reads S) where
     pub unmade : IsMade words before None after
     pub line : Appends old new (codes "bad option" ++ 10 ∷ [])
 
-  -- the file of the data or the image cannot be read, or memory was refused
+  -- the file of the data or the image cannot be read
+  pub record ContentUnread (words : PacketWords) (before after : S) (fault : Fault) : Type 0 where
+    pub name : List ℕ
+    pub named : file_of words.order ≡ Some name
+    pub unread : IsUnread reads before name after fault
+
+  -- the data or the image was given, but memory was refused behind it
+  pub record IsUnmade (words : PacketWords) (before after : S) (fault : Fault) : Type 0 where
+    pub content : List ℕ
+    pub given : IsContent words.order before content after
+    pub is_fault : fault ≡ NoMemory
+
+  -- why no packets were made
   abbrev pub IsNotMade : PacketWords → (before after : S) → Fault → Type 0
-  IsNotMade words before after (CannotRead file) =
-      (file_of words.order ≡ Some file.now) × reads before file.now None after
-  IsNotMade words before after (CannotWrite file) = ⊥
-  IsNotMade words before after NoMemory = (content : List ℕ) × IsContent words.order before content after
-  IsNotMade words before after (BadText fault) = ⊥
-  IsNotMade words before after (BadTable fault) = ⊥
-  IsNotMade words before after (BadImage fault) = ⊥
-  IsNotMade words before after (Refused refused) = ⊥
-  IsNotMade words before after (BadLine number fault) = ⊥
+  IsNotMade words before after fault = ContentUnread words before after fault ⊎ IsUnmade words before after fault
 
-  -- such a fault was told
-  pub record TellsUnmade (words : PacketWords) (before after : S) (old new : Option (List ℕ)) : Type 0 where
-    pub fault : Fault
-    pub ended : IsNotMade words before after fault
-    pub line : Appends old new (fault_line fault)
-
-  -- what `packet` reads and prints, by its exit status
-  abbrev pub MakesFile : PacketWords → (before after : S) → (old new : Option (List ℕ)) → (status : ℕ) → Type 0
-  MakesFile words before after old new zero = MakesPackets words before after old new
-  MakesFile words before after old new (suc zero) = TellsUnmade words before after old new
-  MakesFile words before after old new (suc (suc zero)) = MakesNone words before after old new
-  MakesFile words before after old new (suc (suc (suc n))) = ⊥
+  -- what `packet` reads and prints where no fault ends it, by its exit status
+  abbrev pub MakesFile : PacketWords → (before after : S) → (old new : Option (List ℕ)) → Status → Type 0
+  MakesFile words before after old new Done = MakesPackets words before after old new
+  MakesFile words before after old new Failed = ⊥
+  MakesFile words before after old new Misused = MakesNone words before after old new

@@ -1,8 +1,8 @@
 //! What the job `packet` does.
 
-ghost use Rattle.std.specs.Prelude.{◌≡◌, ◌<◌, ◌≤◌, ◌^◌, ◌++◌, IfErr, IfOk, MatchResult, OnOk, None, Some, length, option_map, string_bytes, true};
+ghost use Rattle.std.specs.Prelude.{◌≡◌, ◌<◌, ◌≤◌, ◌^◌, ◌++◌, IfErr, IfOk, OnOk, length, option_map, string_bytes, true};
 ghost use Rattle.rmap.specs.Reply.{with_crc};
-ghost use Rattle.job_parts.specs.declared.faults.Fault.TheVariants.{CannotRead};
+ghost use Rattle.job_parts.specs.Stops.{StopsBy};
 ghost use Rattle.job_packets.specs.MadePackets.{IsContent, IsMade, IsNotMade, MakesFile, fits, is_short, made_text, own_request, with_text};
 ghost use Rattle.job_packets.specs.Requests.{has_reply_address, line_of};
 
@@ -14,7 +14,9 @@ use crate::requests::{Request, add_line};
 use initiator::body_with_crc;
 use job_parts::faults::Fault;
 use job_parts::printing::print_text;
-use job_parts::stops::WriteFault;
+use job_parts::programs::bytes_in;
+use job_parts::status::Status;
+use job_parts::stops::Halt;
 use job_parts::storage::Files;
 use rmap::STAGING_SIZE;
 use spw::MAX_PACKET;
@@ -23,16 +25,6 @@ use std::io::Write;
 
 /// The command code of a read-modify-write.
 const RMW_CODE: u8 = 0b0111;
-
-/// The bytes of the file of this name.
-fn bytes_in<'a, F: Files>(alloc: Global, files: &mut F, name: &'a str) -> Result<Vec<u8>, Fault<'a>>
-    ensures gave { MatchResult result
-        (λ bytes. F.reads files.old name.now (Some bytes.items) files.new)
-        (λ _. F.reads files.old name.now None files.new) }
-    ensures refused { IfErr result (λ fault. fault ≡ CannotRead name.entry) }
-{
-    files.read(alloc, name).map_err(|_| Fault::CannotRead(name))
-}
 
 /// The data or the image of an order: those of its file, or those that stand in the words.
 fn content_of<'a, F: Files>(
@@ -183,30 +175,25 @@ fn packets<'a, F: Files>(
     Ok(made_text(alloc, words, content.as_slice())?)
 }
 
-/// Prints the packet lines of the packets that the words order, and gives the exit status: 0; 1 where a fault was
-/// printed (`CannotRead` of the file of the data or the image, `NoMemory`); and 2, with the line `bad option`, where
-/// there are no such packets: one would be longer than 4,200 bytes, or an image is larger than the staging.
-pub fn packet_file<F: Files, W: Write>(
+/// Prints the packet lines of the packets that the words order. `Misused`, with the line `bad option`, where there are no
+/// such packets: one would be longer than 4,200 bytes, or an image is larger than the staging.
+///
+/// The faults are `CannotRead` of the file of the data or the image, and `NoMemory`.
+pub fn packet_file<'a, F: Files, W: Write>(
     alloc: Global,
-    words: &PacketWords,
+    words: &'a PacketWords,
     files: &mut F,
     out: &mut W,
-) -> Result<u8, WriteFault>
-    ensures { IfOk result (MakesFile F.reads words.now files.old files.new
+) -> Result<Status, Halt<'a>>
+    ensures done { IfOk result (MakesFile F.reads words.now files.old files.new
         (W.contents out.old) (W.contents out.new)) }
+    ensures stops { IfErr result (StopsBy (IsNotMade F.reads words.now files.old files.new)) }
+    ensures quiet { IfErr result (StopsBy (λ _. W.contents out.new ≡ W.contents out.old)) }
 {
-    match packets(alloc, words, files) {
-        Ok(Some(text)) => {
-            print_text(out, text.as_str())?;
-            Ok(0)
-        }
-        Ok(None) => {
-            writeln!(out, "bad option")?;
-            Ok(2)
-        }
-        Err(fault) => {
-            writeln!(out, "{fault}")?;
-            Ok(1)
-        }
-    }
+    let Some(text) = packets(alloc, words, files)? else {
+        writeln!(out, "bad option")?;
+        return Ok(Status::Misused);
+    };
+    print_text(out, text.as_str())?;
+    Ok(Status::Done)
 }

@@ -1,26 +1,27 @@
 //! The job `show`.
 
-ghost use Rattle.std.specs.Prelude.{◌≡◌, IfErr, IfOk, OnOk, codes, false, string_bytes};
+ghost use Rattle.std.specs.Prelude.{◌≡◌, IfErr, IfOk, codes, false};
 ghost use Rattle.clap.specs.Simple.{app_of};
 ghost use Rattle.clap.specs.declared.builder.command.Command.TheViews.{out-Command as fields_of};
 ghost use Rattle.clap.specs.Walk.{rows_of};
 ghost use Rattle.clap.specs.Matches.{found_of};
 ghost use Rattle.job_parts.specs.Arguments.{Lacks};
-ghost use Rattle.job_parts.specs.Printed.{PrintsMore};
+ghost use Rattle.job_parts.specs.Statuses.{IsDoneWith};
 ghost use Rattle.job_parts.specs.Stops.{StopsBy};
-ghost use Rattle.job_packets.specs.ShowJob.{IsNotShown, IsUnshown, NamesShow, ShowsFile, show_app};
+ghost use Rattle.job_packets.specs.ShowJob.{NamesShow, show_app};
+ghost use Rattle.job_packets.specs.Shown.{IsNotShown, ShowsFile};
 
 use crate::shown::shown_line;
 use clap::{ArgMatches, Command};
 use job_parts::arguments::{file, name_of};
 use job_parts::bad_lines::BadLine;
-use job_parts::faults::Fault;
 use job_parts::printing::print_text;
 use job_parts::programs::text_in;
-use job_parts::stops::Halt;
+use job_parts::status::Status;
+use job_parts::stops::{Halt, LineHalt};
 use job_parts::storage::Files;
+use job_parts::turns::{TakesLines, take_lines};
 use job_parts::usage::UsageFault;
-use spw::lines_of;
 use std::alloc::{AllocError, Global};
 use std::io::Write;
 
@@ -51,38 +52,23 @@ pub fn show_job(alloc: Global, found: &ArgMatches) -> Result<ShowWords, UsageFau
     Ok(ShowWords { lines })
 }
 
-/// Prints what a line is. `number` is that of the line.
-fn show_line<'a, W: Write>(
-    alloc: Global,
-    line: &str,
-    number: usize,
-    out: &mut W,
-) -> Result<(), Halt<'a>>
-    ensures done { OnOk result (PrintsMore (W.contents out.old) (W.contents out.new)) }
-    ensures stops { IfErr result (StopsBy
-        (IsUnshown (W.contents out.old) (W.contents out.new))) }
-{
-    match shown_line(alloc, line) {
-        Ok(text) => Ok(print_text(out, text.as_str())?),
-        Err(fault) => {
-            let fault = BadLine::Line(fault);
-            Err(Halt::Ended(Fault::BadLine { number, fault }))
+/// Prints what each line is.
+#[derive(Drop)]
+struct Showing;
+
+impl TakesLines for Showing {
+    ghost use Rattle.job_packets.specs.Shown.{IsUnshown, ShowsLine};
+
+    ghost takes = { ShowsLine };
+
+    ghost stops = { IsUnshown };
+
+    fn take<W: Write>(&mut self, alloc: Global, line: &str, out: &mut W) -> Result<(), LineHalt> {
+        match shown_line(alloc, line) {
+            Ok(text) => Ok(print_text(out, text.as_str())?),
+            Err(fault) => Err(LineHalt::from(BadLine::from(fault))),
         }
     }
-}
-
-/// Prints what each line of a text is, in turn.
-fn show_text<'a, W: Write>(alloc: Global, text: &str, out: &mut W) -> Result<(), Halt<'a>>
-    ensures done { OnOk result (PrintsMore (W.contents out.old) (W.contents out.new)) }
-    ensures stops { IfErr result (StopsBy
-        (IsUnshown (W.contents out.old) (W.contents out.new))) }
-{
-    let mut number: usize = 0;
-    for line in lines_of(text) {
-        number = number.saturating_add(1);
-        show_line(alloc, line, number, out)?;
-    }
-    Ok(())
 }
 
 /// Prints what the packet lines of a file are, commands or replies, and those lines of what `judge` prints that have no
@@ -94,12 +80,13 @@ pub fn show_file<'a, F: Files, W: Write>(
     lines: &'a str,
     files: &mut F,
     out: &mut W,
-) -> Result<(), Halt<'a>>
-    ensures done { OnOk result (ShowsFile F.reads files.old lines.now files.new
-        (W.contents out.old) (W.contents out.new)) }
+) -> Result<Status, Halt<'a>>
+    ensures done { IfOk result (IsDoneWith (ShowsFile F.reads files.old lines.now files.new
+        (W.contents out.old) (W.contents out.new))) }
     ensures stops { IfErr result (StopsBy (IsNotShown F.reads files.old lines.now files.new
         (W.contents out.old) (W.contents out.new))) }
 {
     let text = text_in(alloc, files, lines)?;
-    show_text(alloc, text.as_str(), out)
+    take_lines(alloc, &mut Showing, text.as_str(), out)?;
+    Ok(Status::Done)
 }

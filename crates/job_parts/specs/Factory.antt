@@ -1,5 +1,5 @@
 -- The factory program.
-use Rattle.std.specs.Prelude.{◌≡◌, pos, List, [], ◌∷◌}
+use Rattle.std.specs.Prelude.{◌≡◌, ◌⊎◌, pos, List, [], ◌∷◌}
 use Rattle.std.specs.List.{flat_map}
 use Rattle.bpf_insn.specs.declared.insn.Insn.{Insn}
 use Rattle.bpf_insn.specs.declared.insn.Insn.TheVariants.{Alu, Exit}
@@ -11,17 +11,9 @@ use Rattle.bpf.specs.Program.{Program, program}
 use Rattle.bpf.specs.declared.version.Version.TheVariants.{One}
 use Rattle.bpf.specs.declared.fault.ImageFault.TheVariants as faults
 use Rattle.bver_form.specs.declared.refusal.Refusal.TheVariants as refusals
+use Rattle.bver_form.specs.declared.refusal.Refused.{Refused}
 use Rattle.job_parts.specs.declared.faults.Fault.{Fault}
-use Rattle.job_parts.specs.declared.faults.Fault.TheVariants.{
-  CannotRead,
-  CannotWrite,
-  NoMemory,
-  BadText,
-  BadTable,
-  BadImage,
-  Refused,
-  BadLine,
-}
+use Rattle.job_parts.specs.declared.faults.Fault.TheVariants.{BadImage, Refused as IsRefused}
 
 -- `mov r0, 0; exit`
 abbrev pub factory_insns : List Insn
@@ -34,11 +26,5 @@ factory = program One 2 [] (flat_map placed_slots factory_insns)
 
 -- why there is no factory program: memory was refused to its image, or to the verifier
 abbrev pub IsNoFactory : Fault → Type 0
-IsNoFactory (CannotRead file) = ⊥
-IsNoFactory (CannotWrite file) = ⊥
-IsNoFactory NoMemory = ⊥
-IsNoFactory (BadText fault) = ⊥
-IsNoFactory (BadTable fault) = ⊥
-IsNoFactory (BadImage fault) = fault ≡ faults.Memory
-IsNoFactory (Refused refused) = refused.code ≡ refusals.Memory
-IsNoFactory (BadLine number fault) = ⊥
+IsNoFactory fault =
+    (fault ≡ BadImage faults.Memory) ⊎ ((refused : Refused) × (fault ≡ IsRefused refused) × (refused.code ≡ refusals.Memory))

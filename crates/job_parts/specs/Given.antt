@@ -1,17 +1,16 @@
 -- What the jobs that take lines read: the text of their lines, and the program that judges.
 use Rattle.std.specs.Prelude.{◌≡◌, ◌⊎◌, ℕ, List, Option, Some, None, string_bytes}
-use Rattle.std.specs.Borrow.{Bor}
 use Rattle.std.specs.Str.{IsUtf8}
 use Rattle.bpf.specs.Program.{Program}
 use Rattle.bver.specs.Justified.{AcceptedValue, IsJustified}
 use Rattle.machine.specs.Runs.{IsSafe}
 use Rattle.machine.specs.Sizes.{Maps}
 use Rattle.job_parts.specs.Factory.{factory, IsNoFactory}
-use Rattle.job_parts.specs.Files.{Reads, HoldsImage, HoldsNoText}
+use Rattle.job_parts.specs.Files.{Reads, HoldsImage}
 use Rattle.job_parts.specs.Options.{image_name}
-use Rattle.job_parts.specs.Reading.{IsNoProgram}
+use Rattle.job_parts.specs.Reading.{IsNoProgram, TextUnread}
 use Rattle.job_parts.specs.declared.faults.Fault.{Fault}
-use Rattle.job_parts.specs.declared.faults.Fault.TheVariants.{CannotRead, NoMemory}
+use Rattle.job_parts.specs.declared.faults.Fault.TheVariants.{NoMemory}
 use Rattle.job_parts.specs.declared.lines.LinesArgs.{LinesArgs}
 
 module _ {S : Type 0} (reads : Reads S) where
@@ -24,13 +23,6 @@ module _ {S : Type 0} (reads : Reads S) where
   abbrev pub HoldsNoProgram : (before : S) → Option (List ℕ) → Maps → (after : S) → Fault → Type 0
   HoldsNoProgram before None maps after fault = (after ≡ before) × IsNoFactory fault
   HoldsNoProgram before (Some name) maps after fault = IsNoProgram reads before name maps after fault
-
-  -- the file of lines cannot be read, or is not UTF-8
-  pub record LinesUnread (before : S) (lines : List ℕ) (after : S) (fault : Fault) : Type 0 where
-    pub file : Bor (List ℕ)
-    pub named : file.now ≡ lines
-    pub is_fault : fault ≡ CannotRead file
-    pub no_text : HoldsNoText reads before lines after
 
   -- the lines were read, and are UTF-8, but there is no program for a node with these maps
   pub record ProgramUnread (before : S) (lines : List ℕ) (image : Option (List ℕ)) (maps : Maps) (after : S)
@@ -68,6 +60,6 @@ module _ {S : Type 0} (reads : Reads S) (args : LinesArgs) where
   -- lines or program cannot be read, or memory was refused for what takes the lines
   abbrev pub IsNotReady : (before after : S) → Fault → Type 0
   IsNotReady before after fault =
-      LinesUnread reads before (string_bytes args.lines) after fault
+      TextUnread reads before (string_bytes args.lines) after fault
       ⊎ ProgramUnread reads before (string_bytes args.lines) (image_name args.node) args.node.sizes after fault
       ⊎ IsUnmade before after fault

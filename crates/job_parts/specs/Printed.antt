@@ -1,6 +1,8 @@
 -- What is printed, and the line of the fault that ends a job.
 use Rattle.std.specs.Prelude.{ℕ, List, [], ◌∷◌, ◌++◌, codes, decimal, Option}
 use Rattle.std.specs.Io.KnownBytes.{Appends}
+use Rattle.std.specs.List.{flat_map}
+use Rattle.std.specs.Str.Lines.{lines}
 use Rattle.basm.specs.Codes.{asm_code}
 use Rattle.bpf.specs.Fault.{image_fault_code, image_fault_slot}
 use Rattle.bver_form.specs.Codes.{refusal_code}
@@ -25,6 +27,18 @@ Prints contents old new line = Appends (contents old) (contents new) line
 -- more was printed, behind what the writer holds where that is known
 abbrev pub PrintsMore : (old new : Option (List ℕ)) → Type 0
 PrintsMore old new = (more : List ℕ) × Appends old new more
+
+-- a line, four columns further right
+abbrev pub indented_line : List ℕ → List ℕ
+indented_line line = codes "    " ++ line ++ 10 ∷ []
+
+-- each line of a text, four columns further right
+abbrev pub indented : List ℕ → List ℕ
+indented text = flat_map indented_line (lines text)
+
+-- a reason was printed: the lines of some text, four columns further right
+abbrev pub GivesReason : (old new : Option (List ℕ)) → Type 0
+GivesReason old new = (reason : List ℕ) × Appends old new (indented reason)
 
 -- the text of what ends a job
 abbrev pub fault_text : Fault → List ℕ

@@ -1,7 +1,7 @@
-//! What is printed as it stands.
+//! Texts that are printed.
 
 ghost use Rattle.std.specs.Prelude.{OnOk};
-ghost use Rattle.job_parts.specs.Printed.{Prints};
+ghost use Rattle.job_parts.specs.Printed.{Prints, indented};
 
 use std::io::{self, Write};
 
@@ -10,4 +10,14 @@ pub fn print_text<W: Write>(out: &mut W, text: &str) -> io::Result<()>
     ensures { OnOk result (Prints W.contents out.old out.new text.now) }
 {
     write!(out, "{text}")
+}
+
+/// Prints each line of a text, four columns further right: so are the reasons told that stand behind a line.
+pub fn print_indented<W: Write>(out: &mut W, text: &str) -> io::Result<()>
+    ensures { OnOk result (Prints W.contents out.old out.new (indented text.now)) }
+{
+    for line in text.lines() {
+        writeln!(out, "    {line}")?;
+    }
+    Ok(())
 }

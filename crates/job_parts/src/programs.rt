@@ -14,8 +14,12 @@ use bpf::Image;
 use bver::{Accepted, MapSizes, verify};
 use std::alloc::Global;
 
-/// The bytes of the file of this name.
-fn bytes_in<'a, F: Files>(alloc: Global, files: &mut F, name: &'a str) -> Result<Vec<u8>, Fault<'a>>
+/// The bytes of the file of this name, or `CannotRead`.
+pub fn bytes_in<'a, F: Files>(
+    alloc: Global,
+    files: &mut F,
+    name: &'a str,
+) -> Result<Vec<u8>, Fault<'a>>
     ensures gave { MatchResult result
         (λ bytes. F.reads files.old name.now (Some bytes.items) files.new)
         (λ _. F.reads files.old name.now None files.new) }

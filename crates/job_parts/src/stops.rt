@@ -1,6 +1,6 @@
 //! Why a job stops.
 
-ghost use Rattle.std.specs.Prelude.{◌≡◌};
+ghost use Rattle.std.specs.Prelude.{◌≡◌, MatchResult};
 ghost use Rattle.job_parts.specs.Stops.{fault_at, halt_at};
 ghost use Rattle.job_parts.specs.declared.faults.Fault.TheVariants.{NoMemory};
 ghost use Rattle.job_parts.specs.declared.stops.Halt.TheVariants.{Ended, Unwritten};
@@ -29,6 +29,22 @@ pub enum Halt<'a> {
     Ended(Fault<'a>),
     /// The writer failed.
     Unwritten(WriteFault),
+}
+
+impl<'a> Halt<'a> {
+    /// The fault that is still to be printed.
+    ///
+    /// `WriteFault` where the writer failed.
+    pub fn fault(self) -> Result<Fault<'a>, WriteFault>
+        ensures { MatchResult result
+            (λ fault. self.entry ≡ Ended fault)
+            (λ refused. self.entry ≡ Unwritten refused) }
+    {
+        match self {
+            Halt::Ended(fault) => Ok(fault),
+            Halt::Unwritten(refused) => Err(refused),
+        }
+    }
 }
 
 impl<'a> From<Fault<'a>> for Halt<'a> {

@@ -1,14 +1,24 @@
 -- Lines that are taken in turn, and the packets that come of them.
 use Rattle.std.proofs.Common.{◌≡◌, ◌<◌, ◌≤◌, ◌+◌, ◌⊎◌, ℕ, suc, Bool, true, false, cond, List, [], ◌∷◌, ◌++◌, length, map, replicate, get_or, Option, Some, None, refl, sym, ap, subst, arith, ◌∙◌, inl, inr}
 use Rattle.std.specs.Prelude.{◌==◌, filter, slice_index_or, slice_set}
-use Rattle.std.proofs.lemmas.Bool.{eqb-false, eqb-true}
+use Rattle.std.proofs.lemmas.Bool.{cases_lt, eqb-false, eqb-true}
 use Rattle.std.proofs.lemmas.List.{append-nil, append_assoc, get_or-replicate, get_or-set_other, get_or-set_same, length-append, length-replicate, length-set, map-append}
 use Rattle.std.proofs.lemmas.List.Elements.{filter-append}
+use Rattle.std.proofs.lemmas.Option.{slice_get_within}
 use Rattle.spw.specs.Cargo.{Cargo}
-use Rattle.job_ports.specs.Arrivals.{AreByPort, AreNotTaken, AreTaken, Arrive, ArriveAll, Bring, IsAdded, IsNotTakenIn, TakesIn, count_at, listed, packets_at}
 use Rattle.job_nodes.specs.Feeds.{IsFed}
+use Rattle.job_parts.specs.Stops.{StopsBy, fault_at}
+use Rattle.job_parts.specs.Turns.{AreTaken as AreTakenInTurn, StopsIn}
+use Rattle.job_parts.specs.declared.bad_lines.BadLine.{BadLine}
+use Rattle.job_parts.specs.declared.bad_lines.BadLine.TheVariants.{NoRoom}
 use Rattle.job_parts.specs.declared.faults.Fault.{Fault}
-use Rattle.job_parts.specs.declared.faults.Fault.TheVariants.{CannotRead, CannotWrite, NoMemory, BadText, BadTable, BadImage, Refused, BadLine}
+use Rattle.job_parts.specs.declared.stops.Halt.{Halt}
+use Rattle.job_parts.specs.declared.stops.Halt.TheVariants.{Ended, Unwritten}
+use Rattle.job_parts.specs.declared.stops.LineEnd.{LineEnd}
+use Rattle.job_parts.specs.declared.stops.LineEnd.TheVariants.{Bad, NoMemory as OutOfMemory}
+use Rattle.job_ports.specs.Arrivals.{AreByPort, AreNotTaken, AreTaken, Arrive, ArriveAll, Bring, HasRoom, IsAdded, IsBadHere, IsNotTakenIn, IsOneTooMany, TakesIn, count_at, listed, packets_at}
+use Rattle.job_ports.specs.Arriving.{Arrives, IsRefused}
+use Rattle.job_ports.specs.declared.arriving.Arriving.{Arriving}
 
 -- No line was taken yet.
 pub none_yet : (ports : ℕ) → Arrive [] ports (replicate ports []) (replicate ports [])
@@ -87,9 +97,9 @@ sort_more ports packets None before after was is =
     subst (λ (t : List (List Cargo)). AreByPort ports (packets ++ []) t) (sym is)
     (subst (λ (l : List (ℕ × Cargo)). AreByPort ports l before) (sym (append-nil packets)) was)
 sort_more ports packets (Some came) before after was is =
-    subst (λ (t : List (List Cargo)). AreByPort ports (packets ++ came ∷ []) t) (sym is.2) (record {
+    subst (λ (t : List (List Cargo)). AreByPort ports (packets ++ came ∷ []) t) (sym is.1) (record {
       count = length-set before came.0 _ ∙ was.count;
-      each = λ port below. sorted_at ports packets came before was is.0 port (came.0 == port) refl below;
+      each = λ port below. sorted_at ports packets came before was is.0.0 port (came.0 == port) refl below;
     })
 
 -- And no port has too many.
@@ -99,7 +109,7 @@ few_more : (ports : ℕ) (packets : List (ℕ × Cargo)) (came : Option (ℕ × 
 few_more ports packets None before after was is few port =
     omega (arith, few port, ap (λ (l : List (ℕ × Cargo)). length (packets_at port l)) (append-nil packets))
 few_more ports packets (Some came) before after was is few port =
-    few_at ports packets came before was is.0 few is.1 port (came.0 == port) refl
+    few_at ports packets came before was is.0.0 few is.0.1 port (came.0 == port) refl
 
 -- One more line is taken in.
 pub arrive_more : (lines : List (List ℕ)) (line : List ℕ) (ports : ℕ) (held left : List (List ℕ)) (before after : List (List Cargo))
@@ -113,46 +123,107 @@ arrive_more lines line ports held left before after all one = record {
   sorted = sort_more ports all.packets one.came before after all.sorted one.added;
 }
 
--- All lines are taken in.
-pub arrive_all : (lines : List (List ℕ)) (ports : ℕ) (held : List (List ℕ)) (by_port : List (List Cargo)) → Arrive lines ports held by_port → ArriveAll lines ports by_port
-arrive_all lines ports held by_port all = record {
-  packets = all.packets;
-  lines_are = record { held = held; taken = all.taken };
-  sorted = all.sorted;
-}
+-- A line leaves as many ports as there were.
+fed_same : (line : List ℕ) (before after : List (List ℕ)) (came : Option (ℕ × Cargo)) → IsFed line before after came → length after ≡ length before
+fed_same line before after None fed = ap (λ (l : List (List ℕ)). length l) fed.4 ∙ length-set before fed.0 fed.1
+fed_same line before after (Some came) fed = ap (λ (l : List (List ℕ)). length l) fed.2 ∙ length-set before came.0 []
 
--- A line that is not taken in is one of the lines.
-pub breaks_at : (lines taken rest : List (List ℕ)) (line : List ℕ) (count ports : ℕ) (held : List (List ℕ)) (by_port : List (List Cargo)) (fault : Fault)
-    → lines ≡ taken ++ line ∷ rest → count ≡ suc (length taken) → Arrive taken ports held by_port → IsNotTakenIn line count held by_port fault → AreNotTaken lines ports fault
-breaks_at lines taken rest line count ports held by_port (CannotRead file) are place all bad = bad
-breaks_at lines taken rest line count ports held by_port (CannotWrite file) are place all bad = bad
-breaks_at lines taken rest line count ports held by_port NoMemory are place all bad = tt
-breaks_at lines taken rest line count ports held by_port (BadText fault) are place all bad = bad
-breaks_at lines taken rest line count ports held by_port (BadTable fault) are place all bad = bad
-breaks_at lines taken rest line count ports held by_port (BadImage fault) are place all bad = bad
-breaks_at lines taken rest line count ports held by_port (Refused refused) are place all bad = bad
-breaks_at lines taken rest line count ports held by_port (BadLine number fault) are place all bad = record {
-  before = taken;
-  line = line;
-  rest = rest;
-  held = held;
-  packets = all.packets;
-  lines_are = are;
-  place = bad.0 ∙ place;
-  taken = all.taken;
-  breaks = elim bad.1 [
-    | inl here ↦ inl here
-    | inr full ↦ inr (
+brought_same : (lines : List (List ℕ)) (before after : List (List ℕ)) (packets : List (ℕ × Cargo)) → Bring lines before after packets → length after ≡ length before
+brought_same [] before after packets all = ap (λ (l : List (List ℕ)). length l) all.0
+brought_same (line ∷ lines) before after packets all =
+    brought_same lines all.1 after all.2 all.4 ∙ fed_same line before all.1 all.0 all.3
+
+-- Lines behind others are taken in.
+pub arrive_behind : (done lines : List (List ℕ)) (ports : ℕ) (before after : Arriving) (old new : Option (List ℕ))
+    → Arrive done ports before.feeds before.arrivals → AreTakenInTurn Arrives lines before after old new
+    → Arrive (done ++ lines) ports after.feeds after.arrivals
+arrive_behind done [] ports before after old new first all =
+    subst (λ (l : List (List ℕ)). Arrive l ports after.feeds after.arrivals) (sym (append-nil done))
+    (subst (λ (x : Arriving). Arrive done ports x.feeds x.arrivals) (sym all.0) first)
+arrive_behind done (line ∷ lines) ports before after old new first all =
+    subst (λ (l : List (List ℕ)). Arrive l ports after.feeds after.arrivals) (append_assoc done (line ∷ []) lines)
+    (arrive_behind (done ++ line ∷ []) lines ports all.0 after all.1 new
+    (arrive_more done line ports before.feeds all.0.feeds before.arrivals all.0.arrivals first all.2.0) all.3)
+
+-- Ports that held nothing.
+first_arrive : (ports : ℕ) (start : Arriving) → start.feeds ≡ replicate ports [] → start.arrivals ≡ replicate ports []
+    → Arrive [] ports start.feeds start.arrivals
+first_arrive ports start feeds arrivals =
+    subst (λ (h : List (List ℕ)). Arrive [] ports h start.arrivals) (sym feeds)
+    (subst (λ (a : List (List Cargo)). Arrive [] ports (replicate ports []) a) (sym arrivals) (none_yet ports))
+
+-- All lines are taken in.
+pub all_arrive : (lines : List (List ℕ)) (ports : ℕ) (start after : Arriving) (old new : Option (List ℕ))
+    → start.feeds ≡ replicate ports [] → start.arrivals ≡ replicate ports [] → AreTakenInTurn Arrives lines start after old new
+    → ArriveAll lines ports after.arrivals
+all_arrive lines ports start after old new feeds arrivals all =
+    let taken = arrive_behind [] lines ports start after old new (first_arrive ports start feeds arrivals) all in record {
+      packets = taken.packets;
+      lines_are = record { held = after.feeds; taken = taken.taken };
+      sorted = taken.sorted;
+    }
+
+-- A port that has no room has all packets that it may have.
+full_port : (ports : ℕ) (packets : List (ℕ × Cargo)) (by_port : List (List Cargo)) (port : ℕ)
+    → AreByPort ports packets by_port → port < ports → ((port : ℕ) → length (packets_at port packets) ≤ 1023) → ¬ HasRoom port by_port
+    → length (packets_at port packets) ≡ 1023
+full_port ports packets by_port port sorted below few full =
+    let size = ap (λ (l : List Cargo). length l) (sorted.each port below) in
+    elim (cases_lt (count_at port by_port) 1023) [
+      | inl less ↦ absurd (full (omega (arith, below, sorted.count), less))
+      | inr enough ↦ omega (arith, enough, size, few port)
+    ]
+
+-- What is wrong with a line behind lines that were taken in.
+breaks : (line : List ℕ) (done : List (List ℕ)) (ports : ℕ) (held : List (List ℕ)) (by_port : List (List Cargo)) (fault : BadLine)
+    (all : Arrive done ports held by_port) → IsNotTakenIn line held by_port (Bad fault)
+    → IsBadHere line held fault ⊎ ((fault ≡ NoRoom) × IsOneTooMany line held all.packets)
+breaks line done ports held by_port fault all (inl here) = inl here
+breaks line done ports held by_port fault all (inr full) =
+    let found = full.1 in
+    let same = brought_same done (replicate ports []) held all.packets all.taken.brought ∙ length-replicate ports [] in
+    let below : found.port < ports = omega (arith, same, slice_get_within held found.port found.fed.0.own found.fed.0.holder) in
+    inr (
       full.0,
       record {
-        port = full.1.port;
-        packet = full.1.packet;
-        left = full.1.left;
-        fed = full.1.fed;
-        full =
-            let size = ap (λ (l : List Cargo). length l) (all.sorted.each full.1.port (omega (arith, full.1.inside, all.sorted.count))) in
-            omega (arith, size, full.1.full, all.taken.few full.1.port);
+        port = found.port;
+        packet = found.packet;
+        left = found.left;
+        fed = found.fed;
+        full = full_port ports all.packets by_port found.port all.sorted below all.taken.few found.full;
       },
     )
-  ];
-}
+
+-- A line that is not taken in is one of the lines.
+not_taken : (lines : List (List ℕ)) (ports : ℕ) (start left : Arriving) (old new : Option (List ℕ)) (fault : Fault)
+    → start.feeds ≡ replicate ports [] → start.arrivals ≡ replicate ports []
+    → (stop : StopsIn Arrives IsRefused lines start left old new fault) (end : LineEnd) → stop.end ≡ end → AreNotTaken lines ports fault
+not_taken lines ports start left old new fault feeds arrivals stop OutOfMemory is =
+    inl (stop.is_fault ∙ ap (λ (e : LineEnd). fault_at (suc (length stop.done)) e) is)
+not_taken lines ports start left old new fault feeds arrivals stop (Bad bad) is =
+    let first = first_arrive ports start feeds arrivals in
+    let all = arrive_behind [] stop.done ports start stop.between old stop.printed first stop.all in
+    let wrong = subst (λ (e : LineEnd). IsNotTakenIn stop.line stop.between.feeds stop.between.arrivals e) is stop.bad in
+    inr (
+      suc (length stop.done),
+      bad,
+      stop.is_fault ∙ ap (λ (e : LineEnd). fault_at (suc (length stop.done)) e) is,
+      record {
+        before = stop.done;
+        line = stop.line;
+        rest = stop.rest;
+        held = stop.between.feeds;
+        packets = all.packets;
+        lines_are = stop.lines_are;
+        place = refl;
+        taken = all.taken;
+        breaks = breaks stop.line stop.done ports stop.between.feeds stop.between.arrivals bad all wrong;
+      },
+    )
+
+pub halts : (lines : List (List ℕ)) (ports : ℕ) (start left : Arriving) (old new : Option (List ℕ)) (halt : Halt)
+    → start.feeds ≡ replicate ports [] → start.arrivals ≡ replicate ports []
+    → StopsBy (StopsIn Arrives IsRefused lines start left old new) halt → StopsBy (AreNotTaken lines ports) halt
+halts lines ports start left old new (Ended fault) feeds arrivals stop =
+    not_taken lines ports start left old new fault feeds arrivals stop stop.end refl
+halts lines ports start left old new (Unwritten refused) feeds arrivals stop = tt

@@ -2,7 +2,6 @@ mod Arriving
 mod Desking
 mod Ending
 mod Filling
-mod LinesInTurn
 mod NotServed
 mod PrintedLines
 mod Rejoining

@@ -25,16 +25,9 @@ use Rattle.spw.specs.Cargo.{Cargo}
 use Rattle.job_parts.specs.declared.bad_lines.BadLine.{BadLine}
 use Rattle.job_parts.specs.declared.bad_lines.BadLine.TheVariants.{NoRoom}
 use Rattle.job_parts.specs.declared.faults.Fault.{Fault}
-use Rattle.job_parts.specs.declared.faults.Fault.TheVariants.{
-  CannotRead,
-  CannotWrite,
-  NoMemory,
-  BadText,
-  BadTable,
-  BadImage,
-  Refused,
-  BadLine as AtLine,
-}
+use Rattle.job_parts.specs.declared.faults.Fault.TheVariants.{NoMemory, BadLine as AtLine}
+use Rattle.job_parts.specs.declared.stops.LineEnd.{LineEnd}
+use Rattle.job_parts.specs.declared.stops.LineEnd.TheVariants.{Bad, NoMemory as OutOfMemory}
 use Rattle.job_nodes.specs.Feeds.{IsFed, IsNotFed}
 
 -- the packets of one port among these, in order
@@ -93,16 +86,10 @@ pub record BreaksAt (lines : List (List ℕ)) (ports number : ℕ) (fault : BadL
   pub taken : AreTaken before ports held packets
   pub breaks : IsBadHere line held fault ⊎ ((fault ≡ NoRoom) × IsOneTooMany line held packets)
 
--- why the lines are not taken: one of them has a fault, or memory was refused
+-- why the lines are not taken: memory was refused, or one of them has a fault
 abbrev pub AreNotTaken : List (List ℕ) → (ports : ℕ) → Fault → Type 0
-AreNotTaken lines ports (CannotRead file) = ⊥
-AreNotTaken lines ports (CannotWrite file) = ⊥
-AreNotTaken lines ports NoMemory = Unit {0}
-AreNotTaken lines ports (BadText fault) = ⊥
-AreNotTaken lines ports (BadTable fault) = ⊥
-AreNotTaken lines ports (BadImage fault) = ⊥
-AreNotTaken lines ports (Refused refused) = ⊥
-AreNotTaken lines ports (AtLine number fault) = BreaksAt lines ports number fault
+AreNotTaken lines ports fault =
+    (fault ≡ NoMemory) ⊎ ((number : ℕ) × (bad : BadLine) × (fault ≡ AtLine number bad) × BreaksAt lines ports number bad)
 
 -- the packets of each port, by its number
 pub record AreByPort (ports : ℕ) (packets : List (ℕ × Cargo)) (by_port : List (List Cargo)) : Type 0 where
@@ -126,11 +113,15 @@ pub record ArriveAll (lines : List (List ℕ)) (ports : ℕ) (by_port : List (Li
 abbrev pub count_at : (port : ℕ) → List (List Cargo) → ℕ
 count_at port by_port = length (slice_index_or by_port port [])
 
--- the packet that came, if one did, stands behind the others of its port, which had fewer than 1,023
+-- there is such a port, and fewer than 1,023 packets came to it
+abbrev pub HasRoom : (port : ℕ) → List (List Cargo) → Type 0
+HasRoom port by_port = (port < length by_port) × (count_at port by_port < 1023)
+
+-- the packet that came, if one did, stands behind the others of its port, which had room for it
 abbrev pub IsAdded : Option (ℕ × Cargo) → (before after : List (List Cargo)) → Type 0
 IsAdded None before after = after ≡ before
-IsAdded (Some came) before after = (came.0 < length before) × (count_at came.0 before < 1023)
-    × (after ≡ slice_set before came.0 (slice_index_or before came.0 [] ++ came.1 ∷ []))
+IsAdded (Some came) before after =
+    HasRoom came.0 before × (after ≡ slice_set before came.0 (slice_index_or before came.0 [] ++ came.1 ∷ []))
 
 -- the line was taken, and what came of it was added
 pub record TakesIn (line : List ℕ) (held left : List (List ℕ)) (before after : List (List Cargo)) : Type 0 where
@@ -138,23 +129,15 @@ pub record TakesIn (line : List ℕ) (held left : List (List ℕ)) (before after
   pub fed : IsFed line held left came
   pub added : IsAdded came before after
 
--- the line ends a packet of a port to which 1,023 came
+-- the line ends a packet of a port that has no room for it
 pub record FindsFull (line : List ℕ) (held : List (List ℕ)) (before : List (List Cargo)) : Type 0 where
   pub port : ℕ
   pub packet : Cargo
   pub left : List (List ℕ)
   pub fed : IsFed line held left (Some (port, packet))
-  pub inside : port < length before
-  pub full : 1023 ≤ count_at port before
+  pub full : ¬ HasRoom port before
 
--- why the line of this number was not taken in
-abbrev pub IsNotTakenIn : List ℕ → (number : ℕ) → (held : List (List ℕ)) → List (List Cargo) → Fault → Type 0
-IsNotTakenIn line count held before (CannotRead file) = ⊥
-IsNotTakenIn line count held before (CannotWrite file) = ⊥
-IsNotTakenIn line count held before NoMemory = Unit {0}
-IsNotTakenIn line count held before (BadText fault) = ⊥
-IsNotTakenIn line count held before (BadTable fault) = ⊥
-IsNotTakenIn line count held before (BadImage fault) = ⊥
-IsNotTakenIn line count held before (Refused refused) = ⊥
-IsNotTakenIn line count held before (AtLine number fault) =
-    (number ≡ count) × (IsBadHere line held fault ⊎ ((fault ≡ NoRoom) × FindsFull line held before))
+-- why the line was not taken in
+abbrev pub IsNotTakenIn : List ℕ → (held : List (List ℕ)) → List (List Cargo) → LineEnd → Type 0
+IsNotTakenIn line held before (Bad fault) = IsBadHere line held fault ⊎ ((fault ≡ NoRoom) × FindsFull line held before)
+IsNotTakenIn line held before OutOfMemory = Unit {0}

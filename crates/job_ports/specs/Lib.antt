@@ -1,4 +1,5 @@
 pub mod Arrivals
+pub mod Arriving
 pub mod Queues
 pub mod ServeJob
 pub mod ServedFile

@@ -2,5 +2,6 @@
 #![tactic(auto)]
 
 pub mod arrivals;
+pub mod arriving;
 pub mod queues;
 pub mod serve;

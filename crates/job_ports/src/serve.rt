@@ -6,16 +6,17 @@ ghost use Rattle.clap.specs.Simple.{app_of};
 ghost use Rattle.clap.specs.declared.builder.command.Command.TheViews.{out-Command as fields_of};
 ghost use Rattle.ports.specs.Sinks.{replies_in};
 ghost use Rattle.job_parts.specs.Printed.{Prints};
+ghost use Rattle.job_parts.specs.Statuses.{IsDoneWith};
 ghost use Rattle.job_parts.specs.Stops.{StopsBy};
 ghost use Rattle.job_ports.specs.ServeJob.{lines_from, port_lines, report_line, serve_app};
 ghost use Rattle.job_ports.specs.ServedFile.{IsNotServed, ServesFile, ServesWords};
 
-use crate::arrivals::read_lines;
+use crate::arriving::read_lines;
 use crate::queues::serve_arrivals;
 use clap::Command;
-use job_parts::faults::Fault;
 use job_parts::lines::{LinesArgs, lines_and_program, lines_command};
 use job_parts::replies::print_reply;
+use job_parts::status::Status;
 use job_parts::stops::Halt;
 use job_parts::storage::Files;
 use ports::{Replies, Report};
@@ -43,17 +44,18 @@ fn serve_words<'a, J: ProgramFamily + Send + 'static, R: Threads + Wait + Sync, 
     opened: Opened,
     args: &'a LinesArgs,
     files: &mut F,
-) -> Result<(Vec<Replies>, Report), Fault<'a>>
+) -> Result<(Vec<Replies>, Report), Halt<'a>>
     requires { opened ≡ J.book }
     ensures served { IfOk result (λ made. ServesWords F.reads args.now files.old files.new
         made.0.items made.1) }
     ensures few { IfOk result (λ made. length made.0.items < 256) }
-    ensures refused { IfErr result (IsNotServed F.reads args.now files.old files.new) }
+    ensures refused { IfErr result (StopsBy (IsNotServed F.reads args.now files.old files.new)) }
 {
     let (text, program) = lines_and_program(alloc, args, files)?;
     let ports = args.node.ports;
     let arrivals = read_lines(alloc, text.as_str(), ports)?;
-    serve_arrivals::<J, _>(rt, alloc, opened, ports, program, arrivals)
+    let served = serve_arrivals::<J, _>(rt, alloc, opened, ports, program, arrivals)?;
+    Ok(served)
 }
 
 /// Prints the replies of a port in order.
@@ -113,15 +115,16 @@ pub fn serve_file<
     args: &'a LinesArgs,
     files: &mut F,
     out: &mut W,
-) -> Result<(), Halt<'a>>
+) -> Result<Status, Halt<'a>>
     requires { opened ≡ J.book }
-    ensures done { OnOk result (ServesFile F.reads args.now files.old files.new
-        (W.contents out.old) (W.contents out.new)) }
-    ensures stops { IfErr result (StopsBy (IsNotServed F.reads args.now files.old files.new)) }
-    ensures quiet { IfErr result (StopsBy (λ _. W.contents out.new ≡ W.contents out.old)) }
+    ensures done { IfOk result (IsDoneWith (ServesFile F.reads args.now files.old files.new
+        (W.contents out.old) (W.contents out.new))) }
+    ensures stops { IfErr result (StopsBy (λ fault.
+        IsNotServed F.reads args.now files.old files.new fault
+        × (W.contents out.new ≡ W.contents out.old))) }
 {
     let (sinks, report) = serve_words::<J, _, _>(rt, alloc, opened, args, files)?;
     print_ports(out, &sinks)?;
     print_report(out, report)?;
-    Ok(())
+    Ok(Status::Done)
 }

@@ -1,5 +1,6 @@
 -- What the job `asm` reads, writes and prints.
-use Rattle.std.specs.Prelude.{◌≡◌, ℕ, List, Option, Some, Bool, true, false}
+use Rattle.std.specs.Prelude.{◌≡◌, ◌⊎◌, ℕ, List, Option, Some, Bool, true, false}
+use Rattle.std.specs.Borrow.{Bor}
 use Rattle.std.specs.Io.KnownBytes.{Appends}
 use Rattle.std.specs.Str.{IsUtf8}
 use Rattle.bpf.specs.Program.{Program, image_bytes}
@@ -7,18 +8,10 @@ use Rattle.basm.specs.Outcomes.{out_of_memory}
 use Rattle.basm.specs.Relation.{IsText}
 use Rattle.basm.specs.declared.faults.AsmFault.{AsmFault}
 use Rattle.job_texts.specs.AsmJob.{parts_line}
-use Rattle.job_parts.specs.Files.{Reads, Writes, HoldsNoText}
+use Rattle.job_parts.specs.Files.{Reads, Writes}
+use Rattle.job_parts.specs.Reading.{TextUnread}
 use Rattle.job_parts.specs.declared.faults.Fault.{Fault}
-use Rattle.job_parts.specs.declared.faults.Fault.TheVariants.{
-  CannotRead,
-  CannotWrite,
-  NoMemory,
-  BadText,
-  BadTable,
-  BadImage,
-  Refused,
-  BadLine,
-}
+use Rattle.job_parts.specs.declared.faults.Fault.TheVariants.{CannotWrite, NoMemory, BadText}
 
 module _ {S : Type 0} (reads : Reads S) where
   -- the file was read, and gave UTF-8 that is a text of the program
@@ -37,14 +30,9 @@ module _ {S : Type 0} (reads : Reads S) where
 
   -- the file gives no text of a program
   abbrev pub IsNoText : (before : S) (name : List ℕ) (after : S) → Fault → Type 0
-  IsNoText before name after (CannotRead file) = (file.now ≡ name) × HoldsNoText reads before name after
-  IsNoText before name after (CannotWrite file) = ⊥
-  IsNoText before name after NoMemory = ⊥
-  IsNoText before name after (BadText fault) = HoldsBadText before name after fault
-  IsNoText before name after (BadTable fault) = ⊥
-  IsNoText before name after (BadImage fault) = ⊥
-  IsNoText before name after (Refused refused) = ⊥
-  IsNoText before name after (BadLine number fault) = ⊥
+  IsNoText before name after fault =
+      TextUnread reads before name after fault
+      ⊎ ((bad : AsmFault) × (fault ≡ BadText bad) × HoldsBadText before name after bad)
 
 module _ {S : Type 0} (reads : Reads S) (writes : Writes S) where
   -- the text's file was read and gave a text of the program, then the other was given the program's
@@ -60,14 +48,17 @@ module _ {S : Type 0} (reads : Reads S) (writes : Writes S) where
     pub assembled : Assembled before text image program true after
     pub line : Appends old new (parts_line program)
 
-  -- the file gives no text of a program, the image cannot be written, or memory was refused
+  -- the image of the program could not be written
+  pub record IsUnwritten (before : S) (text image : List ℕ) (after : S) (fault : Fault) : Type 0 where
+    pub file : Bor (List ℕ)
+    pub named : file.now ≡ image
+    pub is_fault : fault ≡ CannotWrite file
+    pub program : Program
+    pub assembled : Assembled before text image program false after
+
+  -- the file gives no text of a program, the image cannot be written, or memory was refused behind the text
   abbrev pub IsNotAssembled : (before : S) (text image : List ℕ) (after : S) → Fault → Type 0
-  IsNotAssembled before text image after (CannotRead file) = (file.now ≡ text) × HoldsNoText reads before text after
-  IsNotAssembled before text image after (CannotWrite file) = (file.now ≡ image)
-      × ((p : Program) × Assembled before text image p false after)
-  IsNotAssembled before text image after NoMemory = (p : Program) × HoldsText reads before text p after
-  IsNotAssembled before text image after (BadText fault) = HoldsBadText reads before text after fault
-  IsNotAssembled before text image after (BadTable fault) = ⊥
-  IsNotAssembled before text image after (BadImage fault) = ⊥
-  IsNotAssembled before text image after (Refused refused) = ⊥
-  IsNotAssembled before text image after (BadLine number fault) = ⊥
+  IsNotAssembled before text image after fault =
+      IsNoText reads before text after fault
+      ⊎ IsUnwritten before text image after fault
+      ⊎ ((fault ≡ NoMemory) × (p : Program) × HoldsText reads before text p after)

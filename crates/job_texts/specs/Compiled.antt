@@ -1,5 +1,6 @@
 -- What the job `policy` reads, writes and prints.
 use Rattle.std.specs.Prelude.{◌≡◌, ◌⊎◌, ℕ, List, Option, Some, Bool, true, false}
+use Rattle.std.specs.Borrow.{Bor}
 use Rattle.std.specs.Io.KnownBytes.{Appends}
 use Rattle.std.specs.Str.{IsUtf8}
 use Rattle.bpf.specs.Program.{Program, image_bytes}
@@ -11,19 +12,11 @@ use Rattle.policy_table.specs.Lines.{IsReadFault, IsTable}
 use Rattle.policy_table.specs.declared.faults.PolicyFault.{PolicyFault}
 use Rattle.policy_table.specs.declared.rules.Rule.{Rule}
 use Rattle.spw.specs.Line.{lines_of}
-use Rattle.job_parts.specs.Files.{Reads, Writes, HoldsNoText}
+use Rattle.job_parts.specs.Files.{Reads, Writes}
+use Rattle.job_parts.specs.Reading.{TextUnread}
 use Rattle.job_texts.specs.PolicyJob.{slots_line}
 use Rattle.job_parts.specs.declared.faults.Fault.{Fault}
-use Rattle.job_parts.specs.declared.faults.Fault.TheVariants.{
-  CannotRead,
-  CannotWrite,
-  NoMemory,
-  BadText,
-  BadTable,
-  BadImage,
-  Refused,
-  BadLine,
-}
+use Rattle.job_parts.specs.declared.faults.Fault.TheVariants.{CannotWrite, NoMemory, BadTable}
 
 module _ {S : Type 0} (reads : Reads S) where
   -- the file was read, and gave UTF-8 that is the table of these rules
@@ -42,14 +35,9 @@ module _ {S : Type 0} (reads : Reads S) where
 
   -- the file gives no table
   abbrev pub IsNoTable : (before : S) (name : List ℕ) (after : S) → Fault → Type 0
-  IsNoTable before name after (CannotRead file) = (file.now ≡ name) × HoldsNoText reads before name after
-  IsNoTable before name after (CannotWrite file) = ⊥
-  IsNoTable before name after NoMemory = ⊥
-  IsNoTable before name after (BadText fault) = ⊥
-  IsNoTable before name after (BadTable fault) = HoldsBadTable before name after fault
-  IsNoTable before name after (BadImage fault) = ⊥
-  IsNoTable before name after (Refused refused) = ⊥
-  IsNoTable before name after (BadLine number fault) = ⊥
+  IsNoTable before name after fault =
+      TextUnread reads before name after fault
+      ⊎ ((bad : PolicyFault) × (fault ≡ BadTable bad) × HoldsBadTable before name after bad)
 
   -- the file holds a table that was compiled to the program, for maps of these sizes, on a node with which it may judge
   pub record HoldsPolicy (before : S) (name : List ℕ) (sizes : Maps) (p : Program) (after : S) : Type 0 where
@@ -67,15 +55,9 @@ module _ {S : Type 0} (reads : Reads S) where
 
   -- the file gives no table that is compiled for maps of these sizes
   abbrev pub IsNoPolicy : (before : S) (name : List ℕ) (sizes : Maps) (after : S) → Fault → Type 0
-  IsNoPolicy before name sizes after (CannotRead file) = (file.now ≡ name) × HoldsNoText reads before name after
-  IsNoPolicy before name sizes after (CannotWrite file) = ⊥
-  IsNoPolicy before name sizes after NoMemory = ⊥
-  IsNoPolicy before name sizes after (BadText fault) = ⊥
-  IsNoPolicy before name sizes after (BadTable fault) =
-      HoldsBadTable before name after fault ⊎ HoldsFaultyTable before name sizes after fault
-  IsNoPolicy before name sizes after (BadImage fault) = ⊥
-  IsNoPolicy before name sizes after (Refused refused) = ⊥
-  IsNoPolicy before name sizes after (BadLine number fault) = ⊥
+  IsNoPolicy before name sizes after fault =
+      IsNoTable before name after fault
+      ⊎ ((bad : PolicyFault) × (fault ≡ BadTable bad) × HoldsFaultyTable before name sizes after bad)
 
 module _ {S : Type 0} (reads : Reads S) (writes : Writes S) where
   -- the table's file was read and gave a table that was compiled to the program, then the other was given the
@@ -93,16 +75,17 @@ module _ {S : Type 0} (reads : Reads S) (writes : Writes S) where
     pub compiled : Compiled before table image sizes program true after
     pub line : Appends old new (slots_line program)
 
-  -- the file gives no table that is compiled, the image cannot be written, or memory was refused
+  -- the image of the table's program could not be written
+  pub record IsUnwritten (before : S) (table image : List ℕ) (sizes : Maps) (after : S) (fault : Fault) : Type 0 where
+    pub file : Bor (List ℕ)
+    pub named : file.now ≡ image
+    pub is_fault : fault ≡ CannotWrite file
+    pub program : Program
+    pub compiled : Compiled before table image sizes program false after
+
+  -- the file gives no table that is compiled, the image cannot be written, or memory was refused behind the table
   abbrev pub IsNotCompiled : (before : S) (table image : List ℕ) (sizes : Maps) (after : S) → Fault → Type 0
-  IsNotCompiled before table image sizes after (CannotRead file) = (file.now ≡ table)
-      × HoldsNoText reads before table after
-  IsNotCompiled before table image sizes after (CannotWrite file) =
-      (file.now ≡ image) × ((p : Program) × Compiled before table image sizes p false after)
-  IsNotCompiled before table image sizes after NoMemory = (p : Program) × HoldsPolicy reads before table sizes p after
-  IsNotCompiled before table image sizes after (BadText fault) = ⊥
-  IsNotCompiled before table image sizes after (BadTable fault) =
-      HoldsBadTable reads before table after fault ⊎ HoldsFaultyTable reads before table sizes after fault
-  IsNotCompiled before table image sizes after (BadImage fault) = ⊥
-  IsNotCompiled before table image sizes after (Refused refused) = ⊥
-  IsNotCompiled before table image sizes after (BadLine number fault) = ⊥
+  IsNotCompiled before table image sizes after fault =
+      IsNoPolicy reads before table sizes after fault
+      ⊎ IsUnwritten before table image sizes after fault
+      ⊎ ((fault ≡ NoMemory) × (p : Program) × HoldsPolicy reads before table sizes p after)

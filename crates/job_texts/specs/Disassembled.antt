@@ -1,20 +1,11 @@
 -- What the job `dis` reads and prints.
-use Rattle.std.specs.Prelude.{◌≡◌, ℕ, List, Option, None, codes, string_bytes}
+use Rattle.std.specs.Prelude.{◌≡◌, ◌⊎◌, ℕ, List, Option, codes, string_bytes}
 use Rattle.std.specs.Io.KnownBytes.{Appends}
 use Rattle.bpf.specs.Program.{Program}
 use Rattle.job_parts.specs.Files.{Reads, HoldsImage}
-use Rattle.job_parts.specs.Reading.{HoldsFault}
+use Rattle.job_parts.specs.Reading.{IsNoImage}
 use Rattle.job_parts.specs.declared.faults.Fault.{Fault}
-use Rattle.job_parts.specs.declared.faults.Fault.TheVariants.{
-  CannotRead,
-  CannotWrite,
-  NoMemory,
-  BadText,
-  BadTable,
-  BadImage,
-  Refused,
-  BadLine,
-}
+use Rattle.job_parts.specs.declared.faults.Fault.TheVariants.{NoMemory}
 use Rattle.job_texts.specs.Listed.{listing}
 use Rattle.job_texts.specs.Needed.{PrintsMaps}
 use Rattle.job_texts.specs.declared.dis.DisWords.{DisWords}
@@ -29,13 +20,8 @@ module _ {S : Type 0} (reads : Reads S) where
     pub text : Appends old told (listing words.slots program)
     pub maps : PrintsMaps (codes "; ") program told new
 
-  -- the file gives no image, or memory was refused
+  -- the file gives no image, or memory was refused behind it
   abbrev pub IsNotPrinted : (before : S) (name : List ℕ) (after : S) → Fault → Type 0
-  IsNotPrinted before name after (CannotRead file) = (file.now ≡ name) × reads before name None after
-  IsNotPrinted before name after (CannotWrite file) = ⊥
-  IsNotPrinted before name after NoMemory = (p : Program) × HoldsImage reads before name p after
-  IsNotPrinted before name after (BadText fault) = ⊥
-  IsNotPrinted before name after (BadTable fault) = ⊥
-  IsNotPrinted before name after (BadImage fault) = HoldsFault reads before name after fault
-  IsNotPrinted before name after (Refused refused) = ⊥
-  IsNotPrinted before name after (BadLine number fault) = ⊥
+  IsNotPrinted before name after fault =
+      IsNoImage reads before name after fault
+      ⊎ ((fault ≡ NoMemory) × (p : Program) × HoldsImage reads before name p after)

@@ -3,14 +3,9 @@ pub mod Assembled
 pub mod Compiled
 pub mod DisJob
 pub mod Disassembled
-pub mod ExplainJob
-pub mod Explained
-pub mod Forms
 pub mod Images
 pub mod Listed
 pub mod Needed
 pub mod PolicyJob
-pub mod Topics
 pub mod Verified
 pub mod VerifyJob
-pub mod WhyJob

@@ -8,6 +8,7 @@ ghost use Rattle.clap.specs.Matches.{found_of};
 ghost use Rattle.job_texts.specs.AsmJob.{LacksEither, NamesAsm, asm_app, parts_line};
 ghost use Rattle.job_texts.specs.Assembled.{Assembles, HoldsText, IsNoText, IsNotAssembled};
 ghost use Rattle.job_parts.specs.Printed.{Prints};
+ghost use Rattle.job_parts.specs.Statuses.{IsDoneWith};
 ghost use Rattle.job_parts.specs.Stops.{StopsBy};
 
 use basm::assemble;
@@ -16,6 +17,7 @@ use clap::{ArgMatches, Command};
 use job_parts::arguments::{file, name_of};
 use job_parts::faults::Fault;
 use job_parts::programs::text_in;
+use job_parts::status::Status;
 use job_parts::stops::Halt;
 use job_parts::storage::Files;
 use job_parts::usage::UsageFault;
@@ -85,9 +87,9 @@ pub fn assemble_file<'a, F: Files, W: Write>(
     image: &'a str,
     files: &mut F,
     out: &mut W,
-) -> Result<(), Halt<'a>>
-    ensures done { OnOk result (Assembles F.reads F.writes files.old text.now image.now files.new
-        (W.contents out.old) (W.contents out.new)) }
+) -> Result<Status, Halt<'a>>
+    ensures done { IfOk result (IsDoneWith (Assembles F.reads F.writes files.old text.now image.now files.new
+        (W.contents out.old) (W.contents out.new))) }
     ensures stops { IfErr result (StopsBy
         (IsNotAssembled F.reads F.writes files.old text.now image.now files.new)) }
     ensures quiet { IfErr result (StopsBy (λ _. W.contents out.new ≡ W.contents out.old)) }
@@ -95,5 +97,6 @@ pub fn assemble_file<'a, F: Files, W: Write>(
     let made = assembled(alloc, files, text)?;
     let written = files.write(image, made.write()?.as_slice());
     written.map_err(|_| Fault::CannotWrite(image))?;
-    Ok(print_parts(out, &made)?)
+    print_parts(out, &made)?;
+    Ok(Status::Done)
 }

@@ -1,6 +1,6 @@
 //! The job `dis`.
 
-ghost use Rattle.std.specs.Prelude.{◌≡◌, IfErr, IfOk, OnOk, codes, false, string_bytes};
+ghost use Rattle.std.specs.Prelude.{◌≡◌, IfErr, IfOk, codes, false, string_bytes};
 ghost use Rattle.clap.specs.Simple.{app_of};
 ghost use Rattle.clap.specs.declared.builder.command.Command.TheViews.{out-Command as fields_of};
 ghost use Rattle.clap.specs.Walk.{rows_of};
@@ -8,6 +8,7 @@ ghost use Rattle.clap.specs.Matches.{found_of};
 ghost use Rattle.job_parts.specs.Arguments.{Lacks};
 ghost use Rattle.job_texts.specs.DisJob.{NamesDis, dis_app};
 ghost use Rattle.job_texts.specs.Disassembled.{Disassembles, IsNotPrinted};
+ghost use Rattle.job_parts.specs.Statuses.{IsDoneWith};
 ghost use Rattle.job_parts.specs.Stops.{StopsBy};
 
 use crate::listed::listed;
@@ -16,6 +17,7 @@ use clap::{ArgMatches, Command};
 use job_parts::arguments::{flag, image_command, is_set, name_of};
 use job_parts::printing::print_text;
 use job_parts::programs::image_in;
+use job_parts::status::Status;
 use job_parts::stops::Halt;
 use job_parts::storage::Files;
 use job_parts::usage::UsageFault;
@@ -59,9 +61,9 @@ pub fn disassemble_file<'a, F: Files, W: Write>(
     words: &'a DisWords,
     files: &mut F,
     out: &mut W,
-) -> Result<(), Halt<'a>>
-    ensures done { OnOk result (Disassembles F.reads files.old words.now files.new
-        (W.contents out.old) (W.contents out.new)) }
+) -> Result<Status, Halt<'a>>
+    ensures done { IfOk result (IsDoneWith (Disassembles F.reads files.old words.now files.new
+        (W.contents out.old) (W.contents out.new))) }
     ensures stops { IfErr result
         (StopsBy (IsNotPrinted F.reads files.old (string_bytes words.now.image) files.new)) }
     ensures quiet { IfErr result (StopsBy (λ _. W.contents out.new ≡ W.contents out.old)) }
@@ -70,5 +72,6 @@ pub fn disassemble_file<'a, F: Files, W: Write>(
     let text = listed(alloc, &image, words.slots)?;
     let maps = needed_line(alloc, "; ", &image)?;
     print_text(out, text.as_str())?;
-    Ok(print_text(out, maps.as_str())?)
+    print_text(out, maps.as_str())?;
+    Ok(Status::Done)
 }

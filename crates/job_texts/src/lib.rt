@@ -1,16 +1,11 @@
-//! The jobs of `rmapctl` on texts, tables, images and codes.
+//! The jobs of `rmapctl` on texts, tables and images.
 #![tactic(auto)]
 
 pub mod asm;
-mod checking;
+pub mod checking;
 pub mod dis;
-pub mod explain;
-mod forms;
 pub mod images;
 mod listed;
-mod needed;
+pub mod needed;
 pub mod policies;
-mod registers;
-pub mod topics;
 pub mod verify;
-pub mod why;

@@ -8,6 +8,7 @@ ghost use Rattle.clap.specs.Matches.{found_of};
 ghost use Rattle.job_texts.specs.Compiled.{CompilesTable, HoldsPolicy, HoldsTable, IsNoPolicy, IsNoTable, IsNotCompiled};
 ghost use Rattle.job_texts.specs.PolicyJob.{NamesPolicy, RefusesPolicy, policy_app, slots_line};
 ghost use Rattle.job_parts.specs.Printed.{Prints};
+ghost use Rattle.job_parts.specs.Statuses.{IsDoneWith};
 ghost use Rattle.job_parts.specs.Stops.{StopsBy};
 
 use bpf::Image;
@@ -17,6 +18,7 @@ use job_parts::arguments::{file, name_of};
 use job_parts::faults::Fault;
 use job_parts::options::{maps_option, sizes_of};
 use job_parts::programs::text_in;
+use job_parts::status::Status;
 use job_parts::stops::Halt;
 use job_parts::storage::Files;
 use job_parts::usage::UsageFault;
@@ -109,10 +111,10 @@ pub fn compile_file<'a, F: Files, W: Write>(
     words: &'a PolicyWords,
     files: &mut F,
     out: &mut W,
-) -> Result<(), Halt<'a>>
-    ensures done { OnOk result (CompilesTable F.reads F.writes files.old
+) -> Result<Status, Halt<'a>>
+    ensures done { IfOk result (IsDoneWith (CompilesTable F.reads F.writes files.old
         (string_bytes words.now.table) (string_bytes words.now.image) words.now.sizes files.new
-        (W.contents out.old) (W.contents out.new)) }
+        (W.contents out.old) (W.contents out.new))) }
     ensures stops { IfErr result (StopsBy (IsNotCompiled F.reads F.writes files.old
         (string_bytes words.now.table) (string_bytes words.now.image) words.now.sizes files.new)) }
     ensures quiet { IfErr result (StopsBy (λ _. W.contents out.new ≡ W.contents out.old)) }
@@ -121,5 +123,6 @@ pub fn compile_file<'a, F: Files, W: Write>(
     let made = compiled(alloc, files, words.table.as_str(), words.sizes)?;
     let written = files.write(image, made.write()?.as_slice());
     written.map_err(|_| Fault::CannotWrite(image))?;
-    Ok(print_slots(out, &made)?)
+    print_slots(out, &made)?;
+    Ok(Status::Done)
 }

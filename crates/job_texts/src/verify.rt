@@ -5,6 +5,7 @@ ghost use Rattle.clap.specs.Simple.{app_of};
 ghost use Rattle.clap.specs.declared.builder.command.Command.TheViews.{out-Command as fields_of};
 ghost use Rattle.job_parts.specs.Reading.{IsNoProgram};
 ghost use Rattle.job_parts.specs.Printed.{Prints};
+ghost use Rattle.job_parts.specs.Statuses.{IsDoneWith};
 ghost use Rattle.job_parts.specs.Stops.{StopsBy};
 ghost use Rattle.job_texts.specs.Verified.{Verifies};
 ghost use Rattle.job_texts.specs.VerifyJob.{accepted_line, verify_app};
@@ -13,6 +14,7 @@ use crate::images::verifying_command;
 use bver::MapSizes;
 use clap::Command;
 use job_parts::programs::program_in;
+use job_parts::status::Status;
 use job_parts::stops::Halt;
 use job_parts::storage::Files;
 use std::alloc::{AllocError, Global};
@@ -45,13 +47,14 @@ pub fn verify_file<'a, F: Files, W: Write>(
     sizes: MapSizes,
     files: &mut F,
     out: &mut W,
-) -> Result<(), Halt<'a>>
-    ensures done { OnOk result (Verifies F.reads files.old image.now sizes files.new
-        (W.contents out.old) (W.contents out.new)) }
+) -> Result<Status, Halt<'a>>
+    ensures done { IfOk result (IsDoneWith (Verifies F.reads files.old image.now sizes files.new
+        (W.contents out.old) (W.contents out.new))) }
     ensures stops { IfErr result
         (StopsBy (IsNoProgram F.reads files.old image.now sizes files.new)) }
     ensures quiet { IfErr result (StopsBy (λ _. W.contents out.new ≡ W.contents out.old)) }
 {
     let program = program_in(alloc, files, image, sizes)?;
-    Ok(print_accepted(out, program.image().weight(), program.budget())?)
+    print_accepted(out, program.image().weight(), program.budget())?;
+    Ok(Status::Done)
 }

@@ -13,12 +13,8 @@ use Rattle.machine.specs.declared.calls.Question.{Question}
 use Rattle.machine.specs.Step.{Outcome, Next, Ask, Verdict, Trap, after_answer, insn_at, step, finds_maps, step_with}
 use Rattle.stepper.specs.declared.outcomes.Outcome.TheVariants as told
 use Rattle.stepper.specs.Machine.{MachineValue, state_of, step_of, IsOutcome, IsAsk, IsSameRun}
-use Rattle.job_parts.specs.Printed.{PrintsMore}
-use Rattle.job_parts.specs.Stops.{StopsBy}
-use Rattle.job_parts.specs.declared.stops.Halt.{Halt}
-use Rattle.job_parts.specs.declared.stops.Halt.TheVariants.{Ended, Unwritten}
 use Rattle.job_trace.specs.Changes.{step_line}
-use Rattle.job_trace.specs.Runs.{IsShortOfMemory, IsStrideBy, On, Strides, line_before, lines_at, lines_of_step, lines_within, stride_of}
+use Rattle.job_trace.specs.Runs.{IsStrideBy, On, Strides, line_before, lines_at, lines_of_step, lines_within, stride_of}
 use Rattle.job_trace.specs.declared.changes.Change.{Change}
 use Rattle.job_trace.specs.declared.changes.Change.TheVariants as changes
 
@@ -39,20 +35,6 @@ appends_both (Some xs) (Some ys) (Some zs) front back one two =
 pub appends_nothing : (old : Option (List ℕ)) → Appends old old []
 appends_nothing None = tt
 appends_nothing (Some xs) = sym (append-nil xs)
-
--- no more was printed
-pub no_more : (held : Option (List ℕ)) → PrintsMore held held
-no_more held = ([], appends_nothing held)
-
--- more behind more
-pub more_behind : (old between new : Option (List ℕ)) → PrintsMore old between → PrintsMore between new → PrintsMore old new
-more_behind old between new first second =
-    (first.0 ++ second.0, appends_both old between new first.0 second.0 first.1 second.1)
-
--- more was printed before memory was refused
-pub short_behind : (old between new : Option (List ℕ)) (stop : Halt) → PrintsMore old between → StopsBy (IsShortOfMemory between new) stop → StopsBy (IsShortOfMemory old new) stop
-short_behind old between new (Ended fault) first short = (short.0, more_behind old between new first short.1)
-short_behind old between new (Unwritten refused) first short = tt
 
 -- ---- a step that asks
 
@@ -114,12 +96,6 @@ pub step_lines : (start m : MachineValue) (made budget : ℕ) (answers : List �
     → lines_of_step further budget m answers ≡ lines_at further (suc made) budget m.slot answers (insn_at start.program m.slot) (step_with start.sizes start.program start.header (state_of m))
 step_lines start m made budget answers further same steps =
     rw (same.program, same.header, same.sizes, steps, add-one) refl
-
--- the line of a step that goes on was printed behind what was
-pub strides_more : (budget : ℕ) (m after : MachineValue) (answers : List ℕ) (left : Bor (List ℕ)) (old new : Option (List ℕ)) → Strides budget m after answers old new (Some left) → PrintsMore old new
-strides_more budget m after answers left old new one =
-    let further : State → List ℕ → List ℕ = λ s answers. [] in
-    (lines_of_step further budget m answers, one further new (appends_nothing new))
 
 -- ---- a run
 

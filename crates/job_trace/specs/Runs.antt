@@ -10,9 +10,6 @@ use Rattle.machine.specs.Sizes.{Maps}
 use Rattle.machine.specs.State.{State}
 use Rattle.machine.specs.Step.{Outcome, Next, Ask, Verdict, Trap, insn_at, step_with}
 use Rattle.stepper.specs.Machine.{MachineValue, state_of, step_of}
-use Rattle.job_parts.specs.Printed.{PrintsMore}
-use Rattle.job_parts.specs.declared.faults.Fault.{Fault}
-use Rattle.job_parts.specs.declared.faults.Fault.TheVariants.{NoMemory}
 use Rattle.job_trace.specs.Changes.{change_of, step_line}
 use Rattle.job_trace.specs.declared.changes.Change.{Change}
 use Rattle.job_trace.specs.declared.changes.Change.TheVariants as changes
@@ -55,10 +52,6 @@ lines_within program header sizes budget (suc left) made s answers =
     (insn_at program s.slot) (step_with sizes program header s)
 
 -- ---- what else contracts say
-
--- memory was refused: what was printed before stays, and more may stand behind it
-abbrev pub IsShortOfMemory : (old new : Option (List ℕ)) → Fault → Type 0
-IsShortOfMemory old new fault = (fault ≡ NoMemory) × PrintsMore old new
 
 -- what a step changed, and the answers that it left, come to that stride
 abbrev pub IsStrideBy : Stride → Change → Option (Bor (List ℕ)) → (after : State) → Type 0

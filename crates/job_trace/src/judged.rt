@@ -1,26 +1,21 @@
 //! A command, from its Take to its reply.
 
-ghost use Rattle.std.specs.Prelude.{◌≡◌, IfErr, IfOk, IfSome, OnOk};
+ghost use Rattle.std.specs.Prelude.{◌≡◌, IfOk, IfSome, OnOk};
 ghost use Rattle.machine.specs.declared.helpers.Helper.{Helper};
 ghost use Rattle.sched.specs.Answers.{answering};
-ghost use Rattle.job_parts.specs.Printed.{Prints, PrintsMore};
-ghost use Rattle.job_parts.specs.Stops.{StopsBy};
-ghost use Rattle.job_parts.specs.declared.faults.Fault.TheVariants.{NoMemory};
-ghost use Rattle.job_trace.specs.Runs.{IsShortOfMemory};
+ghost use Rattle.job_parts.specs.Printed.{Prints};
 ghost use Rattle.job_trace.specs.TraceJob.{taken_line};
 ghost use Rattle.job_trace.specs.Judged.{AnswersHelpers, EndsCommand, IsEnd, PrintsRun, TracesCommand, TracesPacket};
 
 use crate::runs::trace_run;
 use brun::Turn;
 use job_nodes::judge::print_discard;
-use job_parts::faults::Fault;
 use job_parts::replies::print_reply;
-use job_parts::stops::Halt;
 use machine::Helper;
 use rmap::Place;
 use sched::{Event, Outcome, World, step};
 use spw::Packet;
-use std::alloc::Global;
+use std::alloc::{AllocError, Global};
 use std::io::{self, Write};
 use stepper::Machine;
 
@@ -50,10 +45,9 @@ fn question(world: &World, port: u8) -> Option<Event>
 
 /// Answers the helpers of the program that judges at a port, up to its verdict: what they were told, in order.
 #[tactic(auto, using(crate::proofs::Histories::answers_none, crate::proofs::Histories::answers_more))]
-fn answer_helpers<'a>(alloc: Global, world: &mut World, port: u8) -> Result<Vec<u64>, Fault<'a>>
-    ensures answered { IfOk result
+fn answer_helpers(alloc: Global, world: &mut World, port: u8) -> Result<Vec<u64>, AllocError>
+    ensures { IfOk result
         (λ answers. AnswersHelpers port answers.items world.old world.new) }
-    ensures stops { IfErr result (λ fault. fault ≡ NoMemory) }
 {
     let mut answers = Vec::new(alloc);
     for _question in 0..MOST_QUESTIONS {
@@ -62,9 +56,9 @@ fn answer_helpers<'a>(alloc: Global, world: &mut World, port: u8) -> Result<Vec<
         };
         // Memory alone can be refused to it: the program asks that helper.
         let Ok(Outcome::Told(told)) = step(alloc, world, event) else {
-            return Err(Fault::NoMemory);
+            return Err(AllocError);
         };
-        answers.push(told).map_err(|_| Fault::NoMemory)?;
+        answers.push(told)?;
     }
     Ok(answers)
 }
@@ -78,22 +72,18 @@ fn print_taken<W: Write>(out: &mut W, port: u8, slot: u8, generation: u32) -> io
 }
 
 /// Prints that the command at a port was taken, and the steps of its run, whose helpers had these answers.
-#[tactic(auto, using(crate::proofs::Striding::no_more))]
-fn print_run<'a, W: Write>(
+fn print_run<W: Write>(
     alloc: Global,
     world: &World,
     port: u8,
     answers: &[u64],
     out: &mut W,
-) -> Result<(), Halt<'a>>
-    ensures printed { OnOk result (PrintsRun port answers.now world.now
+) -> io::Result<()>
+    ensures { OnOk result (PrintsRun port answers.now world.now
         (W.contents out.old) (W.contents out.new)) }
-    ensures more { OnOk result (PrintsMore (W.contents out.old) (W.contents out.new)) }
-    ensures stops { IfErr result (StopsBy (IsShortOfMemory
-        (W.contents out.old) (W.contents out.new))) }
 {
     let Some(standing) = world.standing(port) else {
-        return Err(Halt::Ended(Fault::NoMemory));
+        return Err(AllocError.into());
     };
     print_taken(out, port, standing.slot, standing.generation)?;
     let image = standing.program.image();
@@ -113,41 +103,25 @@ fn ending(port: u8, place: Place) -> Event
 }
 
 /// Ends the command at a port, whose program has its verdict, and prints its reply.
-#[tactic(auto, using(crate::proofs::Striding::no_more))]
-fn end_command<'a, W: Write>(
-    alloc: Global,
-    world: &mut World,
-    port: u8,
-    out: &mut W,
-) -> Result<(), Halt<'a>>
-    ensures ended { OnOk result (EndsCommand port world.old world.new
+fn end_command<W: Write>(alloc: Global, world: &mut World, port: u8, out: &mut W) -> io::Result<()>
+    ensures { OnOk result (EndsCommand port world.old world.new
         (W.contents out.old) (W.contents out.new)) }
-    ensures stops { IfErr result (StopsBy (IsShortOfMemory
-        (W.contents out.old) (W.contents out.new))) }
 {
     let Some(standing) = world.standing(port) else {
-        return Err(Halt::Ended(Fault::NoMemory));
+        return Err(AllocError.into());
     };
     let event = ending(port, standing.place);
     // Memory alone can be refused to it: the program has its verdict.
     let Ok(Outcome::Done(_, reply, _)) = step(alloc, world, event) else {
-        return Err(Halt::Ended(Fault::NoMemory));
+        return Err(AllocError.into());
     };
-    Ok(print_reply(out, port, reply.bytes())?)
+    print_reply(out, port, reply.bytes())
 }
 
 /// Judges the command that was taken at a port, and prints its run and its reply.
-#[tactic(auto, using(crate::proofs::Striding::no_more))]
-fn trace_taken<'a, W: Write>(
-    alloc: Global,
-    world: &mut World,
-    port: u8,
-    out: &mut W,
-) -> Result<(), Halt<'a>>
-    ensures traced { OnOk result (TracesCommand port world.old world.new
+fn trace_taken<W: Write>(alloc: Global, world: &mut World, port: u8, out: &mut W) -> io::Result<()>
+    ensures { OnOk result (TracesCommand port world.old world.new
         (W.contents out.old) (W.contents out.new)) }
-    ensures stops { IfErr result (StopsBy (IsShortOfMemory
-        (W.contents out.old) (W.contents out.new))) }
 {
     let answers = answer_helpers(alloc, world, port)?;
     print_run(alloc, world, port, &answers, out)?;
@@ -155,24 +129,22 @@ fn trace_taken<'a, W: Write>(
 }
 
 /// Takes a packet at a port, and prints what becomes of it: the run of the program that judges it, and its reply.
-#[tactic(auto, using(crate::proofs::Histories::traces_stopped, crate::proofs::Histories::traces_judged, crate::proofs::Striding::no_more))]
-pub fn trace_packet<'a, W: Write>(
+#[tactic(auto, using(crate::proofs::Histories::traces_stopped, crate::proofs::Histories::traces_judged))]
+pub fn trace_packet<W: Write>(
     alloc: Global,
     world: &mut World,
     port: u8,
     packet: Packet,
     out: &mut W,
-) -> Result<(), Halt<'a>>
-    ensures traced { OnOk result (TracesPacket port packet world.old world.new
+) -> io::Result<()>
+    ensures { OnOk result (TracesPacket port packet world.old world.new
         (W.contents out.old) (W.contents out.new)) }
-    ensures stops { IfErr result (StopsBy (IsShortOfMemory
-        (W.contents out.old) (W.contents out.new))) }
 {
     match step(alloc, world, Event::Take(port, packet)) {
-        Ok(Outcome::Discarded(discard)) => Ok(print_discard(out, port, discard)?),
-        Ok(Outcome::Answered(_, reply)) => Ok(print_reply(out, port, reply.bytes())?),
+        Ok(Outcome::Discarded(discard)) => print_discard(out, port, discard),
+        Ok(Outcome::Answered(_, reply)) => print_reply(out, port, reply.bytes()),
         Ok(Outcome::Taken(_)) => trace_taken(alloc, world, port, out),
         // Memory alone can be refused to it: no command is open at the port.
-        _ => Err(Halt::Ended(Fault::NoMemory)),
+        _ => Err(AllocError.into()),
     }
 }

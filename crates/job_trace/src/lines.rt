@@ -1,14 +1,11 @@
 //! The line of a step.
 
-ghost use Rattle.std.specs.Prelude.{◌≡◌, IfErr, IfOk, OnOk, Some, replicate, string_bytes};
+ghost use Rattle.std.specs.Prelude.{◌≡◌, IfOk, OnOk, Some, replicate, string_bytes};
 ghost use Rattle.job_parts.specs.Printed.{Prints};
-ghost use Rattle.job_parts.specs.Stops.{StopsBy};
 ghost use Rattle.job_trace.specs.Changes.{blanks, change_line, column_text, place_text, step_line};
-ghost use Rattle.job_trace.specs.Runs.{IsShortOfMemory};
 
 use crate::changes::{Change, print_change};
 use bpf_insn::Insn;
-use job_parts::stops::Halt;
 use std::alloc::{AllocError, Global};
 use std::fmt;
 use std::io::{self, Write};
@@ -76,19 +73,16 @@ fn print_line<W: Write>(out: &mut W, text: &str, change: Change) -> io::Result<(
 }
 
 /// Prints the line of a step: the instruction at its slot, and in a column of its own what it changed.
-#[tactic(auto, using(crate::proofs::Striding::no_more))]
-pub fn print_step<'a, W: Write>(
+pub fn print_step<W: Write>(
     alloc: Global,
     out: &mut W,
     slot: u32,
     insn: &Insn,
     change: Change,
-) -> Result<(), Halt<'a>>
-    ensures printed { OnOk result
+) -> io::Result<()>
+    ensures { OnOk result
         (Prints W.contents out.old out.new (step_line slot insn.now change)) }
-    ensures stops { IfErr result (StopsBy (IsShortOfMemory
-        (W.contents out.old) (W.contents out.new))) }
 {
     let text = place_text(alloc, slot, insn)?;
-    Ok(print_line(out, text.as_str(), change)?)
+    print_line(out, text.as_str(), change)
 }

@@ -1,18 +1,16 @@
 //! The steps of a run.
 
-ghost use Rattle.std.specs.Prelude.{◌≡◌, ◌+◌, ◌^◌, ◌<◌, IfErr, IfOk, IfSome, OnOk};
+ghost use Rattle.std.specs.Prelude.{◌≡◌, ◌+◌, ◌^◌, ◌<◌, IfOk, IfSome, OnOk};
 ghost use Rattle.stepper.specs.Machine.{IsSameRun, state_of, step_of};
 ghost use Rattle.job_parts.specs.Printed.{Prints};
-ghost use Rattle.job_parts.specs.Stops.{StopsBy};
-ghost use Rattle.job_trace.specs.Runs.{IsShortOfMemory, IsStride, Strides, lines_within, stride_of};
+ghost use Rattle.job_trace.specs.Runs.{IsStride, Strides, lines_within, stride_of};
 
 use crate::changes::{Change, change_of};
 use crate::lines::print_step;
 use bpf_insn::Insn;
-use job_parts::stops::Halt;
 use machine::{Call, questions_go_on};
 use std::alloc::Global;
-use std::io::Write;
+use std::io::{self, Write};
 use stepper::{Machine, Outcome};
 
 /// Makes the step of an instruction: what it changed, and the answers that are left, or `None` in their place where the
@@ -45,20 +43,18 @@ fn stride<'b>(
 }
 
 /// Makes a step, and prints its line. The answers that are left, or `None` where the run goes no further.
-fn trace_step<'a, 'b, W: Write>(
+fn trace_step<'b, W: Write>(
     alloc: Global,
     machine: &mut Machine<'_>,
     answers: &'b [u64],
     budget: u32,
     out: &mut W,
-) -> Result<Option<&'b [u64]>, Halt<'a>>
+) -> io::Result<Option<&'b [u64]>>
     requires few { machine.old.steps + 1 < 2 ^ 32 }
     ensures printed { IfOk result (Strides budget machine.old machine.new answers.now
         (W.contents out.old) (W.contents out.new)) }
     ensures run { IsSameRun machine.old machine.new }
     ensures steps { IfOk result (λ left. IfSome left (λ _. machine.new.steps ≡ machine.old.steps + 1)) }
-    ensures stops { IfErr result (StopsBy (IsShortOfMemory
-        (W.contents out.old) (W.contents out.new))) }
 {
     let slot = machine.slot();
     let Some(insn) = machine.insn() else {
@@ -72,19 +68,17 @@ fn trace_step<'a, 'b, W: Write>(
 }
 
 /// Prints the steps of a run from its entry on, with the answers to its helpers in order.
-pub fn trace_run<'a, W: Write>(
+pub fn trace_run<W: Write>(
     alloc: Global,
     mut machine: Machine<'_>,
     answers: &[u64],
     budget: u32,
     out: &mut W,
-) -> Result<(), Halt<'a>>
+) -> io::Result<()>
     requires { machine.steps ≡ 0 }
-    ensures printed { OnOk result (Prints W.contents out.old out.new
+    ensures { OnOk result (Prints W.contents out.old out.new
         (lines_within machine.entry.program machine.entry.header machine.entry.sizes
         budget budget 0 (state_of machine.entry) answers.now)) }
-    ensures stops { IfErr result (StopsBy (IsShortOfMemory
-        (W.contents out.old) (W.contents out.new))) }
 {
     let mut left = answers;
     for _step in 0..budget {

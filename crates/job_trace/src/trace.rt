@@ -1,13 +1,14 @@
 //! The job `trace`.
 
-ghost use Rattle.std.specs.Prelude.{◌≡◌, IfErr, IfOk, OnOk, false, string_bytes};
+ghost use Rattle.std.specs.Prelude.{◌≡◌, IfErr, IfOk, Some, [], false, string_bytes};
 ghost use Rattle.clap.specs.Simple.{app_of};
 ghost use Rattle.clap.specs.declared.builder.command.Command.TheViews.{out-Command as fields_of};
-ghost use Rattle.spw.specs.Line.{lines_of};
 ghost use Rattle.job_parts.specs.Given.{IsNotReady};
+ghost use Rattle.job_parts.specs.Statuses.{IsDoneWith};
 ghost use Rattle.job_parts.specs.Stops.{StopsBy};
+ghost use Rattle.job_trace.specs.Judged.{TracesPacket};
 ghost use Rattle.job_trace.specs.TraceJob.{trace_app};
-ghost use Rattle.job_trace.specs.Traced.{IsNotTraced, IsSet, IsStuck, IsStuckAt, TracesFile, TracesFrom, TracesLineFrom};
+ghost use Rattle.job_trace.specs.Traced.{IsNotTraced, IsSet, IsStuck, TracesFile, TracesLineFrom};
 
 use crate::judged::trace_packet;
 use clap::Command;
@@ -15,10 +16,12 @@ use job_nodes::feeds::Feeds;
 use job_nodes::node::node_config;
 use job_parts::faults::Fault;
 use job_parts::lines::{LinesArgs, lines_and_program, lines_command};
-use job_parts::stops::Halt;
+use job_parts::status::Status;
+use job_parts::stops::{Halt, LineHalt};
 use job_parts::storage::Files;
+use job_parts::turns::{TakesLines, take_lines};
 use sched::World;
-use spw::lines_of;
+use spw::Packet;
 use std::alloc::{AllocError, Global};
 use std::io::Write;
 
@@ -32,49 +35,46 @@ pub fn trace_command<'a>(alloc: Global) -> Result<Command<'a>, AllocError>
     lines_command(alloc, "trace", about, help)
 }
 
-/// Takes one line, and traces the packet that it ends. `number` is that of the line.
-#[tactic(auto, using(crate::proofs::LinesInTurn::traces_none, crate::proofs::LinesInTurn::traces_came, crate::proofs::LinesInTurn::wants_memory))]
-fn trace_line<'a, W: Write>(
+/// What is printed of a packet that is taken at a port: the run of the program that judges it, and its reply.
+fn packet_text(
     alloc: Global,
     world: &mut World,
-    feeds: &mut Feeds,
-    line: &str,
-    number: usize,
-    out: &mut W,
-) -> Result<(), Halt<'a>>
-    ensures traced { OnOk result (TracesLineFrom line.now world.old world.new feeds.old feeds.new
-        (W.contents out.old) (W.contents out.new)) }
-    ensures stops { IfErr result (StopsBy (IsStuckAt line.now number feeds.old feeds.new
-        (W.contents out.old) (W.contents out.new))) }
+    port: u8,
+    packet: Packet,
+) -> Result<Vec<u8>, AllocError>
+    ensures { IfOk result (λ text. TracesPacket port packet world.old world.new
+        (Some []) (Some text.items)) }
 {
-    let came = feeds
-        .take_line(alloc, line)
-        .map_err(|fault| Fault::BadLine { number, fault })?;
-    match came {
-        Some((port, packet)) => trace_packet(alloc, world, port, packet, out),
-        None => Ok(()),
+    let mut text = Vec::new(alloc);
+    // Memory alone can be refused to it: what is printed stays in memory.
+    match trace_packet(alloc, world, port, packet, &mut text) {
+        Ok(()) => Ok(text),
+        Err(_) => Err(AllocError),
     }
 }
 
-/// Traces each line of a text in turn.
-fn trace_text<'a, W: Write>(
-    alloc: Global,
-    world: &mut World,
-    feeds: &mut Feeds,
-    text: &str,
-    out: &mut W,
-) -> Result<(), Halt<'a>>
-    ensures traced { OnOk result (TracesFrom (lines_of text.now) world.old world.new
-        feeds.old feeds.new (W.contents out.old) (W.contents out.new)) }
-    ensures stops { IfErr result (StopsBy (IsStuck (lines_of text.now) world.old feeds.old
-        (W.contents out.old) (W.contents out.new))) }
-{
-    let mut number: usize = 0;
-    for line in lines_of(text) {
-        number += 1;
-        trace_line(alloc, world, feeds, line, number, out)?;
+/// A world that takes the packets of lines, and what its ports hold of packets that have not ended.
+#[derive(Drop)]
+struct Tracing {
+    world: World,
+    feeds: Feeds,
+}
+
+impl TakesLines for Tracing {
+    ghost takes = { TracesLineFrom };
+
+    ghost stops = { IsStuck };
+
+    /// Takes one line, and prints what becomes of the packet that it ends: all of it at once, so that nothing is printed
+    /// of a packet to which memory is refused.
+    #[tactic(auto, using(crate::proofs::LinesInTurn::traces_none, crate::proofs::LinesInTurn::traces_came))]
+    fn take<W: Write>(&mut self, alloc: Global, line: &str, out: &mut W) -> Result<(), LineHalt> {
+        let Some((port, packet)) = self.feeds.take_line(alloc, line)? else {
+            return Ok(());
+        };
+        let text = packet_text(alloc, &mut self.world, port, packet)?;
+        Ok(out.write_all(&text)?)
     }
-    Ok(())
 }
 
 /// The text of the file of packet lines, the world of a node of these arguments behind no event, in each of whose slots
@@ -83,9 +83,9 @@ fn lines_and_world<'a, F: Files>(
     alloc: Global,
     args: &'a LinesArgs,
     files: &mut F,
-) -> Result<(String, World, Feeds), Fault<'a>>
-    ensures set { IfOk result (λ made. IsSet F.reads args.now files.old
-        (string_bytes made.0) made.1 made.2 files.new) }
+) -> Result<(String, Tracing), Fault<'a>>
+    ensures set { IfOk result
+        (λ made. IsSet F.reads args.now files.old (string_bytes made.0) made.1 files.new) }
     ensures refused { IfErr result (IsNotReady F.reads args.now files.old files.new) }
 {
     let (text, program) = lines_and_program(alloc, args, files)?;
@@ -93,7 +93,7 @@ fn lines_and_world<'a, F: Files>(
     let feeds = Feeds::new(alloc, args.node.ports)?;
     // Memory alone can be refused to it: the command line gives no other number of ports than a node has.
     let world = World::with_factory(alloc, &config, program).map_err(|_| Fault::NoMemory)?;
-    Ok((text, world, feeds))
+    Ok((text, Tracing { world, feeds }))
 }
 
 /// Judges the packet lines of a file, in order, on the node of these arguments, whose programs are at first that of an
@@ -107,12 +107,13 @@ pub fn trace_file<'a, F: Files, W: Write>(
     args: &'a LinesArgs,
     files: &mut F,
     out: &mut W,
-) -> Result<(), Halt<'a>>
-    ensures done { OnOk result (TracesFile F.reads args.now files.old files.new
-        (W.contents out.old) (W.contents out.new)) }
+) -> Result<Status, Halt<'a>>
+    ensures done { IfOk result (IsDoneWith (TracesFile F.reads args.now files.old files.new
+        (W.contents out.old) (W.contents out.new))) }
     ensures stops { IfErr result (StopsBy (IsNotTraced F.reads args.now files.old files.new
         (W.contents out.old) (W.contents out.new))) }
 {
-    let (text, mut world, mut feeds) = lines_and_world(alloc, args, files)?;
-    trace_text(alloc, &mut world, &mut feeds, text.as_str(), out)
+    let (text, mut tracing) = lines_and_world(alloc, args, files)?;
+    take_lines(alloc, &mut tracing, text.as_str(), out)?;
+    Ok(Status::Done)
 }

@@ -43,7 +43,7 @@ fn do_job<R: rt::Files + Input + Print + Eprint + Threads + Wait + Sync>(
     let done = perform(rt, alloc, job, &mut HostFiles { rt }, &mut out);
     // What was held back fails again where it failed before, with the reason.
     match (done, out.flush()) {
-        (Ok(status), Ok(())) => status,
+        (Ok(status), Ok(())) => status.code(),
         (_, flushed) => lose_output(rt, flushed),
     }
 }
@@ -57,7 +57,7 @@ fn talk<R: rt::Files + Input + Print + Eprint>(rt: &R, alloc: Global, node: &Nod
     };
     let mut talk = HostTalk::new(alloc, input, io::writer(rt));
     match live(alloc, node, &mut HostFiles { rt }, &mut talk) {
-        Ok(status) => status,
+        Ok(status) => status.code(),
         Err(_) => lose_output(rt, talk.into_output().1),
     }
 }

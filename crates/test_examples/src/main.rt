@@ -5,7 +5,7 @@
 #![tactic(auto)]
 
 use anyhow::{Result, anyhow};
-use commands::{HostFiles, Job, Work, perform, words};
+use commands::{HostFiles, Job, Status, Work, perform, words};
 use std::alloc::Global;
 use std::io::{self, Write};
 use std::sync::Wait;
@@ -32,7 +32,8 @@ fn show<R: rt::Files + Input + Threads + Wait + Sync, W: Write>(
     let status = perform(rt, alloc, &job, &mut HostFiles { rt }, out).map_err(|_| anyhow!(
         "cannot write"
     ))?;
-    if status != 0 {
+    if status != Status::Done {
+        let status = status.code();
         return Err(anyhow!("{line}: status {status}"));
     }
     Ok(())

@@ -12,7 +12,9 @@ use Rattle.job_parts.specs.declared.faults.Fault.TheVariants.{
   Refused,
   BadLine,
 }
-use Rattle.job_decide.specs.DecidedFile.{IsEndedBy, IsGiven, IsUnread, IsUntold}
+use Rattle.job_parts.specs.declared.status.Status.{Status}
+use Rattle.job_parts.specs.declared.status.Status.TheVariants.{Done, Failed, Misused}
+use Rattle.job_decide.specs.DecidedFile.{Decides, IsGiven, IsNotDecided, IsUnread, IsUntold}
 use Rattle.job_decide.specs.declared.decide.DecideWords.{DecideWords}
 use Rattle.test_kit_jobs.specs.Folders.{FolderReads, FolderValue}
 
@@ -21,7 +23,7 @@ same : (before : FolderValue) (name : List ℕ) (given : Option (List ℕ)) (aft
 same before name None after read = read
 same before name (Some bytes) after read = read.0
 
-pub decided : (words : DecideWords) (before : FolderValue) (text : List ℕ) (rules : List Rule) (after : FolderValue)
+decided : (words : DecideWords) (before : FolderValue) (text : List ℕ) (rules : List Rule) (after : FolderValue)
     → IsGiven FolderReads words before text rules after → after ≡ before
 decided words before text rules after given = given.read.0 ∙ given.lines.read.0
 
@@ -40,7 +42,12 @@ unread words before after (Refused refused) is = absurd is
 unread words before after (BadLine number fault) is = absurd is
 
 pub undecided : (words : DecideWords) (before after : FolderValue) (old new : Option (List ℕ)) (fault : Fault)
-    → IsEndedBy FolderReads words before after old new fault → after ≡ before
-undecided words before after old new fault (inl (inl is)) = unread words before after fault is.1
-undecided words before after old new fault (inl (inr stops)) = decided words before stops.text stops.rules after stops.given
-undecided words before after old new fault (inr faulty) = faulty.2.read.0 ∙ faulty.2.lines.read.0
+    → IsNotDecided FolderReads words before after old new fault → after ≡ before
+undecided words before after old new fault (inl is) = unread words before after fault is.1
+undecided words before after old new fault (inr stops) = decided words before stops.text stops.rules after stops.given
+
+pub decides_file : (words : DecideWords) (before after : FolderValue) (old new : Option (List ℕ)) (status : Status)
+    → Decides FolderReads words before after old new status → after ≡ before
+decides_file words before after old new Done is = decided words before is.text is.rules after is.given
+decides_file words before after old new Failed is = is.held.read.0 ∙ is.held.lines.read.0
+decides_file words before after old new Misused is = absurd is

@@ -29,5 +29,5 @@ pub fn perform_in<R: Threads + Wait + Sync>(
 {
     let mut out = Vec::new(alloc);
     let status = perform(rt, alloc, job, folder, &mut out)?;
-    Ok((out, status))
+    Ok((out, status.code()))
 }

@@ -16,5 +16,5 @@ pub fn live_in(
     let mut talk = HostTalk::new(alloc, lines.as_slice(), Vec::new(alloc));
     let status = live(alloc, node, folder, &mut talk)?;
     let (sent, _) = talk.into_output();
-    Ok((sent, status))
+    Ok((sent, status.code()))
 }

@@ -1,7 +1,7 @@
 //! Packets of two ports on one node.
 
 use bver::MapSizes;
-use commands::{HostFiles, Job, LinesArgs, NodeWords, perform};
+use commands::{HostFiles, Job, LinesArgs, NodeWords, Status, perform};
 use std::alloc::Global;
 use std::rt;
 use std::sync::Wait;
@@ -27,7 +27,7 @@ pub fn printed<R: rt::Files + Input + Threads + Wait + Sync>(
     let status = perform(rt, alloc, &job, &mut HostFiles { rt }, &mut out).map_err(
         |_| "cannot write",
     )?;
-    if status != 0 {
+    if status != Status::Done {
         return Err("an exit status".into());
     }
     Ok(String::from_utf8(out)?)

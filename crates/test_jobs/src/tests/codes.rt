@@ -144,7 +144,7 @@ fn told(rt: &(impl Threads + Wait + Sync), alloc: Global) -> Option<(String, u8)
     let mut folder = folder_of(alloc, &[("unset", UNSET)]).ok()?;
     let mut out = Vec::new(alloc);
     let status = perform(rt, alloc, &job, &mut folder, &mut out).ok()?;
-    Some((String::from_utf8(out).ok()?, status))
+    Some((String::from_utf8(out).ok()?, status.code()))
 }
 
 #[test]

@@ -28,7 +28,7 @@ fn told(rt: &(impl Threads + Wait + Sync), alloc: Global, words: &[&str]) -> Opt
     let mut folder = folder_of(alloc, &[("draws", DRAWS)]).ok()?;
     let mut out = Vec::new(alloc);
     let status = perform(rt, alloc, &job, &mut folder, &mut out).ok()?;
-    Some((String::from_utf8(out).ok()?, status))
+    Some((String::from_utf8(out).ok()?, status.code()))
 }
 
 /// Whether this may be printed where memory is refused to the image or to its verification.

@@ -1,4 +1,4 @@
-//! Schedules: `sim` and `trace` beside `judge`, and memory that is refused to `sim`.
+//! Schedules: `sim` and `trace` beside `judge`, and memory that is refused to both.
 
 use crate::tests::checks::{check, same};
 use commands::{Files, perform};
@@ -317,66 +317,110 @@ take 0 FE016C00670002FF000100000000046501000020B4 EOP
 publish 0
 ";
 
-/// What they come to.
-const WHOLE: &str = "\
-taken 0
-done 0 67012C00FE0000ED
-taken 0
-done 0 67012C00FE00017C
-taken 0
-done 0 67012C00FE00020E
+/// What each of them comes to.
+const OUTCOMES: [&str; 6] = [
+    "taken 0\n",
+    "done 0 67012C00FE0000ED\n",
+    "taken 0\n",
+    "done 0 67012C00FE00017C\n",
+    "taken 0\n",
+    "done 0 67012C00FE00020E\n",
+];
+
+/// Two packets at port 1: one that its header ends, and the plain read.
+const PACKETS_AT_ONE: &str = "\
+1 FE014C0067000700A000000000001000 EOP
+1 FE014C0067000100A0000000000010C9 EOP
 ";
 
-/// What `sim` prints of the events, and the exit status; `None` where memory was refused to the words, to the folder or to
-/// the writer.
-fn tried(rt: &(impl Threads + Wait + Sync), alloc: Global) -> Option<(String, u8)> {
-    let job = job_named(alloc, &["sim", "events"]).ok()?;
-    let mut folder = folder_of(alloc, &[("events", EVENTS.as_bytes())]).ok()?;
+/// What `trace` prints of each of them.
+const TRACED: [&str; 2] = [
+    "1 discard 4\n",
+    "\
+1 taken slot 0 generation 0
+    0: mov r0, 0                  r0 = 0
+    1: exit                       verdict 0 after 2 steps, budget 2
+1 67010C00FE0001000000106D0000000000000000000000000000000000 EOP
+",
+];
+
+/// What the job of these words prints of lines, and the exit status; `None` where memory was refused to the words, to the
+/// folder or to the writer.
+fn tried(
+    rt: &(impl Threads + Wait + Sync),
+    alloc: Global,
+    words: &[&str],
+    lines: &str,
+) -> Option<(String, u8)> {
+    let job = job_named(alloc, words).ok()?;
+    let mut folder = folder_of(alloc, &[("lines", lines.as_bytes())]).ok()?;
     let mut out = Vec::new(alloc);
     let status = perform(rt, alloc, &job, &mut folder, &mut out).ok()?;
-    Some((String::from_utf8(out).ok()?, status))
+    Some((String::from_utf8(out).ok()?, status.code()))
+}
+
+/// How many of these parts a text begins with, and what stands behind them.
+fn parts_of<'a>(text: &'a str, parts: &[&str]) -> (usize, &'a str) {
+    let (mut count, mut behind) = (0usize, text);
+    for part in parts {
+        let Some(rest) = behind.strip_prefix(*part) else {
+            break;
+        };
+        behind = rest;
+        count = count.saturating_add(1);
+    }
+    (count, behind)
 }
 
 /// Whether the line is a fault of memory of the line of this number, or one of no line.
 fn is_fault(line: &str, number: usize) -> bool {
     match line
         .strip_prefix("line ")
-        .and_then(|rest| rest.strip_suffix(" fault 5"))
+        .and_then(|rest| rest.strip_suffix(" fault 5\n"))
     {
         Some(place) => place.parse::<usize>() == Ok(number),
         None => {
-            line == "no memory"
-                || line == "cannot read events"
-                || line == "image fault 8 slot 0"
-                || line == "refused V17 slot 0"
+            line == "no memory\n"
+                || line == "cannot read lines\n"
+                || line == "image fault 8 slot 0\n"
+                || line == "refused V17 slot 0\n"
         }
     }
 }
 
-/// Whether `sim` that was refused memory may print this: a beginning of the whole, and then a fault of the next line.
-fn is_refused(printed: &str) -> bool {
-    let text = printed.strip_suffix('\n').unwrap_or(printed);
-    let (front, last) = text.rsplit_once('\n').unwrap_or(("", text));
-    let number = front.lines().count().saturating_add(1);
-    WHOLE.starts_with(front) && is_fault(last, number)
+/// Does a job that prints these parts of its lines: with memory refused once those of some lines before one, and then a fault
+/// of memory there, or all; and with ample memory again all.
+fn refuse(
+    rt: &(impl Threads + Wait + Sync + Abort),
+    alloc: Global,
+    words: &[&str],
+    lines: &str,
+    parts: &[&str],
+) {
+    let all = (parts.len(), "");
+    if let Some((printed, status)) = tried(rt, alloc, words, lines) {
+        let (count, behind) = parts_of(printed.as_str(), parts);
+        if status == 0 {
+            same(rt, "the answer", (count, behind), all);
+        } else {
+            same(rt, "the status of a fault", status, 1);
+            check(rt, &printed, is_fault(behind, count.saturating_add(1)));
+        }
+    }
+    let again = tried(rt, alloc, words, lines);
+    let told = again.as_ref().map(|(printed, status)| (parts_of(printed.as_str(), parts), *status));
+    same(rt, "again", told, Some((all, 0)));
 }
 
 #[test]
 fn memory_refused_to_a_schedule(rt: HostRuntime) -> Result<(), Fail> {
-    // With memory refused once, the answer is the whole, or what stands before a fault of memory.
-    if let Some((printed, status)) = tried(&rt, rt.alloc()) {
-        if status == 0 {
-            same(&rt, "the answer", printed.as_str(), WHOLE);
-        } else {
-            same(&rt, "the status of a fault", status, 1);
-            check(&rt, &printed, is_refused(printed.as_str()));
-        }
-    }
-    // With ample memory again all is done.
-    let again = tried(&rt, rt.alloc());
-    let told = again
-        .as_ref()
-        .map(|(printed, status)| (printed.as_str(), *status));
-    same(&rt, "again", told, Some((WHOLE, 0)));
+    refuse(&rt, rt.alloc(), &["sim", "lines"], EVENTS, &OUTCOMES);
+    Ok(())
+}
+
+#[test]
+fn memory_refused_to_a_trace(rt: HostRuntime) -> Result<(), Fail> {
+    let words = ["trace", "lines", "--ports", "2"];
+    refuse(&rt, rt.alloc(), &words, PACKETS_AT_ONE, &TRACED);
     Ok(())
 }

@@ -3,8 +3,9 @@
 ghost use Rattle.std.specs.Prelude.{⊤};
 
 use crate::tests::checks::{check, same};
-use commands::{Cannot, Talk, Work, WriteFault, live, words};
+use commands::{Cannot, HostTalk, Status, Talk, Work, WriteFault, live, words};
 use std::alloc::Global;
+use std::io::{self, Write};
 use std::test::Fail;
 use test_kit_jobs::folder_of;
 
@@ -65,6 +66,10 @@ impl Talk for Script {
 
     ghost sent = { λ _ _ _. ⊤ };
 
+    ghost missed = { λ _ _. ⊤ };
+
+    ghost unsent = { λ _ _ _. ⊤ };
+
     fn next(&mut self, line: &mut String) -> Result<bool, Cannot> {
         self.step()?;
         if self.sent.len() != self.given {
@@ -88,7 +93,7 @@ impl Talk for Script {
 }
 
 /// Holds a talk that fails at the move of this number: the talk, and what came of it.
-fn held(alloc: Global, failing: usize) -> Result<(Script, Result<u8, WriteFault>), Fail> {
+fn held(alloc: Global, failing: usize) -> Result<(Script, Result<Status, WriteFault>), Fail> {
     let Work::Live(node) = words(alloc, &["live"])? else {
         return Err("no talk".into());
     };
@@ -101,7 +106,7 @@ fn held(alloc: Global, failing: usize) -> Result<(Script, Result<u8, WriteFault>
 #[test]
 fn each_answer_before_the_next_line(rt: HostRuntime) -> Result<(), Fail> {
     let (talk, done) = held(rt.alloc(), usize::MAX)?;
-    same(&rt, "the status", done, Ok(1));
+    same(&rt, "the status", done, Ok(Status::Failed));
     same(&rt, "answers", talk.sent.len(), LINES.len());
     for (answer, (line, due)) in talk.sent.iter().zip(&LINES) {
         same(&rt, line, answer.as_str(), *due);
@@ -120,7 +125,7 @@ fn a_talk_that_fails_at_each_move(rt: HostRuntime) -> Result<(), Fail> {
             same(&rt, &what, answer.as_str(), *due);
         }
         if failing % 2 == 0 {
-            same(&rt, &what, done, Ok(1));
+            same(&rt, &what, done, Ok(Status::Failed));
             let last = talk.sent.last().ok_or("nothing was sent")?;
             same(&rt, &what, last.as_str(), "cannot read -\n");
             same(&rt, &what, talk.sent.len(), answered.saturating_add(1));
@@ -129,6 +134,53 @@ fn a_talk_that_fails_at_each_move(rt: HostRuntime) -> Result<(), Fail> {
             same(&rt, &what, talk.sent.len(), answered);
         }
         check(&rt, &what, talk.given <= answered.saturating_add(1));
+    }
+    Ok(())
+}
+
+/// A writer in memory, and how much it held at each flush.
+#[derive(Drop)]
+struct Flushed {
+    written: Vec<u8>,
+    held: Vec<usize>,
+}
+
+impl Write for Flushed {
+    fn write(&mut self, bytes: &[u8]) -> io::Result<usize> {
+        self.written.extend_from_slice(bytes)?;
+        Ok(bytes.len())
+    }
+
+    fn flush(&mut self) -> io::Result<()> {
+        self.held.push(self.written.len())?;
+        Ok(())
+    }
+}
+
+#[test]
+fn each_answer_is_flushed(rt: HostRuntime) -> Result<(), Fail> {
+    let alloc = rt.alloc();
+    let mut lines = String::new(alloc);
+    for (line, _) in &LINES {
+        writeln!(lines, "{line}")?;
+    }
+    let output = Flushed {
+        written: Vec::new(alloc),
+        held: Vec::new(alloc),
+    };
+    let Work::Live(node) = words(alloc, &["live"])? else {
+        return Err("no talk".into());
+    };
+    let mut folder = folder_of(alloc, &[]).map_err(|_| "no folder")?;
+    let mut talk = HostTalk::new(alloc, lines.as_bytes(), output);
+    let done = live(alloc, &node, &mut folder, &mut talk);
+    same(&rt, "the status", done, Ok(Status::Failed));
+    let (output, _) = talk.into_output();
+    same(&rt, "flushes", output.held.len(), LINES.len());
+    let mut due: usize = 0;
+    for (held, (line, answer)) in output.held.iter().zip(&LINES) {
+        due = due.saturating_add(answer.len());
+        same(&rt, line, *held, due);
     }
     Ok(())
 }

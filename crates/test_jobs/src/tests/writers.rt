@@ -1,7 +1,7 @@
 //! Writers that fail, and memory that is refused.
 
 use crate::tests::checks::{check, same};
-use commands::{Job, PolicyWords, UsageFault, WriteFault, perform};
+use commands::{Job, PolicyWords, Status, UsageFault, WriteFault, perform};
 use machine::MapSizes;
 use std::alloc::Global;
 use std::io::{self, Write};
@@ -50,7 +50,7 @@ fn perform_until(
     job: &Job,
     folder: &mut Folder,
     writes: u32,
-) -> (Failing, Result<u8, WriteFault>) {
+) -> (Failing, Result<Status, WriteFault>) {
     let mut out = Failing {
         left: writes,
         written: Vec::new(alloc),
@@ -77,7 +77,7 @@ fn writers_that_fail_at_each_write(rt: HostRuntime) -> Result<(), Fail> {
         same(&rt, &what, out.late, 0);
         check(&rt, &what, whole.as_str().starts_with(written));
         if !out.has_failed {
-            same(&rt, &what, done, Ok(1));
+            same(&rt, &what, done, Ok(Status::Failed));
             same(&rt, &what, written, whole.as_str());
             return Ok(());
         }
@@ -94,7 +94,7 @@ fn tried(rt: &(impl Threads + Wait + Sync), alloc: Global, lines: &str) -> Optio
     let mut out = Vec::new(alloc);
     let mut folder = folder_of(alloc, &files).ok()?;
     let status = perform(rt, alloc, &job, &mut folder, &mut out).ok()?;
-    Some((String::from_utf8(out).ok()?, status))
+    Some((String::from_utf8(out).ok()?, status.code()))
 }
 
 /// Whether a job that was refused memory may print this: a part of the whole, and then a fault.
@@ -165,7 +165,7 @@ fn compiled(rt: &(impl Threads + Wait + Sync), alloc: Global) -> Option<(String,
     let mut out = Vec::new(alloc);
     let mut folder = folder_of(alloc, &[("table", TABLE.as_bytes())]).ok()?;
     let status = perform(rt, alloc, &job, &mut folder, &mut out).ok()?;
-    Some((String::from_utf8(out).ok()?, status))
+    Some((String::from_utf8(out).ok()?, status.code()))
 }
 
 /// Whether `policy` that was refused memory may print this.

@@ -1,12 +1,12 @@
 use Rattle.std.proofs.Common.{◌≡◌, ◌<◌, ap, arith, length, subst, rules}
 use Rattle.std.specs.Prelude.{string_bytes}
 use Rattle.std.proofs.lemmas.List.{length-map}
-use Rattle.std.proofs.lemmas.Result.{IfErr-weaker, IfOk-weaker, err_from_is_err_and}
+use Rattle.std.proofs.lemmas.Result.{err_from_is_err_and}
 use Rattle.job_ports.specs.Arrivals.{ArriveAll}
 use Rattle.spw.specs.Line.{lines_of}
 use Rattle.job_ports.specs.ServedFile.{PortEnd}
 use Rattle.job_ports.proofs.Ending.{by_packets, few_each}
-use Rattle.job_ports.proofs.NotServed.{no_memory, not_taken_of}
+use Rattle.job_ports.proofs.NotServed.{no_memory, halt_of}
 use Rattle.job_ports.proofs.serve.serve_words.Goals as goal
 
 pub serve_arrivals-requires-clause-few : goal.serve_arrivals-requires-clause-few
@@ -20,7 +20,7 @@ returns-clause-served g c =
     let same : c.as_str.result.now ≡ string_bytes c.in_ok-text.text = search rules in
     let all : ArriveAll (lines_of (string_bytes c.in_ok-text.text)) c.args.args.now.node.ports c.in_ok-arrivals.arrivals
     = subst (λ t. ArriveAll (lines_of t) c.args.args.now.node.ports c.in_ok-arrivals.arrivals) same c.in_ok-arrivals.ensures.arrive in
-    IfOk-weaker c.serve_arrivals.result _ _ (λ made each. record {
+    let each = c.in_ok-served.ensures.served in record {
       text = string_bytes c.in_ok-text.text;
       program = c.in_ok-text.program;
       packets = all.packets;
@@ -30,19 +30,21 @@ returns-clause-served g c =
       served = by_packets _ _ _ _ _ _ all each;
       sinks_are = each.sinks_are;
       report_is = each.report_is;
-    }) c.serve_arrivals.ensures.served
+    }
 
 pub returns-clause-few : goal.returns-clause-few
 returns-clause-few g c =
     let small : c.args.args.now.node.ports < 256 = search rules in
-    IfOk-weaker c.serve_arrivals.result _ _ (λ made each. omega (arith, small, each.count, ap (λ l. length l) each.sinks_are, length-map each.ends (λ (end : PortEnd). end.sink))) c.serve_arrivals.ensures.served
+    let each = c.in_ok-served.ensures.served in
+    omega (arith, small, each.count, ap (λ l. length l) each.sinks_are, length-map each.ends (λ (end : PortEnd). end.sink))
 
-pub returns-clause-refused : goal.returns-clause-refused
-returns-clause-refused g c =
-    IfErr-weaker c.serve_arrivals.result _ _ (λ fault is. no_memory _ _ _ _ _ _ c.in_ok-text.ensures.given fault is) c.serve_arrivals.ensures.refused
+pub returns-in_err-served-clause-refused : goal.returns-in_err-served-clause-refused
+returns-in_err-served-clause-refused g c =
+    let gone = err_from_is_err_and c.from_residual-in_err-served.result c.from_residual-in_err-served.ensures.1 in
+    rw (gone.1, gone.2) (no_memory _ _ _ _ _ _ c.in_ok-text.ensures.given _ c.in_err-served.ensures.refused)
 
 pub returns-in_err-arrivals-clause-refused : goal.returns-in_err-arrivals-clause-refused
 returns-in_err-arrivals-clause-refused g c =
     let same : c.as_str.result.now ≡ string_bytes c.in_ok-text.text = search rules in
     let gone = err_from_is_err_and c.from_residual-in_err-arrivals.result c.from_residual-in_err-arrivals.ensures.1 in
-    rw (gone.1, gone.2) (not_taken_of _ _ _ _ _ _ c.in_ok-text.ensures.given _ same _ c.in_err-arrivals.ensures.refused)
+    rw (gone.1, gone.2) (halt_of _ _ _ _ _ _ c.in_ok-text.ensures.given _ same _ c.in_err-arrivals.ensures.refused)

@@ -1,4 +1,4 @@
-use Rattle.std.proofs.Common.{ℕ, List, sym, subst}
+use Rattle.std.proofs.Common.{ℕ, List, inr, refl, sym, subst}
 use Rattle.std.proofs.lemmas.Result.{err_from_is_err_and}
 use Rattle.basm.specs.Relation.{IsText}
 use Rattle.job_texts.specs.Assembled.{HoldsBadText}
@@ -14,4 +14,4 @@ returns-in_err-assemble-clause-refused g c =
       utf8 = c.in_ok-text.ensures.utf8;
       bad = λ p text. c.in_err-assemble.ensures.exact p (subst (λ (bytes : List ℕ). IsText bytes p) (sym c.as_str.ensures.value) text);
     } in
-    rw (gone.1, gone.2) bad
+    rw (gone.1, gone.2) (inr (c.in_err-assemble.field-0.0, refl, bad))

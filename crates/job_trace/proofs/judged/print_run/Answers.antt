@@ -1,16 +1,13 @@
 use Rattle.std.proofs.Common.{rules, ◌≡◌}
-use Rattle.std.proofs.lemmas.Result.{IfErr-weaker, on_ok_weaker}
+use Rattle.std.proofs.lemmas.Result.{on_ok_weaker}
 use Rattle.machine.specs.State.{entry_state}
 use Rattle.machine.specs.Memory.{header}
 use Rattle.stepper.specs.Machine.{state_of}
-use Rattle.job_parts.specs.Printed.{PrintsMore}
-use Rattle.job_trace.specs.TraceJob.{taken_line}
 use Rattle.job_trace.proofs.Histories.{prints_run}
-use Rattle.job_trace.proofs.Striding.{more_behind, short_behind}
 use Rattle.job_trace.proofs.judged.print_run.Goals as goal
 
-pub returns-clause-printed : goal.returns-clause-printed
-returns-clause-printed g c =
+pub returns : goal.returns
+returns g c =
     let j = c.in-Some.standing in
     let m = c.start-machine.result in
     let program : m.program ≡ j.program.now.program = search rules in
@@ -20,20 +17,4 @@ returns-clause-printed g c =
     let entered : state_of m ≡ entry_state c.args.port = search rules in
     on_ok_weaker c.trace_run.result
     (λ lines. prints_run c.args.port c.args.answers.now c.args.world.now _ _ _ j m.program m.header m.sizes c.budget.result (state_of m) c.in-Some.ensures.lent program head sizes budget entered (search rules) lines)
-    c.trace_run.ensures.printed
-
-pub returns-clause-more : goal.returns-clause-more
-returns-clause-more g c =
-    let old = g.W.Write.contents c.args.out.now in
-    let between = g.W.Write.contents c.print_taken.new.out in
-    let j = c.in-Some.standing in
-    let first : PrintsMore old between = (taken_line c.args.port j.slot j.generation, search rules) in
-    on_ok_weaker c.trace_run.result (λ lines. more_behind old between _ first (_, lines)) c.trace_run.ensures.printed
-
-pub returns-clause-stops : goal.returns-clause-stops
-returns-clause-stops g c =
-    let old = g.W.Write.contents c.args.out.now in
-    let between = g.W.Write.contents c.print_taken.new.out in
-    let j = c.in-Some.standing in
-    let first : PrintsMore old between = (taken_line c.args.port j.slot j.generation, search rules) in
-    IfErr-weaker c.trace_run.result _ _ (λ stop short. short_behind old between _ stop first short) c.trace_run.ensures.stops
+    c.trace_run.ensures

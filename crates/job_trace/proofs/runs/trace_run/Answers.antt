@@ -1,15 +1,13 @@
 use Rattle.std.proofs.Common.{◌≡◌, ◌+◌, ℕ, List, Bor, Option, refl, ap, ◌∙◌, subst, arith}
-use Rattle.std.proofs.lemmas.Result.{err_from_is_err_and}
 use Rattle.std.specs.Prelude.{IfSome}
 use Rattle.job_trace.specs.Runs.{Strides}
-use Rattle.job_trace.proofs.Striding.{all_lines, begins_lines, ends_lines, goes_on_lines, more_behind, no_more, none_of, short_behind, strides_more}
+use Rattle.job_trace.proofs.Striding.{all_lines, begins_lines, ends_lines, goes_on_lines, none_of}
 use Rattle.job_trace.proofs.runs.trace_run.Goals as goal
 
 pub loop-step-init : goal.loop-step-init
 loop-step-init g c = record {
   steps = c.requires;
   same = record { program = refl; header = refl; sizes = refl };
-  more = no_more _;
   text = begins_lines c.args.machine c.args.budget c.args.answers.now _;
 }
 
@@ -30,7 +28,6 @@ loop-step-preserved g c =
         header = told.run.header ∙ before.same.header;
         sizes = told.run.sizes ∙ before.same.sizes;
       };
-      more = more_behind _ old new before.more (strides_more c.args.budget m after c.loop-step.left.now c.in-Some.rest old new one);
       text = goes_on_lines c.args.machine m after c.args.budget c.loop-step._step c.args.answers.now c.loop-step.left.now c.in-Some.rest _ old new before.same before.steps before.text one;
     }
 
@@ -42,17 +39,9 @@ returns-in_default g c =
     let new = g.W.Write.contents c.trace_step.new.out in
     let one = subst (λ (left : Option (Bor (List ℕ))). Strides c.args.budget m after c.loop-step.left.now old new left) (none_of _ c.in_default.not-Some) c.in_ok-rest.ensures.printed in
     let before = c.loop-step.invariant in
-    record {
-      printed = ends_lines c.args.machine m after c.args.budget c.loop-step._step c.args.answers.now c.loop-step.left.now _ old new before.same before.steps c.loop-step-test.true before.text one;
-      stops = tt;
-    }
+    ends_lines c.args.machine m after c.args.budget c.loop-step._step c.args.answers.now c.loop-step.left.now _ old new before.same before.steps c.loop-step-test.true before.text one
 
-pub returns-clause-printed : goal.returns-clause-printed
-returns-clause-printed g c =
+pub returns : goal.returns
+returns g c =
     let all : c.loop-step._step ≡ c.args.budget = omega arith in
     all_lines c.args.machine c.loop-step.machine c.args.budget c.loop-step._step c.args.answers.now c.loop-step.left.now _ _ all c.loop-step.invariant.text
-
-pub returns-in_err-rest-clause-stops : goal.returns-in_err-rest-clause-stops
-returns-in_err-rest-clause-stops g c =
-    let gone = err_from_is_err_and c.from_residual.result c.from_residual.ensures.1 in
-    rw (gone.1, gone.2) (short_behind _ _ _ _ c.loop-step.invariant.more c.in_err-rest.ensures.stops)

@@ -1,6 +1,5 @@
 use Rattle.std.proofs.Common.{◌≡◌}
 use Rattle.stepper.specs.Machine.{IsSameRun}
-use Rattle.job_parts.specs.Printed.{PrintsMore}
 use Rattle.job_trace.proofs.Striding.{Prints_so_far}
 use Rattle.job_trace.proofs.runs.trace_run.Given as goal
 
@@ -10,6 +9,5 @@ invariant-loop-step g l =
     record {
       steps : l.machine.steps ≡ l._step;
       same : IsSameRun start l.machine;
-      more : PrintsMore (g.W.Write.contents l.fn.out) (g.W.Write.contents l.out);
       text : Prints_so_far start l.machine l.budget l._step l.answers l.left (g.W.Write.contents l.fn.out) (g.W.Write.contents l.out);
     }

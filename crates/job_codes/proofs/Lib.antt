@@ -1,0 +1,2 @@
+mod CodeLetters
+mod WrittenCodes

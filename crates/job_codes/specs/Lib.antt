@@ -1,0 +1,5 @@
+pub mod ExplainJob
+pub mod Explained
+pub mod Forms
+pub mod Topics
+pub mod WhyJob

@@ -1,0 +1,95 @@
+-- The codes that outputs tell: a kind and a number, which the enums of the kinds have.
+use Rattle.std.specs.Prelude.{
+  ◌≡◌,
+  ◌<◌,
+  ◌^◌,
+  ◌==◌,
+  ℕ,
+  List,
+  ◌++◌,
+  map,
+  Bool,
+  true,
+  is_some,
+  if◌then◌else◌,
+  codes,
+  decimal,
+}
+use Rattle.std.specs.Char.{to_ascii_lowercase}
+use Rattle.basm.specs.Codes.{asm_of_code}
+use Rattle.bpf.specs.Fault.{image_fault_of_code}
+use Rattle.bpf_insn.specs.Faults.{bad_insn_of_code}
+use Rattle.bver_form.specs.Codes.{refusal_of_code}
+use Rattle.policy_table.specs.Codes.{policy_fault_of_code}
+use Rattle.rmap.specs.Codes.{discard_of_code, status_of_code}
+use Rattle.node_parts.specs.Loads.{load_refusal_of_code}
+use Rattle.job_parts.specs.BadLines.{bad_line_of_number}
+use Rattle.job_codes.specs.declared.topics.CodeKind.{CodeKind}
+use Rattle.job_codes.specs.declared.topics.CodeKind.TheVariants.{
+  Verifier,
+  Text,
+  Image,
+  Insn,
+  Line,
+  Discard,
+  Status,
+  Load,
+  Policy,
+}
+
+-- the kind at a place of the order in which codes are listed, the last one at every later place
+unfoldable pub kind_at : ℕ → CodeKind
+kind_at place =
+    if place == 0 then Verifier
+    else (if place == 1 then Text
+    else (if place == 2 then Image
+    else (if place == 3 then Insn
+    else (if place == 4 then Line
+    else (if place == 5 then Discard
+    else (if place == 6 then Status
+    else (if place == 7 then Load
+    else Policy)))))))
+
+-- the letters before the number
+abbrev pub kind_word : CodeKind → List ℕ
+kind_word Verifier = codes "V"
+kind_word Text = codes "asm"
+kind_word Image = codes "image"
+kind_word Insn = codes "insn"
+kind_word Line = codes "line"
+kind_word Discard = codes "discard"
+kind_word Status = codes "status"
+kind_word Load = codes "load"
+kind_word Policy = codes "policy"
+
+-- the kind has a code of the number
+abbrev pub has_code : CodeKind → ℕ → Bool
+has_code Verifier n = is_some (refusal_of_code n)
+has_code Text n = is_some (asm_of_code n)
+has_code Image n = is_some (image_fault_of_code n)
+has_code Insn n = is_some (bad_insn_of_code n)
+has_code Line n = is_some (bad_line_of_number n)
+has_code Discard n = is_some (discard_of_code n)
+has_code Status n = is_some (status_of_code n)
+has_code Load n = is_some (load_refusal_of_code n)
+has_code Policy n = is_some (policy_fault_of_code n)
+
+-- the text of a code: the letters of its kind, and its number in decimal
+abbrev pub code_text : CodeKind → ℕ → List ℕ
+code_text kind n = kind_word kind ++ decimal n
+
+-- the text is that of the code, in upper or lower case
+abbrev pub IsWritten : (code text : List ℕ) → Type 0
+IsWritten code text = map to_ascii_lowercase code ≡ map to_ascii_lowercase text
+
+-- the kind has the number, and the text writes its code
+abbrev pub Writes : CodeKind → ℕ → List ℕ → Type 0
+Writes kind n text = (has_code kind n ≡ true) × IsWritten (code_text kind n) text
+
+-- the text writes a code of the kind, whose number is a byte
+abbrev pub HasNumber : CodeKind → List ℕ → Type 0
+HasNumber kind text = (n : ℕ) × (n < 2 ^ 8) × Writes kind n text
+
+-- the text is a code
+abbrev pub IsCode : List ℕ → Type 0
+IsCode text = (kind : CodeKind) × HasNumber kind text

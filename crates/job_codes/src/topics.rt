@@ -1,0 +1,224 @@
+//! The codes that outputs tell, and what is said of each.
+
+ghost use Rattle.std.specs.Prelude.{◌≡◌, ◌↔◌, ◌<◌, ◌^◌, ◌++◌, ℕ, IfOk, IsTrue, MatchOption, Some, decimal, is_some};
+ghost use Rattle.node_parts.specs.Loads.{load_refusal_of_code};
+ghost use Rattle.job_codes.specs.Topics.{HasNumber, IsCode, IsWritten, Writes, code_text, has_code, kind_at, kind_word};
+
+use basm::AsmCode;
+use bpf::ImageFault;
+use bpf_insn::BadInsn;
+use bver::Refusal;
+use job_parts::bad_lines::BadLine;
+use node_parts::LoadRefusal;
+use policy::PolicyFault;
+use rmap::{Discard, Status};
+use std::alloc::{AllocError, Global};
+
+/// What the bytes of an image's slot are where they spell no instruction.
+const NO_INSN: &str = "the bytes of a slot spell no instruction";
+
+/// What has codes: the letters before the number.
+#[derive(Clone, Copy, Debug, PartialEq, Eq)]
+pub enum CodeKind {
+    /// A refusal of the verifier: `V5`.
+    Verifier,
+    /// A fault of a program's text: `asm2`.
+    Text,
+    /// A fault of an image: `image7`.
+    Image,
+    /// Why a slot of an image spells no instruction: `insn3`.
+    Insn,
+    /// A fault of a packet line or an event line: `line3`.
+    Line,
+    /// Why a packet is discarded: `discard4`.
+    Discard,
+    /// A status of a reply: `status10`.
+    Status,
+    /// The code of a load result: `load40`.
+    Load,
+    /// A fault of a policy table: `policy1`.
+    Policy,
+}
+
+/// How many kinds there are.
+pub const KINDS: u8 = 9;
+
+/// What a code tells.
+#[derive(Clone, Copy, Debug)]
+pub enum Topic {
+    /// The verifier refuses a program.
+    Refusal(Refusal),
+    /// A text is no program.
+    Text(AsmCode),
+    /// Bytes are no image.
+    Image(ImageFault),
+    /// The bytes of a slot spell no instruction.
+    Insn(BadInsn),
+    /// A line of a job is bad.
+    Line(BadLine),
+    /// A packet is discarded.
+    Discard(Discard),
+    /// How a command ended.
+    Status(Status),
+    /// A load is refused for itself.
+    Load(LoadRefusal),
+    /// A policy table is none, or makes no program.
+    Policy(PolicyFault),
+}
+
+impl Topic {
+    /// What it is, in a few words.
+    pub fn title(self, alloc: Global) -> Result<String, AllocError> {
+        match self {
+            Topic::Refusal(refusal) => format!(in alloc; "{refusal}"),
+            Topic::Text(code) => format!(in alloc; "{code}"),
+            Topic::Image(ImageFault::Insn { .. }) => String::from_str(alloc, NO_INSN),
+            Topic::Image(fault) => format!(in alloc; "{fault}"),
+            Topic::Insn(fault) => format!(in alloc; "{fault}"),
+            Topic::Line(bad) => format!(in alloc; "{bad}"),
+            Topic::Discard(reason) => format!(in alloc; "{reason}"),
+            Topic::Status(status) => format!(in alloc; "{status}"),
+            Topic::Load(refusal) => format!(in alloc; "{refusal}"),
+            Topic::Policy(fault) => format!(in alloc; "{fault}"),
+        }
+    }
+
+    /// When it comes, and what to do, in lines of at most 113 columns.
+    pub fn advice(self) -> &'static str {
+        match self {
+            Topic::Refusal(refusal) => refusal.advice(),
+            Topic::Text(code) => code.advice(),
+            Topic::Image(fault) => fault.advice(),
+            Topic::Insn(fault) => fault.advice(),
+            Topic::Line(bad) => bad.advice(),
+            Topic::Discard(reason) => reason.advice(),
+            Topic::Status(status) => status.advice(),
+            Topic::Load(refusal) => refusal.advice(),
+            Topic::Policy(fault) => fault.advice(),
+        }
+    }
+}
+
+/// The refusal of a load that has this number: the verifier's, the fault of the image, or the load's own.
+fn load_topic(number: u8) -> Option<Topic>
+    ensures { is_some result ≡ is_some (load_refusal_of_code number) }
+{
+    match LoadRefusal::from_code(number)? {
+        LoadRefusal::Program(refused) => Some(Topic::Refusal(refused.code)),
+        LoadRefusal::Image(fault) => Some(Topic::Image(fault)),
+        own => Some(Topic::Load(own)),
+    }
+}
+
+/// The number that stands behind this word in a text, in upper or lower case. A text that writes a number so gives that
+/// number; another may give one too.
+fn number_behind(alloc: Global, word: &str, text: &str) -> Result<Option<u8>, AllocError>
+    ensures { IfOk result (λ number. (n : ℕ) → n < 2 ^ 8
+        → IsWritten (word.now ++ decimal n) text.now → number ≡ Some n) }
+{
+    let word = word.to_ascii_lowercase(alloc)?;
+    let text = text.to_ascii_lowercase(alloc)?;
+    match text.strip_prefix(word.as_str()) {
+        Some(digits) => Ok(digits.parse().ok()),
+        None => Ok(None),
+    }
+}
+
+impl CodeKind {
+    /// The kind at this place, from 0, of the order in which codes are listed; at every later place the last one.
+    #[tactic(auto, unfolding(crate::specs::Topics::kind_at))]
+    pub fn at(place: u8) -> CodeKind
+        ensures { result ≡ kind_at place }
+    {
+        match place {
+            0 => CodeKind::Verifier,
+            1 => CodeKind::Text,
+            2 => CodeKind::Image,
+            3 => CodeKind::Insn,
+            4 => CodeKind::Line,
+            5 => CodeKind::Discard,
+            6 => CodeKind::Status,
+            7 => CodeKind::Load,
+            _ => CodeKind::Policy,
+        }
+    }
+
+    /// The letters before the number.
+    pub fn word(self) -> &'static str
+        ensures { result.now ≡ kind_word self }
+    {
+        match self {
+            CodeKind::Verifier => "V",
+            CodeKind::Text => "asm",
+            CodeKind::Image => "image",
+            CodeKind::Insn => "insn",
+            CodeKind::Line => "line",
+            CodeKind::Discard => "discard",
+            CodeKind::Status => "status",
+            CodeKind::Load => "load",
+            CodeKind::Policy => "policy",
+        }
+    }
+
+    /// What the code of this number tells. `None` where the kind has no such code.
+    pub fn topic(self, number: u8) -> Option<Topic>
+        ensures { is_some result ≡ has_code self number }
+    {
+        match self {
+            CodeKind::Verifier => Some(Topic::Refusal(Refusal::from_code(number)?)),
+            CodeKind::Text => Some(Topic::Text(AsmCode::from_code(number)?)),
+            CodeKind::Image => Some(Topic::Image(ImageFault::from_code(number)?)),
+            CodeKind::Insn => Some(Topic::Insn(BadInsn::from_code(number)?)),
+            CodeKind::Line => Some(Topic::Line(BadLine::from_number(number)?)),
+            CodeKind::Discard => Some(Topic::Discard(Discard::from_code(number)?)),
+            CodeKind::Status => Some(Topic::Status(Status::from_code(number)?)),
+            CodeKind::Load => load_topic(number),
+            CodeKind::Policy => Some(Topic::Policy(PolicyFault::from_code(number)?)),
+        }
+    }
+
+    /// Whether a text is the code of this number, in upper or lower case.
+    fn is_written(self, alloc: Global, number: u8, text: &str) -> Result<bool, AllocError>
+        ensures { IfOk result (λ is. IsTrue is ↔ IsWritten (code_text self number) text.now) }
+    {
+        let word = self.word();
+        let code = format!(in alloc; "{word}{number}")?;
+        Ok(code.as_str().eq_ignore_ascii_case(text))
+    }
+
+    /// The number of the code of this kind that a text writes.
+    fn number_in(self, alloc: Global, text: &str) -> Result<Option<u8>, AllocError>
+        ensures { IfOk result (λ number. MatchOption number
+            (¬ HasNumber self text.now) (λ n. Writes self n text.now)) }
+    {
+        let Some(number) = number_behind(alloc, self.word(), text)? else {
+            return Ok(None);
+        };
+        if self.topic(number).is_some() && self.is_written(alloc, number, text)? {
+            Ok(Some(number))
+        } else {
+            Ok(None)
+        }
+    }
+}
+
+/// A code: a kind and a number.
+#[derive(Clone, Copy, Debug, PartialEq, Eq)]
+pub struct Code {
+    pub kind: CodeKind,
+    pub number: u8,
+}
+
+/// The code that a text writes, in upper or lower case. `None` where it is none.
+pub fn read_code(alloc: Global, text: &str) -> Result<Option<Code>, AllocError>
+    ensures { IfOk result (λ code. MatchOption code
+        (¬ IsCode text.now) (λ c. Writes c.kind c.number text.now)) }
+{
+    for place in 0..KINDS {
+        let kind = CodeKind::at(place);
+        if let Some(number) = kind.number_in(alloc, text)? {
+            return Ok(Some(Code { kind, number }));
+        }
+    }
+    Ok(None)
+}

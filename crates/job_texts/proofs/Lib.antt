@@ -1,3 +1,0 @@
-mod CodeLetters
-mod Explaining
-mod WrittenCodes

@@ -1,9 +1,0 @@
-use Rattle.std.proofs.Common.{ap, ap₂, codes, ◌≡◌, ◌∙◌}
-use Rattle.std.proofs.lemmas.Result.{IfOk-weaker}
-use Rattle.clap.specs.Simple.{app_of, app_of_fields, new_app, with_rule}
-use Rattle.job_texts.proofs.explain.explain_command.Goals as goal
-
-pub returns-clause-shape : goal.returns-clause-shape
-returns-clause-shape c =
-    let named : app_of c.about.result ≡ new_app (codes "explain") = ap app_of_fields c.about.ensures ∙ c.new.ensures.app in
-    IfOk-weaker c.arg.result _ _ (λ m h. h.shape c.optional-code.ensures.local ∙ ap₂ with_rule named c.optional-code.ensures.rule) c.arg.ensures
