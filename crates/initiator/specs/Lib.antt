@@ -1,3 +1,4 @@
 pub mod ReplyReading
+pub mod Seeing
 pub mod Writing
 pub mod Laws

@@ -64,6 +64,14 @@ checked_data writes bytes = if writes then [] else bytes ++ crc_of bytes ∷ []
 abbrev pub has_right_crc : (count : ℕ) → List ℕ → Bool
 has_right_crc count bytes = slice_index bytes (count - 1) == crc_of (take (count - 1) bytes)
 
+-- the last of some bytes
+abbrev pub last_of : List ℕ → ℕ
+last_of bytes = slice_index bytes (length bytes - 1)
+
+-- the CRC of the bytes before the last
+abbrev pub crc_before_last : List ℕ → ℕ
+crc_before_last bytes = crc_of (take (length bytes - 1) bytes)
+
 -- the bytes are the reply: protocol 1, packet type 00, a header whose last byte is the CRC of those before it, and
 -- behind it in read form as many bytes of data as it announces, with their CRC, in write form nothing
 pub record IsReply (bytes : List ℕ) (r : ReplyValue) : Type 0 where
@@ -80,26 +88,39 @@ pub record IsReply (bytes : List ℕ) (r : ReplyValue) : Type 0 where
 abbrev pub body_length : (writes : Bool) → (header : List ℕ) → ℕ
 body_length writes header = if writes then 0 else announced_length writes header + 1
 
+-- another number of bytes follows the header than should
+unfoldable pub wrong_length : (writes : Bool) → (header body : List ℕ) → NoReply
+wrong_length writes header body = Length (length body) (body_length writes header)
+
+-- the last of some bytes is not the CRC of those before it: of a header
+unfoldable pub wrong_header : List ℕ → NoReply
+wrong_header header = HeaderCrc (last_of header) (crc_before_last header)
+
+-- and of data
+unfoldable pub wrong_data : List ℕ → NoReply
+wrong_data body = DataCrc (last_of body) (crc_before_last body)
+
 -- what follows the header
 abbrev pub body_reading : (writes : Bool) → (header body : List ℕ) → Result ReplyValue NoReply
 body_reading writes header body =
-    if not (length body == body_length writes header) then Err Length
-    else if not writes && not (has_right_crc (length body) body) then Err DataCrc
+    if not (length body == body_length writes header) then Err (wrong_length writes header body)
+    else if not writes && not (has_right_crc (length body) body) then Err (wrong_data body)
     else Ok (record { header = header; data_field = take (announced_length writes header) body })
 
 -- a header of so many bytes, and what follows it
 abbrev pub form_reading : (writes : Bool) → (count : ℕ) → List ℕ → Result ReplyValue NoReply
 form_reading writes count bytes =
     if nat_lt (length bytes) count then Err Short
-    else if not (has_right_crc count bytes) then Err HeaderCrc
+    else if not (has_right_crc count bytes)
+    then Err (wrong_header (take count bytes))
     else body_reading writes (take count bytes) (drop count bytes)
 
--- the first reason that holds, or the reply
+-- the first reason that holds, with what was found, or the reply
 abbrev pub reply_reading : List ℕ → Result ReplyValue NoReply
 reply_reading bytes =
     if nat_lt (length bytes) 3 then Err Short
-    else if not (slice_index bytes 1 == 1) then Err Protocol
-    else if not (packet_type (slice_index bytes 2) == 0) then Err Command
+    else if not (slice_index bytes 1 == 1) then Err (Protocol (slice_index bytes 1))
+    else if not (packet_type (slice_index bytes 2) == 0) then Err (Command (record { 0 = slice_index bytes 2 }))
     else form_reading (has_write_bit (slice_index bytes 2)) (form_length (has_write_bit (slice_index bytes 2))) bytes
 
 -- any reply that the bytes are is the one that is given

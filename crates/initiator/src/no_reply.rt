@@ -1,9 +1,10 @@
 //! Why bytes are no reply.
 
+use rmap::Instruction;
 use thiserror::Error;
 
-/// Why bytes are no reply (ECSS-E-ST-50-52C, write reply format, read reply format, read-modify-write
-/// reply format), in the order in which they are tested.
+/// Why bytes are no reply, with what was found there (ECSS-E-ST-50-52C, write reply format, read reply format,
+/// read-modify-write reply format), in the order in which it is tested.
 #[derive(Clone, Copy, Debug, PartialEq, Eq, Error)]
 pub enum NoReply {
     /// Fewer bytes than the header has.
@@ -11,17 +12,38 @@ pub enum NoReply {
     Short,
     /// The protocol identifier is not 1, that of RMAP.
     #[error("the protocol identifier is not that of RMAP")]
-    Protocol,
+    Protocol {
+        /// The protocol identifier.
+        found: u8,
+    },
     /// The packet type is not 00: a command, or reserved.
     #[error("the packet type is not that of a reply")]
-    Command,
+    Command {
+        /// The instruction.
+        instruction: Instruction,
+    },
     /// The header CRC is not that of the header.
     #[error("the header CRC is wrong")]
-    HeaderCrc,
+    HeaderCrc {
+        /// The header CRC.
+        found: u8,
+        /// That of the header.
+        right: u8,
+    },
     /// Not as many bytes follow the header as it announces: none in write form, else its data length and a CRC.
     #[error("the data have another length than the header tells")]
-    Length,
+    Length {
+        /// How many follow it.
+        found: usize,
+        /// How many should.
+        wanted: usize,
+    },
     /// The data CRC is not that of the data.
     #[error("the data CRC is wrong")]
-    DataCrc,
+    DataCrc {
+        /// The data CRC.
+        found: u8,
+        /// That of the data.
+        right: u8,
+    },
 }

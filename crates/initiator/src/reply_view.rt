@@ -1,7 +1,7 @@
 //! A reply, as a view of its bytes.
 
 ghost use Rattle.std.specs.Prelude.{◌≡◌, ◌≤◌, ◌<◌, ◌^◌, length, IfOk};
-ghost use Rattle.initiator.specs.ReplyReading.{GivesAnyReplyOf, IsReply, announced_length, body_length, body_reading, form_length, form_reading, has_right_crc, has_write_form, reply_initiator, reply_instruction_of, reply_reading, reply_status, reply_target, reply_transaction};
+ghost use Rattle.initiator.specs.ReplyReading.{GivesAnyReplyOf, IsReply, announced_length, body_length, body_reading, crc_before_last, form_length, form_reading, has_write_form, last_of, reply_initiator, reply_instruction_of, reply_reading, reply_status, reply_target, reply_transaction};
 
 use crate::no_reply::NoReply;
 use byteorder::{BigEndian, ByteOrder};
@@ -51,13 +51,14 @@ impl<'a> Model for Reply<'a> {
     ghost invariant = { λ r. 8 ≤ list_length r.header.now };
 }
 
-/// Whether the last byte is the CRC of those before it.
-fn has_right_crc(bytes: &[u8]) -> bool
+/// The last byte, and the CRC of those before it.
+fn last_and_crc(bytes: &[u8]) -> (u8, u8)
     requires { 1 ≤ length bytes.now }
-    ensures { result ≡ has_right_crc (length bytes.now) bytes.now }
+    ensures last { result.0 ≡ last_of bytes.now }
+    ensures crc { result.1 ≡ crc_before_last bytes.now }
 {
     let last = bytes.len() - 1;
-    bytes[last] == crc(&bytes[..last])
+    (bytes[last], crc(&bytes[..last]))
 }
 
 /// How many bytes of data a header announces; none in write form.
@@ -103,11 +104,11 @@ impl<'a> Reply<'a> {
             return Err(NoReply::Short);
         };
         if *protocol != PROTOCOL {
-            return Err(NoReply::Protocol);
+            return Err(NoReply::Protocol { found: *protocol });
         }
         let instruction = Instruction(*instruction);
         if !instruction.is_reply() {
-            return Err(NoReply::Command);
+            return Err(NoReply::Command { instruction });
         }
         if instruction.writes() {
             Reply::with_form(bytes, true, WRITE_HEADER)
@@ -116,6 +117,7 @@ impl<'a> Reply<'a> {
         }
     }
 
+    #[tactic(auto, unfolding(crate::specs::ReplyReading::wrong_header))]
     fn with_form(bytes: &'a [u8], writes: bool, count: usize) -> Result<Reply<'a>, NoReply>
         requires { count ≡ form_length writes }
         ensures { result ≡ form_reading writes count bytes.now }
@@ -124,21 +126,27 @@ impl<'a> Reply<'a> {
             return Err(NoReply::Short);
         }
         let (header, body) = bytes.split_at(count);
-        if !has_right_crc(header) {
-            return Err(NoReply::HeaderCrc);
+        let (found, right) = last_and_crc(header);
+        if found != right {
+            return Err(NoReply::HeaderCrc { found, right });
         }
         Reply::with_body(header, body, writes)
     }
 
+    #[tactic(auto, unfolding(crate::specs::ReplyReading::wrong_length, crate::specs::ReplyReading::wrong_data))]
     fn with_body(header: &'a [u8], body: &'a [u8], writes: bool) -> Result<Reply<'a>, NoReply>
         requires { length header.now ≡ form_length writes }
         ensures { result ≡ body_reading writes header.now body.now }
     {
-        if body.len() != body_length(writes, header) {
-            return Err(NoReply::Length);
+        let (found, wanted) = (body.len(), body_length(writes, header));
+        if found != wanted {
+            return Err(NoReply::Length { found, wanted });
         }
-        if !writes && !has_right_crc(body) {
-            return Err(NoReply::DataCrc);
+        if !writes {
+            let (found, right) = last_and_crc(body);
+            if found != right {
+                return Err(NoReply::DataCrc { found, right });
+            }
         }
         let data_field = &body[..announced_length(writes, header)];
         Ok(Reply { header, data_field })

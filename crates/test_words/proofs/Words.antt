@@ -4,7 +4,7 @@ use Rattle.std.specs.Prelude.{◌≡◌, ℕ, suc, ◌+◌, ◌-◌, ◌*◌, �
 use Rattle.std.specs.Prelude.{nat_eq, nat_lt, bit_xor, List, [], ◌∷◌, ◌++◌, length, map, filter, fold, count_by, take, drop, replicate, codes}
 use Rattle.std.specs.Prelude.{slice_index, slice_index_or, slice_get, slice_set, Option, None, Some, is_some, option_map, unwrap_or}
 use Rattle.std.specs.Prelude.{Err, pos, negsuc, ◌-ℤ◌, neg_ℤ, int_lt, int_div}
-use Rattle.std.specs.List.{flat_map, range_with_len, slice_split, list_all, after_first, onto_first, starts_with}
+use Rattle.std.specs.List.{concat, flat_map, range_with_len, slice_split, list_all, after_first, onto_first, starts_with}
 use Rattle.std.specs.Option.{ok_or, option_or}
 use Rattle.std.specs.Int.{w8, w16, cast_signed, cast_unsigned, to_le_bytes, swap_bytes, bit_at, bit_not, int_shr}
 use Rattle.std.specs.Str.Parse.{digits_value, starts_with_minus}
@@ -176,6 +176,10 @@ value_33 = refl
 -- `flat_map f xs`: the lists that f gives of each item, joined
 value_34 : flat_map (λ n. n ∷ n ∷ []) xs ≡ 7 ∷ 7 ∷ 8 ∷ 8 ∷ []
 value_34 = refl
+
+-- `concat lists`: the items of each list, those of the first before those of the next
+value_54 : concat (xs ∷ ys ∷ []) ≡ 7 ∷ 8 ∷ 7 ∷ 0 ∷ 8 ∷ []
+value_54 = refl
 
 -- `filter p xs`: the items at which p is true
 value_35 : filter (nat_lt 7) xs ≡ 8 ∷ []

@@ -1,0 +1,95 @@
+-- What a reader of frames has read, and what a byte does to it.
+use Rattle.std.specs.Prelude.{◌≡◌, ℕ, ◌+◌, ◌-◌, ◌==◌, ◌&&◌, nat_lt, Bool, true, false, if◌then◌else◌, List, [], ◌∷◌, ◌++◌, length, Option, Some, None}
+use Rattle.spw.specs.Cargo.{Cargo}
+use Rattle.spw.specs.declared.packets.TheConstants.{MAX_PACKET}
+use Rattle.frames.specs.Heads.{head_of}
+use Rattle.frames.specs.declared.flags.Flag.{Flag}
+use Rattle.frames.specs.declared.flags.Flag.TheVariants.{Last, Part, SendTime, GotTime, Other}
+use Rattle.frames.specs.declared.heads.TheConstants.{HEAD_LENGTH}
+use Rattle.frames.specs.declared.came.Came.{Came}
+use Rattle.frames.specs.declared.came.Came.TheVariants.{Whole, Piece, Time, Other as Unknown}
+
+-- the bytes of a head that is not whole yet, what the frame is whose body comes, how many of its bytes are left, and
+-- what is held of a packet that has not ended
+pub record Reading : Type 0 where
+  pub head : List ℕ
+  pub flag : Flag
+  pub left : ℕ
+  pub held : List ℕ
+
+-- nothing was read of a frame, and nothing is held
+abbrev pub first_reading : Reading
+first_reading = record { head = []; flag = Part; left = 0; held = [] }
+
+-- whether such a frame carries bytes of a packet
+abbrev pub is_cargo : Flag → Bool
+is_cargo (Last end) = true
+is_cargo Part = true
+is_cargo SendTime = false
+is_cargo GotTime = false
+is_cargo (Other code) = false
+
+-- what is held behind one byte more: path address bytes, which are below 32, are dropped before a packet begins, and so is
+-- all that would be past 4,200 bytes
+abbrev pub keep : List ℕ → ℕ → List ℕ
+keep held byte =
+    if length held == 0 && nat_lt byte 32 then held
+    else if nat_lt (length held) MAX_PACKET then held ++ byte ∷ []
+    else held
+
+-- what is held behind a byte of the body of such a frame
+abbrev pub held_with : Flag → List ℕ → ℕ → List ℕ
+held_with flag held byte = if is_cargo flag then keep held byte else held
+
+-- a byte more of a head
+abbrev pub in_head : Reading → ℕ → Reading
+in_head s byte =
+    if nat_lt (length s.head + 1) HEAD_LENGTH then
+    record { head = s.head ++ byte ∷ []; flag = s.flag; left = 0; held = s.held }
+    else
+    record {
+      head = [];
+      flag = (head_of (s.head ++ byte ∷ [])).flag;
+      left = (head_of (s.head ++ byte ∷ [])).length;
+      held = s.held;
+    }
+
+-- a byte more of a body
+abbrev pub in_body : Reading → ℕ → Reading
+in_body s byte = record { head = s.head; flag = s.flag; left = s.left - 1; held = held_with s.flag s.held byte }
+
+-- a byte more
+abbrev pub next : Reading → ℕ → Reading
+next s byte = if s.left == 0 then in_head s byte else in_body s byte
+
+-- whether a frame has ended
+abbrev pub is_between : Reading → Bool
+is_between s = s.left == 0 && length s.head == 0
+
+-- what a frame of this kind brings, with what is held then
+abbrev pub came_of : Flag → List ℕ → Came
+came_of (Last end) held = Whole (record { bytes = held; end = end })
+came_of Part held = Piece
+came_of SendTime held = Time
+came_of GotTime held = Time
+came_of (Other code) held = Unknown code
+
+-- what is held behind a frame of this kind
+abbrev pub rest_of : Flag → List ℕ → List ℕ
+rest_of (Last end) held = []
+rest_of Part held = held
+rest_of SendTime held = held
+rest_of GotTime held = held
+rest_of (Other code) held = held
+
+-- behind the end of a frame
+abbrev pub behind_end : Reading → Reading
+behind_end s = record { head = s.head; flag = s.flag; left = s.left; held = rest_of s.flag s.held }
+
+-- what comes with a byte, if it ends a frame
+abbrev pub comes : Reading → ℕ → Option Came
+comes s byte = if is_between (next s byte) then Some (came_of (next s byte).flag (next s byte).held) else None
+
+-- what was read behind a byte
+abbrev pub step : Reading → ℕ → Reading
+step s byte = if is_between (next s byte) then behind_end (next s byte) else next s byte

@@ -1,0 +1,23 @@
+-- Bytes that a reader takes at once.
+use Rattle.std.specs.Prelude.{◌≡◌, ◌≤◌, ◌⊎◌, ℕ, ◌-◌, List, [], ◌∷◌, length, take, true}
+use Rattle.frames.specs.Reading.{Reading, in_head, is_between}
+use Rattle.frames.specs.Streams.{held_behind}
+
+-- bytes of a body, no more than are left of it
+abbrev pub in_run : Reading → List ℕ → Reading
+in_run s bytes =
+    record { head = s.head; flag = s.flag; left = s.left - length bytes; held = held_behind s.flag s.held bytes }
+
+-- one byte of a head was taken, or bytes of a body, no more than are left of it
+abbrev pub IsRun : Reading → List ℕ → Reading → Type 0
+IsRun s [] next = ⊥
+IsRun s (byte ∷ bytes) next =
+    ((s.left ≡ 0) × (bytes ≡ []) × (next ≡ in_head s byte))
+    ⊎ ((length (byte ∷ bytes) ≤ s.left) × (next ≡ in_run s (byte ∷ bytes)))
+
+-- bytes were taken up to one that ends a frame, and there was no memory for the packet that ended: what was held is held still
+pub record EndsUnpacked (s : Reading) (bytes : List ℕ) (next : Reading) : Type 0 where
+  pub count : ℕ
+  pub few : count ≤ length bytes
+  pub run : IsRun s (take count bytes) next
+  pub ended : is_between next ≡ true

@@ -1,0 +1,93 @@
+-- Frames in a stream of bytes, and what a reader makes of them.
+use Rattle.std.specs.Prelude.{◌≡◌, ◌<◌, ◌≤◌, ℕ, ◌^◌, nat_lt, if◌then◌else◌, List, [], ◌∷◌, ◌++◌, All, length, map, replicate, take, Option, Some, None}
+use Rattle.byteorder.specs.Endian.{big_bytes}
+use Rattle.std.specs.List.{concat}
+use Rattle.spw.specs.declared.packets.End.{End}
+use Rattle.spw.specs.declared.packets.End.TheVariants.{Eop}
+use Rattle.spw.specs.declared.packets.TheConstants.{MAX_PACKET}
+use Rattle.frames.specs.declared.came.Came.{Came}
+use Rattle.frames.specs.declared.came.Came.TheVariants.{Whole, Piece}
+use Rattle.frames.specs.declared.flags.Flag.{Flag}
+use Rattle.frames.specs.declared.flags.Flag.TheVariants.{Last, Part}
+use Rattle.frames.specs.Heads.{flag_code, flag_of}
+use Rattle.frames.specs.Reading.{Reading, came_of, comes, is_cargo, keep, rest_of, step}
+
+-- what was read behind some bytes
+abbrev pub after : Reading → List ℕ → Reading
+after s [] = s
+after s (byte ∷ bytes) = after (step s byte) bytes
+
+-- what came first, if anything did, and what came behind it
+abbrev pub onto : Option Came → List Came → List Came
+onto None others = others
+onto (Some first) others = first ∷ others
+
+-- what came with some bytes, in turn
+abbrev pub came_in : Reading → List ℕ → List Came
+came_in s [] = []
+came_in s (byte ∷ bytes) = onto (comes s byte) (came_in (step s byte) bytes)
+
+-- between two frames, the last of which was of that kind
+abbrev pub between : Flag → (held : List ℕ) → Reading
+between flag held = record { head = []; flag = flag; left = 0; held = held }
+
+-- the bytes of a frame: its first byte, the reserved one, ten that say how many follow, and these
+abbrev pub frame_bytes : (code reserved : ℕ) → (body : List ℕ) → List ℕ
+frame_bytes code reserved body = code ∷ reserved ∷ big_bytes 10 (length body) ++ body
+
+-- what is held behind bytes of a packet
+abbrev pub keep_all : List ℕ → List ℕ → List ℕ
+keep_all held [] = held
+keep_all held (byte ∷ bytes) = keep_all (keep held byte) bytes
+
+-- what is held behind the body of such a frame
+abbrev pub held_behind : Flag → List ℕ → List ℕ → List ℕ
+held_behind flag held body = if is_cargo flag then keep_all held body else held
+
+-- bytes without the path address bytes before them, which are below 32 (ECSS-E-ST-50-12C, addresses)
+abbrev pub behind_path : List ℕ → List ℕ
+behind_path [] = []
+behind_path (byte ∷ bytes) = if nat_lt byte 32 then behind_path bytes else byte ∷ bytes
+
+-- what a target takes of a packet that came over a link: its bytes behind the path, the first 4,200 of them
+abbrev pub cargo_of : List ℕ → List ℕ
+cargo_of bytes = take MAX_PACKET (behind_path bytes)
+
+-- the bytes of the frames of a packet in pieces, the last of which ends it so
+abbrev pub packet_bytes : (pieces : List (List ℕ)) → (last : List ℕ) → End → List ℕ
+packet_bytes [] last end = frame_bytes (flag_code (Last end)) 0 last
+packet_bytes (piece ∷ pieces) last end = frame_bytes (flag_code Part) 0 piece ++ packet_bytes pieces last end
+
+-- what comes of a packet in pieces: that it goes on, as often as there are pieces before the last, and then what a target takes
+-- of the bytes of all pieces
+abbrev pub packet_came : (pieces : List (List ℕ)) → (last : List ℕ) → End → List Came
+packet_came pieces last end =
+    map (λ (piece : List ℕ). Piece) pieces ++ Whole (record { bytes = cargo_of (concat pieces ++ last); end = end }) ∷ []
+
+-- the bytes of the frame of a reply: a packet that ends in EOP, in one frame
+abbrev pub reply_frame_of : List ℕ → List ℕ
+reply_frame_of reply = frame_bytes (flag_code (Last Eop)) 0 reply
+
+-- frames are read as what they carry, however the stream is cut
+pub record FramesAreRead : Type 0 where
+  -- bytes that come in two parts are read as they are at once
+  pub parts : (s : Reading) (first others : List ℕ) → after s (first ++ others) ≡ after (after s first) others
+  pub came : (s : Reading) (first others : List ℕ) → came_in s (first ++ others) ≡ came_in s first ++ came_in (after s first) others
+  -- a frame, whatever its kind and its reserved byte, with fewer than 2⁸⁰ bytes, is read to its end and no further
+  pub read : (last : Flag) (held : List ℕ) (code reserved : ℕ) (body : List ℕ) → length body < 256 ^ 10
+      → after (between last held) (frame_bytes code reserved body)
+      ≡ between (flag_of code) (rest_of (flag_of code) (held_behind (flag_of code) held body))
+  -- and brings one thing
+  pub brought : (last : Flag) (held : List ℕ) (code reserved : ℕ) (body : List ℕ) → length body < 256 ^ 10
+      → came_in (between last held) (frame_bytes code reserved body)
+      ≡ came_of (flag_of code) (held_behind (flag_of code) held body) ∷ []
+  -- a packet comes as what a target takes of it, in however many pieces it was cut, and nothing is held behind it
+  pub packet : (before : Flag) (pieces : List (List ℕ)) (last : List ℕ) (end : End)
+      → All (λ piece. length piece < 256 ^ 10) pieces → length last < 256 ^ 10
+      → (after (between before []) (packet_bytes pieces last end) ≡ between (Last end) [])
+      × (came_in (between before []) (packet_bytes pieces last end) ≡ packet_came pieces last end)
+  -- the frame of a reply that has no path in front is read as that reply
+  pub reply : (before : Flag) (reply : List ℕ) → behind_path reply ≡ reply → length reply ≤ MAX_PACKET
+      → came_in (between before []) (reply_frame_of reply) ≡ Whole (record { bytes = reply; end = Eop }) ∷ []
+  -- what is held of a packet is what a target takes of it
+  pub kept : (bytes : List ℕ) → keep_all [] bytes ≡ cargo_of bytes

@@ -1,0 +1,17 @@
+//! Frames that carry SpaceWire packets over a stream of bytes, as the bridges between SpaceWire and Ethernet write them
+//! (SSDTP2).
+#![tactic(auto)]
+
+mod came;
+mod flags;
+mod heads;
+mod laws;
+mod reader;
+mod replies;
+
+pub use crate::came::Came;
+pub use crate::flags::Flag;
+pub use crate::heads::{HEAD_LENGTH, Head};
+pub use crate::laws::frames_are_read;
+pub use crate::reader::FrameReader;
+pub use crate::replies::reply_frame;

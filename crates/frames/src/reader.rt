@@ -1,0 +1,184 @@
+//! A reader of frames.
+
+ghost use Rattle.std.specs.Prelude.{◌≡◌, ◌≢◌, ◌<◌, ◌≤◌, [], length, min, take, IfErr, IfOk, OnErr, OnOk};
+ghost use Rattle.frames.specs.Streams.{after, behind_path, came_in, keep_all, onto};
+ghost use Rattle.frames.specs.Runs.{EndsUnpacked, IsRun, in_run};
+ghost use Rattle.spw.specs.declared.faults.LineFault.TheVariants.{Memory};
+ghost use Rattle.frames.specs.Reading.{behind_end, came_of, first_reading, in_head, is_between, is_cargo};
+
+use crate::came::Came;
+use crate::flags::Flag;
+use crate::heads::{HEAD_LENGTH, Head};
+use arrayvec::ArrayVec;
+use spw::{Feed, LineFault};
+use std::alloc::Global;
+use std::marker::Model;
+
+/// The first byte that is no path address (ECSS-E-ST-50-12C, addresses).
+const FIRST_LOGICAL: u8 = 32;
+
+/// Reads frames from bytes as they come, and gives the packets that they carry. It holds the head of a frame, and at most
+/// 4,200 bytes of a packet, however many a frame says that it has.
+#[derive(Drop)]
+pub struct FrameReader {
+    head: ArrayVec<u8, HEAD_LENGTH>,
+    flag: Flag,
+    left: u128,
+    held: Feed,
+}
+
+impl Model for FrameReader {
+    ghost use Rattle.std.specs.Prelude.{◌<◌, length};
+    ghost use Rattle.frames.specs.Reading.{Reading};
+    ghost use Rattle.frames.specs.declared.heads.TheConstants.{HEAD_LENGTH};
+
+    ghost Value = { Reading };
+
+    ghost view = { λ r. record { head = r.head.items; flag = r.flag; left = r.left; held = r.held } };
+
+    ghost invariant = { λ r. length r.head.items < HEAD_LENGTH };
+}
+
+/// The bytes behind the path address bytes that come first.
+fn behind_path(bytes: &[u8]) -> &[u8]
+    ensures { result.now ≡ behind_path bytes.now }
+{
+    let mut rest = bytes;
+    while let [first, others @ ..] = rest {
+        if *first >= FIRST_LOGICAL {
+            return rest;
+        }
+        rest = others;
+    }
+    rest
+}
+
+/// Puts bytes of a packet behind what is held of it. Path address bytes before the packet begins are dropped, and so is what
+/// would be past [`MAX_PACKET`](spw::MAX_PACKET) bytes.
+#[tactic(auto, using(crate::proofs::Streaming::kept_first, crate::proofs::Streaming::kept_from))]
+fn keep_run(held: &mut Feed, bytes: &[u8])
+    ensures { held.new ≡ keep_all held.old bytes.now }
+{
+    if held.is_empty() {
+        held.fill(behind_path(bytes));
+    } else {
+        held.fill(bytes);
+    }
+}
+
+/// Whether such a frame carries bytes of a packet.
+fn is_cargo(flag: Flag) -> bool
+    ensures { result ≡ is_cargo flag }
+{
+    match flag {
+        Flag::Last(_) | Flag::Part => true,
+        Flag::SendTime | Flag::GotTime | Flag::Other(_) => false,
+    }
+}
+
+impl FrameReader {
+    /// A reader that has read nothing. The only fault is `Memory`.
+    pub fn new(alloc: Global) -> Result<FrameReader, LineFault>
+        ensures ok { IfOk result (λ r. r ≡ first_reading) }
+        ensures err { IfErr result (λ fault. fault ≡ Memory) }
+    {
+        Ok(FrameReader {
+            head: ArrayVec::new(),
+            flag: Flag::Part,
+            left: 0,
+            held: Feed::new(alloc)?,
+        })
+    }
+
+    /// Whether the last frame has ended, and no byte of another came.
+    pub fn is_between(&self) -> bool
+        ensures { result ≡ is_between self.now }
+    {
+        self.left == 0 && self.head.is_empty()
+    }
+
+    /// Takes a byte of a head.
+    fn take_head(&mut self, byte: u8)
+        requires { self.old.left ≡ 0 }
+        ensures { self.new ≡ in_head self.old byte }
+    {
+        self.head.push(byte);
+        if self.head.len() < HEAD_LENGTH {
+            return;
+        }
+        let head = Head::read(self.head.as_slice());
+        self.head.clear();
+        self.flag = head.flag;
+        self.left = head.length;
+    }
+
+    /// Takes bytes of a body, as many as are left of it, or are there, and gives how many.
+    fn take_body(&mut self, bytes: &[u8]) -> usize
+        requires left { self.old.left ≢ 0 }
+        requires some { bytes.now ≢ [] }
+        ensures count { result ≡ min self.old.left (length bytes.now) }
+        ensures run { self.new ≡ in_run self.old (take result bytes.now) }
+    {
+        let count = match usize::try_from(self.left) {
+            Ok(left) => left.min(bytes.len()),
+            Err(_) => bytes.len(),
+        };
+        self.left -= count as u128;
+        if is_cargo(self.flag) {
+            keep_run(&mut self.held, &bytes[..count]);
+        }
+        count
+    }
+
+    /// Takes bytes up to the end of a head or of a body, and gives how many.
+    fn take_next(&mut self, bytes: &[u8]) -> usize
+        requires { bytes.now ≢ [] }
+        ensures count { 0 < result }
+        ensures few { result ≤ length bytes.now }
+        ensures run { IsRun self.old (take result bytes.now) self.new }
+    {
+        if self.left == 0 {
+            self.take_head(bytes[0]);
+            1
+        } else {
+            self.take_body(bytes)
+        }
+    }
+
+    /// Ends a frame, and gives what it brings; nothing is held behind a packet. The only fault is `Memory`; then nothing
+    /// changes.
+    fn end(&mut self) -> Result<Came, LineFault>
+        ensures ok { IfOk result (λ came. came ≡ came_of self.old.flag self.old.held) }
+        ensures behind { OnOk result (self.new ≡ behind_end self.old) }
+        ensures err { IfErr result (λ fault. fault ≡ Memory) }
+        ensures kept { OnErr result (self.new ≡ self.old) }
+    {
+        match self.flag {
+            Flag::Last(end) => Ok(Came::Whole(self.held.close(end)?)),
+            Flag::Part => Ok(Came::Piece),
+            Flag::SendTime | Flag::GotTime => Ok(Came::Time),
+            Flag::Other(code) => Ok(Came::Other(code)),
+        }
+    }
+
+    /// Takes bytes up to one that ends a frame, or some of them where none does, and gives how many, and what came with the
+    /// last, or `None` where it ends no frame. It takes one at least. The condition is that there is one.
+    ///
+    /// The only fault is `Memory`, of a packet that ends: its bytes are then held still.
+    pub fn take(&mut self, bytes: &[u8]) -> Result<(usize, Option<Came>), LineFault>
+        requires { bytes.now ≢ [] }
+        ensures some { IfOk result (λ r. 0 < r.0) }
+        ensures few { IfOk result (λ r. r.0 ≤ length bytes.now) }
+        ensures came { IfOk result (λ r. came_in self.old (take r.0 bytes.now) ≡ onto r.1 []) }
+        ensures read { IfOk result (λ r. self.new ≡ after self.old (take r.0 bytes.now)) }
+        ensures err { IfErr result (λ fault. fault ≡ Memory) }
+        ensures cut { IfErr result (λ _. EndsUnpacked self.old bytes.now self.new) }
+    {
+        let count = self.take_next(bytes);
+        if !self.is_between() {
+            return Ok((count, None));
+        }
+        let came = self.end()?;
+        Ok((count, Some(came)))
+    }
+}

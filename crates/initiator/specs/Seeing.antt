@@ -1,0 +1,52 @@
+-- What a packet is, to who watches a link.
+use Rattle.std.specs.Prelude.{◌≡◌, ◌-◌, ℕ, Bool, true, false, ◌==◌, ◌&&◌, not, nat_lt, if◌then◌else◌, List, [], ◌∷◌, length, take, slice_index, Some, None, Ok, Err}
+use Rattle.spw.specs.Cargo.{Cargo}
+use Rattle.rmap.specs.declared.discard.Discard.{Discard}
+use Rattle.rmap.specs.Instruction.{packet_type}
+use Rattle.rmap.specs.Command.{discard_of, command_of}
+use Rattle.rmap.specs.Checks.{content_check}
+use Rattle.rmap.specs.Flaws.{flaw_of}
+use Rattle.initiator.specs.ReplyReading.{reply_reading}
+use Rattle.initiator.specs.declared.seen.Seen.{Seen}
+use Rattle.initiator.specs.declared.seen.Seen.TheVariants.{Command, Reply, NoReply, Discarded}
+
+-- the bytes behind those below 32 that come first, which are the path of a reply (ECSS-E-ST-50-12C, addresses)
+abbrev pub behind_path : List ℕ → List ℕ
+behind_path [] = []
+behind_path (byte ∷ bytes) = if nat_lt byte 32 then behind_path bytes else byte ∷ bytes
+
+-- that path
+abbrev pub path_before : List ℕ → List ℕ
+path_before bytes = take (length bytes - length (behind_path bytes)) bytes
+
+-- whether bytes have the protocol identifier of RMAP, and the packet type of a reply (ECSS-E-ST-50-52C, protocol identifier
+-- field, instruction field)
+abbrev pub has_reply_type : List ℕ → Bool
+has_reply_type bytes =
+    not (nat_lt (length bytes) 3) && (slice_index bytes 1 == 1 && packet_type (slice_index bytes 2) == 0)
+
+-- what bytes are that are no command: a reply behind its path, or why they are none; or where they have not the type of one why a
+-- target discards them, and what is wrong
+abbrev pub IsOther : List ℕ → Seen → Type 0
+IsOther bytes (Command command fault) = ⊥
+IsOther bytes (Reply path reply) =
+    (has_reply_type (behind_path bytes) ≡ true) × (path.now ≡ path_before bytes) × (reply_reading (behind_path bytes) ≡ Ok reply)
+IsOther bytes (NoReply instruction why) =
+    (has_reply_type (behind_path bytes) ≡ true) × (instruction.0 ≡ slice_index (behind_path bytes) 2)
+    × (reply_reading (behind_path bytes) ≡ Err why)
+IsOther bytes (Discarded reason flaw) =
+    (has_reply_type (behind_path bytes) ≡ false) × (discard_of bytes ≡ Some reason) × (flaw ≡ flaw_of bytes reason)
+
+-- no command stands to the bytes, and that is what they are
+pub record IsNoCommand (bytes : List ℕ) (seen : Seen) : Type 0 where
+  pub reason : Discard
+  pub discarded : discard_of bytes ≡ Some reason
+  pub other : IsOther bytes seen
+
+-- what a packet is: a command with the first check of what follows its header that holds, or no command and what it is then
+abbrev pub IsSeen : Cargo → Seen → Type 0
+IsSeen p (Command command fault) =
+    (discard_of p.bytes ≡ None) × (command ≡ command_of p) × (fault ≡ content_check command)
+IsSeen p (Reply path reply) = IsNoCommand p.bytes (Reply path reply)
+IsSeen p (NoReply instruction why) = IsNoCommand p.bytes (NoReply instruction why)
+IsSeen p (Discarded reason flaw) = IsNoCommand p.bytes (Discarded reason flaw)

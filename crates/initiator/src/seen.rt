@@ -1,0 +1,107 @@
+//! What a packet is, to who watches a link.
+
+ghost use Rattle.std.specs.Prelude.{◌≡◌, ◌≤◌, length};
+ghost use Rattle.rmap.specs.Command.{IsDiscarded};
+ghost use Rattle.initiator.specs.Seeing.{IsOther, IsSeen, behind_path, has_reply_type};
+
+use crate::no_reply::NoReply;
+use crate::reply_view::Reply;
+use rmap::{BodyFault, Command, Discard, Flaw, Instruction, PROTOCOL, content_check};
+use spw::Packet;
+
+/// The least logical address of a node; what is below it is a port of a router, and so a byte of a path
+/// (ECSS-E-ST-50-12C, addresses).
+const FIRST_LOGICAL: u8 = 32;
+
+/// What a packet is.
+#[derive(Debug, Drop)]
+pub enum Seen<'a> {
+    /// A command.
+    Command {
+        /// The command.
+        command: Command<'a>,
+        /// The first check of what follows its header that holds, however the packet ended.
+        fault: Option<BodyFault>,
+    },
+    /// A reply.
+    Reply {
+        /// The path of the reply: the bytes below 32 in front.
+        path: &'a [u8],
+        /// The reply behind it.
+        reply: Reply<'a>,
+    },
+    /// What has the protocol and the packet type of a reply behind its path, and is none.
+    NoReply {
+        /// The instruction.
+        instruction: Instruction,
+        /// Why it is no reply.
+        why: NoReply,
+    },
+    /// No reply, and no command.
+    Discarded {
+        /// Why a target discards it.
+        reason: Discard,
+        /// What was found there.
+        flaw: Flaw,
+    },
+}
+
+/// The bytes behind those below 32 that come first.
+fn behind_path(bytes: &[u8]) -> &[u8]
+    ensures value { result.now ≡ behind_path bytes.now }
+    ensures few { length result.now ≤ length bytes.now }
+{
+    let mut rest = bytes;
+    while let [first, others @ ..] = rest {
+        if *first >= FIRST_LOGICAL {
+            return rest;
+        }
+        rest = others;
+    }
+    rest
+}
+
+/// Whether these bytes have the protocol and the packet type of a reply.
+fn has_reply_type(bytes: &[u8]) -> bool
+    ensures { result ≡ has_reply_type bytes.now }
+{
+    match bytes {
+        [_, protocol, instruction, ..] => {
+            *protocol == PROTOCOL && Instruction(*instruction).is_reply()
+        }
+        _ => false,
+    }
+}
+
+/// What bytes are that are no command.
+fn other<'a>(bytes: &'a [u8], reason: Discard) -> Seen<'a>
+    requires { IsDiscarded bytes.now reason }
+    ensures { IsOther bytes.now result }
+{
+    let rest = behind_path(bytes);
+    if !has_reply_type(rest) {
+        let flaw = Flaw::of(bytes, reason);
+        return Seen::Discarded { reason, flaw };
+    }
+    let path = &bytes[..bytes.len() - rest.len()];
+    let instruction = Instruction(rest[2]);
+    match Reply::view(rest) {
+        Ok(reply) => Seen::Reply { path, reply },
+        Err(why) => Seen::NoReply { instruction, why },
+    }
+}
+
+impl<'a> Seen<'a> {
+    /// What a packet is.
+    pub fn of(packet: &'a Packet) -> Seen<'a>
+        ensures { IsSeen packet.now result }
+    {
+        match Command::view(packet) {
+            Ok(command) => {
+                let fault = content_check(&command);
+                Seen::Command { command, fault }
+            }
+            Err(reason) => other(packet.bytes(), reason),
+        }
+    }
+}
