@@ -1,0 +1,4 @@
+pub mod Bits
+pub mod Cuts
+pub mod Lying
+pub mod Searching

@@ -1,0 +1,147 @@
+-- A region that is cut by the sides of a shape.
+use Rattle.std.proofs.Common.{◌≡◌, ◌<◌, ◌≤◌, ◌+◌, ◌-◌, ◌⊎◌, inl, inr, ◌&&◌, ℕ, zero, suc, Bool, true, false, not, List, length, get_or, refl, sym, ap, subst, ◌∙◌, arith}
+use Rattle.std.specs.Prelude.{All, MatchOption, Option, Some, None}
+use Rattle.std.proofs.lemmas.Bool.{cases_lt}
+use Rattle.regions.specs.Points.{HasCommand}
+use Rattle.regions.specs.Questions.{AreTestedAlike, HoldsAll, HoldsOn, IsCutBy, IsCutTo, IsFound, IsSettledBy, IsShapeAt, IsUnderWay, IsUnmixed}
+use Rattle.regions.specs.Regions.{AreCut, IsBare, IsIn, lies_in, meets, meets_last, side_of}
+use Rattle.regions.specs.declared.points.Point.{Point}
+use Rattle.regions.specs.declared.regions.Region.{Region}
+use Rattle.regions.specs.declared.sides.Side.{Side}
+use Rattle.regions.proofs.Lying.{parts}
+
+-- how much of a number's work is left: with no side left its shape is still to be found
+abbrev pub rank : ℕ → ℕ
+rank zero = 9
+rank (suc left) = suc left
+
+pub none_there : (holds : Point → Type 0) (region : Region) → IsBare region → HoldsOn holds region
+none_there holds region bare p has lies = absurd (cc (lies, bare p has))
+
+-- the points of a part are points of the region
+pub part_of : (region part : Region) (test : Point → Bool) → ((p : Point) → HasCommand p → lies_in part p ≡ (lies_in region p && test p)) → (p : Point) → IsIn part p → IsIn region p × (test p ≡ true)
+part_of region part test is p in_part =
+    let both = parts (lies_in region p) (test p) (sym (is p in_part.0) ∙ in_part.1) in
+    ((in_part.0, both.0), both.1)
+
+-- what is cut stays so in a part
+pub still_cut : (tests : List (Point → Bool)) (number : ℕ) (region part : Region) → ((p : Point) → IsIn part p → IsIn region p) → IsCutBy tests number region → IsCutBy tests number part
+still_cut tests number region part of cut k d before there p q in_p in_q = cut k d before there p q (of p in_p) (of q in_q)
+
+-- one more is cut, where its test has one outcome
+pub one_more : (tests : List (Point → Bool)) (number : ℕ) (part : Region) → IsCutBy tests number part → ((d : Point → Bool) → IsUnmixed part (get_or tests number d)) → IsCutBy tests (number + 1) part
+one_more tests number part cut unmixed k d before there = by_place (cases_lt k number)
+  where
+    by_place : (k < number) ⊎ (number ≤ k) → IsUnmixed part (get_or tests k d)
+    by_place (inl lt) = cut k d lt there
+    by_place (inr ge) = at k (omega arith)
+      where
+        at : (j : ℕ) → j ≡ number → IsUnmixed part (get_or tests j d)
+        at j e = rw e (unmixed d)
+
+constant : (t u b : Bool) → t ≡ b → u ≡ b → t ≡ u
+constant t u b e f = e ∙ sym f
+
+and_true : (a b : Bool) → a ≡ true → (a && b) ≡ b
+and_true true b e = refl
+and_true false b e = absurd (cc)
+
+and_false : (a b : Bool) → a ≡ false → (a && b) ≡ false
+and_false true b e = absurd (cc)
+and_false false b e = refl
+
+negated : (t : Bool) → not t ≡ true → t ≡ false
+negated true e = absurd (cc)
+negated false e = refl
+
+module _ (tests : List (Point → Bool)) (number : ℕ) (region shape : Region) (left : ℕ) (inside outside : Region) (to : IsCutTo tests number shape (suc left) region)
+    (cut : AreCut region shape (side_of (suc left)) inside outside) where
+  of_inside : (p : Point) → IsIn inside p → IsIn region p × (meets (side_of (suc left)) shape p ≡ true)
+  of_inside = part_of region inside (meets (side_of (suc left)) shape) cut.met
+
+  of_outside : (p : Point) → IsIn outside p → IsIn region p × (not (meets (side_of (suc left)) shape p) ≡ true)
+  of_outside = part_of region outside (λ p. not (meets (side_of (suc left)) shape p)) cut.unmet
+
+  -- no point outside passes the test
+  pub failed_outside : (d : Point → Bool) → IsUnmixed outside (get_or tests number d)
+  failed_outside d p q in_p in_q = constant (get_or tests number d p) (get_or tests number d q) false (failed p in_p) (failed q in_q)
+    where
+      failed : (r : Point) → IsIn outside r → get_or tests number d r ≡ false
+      failed r in_r =
+          let at = of_outside r in_r in
+          to.same d r at.0 ∙ and_false (meets (side_of (suc left)) shape r) (meets_last left shape r) (negated (meets (side_of (suc left)) shape r) at.1)
+
+  -- inside one side fewer is left
+  pub met_inside : IsCutTo tests number shape left inside
+  met_inside = record {
+    there = to.there;
+    same = λ d p in_p.
+        let at = of_inside p in_p in
+        to.same d p at.0 ∙ and_true (meets (side_of (suc left)) shape p) (meets_last left shape p) at.1;
+  }
+
+  pub outside_cut : IsCutBy tests number region → IsCutBy tests (number + 1) outside
+  outside_cut before = one_more tests number outside (still_cut tests number region outside (λ p in_p. (of_outside p in_p).0) before) failed_outside
+
+  pub inside_cut : IsCutBy tests number region → IsCutBy tests number inside
+  inside_cut before = still_cut tests number region inside (λ p in_p. (of_inside p in_p).0) before
+
+-- with no side left the test has one outcome
+pub last_inside : (tests : List (Point → Bool)) (number : ℕ) (shape inside : Region) → IsCutTo tests number shape 0 inside → IsCutBy tests number inside → IsCutBy tests (number + 1) inside
+last_inside tests number shape inside to cut =
+    one_more tests number inside cut (λ d p q in_p in_q. constant (get_or tests number d p) (get_or tests number d q) true (to.same d p in_p) (to.same d q in_q))
+
+pub begun : (tests : List (Point → Bool)) (number : ℕ) (shape region : Region) → IsShapeAt tests number shape → IsUnderWay tests number shape 8 region
+begun tests number shape region at some = record { there = at.there; same = λ d p in_p. sym (at.same d p in_p.0) }
+
+-- where all tests have one outcome in the region, one point answers for all
+pub answered : (tests : List (Point → Bool)) (number : ℕ) (region : Region) (holds : Point → Type 0) (q : Point) → IsSettledBy tests holds → IsCutBy tests number region → length tests ≤ number → IsIn region q → holds q → HoldsOn holds region
+answered tests number region holds q settled cut all in_q answer p has lies =
+    settled p q has in_q.0 (λ k d there. cut k d (omega arith) there p q (has, lies) in_q) answer
+
+pub weaker_of : (o : Option Point) (P R : Type 0) (Q : Point → Type 0) → (P → R) → MatchOption o P Q → MatchOption o R Q
+weaker_of None P R Q f h = f h
+weaker_of (Some p) P R Q f h = h
+
+pub none_of : (o : Option Point) (P : Type 0) (Q : Point → Type 0) → o ≡ None → MatchOption o P Q → P
+none_of None P Q none h = h
+none_of (Some p) P Q none h = absurd (cc)
+
+pub nothing_cut : (tests : List (Point → Bool)) (region : Region) → IsCutBy tests 0 region
+nothing_cut tests region k d before there = absurd (omega arith)
+
+-- what is known of both parts behind a cut
+pub record IsStep (tests : List (Point → Bool)) (number : ℕ) (region shape : Region) (left : ℕ) (inside outside : Region) : Type 0 where
+  pub there : number < length tests
+  pub out_cut : IsCutBy tests (number + 1) outside
+  pub in_cut : IsCutBy tests number inside
+  pub in_to : IsCutTo tests number shape (left - 1) inside
+
+pub step : (tests : List (Point → Bool)) (number : ℕ) (region shape : Region) (left : ℕ) (side : Side) (inside outside : Region) → 0 < left → side ≡ side_of left → IsUnderWay tests number shape left region
+    → AreCut region shape side inside outside → IsCutBy tests number region → IsStep tests number region shape left inside outside
+step tests number region shape zero side inside outside some own under_way cut before = absurd (omega (arith, some))
+step tests number region shape (suc left) side inside outside some own under_way cut before =
+    let to : IsCutTo tests number shape (suc left) region = under_way some in
+    let parts_are : AreCut region shape (side_of (suc left)) inside outside = subst (λ (s : Side). AreCut region shape s inside outside) own cut in
+    record {
+      there = to.there;
+      out_cut = outside_cut tests number region shape left inside outside to parts_are before;
+      in_cut = inside_cut tests number region shape left inside outside to parts_are before;
+      in_to = subst (λ (n : ℕ). IsCutTo tests number shape n inside) (omega arith) (met_inside tests number region shape left inside outside to parts_are);
+    }
+
+-- what holds on both parts holds on the region
+pub on_both : (region shape : Region) (side : Side) (inside outside : Region) (holds : Point → Type 0) → AreCut region shape side inside outside → HoldsOn holds outside → HoldsOn holds inside → HoldsOn holds region
+on_both region shape side inside outside holds cut out in_ p has lies = by_test (meets side shape p) refl
+  where
+    by_test : (t : Bool) → meets side shape p ≡ t → holds p
+    by_test true e = in_ p has (cut.met p has ∙ rw (lies, e) refl)
+    by_test false e = out p has (cut.unmet p has ∙ rw (lies, e) refl)
+
+pub rank_zero : (left : ℕ) → left ≡ 0 → rank left ≡ 9
+rank_zero zero e = refl
+rank_zero (suc left) e = absurd (omega arith)
+
+pub rank_some : (left : ℕ) → 0 < left → rank left ≡ left
+rank_some zero h = absurd (omega arith)
+rank_some (suc left) h = refl

@@ -1,0 +1,10 @@
+use Rattle.std.proofs.Common.{ap, arith}
+use Rattle.std.specs.Int.{w128}
+use Rattle.std.specs.Prelude.{◌==◌}
+use Rattle.std.proofs.lemmas.Nat.Bits.{bit_at-trailing_zeros}
+use Rattle.regions.proofs.byte_sets.lowest.Goals as goal
+
+pub returns : goal.returns
+returns c =
+    let lowest = bit_at-trailing_zeros w128 c.args.half (omega arith) (omega arith) in
+    (lowest.0, ap (λ x. x == 1) lowest.1)

@@ -1,0 +1,5 @@
+pub mod Points
+pub mod ByteSets
+pub mod Regions
+pub mod Spans
+pub mod Questions

@@ -1,0 +1,103 @@
+//! Sets of bytes.
+
+ghost use Rattle.std.specs.Prelude.{◌≡◌, ◌<◌, ◌==◌, ◌^◌, ◌&&◌, ℕ, MatchOption, false, not, true};
+ghost use Rattle.regions.specs.ByteSets.{has_bit, has_byte};
+
+/// How many bits a half has.
+const HALF: u8 = 128;
+
+/// A set of bytes: a bit for each of the lower 128, and for each of the higher.
+#[derive(Clone, Copy, Debug, PartialEq, Eq)]
+pub struct ByteSet {
+    low: u128,
+    high: u128,
+}
+
+/// The only bit of a half that is set.
+fn bit(place: u8) -> u128
+    requires { place < HALF }
+    ensures { result ≡ 2 ^ place }
+{
+    1 << place
+}
+
+/// The place of the lowest bit of a half that is set.
+fn lowest(half: u128) -> Option<u8>
+    ensures { MatchOption result ((i : ℕ) → has_bit half i ≡ false) (λ i. (i < HALF) × (has_bit half i ≡ true)) }
+{
+    if half == 0 {
+        return None;
+    }
+    Some(half.trailing_zeros() as u8)
+}
+
+impl ByteSet {
+    /// All bytes.
+    pub fn all() -> ByteSet
+        ensures { (byte : ℕ) → byte < 256 → has_byte result byte ≡ true }
+    {
+        ByteSet {
+            low: u128::MAX,
+            high: u128::MAX,
+        }
+    }
+
+    /// One byte alone.
+    pub fn only(byte: u8) -> ByteSet
+        ensures { (other : ℕ) → other < 256 → has_byte result other ≡ (other == byte) }
+    {
+        if byte < HALF {
+            return ByteSet {
+                low: bit(byte),
+                high: 0,
+            };
+        }
+        ByteSet {
+            low: 0,
+            high: bit(byte - HALF),
+        }
+    }
+
+    /// Whether the byte is one of them.
+    pub fn has(&self, byte: u8) -> bool
+        ensures { result ≡ has_byte self.now byte }
+    {
+        let half = if byte < HALF { self.low } else { self.high };
+        half >> (byte % HALF) & 1 == 1
+    }
+
+    /// Those that are in both sets.
+    pub fn both(&self, other: &ByteSet) -> ByteSet
+        ensures { (byte : ℕ) → has_byte result byte ≡ (has_byte self.now byte && has_byte other.now byte) }
+    {
+        ByteSet {
+            low: self.low & other.low,
+            high: self.high & other.high,
+        }
+    }
+
+    /// Those that are not in the other set.
+    pub fn without(&self, other: &ByteSet) -> ByteSet
+        ensures { (byte : ℕ) → byte < 256
+            → has_byte result byte ≡ (has_byte self.now byte && not (has_byte other.now byte)) }
+    {
+        ByteSet {
+            low: self.low & !other.low,
+            high: self.high & !other.high,
+        }
+    }
+
+    /// The least of them.
+    pub fn first(&self) -> Option<u8>
+        ensures { MatchOption result ((byte : ℕ) → byte < 256 → has_byte self.now byte ≡ false)
+            (λ byte. has_byte self.now byte ≡ true) }
+    {
+        match lowest(self.low) {
+            Some(place) => Some(place),
+            None => match lowest(self.high) {
+                Some(place) => Some(place + HALF),
+                None => None,
+            },
+        }
+    }
+}

@@ -1,0 +1,21 @@
+//! The commands that a node may bring to its policy table, as points, and regions of them.
+//!
+//! A [`Point`] is what of a command a rule looks at. A [`Region`] is a product of sets, one a field, which is [cut](Region::cut)
+//! by a side of another and tells one of its [points](Region::witness), if a command has one. [`search`] cuts all commands by the
+//! regions of which a [`Question`] speaks, until one point answers it for all of a region.
+#![tactic(auto)]
+
+mod byte_sets;
+mod points;
+mod questions;
+mod regions;
+mod sides;
+mod spans;
+mod stretches;
+
+pub use byte_sets::ByteSet;
+pub use points::Point;
+pub use questions::{Question, search};
+pub use regions::{Kinds, Region};
+pub use sides::Side;
+pub use stretches::Stretch;

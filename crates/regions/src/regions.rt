@@ -1,0 +1,159 @@
+//! Regions of points.
+
+ghost use Rattle.std.specs.Prelude.{◌≡◌, ◌&&◌, MatchOption, not, true};
+ghost use Rattle.rmap.specs.declared.kind.Kind.{Kind};
+ghost use Rattle.regions.specs.Points.{HasCommand};
+ghost use Rattle.regions.specs.Regions.{AreCut, IsBare, IsIn, is_one_of, lies_in, meets};
+ghost use Rattle.regions.specs.declared.points.Point.{Point};
+
+use crate::byte_sets::ByteSet;
+use crate::points::Point;
+use crate::sides::Side;
+use crate::spans::reach_of;
+use crate::stretches::Stretch;
+
+/// A set of kinds of commands.
+#[derive(Clone, Copy, Debug, PartialEq, Eq)]
+pub struct Kinds {
+    /// Whether reads are of it.
+    pub read: bool,
+    /// Whether writes are of it.
+    pub write: bool,
+    /// Whether read-modify-writes are of it.
+    pub rmw: bool,
+}
+
+impl Kinds {
+    /// Those that are in both sets.
+    fn both(self, other: Kinds) -> Kinds
+        ensures { (kind : Kind) → is_one_of result kind ≡ (is_one_of self kind && is_one_of other kind) }
+    {
+        Kinds {
+            read: self.read && other.read,
+            write: self.write && other.write,
+            rmw: self.rmw && other.rmw,
+        }
+    }
+
+    /// Those that are not in the other set.
+    fn without(self, other: Kinds) -> Kinds
+        ensures { (kind : Kind) → is_one_of result kind
+            ≡ (is_one_of self kind && not (is_one_of other kind)) }
+    {
+        Kinds {
+            read: self.read && !other.read,
+            write: self.write && !other.write,
+            rmw: self.rmw && !other.rmw,
+        }
+    }
+}
+
+/// The points whose fields are each one of a set.
+#[derive(Clone, Copy, Debug, PartialEq, Eq)]
+pub struct Region {
+    /// What the commands ask for.
+    pub kinds: Kinds,
+    /// Their keys.
+    pub keys: ByteSet,
+    /// Their initiator logical addresses.
+    pub initiators: ByteSet,
+    /// Their extended addresses.
+    pub extended: ByteSet,
+    /// Their first addresses.
+    pub first: Stretch,
+    /// Their last addresses.
+    pub last: Stretch,
+}
+
+impl Region {
+    /// All points that a command has.
+    pub fn whole() -> Region
+        ensures { (p : Point) → HasCommand p → lies_in result p ≡ true }
+    {
+        let addresses = Stretch {
+            start: 0,
+            end: 1 << 32,
+        };
+        Region {
+            kinds: Kinds {
+                read: true,
+                write: true,
+                rmw: true,
+            },
+            keys: ByteSet::all(),
+            initiators: ByteSet::all(),
+            extended: ByteSet::all(),
+            first: addresses,
+            last: addresses,
+        }
+    }
+
+    /// The points that meet the condition of a side of another region.
+    fn inside(self, shape: &Region, side: Side) -> Region
+        ensures { (p : Point) → HasCommand p → lies_in result p ≡ (lies_in self p && meets side shape.now p) }
+    {
+        let mut left = self;
+        match side {
+            Side::Kind => left.kinds = self.kinds.both(shape.kinds),
+            Side::Key => left.keys = self.keys.both(&shape.keys),
+            Side::Initiator => left.initiators = self.initiators.both(&shape.initiators),
+            Side::Extended => left.extended = self.extended.both(&shape.extended),
+            Side::FirstFrom => left.first = self.first.from(shape.first.start),
+            Side::FirstBefore => left.first = self.first.below(shape.first.end),
+            Side::LastFrom => left.last = self.last.from(shape.last.start),
+            Side::LastBefore => left.last = self.last.below(shape.last.end),
+        }
+        left
+    }
+
+    /// The points that do not.
+    fn outside(self, shape: &Region, side: Side) -> Region
+        ensures { (p : Point) → HasCommand p → lies_in result p ≡ (lies_in self p && not (meets side shape.now p)) }
+    {
+        let mut left = self;
+        match side {
+            Side::Kind => left.kinds = self.kinds.without(shape.kinds),
+            Side::Key => left.keys = self.keys.without(&shape.keys),
+            Side::Initiator => left.initiators = self.initiators.without(&shape.initiators),
+            Side::Extended => left.extended = self.extended.without(&shape.extended),
+            Side::FirstFrom => left.first = self.first.below(shape.first.start),
+            Side::FirstBefore => left.first = self.first.from(shape.first.end),
+            Side::LastFrom => left.last = self.last.below(shape.last.start),
+            Side::LastBefore => left.last = self.last.from(shape.last.end),
+        }
+        left
+    }
+
+    /// Cuts the region by a side of another: the points that meet its condition, and those that do not.
+    pub fn cut(&self, shape: &Region, side: Side) -> (Region, Region)
+        ensures { AreCut self.now shape.now side result.0 result.1 }
+    {
+        (self.inside(shape, side), self.outside(shape, side))
+    }
+
+    /// A point of the region that a command has.
+    pub fn witness(&self) -> Option<Point>
+        ensures { MatchOption result (IsBare self.now) (IsIn self.now) }
+    {
+        let Some(key) = self.keys.first() else {
+            return None;
+        };
+        let Some(initiator) = self.initiators.first() else {
+            return None;
+        };
+        let Some(extended) = self.extended.first() else {
+            return None;
+        };
+        let Some(reach) = reach_of(self.kinds, &self.first, &self.last) else {
+            return None;
+        };
+        Some(Point {
+            kind: reach.kind,
+            key,
+            initiator,
+            extended,
+            first: reach.first,
+            last: reach.last,
+        })
+    }
+}

@@ -1,0 +1,37 @@
+//! Stretches of addresses.
+
+ghost use Rattle.std.specs.Prelude.{◌≡◌, ℕ, ◌&&◌, max, min, nat_lt, not};
+ghost use Rattle.regions.specs.Points.{lies_on};
+
+/// The addresses from one to before another; none, where that is not greater.
+#[derive(Clone, Copy, Debug, PartialEq, Eq)]
+pub struct Stretch {
+    /// The first address.
+    pub start: u64,
+    /// The address behind the last.
+    pub end: u64,
+}
+
+impl Stretch {
+    /// Those that are not below an address.
+    pub fn from(self, start: u64) -> Stretch
+        ensures start { result.start ≡ max self.start start }
+        ensures end { result.end ≡ self.end }
+    {
+        Stretch {
+            start: self.start.max(start),
+            end: self.end,
+        }
+    }
+
+    /// Those that are below an address.
+    pub fn below(self, end: u64) -> Stretch
+        ensures start { result.start ≡ self.start }
+        ensures end { result.end ≡ min self.end end }
+    {
+        Stretch {
+            start: self.start,
+            end: self.end.min(end),
+        }
+    }
+}
