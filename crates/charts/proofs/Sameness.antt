@@ -1,0 +1,32 @@
+-- Where rules hold alike, tables decide alike.
+use Rattle.std.proofs.Common.{◌≡◌, ◌≢◌, ℕ, suc, Bool, true, false, ◌&&◌, List, [], ◌∷◌, Option, Some, None, refl, ap, sym, ◌∙◌, subst, arith}
+use Rattle.std.specs.Prelude.{All, if◌then◌else◌, nat_le}
+use Rattle.std.proofs.lemmas.List.Elements.{All-head, All-tail}
+use Rattle.machine.specs.declared.calls.Call.{Call}
+use Rattle.rmap.specs.Verdict.{verdict_number}
+use Rattle.policy.specs.Meaning.{ruled}
+use Rattle.charts.specs.Points.{AreAlike, decision_at, holds_at}
+use Rattle.regions.specs.declared.points.Point.{Point}
+use Rattle.policy.specs.declared.rules.Rule.{Rule}
+use Rattle.policy.specs.declared.rules.Quota.{Quota}
+
+-- ---- rules that hold alike
+
+chosen : (t u : Bool) (a b c d : List Call × ℕ) → t ≡ u → a ≡ c → b ≡ d → (if t then a else b) ≡ (if u then c else d)
+chosen t u a b c d e h k = rw (e, h, k) refl
+
+-- the rule holds alike at both points
+abbrev pub HoldsAlike : (p q : Point) → Rule → Type 0
+HoldsAlike p q rule = holds_at rule p ≡ holds_at rule q
+
+pub same_decision : (rules : List Rule) (p q : Point) → All (HoldsAlike p q) rules → (told : ℕ → ℕ) → decision_at rules p told ≡ decision_at rules q told
+same_decision [] p q same told = refl
+same_decision (rule ∷ rules) p q same told =
+    let rest : All (HoldsAlike p q) rules = All-tail (HoldsAlike p q) rule rules same in
+    chosen (holds_at rule p) (holds_at rule q) _ _ _ _ (All-head (HoldsAlike p q) rule rules same)
+    (ap (λ (d : List Call × ℕ). ruled rule.quota (verdict_number rule.verdict) told d) (same_decision rules p q rest (λ k. told (suc k))))
+    (same_decision rules p q rest told)
+
+pub alike_there : (old new : List Rule) (p q : Point) → All (HoldsAlike p q) old → All (HoldsAlike p q) new → AreAlike old new q → AreAlike old new p
+alike_there old new p q olds news alike told =
+    same_decision old p q olds told ∙ alike told ∙ sym (same_decision new p q news told)

@@ -1,0 +1,33 @@
+-- From all points to all headers.
+use Rattle.std.proofs.Common.{◌≡◌, ◌<◌, ◌≤◌, ◌+◌, ℕ, suc, Bool, true, false, List, [], ◌∷◌, length, get_or, refl, ap, sym, ◌∙◌, subst, arith}
+use Rattle.std.specs.Prelude.{All, if◌then◌else◌}
+use Rattle.machine.specs.declared.calls.Call.{Call}
+use Rattle.machine.specs.Memory.{Header, IsHeader}
+use Rattle.rmap.specs.Verdict.{verdict_number}
+use Rattle.charts.specs.Same.{AreSame, MayBeJudged}
+use Rattle.policy.specs.Meaning.{decision, holds, ruled}
+use Rattle.charts.specs.Points.{AreAlike, decision_at, point_of}
+use Rattle.regions.specs.Points.{HasCommand}
+use Rattle.regions.specs.Questions.{HoldsAll}
+use Rattle.regions.specs.declared.points.Point.{Point}
+use Rattle.policy.specs.declared.rules.Rule.{Rule}
+
+pub at_point : (rules : List Rule) (h : Header) (told : ℕ → ℕ) → decision rules h told ≡ decision_at rules (point_of h) told
+at_point [] h told = refl
+at_point (rule ∷ rules) h told =
+    rw (at_point rules h told) (ap (λ (d : List Call × ℕ). if holds rule h then ruled rule.quota (verdict_number rule.verdict) told d else decision_at rules (point_of h) told) (at_point rules h (λ k. told (suc k))))
+
+byte_at : (xs : List ℕ) (n k : ℕ) → length xs ≡ n → All (λ b. b < 256) xs → k < n → get_or xs k 0 < 256
+byte_at xs n k len bytes lt = bytes k 0 (omega arith)
+
+pub whole : (old new : List Rule) → HoldsAll (AreAlike old new) → AreSame old new
+whole old new alike h may told =
+    at_point old h told ∙ alike (point_of h) (has_command h may) told ∙ sym (at_point new h told)
+  where
+    has_command : (h : Header) → MayBeJudged h → HasCommand (point_of h)
+    has_command h may = record {
+      key = byte_at h.front 4 3 may.header.front may.header.front_bytes (omega arith);
+      initiator = byte_at h.tail 12 0 may.header.tail may.header.tail_bytes (omega arith);
+      extended = byte_at h.tail 12 3 may.header.tail may.header.tail_bytes (omega arith);
+      span = may.span;
+    }

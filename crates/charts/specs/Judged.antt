@@ -1,0 +1,30 @@
+-- The commands that a node brings to its table are among those of which the question is asked.
+use Rattle.std.specs.Prelude.{◌≡◌, ◌≤◌, ◌<◌, ◌+◌, ◌^◌, ℕ, List, All, None}
+use Rattle.machine.specs.Memory.{header}
+use Rattle.rmap.specs.Checks.{header_line}
+use Rattle.rmap.specs.Command.{CommandValue, IsHeader}
+use Rattle.rmap.specs.Windows.{WindowsValue}
+use Rattle.charts.specs.Same.{AreSame, MayBeJudged}
+use Rattle.policy.specs.Meaning.{decision}
+use Rattle.policy.specs.declared.rules.Rule.{Rule}
+
+-- the bank does not go past the last address of 32 bits
+abbrev pub EndsInTime : ℕ × ℕ → Type 0
+EndsInTime bank = bank.0 + bank.1 ≤ 2 ^ 32
+
+-- the command's bytes are bytes
+pub record HasBytesAlone (c : CommandValue) : Type 0 where
+  pub front : All (λ b. b < 256) c.front
+  pub tail : All (λ b. b < 256) c.tail
+
+-- where no check of its header stops a command, the question is asked of it
+abbrev pub JudgedMayBe : Type 0
+JudgedMayBe =
+    (c : CommandValue) (w : WindowsValue) → IsHeader c → HasBytesAlone c → All EndsInTime w.banks → header_line c w ≡ None
+    → MayBeJudged (header c.front c.tail)
+
+-- under two tables that are the same each node decides each command alike
+abbrev pub NodesDecideAlike : Type 0
+NodesDecideAlike =
+    (old new : List Rule) → AreSame old new → (c : CommandValue) (w : WindowsValue) → IsHeader c → HasBytesAlone c → All EndsInTime w.banks
+    → header_line c w ≡ None → (told : ℕ → ℕ) → decision old (header c.front c.tail) told ≡ decision new (header c.front c.tail) told

@@ -1,0 +1,5 @@
+pub mod Points
+pub mod Same
+pub mod Alike
+pub mod Witness
+pub mod Judged
