@@ -4,3 +4,6 @@ pub mod Tickets
 pub mod Witnesses
 pub mod Admitted
 pub mod RuleShapes
+pub mod Telling
+pub mod Walking
+pub mod LineShapes

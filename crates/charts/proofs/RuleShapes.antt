@@ -84,13 +84,13 @@ alike_of (rule ∷ rules) p q same =
     All-cons (HoldsAlike p q) rule rules (All-head (AreTestedAlike p q) (λ r. holds_at rule r) (tests_of rules) same)
     (alike_of rules p q (All-tail (AreTestedAlike p q) (λ r. holds_at rule r) (tests_of rules) same))
 
-first_of_both : (old new : List Rule) (p q : Point) → All (AreTestedAlike p q) (tests_of (old ++ new)) → All (HoldsAlike p q) old
+pub first_of_both : (old new : List Rule) (p q : Point) → All (AreTestedAlike p q) (tests_of (old ++ new)) → All (HoldsAlike p q) old
 first_of_both [] new p q same = All-nil (HoldsAlike p q)
 first_of_both (rule ∷ rules) new p q same =
     All-cons (HoldsAlike p q) rule rules (All-head (AreTestedAlike p q) (λ r. holds_at rule r) (tests_of (rules ++ new)) same)
     (first_of_both rules new p q (All-tail (AreTestedAlike p q) (λ r. holds_at rule r) (tests_of (rules ++ new)) same))
 
-second_of_both : (old new : List Rule) (p q : Point) → All (AreTestedAlike p q) (tests_of (old ++ new)) → All (HoldsAlike p q) new
+pub second_of_both : (old new : List Rule) (p q : Point) → All (AreTestedAlike p q) (tests_of (old ++ new)) → All (HoldsAlike p q) new
 second_of_both [] new p q same = alike_of new p q same
 second_of_both (rule ∷ rules) new p q same =
     second_of_both rules new p q (All-tail (AreTestedAlike p q) (λ r. holds_at rule r) (tests_of (rules ++ new)) same)

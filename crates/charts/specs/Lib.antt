@@ -3,3 +3,4 @@ pub mod Same
 pub mod Alike
 pub mod Witness
 pub mod Judged
+pub mod Lines

@@ -29,7 +29,7 @@ pub fn agrees(wanted: Option<u8>, byte: u8) -> bool
 }
 
 /// Whether the conditions of a rule hold at a point.
-fn holds_at(rule: &Rule, point: &Point) -> bool
+pub(crate) fn holds_at(rule: &Rule, point: &Point) -> bool
     ensures { result ≡ holds_at rule.now point.now }
 {
     has_kind(rule.kind, point.kind)
@@ -133,6 +133,13 @@ fn alike_from(old: &[Rule], new: &[Rule], point: &Point) -> bool
 pub fn alike(old: &[Rule], new: &[Rule], point: &Point) -> bool
     ensures { MatchBool result (AreAlike old.now new.now point.now)
         (DifferWithinLimits old.now new.now point.now) }
+{
+    alike_from(old, new, point)
+}
+
+/// Whether the rules that hold at a point are the same course in both tables, as [`alike`] tests it.
+pub(crate) fn are_alike(old: &[Rule], new: &[Rule], point: &Point) -> bool
+    ensures { result ≡ alike_said (held point.now old.now) (held point.now new.now) }
 {
     alike_from(old, new, point)
 }

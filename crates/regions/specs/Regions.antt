@@ -17,6 +17,14 @@ is_one_of kinds kind.Write = kinds.write
 is_one_of kinds kind.Rmw = kinds.rmw
 is_one_of kinds kind.Unused = false
 
+-- whether both are, or both are not
+abbrev pub is_same : (one other : Bool) → Bool
+is_same one other = if one then other else not other
+
+-- whether two sets have the same kinds
+abbrev pub are_same_kinds : (one other : Kinds) → Bool
+are_same_kinds one other = is_same one.read other.read && (is_same one.write other.write && is_same one.rmw other.rmw)
+
 -- whether a point meets one condition of a region
 abbrev pub meets : Side → Region → Point → Bool
 meets side.Kind region p = is_one_of region.kinds p.kind

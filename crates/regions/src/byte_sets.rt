@@ -1,7 +1,7 @@
 //! Sets of bytes.
 
 ghost use Rattle.std.specs.Prelude.{◌≡◌, ◌<◌, ◌==◌, ◌^◌, ◌&&◌, ℕ, MatchOption, false, not, true};
-ghost use Rattle.regions.specs.ByteSets.{has_bit, has_byte};
+ghost use Rattle.regions.specs.ByteSets.{are_same_bytes, has_bit, has_byte};
 
 /// How many bits a half has.
 const HALF: u8 = 128;
@@ -64,6 +64,13 @@ impl ByteSet {
     {
         let half = if byte < HALF { self.low } else { self.high };
         half >> (byte % HALF) & 1 == 1
+    }
+
+    /// Whether the other set has the same bytes.
+    pub fn is(&self, other: &ByteSet) -> bool
+        ensures { result ≡ are_same_bytes self.now other.now }
+    {
+        self.low == other.low && self.high == other.high
     }
 
     /// Those that are in both sets.

@@ -3,7 +3,7 @@
 ghost use Rattle.std.specs.Prelude.{◌≡◌, ◌&&◌, MatchOption, not, true};
 ghost use Rattle.rmap.specs.declared.kind.Kind.{Kind};
 ghost use Rattle.regions.specs.Points.{HasCommand};
-ghost use Rattle.regions.specs.Regions.{AreCut, IsBare, IsIn, is_one_of, lies_in, meets};
+ghost use Rattle.regions.specs.Regions.{AreCut, IsBare, IsIn, are_same_kinds, is_one_of, is_same, lies_in, meets};
 ghost use Rattle.regions.specs.declared.points.Point.{Point};
 
 use crate::byte_sets::ByteSet;
@@ -11,6 +11,7 @@ use crate::points::Point;
 use crate::sides::Side;
 use crate::spans::reach_of;
 use crate::stretches::Stretch;
+use rmap::Kind;
 
 /// A set of kinds of commands.
 #[derive(Clone, Copy, Debug, PartialEq, Eq)]
@@ -23,7 +24,34 @@ pub struct Kinds {
     pub rmw: bool,
 }
 
+/// Whether both are, or both are not.
+fn is_same(one: bool, other: bool) -> bool
+    ensures { result ≡ is_same one other }
+{
+    if one { other } else { !other }
+}
+
 impl Kinds {
+    /// Whether the other set has the same kinds.
+    pub fn is(self, other: Kinds) -> bool
+        ensures { result ≡ are_same_kinds self other }
+    {
+        is_same(self.read, other.read)
+            && (is_same(self.write, other.write) && is_same(self.rmw, other.rmw))
+    }
+
+    /// Whether a kind is one of them.
+    pub fn has(self, kind: Kind) -> bool
+        ensures { result ≡ is_one_of self kind }
+    {
+        match kind {
+            Kind::Read => self.read,
+            Kind::Write => self.write,
+            Kind::Rmw => self.rmw,
+            Kind::Unused => false,
+        }
+    }
+
     /// Those that are in both sets.
     fn both(self, other: Kinds) -> Kinds
         ensures { (kind : Kind) → is_one_of result kind ≡ (is_one_of self kind && is_one_of other kind) }
@@ -122,6 +150,20 @@ impl Region {
             Side::LastBefore => left.last = self.last.from(shape.last.end),
         }
         left
+    }
+
+    /// Whether a point lies in the region.
+    pub fn has(&self, point: &Point) -> bool
+        ensures { result ≡ lies_in self.now point.now }
+    {
+        let (first, last) = (u64::from(point.first), u64::from(point.last));
+        self.kinds.has(point.kind)
+            && (self.keys.has(point.key)
+                && (self.initiators.has(point.initiator)
+                    && (self.extended.has(point.extended)
+                        && (self.first.start <= first
+                            && (first < self.first.end
+                                && (self.last.start <= last && last < self.last.end))))))
     }
 
     /// Cuts the region by a side of another: the points that meet its condition, and those that do not.

@@ -1,0 +1,53 @@
+-- The tests of a chart, by number.
+use Rattle.std.proofs.Common.{◌≡◌, ◌≤◌, ◌<◌, ◌+◌, ◌-◌, ℕ, zero, suc, Bool, List, [], ◌∷◌, ◌++◌, length, get_or, refl, ap, sym, ◌∙◌, arith}
+use Rattle.std.specs.Prelude.{map}
+use Rattle.std.proofs.Math.Seq.{get_or-append_right}
+use Rattle.std.proofs.lemmas.List.{get_or_append_left}
+use Rattle.policy.specs.declared.rules.Rule.{Rule}
+use Rattle.regions.specs.Questions.{IsShapeAt}
+use Rattle.regions.specs.Regions.{lies_in}
+use Rattle.regions.specs.declared.points.Point.{Point}
+use Rattle.regions.specs.declared.regions.Region.{Region}
+use Rattle.charts.specs.Lines.{tests_with}
+use Rattle.charts.specs.Points.{tests_of}
+use Rattle.charts.specs.declared.lines.Line.{Line}
+use Rattle.charts.proofs.RuleShapes.{length_tests}
+
+length_joined : {A : Type 0} (xs ys : List A) → length (xs ++ ys) ≡ length xs + length ys
+length_joined [] ys = omega arith
+length_joined (x ∷ xs) ys = omega (arith, length_joined xs ys)
+
+-- a test has the same number where more tests stand behind
+pub widened : (xs ys : List (Point → Bool)) (number : ℕ) (region : Region) → IsShapeAt xs number region → IsShapeAt (xs ++ ys) number region
+widened xs ys number region at = record {
+  there = omega (arith, at.there, length_joined xs ys);
+  same = λ d p has. at.same d p has ∙ ap (λ (f : Point → Bool). f p) (sym (get_or_append_left xs ys d number at.there));
+}
+
+abbrev line_tests : List Line → List (Point → Bool)
+line_tests lines = map (λ line. lies_in line.region) lines
+
+length_line_tests : (lines : List Line) → length (line_tests lines) ≡ length lines
+length_line_tests [] = refl
+length_line_tests (line ∷ lines) = ap suc (length_line_tests lines)
+
+line_test_at : (lines : List Line) (n : ℕ) (d : Line) (t : Point → Bool) (p : Point) → n < length lines → get_or (line_tests lines) n t p ≡ lies_in (get_or lines n d).region p
+line_test_at [] n d t p lt = absurd (omega arith)
+line_test_at (line ∷ lines) zero d t p lt = refl
+line_test_at (line ∷ lines) (suc n) d t p lt = line_test_at lines n d t p (omega arith)
+
+-- behind the rules of both tables stand the lines
+pub line_shape_at : (old new : List Rule) (lines : List Line) (number : ℕ) (d : Line) → length (old ++ new) ≤ number → number - length old - length new < length lines
+    → IsShapeAt (tests_with old new lines) number (get_or lines (number - length old - length new) d).region
+line_shape_at old new lines number d behind lt =
+    let rules : length (tests_of (old ++ new)) ≡ length old + length new = length_tests (old ++ new) ∙ length_joined old new in
+    let place : number - length (tests_of (old ++ new)) ≡ number - length old - length new = omega (arith, rules) in
+    record {
+      there = omega (arith, behind, lt, rules, length_joined old new, length_joined (tests_of (old ++ new)) (line_tests lines), length_line_tests lines);
+      same = λ t p has.
+          sym (
+          ap (λ (f : Point → Bool). f p) (get_or-append_right (tests_of (old ++ new)) (line_tests lines) number t (omega (arith, behind, rules, length_joined old new)))
+          ∙ ap (λ (n : ℕ). get_or (line_tests lines) n t p) place
+          ∙ line_test_at lines (number - length old - length new) d t p lt
+          );
+    }

@@ -1,0 +1,117 @@
+-- The lines in which a point lies.
+use Rattle.std.proofs.Common.{◌≡◌, ◌≤◌, ◌<◌, ◌+◌, ◌&&◌, ◌||◌, ℕ, zero, suc, Bool, true, false, not, List, [], ◌∷◌, ◌++◌, length, get_or, take, drop, drop-cons, add-one, refl, ap, sym, subst, ◌∙◌, arith}
+use Rattle.std.specs.Prelude.{All, map, Option, Some, None, if◌then◌else◌}
+use Rattle.std.proofs.Math.Seq.{take-suc}
+use Rattle.std.proofs.lemmas.List.Elements.{All-append, All-cons, All-head, All-nil, All-tail}
+use Rattle.policy.specs.declared.rules.Rule.{Rule}
+use Rattle.regions.specs.Questions.{AreTestedAlike, IsSettledBy}
+use Rattle.regions.specs.Regions.{lies_in}
+use Rattle.regions.specs.declared.points.Point.{Point}
+use Rattle.charts.specs.Alike.{alike_said, held}
+use Rattle.charts.specs.Lines.{IsToldRightly, course, course_from, goes_on, has_point, have_same_words, is_left, is_told, lines_of, tests_with}
+use Rattle.charts.specs.Points.{holds_at, tests_of}
+use Rattle.charts.specs.declared.lines.Line.{Line}
+use Rattle.charts.proofs.Sameness.{HoldsAlike}
+use Rattle.charts.proofs.RuleShapes.{first_of_both, second_of_both}
+
+-- ---- one line after another
+
+by_test : (t u : Bool) (line : Line) (rest : List Line) → t ≡ u → (if t then line ∷ rest else rest) ≡ (if u then line ∷ rest else rest)
+by_test t u line rest e = ap (λ (b : Bool). if b then line ∷ rest else rest) e
+
+unrolled : (lines : List Line) (p : Point) (n : ℕ) (d : Line) → n < length lines
+    → lines_of (take n lines) (drop n lines) p
+    ≡ (if has_point (take n lines) (get_or lines n d) p then get_or lines n d ∷ lines_of (take (n + 1) lines) (drop (n + 1) lines) p else lines_of (take (n + 1) lines) (drop (n + 1) lines) p)
+unrolled lines p n d lt =
+    ap (λ (ls : List Line). lines_of (take n lines) ls p) (drop-cons lines n d lt)
+    ∙ ap (λ (ls : List Line). if has_point (take n lines) (get_or lines n d) p then get_or lines n d ∷ lines_of ls (drop (suc n) lines) p else lines_of ls (drop (suc n) lines) p) (sym (take-suc lines n d lt))
+    ∙ ap (λ (k : ℕ). if has_point (take n lines) (get_or lines n d) p then get_or lines n d ∷ lines_of (take k lines) (drop k lines) p else lines_of (take k lines) (drop k lines) p) (sym (add-one n))
+
+pub line_behind : (lines : List Line) (p : Point) (n : ℕ) (d : Line) → n < length lines → has_point (take n lines) (get_or lines n d) p ≡ false
+    → lines_of (take n lines) (drop n lines) p ≡ lines_of (take (n + 1) lines) (drop (n + 1) lines) p
+line_behind lines p n d lt none =
+    unrolled lines p n d lt ∙ by_test (has_point (take n lines) (get_or lines n d) p) false (get_or lines n d) (lines_of (take (n + 1) lines) (drop (n + 1) lines) p) none
+
+pub line_here : (lines : List Line) (p : Point) (n : ℕ) (d : Line) → n < length lines → has_point (take n lines) (get_or lines n d) p ≡ true
+    → lines_of (take n lines) (drop n lines) p ≡ get_or lines n d ∷ lines_of (take (n + 1) lines) (drop (n + 1) lines) p
+line_here lines p n d lt one =
+    unrolled lines p n d lt ∙ by_test (has_point (take n lines) (get_or lines n d) p) true (get_or lines n d) (lines_of (take (n + 1) lines) (drop (n + 1) lines) p) one
+
+-- ---- two points alike
+
+-- a line's region has both points or neither
+abbrev pub LieAlike : (p q : Point) → Line → Type 0
+LieAlike p q line = lies_in line.region p ≡ lies_in line.region q
+
+held_same : (rules : List Rule) (p q : Point) → All (HoldsAlike p q) rules → held p rules ≡ held q rules
+held_same [] p q same = refl
+held_same (rule ∷ rules) p q same =
+    kept (holds_at rule p) (holds_at rule q) (held p rules) (held q rules) (All-head (HoldsAlike p q) rule rules same) (held_same rules p q (All-tail (HoldsAlike p q) rule rules same))
+  where
+    kept : (t u : Bool) (a b : List Rule) → t ≡ u → a ≡ b → (if t then rule ∷ a else a) ≡ (if u then rule ∷ b else b)
+    kept t u a b e f = rw (e, f) refl
+
+course_same : (n : ℕ) (rules : List Rule) (p q : Point) → All (HoldsAlike p q) rules → course_from n rules p ≡ course_from n rules q
+course_same n [] p q same = refl
+course_same n (rule ∷ rules) p q same =
+    kept (holds_at rule p) (holds_at rule q) (course_from (suc n) rules p) (course_from (suc n) rules q) (All-head (HoldsAlike p q) rule rules same) (course_same (suc n) rules p q (All-tail (HoldsAlike p q) rule rules same))
+  where
+    kept : (t u : Bool) (a b : List ℕ) → t ≡ u → a ≡ b → (if t then n ∷ goes_on rule.quota a else a) ≡ (if u then n ∷ goes_on rule.quota b else b)
+    kept t u a b e f = rw (e, f) refl
+
+left_same : (before : List Line) (line : Line) (p q : Point) → All (LieAlike p q) before → is_left before line p ≡ is_left before line q
+left_same [] line p q same = refl
+left_same (other ∷ others) line p q same =
+    kept (have_same_words other.region line.region) (lies_in other.region p) (lies_in other.region q) (is_left others line p) (is_left others line q)
+    (All-head (LieAlike p q) other others same) (left_same others line p q (All-tail (LieAlike p q) other others same))
+  where
+    kept : (w t u a b : Bool) → t ≡ u → a ≡ b → (not (w && t) && a) ≡ (not (w && u) && b)
+    kept w t u a b e f = rw (e, f) refl
+
+point_same : (before : List Line) (line : Line) (p q : Point) → All (LieAlike p q) before → LieAlike p q line → has_point before line p ≡ has_point before line q
+point_same before line p q same one = kept (lies_in line.region p) (lies_in line.region q) (not line.rest) (is_left before line p) (is_left before line q) one (left_same before line p q same)
+  where
+    kept : (t u r a b : Bool) → t ≡ u → a ≡ b → (t && (r || a)) ≡ (u && (r || b))
+    kept t u r a b e f = rw (e, f) refl
+
+lines_same : (before lines : List Line) (p q : Point) → All (LieAlike p q) before → All (LieAlike p q) lines → lines_of before lines p ≡ lines_of before lines q
+lines_same before [] p q olds same = refl
+lines_same before (line ∷ lines) p q olds same =
+    let one : LieAlike p q line = All-head (LieAlike p q) line lines same in
+    kept (has_point before line p) (has_point before line q) (lines_of (before ++ line ∷ []) lines p) (lines_of (before ++ line ∷ []) lines q) (point_same before line p q olds one)
+    (lines_same (before ++ line ∷ []) lines p q (All-append (LieAlike p q) before (line ∷ []) olds (All-cons (LieAlike p q) line [] one (All-nil (LieAlike p q)))) (All-tail (LieAlike p q) line lines same))
+  where
+    kept : (t u : Bool) (a b : List Line) → t ≡ u → a ≡ b → (if t then line ∷ a else a) ≡ (if u then line ∷ b else b)
+    kept t u a b e f = rw (e, f) refl
+
+-- ---- the tests of a chart
+
+tests_before : (xs ys : List (Point → Bool)) (p q : Point) → All (AreTestedAlike p q) (xs ++ ys) → All (AreTestedAlike p q) xs
+tests_before [] ys p q same = All-nil (AreTestedAlike p q)
+tests_before (x ∷ xs) ys p q same =
+    All-cons (AreTestedAlike p q) x xs (All-head (AreTestedAlike p q) x (xs ++ ys) same) (tests_before xs ys p q (All-tail (AreTestedAlike p q) x (xs ++ ys) same))
+
+tests_behind : (xs ys : List (Point → Bool)) (p q : Point) → All (AreTestedAlike p q) (xs ++ ys) → All (AreTestedAlike p q) ys
+tests_behind [] ys p q same = same
+tests_behind (x ∷ xs) ys p q same = tests_behind xs ys p q (All-tail (AreTestedAlike p q) x (xs ++ ys) same)
+
+lie_alike : (lines : List Line) (p q : Point) → All (AreTestedAlike p q) (map (λ line. lies_in line.region) lines) → All (LieAlike p q) lines
+lie_alike [] p q same = All-nil (LieAlike p q)
+lie_alike (line ∷ lines) p q same =
+    All-cons (LieAlike p q) line lines (All-head (AreTestedAlike p q) (lies_in line.region) (map (λ line. lies_in line.region) lines) same)
+    (lie_alike lines p q (All-tail (AreTestedAlike p q) (lies_in line.region) (map (λ line. lies_in line.region) lines) same))
+
+pub told_settled : (all : Bool) (old new : List Rule) (lines : List Line) → IsSettledBy (tests_with old new lines) (λ p. IsToldRightly (is_told all old new p) old new lines p)
+told_settled all old new lines p q _ _ same right =
+    let rules : All (AreTestedAlike p q) (tests_of (old ++ new)) = tests_before (tests_of (old ++ new)) (map (λ line. lies_in line.region) lines) p q same in
+    let olds : All (HoldsAlike p q) old = first_of_both old new p q rules in
+    let news : All (HoldsAlike p q) new = second_of_both old new p q rules in
+    let there : lines_of [] lines p ≡ lines_of [] lines q =
+    lines_same [] lines p q (All-nil (LieAlike p q)) (lie_alike lines p q (tests_behind (tests_of (old ++ new)) (map (λ line. lies_in line.region) lines) p q same)) in
+    let told : is_told all old new q ≡ is_told all old new p =
+    ap (λ (os : List Rule). all || not (alike_said os (held q new))) (sym (held_same old p q olds)) ∙ ap (λ (ns : List Rule). all || not (alike_said (held p old) ns)) (sym (held_same new p q news)) in
+    turned (is_told all old new p) (course_same 1 old p q olds) (course_same 1 new p q news) there (subst (λ (t : Bool). IsToldRightly t old new lines q) told right)
+  where
+    turned : (t : Bool) → course old p ≡ course old q → course new p ≡ course new q → lines_of [] lines p ≡ lines_of [] lines q → IsToldRightly t old new lines q → IsToldRightly t old new lines p
+    turned true o n e h = record { line = h.line; alone = e ∙ h.alone; old_course = o ∙ h.old_course; new_course = n ∙ h.new_course }
+    turned false o n e h = e ∙ h

@@ -1,0 +1,94 @@
+-- The lines of a chart: which points each has, and that each point is told once.
+use Rattle.std.specs.Prelude.{◌≡◌, ◌≤◌, ◌&&◌, ◌||◌, ◌++◌, ℕ, suc, Bool, true, false, not, if◌then◌else◌, List, [], ◌∷◌, Option, Some, None, drop, length, map, take}
+use Rattle.policy.specs.declared.rules.Quota.{Quota}
+use Rattle.policy.specs.declared.rules.Rule.{Rule}
+use Rattle.regions.specs.ByteSets.{are_same_bytes}
+use Rattle.regions.specs.Questions.{HoldsAll}
+use Rattle.regions.specs.Regions.{are_same_kinds, lies_in}
+use Rattle.regions.specs.declared.points.Point.{Point}
+use Rattle.regions.specs.declared.regions.Region.{Region}
+use Rattle.charts.specs.Alike.{alike_said, held}
+use Rattle.charts.specs.Points.{holds_at, tests_of}
+use Rattle.charts.specs.declared.lines.Line.{Line}
+use Rattle.charts.specs.declared.lines.NextLine.{NextLine}
+
+-- ---- courses
+
+-- behind a rule without quota nothing is asked
+abbrev pub goes_on : Option Quota → List ℕ → List ℕ
+goes_on None rest = []
+goes_on (Some quota) rest = rest
+
+-- the numbers of the rules that hold at a point, up to the first without quota
+abbrev pub course_from : (number : ℕ) → List Rule → Point → List ℕ
+course_from number [] p = []
+course_from number (rule ∷ rules) p =
+    if holds_at rule p
+    then number ∷ goes_on rule.quota (course_from (suc number) rules p)
+    else course_from (suc number) rules p
+
+-- the same, counted from 1
+abbrev pub course : List Rule → Point → List ℕ
+course rules p = course_from 1 rules p
+
+-- ---- the points of a line
+
+-- whether two regions have the same words but for those of addresses
+abbrev pub have_same_words : (one other : Region) → Bool
+have_same_words one other =
+    are_same_kinds one.kinds other.kinds && (are_same_bytes one.keys other.keys
+    && (are_same_bytes one.initiators other.initiators && are_same_bytes one.extended other.extended))
+
+-- whether a point lies in none of the regions of the lines with the same words
+abbrev pub is_left : List Line → Line → Point → Bool
+is_left [] line p = true
+is_left (other ∷ others) line p =
+    not (have_same_words other.region line.region && lies_in other.region p) && is_left others line p
+
+-- whether a line has a point: one of its region, and where it is told as the rest, one that the lines before leave
+abbrev pub has_point : (before : List Line) → Line → Point → Bool
+has_point before line p = lies_in line.region p && (not line.rest || is_left before line p)
+
+-- the lines in which a point lies, behind those before
+abbrev pub lines_of : (before lines : List Line) → Point → List Line
+lines_of before [] p = []
+lines_of before (line ∷ lines) p =
+    if has_point before line p
+    then line ∷ lines_of (before ++ line ∷ []) lines p
+    else lines_of (before ++ line ∷ []) lines p
+
+-- the first line from so many on in which a point lies, and how many lines are told up to it
+pub record IsNextLine (lines : List Line) (from : ℕ) (p : Point) (next : NextLine) : Type 0 where
+  pub counted : next.behind ≤ length lines
+  pub found : lines_of (take from lines) (drop from lines) p ≡ next.line ∷ lines_of (take next.behind lines) (drop next.behind lines) p
+
+-- ---- charts
+
+-- the point lies in one line alone, and the tables ask the same rules there as at the point of the line
+pub record IsToldOnce (old new : List Rule) (lines : List Line) (p : Point) : Type 0 where
+  pub line : Line
+  pub alone : lines_of [] lines p ≡ line ∷ []
+  pub old_course : course old p ≡ course old line.point
+  pub new_course : course new p ≡ course new line.point
+
+-- where a point is told, it lies in one line alone, and else in none
+abbrev pub IsToldRightly : (told : Bool) → (old new : List Rule) → List Line → Point → Type 0
+IsToldRightly true old new lines p = IsToldOnce old new lines p
+IsToldRightly false old new lines p = lines_of [] lines p ≡ []
+
+-- whether a point is told: each, or where two tables decide differently
+abbrev pub is_told : (all : Bool) → (old new : List Rule) → Point → Bool
+is_told all old new p = all || not (alike_said (held p old) (held p new))
+
+-- each point that a command has lies in one line alone, with the course of the table there
+abbrev pub IsMap : List Rule → List Line → Type 0
+IsMap rules lines = HoldsAll (λ p. IsToldRightly (is_told true rules [] p) rules [] lines p)
+
+-- each point that a command has, at which two tables decide differently, lies in one line alone, with the courses of both
+-- there, and each other in none
+abbrev pub IsComparison : (old new : List Rule) → List Line → Type 0
+IsComparison old new lines = HoldsAll (λ p. IsToldRightly (is_told false old new p) old new lines p)
+
+-- the tests by which it is settled whether a point is told rightly
+abbrev pub tests_with : (old new : List Rule) → List Line → List (Point → Bool)
+tests_with old new lines = tests_of (old ++ new) ++ map (λ line. lies_in line.region) lines

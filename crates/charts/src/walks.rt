@@ -1,0 +1,24 @@
+//! Which rules a table asks at a point.
+
+ghost use Rattle.std.specs.Prelude.{◌≡◌, true};
+ghost use Rattle.charts.specs.Lines.{course};
+
+use crate::decisions::holds_at;
+use policy::Rule;
+use regions::Point;
+
+/// Whether a table asks the same rules at two points.
+pub(crate) fn has_same_course(rules: &[Rule], one: &Point, other: &Point) -> bool
+    ensures { result ≡ true → course rules.now one.now ≡ course rules.now other.now }
+{
+    for rule in rules {
+        let holds = holds_at(rule, one);
+        if holds != holds_at(rule, other) {
+            return false;
+        }
+        if holds && rule.quota.is_none() {
+            return true;
+        }
+    }
+    true
+}
