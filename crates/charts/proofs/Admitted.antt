@@ -15,11 +15,11 @@ use Rattle.rmap.specs.Checks.{has_wrong_rmw_length, header_line, is_rmw_length}
 use Rattle.regions.specs.Points.{IsSpan, is_distance, is_rmw_distance}
 use Rattle.rmap.specs.Command.{CommandValue, IsHeader, address_of, command_kind, extended_of, increments, length_of, target_of, verifies}
 use Rattle.rmap.specs.Instruction.{is_used}
-use Rattle.rmap.specs.Windows.{WindowsValue, bank_place, boot_place, is_register, is_staged, lies_inside, place_of, register_of}
+use Rattle.rmap.specs.Windows.{WindowsValue, bank_place, boot_place, is_register, is_staged, lies_inside, place_of, load_register_of}
 use Rattle.charts.specs.Same.{AreSame, MayBeJudged}
 use Rattle.charts.specs.Judged.{EndsInTime, HasBytesAlone}
-use Rattle.policy.specs.Meaning.{decision}
-use Rattle.policy.specs.declared.rules.Rule.{Rule}
+use Rattle.policy_table.specs.Meaning.{decision}
+use Rattle.policy_table.specs.declared.rules.Rule.{Rule}
 
 both_parts : (s t : Bool) → (s && t) ≡ true → (s ≡ true) × (t ≡ true)
 both_parts true t e = (refl, e)
@@ -72,13 +72,13 @@ there_is : (t : Bool) (place : Place) → is_none (if t then Some place else Non
 there_is true place e = refl
 there_is false place e = absurd (cc)
 
-in_register : (kind : Kind) (c : CommandValue) → is_none (register_of kind c) ≡ false → LiesInTime c
+in_register : (kind : Kind) (c : CommandValue) → is_none (load_register_of kind c) ≡ false → LiesInTime c
 in_register Read c e = at_register LOAD_RESULT_SIZE c (omega arith) (there_is (is_register LOAD_RESULT_SIZE c) _ e)
 in_register Write c e = at_register CONTROL_SIZE c (omega arith) (there_is (is_register CONTROL_SIZE c) _ e)
 in_register Rmw c e = absurd (cc)
 in_register Unused c e = absurd (cc)
 
-in_boot : (t : Bool) (c : CommandValue) (place : Place) → is_staged c ≡ t → is_none (if t then Some place else register_of (command_kind c) c) ≡ false → LiesInTime c
+in_boot : (t : Bool) (c : CommandValue) (place : Place) → is_staged c ≡ t → is_none (if t then Some place else load_register_of (command_kind c) c) ≡ false → LiesInTime c
 in_boot true c place s e = inside 0 STAGING_SIZE c (omega arith) (both_parts (is_used (command_kind c)) (lies_inside 0 STAGING_SIZE c) s).1
 in_boot false c place s e = in_register (command_kind c) c e
 

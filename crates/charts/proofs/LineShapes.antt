@@ -3,7 +3,7 @@ use Rattle.std.proofs.Common.{◌≡◌, ◌≤◌, ◌<◌, ◌+◌, ◌-◌, �
 use Rattle.std.specs.Prelude.{map}
 use Rattle.std.proofs.Math.Seq.{get_or-append_right}
 use Rattle.std.proofs.lemmas.List.{get_or_append_left}
-use Rattle.policy.specs.declared.rules.Rule.{Rule}
+use Rattle.policy_table.specs.declared.rules.Rule.{Rule}
 use Rattle.regions.specs.Questions.{IsShapeAt}
 use Rattle.regions.specs.Regions.{lies_in}
 use Rattle.regions.specs.declared.points.Point.{Point}

@@ -3,8 +3,8 @@ use Rattle.std.proofs.Common.{◌≡◌, ◌≤◌, ◌<◌, ◌+◌, ◌-◌, �
 use Rattle.std.specs.Prelude.{All, MatchOption, Option, Some, None, nat_le, nat_lt}
 use Rattle.std.proofs.lemmas.Bool.Decides.{nat_tests}
 use Rattle.std.proofs.lemmas.List.Elements.{All-cons, All-head, All-nil, All-tail}
-use Rattle.policy.specs.Meaning.{agrees, has_kind}
-use Rattle.policy.specs.declared.rules.Rule.{Rule}
+use Rattle.policy_table.specs.Meaning.{agrees, has_kind}
+use Rattle.policy_table.specs.declared.rules.Rule.{Rule}
 use Rattle.regions.specs.ByteSets.{has_byte}
 use Rattle.regions.specs.Points.{HasCommand}
 use Rattle.regions.specs.Questions.{AreTestedAlike, IsSettledBy, IsShapeAt}

@@ -4,11 +4,11 @@ use Rattle.std.specs.Prelude.{All, if◌then◌else◌, nat_le}
 use Rattle.std.proofs.lemmas.List.Elements.{All-head, All-tail}
 use Rattle.machine.specs.declared.calls.Call.{Call}
 use Rattle.rmap.specs.Verdict.{verdict_number}
-use Rattle.policy.specs.Meaning.{ruled}
+use Rattle.policy_table.specs.Meaning.{ruled}
 use Rattle.charts.specs.Points.{AreAlike, decision_at, holds_at}
 use Rattle.regions.specs.declared.points.Point.{Point}
-use Rattle.policy.specs.declared.rules.Rule.{Rule}
-use Rattle.policy.specs.declared.rules.Quota.{Quota}
+use Rattle.policy_table.specs.declared.rules.Rule.{Rule}
+use Rattle.policy_table.specs.declared.rules.Quota.{Quota}
 
 -- ---- rules that hold alike
 

@@ -9,12 +9,12 @@ use Rattle.machine.specs.declared.calls.Call.{Call}
 use Rattle.rmap.specs.Verdict.{verdict_number}
 use Rattle.rmap.specs.declared.verdict.Verdict.TheVariants.{NotAuthorised}
 use Rattle.charts.specs.Alike.{DifferSaid, DifferWithinLimits, HasLimit, after_both, after_first, alike_said, held, said, same_steps, stop, stop_of, stops_with}
-use Rattle.policy.specs.Limits.{IsLimited}
-use Rattle.policy.specs.Meaning.{AreWords, draw, ruled}
+use Rattle.policy_table.specs.Limits.{IsLimited}
+use Rattle.policy_table.specs.Meaning.{AreWords, draw, ruled}
 use Rattle.charts.specs.Points.{AreAlike, Differ, decision_at, holds_at}
 use Rattle.regions.specs.declared.points.Point.{Point}
-use Rattle.policy.specs.declared.rules.Quota.{Quota}
-use Rattle.policy.specs.declared.rules.Rule.{Rule}
+use Rattle.policy_table.specs.declared.rules.Quota.{Quota}
+use Rattle.policy_table.specs.declared.rules.Rule.{Rule}
 
 -- it ends so, it matches with this draw, it goes on behind this draw
 abbrev ends : ℕ → List Call × ℕ

@@ -5,12 +5,12 @@ use Rattle.machine.specs.declared.calls.Call.{Call}
 use Rattle.machine.specs.Memory.{Header, IsHeader}
 use Rattle.rmap.specs.Verdict.{verdict_number}
 use Rattle.charts.specs.Same.{AreSame, MayBeJudged}
-use Rattle.policy.specs.Meaning.{decision, holds, ruled}
+use Rattle.policy_table.specs.Meaning.{decision, holds, ruled}
 use Rattle.charts.specs.Points.{AreAlike, decision_at, point_of}
 use Rattle.regions.specs.Points.{HasCommand}
 use Rattle.regions.specs.Questions.{HoldsAll}
 use Rattle.regions.specs.declared.points.Point.{Point}
-use Rattle.policy.specs.declared.rules.Rule.{Rule}
+use Rattle.policy_table.specs.declared.rules.Rule.{Rule}
 
 pub at_point : (rules : List Rule) (h : Header) (told : ℕ → ℕ) → decision rules h told ≡ decision_at rules (point_of h) told
 at_point [] h told = refl

@@ -12,12 +12,12 @@ use Rattle.rmap.specs.declared.kind.Kind.TheVariants.{Read, Rmw, Unused, Write}
 use Rattle.rmap.specs.Command.{address_of, command_kind, increments, length_of}
 use Rattle.rmap.specs.Instruction.{has_increment_bit, is_used, kind_of}
 use Rattle.charts.specs.Same.{MayBeJudged}
-use Rattle.policy.specs.Meaning.{fields_of, last_address_of}
+use Rattle.policy_table.specs.Meaning.{fields_of, last_address_of}
 use Rattle.regions.specs.Points.{HasCommand, IsSpan, is_distance}
 use Rattle.charts.specs.Points.{IsDifference, decision_at, point_of}
 use Rattle.charts.specs.Witness.{IsWitness, header_for, instruction_for, length_for}
 use Rattle.regions.specs.declared.points.Point.{Point}
-use Rattle.policy.specs.declared.rules.Rule.{Rule}
+use Rattle.policy_table.specs.declared.rules.Rule.{Rule}
 use Rattle.charts.proofs.Whole.{at_point}
 
 kind_back : (kind : Kind) → is_used kind ≡ true → kind_of (instruction_for kind) ≡ kind

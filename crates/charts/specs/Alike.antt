@@ -5,12 +5,12 @@ use Rattle.machine.specs.declared.calls.Call.{Call}
 use Rattle.rmap.specs.Verdict.{verdict_number}
 use Rattle.rmap.specs.declared.verdict.Verdict.{Verdict}
 use Rattle.rmap.specs.declared.verdict.Verdict.TheVariants.{NotAuthorised}
-use Rattle.policy.specs.Limits.{IsLimited}
-use Rattle.policy.specs.Meaning.{AreWords, ruled}
+use Rattle.policy_table.specs.Limits.{IsLimited}
+use Rattle.policy_table.specs.Meaning.{AreWords, ruled}
 use Rattle.charts.specs.Points.{Differ, decision_at, holds_at}
 use Rattle.regions.specs.declared.points.Point.{Point}
-use Rattle.policy.specs.declared.rules.Quota.{Quota}
-use Rattle.policy.specs.declared.rules.Rule.{Rule}
+use Rattle.policy_table.specs.declared.rules.Quota.{Quota}
+use Rattle.policy_table.specs.declared.rules.Rule.{Rule}
 
 -- the rules that hold at a point, in order
 abbrev pub held : Point → List Rule → List Rule

@@ -5,8 +5,8 @@ use Rattle.rmap.specs.Checks.{header_line}
 use Rattle.rmap.specs.Command.{CommandValue, IsHeader}
 use Rattle.rmap.specs.Windows.{WindowsValue}
 use Rattle.charts.specs.Same.{AreSame, MayBeJudged}
-use Rattle.policy.specs.Meaning.{decision}
-use Rattle.policy.specs.declared.rules.Rule.{Rule}
+use Rattle.policy_table.specs.Meaning.{decision}
+use Rattle.policy_table.specs.declared.rules.Rule.{Rule}
 
 -- the bank does not go past the last address of 32 bits
 abbrev pub EndsInTime : ℕ × ℕ → Type 0

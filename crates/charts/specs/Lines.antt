@@ -1,7 +1,7 @@
 -- The lines of a chart: which points each has, and that each point is told once.
 use Rattle.std.specs.Prelude.{◌≡◌, ◌≤◌, ◌&&◌, ◌||◌, ◌++◌, ℕ, suc, Bool, true, false, not, if◌then◌else◌, List, [], ◌∷◌, Option, Some, None, drop, length, map, take}
-use Rattle.policy.specs.declared.rules.Quota.{Quota}
-use Rattle.policy.specs.declared.rules.Rule.{Rule}
+use Rattle.policy_table.specs.declared.rules.Quota.{Quota}
+use Rattle.policy_table.specs.declared.rules.Rule.{Rule}
 use Rattle.regions.specs.ByteSets.{are_same_bytes}
 use Rattle.regions.specs.Questions.{HoldsAll}
 use Rattle.regions.specs.Regions.{are_same_kinds, lies_in}

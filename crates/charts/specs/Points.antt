@@ -5,8 +5,8 @@ use Rattle.machine.specs.Memory.{Header}
 use Rattle.rmap.specs.declared.verdict.Verdict.TheVariants.{NotAuthorised}
 use Rattle.rmap.specs.Verdict.{verdict_number}
 use Rattle.rmap.specs.Command.{address_of, command_kind, extended_of, initiator_of, key_of}
-use Rattle.policy.specs.Meaning.{AreWords, agrees, fields_of, has_kind, last_address_of, ruled}
-use Rattle.policy.specs.declared.rules.Rule.{Rule}
+use Rattle.policy_table.specs.Meaning.{AreWords, agrees, fields_of, has_kind, last_address_of, ruled}
+use Rattle.policy_table.specs.declared.rules.Rule.{Rule}
 use Rattle.regions.specs.Points.{HasCommand}
 use Rattle.regions.specs.declared.points.Point.{Point}
 

@@ -1,8 +1,8 @@
 -- Two tables that decide all commands alike.
 use Rattle.std.specs.Prelude.{◌≡◌, ℕ, List}
 use Rattle.machine.specs.Memory.{Header, IsHeader}
-use Rattle.policy.specs.Meaning.{decision}
-use Rattle.policy.specs.declared.rules.Rule.{Rule}
+use Rattle.policy_table.specs.Meaning.{decision}
+use Rattle.policy_table.specs.declared.rules.Rule.{Rule}
 use Rattle.regions.specs.Points.{IsSpan}
 use Rattle.charts.specs.Points.{point_of}
 

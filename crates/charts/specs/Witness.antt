@@ -5,10 +5,10 @@ use Rattle.machine.specs.Memory.{Header, header}
 use Rattle.rmap.specs.declared.kind.Kind.{Kind}
 use Rattle.rmap.specs.declared.kind.Kind.TheVariants.{Read, Rmw, Unused, Write}
 use Rattle.charts.specs.Same.{MayBeJudged}
-use Rattle.policy.specs.Meaning.{AreWords, decision}
+use Rattle.policy_table.specs.Meaning.{AreWords, decision}
 use Rattle.charts.specs.Points.{IsDifference, point_of}
 use Rattle.regions.specs.declared.points.Point.{Point}
-use Rattle.policy.specs.declared.rules.Rule.{Rule}
+use Rattle.policy_table.specs.declared.rules.Rule.{Rule}
 
 -- the instruction of a command of this kind, with a reply and increment
 abbrev pub instruction_for : Kind → ℕ

@@ -7,7 +7,7 @@ ghost use Rattle.charts.specs.Same.{AreSame};
 
 use crate::decisions::alike;
 use crate::shapes::{region_of, rule_at};
-use policy::Rule;
+use policy_table::Rule;
 use regions::{Point, Question, Region, search};
 
 /// Whether two tables decide alike.

@@ -3,9 +3,9 @@
 ghost use Rattle.std.specs.Prelude.{◌≡◌, ◌≤◌, [], MatchBool, MatchOption, drop, length};
 ghost use Rattle.charts.specs.Alike.{DifferWithinLimits, IsNext, alike_said, held, same_steps, stop, stops_with};
 ghost use Rattle.charts.specs.Points.{AreAlike, holds_at};
-ghost use Rattle.policy.specs.Meaning.{agrees, has_kind};
+ghost use Rattle.policy_table.specs.Meaning.{agrees, has_kind};
 
-use policy::{Quota, Rule, RuleKind};
+use policy_table::{Quota, Rule, RuleKind};
 use regions::Point;
 use rmap::{Kind, Verdict};
 

@@ -7,7 +7,7 @@ ghost use Rattle.charts.specs.Lines.{IsComparison, IsMap, IsNextLine, IsToldRigh
 use crate::decisions::are_alike;
 use crate::shapes::{region_of, rule_at};
 use crate::walks::has_same_course;
-use policy::Rule;
+use policy_table::Rule;
 use regions::{Point, Question, Region, search};
 
 /// A line of a chart: points at all of which the tables ask the same rules.

@@ -3,14 +3,14 @@
 ghost use Rattle.std.specs.Prelude.{◌≡◌, ◌≤◌, ◌<◌, ◌++◌, ℕ, MatchOption, length, true};
 ghost use Rattle.rmap.specs.Instruction.{is_used};
 ghost use Rattle.rmap.specs.declared.kind.Kind.{Kind};
-ghost use Rattle.policy.specs.Meaning.{agrees, has_kind};
+ghost use Rattle.policy_table.specs.Meaning.{agrees, has_kind};
 ghost use Rattle.regions.specs.ByteSets.{has_byte};
 ghost use Rattle.regions.specs.Points.{HasCommand};
 ghost use Rattle.regions.specs.Regions.{is_one_of, lies_in};
 ghost use Rattle.regions.specs.declared.points.Point.{Point};
 ghost use Rattle.charts.specs.Points.{IsRuleAt, holds_at};
 
-use policy::{Rule, RuleKind};
+use policy_table::{Rule, RuleKind};
 use regions::{ByteSet, Kinds, Region, Stretch};
 
 /// The kinds that agree with a rule's.

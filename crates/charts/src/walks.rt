@@ -4,7 +4,7 @@ ghost use Rattle.std.specs.Prelude.{◌≡◌, true};
 ghost use Rattle.charts.specs.Lines.{course};
 
 use crate::decisions::holds_at;
-use policy::Rule;
+use policy_table::Rule;
 use regions::Point;
 
 /// Whether a table asks the same rules at two points.
