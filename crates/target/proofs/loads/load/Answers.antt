@@ -1,12 +1,22 @@
-use Rattle.std.proofs.Common.{subst, rules}
+use Rattle.std.proofs.Common.{List, subst, sym, ◌∙◌}
 use Rattle.node_parts.specs.Loaded.{IsLoadEnd}
 use Rattle.node_parts.specs.Passes.{PassValue, pass_of}
-use Rattle.target.proofs.Loadings.{kept_by_load}
+use Rattle.node_programs.specs.declared.publishes.Publish.{Publish}
+use Rattle.target.proofs.Loadings.{sizes_kept}
 use Rattle.target.proofs.loads.load.Goals as goal
+
+pub invariant_of-pass : goal.invariant_of-pass
+invariant_of-pass g c =
+    let end = c.load.ensures c.pass.inside.context c.pass.inside.shares.items in
+    let is = c.pass.invariant in
+    record { port = is.port; sizes = is.sizes ∙ sym (sizes_kept _ _ _ _ _ _ _ c.sizes-sizes.ensures.some end.ended); shares = is.shares }
 
 pub returns : goal.returns
 returns g c =
     let b = c.pass.inside.context in
+    let known = c.pass.inside.reader.programs in
     let shares = c.pass.inside.shares.items in
     let after = pass_of b c.load.new.reader.programs shares c.load.new.staging in
-    subst (λ (h : PassValue). IsLoadEnd h after c.args.publisher.now c.load.new.store c.args.judged c.load.result c.load.new.reply) c.pass.view_is (c.load.ensures b shares)
+    let ended : IsLoadEnd (pass_of b known shares c.pass.inside.staging) after c.args.publisher.now c.load.new.store c.args.judged c.load.result c.load.new.reply
+    = subst (λ (l : List Publish). IsLoadEnd (pass_of b known shares c.pass.inside.staging) after l c.load.new.store c.args.judged c.load.result c.load.new.reply) c.readers_know_a_beginning.ensures.same (c.load.ensures b shares) in
+    subst (λ (h : PassValue). IsLoadEnd h after c.args.publisher.now c.load.new.store c.args.judged c.load.result c.load.new.reply) c.pass.view_is ended
