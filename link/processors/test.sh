@@ -71,7 +71,7 @@ asked() { [[ $1 == *"$word"* ]]; }
 # has NAME COMPILER QEMU: whether both are there.
 has() {
     asked "$1" || return 1
-    command -v "$2" > /dev/null && { [ -z "$3" ] || command -v "$3" > /dev/null; } || { echo "$1: skipped: $2 or $3 is missing"; return 1; }
+    command -v "$2" > /dev/null && { [ -z "$3" ] || command -v "${3%% *}" > /dev/null; } || { echo "$1: skipped: $2 or $3 is missing"; return 1; }
 }
 
 # archived PROCESSOR PREFIX
@@ -148,11 +148,13 @@ test_all() {
     compiled "arm (32 bits)" arm-linux-gnueabihf- qemu-arm /usr/arm-linux-gnueabihf
     compiled "powerpc (32 bits, highest byte first)" powerpc-linux-gnu- qemu-ppc /usr/powerpc-linux-gnu
     compiled "s390x (highest byte first)" s390x-linux-gnu- qemu-s390x /usr/s390x-linux-gnu
-    compiled "sparc leon3 (32 bits, highest byte first)" sparc64-linux-gnu- qemu-sparc32plus /usr/sparc64-linux-gnu -m32 -mcpu=leon3
+    compiled "sparc leon3 (32 bits, highest byte first)" sparc64-linux-gnu- \
+        "qemu-sparc32plus -E LD_LIBRARY_PATH=/usr/sparc64-linux-gnu/lib32" /usr/sparc64-linux-gnu -m32 -mcpu=leon3 \
+        -Wl,-dynamic-linker,/lib32/ld-linux.so.2
     bare "cortex-m7" arm-none-eabi-gcc "m7.c" m7.ld qemu-system-arm -M mps2-an500 -nographic -monitor none -serial none \
         -semihosting-config enable=on,target=native -- -mcpu=cortex-m7 -mthumb
     bare "riscv64" riscv64-linux-gnu-gcc riscv64.S ram.ld qemu-system-riscv64 -M virt -m 128M -bios none -nographic -monitor none \
-        -serial none -semihosting-config enable=on,target=native -- -march=rv64imac_zicsr -mabi=lp64 -mcmodel=medany -Wl,--defsym=BASE=0x80000000
+        -serial none -semihosting-config enable=on,target=native -- -march=rv64gc -mabi=lp64d -mcmodel=medany -Wl,--defsym=BASE=0x80000000
     bare "sparc leon3" sparc64-linux-gnu-gcc "leon3.S wide.c" ram.ld qemu-system-sparc -M leon3_generic -nographic -monitor none \
         -serial stdio -- -m32 -mcpu=leon3 -Wl,--defsym=BASE=0x40000000
     [ "$failed" = 0 ] || stop "one failed"
