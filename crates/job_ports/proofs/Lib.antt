@@ -1,4 +1,3 @@
-mod Arriving
 mod Desking
 mod Ending
 mod Filling
@@ -6,3 +5,4 @@ mod NotServed
 mod PrintedLines
 mod Rejoining
 mod Tables
+mod TakenIn

@@ -1,6 +1,6 @@
 use Rattle.std.proofs.Common.{[]}
 use Rattle.std.proofs.lemmas.Result.{err_from_is_err_and}
-use Rattle.job_ports.proofs.Arriving.{all_arrive, halts}
+use Rattle.job_ports.proofs.TakenIn.{all_arrive, halts}
 use Rattle.job_ports.proofs.arriving.read_lines.Goals as goal
 
 pub returns-clause-arrive : goal.returns-clause-arrive
