@@ -154,9 +154,9 @@ first_arrive ports start feeds arrivals =
 
 -- All lines are taken in.
 pub all_arrive : (lines : List (List ℕ)) (ports : ℕ) (start after : Arriving) (old new : Option (List ℕ))
-    → start.feeds ≡ replicate ports [] → start.arrivals ≡ replicate ports [] → AreTakenInTurn Arrives lines start after old new
+    → AreTakenInTurn Arrives lines start after old new → start.feeds ≡ replicate ports [] → start.arrivals ≡ replicate ports []
     → ArriveAll lines ports after.arrivals
-all_arrive lines ports start after old new feeds arrivals all =
+all_arrive lines ports start after old new all feeds arrivals =
     let taken = arrive_behind [] lines ports start after old new (first_arrive ports start feeds arrivals) all in record {
       packets = taken.packets;
       lines_are = record { held = after.feeds; taken = taken.taken };
@@ -222,8 +222,8 @@ not_taken lines ports start left old new fault feeds arrivals stop (Bad bad) is 
     )
 
 pub halts : (lines : List (List ℕ)) (ports : ℕ) (start left : Arriving) (old new : Option (List ℕ)) (halt : Halt)
-    → start.feeds ≡ replicate ports [] → start.arrivals ≡ replicate ports []
-    → StopsBy (StopsIn Arrives IsRefused lines start left old new) halt → StopsBy (AreNotTaken lines ports) halt
-halts lines ports start left old new (Ended fault) feeds arrivals stop =
+    → StopsBy (StopsIn Arrives IsRefused lines start left old new) halt
+    → start.feeds ≡ replicate ports [] → start.arrivals ≡ replicate ports [] → StopsBy (AreNotTaken lines ports) halt
+halts lines ports start left old new (Ended fault) stop feeds arrivals =
     not_taken lines ports start left old new fault feeds arrivals stop stop.end refl
-halts lines ports start left old new (Unwritten refused) feeds arrivals stop = tt
+halts lines ports start left old new (Unwritten refused) stop feeds arrivals = tt
