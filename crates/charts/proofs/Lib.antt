@@ -7,3 +7,4 @@ pub mod RuleShapes
 pub mod Telling
 pub mod Walking
 pub mod LineShapes
+pub mod Deciding

@@ -78,7 +78,7 @@ shape_at old new number rule region at is = record {
   same = λ t p has. is p has ∙ ap (λ (r : Rule). holds_at r p) (sym (at.own rule)) ∙ sym (tests_at (old ++ new) number rule t p at.there);
 }
 
-alike_of : (rules : List Rule) (p q : Point) → All (AreTestedAlike p q) (tests_of rules) → All (HoldsAlike p q) rules
+pub alike_of : (rules : List Rule) (p q : Point) → All (AreTestedAlike p q) (tests_of rules) → All (HoldsAlike p q) rules
 alike_of [] p q same = All-nil (HoldsAlike p q)
 alike_of (rule ∷ rules) p q same =
     All-cons (HoldsAlike p q) rule rules (All-head (AreTestedAlike p q) (λ r. holds_at rule r) (tests_of rules) same)
@@ -94,6 +94,13 @@ pub second_of_both : (old new : List Rule) (p q : Point) → All (AreTestedAlike
 second_of_both [] new p q same = alike_of new p q same
 second_of_both (rule ∷ rules) new p q same =
     second_of_both rules new p q (All-tail (AreTestedAlike p q) (λ r. holds_at rule r) (tests_of (rules ++ new)) same)
+
+-- the test of a rule of one table
+pub rule_shape_at : (rules : List Rule) (number : ℕ) (d : Rule) (region : Region) → number < length rules → ((p : Point) → HasCommand p → lies_in region p ≡ holds_at (get_or rules number d) p) → IsShapeAt (tests_of rules) number region
+rule_shape_at rules number d region there is = record {
+  there = omega (arith, there, length_tests rules);
+  same = λ t p has. is p has ∙ sym (tests_at rules number d t p there);
+}
 
 -- where all rules hold alike, the tables decide alike at both points
 pub settled : (old new : List Rule) → IsSettledBy (tests_of (old ++ new)) (AreAlike old new)

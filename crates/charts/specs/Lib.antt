@@ -4,3 +4,4 @@ pub mod Alike
 pub mod Witness
 pub mod Judged
 pub mod Lines
+pub mod Deciders

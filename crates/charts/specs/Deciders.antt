@@ -1,0 +1,59 @@
+-- By which rule a table decides at a point.
+use Rattle.std.specs.Prelude.{◌≡◌, ◌<◌, ◌&&◌, ◌||◌, ℕ, zero, suc, Bool, false, true, not, nat_lt, if◌then◌else◌, List, [], ◌∷◌, All, Option, Some, None}
+use Rattle.policy_table.specs.Meaning.{AreWords}
+use Rattle.policy_table.specs.declared.rules.Quota.{Quota}
+use Rattle.policy_table.specs.declared.rules.Rule.{Rule}
+use Rattle.regions.specs.Questions.{HoldsAll, IsFound}
+use Rattle.regions.specs.declared.points.Point.{Point}
+use Rattle.charts.specs.Alike.{HasLimit}
+use Rattle.charts.specs.Points.{holds_at}
+
+-- a rule that holds decides, unless it draws a ticket that is not below its limit
+abbrev pub by_quota : Option Quota → (place : ℕ) → (told : ℕ → ℕ) → (rest : Option ℕ) → Option ℕ
+by_quota None place told rest = Some place
+by_quota (Some quota) place told rest = if nat_lt (told 0) quota.limit then Some place else rest
+
+-- the place of the rule that decides, where the first has this one; `told` are the answers in order
+abbrev pub decider_from : (place : ℕ) → List Rule → Point → (told : ℕ → ℕ) → Option ℕ
+decider_from place [] p told = None
+decider_from place (rule ∷ rules) p told =
+    if holds_at rule p
+    then by_quota rule.quota place told (decider_from (suc place) rules p (λ k. told (suc k)))
+    else decider_from (suc place) rules p told
+
+-- for some answers the rule of that place, from 0 on, decides at the point
+abbrev pub Decides : List Rule → (place : ℕ) → Point → Type 0
+Decides rules place p = (told : ℕ → ℕ) × AreWords told × (decider_from 0 rules p told ≡ Some place)
+
+-- for none it does
+abbrev pub NeverDecides : List Rule → (place : ℕ) → Point → Type 0
+NeverDecides rules place p = (told : ℕ → ℕ) → ¬ (decider_from 0 rules p told ≡ Some place)
+
+-- whether a rule that holds may let the rules behind it decide
+abbrev pub lets_pass : Option Quota → Bool
+lets_pass None = false
+lets_pass (Some quota) = true
+
+-- whether a rule that holds may decide itself
+abbrev pub has_room : Option Quota → Bool
+has_room None = true
+has_room (Some quota) = nat_lt 0 quota.limit
+
+-- whether the rule of so many places on may decide
+abbrev pub may_decide : (places : ℕ) → List Rule → Point → Bool
+may_decide places [] p = false
+may_decide zero (rule ∷ rules) p = holds_at rule p && has_room rule.quota
+may_decide (suc places) (rule ∷ rules) p = (not (holds_at rule p) || lets_pass rule.quota) && may_decide places rules p
+
+-- no command has a point at which the rule of that place decides, whatever the answers are
+abbrev pub NeverMatches : List Rule → (place : ℕ) → Type 0
+NeverMatches rules place = HoldsAll (NeverDecides rules place)
+
+-- at some point of a command it decides, for some answers
+pub record Matches (rules : List Rule) (place : ℕ) : Type 0 where
+  pub point : Point
+  pub found : IsFound (Decides rules place) point
+
+-- at the point it does, where the limits are such as a table has
+abbrev pub DecidesWithinLimits : List Rule → (place : ℕ) → Point → Type 0
+DecidesWithinLimits rules place p = All HasLimit rules → Decides rules place p

@@ -1,0 +1,73 @@
+//! Rules that never match.
+
+ghost use Rattle.std.specs.Prelude.{◌≡◌, ◌<◌, ◌^◌, All, MatchBool, length};
+ghost use Rattle.charts.specs.Alike.{HasLimit};
+ghost use Rattle.charts.specs.Deciders.{DecidesWithinLimits, Matches, NeverDecides, NeverMatches, has_room, may_decide};
+ghost use Rattle.charts.specs.Points.{tests_of};
+
+use crate::decisions::holds_at;
+use crate::shapes::region_of;
+use policy_table::{Quota, Rule};
+use regions::{Point, Question, Region, search};
+
+/// Whether a rule that holds may decide.
+fn has_room(quota: Option<Quota>) -> bool
+    ensures { result ≡ has_room quota }
+{
+    match quota {
+        None => true,
+        Some(quota) => quota.limit > 0,
+    }
+}
+
+/// Whether the rule of that place, from 0 on, decides at a point for some answers.
+fn may_decide(rules: &[Rule], place: usize, point: &Point) -> bool
+    ensures { result ≡ may_decide place rules.now point.now }
+{
+    let mut left = place;
+    for rule in rules {
+        let holds = holds_at(rule, point);
+        if left == 0 {
+            return holds && has_room(rule.quota);
+        }
+        if holds && rule.quota.is_none() {
+            return false;
+        }
+        left -= 1;
+    }
+    false
+}
+
+/// Whether the rule of a place never decides.
+#[derive(Drop)]
+struct Deciding<'a> {
+    rules: &'a [Rule],
+    place: usize,
+}
+
+impl Question for Deciding<'_> {
+    ghost tests = { λ q. tests_of q.rules.now };
+
+    ghost holds = { λ q. NeverDecides q.rules.now q.place };
+
+    ghost fails = { λ q. DecidesWithinLimits q.rules.now q.place };
+
+    fn shape(&self, number: usize) -> Option<Region> {
+        if number < self.rules.len() {
+            return Some(region_of(&self.rules[number]));
+        }
+        None
+    }
+
+    fn ask(&self, point: &Point) -> bool {
+        !may_decide(self.rules, self.place, point)
+    }
+}
+
+/// Whether the rule of that place, from 0 on, decides on no command, whatever the answers to the draws are.
+pub fn never_matches(rules: &[Rule], place: usize) -> bool
+    requires limits { All HasLimit rules.now }
+    ensures { MatchBool result (NeverMatches rules.now place) (Matches rules.now place) }
+{
+    search(&Deciding { rules, place }).is_none()
+}
