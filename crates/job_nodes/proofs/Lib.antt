@@ -1,5 +1,4 @@
 mod Continuing
 mod FirstWords
-pub mod LinesRound
 mod OneBank
 mod Simulating
