@@ -1,4 +1,3 @@
 mod Continuing
-mod FirstWords
 mod OneBank
 mod Simulating

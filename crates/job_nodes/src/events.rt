@@ -1,25 +1,12 @@
 //! Event lines: text that writes one step of one port.
 
-ghost use Rattle.std.specs.Prelude.{◌≡◌, ◌∷◌, [], MatchOption, MatchResult};
-ghost use Rattle.spw.specs.Line.{words_of as words_in};
+ghost use Rattle.std.specs.Prelude.{MatchResult};
 ghost use Rattle.job_nodes.specs.EventLines.{IsEventLine, IsNoEvent, IsNoLonePort, IsNoTake, IsTakeLine, WritesLonePort};
 
 use job_parts::bad_lines::BadLine;
 use sched::Event;
-use spw::{LineFault, read_line, read_port, words_of};
+use spw::{LineFault, first_word, read_line, read_port, words_of};
 use std::alloc::Global;
-
-/// The first word of a line, and the text behind it; `None` where the line has no word.
-fn first_word(line: &str) -> Option<(&str, &str)>
-    ensures { MatchOption result (words_in line.now ≡ [])
-        (λ cut. words_in line.now ≡ cut.0.now ∷ words_in cut.1.now) }
-{
-    let text = line.trim_start_matches(' ');
-    if text.is_empty() {
-        return None;
-    }
-    Some(text.split_once(' ').unwrap_or((text, "")))
-}
 
 /// The packet that is taken, by the text behind the word `take`.
 fn taken(alloc: Global, text: &str) -> Result<Event, BadLine>

@@ -15,4 +15,5 @@ pub use crate::feed::{Feed, packet_is_join};
 pub use crate::lines::{PORTS, line_is_unambiguous, read_line, read_part, read_port, words_of};
 pub use crate::packets::{End, MAX_PACKET, Packet};
 pub use crate::text::{TextLines, lines_of};
+pub use crate::words::first_word;
 pub use crate::written::written_line_is_read;

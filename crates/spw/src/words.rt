@@ -4,7 +4,7 @@ ghost use Rattle.std.specs.Prelude.{◌≡◌, [], ◌∷◌, ◌++◌, MatchOpt
 ghost use Rattle.spw.specs.Line.{words_of};
 
 /// The first word of a text and what stands behind it, or `None` where there is no word.
-pub(crate) fn first_word(text: &str) -> Option<(&str, &str)>
+pub fn first_word(text: &str) -> Option<(&str, &str)>
     ensures { MatchOption result (words_of text.now ≡ [])
         (λ r. words_of text.now ≡ r.0.now ∷ words_of r.1.now) }
 {
