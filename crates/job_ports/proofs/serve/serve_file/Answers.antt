@@ -1,4 +1,4 @@
-use Rattle.std.proofs.Common.{◌≡◌, ◌∙◌, List, ℕ, ap, arith, length, map, subst}
+use Rattle.std.proofs.Common.{◌≡◌, ◌∙◌, List, ℕ, ap, arith, length, map, refl, subst}
 use Rattle.std.specs.Prelude.{vec_items}
 use Rattle.std.specs.Io.KnownBytes.{Appends}
 use Rattle.std.proofs.KnownBytes.{Appends-trans}
@@ -20,14 +20,16 @@ returns-clause-done g c =
     let replies : lines_from 0 (map (λ (s : SinkValue). replies_in s.sent) c.deref.result.now) ≡ lines_from 0 (replies_of h.ends)
     = ap (λ (l : List SinkValue). lines_from 0 (map (λ (s : SinkValue). replies_in s.sent) l)) (c.deref.ensures.value ∙ h.sinks_are) ∙ ap (lines_from 0) (sent_of h.ends) in
     let one : Appends old mid (lines_from 0 (replies_of h.ends)) = subst (λ (text : List ℕ). Appends old mid text) replies c.in_ok-print_ports.ensures in
-    let two : Appends mid new (report_line (report_of h.ends)) = subst (λ (text : List ℕ). Appends mid new text) (ap report_line h.report_is) c.in_ok-print_report.ensures in
-    record {
-      text = h.text;
-      program = h.program;
-      packets = h.packets;
-      ends = h.ends;
-      given = h.given;
-      lines = h.lines;
-      served = h.served;
-      printed = Appends-trans old mid new _ _ one two;
-    }
+    let two : Appends mid new (report_line (report_of h.ends)) = subst (λ (text : List ℕ). Appends mid new text) (ap report_line h.report_is) c.in_ok-print_report.ensures in (
+      refl,
+      record {
+        text = h.text;
+        program = h.program;
+        packets = h.packets;
+        ends = h.ends;
+        given = h.given;
+        lines = h.lines;
+        served = h.served;
+        printed = Appends-trans old mid new _ _ one two;
+      },
+    )
