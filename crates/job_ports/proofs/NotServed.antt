@@ -13,6 +13,11 @@ use Rattle.job_parts.specs.declared.stops.Halt.TheVariants.{Ended, Unwritten}
 use Rattle.job_parts.specs.Stops.{StopsBy}
 use Rattle.job_parts.specs.declared.lines.LinesArgs.{LinesArgs}
 
+-- A job that stops so, and something else that holds then.
+pub stops_with : (P : Fault → Type 0) (Q : Type 0) (halt : Halt) → StopsBy P halt → Q → StopsBy (λ fault. P fault × Q) halt
+stops_with P Q (Ended fault) p q = (p, q)
+stops_with P Q (Unwritten refused) p q = tt
+
 module _ {S : Type 0} (reads : Reads S) (args : LinesArgs) (before after : S) (text : List ℕ) (program : AcceptedValue)
     (given : AreGiven reads args before text program after) where
   -- Memory was refused.

@@ -2,9 +2,11 @@ use Rattle.std.proofs.Common.{◌≡◌, ◌∙◌, List, ℕ, ap, arith, length
 use Rattle.std.specs.Prelude.{vec_items}
 use Rattle.std.specs.Io.KnownBytes.{Appends}
 use Rattle.std.proofs.KnownBytes.{Appends-trans}
+use Rattle.std.proofs.lemmas.Result.{err_from_is_err_and}
 use Rattle.ports.specs.Sinks.{SinkValue, replies_in}
 use Rattle.job_ports.specs.ServeJob.{lines_from, report_line}
 use Rattle.job_ports.specs.ServedFile.{replies_of, report_of}
+use Rattle.job_ports.proofs.NotServed.{stops_with}
 use Rattle.job_ports.proofs.PrintedLines.{sent_of}
 use Rattle.job_ports.proofs.serve.serve_file.Goals as goal
 
@@ -33,3 +35,8 @@ returns-clause-done g c =
         printed = Appends-trans old mid new _ _ one two;
       },
     )
+
+pub returns-in_err-sinks-clause-stops : goal.returns-in_err-sinks-clause-stops
+returns-in_err-sinks-clause-stops g c =
+    let gone = err_from_is_err_and c.from_residual.result c.from_residual.ensures.1 in
+    rw (gone.1, gone.2) (stops_with _ _ _ c.in_err-sinks.ensures.refused refl)
