@@ -1,17 +1,16 @@
 -- A command that no check of its header stops may be judged.
 use Rattle.std.proofs.Common.{◌⊎◌, inl, inr, ◌≡◌, ◌≤◌, ◌<◌, ◌+◌, ◌-◌, ◌^◌, ◌==◌, ℕ, Bool, true, false, not, ◌&&◌, ◌||◌, List, Option, Some, None, refl, sym, subst, ◌∙◌, arith}
-use Rattle.std.specs.Prelude.{All, if◌then◌else◌, is_none, nat_le, nat_lt, slice_get}
+use Rattle.std.specs.Prelude.{All, if◌then◌else◌, is_none, nat_le, nat_lt, option_map, slice_get}
 use Rattle.std.proofs.lemmas.Bool.Decides.{nat_tests}
 use Rattle.std.proofs.lemmas.Option.{get_or_from_slice_get, slice_get_within}
 use Rattle.machine.specs.Memory.{header}
 use Rattle.rmap.specs.declared.boot.TheConstants.{BOOT_WINDOW, CONTROL_SIZE, LOAD_REGISTER, LOAD_RESULT_SIZE, STAGING_SIZE}
 use Rattle.rmap.specs.declared.checks.TheConstants.{MAX_DATA, VERIFY_BUFFER}
+use Rattle.rmap.specs.declared.header_faults.HeaderFault.{HeaderFault}
 use Rattle.rmap.specs.declared.kind.Kind.{Kind}
 use Rattle.rmap.specs.declared.kind.Kind.TheVariants.{Read, Rmw, Unused, Write}
 use Rattle.rmap.specs.declared.places.Place.{Place}
-use Rattle.rmap.specs.declared.status.Status.{Status}
-use Rattle.rmap.specs.declared.status.Status.TheVariants.{InvalidLogicalAddress, NotAuthorised, RmwDataLength, UnusedCode, VerifyBufferOverrun}
-use Rattle.rmap.specs.Checks.{has_wrong_rmw_length, header_line, is_rmw_length}
+use Rattle.rmap.specs.Checks.{has_wrong_rmw_length, header_check, header_line, header_status, is_rmw_length}
 use Rattle.regions.specs.Points.{IsSpan, is_distance, is_rmw_distance}
 use Rattle.rmap.specs.Command.{CommandValue, IsHeader, address_of, command_kind, extended_of, increments, length_of, target_of, verifies}
 use Rattle.rmap.specs.Instruction.{is_used}
@@ -25,17 +24,17 @@ both_parts : (s t : Bool) → (s && t) ≡ true → (s ≡ true) × (t ≡ true)
 both_parts true t e = (refl, e)
 both_parts false t e = absurd (cc)
 
-neither_part : (s t : Bool) → (s || t) ≡ false → (s ≡ false) × (t ≡ false)
-neither_part true t e = absurd (cc)
-neither_part false t e = (refl, e)
-
 negated : (t : Bool) → not t ≡ false → t ≡ true
 negated true e = refl
 negated false e = absurd (cc)
 
-first_case : (t : Bool) (s : Status) (rest : Option Status) → (if t then Some s else rest) ≡ None → (t ≡ false) × (rest ≡ None)
-first_case true s rest e = absurd (cc)
-first_case false s rest e = (refl, e)
+first_case : (t : Bool) (fault : HeaderFault) (rest : Option HeaderFault) → (if t then Some fault else rest) ≡ None → (t ≡ false) × (rest ≡ None)
+first_case true fault rest e = absurd (cc)
+first_case false fault rest e = (refl, e)
+
+no_fault : (check : Option HeaderFault) → option_map header_status check ≡ None → check ≡ None
+no_fault None e = refl
+no_fault (Some fault) e = absurd (cc)
 
 -- ---- places
 
@@ -144,14 +143,14 @@ at_bank banks k b all e = subst EndsInTime (get_or_from_slice_get banks k b b e)
 
 pub admitted : (c : CommandValue) (w : WindowsValue) → IsHeader c → HasBytesAlone c → All EndsInTime w.banks → header_line c w ≡ None → MayBeJudged (header c.front c.tail)
 admitted c w is_header bytes ends none =
-    let one = first_case (not (is_used (command_kind c))) UnusedCode _ none in
-    let two = first_case (not (target_of c == w.node_address)) InvalidLogicalAddress _ one.1 in
-    let three = first_case (has_wrong_rmw_length (command_kind c) (length_of c)) RmwDataLength _ two.1 in
-    let four = first_case (verifies c && nat_lt VERIFY_BUFFER (length_of c)) VerifyBufferOverrun _ three.1 in
-    let five = first_case (nat_lt MAX_DATA (length_of c) || is_none (place_of c w)) NotAuthorised None four.1 in
-    let parts = neither_part (nat_lt MAX_DATA (length_of c)) (is_none (place_of c w)) five.0 in
-    let few : length_of c ≤ 4096 = not_more (length_of c) parts.0 in
-    let lies : LiesInTime c = placed (slice_get w.banks (extended_of c)) c (λ b is. at_bank w.banks (extended_of c) b ends is) parts.1 in
+    let one = first_case (not (is_used (command_kind c))) _ _ (no_fault (header_check c w) none) in
+    let two = first_case (not (target_of c == w.node_address)) _ _ one.1 in
+    let three = first_case (has_wrong_rmw_length (command_kind c) (length_of c)) _ _ two.1 in
+    let four = first_case (verifies c && nat_lt VERIFY_BUFFER (length_of c)) _ _ three.1 in
+    let five = first_case (nat_lt MAX_DATA (length_of c)) _ _ four.1 in
+    let six = first_case (is_none (place_of c w)) _ _ five.1 in
+    let few : length_of c ≤ 4096 = not_more (length_of c) five.0 in
+    let lies : LiesInTime c = placed (slice_get w.banks (extended_of c)) c (λ b is. at_bank w.banks (extended_of c) b ends is) six.0 in
     record {
       header = record { front = is_header.front; tail = is_header.tail; front_bytes = bytes.front; tail_bytes = bytes.tail };
       span = span_by (command_kind c) (increments c) (length_of c == 0) (address_of c) (length_of c) refl (negated (is_used (command_kind c)) one.0) three.0 lies.0 few lies.1;

@@ -177,11 +177,11 @@ zero_words k = omega arith
 -- the parts of a decision
 abbrev map_of : List Call → ℕ
 map_of [] = 0
-map_of (c ∷ cs) = c.map
+map_of (c ∷ cs) = c.question.map
 
 abbrev key_of : List Call → ℕ
 key_of [] = 0
-key_of (c ∷ cs) = c.key
+key_of (c ∷ cs) = c.question.key
 
 abbrev later : List Call → List Call
 later [] = []
@@ -191,11 +191,11 @@ later (c ∷ cs) = cs
 abbrev drawn : Bool → Call → (v : ℕ) → (rest : List Call × ℕ) → List Call × ℕ
 drawn s d v a = if s then matches d v else goes d a
 
-drawn_map : (s : Bool) (d : Call) (v : ℕ) (a : List Call × ℕ) → map_of (drawn s d v a).0 ≡ d.map
+drawn_map : (s : Bool) (d : Call) (v : ℕ) (a : List Call × ℕ) → map_of (drawn s d v a).0 ≡ d.question.map
 drawn_map true d v a = refl
 drawn_map false d v a = refl
 
-drawn_key : (s : Bool) (d : Call) (v : ℕ) (a : List Call × ℕ) → key_of (drawn s d v a).0 ≡ d.key
+drawn_key : (s : Bool) (d : Call) (v : ℕ) (a : List Call × ℕ) → key_of (drawn s d v a).0 ≡ d.question.key
 drawn_key true d v a = refl
 drawn_key false d v a = refl
 
