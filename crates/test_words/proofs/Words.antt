@@ -247,7 +247,9 @@ value_48 = refl
 value_49 : ok_or {E = ℕ} none 4 ≡ Err 4
 value_49 = refl
 
--- `IfSome o P`, `IfOk r P`: P of what there is, and nothing asked where there is nothing
+-- `IfSome o P`, `IfOk r P`, `IfErr r P`: P of what there is, and nothing asked where there is nothing
+
+-- `OnOk r P`, `OnErr r P`: P where the result is an `Ok`, an `Err`, whatever it holds
 
 -- `MatchOption o P Q`: P where there is nothing, Q of what there is; `MatchResult r P Q`: P of an `Ok`, Q of an `Err`
 
