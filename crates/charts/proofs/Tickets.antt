@@ -1,7 +1,6 @@
 -- The test whether two courses are the same is exact.
-use Rattle.std.proofs.Common.{◌≡◌, ◌≢◌, ◌≤◌, ◌<◌, ◌+◌, ◌^◌, ◌⊎◌, ◌==◌, inl, inr, ℕ, suc, zero, max, get_or, drop, drop-cons, add-one, Bool, true, false, ◌&&◌, ◌||◌, List, [], ◌∷◌, length, Option, Some, None, refl, ap, sym, ◌∙◌, subst, arith}
+use Rattle.std.proofs.Common.{◌≡◌, ◌≤◌, ◌<◌, ◌+◌, ◌^◌, ◌⊎◌, ◌==◌, inl, inr, ℕ, suc, zero, get_or, drop, drop-cons, add-one, Bool, true, false, ◌&&◌, ◌||◌, List, [], ◌∷◌, length, Option, Some, None, refl, ap, sym, ◌∙◌, subst, arith}
 use Rattle.std.specs.Prelude.{All, MatchBool, if◌then◌else◌, nat_le, nat_lt}
-use Rattle.std.specs.List.{filter}
 use Rattle.std.proofs.lemmas.Bool.{le-ltb, lt-ltb}
 use Rattle.std.proofs.lemmas.Bool.Decides.{nat_tests}
 use Rattle.std.proofs.lemmas.List.Elements.{All-cons, All-head, All-tail}
@@ -11,7 +10,7 @@ use Rattle.rmap.specs.declared.verdict.Verdict.TheVariants.{NotAuthorised}
 use Rattle.charts.specs.Alike.{DifferSaid, DifferWithinLimits, HasLimit, after_both, after_first, alike_said, held, said, same_steps, stop, stop_of, stops_with}
 use Rattle.policy_table.specs.Limits.{IsLimited}
 use Rattle.policy_table.specs.Meaning.{AreWords, draw, ruled}
-use Rattle.charts.specs.Points.{AreAlike, Differ, decision_at, holds_at}
+use Rattle.charts.specs.Points.{AreAlike, decision_at, holds_at}
 use Rattle.regions.specs.declared.points.Point.{Point}
 use Rattle.policy_table.specs.declared.rules.Quota.{Quota}
 use Rattle.policy_table.specs.declared.rules.Rule.{Rule}

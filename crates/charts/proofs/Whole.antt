@@ -1,15 +1,14 @@
 -- From all points to all headers.
-use Rattle.std.proofs.Common.{◌≡◌, ◌<◌, ◌≤◌, ◌+◌, ℕ, suc, Bool, true, false, List, [], ◌∷◌, length, get_or, refl, ap, sym, ◌∙◌, subst, arith}
+use Rattle.std.proofs.Common.{◌≡◌, ◌<◌, ℕ, suc, List, [], ◌∷◌, length, get_or, refl, ap, sym, ◌∙◌, arith}
 use Rattle.std.specs.Prelude.{All, if◌then◌else◌}
 use Rattle.machine.specs.declared.calls.Call.{Call}
-use Rattle.machine.specs.Memory.{Header, IsHeader}
+use Rattle.machine.specs.Memory.{Header}
 use Rattle.rmap.specs.Verdict.{verdict_number}
 use Rattle.charts.specs.Same.{AreSame, MayBeJudged}
 use Rattle.policy_table.specs.Meaning.{decision, holds, ruled}
 use Rattle.charts.specs.Points.{AreAlike, decision_at, point_of}
 use Rattle.regions.specs.Points.{HasCommand}
 use Rattle.regions.specs.Questions.{HoldsAll}
-use Rattle.regions.specs.declared.points.Point.{Point}
 use Rattle.policy_table.specs.declared.rules.Rule.{Rule}
 
 pub at_point : (rules : List Rule) (h : Header) (told : ℕ → ℕ) → decision rules h told ≡ decision_at rules (point_of h) told

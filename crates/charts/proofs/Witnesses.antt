@@ -1,17 +1,15 @@
 -- Each point of a command that may be judged has a header.
-use Rattle.std.proofs.Common.{◌≡◌, ◌≤◌, ◌<◌, ◌+◌, ◌-◌, ◌^◌, ◌==◌, ℕ, zero, suc, Bool, true, false, not, ◌&&◌, List, [], ◌∷◌, ◌++◌, length, refl, ap, sym, ◌∙◌, subst, arith}
+use Rattle.std.proofs.Common.{◌≡◌, ◌≤◌, ◌<◌, ◌+◌, ◌-◌, ◌^◌, ◌==◌, ℕ, zero, suc, Bool, true, false, not, ◌&&◌, List, [], ◌∷◌, ◌++◌, refl, ap, sym, ◌∙◌, subst, arith}
 use Rattle.std.specs.Prelude.{All, if◌then◌else◌}
 use Rattle.std.specs.Int.{byte_at}
 use Rattle.std.proofs.lemmas.Bool.Decides.{nat_tests}
 use Rattle.std.proofs.lemmas.List.Elements.{All-nil, All-cons, All-append}
 use Rattle.byteorder.specs.Endian.{big_bytes}
 use Rattle.byteorder.specs.Numbers.{big_number-reads_back}
-use Rattle.machine.specs.Memory.{Header}
 use Rattle.rmap.specs.declared.kind.Kind.{Kind}
 use Rattle.rmap.specs.declared.kind.Kind.TheVariants.{Read, Rmw, Unused, Write}
-use Rattle.rmap.specs.Command.{address_of, command_kind, increments, length_of}
+use Rattle.rmap.specs.Command.{address_of, increments, length_of}
 use Rattle.rmap.specs.Instruction.{has_increment_bit, is_used, kind_of}
-use Rattle.charts.specs.Same.{MayBeJudged}
 use Rattle.policy_table.specs.Meaning.{fields_of, last_address_of}
 use Rattle.regions.specs.Points.{HasCommand, IsSpan, is_distance}
 use Rattle.charts.specs.Points.{IsDifference, decision_at, point_of}

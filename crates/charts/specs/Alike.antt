@@ -1,9 +1,8 @@
 -- Whether two courses of rules with quotas are the same, whatever the tickets are.
-use Rattle.std.specs.Prelude.{◌≡◌, ◌<◌, ◌≤◌, ◌^◌, ◌==◌, ◌&&◌, ◌||◌, ℕ, suc, zero, Bool, true, false, nat_le, if◌then◌else◌, List, [], ◌∷◌, All, length, Option, Some, None}
+use Rattle.std.specs.Prelude.{◌≡◌, ◌<◌, ◌==◌, ◌&&◌, ◌||◌, ℕ, suc, Bool, true, false, nat_le, List, [], ◌∷◌, All, length, Option, Some, None}
 use Rattle.std.specs.List.{filter}
 use Rattle.machine.specs.declared.calls.Call.{Call}
 use Rattle.rmap.specs.Verdict.{verdict_number}
-use Rattle.rmap.specs.declared.verdict.Verdict.{Verdict}
 use Rattle.rmap.specs.declared.verdict.Verdict.TheVariants.{NotAuthorised}
 use Rattle.policy_table.specs.Limits.{IsLimited}
 use Rattle.policy_table.specs.Meaning.{AreWords, ruled}

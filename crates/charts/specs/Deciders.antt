@@ -1,5 +1,5 @@
 -- By which rule a table decides at a point.
-use Rattle.std.specs.Prelude.{◌≡◌, ◌<◌, ◌&&◌, ◌||◌, ℕ, zero, suc, Bool, false, true, not, nat_lt, if◌then◌else◌, List, [], ◌∷◌, All, Option, Some, None}
+use Rattle.std.specs.Prelude.{◌≡◌, ◌&&◌, ◌||◌, ℕ, zero, suc, Bool, false, true, not, nat_lt, if◌then◌else◌, List, [], ◌∷◌, All, Option, Some, None}
 use Rattle.policy_table.specs.Meaning.{AreWords}
 use Rattle.policy_table.specs.declared.rules.Quota.{Quota}
 use Rattle.policy_table.specs.declared.rules.Rule.{Rule}

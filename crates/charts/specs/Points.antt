@@ -1,5 +1,5 @@
 -- What of a header a policy table looks at, and where two tables decide alike.
-use Rattle.std.specs.Prelude.{◌≡◌, ◌<◌, ◌&&◌, ℕ, suc, Bool, nat_le, if◌then◌else◌, List, [], ◌∷◌, ◌++◌, All, Option, get_or, length, map}
+use Rattle.std.specs.Prelude.{◌≡◌, ◌<◌, ◌&&◌, ℕ, suc, Bool, nat_le, if◌then◌else◌, List, [], ◌∷◌, ◌++◌, get_or, length, map}
 use Rattle.machine.specs.declared.calls.Call.{Call}
 use Rattle.machine.specs.Memory.{Header}
 use Rattle.rmap.specs.declared.verdict.Verdict.TheVariants.{NotAuthorised}

@@ -1,9 +1,9 @@
 -- A region that is cut by the sides of a shape.
-use Rattle.std.proofs.Common.{◌≡◌, ◌<◌, ◌≤◌, ◌+◌, ◌-◌, ◌⊎◌, inl, inr, ◌&&◌, ℕ, zero, suc, Bool, true, false, not, List, length, get_or, refl, sym, ap, subst, ◌∙◌, arith}
-use Rattle.std.specs.Prelude.{All, MatchOption, Option, Some, None}
+use Rattle.std.proofs.Common.{◌≡◌, ◌<◌, ◌≤◌, ◌+◌, ◌-◌, ◌⊎◌, inl, inr, ◌&&◌, ℕ, zero, suc, Bool, true, false, not, List, length, get_or, refl, sym, subst, ◌∙◌, arith}
+use Rattle.std.specs.Prelude.{MatchOption, Option, Some, None}
 use Rattle.std.proofs.lemmas.Bool.{cases_lt}
 use Rattle.regions.specs.Points.{HasCommand}
-use Rattle.regions.specs.Questions.{AreTestedAlike, HoldsAll, HoldsOn, IsCutBy, IsCutTo, IsFound, IsSettledBy, IsShapeAt, IsUnderWay, IsUnmixed}
+use Rattle.regions.specs.Questions.{HoldsOn, IsCutBy, IsCutTo, IsSettledBy, IsShapeAt, IsUnderWay, IsUnmixed}
 use Rattle.regions.specs.Regions.{AreCut, IsBare, IsIn, lies_in, meets, meets_last, side_of}
 use Rattle.regions.specs.declared.points.Point.{Point}
 use Rattle.regions.specs.declared.regions.Region.{Region}

@@ -1,5 +1,5 @@
 -- Sets of bytes as the bits of two halves.
-use Rattle.std.specs.Prelude.{◌<◌, ◌%◌, ◌==◌, ◌&&◌, ℕ, Bool, nat_lt, if◌then◌else◌}
+use Rattle.std.specs.Prelude.{◌%◌, ◌==◌, ◌&&◌, ℕ, Bool, nat_lt, if◌then◌else◌}
 use Rattle.std.specs.Int.{bit_at}
 use Rattle.regions.specs.declared.byte_sets.ByteSet.{ByteSet}
 

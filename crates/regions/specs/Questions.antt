@@ -1,5 +1,5 @@
 -- Questions that are answered alike at all points of a region.
-use Rattle.std.specs.Prelude.{◌≡◌, ◌<◌, ◌≤◌, ℕ, Bool, true, List, All, get_or, length}
+use Rattle.std.specs.Prelude.{◌≡◌, ◌<◌, ℕ, Bool, true, List, All, get_or, length}
 use Rattle.regions.specs.Points.{HasCommand}
 use Rattle.regions.specs.Regions.{IsIn, lies_in, meets_last}
 use Rattle.regions.specs.declared.points.Point.{Point}

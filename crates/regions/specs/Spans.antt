@@ -1,5 +1,5 @@
 -- The spans of commands on two stretches.
-use Rattle.std.specs.Prelude.{◌≡◌, ◌≤◌, ◌<◌, ◌+◌, ◌^◌, ℕ, Bool, true}
+use Rattle.std.specs.Prelude.{◌≡◌, ◌<◌, ◌+◌, ◌^◌, ℕ, Bool, true}
 use Rattle.rmap.specs.declared.kind.Kind.{Kind}
 use Rattle.regions.specs.Points.{IsSpan, lies_on}
 use Rattle.regions.specs.Regions.{is_one_of}

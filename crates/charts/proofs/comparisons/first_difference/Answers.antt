@@ -1,4 +1,3 @@
-use Rattle.std.proofs.Common.{◌++◌}
 use Rattle.charts.specs.Alike.{DifferWithinLimits}
 use Rattle.charts.specs.Points.{AreAlike, IsDifference}
 use Rattle.charts.specs.Same.{AreSame}

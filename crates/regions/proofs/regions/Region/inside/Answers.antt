@@ -1,4 +1,3 @@
-use Rattle.std.proofs.Common.{not}
 use Rattle.std.specs.Prelude.{nat_le, nat_lt}
 use Rattle.regions.specs.ByteSets.{has_byte}
 use Rattle.regions.specs.Regions.{is_one_of}
