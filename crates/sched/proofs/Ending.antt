@@ -25,7 +25,7 @@ use Rattle.sched.specs.Ends.{judged_with, share_in, with_share_in, EndsAt}
 use Rattle.sched.specs.History.{History, Then, Open, port_of, opened}
 use Rattle.sched.specs.Lawful.{bank_answer, staging_answer, load_result_answer, done, effect_at_place, effect_at_turn, effect_outcome}
 use Rattle.sched.specs.Looking.{Node, place_in, turn_of, verdict_at, staging, staged_at, staged_behind, entry_left, has_room, entered, entries_at, entries, first_memory, memory}
-use Rattle.sched.specs.Worlds.{RunValue, PortValue, WorldValue, AreBanksOf, GoesOn, IsBankOf, IsJudging, IsPortOf, IsRunOf, IsShareWith, effect_due, effect_due_at, verdict_at}
+use Rattle.sched.specs.Worlds.{RunValue, PortValue, WorldValue, AreBanksOf, GoesOn, IsBankOf, IsJudging, IsPortOf, IsRunOf, IsShareWith, effect_due, effect_due_at, verdict_of_turn}
 use Rattle.sched.proofs.Growth.{IsPortBehind, OthersKeepCounts, at_written, at_other, ports_changed, left_all}
 use Rattle.sched.proofs.Entering.{entries_done, numbers_same, numbers_other, entered_other, entered_memory}
 use Rattle.sched.proofs.Telling.{outcome_here}
@@ -441,7 +441,7 @@ pub record IsEffectDue (run : Option RunValue) (verdict : ℕ) : Type 0 where
   pub turn_is : r.turn ≡ turns.Verdict verdict
   pub other : r.place ≢ places.Control
 
-verdict_is : (turn : Turn) (verdict : ℕ) → Some verdict ≡ verdict_at turn → turn ≡ turns.Verdict verdict
+verdict_is : (turn : Turn) (verdict : ℕ) → Some verdict ≡ verdict_of_turn turn → turn ≡ turns.Verdict verdict
 verdict_is (turns.Ask question) verdict is = absurd cc
 verdict_is (turns.Verdict v) verdict is = let same : verdict ≡ v = cc in ap turns.Verdict (sym same)
 
@@ -457,7 +457,7 @@ effect_is_due (Some r) verdict is = let both = due_at r.place r.turn verdict is 
 
 -- ---- refused
 
-no_verdict : (n : Node) (h : History) (port : ℕ) (o : Open) (turn : Turn) → None ≡ verdict_at turn → Refused ≡ effect_at_turn n h port o (Some turn)
+no_verdict : (n : Node) (h : History) (port : ℕ) (o : Open) (turn : Turn) → None ≡ verdict_of_turn turn → Refused ≡ effect_at_turn n h port o (Some turn)
 no_verdict n h port o (turns.Ask question) none = refl
 no_verdict n h port o (turns.Verdict v) none = absurd cc
 

@@ -37,7 +37,7 @@ use Rattle.sched.specs.Ends.{IsDecisionBy, IsLoadDecision, after_write, count_sh
 use Rattle.sched.specs.History.{History, Then, Open, opened}
 use Rattle.sched.specs.Lawful.{IsLawful, IsControlled, IsLoaded, IsPublishedAt, IsPublishedBy, IsPublishOutcome}
 use Rattle.sched.specs.Looking.{Node, place_in, turn_of, staging, staged_at, staged_behind, for_slot, program_loaded, loaded_by, published_at, counted, publishes, published_behind, published, entries}
-use Rattle.sched.specs.Worlds.{RunValue, PortValue, WorldValue, AreProgramsOf, GoesOn, IsFor, IsJudging, IsLawfulWorld, IsPortOf, IsShareWith, IsShownAs, IsWorldOf, publish_due, publish_due_at, verdict_at}
+use Rattle.sched.specs.Worlds.{RunValue, PortValue, WorldValue, AreProgramsOf, GoesOn, IsFor, IsJudging, IsLawfulWorld, IsPortOf, IsShareWith, IsShownAs, IsWorldOf, publish_due, publish_due_at, verdict_of_turn}
 use Rattle.sched.proofs.Growth.{IsPortBehind, at_other, ports_changed, left_all}
 use Rattle.sched.proofs.Ending.{IsJudgedIn, banks_same, entries_stay, lies_at, open_run, stands_at}
 use Rattle.sched.proofs.Telling.{outcome_here}
@@ -279,7 +279,7 @@ pub record IsPublishDue (run : Option RunValue) (verdict : ℕ) : Type 0 where
   pub turn_is : r.turn ≡ turns.Verdict verdict
   pub control : r.place ≡ places.Control
 
-verdict_is : (turn : Turn) (verdict : ℕ) → Some verdict ≡ verdict_at turn → turn ≡ turns.Verdict verdict
+verdict_is : (turn : Turn) (verdict : ℕ) → Some verdict ≡ verdict_of_turn turn → turn ≡ turns.Verdict verdict
 verdict_is (turns.Ask question) verdict is = absurd cc
 verdict_is (turns.Verdict v) verdict is = let same : verdict ≡ v = cc in ap turns.Verdict (sym same)
 
@@ -307,7 +307,7 @@ elsewhere n h port o place (turns.Verdict v) lies other =
     by places.LoadResult other = refl
     by places.Control other = absurd (other refl)
 
-undue_control : (n : Node) (h : History) (port : ℕ) (o : Open) (turn : Turn) → None ≡ verdict_at turn → IsPublishedBy n h port o (Some turn) Refused
+undue_control : (n : Node) (h : History) (port : ℕ) (o : Open) (turn : Turn) → None ≡ verdict_of_turn turn → IsPublishedBy n h port o (Some turn) Refused
 undue_control n h port o (turns.Ask question) none = refl
 undue_control n h port o (turns.Verdict v) none = absurd cc
 

@@ -195,15 +195,15 @@ Asks None = ⊥
 Asks (Some r) = IsAsk r.turn
 
 -- the verdict of a program that stands so, if it has one
-abbrev pub verdict_at : Turn → Option ℕ
-verdict_at (turns.Ask question) = None
-verdict_at (turns.Verdict verdict) = Some verdict
+abbrev pub verdict_of_turn : Turn → Option ℕ
+verdict_of_turn (turns.Ask question) = None
+verdict_of_turn (turns.Verdict verdict) = Some verdict
 
 -- the verdict of a command that ends at that place by an Effect, if it has one: a control write does not
 abbrev pub effect_due_at : Place → Turn → Option ℕ
-effect_due_at (places.Bank k) turn = verdict_at turn
-effect_due_at places.Staging turn = verdict_at turn
-effect_due_at places.LoadResult turn = verdict_at turn
+effect_due_at (places.Bank k) turn = verdict_of_turn turn
+effect_due_at places.Staging turn = verdict_of_turn turn
+effect_due_at places.LoadResult turn = verdict_of_turn turn
 effect_due_at places.Control turn = None
 
 -- the verdict of a command that ends at that place by a Publish, if it has one: a control write alone does
@@ -211,7 +211,7 @@ abbrev pub publish_due_at : Place → Turn → Option ℕ
 publish_due_at (places.Bank k) turn = None
 publish_due_at places.Staging turn = None
 publish_due_at places.LoadResult turn = None
-publish_due_at places.Control turn = verdict_at turn
+publish_due_at places.Control turn = verdict_of_turn turn
 
 -- the verdict of the command that is judged, if an Effect is due
 abbrev pub effect_due : Option RunValue → Option ℕ

@@ -14,7 +14,7 @@ ghost use Rattle.sched.specs.Ends.{judged_with};
 ghost use Rattle.sched.specs.History.{Open, with_answer};
 ghost use Rattle.sched.specs.Standing.{IsLentOf};
 ghost use Rattle.sched.specs.Looking.{Node, argument_asked, cell_asked, header_in};
-ghost use Rattle.sched.specs.Worlds.{IsAsk, IsRunOf, IsSameRun, StandsIfAny, at_stack, verdict_at};
+ghost use Rattle.sched.specs.Worlds.{IsAsk, IsRunOf, IsSameRun, StandsIfAny, at_stack, verdict_of_turn};
 
 use crate::laws::{arrays_are_headers, turns_are_paths};
 use crate::standing::Standing;
@@ -114,7 +114,7 @@ impl Run {
 
     /// The verdict of the program, if it has one.
     pub fn verdict(&self) -> Option<u64>
-        ensures { result ≡ verdict_at self.now.turn }
+        ensures { result ≡ verdict_of_turn self.now.turn }
     {
         match self.turn {
             Turn::Verdict(verdict) => Some(verdict),
