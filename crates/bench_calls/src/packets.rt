@@ -6,10 +6,10 @@ use crate::{REFUSED, accepted};
 use bank::{Bank, Journal, Share};
 use bver::Accepted;
 use cells::{CellSeat, Cells};
+use node_parts::{RunContext, admit, judge_by};
 use rmap::{ReplyBuf, Windows};
 use spw::{End, Packet};
 use std::alloc::Global;
-use node_parts::{RunContext, admit, judge_by};
 
 /// The address of the bank's first byte, its size, and the entries of the longest journal.
 const BASE: u32 = 0xA000_0000;

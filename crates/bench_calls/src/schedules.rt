@@ -3,10 +3,10 @@
 use crate::REFUSED;
 use bpf::Image;
 use bver::MapSizes;
+use node_parts::{BankConfig, NodeConfig};
 use sched::{Event, Outcome, World, step};
 use spw::{End, Packet};
 use std::alloc::Global;
-use node_parts::{BankConfig, NodeConfig};
 
 /// The world of a node of one port, with a bank of the longest journal and one map of one cell.
 fn world(alloc: Global, image: &[u8]) -> Option<World> {

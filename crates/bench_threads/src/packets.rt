@@ -4,12 +4,12 @@ ghost use Rattle.std.specs.Prelude.{◌≡◌};
 
 use anyhow::{Context, Result};
 use bver::Accepted;
+use node_parts::{BankConfig, Banks, NodeConfig, Served};
 use publish::{Opened, ProgramFamily, Publisher};
 use rmap::{ReplyBuf, Status};
 use spw::{End, Packet};
 use std::alloc::Global;
 use std::sync::Wait;
-use node_parts::{BankConfig, Banks, NodeConfig, Served};
 use target::{Pass, banks_and_passes, serve_packet};
 
 /// A read of the load result, which leaves no entry in a journal.

@@ -6,6 +6,7 @@ ghost use Rattle.ports.specs.Serves.{AreServed, IsWorkerOf};
 
 use anyhow::{Result, bail};
 use bver::Accepted;
+use node_parts::{BankConfig, NodeConfig};
 use ports::{MAX_CAPACITY, NoGate, Port, Replies, ServePass, Worker, serve};
 use publish::{Opened, ProgramFamily};
 use rcrc::crc;
@@ -15,7 +16,6 @@ use std::rt::Clock;
 use std::sync::Wait;
 use std::thread::Threads;
 use std::time::Instant;
-use node_parts::{BankConfig, NodeConfig};
 use target::{Node, Pass};
 
 /// How many packets each port is given: as many as its queue holds beside the end mark.

@@ -3,11 +3,11 @@
 ghost use Rattle.std.specs.Prelude.{◌≡◌};
 
 use bver::{Accepted, verify};
+use node_parts::{BankConfig, NodeConfig};
 use publish::{Opened, ProgramFamily};
 use std::alloc::Global;
 use std::sync::Wait;
 use std::test::Fail;
-use node_parts::{BankConfig, NodeConfig};
 use target::{Node, Pass};
 use test_kit::{image_of_text, sizes};
 

@@ -5,13 +5,13 @@ ghost use Rattle.std.specs.Prelude.{◌≡◌};
 use crate::filling::{filled, filled_desks, worker};
 use crate::nodes::shared_node;
 use bver::Accepted;
+use node_parts::BankConfig;
 use ports::{Gate, Replies, Report, ServeFault, Sink, Worker, serve, work};
 use publish::{Opened, ProgramFamily};
 use std::alloc::Global;
 use std::sync::Wait;
 use std::test::Fail;
 use std::thread::Threads;
-use node_parts::BankConfig;
 use target::{BankLock, Node, Pass};
 use test_kit::program;
 

@@ -2,6 +2,7 @@
 
 ghost use Rattle.std.specs.Prelude.{◌≡◌};
 
+use node_parts::{Served, Stop};
 use publish::{Opened, ProgramFamily};
 use spw::read_line;
 use std::alloc::Global;
@@ -10,7 +11,6 @@ use std::marker::Brand;
 use std::rt::Files;
 use std::sync::Wait;
 use std::test::Fail;
-use node_parts::{Served, Stop};
 use test_kit::{PlainNode, bank, program};
 
 /// The line that `judge` prints of what became of a packet, with the reply that was due.

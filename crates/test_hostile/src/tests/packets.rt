@@ -5,6 +5,7 @@ ghost use Rattle.std.specs.Prelude.{◌≡◌};
 use super::answers::{Slow, slow_answer, slow_reply};
 use crate::tests::checks::same;
 use hex::decode;
+use node_parts::{BankConfig, Served, Stop};
 use publish::{Opened, ProgramFamily};
 use spw::{End, Packet};
 use std::alloc::{AllocError, Global};
@@ -12,7 +13,6 @@ use std::marker::Brand;
 use std::process::Abort;
 use std::sync::Wait;
 use std::test::Fail;
-use node_parts::{BankConfig, Served, Stop};
 use test_kit::{BASE, PlainNode, Row, program};
 
 /// A packet, and how often which answer comes: to its beginnings with each marker, to the whole with each marker, and

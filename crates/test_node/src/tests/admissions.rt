@@ -4,11 +4,11 @@ use crate::tests::checks::same;
 use bver::{Accepted, MapSizes, verify};
 use cells::Cells;
 use hex::decode;
+use node_parts::{RunContext, admit, judge_by};
 use rmap::{ReplyBuf, Status, Windows};
 use std::alloc::Global;
 use std::process::Abort;
 use std::test::Fail;
-use node_parts::{RunContext, admit, judge_by};
 use test_kit::{BASE, PLAIN_READ, Row, SpareBank, image_of_text, packet, word};
 
 /// What a packet is, the packet, the place of its bytes or why it stops, and the reply that is due.

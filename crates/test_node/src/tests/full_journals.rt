@@ -4,6 +4,7 @@ ghost use Rattle.std.specs.Prelude.{◌≡◌};
 
 use crate::tests::checks::same;
 use bank::{Applied, Bank};
+use node_parts::Served;
 use publish::{Opened, ProgramFamily};
 use rmap::Status;
 use std::alloc::Global;
@@ -11,7 +12,6 @@ use std::marker::Brand;
 use std::process::Abort;
 use std::sync::Wait;
 use std::test::Fail;
-use node_parts::Served;
 use test_kit::{PLAIN_READ, PlainNode, bank, program};
 
 /// How many entries the bank's journal has, and how many of them are port 0's.

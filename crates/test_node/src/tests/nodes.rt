@@ -5,6 +5,7 @@ ghost use Rattle.std.specs.Prelude.{◌≡◌};
 use crate::tests::checks::same;
 use bank::{Applied, Bank};
 use bver::Accepted;
+use node_parts::{BankConfig, NodeFault, Served, Stop};
 use publish::{Opened, ProgramFamily};
 use rmap::{Discard, Status};
 use spw::Packet;
@@ -13,7 +14,6 @@ use std::marker::Brand;
 use std::process::Abort;
 use std::sync::Wait;
 use std::test::Fail;
-use node_parts::{BankConfig, NodeFault, Served, Stop};
 use test_kit::{PLAIN_READ, PLAIN_REPLY, PlainNode, bank, packet, program};
 
 /// What becomes of a packet at port 0 of a fresh node whose program always gives that verdict, and the reply.

@@ -5,6 +5,7 @@ ghost use Rattle.std.specs.Prelude.{◌≡◌};
 use crate::tests::checks::same;
 use bank::{Bank, Journal};
 use bver::{Accepted, MapSizes, verify};
+use node_parts::{BankConfig, NodeConfig, NodeFault};
 use publish::{Opened, ProgramFamily};
 use rmap::ReplyBuf;
 use single_node::{SingleNode, Told};
@@ -14,7 +15,6 @@ use std::marker::Brand;
 use std::process::Abort;
 use std::sync::Wait;
 use std::test::Fail;
-use node_parts::{BankConfig, NodeConfig, NodeFault};
 use test_kit::{
     BASE, LOAD, PLAIN_READ, PLAIN_WRITE, PlainNode, Row, STAGE, bank, image_of_text, packet,
     program,

@@ -4,6 +4,7 @@ ghost use Rattle.std.specs.Prelude.{◌≡◌};
 
 use crate::tests::checks::same;
 use bank::{Applied, Judged};
+use node_parts::{BankConfig, NodeConfig};
 use publish::{Opened, ProgramFamily};
 use rcrc::crc;
 use rmap::{Place, ReplyBuf, Status};
@@ -13,7 +14,6 @@ use std::marker::Brand;
 use std::process::Abort;
 use std::sync::Wait;
 use std::test::Fail;
-use node_parts::{BankConfig, NodeConfig};
 use target::{BankLock, Node, Pass, Step, finish, judge, load, stage};
 use test_kit::{
     BASE, LOAD, PLAIN_READ, PLAIN_WRITE, Random, STAGE, SpareBank, bank, packet, program,

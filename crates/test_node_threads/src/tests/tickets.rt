@@ -8,6 +8,7 @@ ghost use Rattle.test_node_threads.specs.Seats.{IsAt, maps_of};
 use crate::tests::checks::same;
 use bver::{Accepted, MapSizes, verify};
 use cells::{CellSeat, Cells};
+use node_parts::NodeConfig;
 use publish::{Opened, ProgramFamily};
 use rmap::{Place, ReplyBuf};
 use spw::read_line;
@@ -17,7 +18,6 @@ use std::process::Abort;
 use std::sync::Wait;
 use std::test::Fail;
 use std::thread::{Threads, map_vec};
-use node_parts::NodeConfig;
 use target::{Node, Pass, Step, finish, judge};
 use test_kit::{PLAIN_READ, SpareBank, bank, counts, image_of_text};
 

@@ -6,6 +6,7 @@ ghost use Rattle.initiator.specs.Writing.{AreFields};
 
 use crate::tests::checks::{check, same};
 use initiator::{CommandFields, Reply, body_with_crc, write_command};
+use node_parts::{Served, Stop};
 use publish::{Opened, ProgramFamily};
 use rmap::{Command, Instruction, Kind, Status, body_fault};
 use spw::{End, Packet};
@@ -14,7 +15,6 @@ use std::marker::Brand;
 use std::process::Abort;
 use std::sync::Wait;
 use std::test::Fail;
-use node_parts::{Served, Stop};
 use test_kit::{PlainNode, Random, bank, program};
 
 /// The codes of commands that are used.

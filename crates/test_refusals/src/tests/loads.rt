@@ -5,6 +5,7 @@ ghost use Rattle.std.specs.Prelude.{◌≡◌};
 use super::checks::{check, same};
 use super::marks::{begin, end, tell};
 use brun::Counters;
+use node_parts::Served;
 use publish::{Opened, ProgramFamily};
 use rmap::{ReplyBuf, Status};
 use std::alloc::Global;
@@ -12,7 +13,6 @@ use std::marker::Brand;
 use std::process::Abort;
 use std::sync::Wait;
 use std::test::Fail;
-use node_parts::Served;
 use test_kit::{
     LOAD, PLAIN_READ, PLAIN_WRITE, PlainNode, STAGE, SpareBank, bank, image_of_text, packet,
 };

@@ -4,13 +4,13 @@ use super::checks::{check, same};
 use super::marks::{begin, end, tell};
 use bank::{Bank, Journal};
 use bver::Accepted;
+use node_parts::{NodeConfig, NodeFault, Served};
 use rmap::{ReplyBuf, Status};
 use single_node::SingleNode;
 use spw::Packet;
 use std::alloc::Global;
 use std::process::Abort;
 use std::test::Fail;
-use node_parts::{NodeConfig, NodeFault, Served};
 use test_kit::{BASE, LOAD, PLAIN_READ, PLAIN_REPLY, PLAIN_WRITE, STAGE, bank, packet};
 use test_kit_ports::accepted;
 

@@ -5,15 +5,15 @@ use bank::{Bank, Entry, Share};
 use bpf_insn::Insn;
 use bver::{Accepted, Op, Region};
 use cells::CellSeat;
-use ports::Item;
+use node_parts::RunContext;
 use node_programs::{STAGING_BYTES, Staging};
+use ports::Item;
 use publish::Reader;
 use rmap::ReplyBuf;
 use spw::Packet;
 use std::marker::Brand;
 use std::mem::size_of;
 use std::test::Fail;
-use node_parts::RunContext;
 use target::Pass;
 
 /// The parts, each with its bytes.

@@ -4,12 +4,12 @@ use super::checks::{check, same};
 use super::marks::{begin, end, tell};
 use bpf::Image;
 use bver::MapSizes;
+use node_parts::{BankConfig, NodeConfig};
 use sched::{Event, Outcome, Reply, World, WorldFault, step};
 use spw::Packet;
 use std::alloc::{AllocError, Global};
 use std::process::Abort;
 use std::test::Fail;
-use node_parts::{BankConfig, NodeConfig};
 use test_kit::{BASE, LOAD, PLAIN_READ, PLAIN_WRITE, STAGE, bank, image_of_text, packet, sizes};
 
 /// Reads a cell, draws a ticket of it, raises a cell of the other map to that, and says yes.

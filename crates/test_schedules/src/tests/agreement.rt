@@ -3,12 +3,12 @@
 use crate::tests::checks::same;
 use crate::tests::commands::command;
 use bpf::Image;
+use node_parts::{BankConfig, NodeConfig};
 use rmap::Status;
 use sched::{Event, Outcome, World, step};
 use std::alloc::Global;
 use std::process::Abort;
 use std::test::Fail;
-use node_parts::{BankConfig, NodeConfig};
 use test_kit::{BASE, image_of_text, sizes};
 
 /// How many kinds of events there are, with the two ports: the kind of number k at port p has the number 2 k + p.

@@ -2,11 +2,11 @@
 
 use crate::tests::checks::same;
 use crate::tests::commands::command;
+use node_parts::NodeConfig;
 use sched::{Event, Outcome, Reply, World, run_schedule};
 use std::alloc::Global;
 use std::process::Abort;
 use std::test::Fail;
-use node_parts::NodeConfig;
 use test_kit::{Row, bank, image_of_text, sizes};
 
 /// A row has a name, the maps, how many ports there are, the room of the bank's journal, the factory

@@ -2,11 +2,11 @@
 
 use crate::tests::checks::same;
 use crate::tests::schedules::ran;
+use node_parts::{BankConfig, NodeConfig};
 use sched::{World, run_schedule};
 use std::alloc::Global;
 use std::process::Abort;
 use std::test::Fail;
-use node_parts::{BankConfig, NodeConfig};
 use test_kit::{BASE, Row, image_of_text, sizes, word};
 
 /// A row begins as those of schedules do, up to the events. It ends with what the world then has: the first bytes of its
