@@ -1,3 +1,4 @@
+pub mod LoadsTaken
 pub mod Made
 pub mod MadeRead
 pub mod RepliesRead

@@ -15,16 +15,20 @@ use Rattle.initiator.specs.Laws.{MadeBodiesAreRight}
 use Rattle.initiator.specs.Writing.{AreFields, Fit, HasFields, command_with, header_with}
 
 -- the length field is read as the length
-length_is : (f : CommandFields) (body : List ℕ) → AreFields f → length_of (command_with f body) ≡ f.length
+pub length_is : (f : CommandFields) (body : List ℕ) → AreFields f → length_of (command_with f body) ≡ f.length
 length_is f body h = big_number-reads_back 3 f.length (crc_of (header_with f) ∷ []) (omega (arith, h.short))
+
+-- what is made is a command
+pub is_made : (f : CommandFields) (body : List ℕ) → AreFields f → IsCommand (bytes_of (command_with f body)) (command_with f body)
+is_made f body h = record {
+  header = record { front = refl; reply_address = h.address; tail = refl; protocol = refl; no_reply = h.no_reply; crc = refl };
+  parts = refl;
+}
 
 -- what is made is a command with those fields
 pub made_is_read : (f : CommandFields) (body : List ℕ) → AreFields f → Fit f → IsCommand (bytes_of (command_with f body)) (command_with f body) × HasFields f body (command_with f body)
 made_is_read f body h fit = (
-  record {
-    header = record { front = refl; reply_address = h.address; tail = refl; protocol = refl; no_reply = h.no_reply; crc = refl };
-    parts = refl;
-  },
+  is_made f body h,
   record {
     target = refl;
     instruction = refl;

@@ -1,5 +1,6 @@
 //! Laws about commands that are made and replies that are read. Each function does nothing: its contract is the law.
 
+ghost use Rattle.initiator.specs.LoadPackets.{LoadPacketsAreTaken};
 ghost use Rattle.initiator.specs.Laws.{MadeBodiesAreRight, MadeCommandsAreRead, RepliesHavePaths, ReplyIsUnique, WrittenRepliesAreRead};
 
 /// A law and no work: bytes are at most one reply.
@@ -20,4 +21,11 @@ pub fn written_replies_are_read()
 pub fn made_commands_are_read()
     ensures read { MadeCommandsAreRead }
     ensures bodies { MadeBodiesAreRight }
+{}
+
+/// A law and no work: each packet of a load, made of its request with [`write_command`](crate::write_command), is taken
+/// by its node where it is meant. The parts are writes to the staging, the control data are a control write, and the read
+/// is that of the load result; each asks for a reply, and no check of header or body holds of it.
+pub fn load_packets_are_taken()
+    ensures { LoadPacketsAreTaken }
 {}

@@ -1,17 +1,28 @@
 //! What an initiator does with RMAP: it makes commands and reads replies (ECSS-E-ST-50-52C).
 //!
 //! [`write_command`] makes a command of its fields, and a [`Reply`] is a view of a reply's bytes, or [`NoReply`] tells why
-//! they are none. [`Seen`] is what a packet is that came by.
+//! they are none. A load is its [`Request`]s: [`stage_request`] for each part of the image, [`control_request`] and
+//! [`result_request`]. [`Seen`] is what a packet is that came by.
 #![tactic(auto)]
 
+mod codes;
 mod laws;
+mod loads;
 mod no_reply;
 mod reply_view;
+mod requests;
 mod seen;
 mod write;
 
-pub use laws::{made_commands_are_read, reply_is_unique, written_replies_are_read};
+pub use codes::{RMW_CODE, read_code, write_code};
+pub use laws::{
+    load_packets_are_taken, made_commands_are_read, reply_is_unique, written_replies_are_read,
+};
+pub use loads::{
+    LAST_SLOT, PART_SIZE, control_body, control_request, part_of, result_request, stage_request,
+};
 pub use no_reply::NoReply;
 pub use reply_view::Reply;
+pub use requests::Request;
 pub use seen::Seen;
-pub use write::{CommandFields, body_with_crc, write_command};
+pub use write::{CommandFields, DATA_OVERHEAD, body_with_crc, write_command};

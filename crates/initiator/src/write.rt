@@ -12,6 +12,10 @@ use rcrc::crc;
 use rmap::{Instruction, PROTOCOL};
 use std::alloc::{AllocError, Global};
 
+/// How many bytes a command that carries data has beside its reply address and its data: 16 of its header, and the
+/// data CRC (ECSS-E-ST-50-52C, write command format, read-modify-write command format).
+pub const DATA_OVERHEAD: usize = 17;
+
 /// The fields of a command's header, but for its CRC (ECSS-E-ST-50-52C, write command format, read command format,
 /// read-modify-write command format).
 #[derive(Clone, Copy, Debug)]

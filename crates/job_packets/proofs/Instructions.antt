@@ -3,12 +3,12 @@ use Rattle.std.proofs.Common.{◌≡◌, ◌+◌, ◌*◌, ◌++◌, ◌∷◌, 
 use Rattle.rmap.specs.Instruction.{packet_type, command_code, reply_address_length}
 use Rattle.std.specs.Prelude.{decimal}
 use Rattle.initiator.specs.Writing.{command_with}
+use Rattle.initiator.specs.declared.requests.Request.{Request}
 use Rattle.initiator.specs.declared.write.CommandFields.{CommandFields}
 use Rattle.hex.specs.Hex.{encode_upper}
 use Rattle.rmap.specs.Command.{bytes_of}
 use Rattle.job_packets.specs.Requests.{fields_with, instruction_with, line_of, marked_line}
 use Rattle.job_packets.specs.declared.packet_options.HeaderWords.{HeaderWords}
-use Rattle.job_packets.specs.declared.requests.Request.{Request}
 
 -- an instruction is its packet type, its code and its words
 pub instruction_is : (i code words : ℕ) → packet_type i ≡ 1 → command_code i ≡ code → reply_address_length i ≡ 4 * words

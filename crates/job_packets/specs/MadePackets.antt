@@ -24,6 +24,9 @@ use Rattle.std.specs.Io.KnownBytes.{Appends}
 use Rattle.spw.specs.declared.packets.TheConstants.{MAX_PACKET}
 use Rattle.rmap.specs.Reply.{with_crc}
 use Rattle.rmap.specs.declared.boot.TheConstants.{STAGING_SIZE}
+use Rattle.initiator.specs.declared.codes.TheConstants.{RMW_CODE}
+use Rattle.initiator.specs.declared.requests.Request.{Request}
+use Rattle.initiator.specs.declared.write.TheConstants.{DATA_OVERHEAD}
 use Rattle.job_parts.specs.Files.{Reads}
 use Rattle.job_parts.specs.Reading.{IsUnread}
 use Rattle.job_parts.specs.declared.faults.Fault.{Fault}
@@ -37,15 +40,10 @@ use Rattle.job_packets.specs.declared.orders.Order.TheVariants.{Read, Write, Rmw
 use Rattle.job_packets.specs.declared.orders.Source.TheVariants.{Bytes, File}
 use Rattle.job_packets.specs.declared.packet.PacketWords.{PacketWords}
 use Rattle.job_packets.specs.declared.packet_options.HeaderWords.{HeaderWords}
-use Rattle.job_packets.specs.declared.requests.Request.{Request}
 
--- a packet with so many bytes of data is not too long: 16 bytes of a header, the reply address, the data and their CRC
+-- a packet with so many bytes of data is not too long: the header with its reply address, the data and their CRC
 abbrev pub is_short : HeaderWords → (count : ℕ) → Bool
-is_short h count = nat_le (17 + length h.reply_address.items + count) MAX_PACKET
-
--- the command code of a read-modify-write (ECSS-E-ST-50-52C, instruction field)
-abbrev pub rmw_code : ℕ
-rmw_code = 7
+is_short h count = nat_le (DATA_OVERHEAD + length h.reply_address.items + count) MAX_PACKET
 
 -- the one command of a packet, with the transaction identifier and the extended address of its words
 abbrev pub own_request : HeaderWords → (code address count : ℕ) → Request
@@ -71,7 +69,7 @@ with_text front h (Read code address count) content = front ++ line_of h (own_re
 with_text front h (Write code address source) content =
     front ++ line_of h (own_request h code address (length content)) (with_crc content)
 with_text front h (Rmw address bytes) content =
-    front ++ line_of h (own_request h rmw_code address (length content)) (with_crc content)
+    front ++ line_of h (own_request h RMW_CODE address (length content)) (with_crc content)
 with_text front h (Load image slot) content = with_load front h slot content
 
 -- the lines, where there are such packets

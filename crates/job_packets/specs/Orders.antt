@@ -2,11 +2,8 @@
 use Rattle.std.specs.Prelude.{
   ◌≡◌,
   ◌≤◌,
-  ◌+◌,
-  ◌*◌,
   ◌&&◌,
   not,
-  cond,
   is_some,
   ℕ,
   Bool,
@@ -22,6 +19,7 @@ use Rattle.std.specs.Prelude.{
   string_bytes,
 }
 use Rattle.clap.specs.Walk.{Row, Text, first_of}
+use Rattle.initiator.specs.CommandCodes.{read_code as code_of_read, write_code as code_of_write}
 use Rattle.job_parts.specs.Options.{IsNumberWithin, WritesSuch}
 use Rattle.job_packets.specs.HexWords.{WritesBytes, WritesHex}
 use Rattle.job_parts.specs.Arguments.{is_set}
@@ -39,25 +37,15 @@ Gives writes (Some word) v = writes word v
 abbrev pub is_given : Text → List Row → Bool
 is_given name rows = is_some (first_of name rows)
 
--- the bit of an instruction
-abbrev pub bit_of : Bool → ℕ
-bit_of set = cond set 1 0
-
--- the reply bit: `--no-reply` clears it
-abbrev pub reply_bit : List Row → ℕ
-reply_bit rows = bit_of (not (is_set (codes "no-reply") rows))
-
--- the increment bit: `--no-increment` clears it
-abbrev pub increment_bit : List Row → ℕ
-increment_bit rows = bit_of (not (is_set (codes "no-increment") rows))
-
--- the command code of a read: 001x (ECSS-E-ST-50-52C, instruction field)
+-- the command code of a read: `--no-increment` clears the increment bit
 abbrev pub read_code : List Row → ℕ
-read_code rows = 2 + increment_bit rows
+read_code rows = code_of_read (not (is_set (codes "no-increment") rows))
 
--- the command code of a write: 1xxx, with verify, reply and increment (ECSS-E-ST-50-52C, instruction field)
+-- the command code of a write: `--verify` sets the verify bit, `--no-reply` and `--no-increment` clear theirs
 abbrev pub write_code : List Row → ℕ
-write_code rows = 8 + 4 * bit_of (is_set (codes "verify") rows) + 2 * reply_bit rows + increment_bit rows
+write_code rows =
+    code_of_write (is_set (codes "verify") rows) (not (is_set (codes "no-reply") rows))
+    (not (is_set (codes "no-increment") rows))
 
 -- no flag is there that changes a reply or verifies
 abbrev pub is_plain : List Row → Bool

@@ -4,9 +4,9 @@ use Rattle.spw.specs.Written.{packet_line}
 use Rattle.spw.specs.declared.packets.End.TheVariants.{Eop}
 use Rattle.rmap.specs.Command.{bytes_of}
 use Rattle.initiator.specs.Writing.{command_with}
+use Rattle.initiator.specs.declared.requests.Request.{Request}
 use Rattle.initiator.specs.declared.write.CommandFields.{CommandFields}
 use Rattle.job_packets.specs.declared.packet_options.HeaderWords.{HeaderWords}
-use Rattle.job_packets.specs.declared.requests.Request.{Request}
 
 -- the instruction of a command: packet type 01, the command code, and as many words of four bytes as the reply address
 -- has (ECSS-E-ST-50-52C, instruction field)

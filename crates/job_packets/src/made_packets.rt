@@ -10,8 +10,8 @@ use crate::loads::add_load;
 use crate::orders::{Order, Source};
 use crate::packet::PacketWords;
 use crate::packet_options::HeaderWords;
-use crate::requests::{Request, add_line};
-use initiator::body_with_crc;
+use crate::requests::add_line;
+use initiator::{DATA_OVERHEAD, RMW_CODE, Request, body_with_crc};
 use job_parts::faults::Fault;
 use job_parts::printing::print_text;
 use job_parts::programs::bytes_in;
@@ -22,9 +22,6 @@ use rmap::STAGING_SIZE;
 use spw::MAX_PACKET;
 use std::alloc::{AllocError, Global};
 use std::io::Write;
-
-/// The command code of a read-modify-write.
-const RMW_CODE: u8 = 0b0111;
 
 /// The data or the image of an order: those of its file, or those that stand in the words.
 fn content_of<'a, F: Files>(
@@ -77,7 +74,7 @@ fn is_short(header: &HeaderWords, count: usize) -> bool
     requires { has_reply_address header.now ≡ true }
     ensures { result ≡ is_short header.now count }
 {
-    let room = MAX_PACKET - 17 - header.reply_address.as_slice().len();
+    let room = MAX_PACKET - DATA_OVERHEAD - header.reply_address.as_slice().len();
     count <= room
 }
 

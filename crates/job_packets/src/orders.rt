@@ -5,19 +5,17 @@ ghost use Rattle.clap.specs.Walk.{first_of, rows_of};
 ghost use Rattle.clap.specs.Matches.{found_of};
 ghost use Rattle.job_parts.specs.Options.{IsBadValue, IsNumberWithin, IsValueFault, WritesSuch};
 ghost use Rattle.job_packets.specs.HexWords.{Has};
-ghost use Rattle.job_packets.specs.Orders.{AreMasked, Gives, GivesMasked, GivesPlace, HasLoad, HasRead, HasRmw, HasWrite, NamesOrder, OrdersLoad, OrdersRead, OrdersRmw, OrdersWrite, WritesSource, bit_of, increment_bit, is_given, is_load_alone, is_plain, is_read_alone, is_rmw_alone, is_write_alone, read_code, reply_bit, write_code};
+ghost use Rattle.job_packets.specs.Orders.{AreMasked, Gives, GivesMasked, GivesPlace, HasLoad, HasRead, HasRmw, HasWrite, NamesOrder, OrdersLoad, OrdersRead, OrdersRmw, OrdersWrite, WritesSource, is_given, is_load_alone, is_plain, is_read_alone, is_rmw_alone, is_write_alone, read_code, write_code};
 
 use crate::hex_words::{bytes_written, hex_written};
 use clap::ArgMatches;
+use initiator::LAST_SLOT;
 use job_parts::arguments::{is_set, text_of};
 use job_parts::usage::UsageFault;
 use std::alloc::Global;
 
 /// The greatest data length of a header (ECSS-E-ST-50-52C, data length field).
 const MAX_LENGTH: u32 = 0xFF_FFFF;
-
-/// The greatest slot of a program.
-const LAST_SLOT: u32 = 3;
 
 /// The most bytes of data of a read-modify-write (ECSS-E-ST-50-52C, read-modify-write command format).
 const MAX_MASKED: usize = 4;
@@ -75,42 +73,21 @@ fn is_given(found: &ArgMatches, name: &str) -> bool
     text_of(found, name).is_some()
 }
 
-/// A bit of an instruction.
-fn bit_of(set: bool) -> u8
-    ensures { result ≡ bit_of set }
-{
-    if set { 1 } else { 0 }
-}
-
-/// The increment bit.
-fn increment_bit(found: &ArgMatches) -> u8
-    ensures { result ≡ increment_bit (rows_of (found_of found.now)) }
-{
-    bit_of(!is_set(found, "no-increment"))
-}
-
-/// The reply bit.
-fn reply_bit(found: &ArgMatches) -> u8
-    ensures { result ≡ reply_bit (rows_of (found_of found.now)) }
-{
-    bit_of(!is_set(found, "no-reply"))
-}
-
 /// The command code of a read.
 fn read_code(found: &ArgMatches) -> u8
     ensures { result ≡ read_code (rows_of (found_of found.now)) }
 {
-    2 + increment_bit(found)
+    initiator::read_code(!is_set(found, "no-increment"))
 }
 
 /// The command code of a write.
 fn write_code(found: &ArgMatches) -> u8
     ensures { result ≡ write_code (rows_of (found_of found.now)) }
 {
-    let verify = bit_of(is_set(found, "verify"));
-    let reply = reply_bit(found);
-    let increment = increment_bit(found);
-    8 + 4 * verify + 2 * reply + increment
+    let verify = is_set(found, "verify");
+    let reply = !is_set(found, "no-reply");
+    let increment = !is_set(found, "no-increment");
+    initiator::write_code(verify, reply, increment)
 }
 
 /// Whether no flag is there that changes a reply or verifies.
@@ -289,7 +266,7 @@ fn load_named<'a>(found: &ArgMatches<'a>) -> Option<(&'a str, u8)>
         return None;
     }
     let image = text_of(found, "address")?;
-    let slot = number_written(text_of(found, "slot")?, LAST_SLOT)?;
+    let slot = number_written(text_of(found, "slot")?, u32::from(LAST_SLOT))?;
     Some((image, slot as u8))
 }
 

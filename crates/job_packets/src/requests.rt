@@ -5,24 +5,9 @@ ghost use Rattle.initiator.specs.Writing.{AreFields, command_with};
 ghost use Rattle.job_packets.specs.Requests.{fields_with, has_reply_address, line_of, marked_line};
 
 use crate::packet_options::HeaderWords;
-use initiator::{CommandFields, write_command};
+use initiator::{CommandFields, Request, write_command};
 use rmap::Instruction;
 use std::alloc::{AllocError, Global};
-
-/// A command: its code, and the fields that differ from packet to packet.
-#[derive(Clone, Copy, Debug)]
-pub struct Request {
-    /// The command code, bits 5 to 2 of the instruction.
-    pub code: u8,
-    /// The transaction identifier.
-    pub transaction: u16,
-    /// The extended address.
-    pub extended: u8,
-    /// The address.
-    pub address: u32,
-    /// The data length, in bytes.
-    pub count: u32,
-}
 
 /// The fields of the command that is requested.
 fn fields_with<'a>(header: &'a HeaderWords, request: Request) -> CommandFields<'a>

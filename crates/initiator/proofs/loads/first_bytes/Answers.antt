@@ -1,6 +1,6 @@
 use Rattle.std.proofs.Common.{◌≤◌, length, rules, sym}
 use Rattle.std.proofs.lemmas.List.{take_all}
-use Rattle.job_packets.proofs.loads.first_bytes.Goals as goal
+use Rattle.initiator.proofs.loads.first_bytes.Goals as goal
 
 pub returns-else-bytes-most-clause-bytes : goal.returns-else-bytes-most-clause-bytes
 returns-else-bytes-most-clause-bytes c =

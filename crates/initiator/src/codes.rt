@@ -1,0 +1,28 @@
+//! The command codes of commands that are made (ECSS-E-ST-50-52C, instruction field).
+
+ghost use Rattle.std.specs.Prelude.{◌≡◌, ◌<◌};
+ghost use Rattle.initiator.specs.CommandCodes.{bit_of, read_code, write_code};
+
+/// The command code of a read-modify-write.
+pub const RMW_CODE: u8 = 0b0111;
+
+/// A bit of an instruction.
+fn bit_of(set: bool) -> u8
+    ensures { result ≡ bit_of set }
+{
+    if set { 1 } else { 0 }
+}
+
+/// The command code of a read: 001, and the increment bit.
+pub fn read_code(increment: bool) -> u8
+    ensures { result ≡ read_code increment }
+{
+    2 + bit_of(increment)
+}
+
+/// The command code of a write: 1, and the bits for verified data, a reply and increment.
+pub fn write_code(verify: bool, reply: bool, increment: bool) -> u8
+    ensures { result ≡ write_code verify reply increment }
+{
+    8 + 4 * bit_of(verify) + 2 * bit_of(reply) + bit_of(increment)
+}
