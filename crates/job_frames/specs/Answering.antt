@@ -1,0 +1,87 @@
+-- A node behind a link: what it makes of what comes with a frame.
+use Rattle.std.specs.Prelude.{◌≡◌, ℕ, ◌+◌, ◌-◌, ◌^◌, min, Bool, true, false, List, [], ◌∷◌, ◌++◌, Some, slice_get, ⊤}
+use Rattle.bank.specs.Records.{JournalValue}
+use Rattle.spw.specs.Cargo.{Cargo}
+use Rattle.node_parts.specs.declared.served.Served.{Served}
+use Rattle.frames.specs.Streams.{reply_frame_of}
+use Rattle.frames.specs.declared.came.Came.{Came}
+use Rattle.frames.specs.declared.came.Came.TheVariants.{Whole, Piece, Time, Other}
+use Rattle.job_nodes.specs.JobNode.{HandsOut, JobNodeValue, Serves, is_full}
+use Rattle.job_live.specs.Answering.{MakesRoom}
+use Rattle.job_live.specs.Telling.{journal_text}
+use Rattle.job_frames.specs.Told.{fault_line, served_text}
+use Rattle.job_frames.specs.declared.faults.FrameFault.TheVariants.{ForBridge, CutOff}
+
+-- a node, how many frames came, and whether a packet goes on with the next
+pub record AnsweringValue : Type 0 where
+  pub node : JobNodeValue
+  pub count : ℕ
+  pub is_open : Bool
+
+-- a node before a frame came
+abbrev pub first_answering : JobNodeValue → AnsweringValue
+first_answering node = record { node = node; count = 0; is_open = false }
+
+-- the number of the next frame; they are counted up to 2⁶⁴ - 1
+abbrev pub next_number : AnsweringValue → ℕ
+next_number behind = min (behind.count + 1) (2 ^ 64 - 1)
+
+-- the same node behind a frame more, and whether a packet goes on then
+abbrev pub one_more : AnsweringValue → (is_open : Bool) → AnsweringValue
+one_more behind is_open = record { node = behind.node; count = next_number behind; is_open = is_open }
+
+-- the bytes that are sent of a reply: a frame of its own, or none where no reply is due
+abbrev pub due_of : List ℕ → List ℕ
+due_of [] = []
+due_of (byte ∷ reply) = reply_frame_of (byte ∷ reply)
+
+-- a packet, which ended with the frame of that number, met a journal with room for its command, and was served; its reply is
+-- due, and behind it is told the journal that was full, if one was, and that the packet was discarded, if it was
+pub record AnswersPacket (packet : Cargo) (frame : ℕ) (before after : JobNodeValue) (reply text : List ℕ) : Type 0 where
+  pub ready : JobNodeValue
+  pub journal : List ℕ
+  pub served : Served
+  pub room : MakesRoom (is_full (slice_get before.banks 0)) before ready (Some []) (Some journal)
+  pub serves : Serves served 0 packet ready after
+  pub replied : reply ≡ due_of after.reply
+  pub told : text ≡ journal ++ served_text frame served
+
+-- nothing is due
+abbrev pub AreNone : (reply text : List ℕ) → Type 0
+AreNone reply text = (reply ≡ []) × (text ≡ [])
+
+-- what is due for the frame of that number, which is for a bridge: that this is its fault
+abbrev pub IsFaultDue : (frame : ℕ) → (reply text : List ℕ) → Type 0
+IsFaultDue frame reply text = (reply ≡ []) × (text ≡ fault_line frame ForBridge)
+
+-- what is due for what came with a frame: for a packet what it comes to, for a frame that is for a bridge its fault, and for a
+-- time code or bytes of a packet that goes on nothing
+abbrev pub Answers : AnsweringValue → Came → (reply text : List ℕ) → AnsweringValue → Type 0
+Answers before (Whole packet) reply text after =
+    AnswersPacket packet (next_number before) before.node after.node reply text
+    × (after.count ≡ next_number before) × (after.is_open ≡ false)
+Answers before Piece reply text after = AreNone reply text × (after ≡ one_more before true)
+Answers before Time reply text after = AreNone reply text × (after ≡ one_more before before.is_open)
+Answers before (Other code) reply text after =
+    IsFaultDue (next_number before) reply text × (after ≡ one_more before before.is_open)
+
+-- memory was refused: a packet and a frame for a bridge alone ask for some. What the node did then no one sees, since it ends
+-- with its link
+abbrev pub Refuses : AnsweringValue → Came → AnsweringValue → Type 0
+Refuses before (Whole packet) after = ⊤
+Refuses before Piece after = ⊥
+Refuses before Time after = ⊥
+Refuses before (Other code) after = ⊤
+
+-- what is told first where no more bytes come: that the input ended within the next frame, or before it where a packet goes
+-- on, if it did
+abbrev pub cut_text : (is_whole : Bool) → (frame : ℕ) → List ℕ
+cut_text true frame = []
+cut_text false frame = fault_line frame CutOff
+
+-- the text that is due where no more bytes come: behind that the entries of the journal, which was handed out
+pub record EndsWith (is_whole : Bool) (behind : AnsweringValue) (text : List ℕ) : Type 0 where
+  pub after : JobNodeValue
+  pub journal : JournalValue
+  pub handed_out : HandsOut behind.node after journal
+  pub told : text ≡ cut_text is_whole (next_number behind) ++ journal_text journal.entries

@@ -1,0 +1,135 @@
+-- The job that answers frames: what it reads, sends and tells.
+use Rattle.std.specs.Prelude.{◌≡◌, ◌⊎◌, ◌&&◌, ℕ, Bool, true, false, not, List, codes}
+use Rattle.std.specs.Borrow.{Bor}
+use Rattle.job_parts.specs.Files.{Reads}
+use Rattle.job_parts.specs.Printed.{fault_line}
+use Rattle.job_parts.specs.declared.faults.Fault.{Fault}
+use Rattle.job_parts.specs.declared.faults.Fault.TheVariants.{CannotRead, NoMemory}
+use Rattle.job_parts.specs.declared.options.NodeWords.{NodeWords}
+use Rattle.job_parts.specs.declared.status.Status.{Status}
+use Rattle.job_parts.specs.declared.status.Status.TheVariants.{Done, Failed, Misused}
+use Rattle.job_parts.specs.declared.stops.Halt.{Halt}
+use Rattle.job_parts.specs.declared.stops.Halt.TheVariants.{Ended, Unwritten}
+use Rattle.job_parts.specs.declared.stops.WriteFault.{WriteFault}
+use Rattle.job_nodes.specs.JobNode.{JobNodeValue}
+use Rattle.job_live.specs.LiveJob.{IsLiveNode, IsNoLiveNode}
+use Rattle.frames.specs.Reading.{Reading, first_reading, is_between}
+use Rattle.linking.specs.Linking.{Fails, IsCutOff, IsWholeLink, Moves}
+use Rattle.linking.specs.declared.link.Broken.{Broken}
+use Rattle.linking.specs.declared.link.Broken.TheVariants.{Unread, Unsent, Untold, NoMemory as NoRoom}
+use Rattle.job_frames.specs.Answering.{Answers, AnsweringValue, EndsWith, Refuses, first_answering}
+
+-- the words of a node, which has one port: the link
+abbrev pub with_link : NodeWords → NodeWords
+with_link words = record { image = words.image; sizes = words.sizes; ports = 1 }
+
+-- whether bytes ended between two frames, and no packet goes on
+abbrev pub ends_whole : Reading → AnsweringValue → Bool
+ends_whole read behind = is_between read && not behind.is_open
+
+-- why the job stops where a link was cut off so
+abbrev pub IsHalt : Broken → Halt → Type 0
+IsHalt Unread halt = (file : Bor (List ℕ)) × (halt ≡ Ended (CannotRead file)) × (file.now ≡ codes "-")
+IsHalt NoRoom halt = halt ≡ Ended NoMemory
+IsHalt Unsent halt = halt ≡ Unwritten (record {})
+IsHalt Untold halt = halt ≡ Unwritten (record {})
+
+-- what is due where no more bytes come was told
+pub record TellsEnd {L : Type 0} (told : Moves L) (is_whole : Bool) (behind : AnsweringValue) (last to : L) : Type 0 where
+  pub text : List ℕ
+  pub ends : EndsWith is_whole behind text
+  pub said : told last text to
+
+-- what is due where no more bytes come was not told: memory was refused to it, or the text could not be told
+abbrev pub IsEndUntold : {L : Type 0} (untold : Moves L) (is_whole : Bool) (behind : AnsweringValue) (last to : L) → Halt → Type 0
+IsEndUntold untold is_whole behind last to (Ended fault) = (fault ≡ NoMemory) × (to ≡ last)
+IsEndUntold untold is_whole behind last to (Unwritten refused) = TellsEnd untold is_whole behind last to
+
+-- a link was held to its end: what is due for its frames was sent and told, frame for frame, and then what is due there; and
+-- whether it ended between two packets
+pub record HoldsLink {L : Type 0} (came sent told : Moves L) (start read : Reading) (before : AnsweringValue) (from to : L) (is_whole : Bool) :
+    Type 0 where
+  pub behind : AnsweringValue
+  pub last : L
+  pub link : IsWholeLink Answers came sent told start read before behind from last
+  pub whole : is_whole ≡ ends_whole read behind
+  pub end : TellsEnd told is_whole behind last to
+
+module _ {L : Type 0} (came sent told : Moves L) (unread : Fails L) (unsent untold : Moves L) where
+  -- bytes came to their end, and what is due there was not told
+  pub record StopsAtEnd (start read : Reading) (before : AnsweringValue) (from to : L) (halt : Halt) : Type 0 where
+    pub behind : AnsweringValue
+    pub last : L
+    pub link : IsWholeLink Answers came sent told start read before behind from last
+    pub end_untold : IsEndUntold untold (ends_whole read behind) behind last to halt
+
+  -- a link was cut off before its end
+  pub record StopsBefore (start read : Reading) (before : AnsweringValue) (from to : L) (halt : Halt) : Type 0 where
+    pub why : Broken
+    pub behind : AnsweringValue
+    pub cut : IsCutOff Answers Refuses came sent told unread unsent untold why start read before behind from to
+    pub is_halt : IsHalt why halt
+
+  -- a link was cut off, or only what is due at its end was not told
+  abbrev pub StopsLink : (start read : Reading) (before : AnsweringValue) (from to : L) → Halt → Type 0
+  StopsLink start read before from to halt =
+      StopsBefore start read before from to halt ⊎ StopsAtEnd start read before from to halt
+
+-- nothing was read, and no frame came to the node, which is a fresh one of these words with one port, whose commands the program
+-- judges that its files give
+pub record AreReady {S : Type 0} (reads : Reads S) (words : NodeWords) (before : S) (read : Reading) (behind : AnsweringValue) (after : S) :
+    Type 0 where
+  pub fresh : JobNodeValue
+  pub node : IsLiveNode reads (with_link words) before fresh after
+  pub untouched : behind ≡ first_answering fresh
+  pub unread : read ≡ first_reading
+
+module _ {S L : Type 0} (reads : Reads S) (came sent told : Moves L) (unread : Fails L) (unsent untold : Moves L)
+    (words : NodeWords) where
+  -- a link was held to its end on the node of the words
+  pub record HoldsFrames (before after : S) (start stop : L) (is_whole : Bool) : Type 0 where
+    pub fresh : JobNodeValue
+    pub read : Reading
+    pub node : IsLiveNode reads (with_link words) before fresh after
+    pub link : HoldsLink came sent told first_reading read (first_answering fresh) start stop is_whole
+
+  -- a link on the node of the words was cut off
+  pub record BreaksFrames (before after : S) (start stop : L) (halt : Halt) : Type 0 where
+    pub fresh : JobNodeValue
+    pub read : Reading
+    pub node : IsLiveNode reads (with_link words) before fresh after
+    pub broken : StopsLink came sent told unread unsent untold first_reading read (first_answering fresh) start stop halt
+
+  -- why no link was held to its end: there is no such node, and nothing came, was sent or was told; or a link was cut off
+  abbrev pub IsUnheld : (before after : S) (start stop : L) → Halt → Type 0
+  IsUnheld before after start stop (Ended fault) =
+      (IsNoLiveNode reads (with_link words) before after fault × (stop ≡ start))
+      ⊎ BreaksFrames before after start stop (Ended fault)
+  IsUnheld before after start stop (Unwritten refused) = BreaksFrames before after start stop (Unwritten refused)
+
+  -- a fault cut the link off, and its line was told last
+  pub record TellsFault (before after : S) (start stop : L) : Type 0 where
+    pub fault : Fault
+    pub broken : L
+    pub unheld : IsUnheld before after start broken (Ended fault)
+    pub said : told broken (fault_line fault) stop
+
+  -- a fault cut the link off, and its line could not be told, or memory was refused to it
+  pub record LosesFault (before after : S) (start stop : L) : Type 0 where
+    pub fault : Fault
+    pub broken : L
+    pub unheld : IsUnheld before after start broken (Ended fault)
+    pub lost : untold broken (fault_line fault) stop ⊎ (stop ≡ broken)
+
+  -- the exit status is 0 where a link was held to its end between two packets, and 1 where it ended within a frame or a
+  -- packet, or a fault cut it off
+  abbrev pub LivesFrames : (before after : S) (start stop : L) → Status → Type 0
+  LivesFrames before after start stop Done = HoldsFrames before after start stop true
+  LivesFrames before after start stop Failed =
+      HoldsFrames before after start stop false ⊎ TellsFault before after start stop
+  LivesFrames before after start stop Misused = ⊥
+
+  -- the last bytes could not be sent, or the last text not be told: of a frame, of the end, or of a fault
+  abbrev pub IsFramesUnsent : (before after : S) (start stop : L) → WriteFault → Type 0
+  IsFramesUnsent before after start stop refused =
+      IsUnheld before after start stop (Unwritten refused) ⊎ LosesFault before after start stop

@@ -1,0 +1,163 @@
+//! The job `live --frames`.
+
+ghost use Rattle.std.specs.Prelude.{◌≡◌, ◌⊎◌, IfErr, IfOk, OnOk, if◌then◌else◌};
+ghost use Rattle.job_parts.specs.Printed.{fault_line};
+ghost use Rattle.job_parts.specs.declared.status.Status.TheVariants.{Done, Failed};
+ghost use Rattle.job_live.specs.LiveJob.{IsNoLiveNode};
+ghost use Rattle.job_frames.specs.FramesJob.{AreReady, HoldsFrames, HoldsLink, IsEndUntold, IsFramesUnsent, IsHalt, IsUnheld, LivesFrames, StopsLink, TellsEnd, with_link};
+
+use crate::answering::Answering;
+use frames::FrameReader;
+use job_nodes::node::JobNode;
+use job_parts::factory::judging_program;
+use job_parts::faults::Fault;
+use job_parts::options::NodeWords;
+use job_parts::status::Status;
+use job_parts::stops::{Halt, WriteFault};
+use job_parts::storage::Files;
+use linking::{Broken, Link, hold};
+use std::alloc::Global;
+use std::io::Write;
+
+/// How many ports the node has: a link is one of them.
+const PORTS: u8 = 1;
+
+/// The name of standard input, where the bytes cannot be read.
+const STANDARD_INPUT: &str = "-";
+
+/// A reader, and a fresh node of these words with one port, whose commands the program of its image file, or the factory
+/// program, judges.
+#[tactic(auto, using(crate::proofs::Ports::fresh_ports))]
+fn ends_of_link<'a, F: Files>(
+    alloc: Global,
+    words: &'a NodeWords,
+    files: &mut F,
+) -> Result<(FrameReader, Answering), Fault<'a>>
+    ensures ready { IfOk result
+        (λ ends. AreReady F.reads words.now files.old ends.0 ends.1 files.new) }
+    ensures refused { IfErr result
+        (IsNoLiveNode F.reads (with_link words.now) files.old files.new) }
+{
+    let image = words.image.as_deref();
+    let program = judging_program(alloc, files, image, words.sizes)?;
+    let node = JobNode::new(alloc, PORTS, program)?;
+    match FrameReader::new(alloc) {
+        Ok(reader) => Ok((reader, Answering::new(alloc, node))),
+        Err(_) => Err(Fault::NoMemory),
+    }
+}
+
+/// Why the job stops, where a link was cut off so.
+fn halt_of<'a>(why: Broken) -> Halt<'a>
+    ensures { IsHalt why result }
+{
+    match why {
+        Broken::Unread => Halt::Ended(Fault::CannotRead(STANDARD_INPUT)),
+        Broken::NoMemory => Halt::Ended(Fault::NoMemory),
+        Broken::Unsent | Broken::Untold => Halt::Unwritten(WriteFault),
+    }
+}
+
+/// Tells what is due where no more bytes come.
+fn tell_end<'a, L: Link>(
+    answering: &mut Answering,
+    is_whole: bool,
+    link: &mut L,
+) -> Result<(), Halt<'a>>
+    ensures told { OnOk result (TellsEnd L.told is_whole answering.old link.old link.new) }
+    ensures stops { IfErr result
+        (IsEndUntold L.untold is_whole answering.old link.old link.new) }
+{
+    let Ok(text) = answering.end(is_whole) else {
+        return Err(Halt::Ended(Fault::NoMemory));
+    };
+    match link.tell(text.as_slice()) {
+        Ok(()) => Ok(()),
+        Err(_) => Err(Halt::Unwritten(WriteFault)),
+    }
+}
+
+/// Holds a link to its end, and tells what is due there: whether it ended between two packets.
+fn hold_to_end<'a, L: Link>(
+    reader: &mut FrameReader,
+    answering: &mut Answering,
+    link: &mut L,
+) -> Result<bool, Halt<'a>>
+    ensures held { IfOk result (HoldsLink L.came L.sent L.told reader.old reader.new answering.old
+        link.old link.new) }
+    ensures stops { IfErr result (StopsLink L.came L.sent L.told L.unread L.unsent L.untold
+        reader.old reader.new answering.old link.old link.new) }
+{
+    if let Err(why) = hold(reader, answering, link) {
+        return Err(halt_of(why));
+    }
+    let is_whole = reader.is_between() && !answering.is_open();
+    tell_end(answering, is_whole, link)?;
+    Ok(is_whole)
+}
+
+/// Holds a link on the node of these words to its end: whether it ended between two packets.
+fn hold_on<'a, F: Files, L: Link>(
+    alloc: Global,
+    words: &'a NodeWords,
+    files: &mut F,
+    link: &mut L,
+) -> Result<bool, Halt<'a>>
+    ensures held { IfOk result (HoldsFrames F.reads L.came L.sent L.told L.unread L.unsent L.untold
+        words.now files.old files.new link.old link.new) }
+    ensures stops { IfErr result (IsUnheld F.reads L.came L.sent L.told L.unread L.unsent L.untold
+        words.now files.old files.new link.old link.new) }
+{
+    let (mut reader, mut answering) = ends_of_link(alloc, words, files)?;
+    hold_to_end(&mut reader, &mut answering, link)
+}
+
+/// Tells the fault that cut a link off.
+fn tell<L: Link>(alloc: Global, fault: &Fault<'_>, link: &mut L) -> Result<(), WriteFault>
+    ensures told { OnOk result (L.told link.old (fault_line fault.now) link.new) }
+    ensures lost { IfErr result (λ _.
+        L.untold link.old (fault_line fault.now) link.new ⊎ (link.new ≡ link.old)) }
+{
+    let mut text = Vec::new(alloc);
+    writeln!(text, "{fault}")?;
+    link.tell(text.as_slice()).map_err(|_| WriteFault)
+}
+
+/// The exit status of a link that was held to its end.
+fn status_of(is_whole: bool) -> Status
+    ensures { result ≡ (if is_whole then Done else Failed) }
+{
+    if is_whole {
+        Status::Done
+    } else {
+        Status::Failed
+    }
+}
+
+/// Answers the frames of a link as they come, on the node of these words with one port, and gives the exit status:
+/// `Failed` where the input ended within a frame or a packet, or a fault cut the link off, else `Done`. The reply to a
+/// packet is sent before other bytes are asked for, and what is told of it after that.
+///
+/// What cuts it off is told last: what [`judging_program`] refuses, `CannotRead` where bytes cannot be read, `NoMemory`.
+///
+/// `WriteFault` where a reply could not be sent, or a text be told; nothing is sent or told after that.
+pub fn live_frames<F: Files, L: Link>(
+    alloc: Global,
+    words: &NodeWords,
+    files: &mut F,
+    link: &mut L,
+) -> Result<Status, WriteFault>
+    ensures lives { IfOk result (LivesFrames F.reads L.came L.sent L.told L.unread L.unsent L.untold
+        words.now files.old files.new link.old link.new) }
+    ensures unsent { IfErr result (IsFramesUnsent F.reads L.came L.sent L.told L.unread L.unsent
+        L.untold words.now files.old files.new link.old link.new) }
+{
+    match hold_on(alloc, words, files, link) {
+        Ok(is_whole) => Ok(status_of(is_whole)),
+        Err(halt) => {
+            let fault = halt.fault()?;
+            tell(alloc, &fault, link)?;
+            Ok(Status::Failed)
+        }
+    }
+}
