@@ -84,8 +84,7 @@ pub record AreReady {S : Type 0} (reads : Reads S) (words : NodeWords) (before :
   pub untouched : behind ≡ first_answering fresh
   pub unread : read ≡ first_reading
 
-module _ {S L : Type 0} (reads : Reads S) (came sent told : Moves L) (unread : Fails L) (unsent untold : Moves L)
-    (words : NodeWords) where
+module _ {S L : Type 0} (reads : Reads S) (came sent told : Moves L) (unread : Fails L) (unsent untold : Moves L) (words : NodeWords) where
   -- a link was held to its end on the node of the words
   pub record HoldsFrames (before after : S) (start stop : L) (is_whole : Bool) : Type 0 where
     pub fresh : JobNodeValue
