@@ -1,0 +1,37 @@
+//! The laws of loads. Each function does no work: its contract is the law.
+
+ghost use Rattle.std.specs.Prelude.{◌<◌, length};
+ghost use Rattle.loading.specs.Asked.{ControlDataAreRead, SlotsAgree};
+ghost use Rattle.loading.specs.Told.{LoadsAreTold};
+
+use initiator::{load_packets_are_taken, made_commands_are_read};
+use node_programs::published_programs;
+use rmap::discard_is_exact;
+use single_node::SingleNode;
+
+/// A law and no work: the data of the control write of a load are read by a target as what asks for that load: the slot, a
+/// zero byte, and the bytes of the image.
+pub fn control_data_are_read()
+    ensures { ControlDataAreRead }
+{}
+
+/// A law and no work: the greatest slot for which an initiator asks is the greatest of a node.
+pub fn slots_agree()
+    ensures { SlotsAgree }
+{}
+
+/// A law and no work: where a node of one thread serves the packets of a load in turn at one of its ports and lets each of
+/// them pass, the load result of that port is then the verdict on the image, which is published in the slot of the load or
+/// refused; the packet that reads the load result is answered with it, and no bank changes. The condition is a port of the
+/// node ([`SingleNode::ports`]).
+pub fn loads_are_told(node: &SingleNode, port: u8)
+    requires { port < length node.now.passes }
+    ensures { LoadsAreTold port node.now }
+{
+    discard_is_exact();
+    made_commands_are_read();
+    load_packets_are_taken();
+    published_programs();
+    let _ports = node.ports();
+    let _bytes = node.staging(port).bytes();
+}
