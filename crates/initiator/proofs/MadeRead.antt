@@ -11,7 +11,7 @@ use Rattle.rmap.specs.Command.{IsCommand, bytes_of, length_of}
 use Rattle.rmap.specs.Checks.{body_line}
 use Rattle.rmap.specs.Reply.{with_crc}
 use Rattle.initiator.specs.declared.write.CommandFields.{CommandFields}
-use Rattle.initiator.specs.Laws.{MadeBodiesAreRight}
+use Rattle.initiator.specs.Laws.{MadeBodiesAreRight, MadeCommandsAreSoLong}
 use Rattle.initiator.specs.Writing.{AreFields, Fit, HasFields, command_with, header_with}
 
 -- the length field is read as the length
@@ -42,6 +42,16 @@ made_is_read f body h fit = (
     behind = refl;
   },
 )
+
+-- a command of fields with some data has so many bytes
+pub made_is_so_long : MadeCommandsAreSoLong
+made_is_so_long f bytes =
+    let c = command_with f (with_crc bytes) in
+    let tail : length c.tail ≡ 12 = refl in
+    let whole = length-append (c.front ++ c.reply_address ++ c.tail) c.body in
+    let header = length-append (c.front ++ c.reply_address) c.tail in
+    let path = length-append c.front c.reply_address in
+    omega (arith, tail, whole, header, path, length-append bytes (crc_of bytes ∷ []))
 
 -- as many data as the length says, and their CRC, are a right body
 carried_is_right : (f : CommandFields) (bytes : List ℕ) → AreFields f → carries_data (kind_of f.instruction.0) ≡ true → length bytes ≡ f.length → body_line (command_with f (with_crc bytes)) ≡ None

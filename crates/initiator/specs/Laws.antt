@@ -1,5 +1,5 @@
 -- Laws about commands that are made and replies that are read.
-use Rattle.std.specs.Prelude.{◌≡◌, ◌≤◌, ◌<◌, ℕ, List, [], ◌++◌, length, All, None, true, false}
+use Rattle.std.specs.Prelude.{◌≡◌, ◌≤◌, ◌<◌, ℕ, ◌+◌, List, [], ◌++◌, length, All, None, true, false}
 use Rattle.rmap.specs.declared.checks.TheConstants.{MAX_DATA}
 use Rattle.rmap.specs.declared.status.Status.{Status}
 use Rattle.rmap.specs.Instruction.{carries_data, kind_of}
@@ -8,6 +8,7 @@ use Rattle.rmap.specs.Checks.{body_line}
 use Rattle.rmap.specs.Reply.{reply_of, reply_path_of, with_crc}
 use Rattle.initiator.specs.ReplyReading.{Answers, IsReply, ReplyValue, behind_path, reply_to}
 use Rattle.initiator.specs.declared.write.CommandFields.{CommandFields}
+use Rattle.initiator.specs.declared.write.TheConstants.{DATA_OVERHEAD}
 use Rattle.initiator.specs.Writing.{AreFields, Fit, HasFields, command_with}
 
 -- bytes are at most one reply
@@ -33,6 +34,12 @@ abbrev pub MadeCommandsAreRead : Type 0
 MadeCommandsAreRead =
     (f : CommandFields) (body : List ℕ) → AreFields f → Fit f
     → IsCommand (bytes_of (command_with f body)) (command_with f body) × HasFields f body (command_with f body)
+
+-- a command of fields that carries data has so many bytes beside its reply address and its data
+abbrev pub MadeCommandsAreSoLong : Type 0
+MadeCommandsAreSoLong =
+    (f : CommandFields) (bytes : List ℕ) → length (bytes_of (command_with f (with_crc bytes)))
+    ≡ DATA_OVERHEAD + length f.reply_address.now + length bytes
 
 -- at a command that is made no check of the body holds: with as many data as its length says and their CRC, or with
 -- no body where it carries none

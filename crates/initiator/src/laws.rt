@@ -1,7 +1,7 @@
 //! Laws about commands that are made and replies that are read. Each function does nothing: its contract is the law.
 
 ghost use Rattle.initiator.specs.LoadPackets.{LoadPacketsAreTaken};
-ghost use Rattle.initiator.specs.Laws.{MadeBodiesAreRight, MadeCommandsAreRead, RepliesHavePaths, ReplyIsUnique, WrittenRepliesAreRead};
+ghost use Rattle.initiator.specs.Laws.{MadeBodiesAreRight, MadeCommandsAreRead, MadeCommandsAreSoLong, RepliesHavePaths, ReplyIsUnique, WrittenRepliesAreRead};
 
 /// A law and no work: bytes are at most one reply.
 pub fn reply_is_unique()
@@ -17,10 +17,12 @@ pub fn written_replies_are_read()
 {}
 
 /// A law and no work: what [`write_command`](crate::write_command) makes of fields is a command with those fields, and
-/// no other, by [`command_is_unique`](rmap::command_is_unique); and no check of the body holds of it where its body is the data and their CRC.
+/// no other, by [`command_is_unique`](rmap::command_is_unique). Where its body is the data and their CRC no check of the
+/// body holds of it, and it has [`DATA_OVERHEAD`](crate::DATA_OVERHEAD) bytes beside its reply address and its data.
 pub fn made_commands_are_read()
     ensures read { MadeCommandsAreRead }
     ensures bodies { MadeBodiesAreRight }
+    ensures count { MadeCommandsAreSoLong }
 {}
 
 /// A law and no work: each packet of a load, made of its request with [`write_command`](crate::write_command), is taken
