@@ -1,4 +1,5 @@
 pub mod Codes
+pub mod Controls
 pub mod Makings
 pub mod Pairings
 pub mod Services

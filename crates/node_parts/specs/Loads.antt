@@ -44,6 +44,7 @@ use Rattle.bver.specs.Refusals.{IsRefusal}
 use Rattle.bver.specs.Justified.{AcceptedValue, IsJustified}
 use Rattle.machine.specs.Sizes.{Maps}
 use Rattle.rmap.specs.declared.boot.TheConstants.{STAGING_SIZE}
+use Rattle.node_programs.specs.declared.publishes.TheConstants.{LAST_SLOT}
 use Rattle.node_programs.specs.declared.faults.PublishFault.{PublishFault}
 use Rattle.node_programs.specs.declared.faults.PublishFault.TheVariants as publish_faults
 use Rattle.node_parts.specs.declared.control.ControlData.{ControlData}
@@ -66,11 +67,19 @@ control_of bytes = record {
   length = slice_index bytes 2 * 256 + slice_index bytes 3;
 }
 
+-- the data of a control write that asks so
+abbrev pub control_bytes : ControlData → List ℕ
+control_bytes control = (control.slot ∷ control.zero ∷ []) ++ big_bytes 2 control.length
+
+-- the bytes ask so, whatever follows them
+abbrev pub AreReadAs : ControlData → List ℕ → Type 0
+AreReadAs control bytes = (behind : List ℕ) → control_of (bytes ++ behind) ≡ control
+
 -- what is wrong with control data: first its second byte and its length, then its slot
 abbrev pub control_fault : ControlData → Option LoadRefusal
 control_fault control =
     if not (control.zero == 0) || nat_lt STAGING_SIZE control.length then Some Control
-    else if nat_lt 3 control.slot then Some Slot
+    else if nat_lt LAST_SLOT control.slot then Some Slot
     else None
 
 -- the number of a refusal: that of an image has 32 more than its fault, the verifier's has its own
@@ -208,7 +217,7 @@ pub record IsPrepared (control : ControlData) (staged : List ℕ) (sizes : Maps)
     (a : AcceptedValue) : Type 0 where
   pub control_is_right : control_fault control ≡ None
   pub slot_is : slot ≡ control.slot
-  pub few : slot ≤ 3
+  pub few : slot ≤ LAST_SLOT
   pub is_program : IsProgram a.program
   pub spelled : loaded_bytes control staged ≡ image_bytes a.program
   pub justified : IsJustified a.program sizes

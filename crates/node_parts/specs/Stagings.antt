@@ -1,5 +1,6 @@
 -- How a judged command ends at a port's own staging, or at the result of its last load.
 use Rattle.std.specs.Prelude.{◌≡◌, ◌⊎◌, ℕ, List}
+use Rattle.rmap.specs.declared.boot.TheConstants.{LOAD_REGISTER}
 use Rattle.rmap.specs.declared.places.Place.{Place}
 use Rattle.rmap.specs.declared.places.Place.TheVariants.{Bank, Staging, LoadResult, Control}
 use Rattle.rmap.specs.declared.status.Status.{Status}
@@ -11,11 +12,11 @@ use Rattle.node_programs.specs.Staged.{Staged, staged}
 abbrev pub IsStagingPlace : Place → Type 0
 IsStagingPlace place = (place ≡ Staging) ⊎ (place ≡ LoadResult)
 
--- the bytes of a staging lie from address 0 on, and its load result from address 0x10000 on
+-- the bytes of a staging lie from address 0 on, and its load result from that of the load register on
 abbrev pub answer_at_place : Place → Staged → JudgedValue → Answer
 answer_at_place (Bank k) s j = answer_on 0 s.bytes j
 answer_at_place Staging s j = answer_on 0 s.bytes j
-answer_at_place LoadResult s j = answer_on 0x10000 s.load_result j
+answer_at_place LoadResult s j = answer_on LOAD_REGISTER s.load_result j
 answer_at_place Control s j = answer_on 0 s.bytes j
 
 -- a staging after a command at that place: no command but a load changes the load result

@@ -1,7 +1,7 @@
 //! What a control write asks for.
 
 ghost use Rattle.std.specs.Prelude.{◌≡◌, slice_index};
-ghost use Rattle.node_parts.specs.Loads.{control_of};
+ghost use Rattle.node_parts.specs.Loads.{AreReadAs, control_bytes, control_of};
 
 use byteorder::{BigEndian, ByteOrder};
 
@@ -14,6 +14,20 @@ pub struct ControlData {
     pub zero: u8,
     /// How many bytes the image has, from the first of the staging on.
     pub length: u16,
+}
+
+impl ControlData {
+    /// The data of a control write that asks so: the slot, the byte that is to be zero, and the length, the most
+    /// significant byte first. [`read_control`] reads them again, whatever follows them.
+    #[tactic(auto, using(crate::proofs::Controls::read_again))]
+    pub fn bytes(self) -> [u8; 4]
+        ensures bytes { result ≡ control_bytes self }
+        ensures read { AreReadAs self result }
+    {
+        let mut bytes = [self.slot, self.zero, 0, 0];
+        BigEndian::write_u16(&mut bytes[2..], self.length);
+        bytes
+    }
 }
 
 /// The byte at a place, or 0 behind the end.

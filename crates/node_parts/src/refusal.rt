@@ -101,7 +101,7 @@ impl LoadRefusal {
         }
     }
 
-    /// What to say of the refusal beside its name: when it comes, and what to do, in lines of at most 113 columns.
+    /// What to say of the refusal beside its name: when it comes, and what to do, in lines of at most 114 columns.
     pub fn advice(self) -> &'static str {
         match self {
             LoadRefusal::Control => CONTROL,
