@@ -19,5 +19,5 @@ rotated_ports before after old out = ap (λ (s : SingleNodeValue). length s.pass
 -- a fresh node with one port has one
 pub fresh_ports : (program : AcceptedValue) (node : JobNodeValue) → IsFresh 1 program node → 0 < length node.passes
 fresh_ports program node is =
-    let one : length node.passes ≡ 1 = ap (λ (s : JobNodeValue). length s.passes) is.1 in
+    let one : length node.passes ≡ 1 = ap (λ (s : JobNodeValue). length s.passes) is in
     omega (arith, one)

@@ -16,7 +16,7 @@ use Rattle.std.specs.Prelude.{
   Some,
 }
 use Rattle.std.specs.List.{range_with_len}
-use base.Stored.{Gv}
+use base.Stored.{Gv, gnil}
 use Rattle.bank.specs.Records.{BankValue, JournalValue}
 use Rattle.bver.specs.Justified.{AcceptedValue}
 use Rattle.machine.specs.Sizes.{Maps}
@@ -27,25 +27,28 @@ use Rattle.node_parts.specs.declared.config.NodeConfig.{NodeConfig}
 use Rattle.node_parts.specs.declared.served.Served.{Served}
 use Rattle.node_parts.specs.Nodes.{bank_of, first_pass, first_programs}
 use Rattle.node_parts.specs.Passes.{PassValue}
+use Rattle.plain_cells.specs.Words.{zero_words}
 use Rattle.single_node.specs.Nodes.{Rotates, SetsMemory, SingleNodeValue, single_node}
 use Rattle.single_node.specs.Serving.{Serves as ServesAlone}
 use Rattle.job_nodes.specs.Feeds.{IsFed, IsNotFed}
 use Rattle.job_nodes.specs.declared.node.TheConstants.{BANK_BASE, BANK_ROOM, BANK_SIZE, NODE_ADDRESS}
 use Rattle.job_parts.specs.declared.bad_lines.BadLine.{BadLine}
 
--- the node's banks, the programs that were published of it, what each port has of it, the bytes that each port
--- holds of a packet that has not ended, and the reply to the last packet
+-- the node's banks, the words of its cells, the programs that were published of it, what each port has of it, the bytes
+-- that each port holds of a packet that has not ended, and the reply to the last packet
 pub record JobNodeValue : Type 0 where
   pub banks : List BankValue
+  pub words : List (List ℕ)
   pub programs : List Publish
   pub passes : List PassValue
   pub held : List (List ℕ)
   pub reply : List ℕ
 
--- the node of these banks, programs and ports, which hold these bytes, with this reply
-abbrev pub job_node : List BankValue → List Publish → List PassValue → List (List ℕ) → List ℕ → JobNodeValue
-job_node banks programs passes held reply =
-    record { banks = banks; programs = programs; passes = passes; held = held; reply = reply }
+-- the node of these banks, words, programs and ports, which hold these bytes, with this reply
+abbrev pub job_node : List BankValue → (words : List (List ℕ)) → List Publish → List PassValue → (held : List (List ℕ))
+    → List ℕ → JobNodeValue
+job_node banks words programs passes held reply =
+    record { banks = banks; words = words; programs = programs; passes = passes; held = held; reply = reply }
 
 -- logical address FE, and one bank of 65,536 zero bytes at A0000000 with room for 1,024 entries
 abbrev pub own_bank : BankConfig
@@ -75,16 +78,16 @@ pub record IsConfig (ports : ℕ) (sizes : Maps) (config : NodeConfig) : Type 0 
 abbrev pub first_passes : (ports : ℕ) → AcceptedValue → (home : Gv) → List PassValue
 first_passes ports program home = map (first_pass NODE_ADDRESS (own_bank ∷ []) program home) (range_with_len 0 ports)
 
--- a fresh node with so many ports, at each of which the program judges, and which hold nothing
+-- a fresh node with cells of 0 and so many ports, at each of which the program judges, and which hold nothing
 abbrev pub IsFresh : (ports : ℕ) → AcceptedValue → JobNodeValue → Type 0
 IsFresh ports program node =
-    (home : Gv)
-    × (node ≡ job_node (bank_of ports own_bank ∷ []) (first_programs program) (first_passes ports program home)
-    (replicate ports []) [])
+    node
+    ≡ job_node (bank_of ports own_bank ∷ []) (zero_words program.sizes) (first_programs program)
+    (first_passes ports program gnil) (replicate ports []) []
 
 -- the node of one thread: what it holds of packets that have not ended, and the reply, are left out
 abbrev pub alone : JobNodeValue → SingleNodeValue
-alone s = single_node s.banks s.programs s.passes
+alone s = single_node s.banks s.words s.programs s.passes
 
 -- this became of the packet that came in at the port, by the last program that was published for its slot; the node
 -- has the reply that is due, and no other port changed
@@ -94,7 +97,7 @@ pub record Serves (served : Served) (port : ℕ) (packet : Cargo) (before after 
 
 -- the node whose ports hold these bytes, and that is the same otherwise
 abbrev pub with_held : JobNodeValue → List (List ℕ) → JobNodeValue
-with_held node held = job_node node.banks node.programs node.passes held node.reply
+with_held node held = job_node node.banks node.words node.programs node.passes held node.reply
 
 -- a port holds the line's piece, and no packet came
 pub record HoldsLine (line : List ℕ) (before after : JobNodeValue) : Type 0 where

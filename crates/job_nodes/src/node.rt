@@ -70,9 +70,9 @@ impl Model for JobNode {
 
     ghost Value = { JobNodeValue };
 
-    ghost view = { λ b. job_node b.node.banks b.node.programs b.node.passes b.feeds b.reply };
+    ghost view = { λ b. job_node b.node.banks b.node.words b.node.programs b.node.passes b.feeds b.reply };
 
-    ghost invariant = { λ b. IsJobNode (job_node b.node.banks b.node.programs b.node.passes b.feeds b.reply) };
+    ghost invariant = { λ b. IsJobNode (job_node b.node.banks b.node.words b.node.programs b.node.passes b.feeds b.reply) };
 }
 
 impl JobNode {

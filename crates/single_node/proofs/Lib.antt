@@ -6,3 +6,4 @@ mod Making
 mod Nodes
 mod Handing
 mod Ending
+mod Running

@@ -7,7 +7,7 @@ use Rattle.std.proofs.lemmas.Grind.{get_or-set_at}
 use Rattle.std.proofs.lemmas.List.{get_or-set_other, length-map, length-set}
 use Rattle.std.proofs.lemmas.List.FromFn.{get_or-map-range_with_len, length-map-range_with_len}
 use Rattle.std.proofs.lemmas.Option.{get_or_from_slice_get, slice_get-get_or, slice_get_within}
-use base.Stored.{Gv}
+use base.Stored.{gnil}
 use Rattle.spw.specs.Cargo.{Cargo}
 use Rattle.bank.specs.Records.{BankValue}
 use Rattle.bver.specs.Justified.{AcceptedValue}
@@ -25,7 +25,7 @@ use Rattle.single_node.specs.Nodes.{IsInformed, IsSingleNode, SingleNodeValue, s
 use Rattle.single_node.specs.Serving.{ServesTold}
 use Rattle.single_node.specs.declared.served.Told.{Told}
 use Rattle.single_node.proofs.Prefixes.{prefix_same}
-use Rattle.single_node.proofs.Serving.{answered, by_last, informed_grows, kept_or_longer, stays_informed, told}
+use Rattle.single_node.proofs.Serving.{answered, by_last, cells, informed_grows, kept_or_longer, stays_informed, told}
 
 -- what stands at a place of a list of which one element was written
 pub at_written : {A : Type 0} (xs : List A) (k j : ℕ) (old new x : A) → slice_get xs k ≡ Some old → j ≡ k → slice_get (set xs k new) j ≡ Some x → x ≡ new
@@ -39,38 +39,40 @@ at_other xs k j new x other found =
     slice_get-get_or xs j x below ∙ ap (λ y. Some y) (sym (get_or-set_other xs k j new x other) ∙ get_or_from_slice_get (set xs k new) j x x found)
 
 -- no bank comes or goes
-same_count : (served : Served) (g v : ℕ) (p : Cargo) (old new : PartsValue) (h after : PassValue) (reply : List ℕ) → ServesAt served g v p old new h after reply → length new.banks ≡ length old.banks
-same_count (Stopped stop) g v p old new h after reply s = ap (λ (x : PartsValue). length x.banks) s.untouched.node
-same_count Unread g v p old new h after reply s = absurd s
-same_count (Done result) g v p old new h after reply s = ap (λ (x : PartsValue). length x.banks) s.ended.node ∙ length-set old.banks s.ended.number s.ended.behind
-same_count (Window status) g v p old new h after reply s = ap length s.ended.0
+same_count : (served : Served) (g v : ℕ) (p : Cargo) (words behind : List (List ℕ)) (old new : PartsValue) (h after : PassValue) (reply : List ℕ) → ServesAt served g v p words behind old new h after reply → length new.banks ≡ length old.banks
+same_count (Stopped stop) g v p words behind old new h after reply s = ap (λ (x : PartsValue). length x.banks) s.untouched.node
+same_count Unread g v p words behind old new h after reply s = absurd s
+same_count (Done result) g v p words behind old new h after reply s = ap (λ (x : PartsValue). length x.banks) s.ended.node ∙ length-set old.banks s.ended.number s.ended.behind
+same_count (Window status) g v p words behind old new h after reply s = ap length s.ended.0
 
 -- a packet at a port leaves a node of one thread
-pub node_after : AnsweredAreServed → LeavesAllPaired → (served : Served) (g v : ℕ) (p : Cargo) (before : SingleNodeValue) (banks : List BankValue) (programs : List Publish) (place : ℕ) (h after : PassValue) (reply : List ℕ)
-    → IsSingleNode before → slice_get before.passes place ≡ Some h → 0 < length before.programs → ServesAt served g v p (parts before.banks before.programs) (parts banks programs) h after reply
-    → IsSingleNode (single_node banks programs (set before.passes place after))
-node_after law all served g v p before banks programs place h after reply is at some s =
+pub node_after : AnsweredAreServed → LeavesAllPaired → (served : Served) (g v : ℕ) (p : Cargo) (before : SingleNodeValue) (banks : List BankValue) (behind : List (List ℕ)) (programs : List Publish) (place : ℕ) (h after : PassValue) (reply : List ℕ)
+    → IsSingleNode before → slice_get before.passes place ≡ Some h → 0 < length before.programs → ServesAt served g v p before.words behind (parts before.banks before.programs) (parts banks programs) h after reply
+    → IsSingleNode (single_node banks behind programs (set before.passes place after))
+node_after law all served g v p before banks behind programs place h after reply is at some s =
+    let words = before.words in
     let old = parts before.banks before.programs in
     let new = parts banks programs in
     let paired = is.paired.each place h at in
     let informed = is.informed place h at in
-    let grows = (kept_or_longer served g v p old new h after reply s).longer in
-    let by = law served p old new h after reply (answered served g v p old new h after reply s) paired in
+    let grows = (kept_or_longer served g v p words behind old new h after reply s).longer in
+    let by = law served p old new h after reply (answered served g v p words behind old new h after reply s) paired in
     record {
       paired = all served p old new h after reply by before.passes place is.paired at;
       informed = λ i x found. elim (cases_eq i place) [
-        | inl here ↦ subst (λ (y : PassValue). IsInformed programs y) (sym (at_written before.passes place i h after x at here found)) (stays_informed served g v p old new h after reply some s informed)
+        | inl here ↦ subst (λ (y : PassValue). IsInformed programs y) (sym (at_written before.passes place i h after x at here found)) (stays_informed served g v p words behind old new h after reply some s informed)
         | inr apart ↦ informed_grows before.programs programs x some grows (is.informed i x (at_other before.passes place i after x apart found))
       ];
       few_ports = rw (length-set before.passes place after) is.few_ports;
-      few_banks = rw (same_count served g v p old new h after reply s) is.few_banks;
+      few_banks = rw (same_count served g v p words behind old new h after reply s) is.few_banks;
     }
 
 -- what a packet does at a port is what it does at the node
-pub serves_of : (t : Told) (p : Cargo) (before : SingleNodeValue) (banks : List BankValue) (programs : List Publish) (port place : ℕ) (h after : PassValue) (reply : List ℕ)
-    → place ≡ port → slice_get before.passes place ≡ Some h → ServesAt t.served t.generation t.verdict p (parts before.banks before.programs) (parts banks programs) h after reply
-    → ServesTold t port p before (single_node banks programs (set before.passes place after)) reply
-serves_of t p before banks programs port place h after reply same at s =
+pub serves_of : (t : Told) (p : Cargo) (before : SingleNodeValue) (banks : List BankValue) (behind : List (List ℕ)) (programs : List Publish) (port place : ℕ) (h after : PassValue) (reply : List ℕ)
+    → place ≡ port → slice_get before.passes place ≡ Some h → ServesAt t.served t.generation t.verdict p before.words behind (parts before.banks before.programs) (parts banks programs) h after reply
+    → ServesTold t port p before (single_node banks behind programs (set before.passes place after)) reply
+serves_of t p before banks behind programs port place h after reply same at s =
+    let words = before.words in
     let old = parts before.banks before.programs in
     let new = parts banks programs in
     let g = t.generation in
@@ -81,11 +83,12 @@ serves_of t p before banks programs port place h after reply same at s =
         left = after;
         own = subst (λ (k : ℕ). slice_get before.passes k ≡ Some h) same at;
         others = ap (λ (k : ℕ). set before.passes k after) same;
-        answered = answered t.served g v p old new h after reply s;
-        by_last = by_last t.served g v p old new h after reply s;
-        programs = kept_or_longer t.served g v p old new h after reply s;
+        answered = answered t.served g v p words behind old new h after reply s;
+        cells = cells t.served g v p words behind old new h after reply s;
+        by_last = by_last t.served g v p words behind old new h after reply s;
+        programs = kept_or_longer t.served g v p words behind old new h after reply s;
       };
-      tells = told t.served g v p old new h after reply s;
+      tells = told t.served g v p words behind old new h after reply s;
     }
 
 -- what stands at a place of a list that is made by number
@@ -95,12 +98,12 @@ numbered_at f count k x at =
     sym (get_or_from_slice_get (map f (range_with_len 0 count)) k x x at) ∙ get_or-map-range_with_len f 0 count k k x below (omega arith)
 
 -- a fresh node is one
-pub fresh_node : MadeArePaired → (config : NodeConfig) (factory : AcceptedValue) (home : Gv) → config.ports ≤ 32 → length config.banks.now ≤ 8
-    → IsSingleNode (single_node (fresh_banks config) (first_programs factory) (first_passes config factory home))
-fresh_node law config factory home ports banks =
-    let first = first_pass config.address config.banks.now factory home in
+pub fresh_node : MadeArePaired → (config : NodeConfig) (words : List (List ℕ)) (factory : AcceptedValue) → config.ports ≤ 32 → length config.banks.now ≤ 8
+    → IsSingleNode (single_node (fresh_banks config) words (first_programs factory) (first_passes config factory gnil))
+fresh_node law config words factory ports banks =
+    let first = first_pass config.address config.banks.now factory gnil in
     record {
-      paired = law config.address config.ports config.banks.now factory home;
+      paired = law config.address config.ports config.banks.now factory gnil;
       informed = λ k h at.
           let is : h ≡ first k = numbered_at first config.ports k h at in
           subst (λ (x : PassValue). IsInformed (first_programs factory) x) (sym is) (record { begins = prefix_same _ _ refl; sizes = refl });

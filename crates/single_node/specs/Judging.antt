@@ -3,28 +3,33 @@ use Rattle.std.specs.Prelude.{◌≡◌, ℕ, List, Some, slice_get, slice_set}
 use Rattle.bank.specs.declared.bank.Applied.{Applied}
 use Rattle.bank.specs.Records.{AdmittedValue, BankValue, JudgedValue}
 use Rattle.node_programs.specs.declared.publishes.Publish.{Publish}
+use Rattle.node_programs.specs.Published.{sizes_of}
 use Rattle.rmap.specs.declared.places.Place.TheVariants.{Bank}
 use Rattle.spw.specs.Cargo.{Cargo}
 use Rattle.node_parts.specs.Applied.{IsApplied, share_of}
 use Rattle.node_parts.specs.Passes.{PassValue}
 use Rattle.node_parts.specs.Served.{EndsAtWindow, IsUntouched, PartsValue, parts}
 use Rattle.node_parts.specs.Steps.{IsAdmission, IsJudgement, IsStopped}
+use Rattle.plain_cells.specs.Words.{AreCallsOn}
 use Rattle.node_parts.specs.declared.served.Served.{Served}
 use Rattle.node_parts.specs.declared.served.Served.TheVariants.{Stopped, Unread, Done, Window}
 use Rattle.node_parts.specs.declared.stop.Stop.{Stop}
 use Rattle.single_node.specs.Serving.{IsJudgedByLast}
 
--- the command of the packet was judged in one run, by the last program that was published for its slot, and the port
--- then knows of all that was published
-pub record IsLastJudgement (programs : List Publish) (old new : PassValue) (p : Cargo) (j : JudgedValue) : Type 0 where
+-- the command of the packet was judged in one run, by the last program that was published for its slot; the words
+-- answered its calls and are then those, and the port then knows of all that was published
+pub record IsLastJudgement (programs : List Publish) (words behind : List (List ℕ)) (old new : PassValue) (p : Cargo)
+    (j : JudgedValue) : Type 0 where
   pub judgement : IsJudgement old new p j
   pub by_last : IsJudgedByLast programs old new p j judgement
+  pub cells : AreCallsOn (sizes_of programs) words judgement.calls behind
   pub knows : new.programs ≡ programs
 
 -- the same of a command that was admitted as it came
-abbrev pub JudgesByLast : (programs : List Publish) → (old new : PassValue) → AdmittedValue → JudgedValue → Type 0
-JudgesByLast programs old new admitted j =
-    (p : Cargo) → IsAdmission admitted p old.windows → IsLastJudgement programs old new p j
+abbrev pub JudgesByLast : (programs : List Publish) → (words behind : List (List ℕ)) → (old new : PassValue)
+    → AdmittedValue → JudgedValue → Type 0
+JudgesByLast programs words behind old new admitted j =
+    (p : Cargo) → IsAdmission admitted p old.windows → IsLastJudgement programs words behind old new p j
 
 -- a judged command was applied to the bank of its place, with the port's share of it; nothing else changed
 pub record IsAppliedAt (old new : PartsValue) (holder after : PassValue) (judged : JudgedValue) (result : Applied)
@@ -48,27 +53,31 @@ Ends (Window status) old new holder after judged bytes =
 
 -- the command of the packet was judged by the last program for its slot, of that generation and with that verdict,
 -- which left the port so, and then ended
-pub record JudgesAndEnds (served : Served) (generation verdict : ℕ) (p : Cargo) (old new : PartsValue)
-    (h after : PassValue) (reply : List ℕ) : Type 0 where
+pub record JudgesAndEnds (served : Served) (generation verdict : ℕ) (p : Cargo) (words behind : List (List ℕ))
+    (old new : PartsValue) (h after : PassValue) (reply : List ℕ) : Type 0 where
   pub judged : JudgedValue
   pub between : PassValue
-  pub last : IsLastJudgement old.programs h between p judged
+  pub last : IsLastJudgement old.programs words behind h between p judged
   pub ended : Ends served old new between after judged reply
   pub generation_is : generation ≡ judged.generation
   pub verdict_is : verdict ≡ judged.verdict
 
 -- its header stopped the packet, and no program judged
-pub record StopsAt (stop : Stop) (generation verdict : ℕ) (p : Cargo) (old new : PartsValue) (h after : PassValue)
-    (reply : List ℕ) : Type 0 where
+pub record StopsAt (stop : Stop) (generation verdict : ℕ) (p : Cargo) (words behind : List (List ℕ))
+    (old new : PartsValue) (h after : PassValue) (reply : List ℕ) : Type 0 where
   pub stopped : IsStopped stop p h.windows reply
+  pub not_asked : behind ≡ words
   pub untouched : IsUntouched old new h after
   pub generation_is : generation ≡ 0
   pub verdict_is : verdict ≡ 0
 
 -- what becomes of a packet at a port: its header stops it, or its command is judged and ends
-abbrev pub ServesAt : Served → (generation verdict : ℕ) → Cargo → (old new : PartsValue) → (h after : PassValue)
-    → List ℕ → Type 0
-ServesAt (Stopped stop) g v p old new h after reply = StopsAt stop g v p old new h after reply
-ServesAt Unread g v p old new h after reply = ⊥
-ServesAt (Done result) g v p old new h after reply = JudgesAndEnds (Done result) g v p old new h after reply
-ServesAt (Window status) g v p old new h after reply = JudgesAndEnds (Window status) g v p old new h after reply
+abbrev pub ServesAt : Served → (generation verdict : ℕ) → Cargo → (words behind : List (List ℕ))
+    → (old new : PartsValue) → (h after : PassValue) → List ℕ → Type 0
+ServesAt (Stopped stop) g v p words behind old new h after reply =
+    StopsAt stop g v p words behind old new h after reply
+ServesAt Unread g v p words behind old new h after reply = ⊥
+ServesAt (Done result) g v p words behind old new h after reply =
+    JudgesAndEnds (Done result) g v p words behind old new h after reply
+ServesAt (Window status) g v p words behind old new h after reply =
+    JudgesAndEnds (Window status) g v p words behind old new h after reply

@@ -1,7 +1,7 @@
 -- A node of one thread, as its contracts see it.
 use Rattle.std.specs.Prelude.{◌≡◌, ◌≤◌, ℕ, List, length, Option, None, Some, Bool, false, slice_get, slice_set}
 use mathlib.Core.List.{IsPrefix}
-use base.Stored.{Gv}
+use base.Stored.{gnil}
 use Rattle.bank.specs.Records.{
   BankValue,
   JournalValue,
@@ -20,24 +20,28 @@ use Rattle.node_parts.specs.declared.config.NodeConfig.{NodeConfig}
 use Rattle.node_parts.specs.Nodes.{first_passes, first_programs, fresh_banks}
 use Rattle.node_parts.specs.Pairs.{ArePaired}
 use Rattle.node_parts.specs.Passes.{PassValue}
+use Rattle.plain_cells.specs.Words.{zero_words}
 
--- a node of one thread: its banks, the list of what was published, which begins with the factory program, and what
--- each port has
+-- a node of one thread: its banks, the word of each cell, by map and key, the list of what was published, which begins
+-- with the factory program, and what each port has
 pub record SingleNodeValue : Type 0 where
   pub banks : List BankValue
+  pub words : List (List ℕ)
   pub programs : List Publish
   pub passes : List PassValue
 
--- the node of these banks, programs and ports
-abbrev pub single_node : List BankValue → List Publish → List PassValue → SingleNodeValue
-single_node banks programs passes = record { banks = banks; programs = programs; passes = passes }
+-- the node of these banks, words, programs and ports
+abbrev pub single_node : List BankValue → List (List ℕ) → List Publish → List PassValue → SingleNodeValue
+single_node banks words programs passes =
+    record { banks = banks; words = words; programs = programs; passes = passes }
 
--- a fresh node of that configuration: banks of zero bytes, of what was published the factory program alone, which
--- judges in each slot, and ports that have sent nothing
+-- a fresh node of that configuration: banks of zero bytes, cells of 0, of what was published the factory program alone,
+-- which judges in each slot, and ports that have sent nothing
 abbrev pub IsFresh : NodeConfig → AcceptedValue → SingleNodeValue → Type 0
 IsFresh config factory node =
-    (home : Gv)
-    × (node ≡ single_node (fresh_banks config) (first_programs factory) (first_passes config factory home))
+    node
+    ≡ single_node (fresh_banks config) (zero_words factory.sizes) (first_programs factory)
+    (first_passes config factory gnil)
 
 -- what the port knows begins the list of what was published, and it has a seat at the cells of the node's maps
 pub record IsInformed (programs : List Publish) (h : PassValue) : Type 0 where

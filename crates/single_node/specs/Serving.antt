@@ -1,6 +1,7 @@
 -- The whole way of a packet at a node of one thread.
 use Rattle.std.specs.Prelude.{◌≡◌, ◌≢◌, ◌⊎◌, ℕ, List, Some, slice_get, slice_set}
 use Rattle.spw.specs.Cargo.{Cargo}
+use Rattle.machine.specs.Sizes.{Maps}
 use Rattle.rmap.specs.Command.{command_kind, command_of}
 use Rattle.rmap.specs.declared.status.Status.TheVariants.{Success}
 use Rattle.bank.specs.Records.{JudgedValue}
@@ -8,12 +9,14 @@ use Rattle.bver.specs.Justified.{AcceptedValue}
 use Rattle.node_programs.specs.declared.publishes.Publish.{Publish}
 use Rattle.node_programs.specs.Histories.{longer_history}
 use Rattle.node_programs.specs.Laws.{IsLast}
+use Rattle.node_programs.specs.Published.{sizes_of}
 use Rattle.node_parts.specs.declared.served.Served.{Served}
 use Rattle.node_parts.specs.declared.served.Served.TheVariants.{Stopped, Unread, Done, Window}
 use Rattle.node_parts.specs.Passes.{PassValue}
 use Rattle.node_parts.specs.Served.{PartsValue, IsAnswered, parts}
 use Rattle.node_parts.specs.Slots.{slot_of}
 use Rattle.node_parts.specs.Steps.{IsJudgement}
+use Rattle.plain_cells.specs.Words.{AreCallsOn}
 use Rattle.single_node.specs.Nodes.{SingleNodeValue}
 use Rattle.single_node.specs.declared.served.Told.{Told}
 
@@ -35,14 +38,25 @@ IsByLast (Done result) p old new h after reply answered =
 IsByLast (Window status) p old new h after reply answered =
     IsJudgedByLast old.programs h answered.between p answered.judged answered.judgement
 
+-- the words answered the calls of the run that judged, in order, and are then what those left; of a packet that its
+-- header stops no program ran, and they stay
+abbrev pub AsksCells : (sizes : Maps) (served : Served) (p : Cargo) (old new : PartsValue) (h after : PassValue) (reply : List ℕ)
+    → IsAnswered served p old new h after reply → (words behind : List (List ℕ)) → Type 0
+AsksCells sizes (Stopped stop) p old new h after reply answered words behind = behind ≡ words
+AsksCells sizes Unread p old new h after reply answered words behind = ⊥
+AsksCells sizes (Done result) p old new h after reply answered words behind =
+    AreCallsOn sizes words answered.judgement.calls behind
+AsksCells sizes (Window status) p old new h after reply answered words behind =
+    AreCallsOn sizes words answered.judgement.calls behind
+
 -- the list of what was published stays, or has one publish more; it stays but where a command to the boot window
 -- succeeded
 pub record AreKeptOrLonger (served : Served) (old new : List Publish) : Type 0 where
   pub kept : served ≢ Window Success → new ≡ old
   pub longer : (new ≡ old) ⊎ ((slot : ℕ) × (program : AcceptedValue) × (new ≡ longer_history old slot program))
 
--- this became of the packet that came in at the port, by the last program that was published for its slot; that reply
--- is due, and no other port changed
+-- this became of the packet that came in at the port, by the last program that was published for its slot, whose run the
+-- cells answered; that reply is due, and no other port changed
 pub record Serves (served : Served) (port : ℕ) (packet : Cargo) (before after : SingleNodeValue) (reply : List ℕ) : Type
     0 where
   pub holder : PassValue
@@ -53,6 +67,8 @@ pub record Serves (served : Served) (port : ℕ) (packet : Cargo) (before after 
       left reply
   pub by_last : IsByLast served packet (parts before.banks before.programs) (parts after.banks after.programs) holder
       left reply answered
+  pub cells : AsksCells (sizes_of before.programs) served packet (parts before.banks before.programs)
+      (parts after.banks after.programs) holder left reply answered before.words after.words
   pub programs : AreKeptOrLonger served before.programs after.programs
 
 -- generation and verdict are those of the command that was judged; of a packet that its header stops both are 0

@@ -5,6 +5,7 @@
 //! slot. The list of what was published exists in proofs alone.
 #![tactic(auto)]
 
+mod context;
 mod lists;
 mod node;
 mod port;

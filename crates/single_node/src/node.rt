@@ -1,38 +1,38 @@
 //! The node.
 
-ghost use Rattle.std.specs.Prelude.{◌≡◌, ◌<◌, ◌≤◌, ◌+◌, ◌↔◌, [], IfErr, IfOk, IsSome, None, Some, length, replicate, slice_get, true};
-ghost use base.Stored.{Gv};
+ghost use Rattle.std.specs.Prelude.{◌≡◌, ◌<◌, ◌≤◌, ◌+◌, ◌↔◌, [], IfErr, IfOk, IsSome, None, Some, length, slice_get, true};
 ghost use Rattle.bver.specs.Justified.{AcceptedValue};
-ghost use Rattle.cells.specs.Seats.{seat};
+ghost use base.Stored.{gnil};
 ghost use Rattle.machine.specs.Sizes.{IsInside};
 ghost use Rattle.node_programs.specs.Published.{generation_at, sizes_of};
 ghost use Rattle.node_parts.specs.Nodes.{AreSharesOf, IsNodeFault, first_passes, first_programs, limit_fault};
+ghost use Rattle.plain_cells.specs.Words.{word_in};
 ghost use Rattle.single_node.specs.Nodes.{IsFresh, IsSingleNode, Rotates, SetsMemory, covers_in, staging_in};
 ghost use Rattle.single_node.specs.Serving.{Serves, ServesTold};
 
+use crate::context::PortContext;
 use crate::port::SinglePort;
 use crate::programs::SlotPrograms;
 use crate::served::{Told, serve_at};
 use bank::{Bank, Journal};
 use bver::Accepted;
-use cells::{CellSeat, Cells};
-use machine::{MapKind, MapSizes};
+use machine::MapSizes;
 use node_parts::{
-    Banks, NodeConfig, NodeFault, PortShares, RunContext, Served, made_are_paired,
-    packets_keep_pairs,
+    Banks, NodeConfig, NodeFault, PortShares, Served, made_are_paired, packets_keep_pairs,
 };
 use node_programs::Staging;
+use plain_cells::PlainCells;
 use rmap::{MAX_BANKS, ReplyBuf};
 use spw::{PORTS, Packet};
 use std::alloc::{AllocError, Global};
 use std::marker::Model;
 
 /// A node of one thread: banks, the cells of its maps, the program of each slot, and what each of its ports has. Contracts
-/// see the banks, the list of what was published, and each port's pass.
+/// see the banks, the word of each cell, the list of what was published, and each port's pass.
 #[derive(Drop)]
 pub struct SingleNode {
     banks: Banks,
-    cells: Cells,
+    cells: PlainCells,
     programs: SlotPrograms,
     ports: Vec<SinglePort>,
 }
@@ -44,33 +44,28 @@ impl Model for SingleNode {
 
     ghost Value = { SingleNodeValue };
 
-    ghost view = { λ n. single_node n.banks n.programs n.ports.items };
+    ghost view = { λ n. single_node n.banks n.cells.words n.programs n.ports.items };
 
-    ghost invariant = { λ n. IsSingleNode (single_node n.banks n.programs n.ports.items) × (n.cells.sizes ≡ sizes_of n.programs) };
+    ghost invariant = { λ n. IsSingleNode (single_node n.banks n.cells.words n.programs n.ports.items) × (n.cells.sizes ≡ sizes_of n.programs) };
 }
 
-/// The ports of a fresh node, in order, each with its shares of the banks and its seat at the cells.
+/// The ports of a fresh node, in order, each with its shares of the banks.
 fn first_ports(
     alloc: Global,
     config: &NodeConfig,
     programs: &SlotPrograms,
     mut by_port: Vec<PortShares>,
-    mut seats: Vec<CellSeat>,
 ) -> Result<Vec<SinglePort>, AllocError>
     requires banks { length config.now.banks.now ≤ MAX_BANKS }
     requires ports { config.now.ports ≤ PORTS }
     requires by_port { AreSharesOf config.now by_port.items }
-    requires seats { length seats.items ≡ config.now.ports }
-    ensures { (factory : AcceptedValue) (home : Gv) → programs.now ≡ first_programs factory
-        → seats.items ≡ replicate config.now.ports (seat factory.sizes home [])
-        → IfOk result (λ ports. ports.items ≡ first_passes config.now factory home) }
+    ensures { (factory : AcceptedValue) → programs.now ≡ first_programs factory
+        → factory.sizes ≡ config.now.sizes
+        → IfOk result (λ ports. ports.items ≡ first_passes config.now factory gnil) }
 {
     let mut ports = Vec::with_capacity(alloc, by_port.len())?;
     for port in 0..config.ports {
-        let Some(seat) = seats.pop() else {
-            unreachable!()
-        };
-        let context = RunContext::new(port, config.windows(), seat);
+        let context = PortContext::new(port, config.windows(), config.sizes);
         let shares = by_port[usize::from(port)].take(alloc);
         let staging = Staging::new(alloc)?;
         ports.push(SinglePort::new(context, programs.list(), shares, staging))?;
@@ -99,9 +94,9 @@ impl SingleNode {
     {
         made_are_paired();
         let (banks, by_port) = Banks::new(alloc, config)?;
-        let (cells, seats) = Cells::new(alloc, &config.sizes, config.ports)?;
+        let cells = PlainCells::new(alloc, &config.sizes)?;
         let programs = SlotPrograms::first(alloc, factory)?;
-        let ports = first_ports(alloc, config, &programs, by_port, seats)?;
+        let ports = first_ports(alloc, config, &programs, by_port)?;
         Ok(SingleNode {
             banks,
             cells,
@@ -139,9 +134,10 @@ impl SingleNode {
         packets_keep_pairs();
         let place = usize::from(port);
         let banks = &mut self.banks;
+        let cells = &mut self.cells;
         let programs = &mut self.programs;
         let port = &mut self.ports[place];
-        serve_at(alloc, banks, programs, port, packet, reply)
+        serve_at(alloc, banks, cells, programs, port, packet, reply)
     }
 
     /// How many ports there are: 1 to 32.
@@ -229,19 +225,12 @@ impl SingleNode {
         self.programs.sizes()
     }
 
-    /// The word of a cell: how many tickets were drawn from it, or the greatest number that was shown to it. `None` where
-    /// there is no such cell. It is no call of a program. What it tells of the calls is tested.
-    pub fn word(&mut self, map: u8, key: u16) -> Option<u64>
-        ensures same { self.new ≡ self.old }
-        ensures inside { IsSome result ↔ IsInside (sizes_of self.old.programs) map key }
+    /// The word of a cell: how many tickets were drawn from it, modulo 2^64, or the greatest number that was shown to it.
+    /// `None` where there is no such cell. It is no call of a program.
+    pub fn word(&self, map: u8, key: u16) -> Option<u64>
+        ensures value { result ≡ word_in self.now.words map key }
+        ensures inside { IsSome result ↔ IsInside (sizes_of self.now.programs) map key }
     {
-        let sizes = self.programs.sizes();
-        if !sizes.contains(map, key) {
-            return None;
-        }
-        match sizes.kind(map)? {
-            MapKind::Counter => Some(self.cells.drawn(map, key)),
-            MapKind::Peak => Some(self.cells.highest(map, key)),
-        }
+        self.cells.word(map, key)
     }
 }

@@ -3,6 +3,7 @@
 ghost use Rattle.std.specs.Prelude.{◌≡◌, ◌<◌, length, true};
 ghost use mathlib.Core.List.{IsPrefix};
 ghost use Rattle.bank.specs.Records.{fits};
+ghost use Rattle.node_programs.specs.Published.{sizes_of};
 ghost use Rattle.node_parts.specs.Applied.{IsApplied, share_of};
 ghost use Rattle.node_parts.specs.Loaded.{IsLoadEnd};
 ghost use Rattle.node_parts.specs.Passes.{pass_of};
@@ -11,21 +12,22 @@ ghost use Rattle.node_parts.specs.Stagings.{IsStagingPlace};
 ghost use Rattle.single_node.specs.Nodes.{IsInformed};
 ghost use Rattle.single_node.specs.Judging.{JudgesByLast};
 
+use crate::context::PortContext;
 use crate::lists::ProgramList;
 use crate::programs::SlotPrograms;
 use bank::{Admitted, Applied, Bank, Judged, Share};
-use cells::CellSeat;
-use node_parts::{RunContext, answer_staged, judge_by, load, slot};
+use node_parts::{answer_staged, load, slot};
 use node_programs::{Staging, published_programs};
+use plain_cells::PlainCells;
 use rmap::{Place, ReplyBuf, Status, Windows};
 use std::alloc::Global;
 use std::marker::Model;
 
-/// What a port has of its node: its context, with its seat at the cells, what it knows of the list of what was published,
-/// a share of each bank, and its staging.
+/// What a port has of its node: its context, what it knows of the list of what was published, a share of each bank, and
+/// its staging.
 #[derive(Drop)]
 pub(crate) struct SinglePort {
-    context: RunContext<CellSeat>,
+    context: PortContext,
     known: ProgramList,
     shares: Vec<Share>,
     staging: Staging,
@@ -42,7 +44,7 @@ impl Model for SinglePort {
 impl SinglePort {
     /// A port as it is made.
     pub fn new(
-        context: RunContext<CellSeat>,
+        context: PortContext,
         known: ProgramList,
         shares: Vec<Share>,
         staging: Staging,
@@ -71,22 +73,26 @@ impl SinglePort {
         &self.staging
     }
 
-    /// Judges an admitted command by the program of the slot of its place: one run on its header. The port then knows of
-    /// all that was published.
-    pub fn judge(&mut self, programs: &SlotPrograms, admitted: Admitted) -> Judged
-        requires { IsInformed programs.now self.old }
-        ensures { JudgesByLast programs.now self.old self.new admitted result }
+    /// Judges an admitted command by the program of the slot of its place: one run on its header, which asks the cells.
+    /// The port then knows of all that was published.
+    pub fn judge(
+        &mut self,
+        cells: &mut PlainCells,
+        programs: &SlotPrograms,
+        admitted: Admitted,
+    ) -> Judged
+        requires informed { IsInformed programs.now self.old }
+        requires sizes { cells.old.sizes ≡ sizes_of programs.now }
+        ensures judged { JudgesByLast programs.now cells.old.words cells.new.words
+            self.old self.new admitted result }
+        ensures sizes { cells.new.sizes ≡ cells.old.sizes }
     {
         published_programs();
         let slot = slot(admitted.command().kind(), admitted.place());
         let shown = programs.shown(slot);
         self.known = programs.list();
-        judge_by(
-            &mut self.context,
-            shown.program(),
-            shown.generation(),
-            admitted,
-        )
+        self.context
+            .judge(cells, shown.program(), shown.generation(), admitted)
     }
 
     /// Applies a judged command to the bank of its place, with the port's share of it, and leaves the reply.

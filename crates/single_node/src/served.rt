@@ -3,6 +3,7 @@
 ghost use Rattle.std.specs.Prelude.{◌≡◌, ◌<◌, length};
 ghost use mathlib.Core.List.{IsPrefix};
 ghost use Rattle.bank.specs.Admission.{IsPlacedBy};
+ghost use Rattle.node_programs.specs.Published.{sizes_of};
 ghost use Rattle.node_parts.specs.Pairs.{IsPaired};
 ghost use Rattle.node_parts.specs.Served.{parts};
 ghost use Rattle.node_parts.specs.declared.served.Served.TheVariants.{Stopped};
@@ -13,6 +14,7 @@ use crate::port::SinglePort;
 use crate::programs::SlotPrograms;
 use bank::Judged;
 use node_parts::{Banks, Served, Stop, admit, paired_commands_fit};
+use plain_cells::PlainCells;
 use rmap::{Place, ReplyBuf};
 use spw::Packet;
 use std::alloc::Global;
@@ -69,6 +71,7 @@ fn end(
 pub(crate) fn serve_at(
     alloc: Global,
     banks: &mut Banks,
+    cells: &mut PlainCells,
     programs: &mut SlotPrograms,
     port: &mut SinglePort,
     packet: Packet,
@@ -76,8 +79,11 @@ pub(crate) fn serve_at(
 ) -> Told
     requires paired { IsPaired banks.old port.old }
     requires informed { IsInformed programs.old port.old }
+    requires sizes { cells.old.sizes ≡ sizes_of programs.old }
     ensures served { ServesAt result.served result.generation result.verdict packet
-        (parts banks.old programs.old) (parts banks.new programs.new) port.old port.new reply.new }
+        cells.old.words cells.new.words (parts banks.old programs.old)
+        (parts banks.new programs.new) port.old port.new reply.new }
+    ensures sizes { cells.new.sizes ≡ cells.old.sizes }
     ensures some { 0 < length programs.old }
 {
     let _list = programs.list();
@@ -85,7 +91,7 @@ pub(crate) fn serve_at(
         Ok(admitted) => admitted,
         Err((stop, _packet)) => return stopped(stop),
     };
-    let judged = port.judge(programs, admitted);
+    let judged = port.judge(cells, programs, admitted);
     let generation = judged.generation();
     let verdict = judged.verdict();
     let served = end(alloc, banks, programs, port, judged, reply);

@@ -1,9 +1,10 @@
 use Rattle.std.proofs.Common.{◌≡◌, ◌∙◌, arith, length, rules, sym}
 use Rattle.std.specs.Prelude.{replicate}
 use Rattle.std.proofs.lemmas.List.FromFn.{map-range_with_len_more}
+use base.Stored.{gnil}
 use Rattle.bank.specs.Records.{first_share}
 use Rattle.node_parts.specs.Nodes.{first_pass}
-use Rattle.single_node.proofs.Making.{last_of, later, taken}
+use Rattle.single_node.proofs.Making.{later, taken}
 use Rattle.single_node.proofs.node.first_ports.Goals as goal
 
 pub loop-port-preserved : goal.loop-port-preserved
@@ -15,11 +16,8 @@ loop-port-preserved c =
     taken c.loop-port.by_port.items (length banks) ports port c.from.result c.take-shares.result.items c.index_mut.result.now c.loop-port.invariant.count c.loop-port-test.true c.from.ensures c.take-shares.ensures.shares c.index_mut.ensures.value c.loop-port.invariant.rest in
     record {
       count = search rules;
-      left = search rules;
-      seats = λ factory home begins. (last_of ports port _ c.in-Some.seat c.loop-port.seats.items _ c.loop-port-test.true (c.loop-port.invariant.seats factory home begins) c.in-Some.ensures.items).0;
-      ports = λ factory home programs begins.
-          let seat = last_of ports port _ c.in-Some.seat c.loop-port.seats.items _ c.loop-port-test.true (c.loop-port.invariant.seats factory home begins) c.in-Some.ensures.items in
-          let more = map-range_with_len_more (first_pass c.args.config.now.address banks factory home) 0 port port (omega arith) in
-          c.in_ok-push.ensures.items ∙ rw (c.loop-port.invariant.ports factory home programs begins, c.new-in-loop-port.ensures, c.new-context.ensures, seat.1, c.windows.ensures, c.list.ensures.list, programs, shares, c.in_ok-staging.ensures) (sym more);
+      ports = λ factory programs sizes.
+          let more = map-range_with_len_more (first_pass c.args.config.now.address banks factory gnil) 0 port port (omega arith) in
+          c.in_ok-push.ensures.items ∙ rw (c.loop-port.invariant.ports factory programs sizes, c.new-in-loop-port.ensures, c.new-context.ensures, c.windows.ensures, c.list.ensures.list, programs, shares, c.in_ok-staging.ensures, ← sizes) (sym more);
       rest = later c.loop-port.by_port.items (length banks) ports port c.from.result _ c.from.ensures c.loop-port.invariant.rest;
     }

@@ -1,7 +1,6 @@
-use Rattle.std.proofs.Common.{◌≡◌, ◌∙◌, [], ap, subst, sym}
-use Rattle.std.specs.Prelude.{replicate}
-use Rattle.cells.specs.Seats.{CellsValue, seat}
-use Rattle.machine.specs.Sizes.{Maps}
+use Rattle.std.proofs.Common.{◌≡◌, ◌∙◌, ap, sym}
+use base.Stored.{gnil}
+use Rattle.plain_cells.specs.Cells.{CellsValue}
 use Rattle.node_programs.specs.Published.{sizes_of}
 use Rattle.node_parts.specs.Nodes.{first_passes}
 use Rattle.single_node.specs.Nodes.{IsSingleNode, single_node}
@@ -11,12 +10,10 @@ use Rattle.single_node.proofs.node.SingleNode.new.Goals as goal
 pub invariant_of-result : goal.invariant_of-result
 invariant_of-result c =
     let config = c.args.config.now in
-    let home = c.in_ok-cells.cells.home in
-    let seats = subst (λ (sizes : Maps). c.in_ok-cells.seats.items ≡ replicate config.ports (seat sizes home [])) (sym c.requires) c.in_ok-cells.ensures.seats in
-    let ports : c.in_ok-ports.ports.items ≡ first_passes config c.args.factory home = c.in_ok-ports.ensures c.args.factory home c.in_ok-programs.ensures seats in
-    let node : IsSingleNode (single_node c.in_ok-banks.banks c.in_ok-programs.programs c.in_ok-ports.ports.items)
-    = rw (c.in_ok-banks.ensures.banks, c.in_ok-programs.ensures, ports) (fresh_node c.made_are_paired.ensures config c.args.factory home c.in_ok-banks.ensures.few_ports c.in_ok-banks.ensures.few_banks) in
-    (node, ap (λ (x : CellsValue). x.sizes) c.in_ok-cells.ensures.cells ∙ sym c.requires ∙ sym (ap sizes_of c.in_ok-programs.ensures))
+    let ports : c.in_ok-ports.ports.items ≡ first_passes config c.args.factory gnil = c.in_ok-ports.ensures c.args.factory c.in_ok-programs.ensures c.requires in
+    let node : IsSingleNode (single_node c.in_ok-banks.banks c.in_ok-cells.cells.words c.in_ok-programs.programs c.in_ok-ports.ports.items)
+    = rw (c.in_ok-banks.ensures.banks, c.in_ok-programs.ensures, ports) (fresh_node c.made_are_paired.ensures config c.in_ok-cells.cells.words c.args.factory c.in_ok-banks.ensures.few_ports c.in_ok-banks.ensures.few_banks) in
+    (node, ap (λ (x : CellsValue). x.sizes) c.in_ok-cells.ensures ∙ sym c.requires ∙ sym (ap sizes_of c.in_ok-programs.ensures))
 
 pub returns-clause-node : goal.returns-clause-node
 returns-clause-node c = (invariant_of-result c).0

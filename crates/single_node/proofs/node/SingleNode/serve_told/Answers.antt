@@ -29,13 +29,13 @@ invariant_of-self c =
     let pass = c.index_mut-port.result.now in
     let below : c.from-place.result < length passes = search rules in
     let own : slice_get passes c.from-place.result ≡ Some pass = slice_get-get_or passes c.from-place.result pass below ∙ ap Some (sym c.index_mut-port.ensures.value) in
-    let before = single_node c.self.inside.banks c.self.inside.programs passes in
+    let before = single_node c.self.inside.banks c.self.inside.cells.words c.self.inside.programs passes in
     let told = c.serve_at.result in
     let some = c.serve_at.ensures.some in
     let served = c.serve_at.ensures.served in
-    let node : IsSingleNode (single_node c.serve_at.new.banks c.serve_at.new.programs (slice_set passes c.from-place.result c.serve_at.new.port))
-    = node_after c.packets_keep_pairs.ensures.served c.packets_keep_pairs.ensures.all told.served told.generation told.verdict c.args.packet before c.serve_at.new.banks c.serve_at.new.programs c.from-place.result pass c.serve_at.new.port c.serve_at.new.reply c.self.invariant.0 own some served in
-    (node, c.self.invariant.1 ∙ sym (sizes_kept c.self.inside.programs c.serve_at.new.programs some (kept_or_longer told.served told.generation told.verdict c.args.packet _ _ pass c.serve_at.new.port c.serve_at.new.reply served).longer))
+    let node : IsSingleNode (single_node c.serve_at.new.banks c.serve_at.new.cells.words c.serve_at.new.programs (slice_set passes c.from-place.result c.serve_at.new.port))
+    = node_after c.packets_keep_pairs.ensures.served c.packets_keep_pairs.ensures.all told.served told.generation told.verdict c.args.packet before c.serve_at.new.banks c.serve_at.new.cells.words c.serve_at.new.programs c.from-place.result pass c.serve_at.new.port c.serve_at.new.reply c.self.invariant.0 own some served in
+    (node, c.serve_at.ensures.sizes ∙ c.self.invariant.1 ∙ sym (sizes_kept c.self.inside.programs c.serve_at.new.programs some (kept_or_longer told.served told.generation told.verdict c.args.packet _ _ _ _ pass c.serve_at.new.port c.serve_at.new.reply served).longer))
 
 pub returns-clause-serves : goal.returns-clause-serves
 returns-clause-serves c =
@@ -43,10 +43,10 @@ returns-clause-serves c =
     let pass = c.index_mut-port.result.now in
     let below : c.from-place.result < length passes = search rules in
     let own : slice_get passes c.from-place.result ≡ Some pass = slice_get-get_or passes c.from-place.result pass below ∙ ap Some (sym c.index_mut-port.ensures.value) in
-    let before = single_node c.self.inside.banks c.self.inside.programs passes in
-    let after = single_node c.serve_at.new.banks c.serve_at.new.programs (slice_set passes c.from-place.result c.serve_at.new.port) in
+    let before = single_node c.self.inside.banks c.self.inside.cells.words c.self.inside.programs passes in
+    let after = single_node c.serve_at.new.banks c.serve_at.new.cells.words c.serve_at.new.programs (slice_set passes c.from-place.result c.serve_at.new.port) in
     subst (λ (s : SingleNodeValue). ServesTold c.serve_at.result c.args.port c.args.packet s after c.serve_at.new.reply) c.self.view_is
-    (serves_of c.serve_at.result c.args.packet before c.serve_at.new.banks c.serve_at.new.programs c.args.port c.from-place.result pass c.serve_at.new.port c.serve_at.new.reply c.from-place.ensures own c.serve_at.ensures.served)
+    (serves_of c.serve_at.result c.args.packet before c.serve_at.new.banks c.serve_at.new.cells.words c.serve_at.new.programs c.args.port c.from-place.result pass c.serve_at.new.port c.serve_at.new.reply c.from-place.ensures own c.serve_at.ensures.served)
 
 pub returns-clause-node : goal.returns-clause-node
 returns-clause-node c = (invariant_of-self c).0

@@ -7,7 +7,7 @@ use Rattle.single_node.proofs.node.SingleNode.set_memory.Goals as goal
 
 pub invariant_of-self : goal.invariant_of-self
 invariant_of-self c =
-    let s = single_node c.self.inside.banks c.self.inside.programs c.self.inside.ports.items in
+    let s = single_node c.self.inside.banks c.self.inside.cells.words c.self.inside.programs c.self.inside.ports.items in
     let b = c.bank_mut.result.now in
     let bytes = c.args.bytes.now in
     let next = after_setting b c.args.address bytes c.args.fresh in

@@ -11,10 +11,10 @@ use Rattle.single_node.specs.Judging.{IsLastJudgement}
 use Rattle.single_node.proofs.Judging.{last_judgement}
 use Rattle.single_node.proofs.port.SinglePort.judge.Goals as goal
 
-pub returns : goal.returns
-returns c = λ p admission.
+pub returns-clause-judged : goal.returns-clause-judged
+returns-clause-judged c = λ p admission.
     let b = c.self.inside.context in
-    let left = c.judge_by.new.context in
+    let left = c.judge.new.self in
     let known = c.self.inside.known in
     let programs = c.args.programs.now in
     let shares = c.self.inside.shares.items in
@@ -27,9 +27,9 @@ returns c = λ p admission.
     = c.shown-shown.ensures.value ∙ ap₂ (λ (a : AcceptedValue) (n : ℕ). Some (a, n)) (sym c.program.ensures.value) (sym c.generation.ensures) in
     let accepted : IsJustified program.program program.sizes = subst (λ (a : AcceptedValue). IsJustified a.program a.sizes) (sym c.program.ensures.value) c.program.ensures.justified in
     let admitted_here : IsAdmission admitted p b.windows = subst (λ (h : PassValue). IsAdmission admitted p h.windows) (sym c.self.view_is) admission in
-    let begins = subst (λ (h : PassValue). IsPrefix h.programs programs) (sym c.self.view_is) c.requires.begins in
-    let judged : IsLastJudgement programs (pass_of b known shares staging) (pass_of left programs shares staging) p c.judge_by.result
-    = last_judgement c.published_programs.ensures.last b left known programs shares staging admitted p c.judge_by.result program generation c.slot-slot.result begins at shows accepted c.judge_by.ensures admitted_here in
-    let knows : IsLastJudgement programs (pass_of b known shares staging) (pass_of left c.list-self-inside.result shares staging) p c.judge_by.result
-    = subst (λ (l : List Publish). IsLastJudgement programs (pass_of b known shares staging) (pass_of left l shares staging) p c.judge_by.result) (sym c.list-self-inside.ensures.list) judged in
-    subst (λ (h : PassValue). IsLastJudgement programs h (pass_of left c.list-self-inside.result shares staging) p c.judge_by.result) c.self.view_is knows
+    let begins = subst (λ (h : PassValue). IsPrefix h.programs programs) (sym c.self.view_is) c.requires.informed.begins in
+    let judged : IsLastJudgement programs c.args.cells.now.words c.judge.new.cells.words (pass_of b known shares staging) (pass_of left programs shares staging) p c.judge.result
+    = last_judgement c.published_programs.ensures.last c.args.cells.now c.judge.new.cells b left known programs shares staging admitted p c.judge.result program generation c.slot-slot.result c.requires.sizes begins at shows accepted c.judge.ensures admitted_here in
+    let knows : IsLastJudgement programs c.args.cells.now.words c.judge.new.cells.words (pass_of b known shares staging) (pass_of left c.list-self-inside.result shares staging) p c.judge.result
+    = subst (λ (l : List Publish). IsLastJudgement programs c.args.cells.now.words c.judge.new.cells.words (pass_of b known shares staging) (pass_of left l shares staging) p c.judge.result) (sym c.list-self-inside.ensures.list) judged in
+    subst (λ (h : PassValue). IsLastJudgement programs c.args.cells.now.words c.judge.new.cells.words h (pass_of left c.list-self-inside.result shares staging) p c.judge.result) c.self.view_is knows

@@ -1,0 +1,3 @@
+mod Zeros
+mod Calls
+mod Tickets
