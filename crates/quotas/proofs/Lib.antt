@@ -4,3 +4,4 @@ mod Beginnings
 mod Deciding
 mod Holding
 mod Counting
+mod Alone

@@ -1,11 +1,12 @@
-//! Quotas over schedules: what a limit of a policy table promises of a whole node.
+//! What a limit of a policy table promises of a whole node.
 //!
 //! A rule of a policy table may draw a ticket of a counter cell, and match only where that is below its limit
-//! ([`policy::Quota`]). The law of this crate says of every lawful history of a node, over all its ports and all the
-//! programs that judge there, how many commands such rules match, whatever their verdict. It says nothing of how many
-//! commands pass: a later rule may let more pass.
+//! ([`policy::Quota`]). The laws of this crate say of every lawful history of a node ([`quotas_hold`]), and of all that is
+//! done to a node of one thread ([`quotas_hold_alone`]), over all its ports and all the programs that judge there, how many
+//! commands such rules match, whatever their verdict. They say nothing of how many commands pass: a later rule may let
+//! more pass.
 #![tactic(auto)]
 
 mod laws;
 
-pub use laws::quotas_hold;
+pub use laws::{quotas_hold, quotas_hold_alone};

@@ -1,0 +1,198 @@
+-- A quota of N matches at most N commands of a node of one thread: the matching draw of each is told how many tickets of
+-- the cell were drawn before it, which is below N.
+use Rattle.std.specs.Prelude.{◌==◌, ◌&&◌, IsTrue, if◌then◌else◌}
+use Rattle.std.proofs.Common.{◌≡◌, ◌<◌, ◌≤◌, ◌+◌, ◌^◌, ◌⊎◌, ℕ, Bool, true, false, List, [], ◌∷◌, ◌++◌, length, refl, sym, ap, ap₂, subst, ◌∙◌, arith, inl, inr, length-append}
+use Rattle.std.proofs.lemmas.Bool.{and_from, eq-eqb}
+use Rattle.bank.specs.Records.{JudgedValue}
+use Rattle.bver.specs.Justified.{AcceptedValue}
+use Rattle.machine.specs.declared.calls.Call.{Call}
+use Rattle.machine.specs.Helpers.{takes_kind}
+use Rattle.machine.specs.Sizes.{Maps, kind_of_map}
+use Rattle.machine.specs.declared.kinds.MapKind.{MapKind}
+use Rattle.machine.specs.declared.kinds.MapKind.TheVariants.{Counter, Peak}
+use Rattle.machine.specs.declared.helpers.Helper.TheVariants as helpers
+use Rattle.node_programs.specs.declared.publishes.Publish.{Publish}
+use Rattle.node_programs.specs.Histories.{entry, longer_history}
+use Rattle.node_programs.specs.Published.{sizes_of}
+use Rattle.node_parts.specs.Passes.{PassValue}
+use Rattle.node_parts.specs.Served.{IsAnswered, PartsValue}
+use Rattle.node_parts.specs.Steps.{IsJudgement}
+use Rattle.node_parts.specs.declared.config.NodeConfig.{NodeConfig}
+use Rattle.node_parts.specs.declared.served.Served.{Served}
+use Rattle.node_parts.specs.declared.served.Served.TheVariants.{Stopped, Unread, Done, Window}
+use Rattle.plain_cells.specs.Words.{AreCallsOn, AreCells, CallsKeepCells, IsOfCell, TicketsAreCounted, is_draw, tickets_in, told_by_words, word_at, words_behind, zero_words, ZerosAreCells}
+use Rattle.quotas.specs.Alone.{AreMatches, Deed, IsMatch, IsMatchBy, IsMatchOf, QuotasHoldAlone, Way, calls_by, calls_of, rotates, serves, sets, start, then, tickets_on}
+use Rattle.quotas.proofs.Deciding.{ends_in_draw}
+use Rattle.sched.specs.Looking.{header_in}
+use Rattle.single_node.specs.Nodes.{IsFresh, SingleNodeValue}
+use Rattle.single_node.specs.Serving.{AreKeptOrLonger, AsksCells, Serves}
+use Rattle.spw.specs.Cargo.{Cargo}
+
+-- ---- the last call of a match
+
+-- the call that draws a ticket of the cell
+abbrev drawn : (map key answer : ℕ) → Call
+drawn map key answer = record { question = record { helper = helpers.Ticket; map = map; key = key; argument = 0 }; answer = answer }
+
+-- the last of the calls draws a ticket of the cell, and was told less than the limit
+record EndsLow (calls : List Call) (map key limit : ℕ) : Type 0 where
+  before : List Call
+  answer : ℕ
+  is : calls ≡ before ++ drawn map key answer ∷ []
+  below : answer < limit
+
+ends_low : (map key limit : ℕ) {h after : PassValue} {p : Cargo} {j : JudgedValue} (judgement : IsJudgement h after p j) → IsMatch map key limit judgement → EndsLow judgement.calls map key limit
+ends_low map key limit {p = p} judgement m =
+    let e = m.match in
+    let l = ends_in_draw m.rules (header_in p) e.told e.quota e.matched in
+    record {
+      before = l.before;
+      answer = l.answer;
+      is = e.draws ∙ l.is ∙ ap₂ (λ (a b : ℕ). l.before ++ drawn a b l.answer ∷ []) e.of_map e.of_cell;
+      below = omega (arith, l.below, e.of_limit, m.small);
+    }
+
+ends_by : (map key limit : ℕ) (served : Served) {p : Cargo} {old new : PartsValue} {h after : PassValue} {reply : List ℕ} (answered : IsAnswered served p old new h after reply)
+    → IsMatchBy map key limit served answered → EndsLow (calls_by served answered) map key limit
+ends_by map key limit (Stopped stop) answered m = absurd m
+ends_by map key limit Unread answered m = absurd m
+ends_by map key limit (Done result) answered m = ends_low map key limit answered.judgement m
+ends_by map key limit (Window status) answered m = ends_low map key limit answered.judgement m
+
+ends_of : (map key limit : ℕ) {before after : SingleNodeValue} (deed : Deed before after) → IsMatchOf map key limit deed → EndsLow (calls_of deed) map key limit
+ends_of map key limit (serves served port packet reply s) m = ends_by map key limit served s.answered m
+ends_of map key limit (rotates number fresh old s) m = absurd m
+ends_of map key limit (sets number address bytes fresh old s) m = absurd m
+
+-- ---- what the last draw is told
+
+-- the words before the last call, which it was answered by
+record IsLastOn (sizes : Maps) (words : List (List ℕ)) (before : List Call) (c : Call) : Type 0 where
+  between : List (List ℕ)
+  calls : AreCallsOn sizes words before between
+  of : IsOfCell sizes c.question
+  told : c.answer ≡ told_by_words between c.question
+
+last_on : (sizes : Maps) (words behind : List (List ℕ)) (before : List Call) (c : Call) → AreCallsOn sizes words (before ++ c ∷ []) behind → IsLastOn sizes words before c
+last_on sizes words behind [] c calls = record { between = words; calls = refl; of = calls.0; told = calls.1 }
+last_on sizes words behind (b ∷ bs) c calls =
+    let rest = last_on sizes (words_behind words b.question) behind bs c calls.2 in
+    record { between = rest.between; calls = (calls.0, calls.1, rest.calls); of = rest.of; told = rest.told }
+
+is_own : (map key : ℕ) → (map == map && key == key) ≡ true
+is_own map key = and_from (map == map) (key == key) (eq-eqb map map refl) (eq-eqb key key refl)
+
+one_ticket : (t : Bool) (rest n : ℕ) → rest ≡ n + 1 → (if t then rest + 1 else rest) ≡ (if t then n + 1 else n) + 1
+one_ticket true rest n is = omega (arith, is)
+one_ticket false rest n is = is
+
+drawn_last : (before : List Call) (map key answer : ℕ) → tickets_in (before ++ drawn map key answer ∷ []) map key ≡ tickets_in before map key + 1
+drawn_last [] map key answer = ap (λ (t : Bool). if t then 0 + 1 else 0) (is_own map key)
+drawn_last (b ∷ bs) map key answer = one_ticket (is_draw b.question map key) _ (tickets_in bs map key) (drawn_last bs map key answer)
+
+counter_is : (kind : MapKind) → IsTrue (takes_kind helpers.Ticket kind) → kind ≡ Counter
+counter_is Counter takes = refl
+counter_is Peak takes = cc
+
+-- the last ticket of the calls is told one less than were drawn with it
+told_last : TicketsAreCounted → (sizes : Maps) (words behind : List (List ℕ)) (calls : List Call) (map key limit word : ℕ) → AreCells sizes words → AreCallsOn sizes words calls behind
+    → (kind_of_map sizes map ≡ Counter → word_at words map key ≡ word) → word + tickets_in calls map key < 2 ^ 64 → EndsLow calls map key limit
+    → (0 < tickets_in calls map key) × (word + tickets_in calls map key ≤ limit)
+told_last law sizes words behind calls map key limit word cells on stands few ends =
+    let last = last_on sizes words behind ends.before (drawn map key ends.answer) (subst (λ (cs : List Call). AreCallsOn sizes words cs behind) ends.is on) in
+    let counter = counter_is (kind_of_map sizes map) last.of.kind in
+    let count : tickets_in calls map key ≡ tickets_in ends.before map key + 1 = ap (λ (cs : List Call). tickets_in cs map key) ends.is ∙ drawn_last ends.before map key ends.answer in
+    let was = stands counter in
+    let told = last.told ∙ law sizes words last.between ends.before map key cells counter last.calls (omega (arith, was, count, few)) in
+    (omega (arith, count), omega (arith, count, told, was, ends.below))
+
+-- ---- a node on its way
+
+calls_on : (sizes : Maps) (served : Served) {p : Cargo} {old new : PartsValue} {h after : PassValue} {reply : List ℕ} (answered : IsAnswered served p old new h after reply) (words behind : List (List ℕ))
+    → AsksCells sizes served p old new h after reply answered words behind → AreCallsOn sizes words (calls_by served answered) behind
+calls_on sizes (Stopped stop) answered words behind is = is
+calls_on sizes Unread answered words behind is = absurd is
+calls_on sizes (Done result) answered words behind is = is
+calls_on sizes (Window status) answered words behind is = is
+
+sizes_stay : (xs more : List Publish) → 0 < length xs → sizes_of (xs ++ more) ≡ sizes_of xs
+sizes_stay [] more some = absurd (omega arith)
+sizes_stay (x ∷ xs) more some = refl
+
+-- behind a call on a node
+record GoesOn (before after : SingleNodeValue) (calls : List Call) : Type 0 where
+  on : AreCallsOn (sizes_of before.programs) before.words calls after.words
+  sizes : sizes_of after.programs ≡ sizes_of before.programs
+  some : 0 < length after.programs
+
+longer : (before after : SingleNodeValue) (calls : List Call) (served : Served) → AreCallsOn (sizes_of before.programs) before.words calls after.words → AreKeptOrLonger served before.programs after.programs → 0 < length before.programs
+    → GoesOn before after calls
+longer before after calls served on is some = elim is.longer [
+  | inl same ↦ record { on = on; sizes = ap sizes_of same; some = rw same some }
+  | inr more ↦ record {
+    on = on;
+    sizes = ap sizes_of more.2 ∙ sizes_stay before.programs _ some;
+    some = omega (arith, ap length more.2, length-append before.programs (entry more.0 more.1 ∷ []), some);
+  }
+]
+
+goes_on : {before after : SingleNodeValue} (deed : Deed before after) → 0 < length before.programs → GoesOn before after (calls_of deed)
+goes_on {before} {after} (serves served port packet reply s) some = longer before after _ served (calls_on (sizes_of before.programs) served s.answered before.words after.words s.cells) s.programs some
+goes_on {before} {after} (rotates number fresh old s) some = record {
+  on = ap (λ (n : SingleNodeValue). n.words) s.rotated;
+  sizes = ap (λ (n : SingleNodeValue). sizes_of n.programs) s.rotated;
+  some = omega (arith, ap (λ (n : SingleNodeValue). length n.programs) s.rotated, some);
+}
+goes_on {before} {after} (sets number address bytes fresh old s) some = record {
+  on = ap (λ (n : SingleNodeValue). n.words) s.set;
+  sizes = ap (λ (n : SingleNodeValue). sizes_of n.programs) s.set;
+  some = omega (arith, ap (λ (n : SingleNodeValue). length n.programs) s.set, some);
+}
+
+-- what stands behind a way of a fresh node: the word of a counter is how many tickets of it were drawn
+record Stands (sizes : Maps) (map key : ℕ) {first last : SingleNodeValue} (way : Way first last) : Type 0 where
+  sizes_are : sizes_of last.programs ≡ sizes
+  some : 0 < length last.programs
+  cells : AreCells sizes last.words
+  word : kind_of_map sizes map ≡ Counter → tickets_on way map key < 2 ^ 64 → word_at last.words map key ≡ tickets_on way map key
+
+module _ (counted : TicketsAreCounted) (keep : CallsKeepCells) (zeros : ZerosAreCells) (config : NodeConfig) (factory : AcceptedValue) (first : SingleNodeValue) (fresh : IsFresh config factory first) (map key : ℕ) where
+  stands : {last : SingleNodeValue} (way : Way first last) → Stands factory.sizes map key way
+  stands start =
+      let words = ap (λ (n : SingleNodeValue). n.words) fresh in
+      record {
+        sizes_are = ap (λ (n : SingleNodeValue). sizes_of n.programs) fresh;
+        some = omega (arith, ap (λ (n : SingleNodeValue). length n.programs) fresh);
+        cells = rw words (zeros factory.sizes).0;
+        word = λ counter few. ap (λ (w : List (List ℕ)). word_at w map key) words ∙ (zeros factory.sizes).1 map key;
+      }
+  stands (then way deed) =
+      let was = stands way in
+      let goes = goes_on deed was.some in
+      let on = subst (λ (s : Maps). AreCallsOn s _ (calls_of deed) _) was.sizes_are goes.on in
+      record {
+        sizes_are = goes.sizes ∙ was.sizes_are;
+        some = goes.some;
+        cells = keep factory.sizes _ _ (calls_of deed) was.cells on;
+        word = λ counter few.
+            let word = was.word counter (omega (arith, few)) in
+            counted factory.sizes _ _ (calls_of deed) map key was.cells counter on (omega (arith, word, few)) ∙ ap (λ n. n + tickets_in (calls_of deed) map key) word;
+      }
+
+  holds : (limit : ℕ) {last : SingleNodeValue} (way : Way first last) (count : ℕ) → tickets_on way map key < 2 ^ 64 → AreMatches map key limit way count → (count ≤ tickets_on way map key) × (count ≤ limit)
+  holds limit start count few none = (omega (arith, none), omega (arith, none))
+  holds limit (then way deed) count few matches =
+      let less : tickets_on way map key < 2 ^ 64 = omega (arith, few) in
+      elim matches [
+        | inl others ↦ let rest = holds limit way count less others in (omega (arith, rest.0), rest.1)
+        | inr one ↦
+            let rest = holds limit way one.0 less one.2 in
+            let was = stands way in
+            let goes = goes_on deed was.some in
+            let on = subst (λ (s : Maps). AreCallsOn s _ (calls_of deed) _) was.sizes_are goes.on in
+            let low = told_last counted factory.sizes _ _ (calls_of deed) map key limit (tickets_on way map key) was.cells on (λ counter. was.word counter less) few (ends_of map key limit deed one.3) in
+            (omega (arith, one.1, rest.0, low.0), omega (arith, one.1, rest.0, low.0, low.1))
+      ]
+
+pub quotas_hold_alone : TicketsAreCounted → CallsKeepCells → ZerosAreCells → QuotasHoldAlone
+quotas_hold_alone counted keep zeros config factory first last way map key limit count fresh few matches = (holds counted keep zeros config factory first fresh map key limit way count few matches).1
