@@ -279,7 +279,7 @@ value_53 = refl
 
 -- ---- what threads share
 
--- `Gv`: a value of any type, as a seat tells of which table it is
+-- `Gv`: a value of any type, as a seat tells of which table it is; `gnil`: the one that tells nothing
 
 -- `IsPassOf queue pass`: the pass was made for that queue; `IsSamePass`: two moments of one pass; `view pass`: what its holder did at the queue so far
 
