@@ -3,6 +3,7 @@
 #![tactic(auto)]
 
 mod came;
+mod faults;
 mod flags;
 mod heads;
 mod laws;
@@ -10,6 +11,7 @@ mod reader;
 mod replies;
 
 pub use crate::came::Came;
+pub use crate::faults::FrameFault;
 pub use crate::flags::Flag;
 pub use crate::heads::{HEAD_LENGTH, Head};
 pub use crate::laws::frames_are_read;

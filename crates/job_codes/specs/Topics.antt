@@ -20,6 +20,7 @@ use Rattle.basm.specs.Codes.{asm_of_code}
 use Rattle.bpf.specs.Fault.{image_fault_of_code}
 use Rattle.bpf_insn.specs.Faults.{bad_insn_of_code}
 use Rattle.bver_form.specs.Codes.{refusal_of_code}
+use Rattle.frames.specs.Faults.{frame_fault_of_code}
 use Rattle.policy_table.specs.Codes.{policy_fault_of_code}
 use Rattle.rmap.specs.Codes.{discard_of_code, status_of_code}
 use Rattle.node_parts.specs.Loads.{load_refusal_of_code}
@@ -31,6 +32,7 @@ use Rattle.job_codes.specs.declared.topics.CodeKind.TheVariants.{
   Image,
   Insn,
   Line,
+  Frame,
   Discard,
   Status,
   Load,
@@ -45,10 +47,11 @@ kind_at place =
     else (if place == 2 then Image
     else (if place == 3 then Insn
     else (if place == 4 then Line
-    else (if place == 5 then Discard
-    else (if place == 6 then Status
-    else (if place == 7 then Load
-    else Policy)))))))
+    else (if place == 5 then Frame
+    else (if place == 6 then Discard
+    else (if place == 7 then Status
+    else (if place == 8 then Load
+    else Policy))))))))
 
 -- the letters before the number
 abbrev pub kind_word : CodeKind → List ℕ
@@ -57,6 +60,7 @@ kind_word Text = codes "asm"
 kind_word Image = codes "image"
 kind_word Insn = codes "insn"
 kind_word Line = codes "line"
+kind_word Frame = codes "frame"
 kind_word Discard = codes "discard"
 kind_word Status = codes "status"
 kind_word Load = codes "load"
@@ -69,6 +73,7 @@ has_code Text n = is_some (asm_of_code n)
 has_code Image n = is_some (image_fault_of_code n)
 has_code Insn n = is_some (bad_insn_of_code n)
 has_code Line n = is_some (bad_line_of_number n)
+has_code Frame n = is_some (frame_fault_of_code n)
 has_code Discard n = is_some (discard_of_code n)
 has_code Status n = is_some (status_of_code n)
 has_code Load n = is_some (load_refusal_of_code n)

@@ -8,6 +8,7 @@ use basm::AsmCode;
 use bpf::ImageFault;
 use bpf_insn::BadInsn;
 use bver::Refusal;
+use frames::FrameFault;
 use job_parts::bad_lines::BadLine;
 use node_parts::LoadRefusal;
 use policy::PolicyFault;
@@ -30,6 +31,8 @@ pub enum CodeKind {
     Insn,
     /// A fault of a packet line or an event line: `line3`.
     Line,
+    /// A fault of a frame: `frame2`.
+    Frame,
     /// Why a packet is discarded: `discard4`.
     Discard,
     /// A status of a reply: `status10`.
@@ -41,7 +44,7 @@ pub enum CodeKind {
 }
 
 /// How many kinds there are.
-pub const KINDS: u8 = 9;
+pub const KINDS: u8 = 10;
 
 /// What a code tells.
 #[derive(Clone, Copy, Debug)]
@@ -56,6 +59,8 @@ pub enum Topic {
     Insn(BadInsn),
     /// A line of a job is bad.
     Line(BadLine),
+    /// A frame is for a bridge, or is cut off.
+    Frame(FrameFault),
     /// A packet is discarded.
     Discard(Discard),
     /// How a command ended.
@@ -76,6 +81,7 @@ impl Topic {
             Topic::Image(fault) => format!(in alloc; "{fault}"),
             Topic::Insn(fault) => format!(in alloc; "{fault}"),
             Topic::Line(bad) => format!(in alloc; "{bad}"),
+            Topic::Frame(fault) => format!(in alloc; "{fault}"),
             Topic::Discard(reason) => format!(in alloc; "{reason}"),
             Topic::Status(status) => format!(in alloc; "{status}"),
             Topic::Load(refusal) => format!(in alloc; "{refusal}"),
@@ -91,6 +97,7 @@ impl Topic {
             Topic::Image(fault) => fault.advice(),
             Topic::Insn(fault) => fault.advice(),
             Topic::Line(bad) => bad.advice(),
+            Topic::Frame(fault) => fault.advice(),
             Topic::Discard(reason) => reason.advice(),
             Topic::Status(status) => status.advice(),
             Topic::Load(refusal) => refusal.advice(),
@@ -136,9 +143,10 @@ impl CodeKind {
             2 => CodeKind::Image,
             3 => CodeKind::Insn,
             4 => CodeKind::Line,
-            5 => CodeKind::Discard,
-            6 => CodeKind::Status,
-            7 => CodeKind::Load,
+            5 => CodeKind::Frame,
+            6 => CodeKind::Discard,
+            7 => CodeKind::Status,
+            8 => CodeKind::Load,
             _ => CodeKind::Policy,
         }
     }
@@ -153,6 +161,7 @@ impl CodeKind {
             CodeKind::Image => "image",
             CodeKind::Insn => "insn",
             CodeKind::Line => "line",
+            CodeKind::Frame => "frame",
             CodeKind::Discard => "discard",
             CodeKind::Status => "status",
             CodeKind::Load => "load",
@@ -170,6 +179,7 @@ impl CodeKind {
             CodeKind::Image => Some(Topic::Image(ImageFault::from_code(number)?)),
             CodeKind::Insn => Some(Topic::Insn(BadInsn::from_code(number)?)),
             CodeKind::Line => Some(Topic::Line(BadLine::from_number(number)?)),
+            CodeKind::Frame => Some(Topic::Frame(FrameFault::from_code(number)?)),
             CodeKind::Discard => Some(Topic::Discard(Discard::from_code(number)?)),
             CodeKind::Status => Some(Topic::Status(Status::from_code(number)?)),
             CodeKind::Load => load_topic(number),

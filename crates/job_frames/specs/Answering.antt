@@ -10,7 +10,7 @@ use Rattle.job_nodes.specs.JobNode.{HandsOut, JobNodeValue, Serves, is_full}
 use Rattle.job_live.specs.Answering.{MakesRoom}
 use Rattle.job_live.specs.Telling.{journal_text}
 use Rattle.job_frames.specs.Told.{fault_line, served_text}
-use Rattle.job_frames.specs.declared.faults.FrameFault.TheVariants.{ForBridge, CutOff}
+use Rattle.frames.specs.declared.faults.FrameFault.TheVariants.{ForBridge, CutOff}
 
 -- a node, how many frames came, and whether a packet goes on with the next
 pub record AnsweringValue : Type 0 where

@@ -1,22 +1,17 @@
 -- The lines that are told of a frame, by its number, which is counted from 1.
 use Rattle.std.specs.Prelude.{ℕ, List, [], ◌∷◌, ◌++◌, codes, decimal}
+use Rattle.frames.specs.Faults.{frame_fault_code}
+use Rattle.frames.specs.declared.faults.FrameFault.{FrameFault}
 use Rattle.node_parts.specs.declared.served.Served.{Served}
 use Rattle.node_parts.specs.declared.served.Served.TheVariants.{Stopped, Unread, Done, Window}
 use Rattle.node_parts.specs.declared.stop.Stop.TheVariants.{Discarded, Answered}
 use Rattle.rmap.specs.Codes.{discard_code}
 use Rattle.rmap.specs.declared.discard.Discard.{Discard}
-use Rattle.job_frames.specs.declared.faults.FrameFault.{FrameFault}
-use Rattle.job_frames.specs.declared.faults.FrameFault.TheVariants.{ForBridge, CutOff}
-
--- the number of a fault
-abbrev pub frame_fault_number : FrameFault → ℕ
-frame_fault_number ForBridge = 1
-frame_fault_number CutOff = 2
 
 -- `frame K fault C`
 abbrev pub fault_line : (frame : ℕ) → FrameFault → List ℕ
 fault_line frame fault =
-    codes "frame " ++ decimal frame ++ codes " fault " ++ decimal (frame_fault_number fault) ++ 10 ∷ []
+    codes "frame " ++ decimal frame ++ codes " fault " ++ decimal (frame_fault_code fault) ++ 10 ∷ []
 
 -- `frame K discard C`
 abbrev pub discard_line : (frame : ℕ) → Discard → List ℕ

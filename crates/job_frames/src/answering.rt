@@ -6,8 +6,8 @@ ghost use Rattle.job_live.specs.Answering.{MakesRoom, TellsJournal};
 ghost use Rattle.job_nodes.specs.JobNode.{is_full};
 ghost use Rattle.job_parts.specs.Printed.{Prints};
 
-use crate::faults::{FrameFault, print_fault, print_served};
-use frames::{Came, reply_frame};
+use crate::faults::{print_fault, print_served};
+use frames::{Came, FrameFault, reply_frame};
 use job_live::telling::print_journal;
 use job_nodes::node::{JobNode, fresh_journal};
 use linking::{Cannot, Due, Target};

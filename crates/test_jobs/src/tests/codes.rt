@@ -6,6 +6,7 @@ use bpf::ImageFault;
 use bpf_insn::BadInsn;
 use bver::Refusal;
 use commands::perform;
+use frames::FrameFault;
 use policy::PolicyFault;
 use rmap::{Discard, Status};
 use spw::LineFault;
@@ -17,8 +18,8 @@ use std::thread::Threads;
 use test_kit_jobs::{folder_of, job_named, perform_in};
 
 /// The letters of codes, in the order in which they are listed.
-const KINDS: [&str; 9] = [
-    "V", "asm", "image", "insn", "line", "discard", "status", "load", "policy",
+const KINDS: [&str; 10] = [
+    "V", "asm", "image", "insn", "line", "frame", "discard", "status", "load", "policy",
 ];
 
 /// The widest line that may be printed.
@@ -32,6 +33,7 @@ fn is_known(kind: &str, number: u8) -> bool {
         "image" => ImageFault::from_code(number).is_some(),
         "insn" => BadInsn::from_code(number).is_some(),
         "line" => LineFault::from_code(number).is_some() || number == 6 || number == 7,
+        "frame" => FrameFault::from_code(number).is_some(),
         "discard" => Discard::from_code(number).is_some(),
         "status" => Status::from_code(number).is_some(),
         "load" => {
