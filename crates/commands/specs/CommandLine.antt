@@ -6,9 +6,8 @@ use Rattle.clap.specs.Faults.{fault_of}
 use Rattle.clap.specs.declared.error.kind.ErrorKind.{ErrorKind}
 use Rattle.clap.specs.declared.error.kind.ErrorKind.TheVariants.{OutOfMemory}
 use Rattle.job_decide.specs.DecideJob.{decide_app, NamesDecide, SpoilsDecide}
-use Rattle.job_live.specs.LiveJob.{live_app}
+use Rattle.job_live.specs.Words.{live_app, NamesLive, SpoilsLive}
 use Rattle.job_parts.specs.Lines.{NamesLines, SpoilsLines}
-use Rattle.job_parts.specs.Options.{GivesNode, SpoilsNode}
 use Rattle.job_texts.specs.AsmJob.{asm_app, NamesAsm}
 use Rattle.job_texts.specs.DisJob.{dis_app, NamesDis}
 use Rattle.job_codes.specs.ExplainJob.{explain_app, NamesExplain, SpoilsExplain}
@@ -86,7 +85,7 @@ Names (Some found) (Once (Judge args)) = (found.0 ≡ codes "judge") × NamesLin
 Names (Some found) (Once (Policy words)) = (found.0 ≡ codes "policy") × NamesPolicy found.1 words
 Names (Some found) (Once (Serve args)) = (found.0 ≡ codes "serve") × NamesLines found.1 args
 Names (Some found) (Once (Simulate args)) = (found.0 ≡ codes "sim") × NamesLines found.1 args
-Names (Some found) (Live words) = (found.0 ≡ codes "live") × GivesNode found.1 words
+Names (Some found) (Live words) = (found.0 ≡ codes "live") × NamesLive found.1 words
 Names (Some found) (Once (Explain words)) = (found.0 ≡ codes "explain") × NamesExplain found.1 words
 Names (Some found) (Once (Why args)) = (found.0 ≡ codes "why") × NamesImage found.1 args
 Names (Some found) (Once (Packet words)) = (found.0 ≡ codes "packet") × NamesPacket found.1 words
@@ -110,7 +109,7 @@ pub record IsSpoiled (found : Text × List Row) : Type 0 where
   pub policy : found.0 ≡ codes "policy" → SpoilsPolicy found.1
   pub serve : found.0 ≡ codes "serve" → SpoilsLines found.1
   pub sim : found.0 ≡ codes "sim" → SpoilsLines found.1
-  pub live : found.0 ≡ codes "live" → SpoilsNode found.1
+  pub live : found.0 ≡ codes "live" → SpoilsLive found.1
   pub explain : found.0 ≡ codes "explain" → SpoilsExplain found.1
   pub why : found.0 ≡ codes "why" → SpoilsImage found.1
   pub packet : found.0 ≡ codes "packet" → SpoilsPacket found.1

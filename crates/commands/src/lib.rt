@@ -1,4 +1,4 @@
-//! What `rmapctl` does: its command line, its jobs over any files and any writer, and its talk over any lines that come.
+//! What `rmapctl` does: its command line, its jobs over any files and any writer, and its talks over any lines or frames that come.
 #![tactic(auto)]
 
 mod jobs;
@@ -7,10 +7,13 @@ mod work;
 
 pub use job_codes::explain::ExplainWords;
 pub use job_decide::decide::DecideWords;
+pub use job_frames::holding::live_frames;
+pub use job_frames::host::HostLink;
 pub use job_live::answering::MAX_LINE;
 pub use job_live::host::HostTalk;
 pub use job_live::live::live;
 pub use job_live::talk::Talk;
+pub use job_live::words::LiveWords;
 pub use job_packets::orders::{Order, Source};
 pub use job_packets::packet::PacketWords;
 pub use job_packets::packet_options::HeaderWords;

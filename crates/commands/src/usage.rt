@@ -13,13 +13,12 @@ use clap::{ArgMatches, Command, Error};
 use job_codes::explain::{explain_command, explain_job};
 use job_codes::why::why_command;
 use job_decide::decide::{decide_command, decide_job};
-use job_live::live::live_command;
+use job_live::words::{live_command, live_job};
 use job_nodes::judge::judge_command;
 use job_nodes::sim::sim_command;
 use job_packets::packet::{packet_command, packet_job};
 use job_packets::show::{show_command, show_job};
 use job_parts::lines::lines_args;
-use job_parts::options::node_words;
 use job_parts::usage::UsageFault;
 use job_ports::serve::serve_command;
 use job_texts::asm::{asm_command, asm_job};
@@ -132,7 +131,7 @@ fn work_of(alloc: Global, found: &ArgMatches) -> Result<Work, UsageFault>
         return Ok(Work::Once(Job::Simulate(lines_args(alloc, sim)?)));
     }
     if let Some(live) = found.subcommand_matches("live") {
-        return Ok(Work::Live(node_words(alloc, live)?));
+        return Ok(Work::Live(live_job(alloc, live)?));
     }
     if let Some(explain) = found.subcommand_matches("explain") {
         return Ok(Work::Once(Job::Explain(explain_job(alloc, explain)?)));

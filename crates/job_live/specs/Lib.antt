@@ -4,3 +4,4 @@ pub mod LiveJob
 pub mod Settings
 pub mod Talking
 pub mod Telling
+pub mod Words

@@ -1,13 +1,12 @@
--- The job `live`: its words, and the talk that it holds.
+-- The job `live`: the talk that it holds.
 use Rattle.std.specs.Prelude.{◌≡◌, ◌⊎◌, ◌||◌, ℕ, suc, Bool, true, false, List, [], ◌∷◌, length, codes, Option, Some, None}
 use Rattle.std.specs.Borrow.{Bor}
-use Rattle.clap.specs.Simple.{App, new_app}
 use Rattle.bpf.specs.Program.{Program}
 use Rattle.bver.specs.Justified.{AcceptedValue, IsJustified}
 use Rattle.machine.specs.Runs.{IsSafe}
 use Rattle.job_parts.specs.Files.{Reads}
 use Rattle.job_parts.specs.Given.{HoldsNoProgram, HoldsProgram}
-use Rattle.job_parts.specs.Options.{image_name, with_node_options}
+use Rattle.job_parts.specs.Options.{image_name}
 use Rattle.job_parts.specs.Printed.{fault_line}
 use Rattle.job_parts.specs.declared.faults.Fault.{Fault}
 use Rattle.job_parts.specs.declared.faults.Fault.TheVariants.{CannotRead, NoMemory}
@@ -20,10 +19,6 @@ use Rattle.job_parts.specs.declared.stops.WriteFault.{WriteFault}
 use Rattle.job_nodes.specs.JobNode.{IsFresh, JobNodeValue}
 use Rattle.job_live.specs.Answering.{Answers}
 use Rattle.job_live.specs.Talking.{Comes, Misses, Sends}
-
--- `live [--image FILE] [--maps LIST] [--ports N]`
-abbrev pub live_app : App
-live_app = with_node_options (new_app (codes "live"))
 
 -- how many lines are counted: no talk gets there
 abbrev pub most_lines : ℕ

@@ -1,4 +1,4 @@
-//! The job of `rmapctl` that answers packet lines as they come.
+//! The job of `rmapctl` that answers packet lines as they come, and its words.
 #![tactic(auto)]
 
 pub mod answering;
@@ -8,3 +8,4 @@ pub mod live;
 pub mod settings;
 pub mod talk;
 pub mod telling;
+pub mod words;

@@ -1,36 +1,24 @@
 //! The job `live`.
 
-ghost use Rattle.std.specs.Prelude.{◌≡◌, ◌||◌, ◌⊎◌, IfErr, IfOk, OnOk, false, if◌then◌else◌};
-ghost use Rattle.clap.specs.Simple.{app_of};
-ghost use Rattle.clap.specs.declared.builder.command.Command.TheViews.{out-Command as fields_of};
+ghost use Rattle.std.specs.Prelude.{◌≡◌, ◌||◌, ◌⊎◌, IfErr, IfOk, OnOk, if◌then◌else◌};
 ghost use Rattle.job_parts.specs.Printed.{fault_line};
 ghost use Rattle.job_parts.specs.declared.status.Status.TheVariants.{Done, Failed};
-ghost use Rattle.job_live.specs.LiveJob.{Exchanges, HoldsTalk, IsBrokenOff, IsCutOff, IsLiveNode, IsNoLiveNode, IsUnanswered, IsUnsent, IsWholeTalk, Lives, live_app};
+ghost use Rattle.job_live.specs.LiveJob.{Exchanges, HoldsTalk, IsBrokenOff, IsCutOff, IsLiveNode, IsNoLiveNode, IsUnanswered, IsUnsent, IsWholeTalk, Lives};
 
 use crate::answering::answer;
 use crate::talk::Talk;
-use clap::Command;
 use job_nodes::node::JobNode;
 use job_parts::factory::judging_program;
 use job_parts::faults::Fault;
-use job_parts::options::{NodeWords, node_arguments};
+use job_parts::options::NodeWords;
 use job_parts::status::Status;
 use job_parts::stops::{Halt, WriteFault};
 use job_parts::storage::Files;
-use std::alloc::{AllocError, Global};
+use std::alloc::Global;
 use std::io::Write;
 
 /// The name of standard input, where the lines cannot be read.
 const STANDARD_INPUT: &str = "-";
-
-/// `live [--image FILE] [--maps LIST] [--ports N]`.
-pub fn live_command<'a>(alloc: Global) -> Result<Command<'a>, AllocError>
-    ensures shape { IfOk result (λ c. app_of c ≡ live_app) }
-    ensures local { IfOk result (λ c. (fields_of c).has_globals ≡ false) }
-{
-    let about = "Answers packet lines at standard input as they come";
-    node_arguments(alloc, Command::new(alloc, "live").about(about))
-}
 
 /// Takes the next line, and sends what is due for it: whether it is bad, or `None` where no more came.
 fn exchange<'a, T: Talk>(

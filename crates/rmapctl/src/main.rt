@@ -2,7 +2,10 @@
 //! standard streams of this machine. docs/COMMANDS.md says what it does.
 #![tactic(auto)]
 
-use commands::{HostFiles, HostTalk, Job, NodeWords, UsageFault, Work, live, perform, words};
+use commands::{
+    HostFiles, HostLink, HostTalk, Job, LiveWords, NodeWords, UsageFault, Work, live, live_frames,
+    perform, words,
+};
 use std::alloc::Global;
 use std::io::{BufReader, BufWriter, Write};
 use std::process::ExitCode;
@@ -48,8 +51,12 @@ fn do_job<R: rt::Files + Input + Print + Eprint + Threads + Wait + Sync>(
     }
 }
 
-/// Holds a talk over standard input and standard output, and gives the exit status.
-fn talk<R: rt::Files + Input + Print + Eprint>(rt: &R, alloc: Global, node: &NodeWords) -> u8 {
+/// Holds a talk in lines over standard input and standard output, and gives the exit status.
+fn talk_lines<R: rt::Files + Input + Print + Eprint>(
+    rt: &R,
+    alloc: Global,
+    node: &NodeWords,
+) -> u8 {
     // Over a buffer a pipe gives what there is, and not a byte at a time.
     let input = match BufReader::new(alloc, rt.reader()) {
         Ok(input) => input,
@@ -62,6 +69,28 @@ fn talk<R: rt::Files + Input + Print + Eprint>(rt: &R, alloc: Global, node: &Nod
     }
 }
 
+/// Holds a talk in frames over standard input and standard output, and gives the exit status.
+fn talk_frames<R: rt::Files + Input + Print + Eprint>(
+    rt: &R,
+    alloc: Global,
+    node: &NodeWords,
+) -> u8 {
+    let mut link = HostLink::new(rt, rt.reader(), io::writer(rt));
+    match live_frames(alloc, node, &mut HostFiles { rt }, &mut link) {
+        Ok(status) => status.code(),
+        Err(_) => lose_output(rt, link.into_lost()),
+    }
+}
+
+/// Holds the talk that the words name, and gives the exit status.
+fn talk<R: rt::Files + Input + Print + Eprint>(rt: &R, alloc: Global, words: &LiveWords) -> u8 {
+    if words.frames {
+        talk_frames(rt, alloc, &words.node)
+    } else {
+        talk_lines(rt, alloc, &words.node)
+    }
+}
+
 /// Does what the command line names, and gives the exit status.
 fn do_work<R: rt::Files + Input + Print + Eprint + Threads + Wait + Sync>(
     rt: &R,
@@ -70,7 +99,7 @@ fn do_work<R: rt::Files + Input + Print + Eprint + Threads + Wait + Sync>(
 ) -> u8 {
     match work {
         Work::Once(job) => do_job(rt, alloc, job),
-        Work::Live(node) => talk(rt, alloc, node),
+        Work::Live(words) => talk(rt, alloc, words),
     }
 }
 

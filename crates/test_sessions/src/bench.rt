@@ -186,7 +186,7 @@ impl<'a> Bench<'a> {
         let folder = &mut self.folder;
         let done = match words(self.alloc, &words_of(self.alloc, line)?) {
             Ok(Work::Once(job)) => perform_in(rt, self.alloc, &job, folder),
-            Ok(Work::Live(node)) => live_in(self.alloc, &node, folder),
+            Ok(Work::Live(words)) => live_in(self.alloc, &words, folder),
             Err(fault) => return told(self.alloc, &fault),
         };
         let (printed, status) = done.map_err(|_| anyhow!("the writer failed"))?;

@@ -3,7 +3,7 @@
 ghost use Rattle.std.specs.Prelude.{⊤};
 
 use crate::tests::checks::{check, same};
-use commands::{Cannot, HostTalk, Status, Talk, Work, WriteFault, live, words};
+use commands::{Cannot, HostTalk, LiveWords, Status, Talk, Work, WriteFault, live, words};
 use std::alloc::Global;
 use std::io::{self, Write};
 use std::test::Fail;
@@ -94,7 +94,7 @@ impl Talk for Script {
 
 /// Holds a talk that fails at the move of this number: the talk, and what came of it.
 fn held(alloc: Global, failing: usize) -> Result<(Script, Result<Status, WriteFault>), Fail> {
-    let Work::Live(node) = words(alloc, &["live"])? else {
+    let Work::Live(LiveWords { node, .. }) = words(alloc, &["live"])? else {
         return Err("no talk".into());
     };
     let mut folder = folder_of(alloc, &[]).map_err(|_| "no folder")?;
@@ -168,7 +168,7 @@ fn each_answer_is_flushed(rt: HostRuntime) -> Result<(), Fail> {
         written: Vec::new(alloc),
         held: Vec::new(alloc),
     };
-    let Work::Live(node) = words(alloc, &["live"])? else {
+    let Work::Live(LiveWords { node, .. }) = words(alloc, &["live"])? else {
         return Err("no talk".into());
     };
     let mut folder = folder_of(alloc, &[]).map_err(|_| "no folder")?;

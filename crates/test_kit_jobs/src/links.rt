@@ -1,0 +1,91 @@
+//! Links over bytes in memory.
+
+ghost use Rattle.std.specs.Prelude.{⊤};
+
+use linking::{Cannot, Link};
+use std::alloc::{AllocError, Global};
+use std::io::Read;
+
+/// What is noted of a move that receives bytes.
+pub const RECEIVED: &str = "received\n";
+
+/// A link over bytes in memory, of which it hands out at most so many at a time. It notes its moves: `received`, `sent` and
+/// the bytes in digits, or the text that was told.
+#[derive(Drop)]
+pub struct Wire<'a> {
+    alloc: Global,
+    input: &'a [u8],
+    most: u64,
+    failing: usize,
+    moves: Vec<String>,
+}
+
+impl<'a> Wire<'a> {
+    /// A link that fails at the move of the number `failing`, from 0, and at no other.
+    pub fn new(alloc: Global, input: &'a [u8], most: u64, failing: usize) -> Wire<'a> {
+        Wire {
+            alloc,
+            input,
+            most,
+            failing,
+            moves: Vec::new(alloc),
+        }
+    }
+
+    /// The moves, a text for each.
+    pub fn moves(&self) -> &[String] {
+        self.moves.as_slice()
+    }
+
+    /// What was sent and told, in turn.
+    pub fn due(&self) -> Result<String, AllocError> {
+        let mut due = String::new(self.alloc);
+        for made in &self.moves {
+            if made.as_str() != RECEIVED {
+                due.push_str(made)?;
+            }
+        }
+        Ok(due)
+    }
+
+    /// Notes a move, but fails at its own.
+    fn note(&mut self, text: &str) -> Result<(), Cannot> {
+        if self.moves.len() == self.failing {
+            self.failing = usize::MAX;
+            return Err(Cannot);
+        }
+        let text = String::from_str(self.alloc, text).map_err(|_| Cannot)?;
+        self.moves.push(text).map_err(|_| Cannot)
+    }
+}
+
+impl Link for Wire<'_> {
+    ghost came = { λ _ _ _. ⊤ };
+
+    ghost sent = { λ _ _ _. ⊤ };
+
+    ghost told = { λ _ _ _. ⊤ };
+
+    ghost unread = { λ _ _. ⊤ };
+
+    ghost unsent = { λ _ _ _. ⊤ };
+
+    ghost untold = { λ _ _ _. ⊤ };
+
+    fn receive(&mut self, room: &mut [u8]) -> Result<usize, Cannot> {
+        self.note(RECEIVED)?;
+        let mut some = self.input.by_ref().take(self.most);
+        some.read(room).map_err(|_| Cannot)
+    }
+
+    fn send(&mut self, bytes: &[u8]) -> Result<(), Cannot> {
+        let digits = hex::encode_upper(self.alloc, bytes).map_err(|_| Cannot)?;
+        let text = format!(in self.alloc; "sent {digits}\n").map_err(|_| Cannot)?;
+        self.note(&text)
+    }
+
+    fn tell(&mut self, text: &[u8]) -> Result<(), Cannot> {
+        let text = str::from_utf8(text).map_err(|_| Cannot)?;
+        self.note(text)
+    }
+}
