@@ -49,6 +49,15 @@ def items(text):
             yield words[0], words[2] if len(words) == 3 else words[0]
 
 
+# A module whose `where` stands in a line of its own, and its items two columns further right.
+LONG_MODULE = re.compile(r"^(module _ .*)\n  where\n((?:    .*\n|\n)*)", re.M)
+
+
+def in_one_line(found):
+    """The module as one whose parameters fit one line."""
+    return found[1] + " where\n" + re.sub(r"^  ", "", found[2], flags=re.M)
+
+
 class File:
     """A file of specs/: what it names by its use lines, and its definitions as pieces with their own variables."""
 
@@ -66,7 +75,7 @@ class File:
     def blocks(self):
         """Each item of the file with the parameters of the module in which it stands."""
         outer, inside, block = "", "", []
-        for line in self.path.read_text().splitlines() + ["end"]:
+        for line in LONG_MODULE.sub(in_one_line, self.path.read_text()).splitlines() + ["end"]:
             line = re.sub(r"(^|\s)--(\s.*|$)", "", re.sub(r'"(\\.|[^"\\])*"', '[]', line)).rstrip()
             if not line:
                 continue

@@ -11,6 +11,7 @@ use Rattle.std.specs.Str.Parse.{digits_value, starts_with_minus}
 use Rattle.std.specs.Char.{is_ascii_alphabetic}
 use Rattle.std.proofs.Common.{refl}
 use Rattle.byteorder.specs.Endian.{big_bytes, big_number}
+use Rattle.hex.specs.Hex.{encode_upper, encode_with}
 
 -- what the values below are of
 abbrev xs : List ℕ
@@ -261,7 +262,14 @@ value_49 = refl
 value_50 : codes "AB" ≡ 65 ∷ 66 ∷ []
 value_50 = refl
 
+-- `string_bytes s`: the bytes of a `String`
+
 -- `decimal n`: the digits of a number
+
+-- `encode_upper bs`: two hexadecimal digits a byte, in capitals
+value_55 : encode_upper (10 ∷ 255 ∷ []) ≡ codes "0AFF"
+unfolding encode_with
+value_55 = refl
 
 -- `digits_value radix ds`: the number that digits write
 value_51 : digits_value 16 (codes "ff") ≡ 255
@@ -284,3 +292,9 @@ value_53 = refl
 -- `IsPassOf queue pass`: the pass was made for that queue; `IsSamePass`: two moments of one pass; `view pass`: what its holder did at the queue so far
 
 -- `ruled_capacity queue`: how many items the queue has room for
+
+-- ---- what is lent, read and written
+
+-- `Bor T`: what is lent to be read, a T
+
+-- `Appends old new bs`: what a writer holds, where that is known, grew by bs
