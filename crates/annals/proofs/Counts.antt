@@ -1,0 +1,128 @@
+-- The numbers of a port's entries in a chain.
+use Rattle.std.proofs.Common.{◌≡◌, ℕ, ◌+◌, ◌-◌, ◌≤◌, ◌<◌, ◌++◌, ◌∷◌, [], List, Bool, true, false, eqb, ltb, ◌&&◌, length, get_or, set, zero, refl, sym, ap, ◌∙◌, subst, arith, inl, inr}
+use Rattle.std.specs.Prelude.{if◌then◌else◌, replicate}
+use Rattle.bank.specs.Effect.{memory_at}
+use Rattle.std.specs.List.{range_with_len}
+use Rattle.std.proofs.lemmas.List.{length-set, length-replicate, get_or-replicate, get_or-set_same, get_or-set_other, map-append, map-id, append-nil}
+use Rattle.std.proofs.lemmas.List.Elements.{filter-append}
+use Rattle.std.proofs.lemmas.List.FromFn.{map-range_with_len_more}
+use Rattle.std.proofs.lemmas.Bool.{cases_eq}
+use Rattle.std.proofs.lemmas.Bool.Decides.{nat_tests}
+use Rattle.rmap.specs.Command.{command_of}
+use Rattle.rmap.specs.Windows.{lies_inside}
+use Rattle.bank.specs.Records.{BankValue, ShareValue, JudgedValue, EntryValue, numbers_of, entry_of, fits, is_bank_place, is_next, after_command, after_record, answer_of, has_room, JournalValue, fresh_bank}
+use Rattle.annals.specs.declared.deed.Deed.{Deed}
+use Rattle.annals.specs.declared.deed.Deed.TheVariants.{Opens, Does, Sets}
+use Rattle.annals.specs.declared.deed.Link.{Link}
+use Rattle.annals.specs.Chains.{ChainValue, chain_of, link}
+use Rattle.annals.specs.Banks.{with_entry, entries_in, entries_of, memory_after, zeros, IsKept}
+use Rattle.annals.proofs.Turns.{own_snoc}
+
+range_more : (start n next : ℕ) → start + n ≡ next → range_with_len start n ++ next ∷ [] ≡ range_with_len start (n + 1)
+range_more start n next last =
+    sym (sym (map-id (range_with_len start (n + 1))) ∙ map-range_with_len_more (λ (x : ℕ). x) start n next last ∙ ap (λ (l : List ℕ). l ++ next ∷ []) (map-id (range_with_len start n)))
+
+-- the numbers of a port with one more entry
+numbers_of-same : (port : ℕ) (entries : List EntryValue) (e : EntryValue) → e.port ≡ port → numbers_of port (entries ++ e ∷ []) ≡ numbers_of port entries ++ e.number ∷ []
+numbers_of-same port entries e same =
+    let test : eqb e.port port ≡ true = grind (arith, nat_tests) in
+    rw (filter-append (λ (x : EntryValue). eqb x.port port) entries (e ∷ []), test, map-append) refl
+
+numbers_of-other : (port : ℕ) (entries : List EntryValue) (e : EntryValue) → (e.port ≡ port → ⊥) → numbers_of port (entries ++ e ∷ []) ≡ numbers_of port entries
+numbers_of-other port entries e other =
+    let test : eqb e.port port ≡ false = grind (arith, nat_tests) in
+    rw (filter-append (λ (x : EntryValue). eqb x.port port) entries (e ∷ []), test, append-nil) refl
+
+both : (a b : Bool) → (a && b) ≡ true → (a ≡ true) × (b ≡ true)
+both true b e = (refl, e)
+both false b e = absurd cc
+
+-- what a share that fits says
+pub record Fitting (b : BankValue) (share : ShareValue) (judged : JudgedValue) : Type 0 where
+  pub port : share.port ≡ judged.port
+  pub below : judged.port < length b.counts
+  pub number : share.number ≡ get_or b.counts judged.port 0
+
+pub fitting : (b : BankValue) (share : ShareValue) (judged : JudgedValue) → fits b share judged ≡ true → Fitting b share judged
+fitting b share judged h =
+    let placed = both (eqb share.port judged.port && is_next b share && is_bank_place judged.place) (lies_inside b.first (length b.bytes) (command_of judged.packet)) h in
+    let inside = both (eqb share.port judged.port && is_next b share) (is_bank_place judged.place) placed.0 in
+    let ports = both (eqb share.port judged.port) (is_next b share) inside.0 in
+    let next = both (ltb share.port (length b.counts)) (eqb share.number (get_or b.counts share.port 0)) ports.1 in
+    let same : eqb share.port judged.port ≡ true = ports.0 in
+    let few : ltb share.port (length b.counts) ≡ true = next.0 in
+    let count : eqb share.number (get_or b.counts share.port 0) ≡ true = next.1 in
+    let port : share.port ≡ judged.port = grind (arith, nat_tests) in
+    let below : share.port < length b.counts = grind (arith, nat_tests) in
+    let number : share.number ≡ get_or b.counts share.port 0 = grind (arith, nat_tests) in
+    record { port = port; below = rw (← port) below; number = rw (← port) number }
+
+with_append : (d : Deed) (xs ys : List EntryValue) → with_entry d (xs ++ ys) ≡ with_entry d xs ++ ys
+with_append (Opens x) xs ys = refl
+with_append (Does e) xs ys = refl
+with_append (Sets x) xs ys = refl
+
+entries_snoc : (ls : List Link) (k place next : ℕ) (e : EntryValue) → entries_in (ls ++ link k place (Does e) next ∷ []) ≡ entries_in ls ++ e ∷ []
+entries_snoc [] k place next e = refl
+entries_snoc (m ∷ ls) k place next e = ap (λ (es : List EntryValue). with_entry m.deed es) (entries_snoc ls k place next e) ∙ with_append m.deed (entries_in ls) (e ∷ [])
+
+-- a deed of no command leaves the entries as they are
+entries_stay : (ls : List Link) (l : Link) → with_entry l.deed [] ≡ [] → entries_in (ls ++ l ∷ []) ≡ entries_in ls
+entries_stay [] l none = none
+entries_stay (m ∷ ls) l none = ap (λ (es : List EntryValue). with_entry m.deed es) (entries_stay ls l none)
+
+-- before the command the port had the entries from 0 up to its share's number
+pub numbers_before : (k : ℕ) (old before : List Link) (b : BankValue) (s : ShareValue) (j : JudgedValue) → fits b s j ≡ true
+    → ((port : ℕ) → port < length b.counts → numbers_of port (entries_of k old) ≡ range_with_len 0 (get_or b.counts port 0))
+    → chain_of k before ≡ chain_of k old → numbers_of j.port (entries_of k before) ≡ range_with_len 0 s.number
+numbers_before k old before b s j fit counted same =
+    let fitted = fitting b s j fit in
+    ap (λ (l : List Link). numbers_of j.port (entries_in l)) same ∙ (counted j.port fitted.below ∙ ap (λ (n : ℕ). range_with_len 0 n) (sym fitted.number))
+
+pub counts_after : (b : BankValue) (s : ShareValue) (j : JudgedValue) → has_room b j.port ≡ true → (after_command b s j).counts ≡ set b.counts j.port (s.number + 1)
+counts_after b s j room = ap (λ (r : Bool). (if r then after_record b s j (answer_of b j) else b).counts) room
+
+pub still_counted : (k place next : ℕ) (old before log : List Link) (b : BankValue) (counts : List ℕ) (s : ShareValue) (j : JudgedValue) (e : EntryValue) → fits b s j ≡ true
+    → ((port : ℕ) → port < length b.counts → numbers_of port (entries_of k old) ≡ range_with_len 0 (get_or b.counts port 0))
+    → chain_of k before ≡ chain_of k old → counts ≡ set b.counts j.port (s.number + 1) → e.port ≡ j.port → e.number ≡ s.number
+    → log ≡ before ++ link k place (Does e) next ∷ []
+    → (port : ℕ) → port < length counts → numbers_of port (entries_of k log) ≡ range_with_len 0 (get_or counts port 0)
+still_counted k place next old before log b counts s j e fit counted same new at number more port below =
+    let fitted = fitting b s j fit in
+    let ports : length counts ≡ length b.counts = ap (λ (l : List ℕ). length l) new ∙ length-set b.counts j.port (s.number + 1) in
+    let within : port < length b.counts = omega arith in
+    let all : entries_of k log ≡ entries_of k before ++ e ∷ [] =
+    ap (entries_of k) more ∙ (ap entries_in (own_snoc k before (link k place (Does e) next) refl) ∙ entries_snoc (chain_of k before) k place next e) in
+    ap (numbers_of port) all ∙ elim (cases_eq j.port port) [
+      | inl here ↦
+          let count : get_or counts port 0 ≡ s.number + 1 = rw (new, ← here) (get_or-set_same b.counts j.port (s.number + 1) 0 fitted.below) in
+          let earlier : numbers_of port (entries_of k before) ≡ range_with_len 0 s.number = rw (← here) (numbers_before k old before b s j fit counted same) in
+          numbers_of-same port (entries_of k before) e (at ∙ here) ∙ (ap (λ (l : List ℕ). l ++ e.number ∷ []) earlier ∙ (ap (λ (n : ℕ). range_with_len 0 s.number ++ n ∷ []) number ∙ (range_more 0 s.number s.number (omega arith) ∙ ap (λ (n : ℕ). range_with_len 0 n) (sym count))))
+      | inr other ↦
+          let count : get_or counts port 0 ≡ get_or b.counts port 0 = rw new (get_or-set_other b.counts j.port port (s.number + 1) 0 (λ e. other (sym e))) in
+          numbers_of-other port (entries_of k before) e (λ is. other (sym at ∙ is)) ∙ (ap (λ (l : List Link). numbers_of port (entries_in l)) same ∙ (counted port within ∙ ap (λ (n : ℕ). range_with_len 0 n) (sym count)))
+    ]
+
+-- a bank of zeros is what a chain says that has just begun with it
+pub fresh_kept : (b : BankValue) (c : ChainValue) (first size : ℕ) (journal : JournalValue) (ports : ℕ) (extent : ℕ × ℕ) → b ≡ fresh_bank first size journal ports
+    → extent.0 ≡ b.first → extent.1 ≡ length b.bytes → memory_after c.number c.log ≡ zeros extent → entries_of c.number c.log ≡ [] → IsKept b c
+fresh_kept b c first size journal ports extent is at bytes memory entries =
+    let here : extent.0 ≡ first = at ∙ ap (λ (v : BankValue). v.first) is in
+    let many : extent.1 ≡ size = bytes ∙ (ap (λ (v : BankValue). length v.bytes) is ∙ length-replicate size zero) in
+    let begun : zeros extent ≡ memory_at first (replicate size 0) = ap (λ (n : ℕ). memory_at n (replicate extent.1 0)) here ∙ ap (λ (n : ℕ). memory_at first (replicate n 0)) many in
+    subst (λ (v : BankValue). IsKept v c) (sym is) (record {
+      replayed = sym (memory ∙ begun);
+      counted = λ port below.
+          let within : port < ports = omega (arith, below, length-replicate ports zero) in
+          ap (λ (l : List EntryValue). numbers_of port l) entries ∙ ap (λ (n : ℕ). range_with_len 0 n) (sym (get_or-replicate ports port 0 0 within));
+    })
+
+-- behind a deed of no command the entries are counted as before
+pub set_counted : (k : ℕ) (old before log : List Link) (l : Link) (counts : List ℕ)
+    → ((port : ℕ) → port < length counts → numbers_of port (entries_of k old) ≡ range_with_len 0 (get_or counts port 0))
+    → chain_of k before ≡ chain_of k old → l.chain ≡ k → with_entry l.deed [] ≡ [] → log ≡ before ++ l ∷ []
+    → (port : ℕ) → port < length counts → numbers_of port (entries_of k log) ≡ range_with_len 0 (get_or counts port 0)
+set_counted k old before log l counts counted same own none more port below =
+    let all : entries_of k log ≡ entries_of k old =
+    ap (entries_of k) more ∙ (ap entries_in (own_snoc k before l own) ∙ (entries_stay (chain_of k before) l none ∙ ap entries_in same)) in
+    ap (numbers_of port) all ∙ counted port below

@@ -1,0 +1,108 @@
+-- The history of a node's banks, and what it says of each.
+use Rattle.std.specs.Prelude.{ℕ, ◌≡◌, ◌<◌, ◌==◌, Bool, List, [], ◌∷◌, fold, length, replicate, true, false, slice_index}
+use Rattle.std.specs.List.{range_with_len}
+use mathlib.Core.List.{IsPrefix}
+use Rattle.rmap.specs.declared.places.Place.{Place}
+use Rattle.rmap.specs.declared.places.Place.TheVariants.{Bank, Staging, LoadResult, Control}
+use Rattle.rmap.specs.Command.{command_of}
+use Rattle.bank.specs.declared.bank.Applied.{Applied}
+use Rattle.bank.specs.Effect.{Memory, memory_at, with_bytes}
+use Rattle.bank.specs.Answer.{answer, Answer}
+use Rattle.bank.specs.Records.{EntryValue, ShareValue, JudgedValue, BankValue, after_command, after_entry, answer_of, entry_of, fits, fresh_bank, JournalValue, memory_of, next_share, number_left, numbers_of}
+use Rattle.annals.specs.declared.deed.Deed.{Deed}
+use Rattle.annals.specs.declared.deed.Deed.TheVariants.{Opens, Does, Sets}
+use Rattle.annals.specs.declared.deed.Link.{Link}
+use Rattle.annals.specs.Chains.{ChainValue, IsLast, chain_of}
+
+-- so many zero bytes from an address on
+abbrev pub zeros : ℕ × ℕ → Memory
+zeros extent = memory_at extent.0 (replicate extent.1 0)
+
+-- memory after a deed
+abbrev pub after_deed : Memory → Deed → Memory
+after_deed m (Opens extent) = zeros extent
+after_deed m (Does entry) = after_entry m entry
+after_deed m (Sets setting) = with_bytes m setting.0 setting.1
+
+-- memory after an entry of the history
+abbrev pub after_link : Memory → Link → Memory
+after_link m l = after_deed m l.deed
+
+-- the memory of a bank behind a history: the replay of its chain
+abbrev pub memory_after : ℕ → List Link → Memory
+memory_after bank log = fold after_link (zeros (0, 0)) (chain_of bank log)
+
+-- the entry of a journal that a deed left, if any, before those
+abbrev pub with_entry : Deed → List EntryValue → List EntryValue
+with_entry (Opens extent) entries = entries
+with_entry (Does entry) entries = entry ∷ entries
+with_entry (Sets setting) entries = entries
+
+-- the entries of journals that those deeds left, in order
+abbrev pub entries_in : List Link → List EntryValue
+entries_in [] = []
+entries_in (l ∷ ls) = with_entry l.deed (entries_in ls)
+
+-- all entries that a bank's journal ever had, oldest first, whatever was rotated
+abbrev pub entries_of : ℕ → List Link → List EntryValue
+entries_of bank log = entries_in (chain_of bank log)
+
+-- what a judged command is answered behind a history, where there is room
+abbrev pub answer_after : ℕ → List Link → JudgedValue → Answer
+answer_after bank log judged = answer (memory_after bank log) true (command_of judged.packet) judged.verdict
+
+-- the command was done at the bank that is its place: it is the last of a history that goes on from what the port knew, and
+-- status and reply are the definition's on the replay of what stood before it; there the port had as many entries as its share
+-- tells, with the numbers from 0 on, each once
+pub record IsDone (bank : ℕ) (known reached : List Link) (share : ShareValue) (judged : JudgedValue) (result : Applied)
+    (reply : List ℕ) : Type 0 where
+  pub place : judged.place ≡ Bank bank
+  pub last : IsLast bank known reached (Does (entry_of share judged result.status))
+  pub status : result.status ≡ (answer_after bank last.before judged).status
+  pub numbers : numbers_of judged.port (entries_of bank last.before) ≡ range_with_len 0 share.number
+  pub reply_is : reply ≡ (answer_after bank last.before judged).reply
+
+-- the command was applied to the bank with that share: memory, status, reply and share are those of its answer
+pub record IsAppliedTo (old new : BankValue) (share after : ShareValue) (judged : JudgedValue) (result : Applied)
+    (reply : List ℕ) : Type 0 where
+  pub status : result.status ≡ (answer_of old judged).status
+  pub memory : memory_of new ≡ (answer_of old judged).memory
+  pub reply_is : reply ≡ (answer_of old judged).reply
+  pub number : result.number ≡ number_left old share judged
+  pub bank : new ≡ after_command old share judged
+  pub share_is : after ≡ next_share old share judged
+
+-- a bank with its chain
+pub record KeptValue : Type 0 where
+  pub bank : BankValue
+  pub chain : ChainValue
+
+-- the bank's memory is the replay of the chain
+abbrev pub IsReplayed : BankValue → ChainValue → Type 0
+IsReplayed bank chain = memory_of bank ≡ memory_after chain.number chain.log
+
+-- the entries of each port in the chain have the numbers from 0 up to the bank's count of it, each once and in order
+abbrev pub IsCounted : BankValue → ChainValue → Type 0
+IsCounted bank chain =
+    (port : ℕ) → port < length bank.counts → numbers_of port (entries_of chain.number chain.log)
+    ≡ range_with_len 0 (slice_index bank.counts port)
+
+-- a bank of zeros, to which no command was applied
+pub record IsFresh (bank : BankValue) : Type 0 where
+  pub first : ℕ
+  pub size : ℕ
+  pub journal : JournalValue
+  pub ports : ℕ
+  pub fresh : bank ≡ fresh_bank first size journal ports
+
+-- the bank is what its chain says
+pub record IsKept (bank : BankValue) (chain : ChainValue) : Type 0 where
+  pub replayed : IsReplayed bank chain
+  pub counted : IsCounted bank chain
+
+-- the place is the bank of that number
+abbrev pub is_place_of : ℕ → Place → Bool
+is_place_of number (Bank k) = k == number
+is_place_of number Staging = false
+is_place_of number LoadResult = false
+is_place_of number Control = false

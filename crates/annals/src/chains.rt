@@ -1,0 +1,333 @@
+//! The history, and the right to add to a chain of it. It exists in proofs alone.
+
+ghost use Rattle.std.specs.Prelude.{◌≡◌, ◌<◌, ◌≤◌, ◌+◌, ◌∷◌, ◌++◌, ◌⊎◌, ℕ, List, [], length, IfSome};
+ghost use mathlib.Core.List.{IsPrefix};
+ghost use Rattle.logbook.specs.Pages.{may_write};
+ghost use Rattle.annals.specs.Chains.{word_of, chain_of, IsLast};
+ghost use Rattle.annals.specs.Banks.{memory_after, zeros, entries_of};
+
+use crate::deed::{Extent, Link, Tells};
+use logbook::{Gain, Offer, Opening, Pen, Pens, Plain, Play, Rule, Seen, Start, Word};
+use std::marker::{Brand, Model, PhantomData};
+
+/// The rule of the history: each entry of a chain but its last names a cell that is at home.
+pub(crate) struct Chained;
+
+impl Rule<Link, u64> for Chained {
+    ghost use Rattle.std.specs.Prelude.{[]};
+    ghost use base.Fml.{ftrue};
+    ghost use Rattle.annals.specs.Chains.{AreChained};
+
+    ghost holds = { λ cells log. AreChained cells log };
+
+    ghost first = { [] };
+
+    ghost hinted = { λ n log. Unit {0} };
+
+    ghost shows = { λ log. [] };
+
+    ghost keeps = { λ names log. ftrue };
+
+    ghost moves = { λ ask before after answer. Unit {0} };
+}
+
+/// The history begins empty.
+struct Empty;
+
+impl Opening<(), Link> for Empty {
+    ghost use Rattle.std.specs.Prelude.{[]};
+
+    ghost log = { λ n _. [] };
+}
+
+/// Callers trade nothing.
+struct Nothing;
+
+impl Gain<Link, u64> for Nothing {
+    ghost use base.Fml.{ftrue};
+
+    ghost after = { λ names about answer. ftrue };
+}
+
+/// What a step adds to a chain: a deed, and the pen that adds the next one.
+#[derive(Drop)]
+struct Adding<'a, D: Tells> {
+    word: &'a Word<Link, u64, Chained>,
+    seen: &'a Seen<Link, u64, Chained>,
+    told: &'a D,
+    fresh: &'a Pen,
+}
+
+/// A step that gives a pen of a new cell.
+struct Draw;
+
+impl Play<Link, u64> for Draw {
+    ghost use Rattle.annals.specs.Chains.{Draws};
+
+    ghost then = { Draws };
+}
+
+impl Plain<(), Link, u64> for Draw {
+    ghost use Rattle.std.specs.Prelude.{None};
+    ghost use Rattle.annals.specs.Chains.{blank};
+
+    ghost ask = { λ _. blank };
+
+    ghost state = { λ _. None };
+}
+
+/// A step that adds the first entry of a chain.
+struct Begin;
+
+impl Play<Link, u64> for Begin {
+    ghost use Rattle.annals.specs.Chains.{Begins};
+
+    ghost then = { Begins };
+}
+
+/// A step that adds an entry.
+struct Add;
+
+impl Play<Link, u64> for Add {
+    ghost use Rattle.annals.specs.Chains.{Adds};
+
+    ghost then = { Adds };
+}
+
+/// A step that looks whether the chain is longer.
+struct Look;
+
+impl Play<Link, u64> for Look {
+    ghost use Rattle.annals.specs.Chains.{Looks};
+
+    ghost then = { Looks };
+}
+
+impl<'a, D: Tells> Plain<Adding<'a, D>, Link, u64> for Add {
+    ghost use Rattle.std.specs.Prelude.{None, length};
+    ghost use Rattle.annals.specs.Chains.{link, chain_of};
+
+    ghost ask = { λ x. link x.word.now.key (length (chain_of x.word.now.key x.seen.now.log)) (D.deed x.told.now) x.fresh.now.nib.key };
+
+    ghost state = { λ x. None };
+}
+
+/// Which node's history it is. Each call of a program picks it.
+pub trait Family {
+    ghost use Rattle.logbook.specs.Pages.{Book};
+
+    ghost book: { Book };
+}
+
+impl Family for Brand {
+    ghost book = { record { number = 0; log_name = 0; cells_name = 0 } };
+}
+
+/// A pen of a new cell.
+fn drawn(word: &Word<Link, u64, Chained>, seen: &Seen<Link, u64, Chained>) -> Pen
+    requires word { word.now ≡ word_of seen.now.book word.now.key }
+    requires few { word.now.key < 9 }
+    ensures book { result.book ≡ seen.now.book }
+    ensures right { result.nib.right ≡ may_write }
+{
+    let mut seen = seen.again();
+    let mut offer: Offer<Link, u64, Chained, Nothing> = seen.plain::<Nothing, (), Draw>(&());
+    let mut pen = seen.no_pen();
+    let _one = word.compare_exchange::<Draw, Nothing>(1, 1, &mut seen, &mut offer, &mut pen);
+    let _cell: Word<Link, u64, Chained> = Word::tracked(0, &mut pen);
+    pen
+}
+
+/// An empty history, which belongs to no node yet, and the rights to its chains. Contracts see it as its book, and how
+/// many chains it has left.
+#[derive(Drop)]
+pub struct Opened {
+    pens: Pens,
+    seen: Seen<Link, u64, Chained>,
+}
+
+impl Model for Opened {
+    ghost use Rattle.std.specs.Prelude.{◌≡◌, ◌+◌, ℕ, []};
+    ghost use Rattle.logbook.specs.Pages.{Book};
+
+    ghost Value = { Book × ℕ };
+
+    ghost view = { λ o. (o.seen.book, o.pens.left) };
+
+    ghost invariant = { λ o. (o.pens.book ≡ o.seen.book) × (o.pens.next + o.pens.left ≡ 9) × (o.seen.log ≡ []) };
+}
+
+impl Opened {
+    /// Opens a history.
+    pub fn new() -> Opened
+        ensures { result.1 ≡ 9 }
+    {
+        let (seen, pens) = Seen::open_row::<(), Empty>(&(), Start::alone(), 9);
+        Opened { pens, seen }
+    }
+
+    /// What nobody has added to yet.
+    pub fn front<J: Family>(&self) -> Front<J>
+        requires { self.now.0 ≡ J.book }
+        ensures { result ≡ [] }
+    {
+        Front {
+            seen: self.seen.again(),
+            of: PhantomData,
+        }
+    }
+
+    /// The next chain, with its first entry, of a bank of so many zero bytes from an address on. `None` where it has one
+    /// already (no test met that). The condition is a chain that is left.
+    pub fn chain<J: Family>(&mut self, extent: (u32, u32)) -> Option<Chain<J>>
+        requires family { self.old.0 ≡ J.book }
+        requires left { 0 < self.old.1 }
+        ensures left { self.new.1 + 1 ≡ self.old.1 }
+        ensures family { self.new.0 ≡ self.old.0 }
+        ensures number { IfSome result (λ c. c.number + self.old.1 ≡ 9) }
+        ensures memory { IfSome result (λ c. memory_after c.number c.log ≡ zeros extent) }
+        ensures entries { IfSome result (λ c. entries_of c.number c.log ≡ []) }
+    {
+        let mut pen = self.pens.take();
+        let head: Word<Link, u64, Chained> = Word::tracked(0, &mut pen);
+        let mut seen = self.seen.again();
+        let fresh = drawn(&head, &seen);
+        let extent = Extent(extent);
+        let mut offer: Offer<Link, u64, Chained, Nothing> = seen.plain::<
+            Nothing,
+            Adding<Extent>,
+            Add,
+        >(&Adding {
+            word: &head,
+            seen: &seen,
+            told: &extent,
+            fresh: &fresh,
+        });
+        let mut none = seen.no_pen();
+        let found = head.compare_exchange::<Begin, Nothing>(0, 1, &mut seen, &mut offer, &mut none);
+        if found != 0 {
+            return None;
+        }
+        Some(Chain {
+            word: head,
+            pen: fresh,
+            seen,
+            of: PhantomData,
+        })
+    }
+}
+
+/// A chain of the history, whole, and the right to add to it. Contracts see it as its number, and all that is known of the
+/// history, which is all of it that is of the chain.
+#[derive(Drop)]
+pub struct Chain<J: Family> {
+    word: Word<Link, u64, Chained>,
+    pen: Pen,
+    seen: Seen<Link, u64, Chained>,
+    of: PhantomData<J>,
+}
+
+impl<J: Family> Model for Chain<J> {
+    ghost use Rattle.annals.specs.Chains.{ChainValue, IsHeld};
+
+    ghost Value = { ChainValue };
+
+    ghost view = { λ h. record { number = h.word.key; log = h.seen.log } };
+
+    ghost invariant = { λ h. IsHeld J.book h.word h.pen.book h.pen.nib h.seen.book h.seen.log };
+}
+
+impl<J: Family> Chain<J> {
+    /// Adds a deed, behind all that is known of the chain and all that one has seen, who then has seen it too.
+    pub(crate) fn add<D: Tells>(&mut self, front: &mut Front<J>, told: &D)
+        ensures number { self.new.number ≡ self.old.number }
+        ensures log { self.new.log ≡ front.new }
+        ensures added { (last : IsLast self.old.number front.old front.new (D.deed told.now))
+            × (chain_of self.old.number last.before ≡ chain_of self.old.number self.old.log) }
+    {
+        let fresh = drawn(&self.word, &self.seen);
+        let mut offer: Offer<Link, u64, Chained, Nothing> = self
+            .seen
+            .plain::<Nothing, Adding<D>, Add>(&Adding {
+                word: &self.word,
+                seen: &self.seen,
+                told,
+                fresh: &fresh,
+            });
+        self.seen.learn(&front.seen);
+        let _one = self
+            .word
+            .compare_exchange::<Add, Nothing>(1, 1, &mut self.seen, &mut offer, &mut self.pen);
+        self.pen = fresh;
+        front.seen = self.seen.again();
+    }
+}
+
+impl<J: Family> Chain<J> {
+    /// What was seen of the chain is a beginning of it.
+    pub(crate) fn begins_with(&mut self, front: &Front<J>)
+        ensures begins { IsPrefix (chain_of self.old.number front.now) (chain_of self.old.number self.old.log) }
+        ensures same { self.new ≡ self.old }
+    {
+        let extent = Extent((0, 0));
+        let mut offer: Offer<Link, u64, Chained, Nothing> = self
+            .seen
+            .plain::<Nothing, Adding<Extent>, Add>(&Adding {
+                word: &self.word,
+                seen: &self.seen,
+                told: &extent,
+                fresh: &self.pen,
+            });
+        let mut seen = self.seen.again();
+        seen.learn(&front.seen);
+        let _one = self
+            .word
+            .compare_exchange::<Look, Nothing>(1, 1, &mut seen, &mut offer, &mut self.pen);
+    }
+}
+
+/// A beginning of the history that was seen. Contracts see it as its entries.
+#[derive(Drop)]
+pub struct Front<J: Family> {
+    seen: Seen<Link, u64, Chained>,
+    of: PhantomData<J>,
+}
+
+impl<J: Family> Model for Front<J> {
+    ghost use Rattle.std.specs.Prelude.{◌≡◌, List};
+    ghost use Rattle.annals.specs.declared.deed.Link.{Link};
+
+    ghost Value = { List Link };
+
+    ghost view = { λ f. f.seen.log };
+
+    ghost invariant = { λ f. f.seen.book ≡ J.book };
+}
+
+impl<J: Family> Front<J> {
+    /// A copy.
+    pub fn again(&self) -> Front<J>
+        ensures { result ≡ self.now }
+    {
+        Front {
+            seen: self.seen.again(),
+            of: PhantomData,
+        }
+    }
+
+    /// Learns what another has seen: what each has seen begins what is known then.
+    pub fn learn(&mut self, other: &Front<J>)
+        ensures this { IsPrefix self.old self.new }
+        ensures that { IsPrefix other.now self.new }
+    {
+        self.seen.learn(&other.seen);
+    }
+
+    /// Of what two have seen one begins the other.
+    pub(crate) fn meets(&self, other: &Front<J>)
+        ensures { IsPrefix self.now other.now ⊎ IsPrefix other.now self.now }
+    {
+        let mut both = self.seen.again();
+        both.learn(&other.seen);
+    }
+}

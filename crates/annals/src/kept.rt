@@ -1,0 +1,192 @@
+//! A bank with its chain, as it lies behind a lock.
+
+ghost use Rattle.std.specs.Prelude.{◌≡◌, ◌<◌, ◌+◌, ℕ, [], IfSome, IfNone, length, true, false, None};
+ghost use Rattle.rmap.specs.Command.{command_of};
+ghost use Rattle.rmap.specs.Reply.{reply_of};
+ghost use Rattle.rmap.specs.declared.status.Status.TheVariants.{GeneralError as Fails};
+ghost use Rattle.bank.specs.Records.{after_command, after_rotation, after_setting, answer_of, covers, fits, memory_of, next_share, number_left};
+ghost use Rattle.annals.specs.declared.deed.Deed.TheVariants.{Sets};
+ghost use Rattle.annals.specs.Banks.{IsAppliedTo, IsDone, IsFresh, is_place_of};
+ghost use Rattle.annals.specs.Chains.{IsLast, chain_of};
+ghost use mathlib.Core.List.{IsPrefix};
+
+use crate::chains::{Chain, Family, Front, Opened};
+use crate::deed::Setting;
+use bank::{Applied, Bank, Journal, Judged, Share};
+use rmap::{Place, ReplyBuf};
+use std::marker::Model;
+use std::ops::Deref;
+
+/// A bank, its number, and its chain of the history. The bank's memory is the replay of the chain, in which the entries of
+/// each port are numbered from 0 up to the bank's count of it, each once.
+#[derive(Drop)]
+pub struct Kept<J: Family> {
+    number: u8,
+    bank: Bank,
+    chain: Chain<J>,
+}
+
+impl<J: Family> Model for Kept<J> {
+    ghost use Rattle.std.specs.Prelude.{◌≡◌};
+    ghost use Rattle.annals.specs.Banks.{KeptValue, IsKept};
+
+    ghost Value = { KeptValue };
+
+    ghost view = { λ k. record { bank = k.bank; chain = k.chain } };
+
+    ghost invariant = { λ k. (k.number ≡ k.chain.number) × IsKept k.bank k.chain };
+}
+
+impl<J: Family> Kept<J> {
+    /// A bank to which no command was applied, with the next chain of a history, which begins with it. `None` where the
+    /// chain has an entry already (no test met that). Conditions: a bank as [`Bank::new`] makes it, and a chain that is left.
+    pub fn new(number: u8, bank: Bank, opened: &mut Opened) -> Option<Kept<J>>
+        requires family { opened.old.0 ≡ J.book }
+        requires number { (number < 9) × (number + opened.old.1 ≡ 9) }
+        requires bank { IsFresh bank }
+        ensures family { opened.new.0 ≡ opened.old.0 }
+        ensures left { opened.new.1 + 1 ≡ opened.old.1 }
+        ensures bank { IfSome result (λ kept. kept.bank ≡ bank) }
+        ensures number { IfSome result (λ kept. kept.chain.number ≡ number) }
+    {
+        let chain = opened.chain(bank.range())?;
+        Some(Kept {
+            number,
+            bank,
+            chain,
+        })
+    }
+
+    /// The number of the bank.
+    pub fn number(&self) -> u8
+        ensures { result ≡ self.now.chain.number }
+    {
+        self.number
+    }
+
+    /// Does a judged command, as [`Bank::apply`] does. Where it leaves an entry, that is the last of a history which goes on
+    /// from what the port knew, and status and reply are the definition's on the replay of what stood before it.
+    fn apply(
+        &mut self,
+        front: &mut Front<J>,
+        share: &mut Share,
+        judged: Judged,
+        reply: &mut ReplyBuf,
+    ) -> Applied
+        requires place { is_place_of self.old.chain.number judged.place ≡ true }
+        requires fits { fits self.old.bank share.old judged ≡ true }
+        ensures bank { self.new.bank ≡ after_command self.old.bank share.old judged }
+        ensures share { share.new ≡ next_share self.old.bank share.old judged }
+        ensures status { result.status ≡ (answer_of self.old.bank judged).status }
+        ensures memory { memory_of self.new.bank ≡ (answer_of self.old.bank judged).memory }
+        ensures reply { reply.new ≡ (answer_of self.old.bank judged).reply }
+        ensures number { result.number ≡ number_left self.old.bank share.old judged }
+        ensures chain { self.new.chain.number ≡ self.old.chain.number }
+        ensures done { IfSome result.number
+            (λ n. IsDone self.old.chain.number front.old front.new share.old judged result reply.new) }
+        ensures full { IfNone result.number (front.new ≡ front.old) }
+    {
+        let applied = self.bank.apply(share, judged, reply);
+        if applied.number.is_some() {
+            let Some(entry) = self.bank.entries().last() else {
+                unreachable!()
+            };
+            self.chain.add(front, entry);
+        }
+        applied
+    }
+
+    /// Whether the place is this bank.
+    pub fn is_at(&self, place: Place) -> bool
+        ensures { result ≡ is_place_of self.now.chain.number place }
+    {
+        match place {
+            Place::Bank(k) => k == self.number,
+            Place::Staging | Place::LoadResult | Place::Control => false,
+        }
+    }
+
+    /// Ends a judged command whose place is this bank: does it where it fits ([`Bank::fits`]), and answers a general error
+    /// where not, which leaves all as it was. Where it leaves an entry, that is the last of a history which goes on from
+    /// what the port knew, and status and reply are the definition's on the replay of what stood before it. The condition
+    /// is that place ([`Kept::is_at`]).
+    pub fn finish(
+        &mut self,
+        front: &mut Front<J>,
+        share: &mut Share,
+        judged: Judged,
+        reply: &mut ReplyBuf,
+    ) -> Applied
+        requires { is_place_of self.old.chain.number judged.place ≡ true }
+        ensures done { IfSome result.number
+            (λ n. IsDone self.old.chain.number front.old front.new share.old judged result reply.new) }
+        ensures none { IfNone result.number (front.new ≡ front.old) }
+        ensures applied { fits self.old.bank share.old judged ≡ true
+            → IsAppliedTo self.old.bank self.new.bank share.old share.new judged result reply.new }
+        ensures refused { fits self.old.bank share.old judged ≡ false
+            → (self.new ≡ self.old) × (share.new ≡ share.old) × (result.status ≡ Fails)
+            × (result.number ≡ None) × (reply.new ≡ reply_of (command_of judged.packet) Fails []) }
+        ensures number { self.new.chain.number ≡ self.old.chain.number }
+    {
+        if !self.bank.fits(share, &judged) {
+            return Applied {
+                status: judged.answer_error(&self.bank, share, reply),
+                number: None,
+            };
+        }
+        self.apply(front, share, judged, reply)
+    }
+
+    /// Begins a new journal and hands the old one out, as [`Bank::rotate`] does. The history stays. The condition is an
+    /// empty journal.
+    pub fn rotate(&mut self, fresh: Journal) -> Journal
+        requires { fresh.entries ≡ [] }
+        ensures bank { self.new.bank ≡ after_rotation self.old.bank fresh }
+        ensures journal { result ≡ self.old.bank.journal }
+        ensures chain { self.new.chain ≡ self.old.chain }
+    {
+        self.bank.rotate(fresh)
+    }
+
+    /// Puts bytes at an address without a command, as [`Bank::set`] does, and adds that to the history. Conditions: `fresh`
+    /// is empty, and the bytes lie inside ([`Bank::covers`]).
+    pub fn set(
+        &mut self,
+        front: &mut Front<J>,
+        address: u32,
+        bytes: &[u8],
+        fresh: Journal,
+    ) -> Journal
+        requires empty { fresh.entries ≡ [] }
+        requires inside { covers self.old.bank address (length bytes.now) ≡ true }
+        ensures bank { self.new.bank ≡ after_setting self.old.bank address bytes.now fresh }
+        ensures journal { result ≡ self.old.bank.journal }
+        ensures number { self.new.chain.number ≡ self.old.chain.number }
+        ensures last { IsLast self.old.chain.number front.old front.new (Sets (address, bytes.now)) }
+    {
+        let journal = self.bank.set(address, bytes, fresh);
+        self.chain.add(front, &Setting { address, bytes });
+        journal
+    }
+
+    /// Whatever a port knows of this bank begins what is known here, which is all of it.
+    pub fn knows_all(&mut self, front: &Front<J>)
+        ensures begins { IsPrefix (chain_of self.old.chain.number front.now)
+            (chain_of self.old.chain.number self.old.chain.log) }
+        ensures same { self.new ≡ self.old }
+    {
+        self.chain.begins_with(front);
+    }
+}
+
+impl<J: Family> Deref for Kept<J> {
+    type Target = Bank;
+
+    ghost use Rattle.std.specs.Prelude.{◌≡◌};
+
+    fn deref(&self) -> &Bank
+        ensures { result.now ≡ self.now.bank }
+    {
+        &self.bank
+    }
+}

@@ -1,0 +1,16 @@
+//! The annals of a node: one history of all that was done at its banks, in the order in which it was done.
+//!
+//! Each bank has a [`Chain`] in it, and a [`Kept`] bank is one with its chain, as it lies behind a lock: whoever has the
+//! lock, and nobody else, can add to the chain, and the bank's memory is the replay of it. What a port knows of the
+//! history is its [`Front`]. The history exists in proofs alone: at run time a chain is one word, and a front is nothing.
+#![tactic(auto)]
+
+mod chains;
+mod deed;
+mod kept;
+mod laws;
+
+pub use chains::{Chain, Family, Front, Opened};
+pub use deed::{Deed, Link};
+pub use kept::Kept;
+pub use laws::share_one_history;
