@@ -9,8 +9,9 @@ use Rattle.std.specs.Str.Parse.{IsNumeral, ParsesUnsigned, digits_value}
 use Rattle.hex.specs.Hex.{decode_of}
 use Rattle.hex.specs.declared.error.FromHexError.{FromHexError}
 use Rattle.hex.specs.declared.error.FromHexError.TheVariants.{InvalidHexCharacter, OddLength, InvalidStringLength, OutOfMemory}
-use Rattle.job_parts.specs.Options.{IsValueFault}
 use Rattle.job_packets.specs.HexWords.{Has, WritesBytes, WritesDigits, fault_of_hex}
+use Rattle.job_packets.specs.Slips.{IsWordFault}
+use Rattle.job_packets.specs.declared.slips.PacketWord.{PacketWord}
 
 -- so many digits write a number below a power of 16, and so one of 32 bits
 low_digits : (most : ℕ) (digits : List ℕ) → IsNumeral 16 digits → length digits ≤ most → digits_value 16 digits < 16 ^ most
@@ -55,14 +56,14 @@ digits_low most word r short front parses = stays_low most word r short (plain w
 -- a word that does not decode, and is no `-`, writes no bytes
 no_bytes : (word : List ℕ) (refused : FromHexError) → word ≢ codes "-" → decode_of word ≡ Err refused → ¬ Has (WritesBytes word)
 no_bytes word refused other fails (bytes, inl dash) = other dash.0
-no_bytes word refused other fails (bytes, inr decoded) = cc (fails, decoded)
+no_bytes word refused other fails (bytes, inr decoded) = let written = decoded.1 in cc (fails, written)
 
-pub bytes_fault : (word : List ℕ) (refused : FromHexError) → word ≢ codes "-" → (refused ≡ OutOfMemory) ⊎ (decode_of word ≡ Err refused)
-    → IsValueFault (Has (WritesBytes word)) (fault_of_hex refused)
-bytes_fault word (InvalidHexCharacter c i) other (inl none) = cc
-bytes_fault word (InvalidHexCharacter c i) other (inr fails) = inr (refl, no_bytes word (InvalidHexCharacter c i) other fails)
-bytes_fault word OddLength other (inl none) = cc
-bytes_fault word OddLength other (inr fails) = inr (refl, no_bytes word OddLength other fails)
-bytes_fault word InvalidStringLength other (inl none) = cc
-bytes_fault word InvalidStringLength other (inr fails) = inr (refl, no_bytes word InvalidStringLength other fails)
-bytes_fault word OutOfMemory other why = inl refl
+pub bytes_fault : (word : List ℕ) (whose : PacketWord) (refused : FromHexError) → word ≢ codes "-" → (refused ≡ OutOfMemory) ⊎ (decode_of word ≡ Err refused)
+    → IsWordFault (Has (WritesBytes word)) (fault_of_hex whose refused)
+bytes_fault word whose (InvalidHexCharacter c i) other (inl none) = cc
+bytes_fault word whose (InvalidHexCharacter c i) other (inr fails) = inr (tt, no_bytes word (InvalidHexCharacter c i) other fails)
+bytes_fault word whose OddLength other (inl none) = cc
+bytes_fault word whose OddLength other (inr fails) = inr (tt, no_bytes word OddLength other fails)
+bytes_fault word whose InvalidStringLength other (inl none) = cc
+bytes_fault word whose InvalidStringLength other (inr fails) = inr (tt, no_bytes word InvalidStringLength other fails)
+bytes_fault word whose OutOfMemory other why = inl refl

@@ -1,30 +1,31 @@
 -- Words that write nothing of which something can be made.
-use Rattle.std.proofs.Common.{◌≡◌, ◌≢◌, ◌∷◌, ℕ, List, Some, Option, inl, inr, sym, subst, get_or, string_bytes, codes, arith}
+use Rattle.std.proofs.Common.{◌≡◌, ◌≢◌, ◌∷◌, ℕ, List, Some, Option, inl, inr, sym, subst, get_or, string_bytes, codes, arith, rules}
 use Rattle.clap.specs.Walk.{Row, first_of}
-use Rattle.job_parts.specs.Options.{IsValueFault}
-use Rattle.job_parts.specs.declared.usage.UsageFault.{UsageFault}
 use Rattle.job_packets.specs.HexWords.{Has, WritesBytes}
 use Rattle.job_packets.specs.Orders.{Gives, HasKind, HasWrite, NamesOrder, WritesSource}
-use Rattle.job_packets.specs.PacketJob.{RefusesPacket}
+use Rattle.job_packets.specs.PacketJob.{NamesPacket, RefusesPacket}
 use Rattle.job_packets.specs.PacketOptions.{GivesHeader}
+use Rattle.job_packets.specs.Slips.{IsWordFault, usage_fault_of}
 use Rattle.job_packets.specs.declared.orders.Order.{Order}
 use Rattle.job_packets.specs.declared.orders.Order.TheVariants.{Read, Write, Rmw, Load}
 use Rattle.job_packets.specs.declared.orders.Source.{Source}
 use Rattle.job_packets.specs.declared.orders.Source.TheVariants.{Bytes, File}
+use Rattle.job_packets.specs.declared.slips.PacketFault.{PacketFault}
+use Rattle.job_packets.specs.declared.slips.PacketFault.TheVariants.{Words, Memory}
 
 no_source : (word : List ℕ) → ((rest : List ℕ) → word ≢ 64 ∷ rest) → ¬ Has (WritesBytes word) → (source : Source) → WritesSource word source → ⊥
 no_source word other none (Bytes bytes) written = none (bytes.items, written)
 no_source word other none (File name) written = other (string_bytes name) written
 
 -- a word that names no file, and writes no bytes, writes no data
-pub source_fault : (word : List ℕ) (fault : UsageFault) → ((rest : List ℕ) → word ≢ 64 ∷ rest) → IsValueFault (Has (WritesBytes word)) fault
-    → IsValueFault (Has (WritesSource word)) fault
+pub source_fault : (word : List ℕ) (fault : PacketFault) → ((rest : List ℕ) → word ≢ 64 ∷ rest) → IsWordFault (Has (WritesBytes word)) fault
+    → IsWordFault (Has (WritesSource word)) fault
 source_fault word fault other (inl memory) = inl memory
 source_fault word fault other (inr bad) = inr (bad.0, λ has. no_source word other bad.1 has.0 has.1)
 
 -- without data there is no write
-pub write_fault : (rows : List Row) (fault : UsageFault) → IsValueFault (Has (Gives WritesSource (first_of (codes "data") rows))) fault
-    → IsValueFault (HasWrite rows) fault
+pub write_fault : (rows : List Row) (fault : PacketFault) → IsWordFault (Has (Gives WritesSource (first_of (codes "data") rows))) fault
+    → IsWordFault (HasWrite rows) fault
 write_fault rows fault (inl memory) = inl memory
 write_fault rows fault (inr bad) = inr (bad.0, λ has. bad.1 (has.2, has.3.bytes))
 
@@ -42,12 +43,20 @@ no_order rows kind none (Load image slot) named =
     let same : 119 ≡ 108 = first_letters _ _ _ kind named.0 in absurd (omega (arith, same))
 
 -- words of a write that is none order nothing
-pub order_fault : (rows : List Row) (fault : UsageFault) → HasKind rows (codes "write") → IsValueFault (HasWrite rows) fault
-    → IsValueFault (Has (NamesOrder rows)) fault
+pub order_fault : (rows : List Row) (fault : PacketFault) → HasKind rows (codes "write") → IsWordFault (HasWrite rows) fault
+    → IsWordFault (Has (NamesOrder rows)) fault
 order_fault rows fault kind (inl memory) = inl memory
 order_fault rows fault kind (inr bad) = inr (bad.0, λ has. no_order rows kind bad.1 has.0 has.1)
 
 -- without a header there are no words of `packet`
-pub header_fault : (rows : List Row) (fault : UsageFault) → IsValueFault (Has (GivesHeader rows)) fault → RefusesPacket rows fault
-header_fault rows fault (inl memory) = subst (RefusesPacket rows) (sym memory) tt
-header_fault rows fault (inr bad) = subst (RefusesPacket rows) (sym bad.0) (λ has. bad.1 (has.0.header, has.1.0))
+pub header_fault : (rows : List Row) (fault : PacketFault) → IsWordFault (Has (GivesHeader rows)) fault
+    → IsWordFault (Has (NamesPacket rows)) fault
+header_fault rows fault (inl memory) = inl memory
+header_fault rows fault (inr bad) = inr (bad.0, λ has. bad.1 (has.0.header, has.1.0))
+
+-- words of no packet are refused by a fault of the command line
+pub refuses : (rows : List Row) (fault : PacketFault) → IsWordFault (Has (NamesPacket rows)) fault
+    → RefusesPacket rows (usage_fault_of fault)
+refuses rows (Words slip) (inl memory) = absurd (search rules)
+refuses rows (Words slip) (inr bad) = bad.1
+refuses rows Memory h = tt

@@ -1,11 +1,13 @@
 -- What words in hexadecimal digits write: numbers, and bytes.
-use Rattle.std.specs.Prelude.{◌≡◌, ◌≤◌, ◌⊎◌, ℕ, List, [], ◌++◌, Ok, codes, length}
+use Rattle.std.specs.Prelude.{◌≡◌, ◌≢◌, ◌≤◌, ◌⊎◌, ℕ, List, [], ◌++◌, Ok, codes, length}
 use Rattle.std.specs.Str.Parse.{IsNumeral, digits_value}
 use Rattle.hex.specs.Hex.{decode_of}
 use Rattle.hex.specs.declared.error.FromHexError.{FromHexError}
 use Rattle.hex.specs.declared.error.FromHexError.TheVariants.{InvalidHexCharacter, OddLength, InvalidStringLength, OutOfMemory}
-use Rattle.job_parts.specs.declared.usage.UsageFault.{UsageFault}
-use Rattle.job_parts.specs.declared.usage.UsageFault.TheVariants.{BadOption, Memory}
+use Rattle.job_packets.specs.Slips.{bad_word}
+use Rattle.job_packets.specs.declared.slips.PacketFault.{PacketFault}
+use Rattle.job_packets.specs.declared.slips.PacketFault.TheVariants.{Memory}
+use Rattle.job_packets.specs.declared.slips.PacketWord.{PacketWord}
 
 -- there is such a value
 abbrev pub Has : {V : Type 0} → (V → Type 0) → Type 0
@@ -25,13 +27,13 @@ pub record WritesPrefixed (most : ℕ) (word : List ℕ) (n : ℕ) : Type 0 wher
 abbrev pub WritesHex : (most : ℕ) → List ℕ → ℕ → Type 0
 WritesHex most word n = WritesDigits most word n ⊎ WritesPrefixed most word n
 
--- pairs of hexadecimal digits write the bytes, and `-` writes none
+-- pairs of hexadecimal digits, one at least, write the bytes, and `-` writes none
 abbrev pub WritesBytes : List ℕ → List ℕ → Type 0
-WritesBytes word bytes = ((word ≡ codes "-") × (bytes ≡ [])) ⊎ (decode_of word ≡ Ok bytes)
+WritesBytes word bytes = ((word ≡ codes "-") × (bytes ≡ [])) ⊎ ((word ≢ []) × (decode_of word ≡ Ok bytes))
 
--- a word that does not decode writes no bytes, unless memory was refused
-abbrev pub fault_of_hex : FromHexError → UsageFault
-fault_of_hex (InvalidHexCharacter c index) = BadOption
-fault_of_hex OddLength = BadOption
-fault_of_hex InvalidStringLength = BadOption
-fault_of_hex OutOfMemory = Memory
+-- a word whose text does not decode writes no bytes, unless memory was refused
+abbrev pub fault_of_hex : PacketWord → FromHexError → PacketFault
+fault_of_hex word (InvalidHexCharacter c index) = bad_word word
+fault_of_hex word OddLength = bad_word word
+fault_of_hex word InvalidStringLength = bad_word word
+fault_of_hex word OutOfMemory = Memory

@@ -7,3 +7,4 @@ pub mod PacketOptions
 pub mod Requests
 pub mod ShowJob
 pub mod Shown
+pub mod Slips

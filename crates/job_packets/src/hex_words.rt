@@ -1,11 +1,11 @@
 //! What words in hexadecimal digits write: numbers, and bytes.
 
 ghost use Rattle.std.specs.Prelude.{◌≡◌, ◌≤◌, ◌<◌, ◌^◌, ℕ, IfErr, IfOk, IfSome, MatchOption};
-ghost use Rattle.job_parts.specs.Options.{IsValueFault};
 ghost use Rattle.job_packets.specs.HexWords.{Has, WritesBytes, WritesDigits, WritesHex, fault_of_hex};
+ghost use Rattle.job_packets.specs.Slips.{IsWordFault};
 
+use crate::slips::{PacketFault, PacketWord};
 use hex::FromHexError;
-use job_parts::usage::UsageFault;
 use std::alloc::Global;
 
 /// The number that hexadecimal digits write, at most so many.
@@ -34,28 +34,31 @@ pub fn hex_written(word: &str, most: usize) -> Option<u32>
     }
 }
 
-/// What a word that is not decoded means: it writes no bytes, or memory was refused.
-fn fault_of(refused: FromHexError) -> UsageFault
-    ensures { result ≡ fault_of_hex refused }
+/// What it means that a text is not decoded, where it is this word: it writes no bytes, or memory was refused.
+fn fault_of(refused: FromHexError, word: PacketWord) -> PacketFault
+    ensures { result ≡ fault_of_hex word refused }
 {
     match refused {
-        FromHexError::OutOfMemory => UsageFault::Memory,
+        FromHexError::OutOfMemory => PacketFault::Memory,
         FromHexError::InvalidHexCharacter { .. }
         | FromHexError::OddLength
-        | FromHexError::InvalidStringLength => UsageFault::BadOption,
+        | FromHexError::InvalidStringLength => PacketFault::bad(word),
     }
 }
 
-/// The bytes that a word writes: pairs of hexadecimal digits, or `-` for none.
-pub fn bytes_written(alloc: Global, word: &str) -> Result<Vec<u8>, UsageFault>
-    ensures ok { IfOk result (λ bytes. WritesBytes word.now bytes.items) }
-    ensures err { IfErr result (IsValueFault (Has (WritesBytes word.now))) }
+/// The bytes that a text writes, which is this word: pairs of hexadecimal digits, one at least, or `-` for none.
+pub fn bytes_written(alloc: Global, text: &str, word: PacketWord) -> Result<Vec<u8>, PacketFault>
+    ensures ok { IfOk result (λ bytes. WritesBytes text.now bytes.items) }
+    ensures err { IfErr result (IsWordFault (Has (WritesBytes text.now))) }
 {
-    if word == "-" {
+    if text == "-" {
         return Ok(Vec::new(alloc));
     }
-    match hex::decode(alloc, word) {
+    if text.is_empty() {
+        return Err(PacketFault::bad(word));
+    }
+    match hex::decode(alloc, text) {
         Ok(bytes) => Ok(bytes),
-        Err(refused) => Err(fault_of(refused)),
+        Err(refused) => Err(fault_of(refused, word)),
     }
 }

@@ -2,6 +2,7 @@
 #![tactic(auto)]
 
 pub mod hex_words;
+mod load_results;
 pub mod loads;
 pub mod made_packets;
 pub mod orders;
@@ -9,4 +10,6 @@ pub mod packet;
 pub mod packet_options;
 pub mod requests;
 pub mod show;
-pub mod shown;
+mod shown;
+pub mod shown_lines;
+pub mod slips;

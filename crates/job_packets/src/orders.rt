@@ -1,17 +1,18 @@
 //! What the job `packet` is to make.
 
-ghost use Rattle.std.specs.Prelude.{◌≡◌, ℕ, IfErr, IfOk, MatchOption, MatchResult, codes};
+ghost use Rattle.std.specs.Prelude.{◌≡◌, ℕ, Some, IfErr, IfOk, MatchOption, MatchResult, codes};
 ghost use Rattle.clap.specs.Walk.{first_of, rows_of};
 ghost use Rattle.clap.specs.Matches.{found_of};
-ghost use Rattle.job_parts.specs.Options.{IsBadValue, IsNumberWithin, IsValueFault, WritesSuch};
+ghost use Rattle.job_parts.specs.Options.{IsNumberWithin, WritesSuch};
 ghost use Rattle.job_packets.specs.HexWords.{Has};
 ghost use Rattle.job_packets.specs.Orders.{AreMasked, Gives, GivesMasked, GivesPlace, HasLoad, HasRead, HasRmw, HasWrite, NamesOrder, OrdersLoad, OrdersRead, OrdersRmw, OrdersWrite, WritesSource, is_given, is_load_alone, is_plain, is_read_alone, is_rmw_alone, is_write_alone, read_code, write_code};
+ghost use Rattle.job_packets.specs.Slips.{IsBadWord, IsSlip, IsWordFault, LacksWord};
 
 use crate::hex_words::{bytes_written, hex_written};
+use crate::slips::{PacketFault, PacketWord, Slip};
 use clap::ArgMatches;
 use initiator::LAST_SLOT;
 use job_parts::arguments::{is_set, text_of};
-use job_parts::usage::UsageFault;
 use std::alloc::Global;
 
 /// The greatest data length of a header (ECSS-E-ST-50-52C, data length field).
@@ -129,23 +130,47 @@ fn is_load_alone(found: &ArgMatches) -> bool
         && !is_given(found, "extended")
 }
 
-/// The address, where the words have one.
-fn address_in(found: &ArgMatches) -> Option<u32>
-    ensures { MatchOption result
-        ((address : ℕ) → ¬ GivesPlace (rows_of (found_of found.now)) address)
-        (GivesPlace (rows_of (found_of found.now))) }
+/// Whether the word is there.
+fn is_there(found: &ArgMatches, word: PacketWord) -> bool {
+    if word.is_flag() {
+        is_set(found, word.id())
+    } else {
+        is_given(found, word.id())
+    }
+}
+
+/// That the first of these words that is there, or else the last, is none of what is to be made.
+fn foreign(found: &ArgMatches, words: &[PacketWord], last: PacketWord) -> PacketFault
+    ensures { IsSlip result }
 {
-    hex_written(text_of(found, "address")?, 8)
+    for word in words {
+        if is_there(found, *word) {
+            return PacketFault::Words(Slip::Foreign(*word));
+        }
+    }
+    PacketFault::Words(Slip::Foreign(last))
+}
+
+/// The text of a word that has to be there.
+fn text_in<'a>(found: &ArgMatches<'a>, name: &str, word: PacketWord) -> Result<&'a str, PacketFault>
+    ensures ok { IfOk result (λ text. first_of name.now (rows_of (found_of found.now)) ≡ Some text.now) }
+    ensures err { IfErr result (LacksWord name.now (rows_of (found_of found.now))) }
+{
+    match text_of(found, name) {
+        Some(text) => Ok(text),
+        None => Err(PacketFault::Words(Slip::Missing(word))),
+    }
 }
 
 /// The address.
-fn address_of(found: &ArgMatches) -> Result<u32, UsageFault>
+fn address_of(found: &ArgMatches) -> Result<u32, PacketFault>
     ensures { MatchResult result (GivesPlace (rows_of (found_of found.now)))
-        (IsBadValue (Has (GivesPlace (rows_of (found_of found.now))))) }
+        (IsBadWord (Has (GivesPlace (rows_of (found_of found.now))))) }
 {
-    match address_in(found) {
+    let text = text_in(found, "address", PacketWord::Address)?;
+    match hex_written(text, 8) {
         Some(address) => Ok(address),
-        None => Err(UsageFault::BadOption),
+        None => Err(PacketFault::bad(PacketWord::Address)),
     }
 }
 
@@ -162,50 +187,67 @@ fn number_written(word: &str, most: u32) -> Option<u32>
     if number <= most { Some(number) } else { None }
 }
 
+/// The decimal number that a word writes, at most this one.
+fn number_in(
+    found: &ArgMatches,
+    name: &str,
+    word: PacketWord,
+    most: u32,
+) -> Result<u32, PacketFault>
+    ensures { MatchResult result
+        (Gives (WritesSuch (IsNumberWithin 0 most)) (first_of name.now (rows_of (found_of found.now))))
+        (IsBadWord (Has (Gives (WritesSuch (IsNumberWithin 0 most)) (first_of name.now (rows_of (found_of found.now)))))) }
+{
+    let text = text_in(found, name, word)?;
+    match number_written(text, most) {
+        Some(number) => Ok(number),
+        None => Err(PacketFault::bad(word)),
+    }
+}
+
 /// The data of a write that a word writes.
-fn source_written(alloc: Global, word: &str) -> Result<Source, UsageFault>
+fn source_written(alloc: Global, word: &str) -> Result<Source, PacketFault>
     ensures ok { IfOk result (WritesSource word.now) }
-    ensures err { IfErr result (IsValueFault (Has (WritesSource word.now))) }
+    ensures err { IfErr result (IsWordFault (Has (WritesSource word.now))) }
 {
     match word.strip_prefix('@') {
         Some(name) => Ok(Source::File(String::from_str(alloc, name)?)),
-        None => Ok(Source::Bytes(bytes_written(alloc, word)?)),
+        None => Ok(Source::Bytes(bytes_written(alloc, word, PacketWord::Data)?)),
     }
 }
 
 /// A read: command code, address and length.
-fn read_named(found: &ArgMatches) -> Option<(u8, u32, u32)>
-    ensures { MatchOption result (¬ HasRead (rows_of (found_of found.now)))
-        (λ r. OrdersRead (rows_of (found_of found.now)) r.0 r.1 r.2) }
+fn read_named(found: &ArgMatches) -> Result<(u8, u32, u32), PacketFault>
+    ensures ok { IfOk result (λ r. OrdersRead (rows_of (found_of found.now)) r.0 r.1 r.2) }
+    ensures err { IfErr result (IsBadWord (HasRead (rows_of (found_of found.now)))) }
 {
     if !is_read_alone(found) {
-        return None;
+        let others = [PacketWord::Verify, PacketWord::NoReply, PacketWord::Mask];
+        return Err(foreign(found, &others, PacketWord::Slot));
     }
-    let address = address_in(found)?;
-    let count = number_written(text_of(found, "data")?, MAX_LENGTH)?;
-    Some((read_code(found), address, count))
+    let address = address_of(found)?;
+    let count = number_in(found, "data", PacketWord::Length, MAX_LENGTH)?;
+    Ok((read_code(found), address, count))
 }
 
 /// The data of a write.
-fn source_of(alloc: Global, found: &ArgMatches) -> Result<Source, UsageFault>
+fn source_of(alloc: Global, found: &ArgMatches) -> Result<Source, PacketFault>
     ensures ok { IfOk result
         (Gives WritesSource (first_of (codes "data") (rows_of (found_of found.now)))) }
-    ensures err { IfErr result (IsValueFault (Has
+    ensures err { IfErr result (IsWordFault (Has
         (Gives WritesSource (first_of (codes "data") (rows_of (found_of found.now)))))) }
 {
-    match text_of(found, "data") {
-        Some(word) => source_written(alloc, word),
-        None => Err(UsageFault::BadOption),
-    }
+    let text = text_in(found, "data", PacketWord::Data)?;
+    source_written(alloc, text)
 }
 
 /// A write: command code, address and data.
-fn write_named(alloc: Global, found: &ArgMatches) -> Result<(u8, u32, Source), UsageFault>
+fn write_named(alloc: Global, found: &ArgMatches) -> Result<(u8, u32, Source), PacketFault>
     ensures ok { IfOk result (λ r. OrdersWrite (rows_of (found_of found.now)) r.0 r.1 r.2) }
-    ensures err { IfErr result (IsValueFault (HasWrite (rows_of (found_of found.now)))) }
+    ensures err { IfErr result (IsWordFault (HasWrite (rows_of (found_of found.now)))) }
 {
     if !is_write_alone(found) {
-        return Err(UsageFault::BadOption);
+        return Err(foreign(found, &[PacketWord::Mask], PacketWord::Slot));
     }
     let address = address_of(found)?;
     let source = source_of(alloc, found)?;
@@ -213,71 +255,89 @@ fn write_named(alloc: Global, found: &ArgMatches) -> Result<(u8, u32, Source), U
 }
 
 /// The data and the mask that two words write, joined.
-fn masked_written(alloc: Global, front: &str, behind: &str) -> Result<Vec<u8>, UsageFault>
+fn masked_written(alloc: Global, front: &str, behind: &str) -> Result<Vec<u8>, PacketFault>
     ensures ok { IfOk result (λ bytes. AreMasked front.now behind.now bytes.items) }
-    ensures err { IfErr result (IsValueFault (Has (AreMasked front.now behind.now))) }
+    ensures err { IfErr result (IsWordFault (Has (AreMasked front.now behind.now))) }
 {
-    let mut bytes = bytes_written(alloc, front)?;
-    let mask = bytes_written(alloc, behind)?;
-    if mask.len() != bytes.len() || bytes.len() > MAX_MASKED {
-        return Err(UsageFault::BadOption);
+    let mut bytes = bytes_written(alloc, front, PacketWord::Masked)?;
+    let mask = bytes_written(alloc, behind, PacketWord::Mask)?;
+    if bytes.len() > MAX_MASKED {
+        return Err(PacketFault::bad(PacketWord::Masked));
+    }
+    if mask.len() != bytes.len() {
+        return Err(PacketFault::bad(PacketWord::Mask));
     }
     bytes.extend_from_slice(mask.as_slice())?;
     Ok(bytes)
 }
 
 /// The data and the mask of a read-modify-write, joined.
-fn masked_of(alloc: Global, found: &ArgMatches) -> Result<Vec<u8>, UsageFault>
+fn masked_of(alloc: Global, found: &ArgMatches) -> Result<Vec<u8>, PacketFault>
     ensures ok { IfOk result (λ bytes.
         GivesMasked (first_of (codes "data") (rows_of (found_of found.now)))
         (first_of (codes "mask") (rows_of (found_of found.now))) bytes.items) }
-    ensures err { IfErr result (IsValueFault (Has
+    ensures err { IfErr result (IsWordFault (Has
         (GivesMasked (first_of (codes "data") (rows_of (found_of found.now)))
         (first_of (codes "mask") (rows_of (found_of found.now)))))) }
 {
-    let Some(front) = text_of(found, "data") else {
-        return Err(UsageFault::BadOption);
-    };
-    let Some(behind) = text_of(found, "mask") else {
-        return Err(UsageFault::BadOption);
-    };
+    let front = text_in(found, "data", PacketWord::Masked)?;
+    let behind = text_in(found, "mask", PacketWord::Mask)?;
     masked_written(alloc, front, behind)
 }
 
 /// A read-modify-write: address, and data with the mask.
-fn rmw_named(alloc: Global, found: &ArgMatches) -> Result<(u32, Vec<u8>), UsageFault>
+fn rmw_named(alloc: Global, found: &ArgMatches) -> Result<(u32, Vec<u8>), PacketFault>
     ensures ok { IfOk result (λ r. OrdersRmw (rows_of (found_of found.now)) r.0 r.1.items) }
-    ensures err { IfErr result (IsValueFault (HasRmw (rows_of (found_of found.now)))) }
+    ensures err { IfErr result (IsWordFault (HasRmw (rows_of (found_of found.now)))) }
 {
     if !is_rmw_alone(found) {
-        return Err(UsageFault::BadOption);
+        let others = [
+            PacketWord::Verify,
+            PacketWord::NoReply,
+            PacketWord::NoIncrement,
+        ];
+        return Err(foreign(found, &others, PacketWord::Slot));
     }
     let address = address_of(found)?;
     let bytes = masked_of(alloc, found)?;
     Ok((address, bytes))
 }
 
-/// A load: the name of the image's file, and the slot.
-fn load_named<'a>(found: &ArgMatches<'a>) -> Option<(&'a str, u8)>
-    ensures { MatchOption result (¬ HasLoad (rows_of (found_of found.now)))
-        (λ r. OrdersLoad (rows_of (found_of found.now)) r.0.now r.1) }
+/// That words of a load are there that it has not.
+fn foreign_to_load(found: &ArgMatches) -> PacketFault
+    ensures { IsSlip result }
 {
-    if !is_load_alone(found) {
-        return None;
-    }
-    let image = text_of(found, "address")?;
-    let slot = number_written(text_of(found, "slot")?, u32::from(LAST_SLOT))?;
-    Some((image, slot as u8))
+    let others = [
+        PacketWord::Verify,
+        PacketWord::NoReply,
+        PacketWord::NoIncrement,
+        PacketWord::Data,
+        PacketWord::Mask,
+    ];
+    foreign(found, &others, PacketWord::Extended)
 }
 
-/// What the words order. `BadOption` where they order nothing that can be made.
-pub fn order_of(alloc: Global, found: &ArgMatches) -> Result<Order, UsageFault>
+/// A load: the name of the image's file, and the slot.
+fn load_named<'a>(found: &ArgMatches<'a>) -> Result<(&'a str, u8), PacketFault>
+    ensures ok { IfOk result (λ r. OrdersLoad (rows_of (found_of found.now)) r.0.now r.1) }
+    ensures err { IfErr result (IsBadWord (HasLoad (rows_of (found_of found.now)))) }
+{
+    if !is_load_alone(found) {
+        return Err(foreign_to_load(found));
+    }
+    let image = text_in(found, "address", PacketWord::Address)?;
+    let slot = number_in(found, "slot", PacketWord::Slot, u32::from(LAST_SLOT))?;
+    Ok((image, slot as u8))
+}
+
+/// What the words order. A slip where they order nothing that can be made: the first word that is wrong.
+pub fn order_of(alloc: Global, found: &ArgMatches) -> Result<Order, PacketFault>
     ensures ok { IfOk result (NamesOrder (rows_of (found_of found.now))) }
-    ensures err { IfErr result (IsValueFault (Has (NamesOrder (rows_of (found_of found.now))))) }
+    ensures err { IfErr result (IsWordFault (Has (NamesOrder (rows_of (found_of found.now))))) }
 {
     match text_of(found, "kind") {
         Some("read") => {
-            let (code, address, count) = read_named(found).ok_or(UsageFault::BadOption)?;
+            let (code, address, count) = read_named(found)?;
             Ok(Order::Read {
                 code,
                 address,
@@ -297,10 +357,10 @@ pub fn order_of(alloc: Global, found: &ArgMatches) -> Result<Order, UsageFault>
             Ok(Order::Rmw { address, bytes })
         }
         Some("load") => {
-            let (image, slot) = load_named(found).ok_or(UsageFault::BadOption)?;
+            let (image, slot) = load_named(found)?;
             let image = String::from_str(alloc, image)?;
             Ok(Order::Load { image, slot })
         }
-        _ => Err(UsageFault::BadOption),
+        _ => Err(PacketFault::bad(PacketWord::Kind)),
     }
 }

@@ -5,10 +5,13 @@ ghost use Rattle.clap.specs.Simple.{app_of};
 ghost use Rattle.clap.specs.declared.builder.command.Command.TheViews.{out-Command as fields_of};
 ghost use Rattle.clap.specs.Walk.{rows_of};
 ghost use Rattle.clap.specs.Matches.{found_of};
+ghost use Rattle.job_packets.specs.HexWords.{Has};
 ghost use Rattle.job_packets.specs.PacketJob.{NamesPacket, RefusesPacket, packet_app, with_order_options, with_order_words};
+ghost use Rattle.job_packets.specs.Slips.{IsWordFault};
 
 use crate::orders::{Order, order_of};
 use crate::packet_options::{HeaderWords, field_arguments, header_words};
+use crate::slips::PacketFault;
 use clap::{ArgMatches, Command};
 use job_parts::arguments::{file, flag, option, optional};
 use job_parts::usage::UsageFault;
@@ -82,12 +85,24 @@ pub fn packet_command<'a>(alloc: Global) -> Result<Command<'a>, AllocError>
     field_arguments(alloc, chosen)
 }
 
-/// The words of `packet` with these matches.
-pub fn packet_job(alloc: Global, found: &ArgMatches) -> Result<PacketWords, UsageFault>
+/// The words of `packet` with these matches. A slip where they are none: of the options of a header, and then of what is
+/// ordered, the first.
+pub fn packet_words(alloc: Global, found: &ArgMatches) -> Result<PacketWords, PacketFault>
     ensures ok { IfOk result (NamesPacket (rows_of (found_of found.now))) }
-    ensures err { IfErr result (RefusesPacket (rows_of (found_of found.now))) }
+    ensures err { IfErr result (IsWordFault (Has (NamesPacket (rows_of (found_of found.now))))) }
 {
     let header = header_words(alloc, found)?;
     let order = order_of(alloc, found)?;
     Ok(PacketWords { header, order })
+}
+
+/// The same, with a slip as `BadOption`.
+pub fn packet_job(alloc: Global, found: &ArgMatches) -> Result<PacketWords, UsageFault>
+    ensures ok { IfOk result (NamesPacket (rows_of (found_of found.now))) }
+    ensures err { IfErr result (RefusesPacket (rows_of (found_of found.now))) }
+{
+    match packet_words(alloc, found) {
+        Ok(words) => Ok(words),
+        Err(fault) => Err(fault.usage()),
+    }
 }

@@ -5,14 +5,14 @@ ghost use Rattle.clap.specs.Simple.{app_of};
 ghost use Rattle.clap.specs.declared.builder.command.Command.TheViews.{out-Command as fields_of};
 ghost use Rattle.clap.specs.Walk.{first_of, rows_of};
 ghost use Rattle.clap.specs.Matches.{found_of};
-ghost use Rattle.job_parts.specs.Options.{IsBadValue, IsValueFault};
 ghost use Rattle.job_packets.specs.HexWords.{Has};
 ghost use Rattle.job_packets.specs.PacketOptions.{GivesAddress, GivesHeader, GivesHex, GivesPort, with_field_options};
+ghost use Rattle.job_packets.specs.Slips.{IsBadWord, IsWordFault};
 
 use crate::hex_words::{bytes_written, hex_written};
+use crate::slips::{PacketFault, PacketWord};
 use clap::{ArgMatches, Command};
 use job_parts::arguments::{option, text_of};
-use job_parts::usage::UsageFault;
 use spw::read_port;
 use std::alloc::{AllocError, Global};
 
@@ -69,75 +69,80 @@ pub fn field_arguments<'a>(alloc: Global, command: Command<'a>) -> Result<Comman
 }
 
 /// The port by `--port`.
-fn port_of(found: &ArgMatches) -> Result<u8, UsageFault>
+fn port_of(found: &ArgMatches) -> Result<u8, PacketFault>
     ensures { MatchResult result
         (GivesPort (first_of (codes "port") (rows_of (found_of found.now))))
-        (IsBadValue (Has (GivesPort (first_of (codes "port") (rows_of (found_of found.now)))))) }
+        (IsBadWord (Has (GivesPort (first_of (codes "port") (rows_of (found_of found.now)))))) }
 {
     match text_of(found, "port") {
-        Some(word) => read_port(word).map_err(|_| UsageFault::BadOption),
+        Some(text) => read_port(text).map_err(|_| PacketFault::bad(PacketWord::Port)),
         None => Ok(0),
     }
 }
 
 /// The byte by an option of two hexadecimal digits.
-fn byte_of(found: &ArgMatches, name: &str, default: u8) -> Result<u8, UsageFault>
+fn byte_of(found: &ArgMatches, name: &str, word: PacketWord, default: u8) -> Result<u8, PacketFault>
     ensures { MatchResult result
         (GivesHex 2 default (first_of name.now (rows_of (found_of found.now))))
-        (IsBadValue (Has (GivesHex 2 default (first_of name.now (rows_of (found_of found.now)))))) }
+        (IsBadWord (Has (GivesHex 2 default (first_of name.now (rows_of (found_of found.now)))))) }
 {
-    let Some(word) = text_of(found, name) else {
+    let Some(text) = text_of(found, name) else {
         return Ok(default);
     };
-    match hex_written(word, 2) {
+    match hex_written(text, 2) {
         Some(byte) => Ok(byte as u8),
-        None => Err(UsageFault::BadOption),
+        None => Err(PacketFault::bad(word)),
     }
 }
 
 /// The number of two bytes by an option of four hexadecimal digits.
-fn pair_of(found: &ArgMatches, name: &str, default: u16) -> Result<u16, UsageFault>
+fn pair_of(
+    found: &ArgMatches,
+    name: &str,
+    word: PacketWord,
+    default: u16,
+) -> Result<u16, PacketFault>
     ensures { MatchResult result
         (GivesHex 4 default (first_of name.now (rows_of (found_of found.now))))
-        (IsBadValue (Has (GivesHex 4 default (first_of name.now (rows_of (found_of found.now)))))) }
+        (IsBadWord (Has (GivesHex 4 default (first_of name.now (rows_of (found_of found.now)))))) }
 {
-    let Some(word) = text_of(found, name) else {
+    let Some(text) = text_of(found, name) else {
         return Ok(default);
     };
-    match hex_written(word, 4) {
+    match hex_written(text, 4) {
         Some(pair) => Ok(pair as u16),
-        None => Err(UsageFault::BadOption),
+        None => Err(PacketFault::bad(word)),
     }
 }
 
 /// The reply address by `--reply-address`.
-fn reply_address_of(alloc: Global, found: &ArgMatches) -> Result<Vec<u8>, UsageFault>
+fn reply_address_of(alloc: Global, found: &ArgMatches) -> Result<Vec<u8>, PacketFault>
     ensures ok { IfOk result (λ bytes.
         GivesAddress (first_of (codes "reply-address") (rows_of (found_of found.now))) bytes.items) }
-    ensures err { IfErr result (IsValueFault (Has
+    ensures err { IfErr result (IsWordFault (Has
         (GivesAddress (first_of (codes "reply-address") (rows_of (found_of found.now)))))) }
 {
-    let Some(word) = text_of(found, "reply-address") else {
+    let Some(text) = text_of(found, "reply-address") else {
         return Ok(Vec::new(alloc));
     };
-    let bytes = bytes_written(alloc, word)?;
+    let bytes = bytes_written(alloc, text, PacketWord::ReplyAddress)?;
     if bytes.len() % 4 != 0 || bytes.len() > MAX_REPLY_ADDRESS {
-        return Err(UsageFault::BadOption);
+        return Err(PacketFault::bad(PacketWord::ReplyAddress));
     }
     Ok(bytes)
 }
 
-/// The words of a header by the options. `BadOption` where one has a value that it may not have.
-pub fn header_words(alloc: Global, found: &ArgMatches) -> Result<HeaderWords, UsageFault>
+/// The words of a header by the options. A slip where one has a value that it may not have: the first such.
+pub fn header_words(alloc: Global, found: &ArgMatches) -> Result<HeaderWords, PacketFault>
     ensures ok { IfOk result (GivesHeader (rows_of (found_of found.now))) }
-    ensures err { IfErr result (IsValueFault (Has (GivesHeader (rows_of (found_of found.now))))) }
+    ensures err { IfErr result (IsWordFault (Has (GivesHeader (rows_of (found_of found.now))))) }
 {
     let port = port_of(found)?;
-    let target = byte_of(found, "target", 0xFE)?;
-    let key = byte_of(found, "key", 0)?;
-    let initiator = byte_of(found, "initiator", 0x67)?;
-    let transaction = pair_of(found, "transaction", 0)?;
-    let extended = byte_of(found, "extended", 0)?;
+    let target = byte_of(found, "target", PacketWord::Target, 0xFE)?;
+    let key = byte_of(found, "key", PacketWord::Key, 0)?;
+    let initiator = byte_of(found, "initiator", PacketWord::Initiator, 0x67)?;
+    let transaction = pair_of(found, "transaction", PacketWord::Transaction, 0)?;
+    let extended = byte_of(found, "extended", PacketWord::Extended, 0)?;
     let reply_address = reply_address_of(alloc, found)?;
     Ok(HeaderWords {
         port,

@@ -11,7 +11,7 @@ ghost use Rattle.job_parts.specs.Stops.{StopsBy};
 ghost use Rattle.job_packets.specs.ShowJob.{NamesShow, show_app};
 ghost use Rattle.job_packets.specs.Shown.{IsNotShown, ShowsFile};
 
-use crate::shown::shown_line;
+use crate::shown_lines::shown_line;
 use clap::{ArgMatches, Command};
 use job_parts::arguments::{file, name_of};
 use job_parts::bad_lines::BadLine;
@@ -71,8 +71,8 @@ impl TakesLines for Showing {
     }
 }
 
-/// Prints what the packet lines of a file are, commands or replies, and those lines of what `judge` prints that have no
-/// packet.
+/// Prints what the packet lines of a file are, commands or replies, and those lines of what `judge` and `live` print that
+/// have no packet, or more than one.
 ///
 /// Faults are found in this order: the file (`CannotRead`, also where it is not UTF-8), and then each line.
 pub fn show_file<'a, F: Files, W: Write>(

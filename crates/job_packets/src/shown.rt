@@ -1,8 +1,12 @@
-//! Packet lines in words.
+//! Packets in words.
 
+use crate::load_results::{add_control, add_load_result};
 use initiator::{NoReply, Reply, Seen};
-use rmap::{BodyFault, Command, Discard, Flaw, Instruction, Kind, PROTOCOL, Status};
-use spw::{End, LineFault, Packet, read_line, read_port, words_of};
+use rmap::{
+    BodyFault, Command, Discard, Flaw, HeaderFault, Instruction, Kind, MAX_DATA, PROTOCOL, Place,
+    Status, VERIFY_BUFFER, Windows, header_check,
+};
+use spw::{End, Packet};
 use std::alloc::{AllocError, Global};
 
 /// The packet type of a command, in an instruction.
@@ -40,7 +44,7 @@ fn add_kind(text: &mut String, alloc: Global, command: &Command) -> Result<(), A
     let kind = command.kind();
     let word = kind_word(kind);
     write!(text, "command {word}")?;
-    if command.verifies() && !matches!(kind, Kind::Rmw) {
+    if command.verifies() {
         text.push_str(" verify")?;
     }
     if command.wants_reply() {
@@ -93,8 +97,17 @@ fn add_data(text: &mut String, alloc: Global, command: &Command) -> Result<(), A
     add_bytes(text, alloc, "mask", mask)
 }
 
+/// Adds why a command is of no kind.
+fn add_unused(text: &mut String, instruction: Instruction) -> Result<(), AllocError> {
+    if !instruction.is_command() {
+        return text.push_str(" the packet type is reserved");
+    }
+    let code = instruction.0 >> 2 & 0b1111;
+    write!(text, " the command code {code:04b} is unused")
+}
+
 /// Adds what a check of the body of a command finds, if one holds.
-fn add_fault(text: &mut String, fault: Option<BodyFault>) -> Result<(), AllocError> {
+fn add_body_fault(text: &mut String, fault: Option<BodyFault>) -> Result<(), AllocError> {
     match fault {
         Some(BodyFault::TooFewBytes { .. }) => text.push_str(" too few bytes"),
         Some(BodyFault::TooManyBytes { .. }) => text.push_str(" too many bytes"),
@@ -103,6 +116,33 @@ fn add_fault(text: &mut String, fault: Option<BodyFault>) -> Result<(), AllocErr
         }
         // How the packet ended is told by its marker.
         Some(BodyFault::ErrorEnd) | None => Ok(()),
+    }
+}
+
+/// Adds what the first check of a command finds, of those that are the same at each node, and of a control write that is
+/// right what it asks for.
+fn add_checked(
+    text: &mut String,
+    command: &Command,
+    fault: Option<BodyFault>,
+) -> Result<(), AllocError> {
+    let windows = Windows::new(command.target(), &[]);
+    match header_check(command, &windows) {
+        Err(HeaderFault::UnusedCode { instruction }) => add_unused(text, instruction),
+        Err(HeaderFault::WrongRmwLength { .. }) => {
+            text.push_str(" the length of an rmw is 0, 2, 4, 6 or 8")
+        }
+        Err(HeaderFault::TooManyToVerify { .. }) => {
+            write!(text, " at most {VERIFY_BUFFER} bytes are verified")
+        }
+        Err(HeaderFault::TooManyBytes { .. }) => {
+            write!(text, " a command has at most {MAX_DATA} bytes")
+        }
+        Ok(Place::Control) if fault.is_none() => add_control(text, command.body()),
+        // What lies at an address of a bank is each node's own.
+        Err(HeaderFault::OtherNode { .. } | HeaderFault::NoPlace(_)) | Ok(_) => {
+            add_body_fault(text, fault)
+        }
     }
 }
 
@@ -116,7 +156,7 @@ fn add_command(
     add_kind(text, alloc, command)?;
     add_fields(text, command)?;
     add_data(text, alloc, command)?;
-    add_fault(text, fault)?;
+    add_checked(text, command, fault)?;
     let marker = marker_word(command.end());
     write!(text, " {marker}")
 }
@@ -157,6 +197,9 @@ fn add_reply(
         write!(text, " length {length}")?;
     }
     add_bytes(text, alloc, "data", reply.data())?;
+    if !reply.writes() {
+        add_load_result(text, reply.data())?;
+    }
     let marker = marker_word(end);
     write!(text, " {marker}")
 }
@@ -208,66 +251,12 @@ fn add_discard(text: &mut String, reason: Discard, flaw: Flaw) -> Result<(), All
     }
 }
 
-/// A packet at a port, in words.
-fn shown_packet(alloc: Global, port: u8, packet: &Packet) -> Result<String, AllocError> {
-    let mut text = String::new(alloc);
-    write!(text, "{port} ")?;
+/// Adds a packet.
+pub fn add_packet(text: &mut String, alloc: Global, packet: &Packet) -> Result<(), AllocError> {
     match Seen::of(packet) {
-        Seen::Command { command, fault } => add_command(&mut text, alloc, &command, fault)?,
-        Seen::Reply { path, reply } => add_reply(&mut text, alloc, &reply, path, packet.end())?,
-        Seen::NoReply { instruction, why } => add_no_reply(&mut text, instruction, why)?,
-        Seen::Discarded { reason, flaw } => add_discard(&mut text, reason, flaw)?,
+        Seen::Command { command, fault } => add_command(text, alloc, &command, fault),
+        Seen::Reply { path, reply } => add_reply(text, alloc, &reply, path, packet.end()),
+        Seen::NoReply { instruction, why } => add_no_reply(text, instruction, why),
+        Seen::Discarded { reason, flaw } => add_discard(text, reason, flaw),
     }
-    text.push('\n')?;
-    Ok(text)
-}
-
-/// The reason to discard a packet whose number a word is, in one digit.
-fn reason_written(word: &str) -> Option<Discard> {
-    match word.as_bytes() {
-        [digit @ b'0'..=b'9'] => Discard::from_code(*digit - b'0'),
-        _ => None,
-    }
-}
-
-/// What `judge` prints of a packet without a reply, in words: none was asked for, or the packet is discarded.
-fn shown_without_reply(
-    alloc: Global,
-    port: u8,
-    words: &[&str],
-) -> Result<Option<String>, AllocError> {
-    let mut text = String::new(alloc);
-    match words {
-        ["-"] => writeln!(text, "{port} - (no reply was asked for)")?,
-        ["discard", code] => {
-            let Some(why) = reason_written(code) else {
-                return Ok(None);
-            };
-            writeln!(text, "{port} discard {code} {why}")?;
-        }
-        _ => return Ok(None),
-    }
-    Ok(Some(text))
-}
-
-/// What a line without a packet is in words, where it is a line of `judge`.
-fn shown_answer(alloc: Global, line: &str) -> Result<Option<String>, AllocError> {
-    let words = words_of(alloc, line)?;
-    let [port, rest @ ..] = words.as_slice() else {
-        return Ok(None);
-    };
-    match read_port(port) {
-        Ok(port) => shown_without_reply(alloc, port, rest),
-        Err(_) => Ok(None),
-    }
-}
-
-/// A line in words, with its line feed: a packet line, or what `judge` prints of a packet without a reply. A line that
-/// is neither has the fault of a packet line.
-pub fn shown_line(alloc: Global, line: &str) -> Result<String, LineFault> {
-    if let Some(text) = shown_answer(alloc, line)? {
-        return Ok(text);
-    }
-    let (port, packet) = read_line(alloc, line)?;
-    Ok(shown_packet(alloc, port, &packet)?)
 }

@@ -1,8 +1,5 @@
-use Rattle.std.proofs.lemmas.Result.{err_from_is_err_and}
-use Rattle.job_packets.proofs.NoOrders.{header_fault}
+use Rattle.job_packets.proofs.NoOrders.{refuses}
 use Rattle.job_packets.proofs.packet.packet_job.Goals as goal
 
-pub returns-in_err-header-clause-err : goal.returns-in_err-header-clause-err
-returns-in_err-header-clause-err c =
-    let gone = err_from_is_err_and c.from_residual.result c.from_residual.ensures.1 in
-    rw (gone.1, gone.2) (header_fault _ _ c.in_err-header.ensures.err)
+pub returns-in-Err-clause-err : goal.returns-in-Err-clause-err
+returns-in-Err-clause-err c = rw c.usage.ensures (refuses _ _ c.in-Err.ensures.err)
