@@ -1,2 +1,3 @@
 mod Matching
+mod ShownLines
 mod Stopping

@@ -2,6 +2,9 @@
 #![tactic(auto)]
 
 mod jobs;
+mod shows;
+mod slips;
+mod told_files;
 mod usage;
 mod work;
 
@@ -31,5 +34,8 @@ pub use job_texts::dis::DisWords;
 pub use job_texts::images::ImageArgs;
 pub use job_texts::policies::PolicyWords;
 pub use jobs::{Job, perform};
+pub use shows::show_talk;
+pub use slips::{help, told_misuse, told_option};
+pub use told_files::{Cause, ToldFiles};
 pub use usage::words;
 pub use work::Work;

@@ -11,4 +11,4 @@ pub use folder::{Folder, LOCKED};
 pub use jobs::{job_named, perform_in};
 pub use links::{RECEIVED, Wire};
 pub use outcomes::{folder_of, judged};
-pub use talks::live_in;
+pub use talks::{live_in, show_in};

@@ -2,7 +2,7 @@
 
 use crate::folder::Folder;
 use crate::links::Wire;
-use commands::{HostTalk, LiveWords, NodeWords, WriteFault, live, live_frames};
+use commands::{HostTalk, LiveWords, NodeWords, WriteFault, live, live_frames, show_talk};
 use std::alloc::Global;
 
 /// Holds a talk in lines: what was sent, and the exit status.
@@ -45,4 +45,14 @@ pub fn live_in(
     } else {
         lines_in(alloc, &words.node, input.as_slice(), folder)
     }
+}
+
+/// Tells in words what the lines of standard input are, the file `-`, as they come, and gives what was sent and the exit
+/// status.
+pub fn show_in(alloc: Global, folder: &Folder) -> Result<(Vec<u8>, u8), WriteFault> {
+    let given = folder.content("-").unwrap_or(b"");
+    let mut talk = HostTalk::new(alloc, given, Vec::new(alloc));
+    let status = show_talk(alloc, &mut talk)?;
+    let (sent, _) = talk.into_output();
+    Ok((sent, status.code()))
 }

@@ -3,12 +3,12 @@
 use crate::parts::{Head, Part, head_of};
 use crate::spelling::words_of;
 use anyhow::{Result, anyhow};
-use commands::{Files, UsageFault, Work, words};
+use commands::{Files, Job, Status, UsageFault, Work, WriteFault, told_misuse, told_option, words};
 use std::alloc::Global;
 use std::io::Write;
 use std::sync::Wait;
 use std::thread::Threads;
-use test_kit_jobs::{Folder, live_in, perform_in};
+use test_kit_jobs::{Folder, live_in, perform_in, show_in};
 
 /// A job that was done: where it stands, what it printed, and its exit status.
 #[derive(Drop)]
@@ -28,13 +28,33 @@ pub struct Bench<'a> {
     difference: Option<String>,
 }
 
+/// What was printed, as text, and the exit status.
+fn ended(done: Result<(Vec<u8>, u8), WriteFault>) -> Result<(String, u8)> {
+    let (printed, status) = done.map_err(|_| anyhow!("the writer failed"))?;
+    Ok((String::from_utf8(printed)?, status))
+}
+
 /// What is told of words that are no job, as `rmapctl` tells it, and the exit status.
-fn told(alloc: Global, fault: &UsageFault) -> Result<(String, u8)> {
+fn told(alloc: Global, words: &[&str], fault: &UsageFault) -> Result<(String, u8)> {
     let text = match fault {
         UsageFault::Parse(text) => String::from_str(alloc, text)?,
-        UsageFault::BadOption | UsageFault::Memory => format!(in alloc; "{fault}\n")?,
+        UsageFault::BadOption => {
+            let more = told_option(alloc, words)?;
+            format!(in alloc; "{fault}\n{more}")?
+        }
+        UsageFault::Memory => format!(in alloc; "{fault}\n")?,
     };
     Ok((text, fault.status()))
+}
+
+/// What is told of a job that ended with this status, behind what it printed, as `rmapctl` tells it. Why a file cannot be
+/// read is told of files of the machine alone.
+fn more_of(job: &Job, status: u8) -> &'static str {
+    if status == Status::Misused.code() {
+        told_misuse(job)
+    } else {
+        ""
+    }
 }
 
 /// Whether what was printed is what a case wants: all of it, or as far as a line `...`.
@@ -178,19 +198,31 @@ impl<'a> Bench<'a> {
         })
     }
 
+    /// What comes of a job, with what is told behind it, and the exit status. Lines at standard input are shown as they come.
+    fn job_done<R: Threads + Wait + Sync>(&mut self, rt: &R, job: &Job) -> Result<(String, u8)> {
+        let alloc = self.alloc;
+        if let Job::Show(words) = job {
+            if words.lines.as_str() == "-" {
+                return ended(show_in(alloc, &self.folder));
+            }
+        }
+        let (mut printed, status) = ended(perform_in(rt, alloc, job, &mut self.folder))?;
+        printed.push_str(more_of(job, status))?;
+        Ok((printed, status))
+    }
+
     /// What comes of the words, and the exit status.
     fn done<R: Threads + Wait + Sync>(&mut self, rt: &R, line: &str) -> Result<(String, u8)> {
         if let Some(name) = line.strip_prefix("hex ") {
             return Ok((self.digits(name)?, 0));
         }
-        let folder = &mut self.folder;
-        let done = match words(self.alloc, &words_of(self.alloc, line)?) {
-            Ok(Work::Once(job)) => perform_in(rt, self.alloc, &job, folder),
-            Ok(Work::Live(words)) => live_in(self.alloc, &words, folder),
-            Err(fault) => return told(self.alloc, &fault),
-        };
-        let (printed, status) = done.map_err(|_| anyhow!("the writer failed"))?;
-        Ok((String::from_utf8(printed)?, status))
+        let alloc = self.alloc;
+        let texts = words_of(alloc, line)?;
+        match words(alloc, &texts) {
+            Ok(Work::Once(job)) => self.job_done(rt, &job),
+            Ok(Work::Live(words)) => ended(live_in(alloc, &words, &mut self.folder)),
+            Err(fault) => told(alloc, &texts, &fault),
+        }
     }
 
     /// What comes of the words, between whose jobs there may be ` | `: then what a job prints is the standard input of the

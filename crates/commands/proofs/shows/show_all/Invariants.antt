@@ -1,0 +1,5 @@
+use Rattle.commands.proofs.ShownLines.{IsGoingOn}
+use Rattle.commands.proofs.shows.show_all.Given as goal
+
+abbrev pub invariant-loop-number : goal.invariant-loop-number
+invariant-loop-number g l = IsGoingOn g.T.Talk.came g.T.Talk.sent l.number l.fn.talk l.talk

@@ -1,0 +1,118 @@
+//! What more is told of words that name no work, and of a job that failed, behind the line that tells so.
+
+use crate::jobs::Job;
+use crate::usage::command_line;
+use clap::ArgMatches;
+use clap::error::ErrorKind;
+use job_packets::orders::Order;
+use job_packets::packet::packet_words;
+use job_packets::slips::{PacketFault, Slip};
+use job_parts::arguments::text_of;
+use job_parts::options::{ports_of, sizes_of};
+use job_parts::usage::UsageFault;
+use std::alloc::{AllocError, Global};
+
+/// What `--maps` may be.
+const MAPS: &str =
+    "numbers of cells with commas between them, as 5,1p with a p for a peak map: at most 8, at most 256 in all";
+
+/// What `--ports` may be.
+const PORTS: &str = "a decimal number from 1 to 32";
+
+/// What CODE may be.
+const CODE: &str = "letters and a number, as V5 or load12; without CODE all are listed";
+
+/// The line that tells what a word stands for, how it was written, and what is wanted.
+fn line_of(
+    alloc: Global,
+    name: &str,
+    word: Option<&str>,
+    wanted: &str,
+) -> Result<String, AllocError> {
+    match word {
+        Some("") => format!(in alloc; "    {name} is empty: {wanted}\n"),
+        Some(word) => {
+            let spelled = word.escape_debug();
+            format!(in alloc; "    {name} is {spelled}: {wanted}\n")
+        }
+        None => format!(in alloc; "    {name} is missing: {wanted}\n"),
+    }
+}
+
+/// The line of the slip of words of `packet`.
+fn slip_line(alloc: Global, found: &ArgMatches, slip: Slip) -> Result<String, AllocError> {
+    let (word, wanted) = (slip.word(), slip.wanted());
+    let name = word.name();
+    if word.is_flag() {
+        return format!(in alloc; "    {name} is there: {wanted}\n");
+    }
+    line_of(alloc, name, text_of(found, word.id()), wanted)
+}
+
+/// The line of an option that words of any other job have.
+fn option_line(alloc: Global, found: &ArgMatches) -> Result<String, AllocError> {
+    if let Err(UsageFault::BadOption) = sizes_of(alloc, found) {
+        return line_of(alloc, "--maps", text_of(found, "maps"), MAPS);
+    }
+    if let Err(UsageFault::BadOption) = ports_of(found) {
+        return line_of(alloc, "--ports", text_of(found, "ports"), PORTS);
+    }
+    match text_of(found, "code") {
+        Some(code) => line_of(alloc, "CODE", Some(code), CODE),
+        None => Ok(String::new(alloc)),
+    }
+}
+
+/// The line behind `bad option`: the word, what it stands for and what is wanted. It is empty where `clap` refuses the words.
+///
+/// # Errors
+///
+/// Where memory was refused.
+pub fn told_option(alloc: Global, words: &[&str]) -> Result<String, AllocError> {
+    let Ok(found) = command_line(alloc)?.try_get_matches_from(words) else {
+        return Ok(String::new(alloc));
+    };
+    if let Some(packet) = found.subcommand_matches("packet") {
+        return match packet_words(alloc, packet) {
+            Err(PacketFault::Words(slip)) => slip_line(alloc, packet, slip),
+            Err(PacketFault::Memory) | Ok(_) => Ok(String::new(alloc)),
+        };
+    }
+    match found.subcommand() {
+        Some((_, found)) => option_line(alloc, found),
+        None => Ok(String::new(alloc)),
+    }
+}
+
+/// The text of `--help` for these words: of all commands, or of the one that they name. What `clap` refuses of them is
+/// `Parse`.
+pub fn help(alloc: Global, words: &[&str]) -> Result<String, UsageFault> {
+    let mut asking = Vec::from_slice(alloc, words)?;
+    asking.push("--help")?;
+    match command_line(alloc)?.try_get_matches_from(asking.as_slice()) {
+        Ok(_) => Err(UsageFault::BadOption),
+        Err(refusal) => {
+            let Ok(text) = refusal.to_string(alloc) else {
+                return Err(UsageFault::Memory);
+            };
+            if refusal.kind() == ErrorKind::DisplayHelp {
+                Ok(text)
+            } else {
+                Err(UsageFault::Parse(text))
+            }
+        }
+    }
+}
+
+/// The line behind `bad option` of a job that was begun: what of a packet is too long.
+pub fn told_misuse(job: &Job) -> &'static str {
+    match job {
+        Job::Packet(words) => match &words.order {
+            Order::Load { .. } => "    IMAGE is too long: the staging has 16,384 bytes\n",
+            Order::Read { .. } | Order::Write { .. } | Order::Rmw { .. } => {
+                "    DATA is too long: a packet has at most 4,200 bytes\n"
+            }
+        },
+        _ => "",
+    }
+}
