@@ -1,4 +1,4 @@
--- What a pass knows is below what every table says under which the program is justified.
+-- What a pass knows is below what every closed table says, and so below one under which the program is justified.
 use Rattle.std.proofs.Common.{◌≡◌, ◌≢◌, ◌≤◌, ℕ, ◌+◌, Bool, true, false, List, Option, None, Some, Result, Ok, Err, inl, inr, refl, sym, subst, arith}
 use Rattle.std.specs.Prelude.{IsTrue}
 use Rattle.std.proofs.lemmas.Bool.{cases_lt, false≢true}
@@ -26,6 +26,7 @@ use Rattle.bver_form.specs.Jumps.{target}
 use Rattle.bver_form.specs.Lowered.{is_lowered}
 use Rattle.bver_pass.specs.Heads.{AreWidenedRanges, AreUnset, BodyValue, Falls, IsWidened, IsWidenedKind, IsWithinBound, counts, opens, keeps, opened_kind, is_number, retains, forgets}
 use Rattle.bver_pass.specs.Justified.{AreEdgesCovered, AsksCell, HasStore, IsCovered, IsCoveredIfAny, IsHead, IsNumber, IsOpen, IsPermitted, IsResultCovered, Proceeds, knowledge_at, AsksKind, MayAsk, MayCall}
+use Rattle.bver.specs.Told.{IsBelowBut}
 use Rattle.bver.proofs.Rounds.{ranges_whole, words_of}
 
 -- ---- what a table permits of a state, it permits of a smaller one
@@ -146,30 +147,30 @@ open_less false (Num a) (Num b) is_open below low = rw is_open (record { above =
 open_less false (Ptr r a) (Num b) is_open below low = absurd below
 open_less false (Map i) (Num b) is_open below low = absurd below
 
-kind_less : (p : Program) (l : Loop) (lowered : List Bool) (place register : ℕ) (before after : AbsKind) (above : StateValue) → register ≤ 9 → IsHead p l above → AreUnset p l lowered place above → IsKindBelow before (kind_at above register) → IsWidenedKind p l lowered place register before after → IsKindBelow after (kind_at above register)
+kind_less : (p : Program) (l : Loop) (lowered : List Bool) (place register : ℕ) (before after : AbsKind) (above : StateValue) → register ≤ 9 → IsHead p l above → AreUnset p l lowered place above → (register ≢ l.register → IsKindBelow before (kind_at above register)) → IsWidenedKind p l lowered place register before after → IsKindBelow after (kind_at above register)
 kind_less p l lowered place register before after above small head low below (counts at is) =
     rw (is, at, head.counter) (record { above = omega arith; below = omega arith })
 kind_less p l lowered place register before after above small head low below (opens other written is) =
-    rw is (open_less (is_lowered lowered place register) before (kind_at above register) (head.others register other written) below (low register small other written))
-kind_less p l lowered place register before after above small head low below (keeps other unwritten is) = rw is below
+    rw is (open_less (is_lowered lowered place register) before (kind_at above register) (head.others register other written) (below other) (low register small other written))
+kind_less p l lowered place register before after above small head low below (keeps other unwritten is) = rw is (below other)
 
 -- the ranges of words: where the loop stores the table has whole ones, and else they are kept
 ranges_below : (p : Program) (l : Loop) (before after above : StateValue) → IsWhole after → (HasStore p l → AreAllWhole above.ranges) → AreRangesWithin before.ranges above.ranges → AreWidenedRanges p l before after → AreRangesWithin after.ranges above.ranges
 ranges_below p l before after above proper wide below (forgets stored is) = ranges_whole after.ranges above.ranges (words_of after proper) (wide stored)
 ranges_below p l before after above proper wide below (retains out is) = rw is below
 
-pub widened_less : (p : Program) (l : Loop) (lowered : List Bool) (place : ℕ) (before after above : StateValue) → IsWhole before → IsWhole after → IsHead p l above → (HasStore p l → AreAllWhole above.ranges) → AreUnset p l lowered place above → IsBelow before above → IsWidened p l lowered place before after → IsBelow after above
-widened_less p l lowered place before after above p_before p_after head wide low below widened = record {
+pub widened_less : (p : Program) (l : Loop) (lowered : List Bool) (place : ℕ) (before after above : StateValue) → l.register ≤ 9 → IsWhole before → IsWhole after → IsHead p l above → (HasStore p l → AreAllWhole above.ranges) → AreUnset p l lowered place above → IsBelowBut l.register before above → IsWidened p l lowered place before after → IsBelow after above
+widened_less p l lowered place before after above register_small p_before p_after head wide low below widened = record {
   kinds = λ register.
       elim (cases_lt register 10) [
         | inl small ↦ kind_less p l lowered place register (kind_at before register) (kind_at after register) above (omega (arith, small)) head low (below.kinds register) (widened.registers register (omega (arith, small)))
         | inr past ↦ elim (cases_lt 10 register) [
           | inl beyond ↦
               rw (get_or_past after.kinds register Unset (omega (arith, beyond, p_after.sizes.registers)))
-              (rw (get_or_past before.kinds register Unset (omega (arith, beyond, p_before.sizes.registers))) at (below.kinds register))
+              (rw (get_or_past before.kinds register Unset (omega (arith, beyond, p_before.sizes.registers))) at (below.kinds register (λ same. omega (arith, same, beyond, register_small))))
           | inr at ↦
               let same : 10 ≡ register = omega (arith, past, at) in
-              subst (λ (r : ℕ). IsKindBelow (kind_at after r) (kind_at above r)) same (rw widened.frame (below.kinds 10))
+              subst (λ (r : ℕ). IsKindBelow (kind_at after r) (kind_at above r)) same (rw widened.frame (below.kinds 10 (λ equal. omega (arith, equal, register_small))))
         ]
       ];
   marks = λ mark is. rw widened.marks (below.marks mark is);
@@ -192,6 +193,6 @@ unset_above (Num a) (Num b) nothing is_open below = absurd (false≢true (sym no
 unset_above (Ptr r a) (Num b) nothing is_open below = absurd below
 unset_above (Map i) (Num b) nothing is_open below = absurd below
 
-pub falls_unset : (b : BodyValue) (head : Option StateValue) (edge above : StateValue) (register : ℕ) → register ≢ b.declared.register → IsHead b.program b.declared above → IsBelow edge above → Falls b head edge register → kind_at above register ≡ Unset
+pub falls_unset : (b : BodyValue) (head : Option StateValue) (edge above : StateValue) (register : ℕ) → register ≢ b.declared.register → IsHead b.program b.declared above → IsBelowBut b.declared.register edge above → Falls b head edge register → kind_at above register ≡ Unset
 falls_unset b head edge above register other stands below falls =
-    unset_above (kind_at edge register) (kind_at above register) falls.edge_number (stands.others register other falls.written) (below.kinds register)
+    unset_above (kind_at edge register) (kind_at above register) falls.edge_number (stands.others register other falls.written) (below.kinds register other)

@@ -1,7 +1,7 @@
 -- What a pass knows stays below every table that covers what comes to a slot and what its instruction leads to; so it
--- stays below one under which the program is justified, and a refusal refutes that one.
-use Rattle.std.proofs.Common.{◌≡◌, ℕ, ◌+◌, ◌<◌, ◌≤◌, Bool, true, false, List, [], Option, None, Some, Result, Ok, Err, inl, inr, refl, sym, ap, subst, ◌∙◌, arith, ◌⊎◌}
-use Rattle.std.specs.Prelude.{IsTrue, IsSome, IfSome}
+-- stays below what is closed, and what is told of a refusal refutes a table under which the program is justified.
+use Rattle.std.proofs.Common.{◌≡◌, ℕ, ◌+◌, ◌<◌, ◌≤◌, Bool, true, false, List, Option, None, Some, Result, Ok, Err, inl, inr, refl, sym, ap, subst, ◌∙◌, arith, ◌⊎◌}
+use Rattle.std.specs.Prelude.{IsTrue, IsSome, IfSome, slice_index_or}
 use Rattle.std.proofs.lemmas.Bool.{cases_lt, false≢true}
 use Rattle.bpf.specs.declared.loops.Loop.{Loop}
 use Rattle.bpf.specs.Program.{Program, IsProgram}
@@ -14,22 +14,27 @@ use Rattle.machine.specs.Step.{insn_at}
 use Rattle.absdom.specs.declared.cause.Cause.{Cause}
 use Rattle.absdom.specs.Edges.{Edges}
 use Rattle.absdom.specs.Effect.{after_insn}
-use Rattle.absdom.specs.State.{StateValue, IsEntry, IsBelow, IsWhole, entry_kinds}
+use Rattle.absdom.specs.State.{StateValue, IsWhole}
 use Rattle.absdom_stack.specs.StackWords.{AreAllWhole}
 use Rattle.absdom.specs.Laws.{ApplyGrows, BelowIsReflexive, BelowIsTransitive, CallGrows, RefineGrows}
 use Rattle.absdom_stack.specs.declared.spill.Spill.{Spill}
 use Rattle.absdom_stack.specs.Spill.{spill_of}
+use Rattle.bver_form.specs.declared.refusal.Refused.{Refused}
 use Rattle.bver_form.specs.Jumps.{target}
 use Rattle.bver_form.specs.Targets.{IsKept, IsPlain}
 use Rattle.bver_form.specs.Lowered.{is_lowered}
-use Rattle.bver_pass.specs.Heads.{AreUnset, Falls, HasLowered, IsDeclared, IsWithinBound}
-use Rattle.bver_pass.specs.Justified.{AreEdgesCovered, HasStore, IsCovered, IsCoveredIfAny, IsEntered, IsHead, IsPermitted, IsPermittedAt, IsResultCovered, edges_of_comparison, knowledge_at}
-use Rattle.bver_pass.specs.Leading.{AreLoweredBack, BranchesBelow, EntersOutsideIfAny, GivesBelow, IsFlowFault, IsFollowedBelow, IsWidenedAt, IsLeastVisit, IsLoweredBackIfAny, IsWidenedIfAny, IsUncovered, IsUncoveredIfAny, IsVisitFault, IsVisitFaultIfAny, LeadsBelow, enters, jumping_if_any, jumping_state, leads, widens, refutes, returns, stays}
+use Rattle.bver_pass.specs.Heads.{AreUnset, Falls, HasLowered, IsDeclared}
+use Rattle.bver_pass.specs.Justified.{AreEdgesCovered, HasStore, IsCovered, IsCoveredIfAny, IsHead, IsPermitted, IsPermittedAt, IsResultCovered, edges_of_comparison, knowledge_at}
+use Rattle.bver_pass.specs.Leading.{AreLoweredBack, BranchesBelow, EntersOutside, GivesBelow, IsFlowFault, IsFollowedBelow, IsHeadFaultIfAny, IsWidenedAt, IsLeastVisit, IsLoweredBackIfAny, IsWidenedIfAny, IsUncovered, IsUncoveredIfAny, IsVisitFault, IsVisitFaultIfAny, LeadsBelow, enters, jumping_if_any, jumping_state, leads, widens, refutes, returns, stays}
 use Rattle.bver_pass.specs.Table.{TableValue, knowledge_in}
-use Rattle.bver_pass.specs.Unjustified.{Justifies}
+use Rattle.bver_pass.specs.Unjustified.{IsRefuted, Justifies}
 use Rattle.bver_pass.specs.Visit.{AreWhole, IsExtended, IsInsnVisit, IsLeastNext, IsLeastOf, VisitValue, visited_state}
 use Rattle.bver.proofs.Above.{entry_refuted, permitted_less, widened_less}
-use Rattle.bver_pass.proofs.Covering.{AreCovered}
+use Rattle.bver.specs.Told.{HasToCome, HasToStand, IsClosed, IsCoveredBut, TellsKnown, of_head, of_insn}
+use Rattle.bver_pass.proofs.Covering.{AreCovered, any_covered_more, covered_more}
+use Rattle.bver.proofs.Ahead.{ahead, ahead_before, ahead_from, ahead_next, covered_ahead}
+use Rattle.bver.proofs.Covering.{leads_more}
+use Rattle.bver.proofs.Rounds.{below_all, words_of}
 use Rattle.bver.proofs.Passing.{StandsAt}
 use Rattle.bver.proofs.Slots.{goes_further, none_between}
 
@@ -187,9 +192,9 @@ least_insn v lowered now old mid new was runs before here after insn known widen
     same = by_runs was
 
 -- what is refused with a table is with one that is the same before the slot
-fault_before : (v : VisitValue) (lowered : List Bool) (mid old : ℕ → Option StateValue) (a : StateValue) (insn : Insn) → ((k : ℕ) → k < v.slot → mid k ≡ old k) → IsFlowFault v lowered mid a insn → IsFlowFault v lowered old a insn
-fault_before v lowered mid old a insn same (refutes refuted) = refutes refuted
-fault_before v lowered mid old a insn same (returns uncovered) = returns (by_edge (jumping_state a insn) uncovered)
+fault_before : (v : VisitValue) (lowered : List Bool) (mid old : ℕ → Option StateValue) (a : StateValue) (insn : Insn) (refused : Refused) → ((k : ℕ) → k < v.slot → mid k ≡ old k) → IsFlowFault v lowered mid a insn refused → IsFlowFault v lowered old a insn refused
+fault_before v lowered mid old a insn refused same (refutes refuted) = refutes refuted
+fault_before v lowered mid old a insn refused same (returns uncovered) = returns (by_edge (jumping_state a insn) uncovered)
   where
     by_edge : (edge : Option StateValue) → IsUncoveredIfAny v.program v.slot lowered mid edge → IsUncoveredIfAny v.program v.slot lowered old edge
     by_edge None u = u
@@ -206,22 +211,22 @@ fault_before v lowered mid old a insn same (returns uncovered) = returns (by_edg
               u.fallen register small (subst (λ (o : Option StateValue). Falls (record { program = v.program; declared = u.declared; place = u.place }) o edge register) (sym there) falls);
         }
 
-pub enters_fault : (v : VisitValue) (lowered : List Bool) (known : ℕ → Option StateValue) (came : Option StateValue) (insn : Insn) → EntersOutsideIfAny v.program v.slot came → IsVisitFaultIfAny v lowered known came (Some insn)
-enters_fault v lowered known None insn fault = fault
-enters_fault v lowered known (Some a) insn fault = enters fault
+pub enters_fault : (v : VisitValue) (lowered : List Bool) (known : ℕ → Option StateValue) (came : Option StateValue) (insn : Insn) (told : StateValue) (refused : Refused) → IsHeadFaultIfAny v came told refused → IsVisitFaultIfAny v lowered known came (Some insn) told refused
+enters_fault v lowered known None insn told refused fault = fault
+enters_fault v lowered known (Some a) insn told refused fault = enters fault
 
-pub leads_fault : (v : VisitValue) (lowered : List Bool) (old mid : TableValue) (was : Bool) (before here : StateValue) (insn : Insn) → visited_state was before mid v.slot ≡ Some here → IsWhole here
+pub leads_fault : (v : VisitValue) (lowered : List Bool) (old mid : TableValue) (was : Bool) (before here : StateValue) (insn : Insn) (refused : Refused) → visited_state was before mid v.slot ≡ Some here → IsWhole here
     → IsWidenedIfAny v.program lowered v.slot (visited_state was before old v.slot) (visited_state was before mid v.slot)
-    → IsExtended v.slot old mid → IsFlowFault v lowered (knowledge_in mid) here insn
-    → IsVisitFaultIfAny v lowered (knowledge_in old) (visited_state was before old v.slot) (Some insn)
-leads_fault v lowered old mid was before here insn known whole widened extended fault =
+    → IsExtended v.slot old mid → IsFlowFault v lowered (knowledge_in mid) here insn refused
+    → IsVisitFaultIfAny v lowered (knowledge_in old) (visited_state was before old v.slot) (Some insn) here refused
+leads_fault v lowered old mid was before here insn refused known whole widened extended fault =
     by_came (visited_state was before old v.slot) (subst (λ (o : Option StateValue). IsWidenedIfAny v.program lowered v.slot (visited_state was before old v.slot) o) known widened)
   where
-    by_came : (came : Option StateValue) → IsWidenedIfAny v.program lowered v.slot came (Some here) → IsVisitFaultIfAny v lowered (knowledge_in old) came (Some insn)
+    by_came : (came : Option StateValue) → IsWidenedIfAny v.program lowered v.slot came (Some here) → IsVisitFaultIfAny v lowered (knowledge_in old) came (Some insn) here refused
     by_came None widened = widened
-    by_came (Some a) widened = leads here whole widened (fault_before v lowered (knowledge_in mid) (knowledge_in old) here insn extended.kept fault)
+    by_came (Some a) widened = leads whole widened (fault_before v lowered (knowledge_in mid) (knowledge_in old) here insn refused extended.kept fault)
 
--- ---- below a table under which the program is justified
+-- ---- below what is closed
 
 -- what holds of the states of the verifier
 pub record Order : Type 0 where
@@ -231,32 +236,145 @@ pub record Order : Type 0 where
   pub refines : RefineGrows
   pub calls : CallGrows
 
--- what stands at the head of a loop in the table
-pub head_in : (p : Program) (maps : Maps) (table : ℕ → Option StateValue) (l : Loop) (place : ℕ) → Justifies p maps table → IsDeclared p l place → IfSome (table l.head) (IsHead p l)
-head_in p maps table l place h declared = subst (λ (m : Loop). IfSome (table m.head) (IsHead p m)) (declared.is l) (h.heads place l declared.inside)
+-- what stands at the head of a loop
+pub head_in : (p : Program) (comes stands : ℕ → Option StateValue) (l : Loop) (place : ℕ) → IsClosed p comes stands → IsDeclared p l place → IfSome (stands l.head) (IsHead p l)
+head_in p comes stands l place h declared = subst (λ (m : Loop). IfSome (stands m.head) (IsHead p m)) (declared.is l) (h.heads place l declared.inside)
 
-places_in : (p : Program) (maps : Maps) (table : ℕ → Option StateValue) (l : Loop) (place : ℕ) → Justifies p maps table → IsDeclared p l place → IfSome (table l.head) (λ a. HasStore p l → AreAllWhole a.ranges)
-places_in p maps table l place h declared =
-    subst (λ (m : Loop). IfSome (table m.head) (λ a. HasStore p m → AreAllWhole a.ranges)) (declared.is l) (h.words place l declared.inside)
+words_in : (p : Program) (comes stands : ℕ → Option StateValue) (l : Loop) (place : ℕ) → IsClosed p comes stands → IsDeclared p l place → IfSome (stands l.head) (λ a. HasStore p l → AreAllWhole a.ranges)
+words_in p comes stands l place h declared =
+    subst (λ (m : Loop). IfSome (stands m.head) (λ a. HasStore p m → AreAllWhole a.ranges)) (declared.is l) (h.words place l declared.inside)
 
--- what comes to a slot is covered there once it is widened
-widened_covered : (p : Program) (maps : Maps) (table : ℕ → Option StateValue) (lowered : List Bool) (slot : ℕ) (before after : Option StateValue) → Justifies p maps table → HasLowered p lowered table → IfSome before IsWhole → IfSome after IsWhole → IsCoveredIfAny before (table slot) → IsWidenedIfAny p lowered slot before after → IsCoveredIfAny after (table slot)
-widened_covered p maps table lowered slot before None h low old new covered widened = tt
-widened_covered p maps table lowered slot None (Some a) h low old new covered widened = absurd widened
-widened_covered p maps table lowered slot (Some b) (Some a) h low old new covered (stays none same) = subst (λ (s : StateValue). IsCovered s (table slot)) (sym same) covered
-widened_covered p maps table lowered slot (Some b) (Some a) h low old new covered (widens l place declared at widened) =
-    by_there (table slot)
-    (subst (λ (k : ℕ). IfSome (table k) (IsHead p l)) at (head_in p maps table l place h declared))
-    (subst (λ (k : ℕ). IfSome (table k) (λ d. HasStore p l → AreAllWhole d.ranges)) at (places_in p maps table l place h declared))
-    (subst (λ (k : ℕ). IfSome (table k) (AreUnset p l lowered place)) at (low l place declared))
-    covered
+-- what comes there stands there but for the counter
+pub opened_in : (p : Program) (comes stands : ℕ → Option StateValue) (l : Loop) (place : ℕ) (a : StateValue) → IsClosed p comes stands → IsDeclared p l place → IsCovered a (comes l.head) → IsCoveredBut l.register a (stands l.head)
+opened_in p comes stands l place a h declared covered =
+    subst (λ (m : Loop). IsCovered a (comes m.head) → IsCoveredBut m.register a (stands m.head)) (declared.is l) (h.opened place l declared.inside a) covered
+
+-- what comes to a slot stands there once it is widened
+widened_covered : (p : Program) (comes stands : ℕ → Option StateValue) (lowered : List Bool) (slot : ℕ) (before after : Option StateValue) → IsClosed p comes stands → HasLowered p lowered stands → IfSome before IsWhole → IfSome after IsWhole → IsCoveredIfAny before (comes slot) → IsWidenedIfAny p lowered slot before after → IsCoveredIfAny after (stands slot)
+widened_covered p comes stands lowered slot before None h low old new covered widened = tt
+widened_covered p comes stands lowered slot None (Some a) h low old new covered widened = absurd widened
+widened_covered p comes stands lowered slot (Some b) (Some a) h low old new covered (stays none same) = h.plain slot none a (subst (λ (s : StateValue). IsCovered s (comes slot)) (sym same) covered)
+widened_covered p comes stands lowered slot (Some b) (Some a) h low old new covered (widens l place declared at widened) =
+    subst (λ (k : ℕ). IsCovered a (stands k)) at
+    (by_there (stands l.head) (head_in p comes stands l place h declared) (words_in p comes stands l place h declared) (low l place declared)
+    (opened_in p comes stands l place b h declared (subst (λ (k : ℕ). IsCovered b (comes k)) (sym at) covered)))
   where
-    by_there : (there : Option StateValue) → IfSome there (IsHead p l) → IfSome there (λ d. HasStore p l → AreAllWhole d.ranges) → IfSome there (AreUnset p l lowered place) → IsCovered b there → IsCovered a there
+    by_there : (there : Option StateValue) → IfSome there (IsHead p l) → IfSome there (λ d. HasStore p l → AreAllWhole d.ranges) → IfSome there (AreUnset p l lowered place) → IsCoveredBut l.register b there → IsCovered a there
     by_there None head wide unset below = absurd below
-    by_there (Some d) head wide unset below = widened_less p l lowered place b a d old new head wide unset below widened
+    by_there (Some d) head wide unset below = widened_less p l lowered place b a d declared.limits.register old new head wide unset below widened
+
+-- what comes to a slot is whole
+pub comes_whole : (runs : Bool) (state : StateValue) (table : TableValue) (slot : ℕ) → IsWhole state → AreWhole (knowledge_in table) → IfSome (visited_state runs state table slot) IsWhole
+comes_whole false state table slot proper whole = whole slot
+comes_whole true state table slot proper whole = proper
+
+-- what is covered by a table is by one that knows more
+pub below_wider : BelowIsTransitive → (p : Program) (table : TableValue) (runs : Bool) (state : StateValue) (slot : ℕ) (above wider : ℕ → Option StateValue) → AreCovered above wider → StaysBelow p table runs state slot above → StaysBelow p table runs state slot wider
+below_wider transitive p table runs state slot above wider more h = record {
+  known = λ k. any_covered_more transitive (knowledge_in table k) (above k) (wider k) (h.known k) (more k);
+  running = λ on next stands. covered_more transitive state (above next) (wider next) (h.running on next stands) (more next);
+}
+
+-- what comes to the slot of an instruction is covered by what comes there
+pub comes_covered : (p : Program) (table : TableValue) (runs : Bool) (state : StateValue) (slot : ℕ) (insn : Insn) (comes : ℕ → Option StateValue) → insn_at p slot ≡ Some insn → (IsTrue runs → IsKept p slot → ⊥) → StaysBelow p table runs state slot (ahead slot comes) → IsCoveredIfAny (visited_state runs state table slot) (comes slot)
+comes_covered p table runs state slot insn comes begins plain below =
+    subst (λ (o : Option StateValue). IsCoveredIfAny (visited_state runs state table slot) o) (ahead_from slot comes slot (omega arith))
+    (comes_below p table runs state slot insn (ahead slot comes) begins plain below)
+
+-- what comes there, widened, stands there
+pub here_covered : (v : VisitValue) (lowered : List Bool) (old new : TableValue) (was : Bool) (before : StateValue) (insn : Insn) (comes stands : ℕ → Option StateValue)
+    → insn_at v.program v.slot ≡ Some insn → (IsTrue was → IsKept v.program v.slot → ⊥)
+    → IsWhole before → AreWhole (knowledge_in old) → AreWhole (knowledge_in new)
+    → IsClosed v.program comes stands → HasLowered v.program lowered stands
+    → IsWidenedIfAny v.program lowered v.slot (visited_state was before old v.slot) (visited_state was before new v.slot)
+    → StaysBelow v.program old was before v.slot (ahead v.slot comes) → IsCoveredIfAny (visited_state was before new v.slot) (stands v.slot)
+here_covered v lowered old new was before insn comes stands begins plain proper whole new_whole h low widened below =
+    widened_covered v.program comes stands lowered v.slot (visited_state was before old v.slot) (visited_state was before new v.slot) h low
+    (comes_whole was before old v.slot proper whole) (comes_whole was before new v.slot proper new_whole)
+    (comes_covered v.program old was before v.slot insn comes begins plain below) widened
+
+-- what stands at the slot of an instruction is followed below what comes behind it
+followed_ahead : Order → (p : Program) (comes stands : ℕ → Option StateValue) (slot : ℕ) (known : Option StateValue) (insn : Insn) → IsClosed p comes stands → insn_at p slot ≡ Some insn → IfSome known IsWhole → IsCoveredIfAny known (stands slot) → IsFollowedBelow (spill_of p.version) (ahead (slot + 1) comes) slot known insn
+followed_ahead order p comes stands slot None insn h begins whole covered = tt
+followed_ahead order p comes stands slot (Some a) insn h begins whole covered = (
+  subst (λ (o : Option StateValue). IsCovered a o) (sym (ahead_before (slot + 1) comes slot (omega arith))) (below_all a (words_of a whole)),
+  leads_more order.transitive (spill_of p.version) comes (ahead (slot + 1) comes) slot a insn (covered_ahead order.reflexive (slot + 1) comes h.whole) (h.leads slot insn begins a whole covered),
+)
+
+-- after the visit of an instruction
+pub closed_next : Order → (v : VisitValue) (lowered now : List Bool) (old new : TableValue) (was runs : Bool) (before after : StateValue) (settled : Type 0) (region : Option Region) (insn : Insn) (comes stands : ℕ → Option StateValue)
+    → IsProgram v.program → insn_at v.program v.slot ≡ Some insn → (IsTrue was → IsKept v.program v.slot → ⊥)
+    → IsWhole before → AreWhole (knowledge_in old)
+    → IsClosed v.program comes stands → HasLowered v.program lowered stands
+    → IsInsnVisit v old new was runs before after settled region insn → IsLeastVisit v lowered now old new was runs before after insn
+    → StaysBelow v.program old was before v.slot (ahead v.slot comes) → StaysBelow v.program new runs after (v.slot + 1) (ahead (v.slot + 1) comes)
+closed_next order v lowered now old new was runs before after settled region insn comes stands limits begins plain proper whole h low visit least below =
+    below_next v lowered now old new was runs before after insn (ahead (v.slot + 1) comes) limits begins visit.plain least
+    (followed_ahead order v.program comes stands v.slot (visited_state was before new v.slot) insn h begins (comes_whole was before new v.slot proper (visit.extended.whole whole))
+    (here_covered v lowered old new was before insn comes stands begins plain proper whole (visit.extended.whole whole) h low least.widened below))
+    (below_wider order.transitive v.program old was before v.slot (ahead v.slot comes) (ahead (v.slot + 1) comes) (ahead_next order.reflexive v.slot comes h.whole) below)
+
+-- ---- what is told
+
+-- an edge back that is refused
+abbrev pub IsRefusedBack : (v : VisitValue) (lowered : List Bool) (known : ℕ → Option StateValue) (insn : Insn) (before here edge : StateValue) → Type 0
+IsRefusedBack v lowered known insn before here edge =
+    IsWhole before × IsWhole here × IsWidenedAt v.program lowered v.slot before here × (jumping_state here insn ≡ Some edge) × IsUncovered v.program v.slot lowered known edge
+
+-- what comes to the slot of an instruction stays below whatever is closed, and what was lowered holds nothing there
+abbrev pub HasToStay : (v : VisitValue) (lowered : List Bool) (old : TableValue) (was : Bool) (before : StateValue) → Type 0
+HasToStay v lowered old was before =
+    (comes stands : ℕ → Option StateValue) → IsClosed v.program comes stands → StaysBelow v.program old was before v.slot (ahead v.slot comes) × HasLowered v.program lowered stands
+
+-- what a visit is refused for is told with its slot, its code and what has to be known there, but for an edge back
+pub visit_told : (v : VisitValue) (lowered : List Bool) (old : TableValue) (was : Bool) (before : StateValue) (known : ℕ → Option StateValue) (insn : Insn) (told : StateValue) (refused : Refused)
+    → insn_at v.program v.slot ≡ Some insn → (IsTrue was → IsKept v.program v.slot → ⊥)
+    → IsWhole before → AreWhole (knowledge_in old)
+    → HasToStay v lowered old was before
+    → ((a edge : StateValue) → visited_state was before old v.slot ≡ Some a → IsRefusedBack v lowered known insn a told edge → ⊥)
+    → IsVisitFaultIfAny v lowered known (visited_state was before old v.slot) (Some insn) told refused → TellsKnown v.program v.maps told refused
+visit_told v lowered old was before known insn told refused begins plain proper whole below covers fault =
+    by_state (visited_state was before old v.slot) refl (comes_whole was before old v.slot proper whole) fault
+  where
+    comes_there : (a : StateValue) → visited_state was before old v.slot ≡ Some a → HasToCome v.program v.slot a
+    comes_there a came comes stands h =
+        subst (λ (o : Option StateValue). IsCoveredIfAny o (comes v.slot)) came (comes_covered v.program old was before v.slot insn comes begins plain (below comes stands h).0)
+
+    stands_there : (a : StateValue) → visited_state was before old v.slot ≡ Some a → IsWhole a → IsWhole told → IsWidenedAt v.program lowered v.slot a told → HasToStand v.program v.slot told
+    stands_there a came a_whole told_whole widened comes stands h =
+        widened_covered v.program comes stands lowered v.slot (Some a) (Some told) h (below comes stands h).1 a_whole told_whole (comes_there a came comes stands h) widened
+
+    by_flow : (a : StateValue) → visited_state was before old v.slot ≡ Some a → IsWhole a → IsWhole told → IsWidenedAt v.program lowered v.slot a told → IsFlowFault v lowered known told insn refused → TellsKnown v.program v.maps told refused
+    by_flow a came a_whole told_whole widened (refutes r) =
+        of_insn (record {
+          insn = insn;
+          begins = subst (λ (k : ℕ). insn_at v.program k ≡ Some insn) (sym r.slot) begins;
+          whole = told_whole;
+          stands = subst (λ (k : ℕ). HasToStand v.program k told) (sym r.slot) (stands_there a came a_whole told_whole widened);
+          code = r.code;
+          refuted = subst (λ (k : ℕ). IsRefuted (spill_of v.program.version) v.maps k told insn) (sym r.slot) r.refuted;
+        })
+    by_flow a came a_whole told_whole widened (returns uncovered) = by_edge (jumping_state told insn) refl uncovered
+      where
+        by_edge : (edge : Option StateValue) → jumping_state told insn ≡ edge → IsUncoveredIfAny v.program v.slot lowered known edge → TellsKnown v.program v.maps told refused
+        by_edge None is uncovered = absurd uncovered
+        by_edge (Some edge) is uncovered = absurd (covers a edge came (a_whole, told_whole, widened, is, uncovered))
+
+    by_fault : (a : StateValue) → visited_state was before old v.slot ≡ Some a → IsWhole a → IsVisitFault v lowered known a insn told refused → TellsKnown v.program v.maps told refused
+    by_fault a came a_whole (enters f) =
+        let comes : HasToCome v.program refused.slot told = subst (λ (k : ℕ). HasToCome v.program k told) (sym f.slot) (subst (λ (s : StateValue). HasToCome v.program v.slot s) (sym f.as_it_came) (comes_there a came)) in
+        let outside : EntersOutside v.program refused.slot told = subst (λ (k : ℕ). EntersOutside v.program k told) (sym f.slot) (subst (λ (s : StateValue). EntersOutside v.program v.slot s) (sym f.as_it_came) f.outside) in
+        of_head (record { code = f.code; comes = comes; outside = outside })
+    by_fault a came a_whole (leads told_whole widened flow) = by_flow a came a_whole told_whole widened flow
+
+    by_state : (came : Option StateValue) → visited_state was before old v.slot ≡ came → IfSome came IsWhole → IsVisitFaultIfAny v lowered known came (Some insn) told refused → TellsKnown v.program v.maps told refused
+    by_state None is a_whole fault = absurd fault
+    by_state (Some a) is a_whole fault = by_fault a is a_whole fault
+
+-- ---- a table under which the program is justified
 
 -- what is known of a state that the table covers is permitted by it
-pub permitted_there : Order → (p : Program) (maps : Maps) (table : ℕ → Option StateValue) (slot : ℕ) (a : StateValue) (insn : Insn) → Justifies p maps table → insn_at p slot ≡ Some insn → IsWhole a → IsCovered a (table slot) → IsPermitted (spill_of p.version) maps table slot a insn
+permitted_there : Order → (p : Program) (maps : Maps) (table : ℕ → Option StateValue) (slot : ℕ) (a : StateValue) (insn : Insn) → Justifies p maps table → insn_at p slot ≡ Some insn → IsWhole a → IsCovered a (table slot) → IsPermitted (spill_of p.version) maps table slot a insn
 permitted_there order p maps table slot a insn h begins whole covered =
     by_there (table slot) (h.whole slot) covered (subst (λ (o : Option Insn). IsPermittedAt (spill_of p.version) maps table slot (table slot) o) begins (h.permitted slot))
   where
@@ -264,89 +382,30 @@ permitted_there order p maps table slot a insn h begins whole covered =
     by_there None proper below permitted = absurd below
     by_there (Some d) proper below permitted = permitted_less order.applies order.refines order.calls order.transitive (spill_of p.version) maps table slot a d insn whole proper below permitted
 
--- what comes to a slot is whole
-pub comes_whole : (runs : Bool) (state : StateValue) (table : TableValue) (slot : ℕ) → IsWhole state → AreWhole (knowledge_in table) → IfSome (visited_state runs state table slot) IsWhole
-comes_whole false state table slot proper whole = whole slot
-comes_whole true state table slot proper whole = proper
+covered_but : (register : ℕ) (a : StateValue) (there : Option StateValue) → IsCovered a there → IsCoveredBut register a there
+covered_but register a None covered = covered
+covered_but register a (Some b) covered = record { kinds = λ other apart. covered.kinds other; marks = covered.marks; ranges = covered.ranges }
 
--- what is known at the slot of an instruction, where the table covers it, is followed below the table
-followed_there : Order → (p : Program) (maps : Maps) (table : ℕ → Option StateValue) (slot : ℕ) (known : Option StateValue) (insn : Insn) → Justifies p maps table → insn_at p slot ≡ Some insn → IfSome known IsWhole → IsCoveredIfAny known (table slot) → IsFollowedBelow (spill_of p.version) table slot known insn
-followed_there order p maps table slot None insn h begins whole covered = tt
-followed_there order p maps table slot (Some a) insn h begins whole covered =
-    (covered, permitted_leads (spill_of p.version) maps table slot a insn (permitted_there order p maps table slot a insn h begins whole covered))
+-- it is closed
+pub justified_closed : Order → (p : Program) (maps : Maps) (table : ℕ → Option StateValue) → Justifies p maps table → IsClosed p table table
+justified_closed order p maps table h = record {
+  entered = h.entered;
+  whole = h.whole;
+  plain = λ slot none a covered. covered;
+  opened = λ k d inside a covered. covered_but (slice_index_or p.loops k d).register a (table (slice_index_or p.loops k d).head) covered;
+  heads = h.heads;
+  words = h.words;
+  leads = λ slot insn begins a whole covered. permitted_leads (spill_of p.version) maps table slot a insn (permitted_there order p maps table slot a insn h begins whole covered);
+}
 
--- what comes to the slot of an instruction, widened, is covered by a table under which the program is justified
-pub here_covered : (v : VisitValue) (lowered : List Bool) (old new : TableValue) (was : Bool) (before : StateValue) (insn : Insn) (above : ℕ → Option StateValue)
-    → insn_at v.program v.slot ≡ Some insn → (IsTrue was → IsKept v.program v.slot → ⊥)
-    → IsWhole before → AreWhole (knowledge_in old) → AreWhole (knowledge_in new)
-    → Justifies v.program v.maps above → HasLowered v.program lowered above
-    → IsWidenedIfAny v.program lowered v.slot (visited_state was before old v.slot) (visited_state was before new v.slot)
-    → StaysBelow v.program old was before v.slot above → IsCoveredIfAny (visited_state was before new v.slot) (above v.slot)
-here_covered v lowered old new was before insn above begins plain proper whole new_whole h low widened below =
-    widened_covered v.program v.maps above lowered v.slot (visited_state was before old v.slot) (visited_state was before new v.slot) h low
-    (comes_whole was before old v.slot proper whole) (comes_whole was before new v.slot proper new_whole)
-    (comes_below v.program old was before v.slot insn above begins plain below) widened
-
--- after the visit of an instruction
-pub justified_next : Order → (v : VisitValue) (lowered now : List Bool) (old new : TableValue) (was runs : Bool) (before after : StateValue) (settled : Type 0) (region : Option Region) (insn : Insn) (above : ℕ → Option StateValue)
-    → IsProgram v.program → insn_at v.program v.slot ≡ Some insn → (IsTrue was → IsKept v.program v.slot → ⊥)
-    → IsWhole before → AreWhole (knowledge_in old)
-    → Justifies v.program v.maps above → HasLowered v.program lowered above
-    → IsInsnVisit v old new was runs before after settled region insn → IsLeastVisit v lowered now old new was runs before after insn
-    → StaysBelow v.program old was before v.slot above → StaysBelow v.program new runs after (v.slot + 1) above
-justified_next order v lowered now old new was runs before after settled region insn above limits begins plain proper whole h low visit least below =
-    below_next v lowered now old new was runs before after insn above limits begins visit.plain least
-    (followed_there order v.program v.maps above v.slot (visited_state was before new v.slot) insn h begins (comes_whole was before new v.slot proper (visit.extended.whole whole))
-    (here_covered v lowered old new was before insn above begins plain proper whole (visit.extended.whole whole) h low least.widened below))
-    below
-
--- an edge back that is refused
-abbrev pub IsRefusedBack : (v : VisitValue) (lowered : List Bool) (known : ℕ → Option StateValue) (insn : Insn) (before here edge : StateValue) → Type 0
-IsRefusedBack v lowered known insn before here edge =
-    IsWhole before × IsWhole here × IsWidenedAt v.program lowered v.slot before here × (jumping_state here insn ≡ Some edge) × IsUncovered v.program v.slot lowered known edge
-
--- what a visit is refused for, a table under which the program is justified rules out, but for an edge back
-pub visit_refuted : Order → (v : VisitValue) (lowered : List Bool) (old : TableValue) (was : Bool) (before : StateValue) (known : ℕ → Option StateValue) (insn : Insn) (above : ℕ → Option StateValue)
-    → insn_at v.program v.slot ≡ Some insn → (IsTrue was → IsKept v.program v.slot → ⊥)
-    → IsWhole before → AreWhole (knowledge_in old)
-    → Justifies v.program v.maps above → HasLowered v.program lowered above → StaysBelow v.program old was before v.slot above
-    → ((a here edge : StateValue) → visited_state was before old v.slot ≡ Some a → IsRefusedBack v lowered known insn a here edge → ⊥)
-    → IsVisitFaultIfAny v lowered known (visited_state was before old v.slot) (Some insn) → ⊥
-visit_refuted order v lowered old was before known insn above begins plain proper whole h low below covers fault =
-    by_state (visited_state was before old v.slot) refl (comes_whole was before old v.slot proper whole) (comes_below v.program old was before v.slot insn above begins plain below) fault
+-- what is told refutes it
+pub told_refutes : Order → (p : Program) (maps : Maps) (a : StateValue) (refused : Refused) (table : ℕ → Option StateValue) → TellsKnown p maps a refused → Justifies p maps table → ⊥
+told_refutes order p maps a refused table (of_insn t) h =
+    t.refuted table (permitted_there order p maps table refused.slot a t.insn h t.begins t.whole (t.stands table table (justified_closed order p maps table h)))
+told_refutes order p maps a refused table (of_head t) h =
+    by_there (table refused.slot) (subst (λ (k : ℕ). IfSome (table k) (IsHead p t.outside.declared)) t.outside.head (head_in p table table t.outside.declared t.outside.place (justified_closed order p maps table h) t.outside.is))
+    (t.comes table table (justified_closed order p maps table h))
   where
-    by_flow : (a here : StateValue) → visited_state was before old v.slot ≡ Some a → IsWhole a → IsWhole here → IsWidenedAt v.program lowered v.slot a here → IsCovered here (above v.slot) → IsFlowFault v lowered known here insn → ⊥
-    by_flow a here came whole here_whole widened covered (refutes refuted) = refuted above (permitted_there order v.program v.maps above v.slot here insn h begins here_whole covered)
-    by_flow a here came whole here_whole widened covered (returns uncovered) = by_edge (jumping_state here insn) refl uncovered
-      where
-        by_edge : (edge : Option StateValue) → jumping_state here insn ≡ edge → IsUncoveredIfAny v.program v.slot lowered known edge → ⊥
-        by_edge None is uncovered = uncovered
-        by_edge (Some edge) is uncovered = covers a here edge came (whole, here_whole, widened, is, uncovered)
-
-    by_head : (l : Loop) (a : StateValue) (there : Option StateValue) → IfSome there (IsHead v.program l) → IsCovered a there → (IsWithinBound l a → ⊥) → ⊥
-    by_head l a None head covered outside = covered
-    by_head l a (Some d) head covered outside = entry_refuted v.program l a d head covered outside
-
-    by_fault : (a : StateValue) → visited_state was before old v.slot ≡ Some a → IsWhole a → IsCovered a (above v.slot) → IsVisitFault v lowered known a insn → ⊥
-    by_fault a came whole covered (enters f) =
-        by_head f.declared a (above v.slot) (subst (λ (k : ℕ). IfSome (above k) (IsHead v.program f.declared)) f.head (head_in v.program v.maps above f.declared f.place h f.is)) covered f.outside
-    by_fault a came whole covered (leads here here_whole widened flow) =
-        by_flow a here came whole here_whole widened (widened_covered v.program v.maps above lowered v.slot (Some a) (Some here) h low whole here_whole covered widened) flow
-
-    by_state : (came : Option StateValue) → visited_state was before old v.slot ≡ came → IfSome came IsWhole → IsCoveredIfAny came (above v.slot) → IsVisitFaultIfAny v lowered known came (Some insn) → ⊥
-    by_state None is whole covered fault = fault
-    by_state (Some a) is whole covered fault = by_fault a is whole covered fault
-
--- ---- from the entry to the end
-
--- what is known at entry is below what any table has there
-pub entry_below : Order → (a : StateValue) (there : Option StateValue) → IsEntry a → IsEntered there → IsCovered a there
-entry_below order a None entry entered = absurd entered.covered
-entry_below order a (Some d) entry entered = order.transitive a entered.known d (alike a entered.known entry entered.entry) entered.covered
-  where
-    alike : (a b : StateValue) → IsEntry a → IsEntry b → IsBelow a b
-    alike a b f g = record {
-      kinds = rw (f.kinds, g.kinds) (order.reflexive (record { kinds = entry_kinds; marks = []; ranges = [] })).kinds;
-      marks = λ place is. absurd (false≢true (sym (g.marks place) ∙ is));
-      ranges = λ place. rw (f.ranges place, g.ranges place) (record { above = omega arith; below = omega arith });
-    }
+    by_there : (there : Option StateValue) → IfSome there (IsHead p t.outside.declared) → IsCovered a there → ⊥
+    by_there None head covered = covered
+    by_there (Some d) head covered = entry_refuted p t.outside.declared a d head covered t.outside.outside

@@ -1,5 +1,5 @@
--- Slot by slot of a pass: of a table under which the program is justified, at whose heads what was lowered holds nothing,
--- what the pass knows stays below, what it lowers holds nothing there either, and nothing is refused.
+-- Slot by slot of a pass: below what is closed, at whose heads what was lowered holds nothing, what the pass knows stays,
+-- and what it lowers holds nothing there either; no edge back is refused, and what is told of a refusal has to be known.
 use Rattle.std.proofs.Common.{◌≡◌, ◌≢◌, ℕ, zero, suc, ◌*◌, ◌+◌, ◌≤◌, ◌⊎◌, inl, inr, ℤ, pos, negsuc, Bool, true, false, List, [], ◌∷◌, ◌-◌, Option, None, Some, Result, Ok, Err, refl, sym, ap, subst, ◌∙◌, arith}
 use Rattle.std.specs.Prelude.{IfErr, IfSome, IsTrue, slice_index_or}
 use Rattle.std.proofs.lemmas.Bool.{false≢true}
@@ -27,13 +27,14 @@ use Rattle.bver_form.specs.Loops.{back_jump}
 use Rattle.bver_form.specs.Lowered.{count_of, is_lowered}
 use Rattle.bver_form.specs.Targets.{IsKept}
 use Rattle.bver_pass.specs.Heads.{AreUnset, Falls, HasLowered, IsDeclared}
-use Rattle.bver_pass.specs.Justified.{AreEdgesCovered, IsCovered, IsCoveredIfAny, IsEntered, IsHead, IsPermitted, knowledge_at}
-use Rattle.bver_pass.specs.Leading.{IsLeastVisit, AreLoweredBack, IsLeastVisitIfAny, IsLoweredBack, IsLoweredBackIfAny, IsUncovered, IsVisitFaultIfAny, jumping_if_any, jumping_state, taken_state}
+use Rattle.bver_pass.specs.Justified.{IsCovered, IsCoveredIfAny, IsEntered, IsHead, knowledge_at}
+use Rattle.bver_pass.specs.Leading.{BranchesBelow, LeadsBelow, IsLeastVisit, AreLoweredBack, IsLeastVisitIfAny, IsLoweredBack, IsLoweredBackIfAny, IsUncovered, IsVisitFaultIfAny, jumping_if_any, jumping_state, taken_state}
 use Rattle.bver_pass.specs.Table.{TableValue, knowledge_in}
-use Rattle.bver_pass.specs.Unjustified.{Justifies}
 use Rattle.bver_pass.specs.Visit.{AreWhole, IsInsnVisit, IsLeastEntry, IsVisit, VisitValue, visited_state}
+use Rattle.bver.specs.Told.{HasToLower, IsClosed, IsCoveredBut, TellsKnown}
 use Rattle.bver.proofs.Above.{falls_unset}
-use Rattle.bver.proofs.Below.{IsRefusedBack, Order, StaysBelow, below_none, below_skip, comes_whole, head_in, here_covered, justified_next, permitted_there, visit_refuted}
+use Rattle.bver.proofs.Ahead.{ahead, ahead_from, ahead_next}
+use Rattle.bver.proofs.Below.{IsRefusedBack, Order, StaysBelow, below_none, below_skip, below_wider, closed_next, comes_whole, head_in, here_covered, opened_in, visit_told}
 use Rattle.bver.proofs.Circles.{IsCircle, IsTurningIfAny, circle_next, circle_none, circle_skip, comes_none, comes_round, formed_in, widened_round}
 use Rattle.bver.proofs.Closing.{back_covered}
 use Rattle.bver_pass.proofs.Keeping.{to_head}
@@ -66,10 +67,10 @@ IsSameAhead p start lowered slot =
     (l : Loop) (place : ℕ) → IsDeclared p l place → slot ≤ l.back → (register : ℕ) → register ≤ 9 → is_lowered lowered place register ≡ is_lowered start place register
 
 -- the slots before this one were visited
-pub record IsCompleting (p : Program) (maps : Maps) (start lowered : List Bool) (table : TableValue) (runs : Bool) (state : StateValue) (slot : ℕ) : Type 0 where
+pub record IsCompleting (p : Program) (start lowered : List Bool) (table : TableValue) (runs : Bool) (state : StateValue) (slot : ℕ) : Type 0 where
   pub same : IsSameAhead p start lowered slot
   pub circles : (l : Loop) (place : ℕ) → IsDeclared p l place → IsCircle p l place start table runs state slot
-  pub below : (above : ℕ → Option StateValue) → Justifies p maps above → HasLowered p start above → StaysBelow p table runs state slot above × HasLowered p lowered above
+  pub below : (comes stands : ℕ → Option StateValue) → IsClosed p comes stands → HasLowered p start stands → StaysBelow p table runs state slot (ahead slot comes) × HasLowered p lowered stands
 
 -- ---- what an edge back lowers
 
@@ -77,14 +78,14 @@ pub record IsCompleting (p : Program) (maps : Maps) (start lowered : List Bool) 
 declared_once : (p : Program) (l m : Loop) (place : ℕ) → IsDeclared p l place → IsDeclared p m place → l ≡ m
 declared_once p l m place f g = sym (f.is l) ∙ g.is l
 
--- what is known along the jump of a permitted instruction is covered where it leads
-back_leads : (spill : Spill) (maps : Maps) (above : ℕ → Option StateValue) (l : Loop) (a edge : StateValue) → l.head ≤ l.back → IsPermitted spill maps above l.back a (back_jump l) → jumping_state a (back_jump l) ≡ Some edge → IsCovered edge (above l.head)
-back_leads spill maps above l a edge ordered permitted is =
-    subst (λ (z : ℤ). IsCovered edge (knowledge_at above z)) (to_head l.head l.back ordered) (by_edges (refined_edges a NotEqual Bits64 l.register (Immediate (pos 0))) permitted is)
+-- what is known along the jump comes to where it leads
+back_leads : (spill : Spill) (comes : ℕ → Option StateValue) (l : Loop) (a edge : StateValue) → l.head ≤ l.back → LeadsBelow spill comes l.back a (back_jump l) → jumping_state a (back_jump l) ≡ Some edge → IsCovered edge (comes l.head)
+back_leads spill comes l a edge ordered leads is =
+    subst (λ (z : ℤ). IsCovered edge (knowledge_at comes z)) (to_head l.head l.back ordered) (by_edges (refined_edges a NotEqual Bits64 l.register (Immediate (pos 0))) leads is)
   where
-    by_edges : (r : Result Edges Cause) → AreEdgesCovered r (knowledge_at above (target l.back (negsuc (l.back - l.head)))) (above (l.back + 1)) → taken_state r ≡ Some edge → IsCovered edge (knowledge_at above (target l.back (negsuc (l.back - l.head))))
-    by_edges (Err cause) covered is = absurd covered
-    by_edges (Ok edges) covered is = subst (λ (o : Option StateValue). IsCoveredIfAny o (knowledge_at above (target l.back (negsuc (l.back - l.head))))) is covered.0
+    by_edges : (r : Result Edges Cause) → BranchesBelow r (knowledge_at comes (target l.back (negsuc (l.back - l.head)))) (comes (l.back + 1)) → taken_state r ≡ Some edge → IsCovered edge (knowledge_at comes (target l.back (negsuc (l.back - l.head))))
+    by_edges (Err cause) leads is = absurd cc
+    by_edges (Ok edges) leads is = subst (λ (o : Option StateValue). IsCoveredIfAny o (knowledge_at comes (target l.back (negsuc (l.back - l.head))))) is leads.0
 
 -- the instruction at the back of a loop is its jump back
 jumps_back : (p : Program) (l : Loop) (place slot : ℕ) (insn : Insn) → IsFormed p → IsDeclared p l place → l.back ≡ slot → insn_at p slot ≡ Some insn → insn ≡ back_jump l
@@ -92,37 +93,37 @@ jumps_back p l place slot insn form declared back begins =
     let is : insn_at p slot ≡ Some (back_jump l) = subst (λ (k : ℕ). insn_at p k ≡ Some (back_jump l)) back (formed_in p l place form declared).back in
     cc
 
--- what was lowered, and what is lowered now, holds nothing at the heads of a table under which the program is justified
-keeps_lowered : Order → (v : VisitValue) (lowered now : List Bool) (known : ℕ → Option StateValue) (here : Option StateValue) (insn : Insn) (above : ℕ → Option StateValue)
-    → IsFormed v.program → insn_at v.program v.slot ≡ Some insn → IfSome here IsWhole → IsCoveredIfAny here (above v.slot)
-    → Justifies v.program v.maps above → HasLowered v.program lowered above
-    → AreLoweredBack v.program v.slot known (jumping_if_any here insn) lowered now → HasLowered v.program now above
-keeps_lowered order v lowered now known here insn above form begins whole covered h low marks l place declared = by_there (above l.head) refl
+-- what was lowered, and what is lowered now, holds nothing at the heads of what is closed
+keeps_lowered : (v : VisitValue) (lowered now : List Bool) (known : ℕ → Option StateValue) (here : Option StateValue) (insn : Insn) (comes stands : ℕ → Option StateValue)
+    → IsFormed v.program → insn_at v.program v.slot ≡ Some insn → IfSome here IsWhole → IsCoveredIfAny here (stands v.slot)
+    → IsClosed v.program comes stands → HasLowered v.program lowered stands
+    → AreLoweredBack v.program v.slot known (jumping_if_any here insn) lowered now → HasLowered v.program now stands
+keeps_lowered v lowered now known here insn comes stands form begins whole covered h low marks l place declared = by_there (stands l.head) refl
   where
-    by_back : (a edge d : StateValue) (register : ℕ) → IsWhole a → IsCovered a (above v.slot) → jumping_state a insn ≡ Some edge → above l.head ≡ Some d → register ≢ l.register → IsLoweredBack v.program v.slot known edge place register → kind_at d register ≡ Unset
+    by_back : (a edge d : StateValue) (register : ℕ) → IsWhole a → IsCovered a (stands v.slot) → jumping_state a insn ≡ Some edge → stands l.head ≡ Some d → register ≢ l.register → IsLoweredBack v.program v.slot known edge place register → kind_at d register ≡ Unset
     by_back a edge d register proper below is there other back =
         let m = back.declared in
         let one : l ≡ m = declared_once v.program l m place declared back.is in
-        let here_is : above m.head ≡ Some d = ap (λ (n : Loop). above n.head) (sym one) ∙ there in
+        let here_is : stands m.head ≡ Some d = ap (λ (n : Loop). stands n.head) (sym one) ∙ there in
         let insn_is : insn ≡ back_jump m = jumps_back v.program m place v.slot insn form back.is back.back begins in
-        let permitted : IsPermitted (spill_of v.program.version) v.maps above v.slot a insn = permitted_there order v.program v.maps above v.slot a insn h begins proper below in
-        let back_permitted : IsPermitted (spill_of v.program.version) v.maps above m.back a (back_jump m) = subst (λ (k : ℕ). IsPermitted (spill_of v.program.version) v.maps above k a (back_jump m)) (sym back.back) (subst (λ (i : Insn). IsPermitted (spill_of v.program.version) v.maps above v.slot a i) insn_is permitted) in
-        let leads : IsCovered edge (above m.head) = back_leads (spill_of v.program.version) v.maps above m a edge (omega (arith, back.is.limits.ordered)) back_permitted (subst (λ (i : Insn). jumping_state a i ≡ Some edge) insn_is is) in
+        let leads : LeadsBelow (spill_of v.program.version) comes v.slot a insn = h.leads v.slot insn begins a proper below in
+        let back_leading : LeadsBelow (spill_of v.program.version) comes m.back a (back_jump m) = subst (λ (k : ℕ). LeadsBelow (spill_of v.program.version) comes k a (back_jump m)) (sym back.back) (subst (λ (i : Insn). LeadsBelow (spill_of v.program.version) comes v.slot a i) insn_is leads) in
+        let coming : IsCovered edge (comes m.head) = back_leads (spill_of v.program.version) comes m a edge (omega (arith, back.is.limits.ordered)) back_leading (subst (λ (i : Insn). jumping_state a i ≡ Some edge) insn_is is) in
         falls_unset (record { program = v.program; declared = m; place = place }) (known m.head) edge d register
         (subst (λ (n : Loop). register ≢ n.register) one other)
-        (subst (λ (o : Option StateValue). IfSome o (IsHead v.program m)) here_is (head_in v.program v.maps above m place h back.is))
-        (subst (λ (o : Option StateValue). IsCovered edge o) here_is leads)
+        (subst (λ (o : Option StateValue). IfSome o (IsHead v.program m)) here_is (head_in v.program comes stands m place h back.is))
+        (subst (λ (o : Option StateValue). IsCoveredBut m.register edge o) here_is (opened_in v.program comes stands m place edge h back.is coming))
         back.falls
 
-    by_edge : (a d : StateValue) (register : ℕ) → IsWhole a → IsCovered a (above v.slot) → above l.head ≡ Some d → register ≢ l.register → (edge : Option StateValue) → jumping_state a insn ≡ edge → IsLoweredBackIfAny v.program v.slot known edge place register → kind_at d register ≡ Unset
+    by_edge : (a d : StateValue) (register : ℕ) → IsWhole a → IsCovered a (stands v.slot) → stands l.head ≡ Some d → register ≢ l.register → (edge : Option StateValue) → jumping_state a insn ≡ edge → IsLoweredBackIfAny v.program v.slot known edge place register → kind_at d register ≡ Unset
     by_edge a d register proper below there other None is back = absurd back
     by_edge a d register proper below there other (Some edge) is back = by_back a edge d register proper below is there other back
 
-    by_here : (d : StateValue) (register : ℕ) → above l.head ≡ Some d → register ≢ l.register → (o : Option StateValue) → IfSome o IsWhole → IsCoveredIfAny o (above v.slot) → IsLoweredBackIfAny v.program v.slot known (jumping_if_any o insn) place register → kind_at d register ≡ Unset
+    by_here : (d : StateValue) (register : ℕ) → stands l.head ≡ Some d → register ≢ l.register → (o : Option StateValue) → IfSome o IsWhole → IsCoveredIfAny o (stands v.slot) → IsLoweredBackIfAny v.program v.slot known (jumping_if_any o insn) place register → kind_at d register ≡ Unset
     by_here d register there other None proper below back = absurd back
     by_here d register there other (Some a) proper below back = by_edge a d register proper below there other (jumping_state a insn) refl back
 
-    held : (d : StateValue) → above l.head ≡ Some d → AreUnset v.program l now place d
+    held : (d : StateValue) → stands l.head ≡ Some d → AreUnset v.program l now place d
     held d is register small other written lowers = by_mark (marks place register small)
       where
         before : AreUnset v.program l lowered place d
@@ -132,7 +133,7 @@ keeps_lowered order v lowered now known here insn above form begins whole covere
         by_mark (inl same) = before register small other written (sym same ∙ lowers)
         by_mark (inr back) = by_here d register is other here whole covered back
 
-    by_there : (there : Option StateValue) → above l.head ≡ there → IfSome there (AreUnset v.program l now place)
+    by_there : (there : Option StateValue) → stands l.head ≡ there → IfSome there (AreUnset v.program l now place)
     by_there None is = tt
     by_there (Some d) is = held d is
 
@@ -143,19 +144,19 @@ complete_insn : Rules → (v : VisitValue) (start lowered now : List Bool) (old 
     → IsProgram v.program → IsFormed v.program → insn_at v.program v.slot ≡ Some insn → (IsTrue was → IsKept v.program v.slot → ⊥)
     → IsWhole before → AreWhole (knowledge_in old)
     → IsInsnVisit v old new was runs before after settled region insn → IsLeastVisit v lowered now old new was runs before after insn
-    → IsCompleting v.program v.maps start lowered old was before v.slot → IsCompleting v.program v.maps start now new runs after (v.slot + 1)
+    → IsCompleting v.program start lowered old was before v.slot → IsCompleting v.program start now new runs after (v.slot + 1)
 complete_insn rules v start lowered now old new was runs before after settled region insn limits form begins plain proper whole visit least h = record {
   same = λ l place declared upto register small. still l place declared upto register small (least.marks place register small);
   circles = λ l place declared.
       circle_next (leaves_of rules) rules.entered v lowered now start old new was runs before after settled region insn l place limits form begins (has_next v insn limits form begins) plain proper whole declared
       (λ upto. h.same l place declared upto) visit least (h.circles l place declared);
-  below = λ above justified low.
-      let was_below = h.below above justified low in (
-        justified_next (order_of rules) v lowered now old new was runs before after settled region insn above limits begins plain proper whole justified was_below.1 visit least was_below.0,
-        keeps_lowered (order_of rules) v lowered now (knowledge_in old) (visited_state was before new v.slot) insn above form begins
+  below = λ comes stands closed low.
+      let was_below = h.below comes stands closed low in (
+        closed_next (order_of rules) v lowered now old new was runs before after settled region insn comes stands limits begins plain proper whole closed was_below.1 visit least was_below.0,
+        keeps_lowered v lowered now (knowledge_in old) (visited_state was before new v.slot) insn comes stands form begins
             (comes_whole was before new v.slot proper new_whole)
-            (here_covered v lowered old new was before insn above begins plain proper whole new_whole justified was_below.1 least.widened was_below.0)
-            justified was_below.1 least.marks,
+            (here_covered v lowered old new was before insn comes stands begins plain proper whole new_whole closed was_below.1 least.widened was_below.0)
+            closed was_below.1 least.marks,
       );
 }
   where
@@ -172,21 +173,27 @@ complete_insn rules v start lowered now old new was runs before after settled re
     still l place declared upto register small (inr back) = absurd (no_back l place register declared upto (jumping_if_any (visited_state was before new v.slot) insn) back)
 
 -- at a second slot
-complete_skip : (p : Program) (maps : Maps) (start lowered : List Bool) (table : TableValue) (runs : Bool) (state : StateValue) (slot : ℕ) → IsProgram p → IsFormed p → insn_at p slot ≡ None → IsCompleting p maps start lowered table runs state slot → IsCompleting p maps start lowered table runs state (slot + 1)
-complete_skip p maps start lowered table runs state slot limits form none h = record {
+complete_skip : Rules → (p : Program) (start lowered : List Bool) (table : TableValue) (runs : Bool) (state : StateValue) (slot : ℕ) → IsProgram p → IsFormed p → insn_at p slot ≡ None → IsCompleting p start lowered table runs state slot → IsCompleting p start lowered table runs state (slot + 1)
+complete_skip rules p start lowered table runs state slot limits form none h = record {
   same = λ l place declared upto. h.same l place declared (omega (arith, upto));
   circles = λ l place declared. circle_skip p l place start table runs state slot limits form declared none (h.circles l place declared);
-  below = λ above justified low.
-      let was_below = h.below above justified low in
-      (below_skip p table runs state slot above none was_below.0, was_below.1);
+  below = λ comes stands closed low.
+      let was_below = h.below comes stands closed low in (
+        below_wider rules.transitive p table runs state (slot + 1) (ahead slot comes) (ahead (slot + 1) comes) (ahead_next rules.reflexive slot comes closed.whole)
+            (below_skip p table runs state slot (ahead slot comes) none was_below.0),
+        was_below.1,
+      );
 }
 
 -- before the first slot
-pub complete_none : (p : Program) (maps : Maps) (start : List Bool) (table : TableValue) (state : StateValue) → IsEntered (knowledge_in table 0) → IsLeastEntry (knowledge_in table) → IsCompleting p maps start start table false state 0
-complete_none p maps start table state entered least = record {
+pub complete_none : (p : Program) (start : List Bool) (table : TableValue) (state : StateValue) → IsEntered (knowledge_in table 0) → IsLeastEntry (knowledge_in table) → IsCompleting p start start table false state 0
+complete_none p start table state entered least = record {
   same = λ l place declared upto register small. refl;
   circles = λ l place declared. circle_none p l place start table state entered least;
-  below = λ above justified low. (below_none p table state above (least above justified.entered), low);
+  below = λ comes stands closed low. (
+    below_none p table state (ahead 0 comes) (least (ahead 0 comes) (subst (λ (o : Option StateValue). IsEntered o) (sym (ahead_from 0 comes 0 (omega arith))) closed.entered)),
+    low,
+  );
 }
 
 -- after the visit of a slot
@@ -194,15 +201,15 @@ pub complete_next : Rules → (v : VisitValue) (p : Program) (maps : Maps) (slot
     → v ≡ record { program = p; maps = maps; slot = slot } → IsProgram p → IsFormed p → (IsTrue was → IsKept p slot → ⊥)
     → IsWhole before → AreWhole (knowledge_in old)
     → IsVisit v old new was runs before after settled region (insn_at v.program v.slot) → IsLeastVisitIfAny v lowered now old new was runs before after (insn_at v.program v.slot)
-    → IsCompleting p maps start lowered old was before slot → IsCompleting p maps start now new runs after (slot + 1)
+    → IsCompleting p start lowered old was before slot → IsCompleting p start now new runs after (slot + 1)
 complete_next rules v p maps slot start lowered now old new was runs before after settled region same limits form plain proper whole visit least h =
     by_insn (insn_at p slot) refl
     (subst (λ (u : VisitValue). IsVisit u old new was runs before after settled region (insn_at u.program u.slot)) same visit)
     (subst (λ (u : VisitValue). IsLeastVisitIfAny u lowered now old new was runs before after (insn_at u.program u.slot)) same least)
   where
-    by_insn : (o : Option Insn) → insn_at p slot ≡ o → IsVisit (record { program = p; maps = maps; slot = slot }) old new was runs before after settled region o → IsLeastVisitIfAny (record { program = p; maps = maps; slot = slot }) lowered now old new was runs before after o → IsCompleting p maps start now new runs after (slot + 1)
+    by_insn : (o : Option Insn) → insn_at p slot ≡ o → IsVisit (record { program = p; maps = maps; slot = slot }) old new was runs before after settled region o → IsLeastVisitIfAny (record { program = p; maps = maps; slot = slot }) lowered now old new was runs before after o → IsCompleting p start now new runs after (slot + 1)
     by_insn None none visit least =
-        rw (visit.same_table, visit.same_runs, visit.same_state, least) (complete_skip p maps start lowered old was before slot limits form none h)
+        rw (visit.same_table, visit.same_runs, visit.same_state, least) (complete_skip rules p start lowered old was before slot limits form none h)
     by_insn (Some insn) begins visit least =
         complete_insn rules (record { program = p; maps = maps; slot = slot }) start lowered now old new was runs before after settled region insn limits form begins plain proper whole visit least h
 
@@ -211,7 +218,7 @@ complete_next rules v p maps slot start lowered now old new was runs before afte
 -- an edge back is covered, or lowers what was not lowered before
 back_refuted : Rules → (v : VisitValue) (start lowered : List Bool) (old : TableValue) (was : Bool) (before : StateValue) (insn : Insn)
     → IsFormed v.program → insn_at v.program v.slot ≡ Some insn → (IsTrue was → IsKept v.program v.slot → ⊥) → AreWhole (knowledge_in old)
-    → IsCompleting v.program v.maps start lowered old was before v.slot
+    → IsCompleting v.program start lowered old was before v.slot
     → (a here edge : StateValue) → visited_state was before old v.slot ≡ Some a → IsRefusedBack v lowered (knowledge_in old) insn a here edge → ⊥
 back_refuted rules v start lowered old was before insn form begins plain whole h a here edge came refused = by_uncovered refused.4
   where
@@ -235,21 +242,21 @@ back_refuted rules v start lowered old was before insn form begins plain whole h
         let behind : IsBehind u.declared v.slot = (omega (arith, u.is.limits.ordered, u.back), omega (arith, u.back)) in
         by_turn u behind (knowledge_in old u.declared.head) refl ((h.circles u.declared u.place u.is).within behind.0 behind.1)
 
--- no visit of a slot is refused
-pub complete_refuted : Rules → (v : VisitValue) (p : Program) (maps : Maps) (slot : ℕ) (start lowered : List Bool) (old : TableValue) (was : Bool) (before : StateValue) (above : ℕ → Option StateValue)
+-- what is told where the visit of a slot is refused
+pub complete_told : Rules → (v : VisitValue) (p : Program) (maps : Maps) (slot : ℕ) (start lowered : List Bool) (old : TableValue) (was : Bool) (before told : StateValue) (refused : Refused)
     → v ≡ record { program = p; maps = maps; slot = slot } → IsFormed p → (IsTrue was → IsKept p slot → ⊥)
     → IsWhole before → AreWhole (knowledge_in old)
-    → IsVisitFaultIfAny v lowered (knowledge_in old) (visited_state was before old v.slot) (insn_at v.program v.slot)
-    → IsCompleting p maps start lowered old was before slot → Justifies p maps above → HasLowered p start above → ⊥
-complete_refuted rules v p maps slot start lowered old was before above same form plain proper whole fault h justified low =
-    by_insn (insn_at p slot) refl (subst (λ (u : VisitValue). IsVisitFaultIfAny u lowered (knowledge_in old) (visited_state was before old u.slot) (insn_at u.program u.slot)) same fault)
+    → IsVisitFaultIfAny v lowered (knowledge_in old) (visited_state was before old v.slot) (insn_at v.program v.slot) told refused
+    → IsCompleting p start lowered old was before slot → HasToLower p start → TellsKnown p maps told refused
+complete_told rules v p maps slot start lowered old was before told refused same form plain proper whole fault h low =
+    by_insn (insn_at p slot) refl (subst (λ (u : VisitValue). IsVisitFaultIfAny u lowered (knowledge_in old) (visited_state was before old u.slot) (insn_at u.program u.slot) told refused) same fault)
   where
-    by_insn : (o : Option Insn) → insn_at p slot ≡ o → IsVisitFaultIfAny (record { program = p; maps = maps; slot = slot }) lowered (knowledge_in old) (visited_state was before old slot) o → ⊥
-    by_insn None none fault = fault
+    by_insn : (o : Option Insn) → insn_at p slot ≡ o → IsVisitFaultIfAny (record { program = p; maps = maps; slot = slot }) lowered (knowledge_in old) (visited_state was before old slot) o told refused → TellsKnown p maps told refused
+    by_insn None none fault = absurd fault
     by_insn (Some insn) begins fault =
-        let was_below = h.below above justified low in
-        visit_refuted (order_of rules) (record { program = p; maps = maps; slot = slot }) lowered old was before (knowledge_in old) insn above begins plain proper whole justified was_below.1 was_below.0
-        (back_refuted rules (record { program = p; maps = maps; slot = slot }) start lowered old was before insn form begins plain whole h) fault
+        visit_told (record { program = p; maps = maps; slot = slot }) lowered old was before (knowledge_in old) insn told refused begins plain proper whole
+        (λ comes stands closed. h.below comes stands closed (low comes stands closed))
+        (λ a. back_refuted rules (record { program = p; maps = maps; slot = slot }) start lowered old was before insn form begins plain whole h a told) fault
 
 -- ---- at first nothing is lowered
 
@@ -267,7 +274,9 @@ lowers_nothing p lowered table none l place declared = by_there (table l.head)
     by_there None = tt
     by_there (Some d) = λ register small other written low. absurd (false≢true (sym (count_nothing lowered none (10 * place + register)) ∙ low))
 
--- a refusal that is handed on refutes what it refuted
-pub refuses_all : {T : Type 0} (result : Result T Refused) (refuted : Type 0) → refuted → IfErr result (λ refused. refuted)
-refuses_all (Ok done) refuted holds = tt
-refuses_all (Err refused) refuted holds = holds
+-- what is told where a pass is refused, which is handed on
+pub told_on : {T : Type 0} (result : Result T Refused) (e : Refused) (Tells : Refused → Type 0) → result ≡ Err e → Tells e → IfErr result Tells
+told_on (Ok done) e Tells is tells = tt
+told_on (Err refused) e Tells is tells =
+    let same : e ≡ refused = cc in
+    subst Tells same tells

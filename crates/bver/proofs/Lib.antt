@@ -10,10 +10,10 @@ pub mod Widening
 pub mod Safety
 pub mod Regions
 pub mod Above
-pub mod Below
-pub mod Telling
-pub mod Steps
 pub mod Rounds
+pub mod Ahead
+pub mod Below
+pub mod Steps
 pub mod Rings
 pub mod Turns
 pub mod Circles

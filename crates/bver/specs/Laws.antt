@@ -4,8 +4,11 @@ use Rattle.bpf.specs.Program.{Program}
 use Rattle.machine.specs.declared.regions.Region.{Region}
 use Rattle.machine.specs.Sizes.{Maps}
 use Rattle.machine.specs.Runs.{IsSafe}
+use Rattle.absdom.specs.State.{StateValue}
+use Rattle.bver_form.specs.declared.refusal.Refused.{Refused}
 use Rattle.bver_pass.specs.Justified.{IsJustified, IsJudged}
 use Rattle.bver.specs.Resolved.{IsResolved}
+use Rattle.bver.specs.Told.{TellsKnown}
 
 -- a justified program is safe: no run of it traps, and each ends within the budget
 abbrev pub JustifiedIsSafe : Type 0
@@ -16,3 +19,9 @@ abbrev pub JudgedIsResolved : Type 0
 JudgedIsResolved =
     (program : Program) (maps : Maps) (regions : List (Option Region)) → IsJudged program maps regions
     → IsResolved program regions
+
+-- a program of which such a state is told is not justified
+abbrev pub ToldIsUnjustified : Type 0
+ToldIsUnjustified =
+    (program : Program) (maps : Maps) (a : StateValue) (refused : Refused) → TellsKnown program maps a refused
+    → IsJustified program maps → ⊥

@@ -1,8 +1,11 @@
 //! What being justified is worth. Each function does nothing: its contract is the law.
 
-ghost use Rattle.bver.specs.Laws.{JustifiedIsSafe, JudgedIsResolved};
+ghost use Rattle.bver.specs.Laws.{JudgedIsResolved, JustifiedIsSafe, ToldIsUnjustified};
 
-use absdom::{after_call_fits, apply_fits, entry_fits, order_of_states, refine_fits};
+use absdom::{
+    after_call_fits, after_call_grows, apply_fits, apply_grows, entry_fits, forgets_all,
+    order_of_states, refine_fits, refine_grows,
+};
 use bver_form::loops_are_counted;
 use machine::{steps_leave, steps_perform};
 
@@ -19,4 +22,15 @@ pub fn justified_programs()
     steps_perform();
     steps_leave();
     loops_are_counted();
+}
+
+/// A law and no work: a program of which a state is told that refutes it is not justified.
+pub(crate) fn told_programs()
+    ensures { ToldIsUnjustified }
+{
+    order_of_states();
+    apply_grows();
+    refine_grows();
+    after_call_grows();
+    forgets_all();
 }

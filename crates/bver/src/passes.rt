@@ -1,18 +1,17 @@
 //! The pass over a program's slots.
 
-ghost use Rattle.std.specs.Prelude.{◌≡◌, ◌<◌, ℕ, IfErr, IfOk, IsSome, IsTrue, OnErr, OnOk, Option, Some, None, length, if◌then◌else◌};
+ghost use Rattle.std.specs.Prelude.{◌≡◌, ◌<◌, IfErr, IfOk, IsSome, IsTrue, OnErr, OnOk, Some, None, length, if◌then◌else◌};
 ghost use Rattle.machine.specs.Step.{insn_at};
 ghost use Rattle.bver_form.specs.Form.{IsFormed};
-ghost use Rattle.bver_pass.specs.Heads.{AreHeadsAt, HasLowered, IsWidened, IsWithinBound};
-ghost use Rattle.absdom.specs.State.{StateValue};
+ghost use Rattle.bver_pass.specs.Heads.{AreHeadsAt, IsWidened, IsWithinBound};
 ghost use Rattle.bver_pass.specs.Justified.{IsCovered, IsCoveredIfAny, IsJudged};
-ghost use Rattle.bver_pass.specs.Leading.{EntersOutside, EntersOutsideIfAny, IsLeastVisit, IsLeastVisitIfAny, IsWidenedAt, IsWidenedIfAny, IsVisitFaultIfAny};
+ghost use Rattle.bver_pass.specs.Leading.{IsHeadFault, IsHeadFaultIfAny, IsLeastVisit, IsLeastVisitIfAny, IsWidenedAt, IsWidenedIfAny, IsVisitFaultIfAny};
 ghost use Rattle.bver_form.specs.Lowered.{IsMore, IsSettled};
+ghost use Rattle.bver_form.specs.declared.refusal.Refusal.TheVariants.{LoopEntry};
 ghost use Rattle.bver_pass.specs.Refusals.{IsValueFault};
 ghost use Rattle.bver_pass.specs.Table.{knowledge_in};
-ghost use Rattle.bver_pass.specs.Told.{TellsKnown};
+ghost use Rattle.bver.specs.Told.{HasToLower, TellsKnown};
 ghost use Rattle.bver_form.specs.Targets.{IsKept};
-ghost use Rattle.bver_pass.specs.Unjustified.{Justifies};
 ghost use Rattle.bver_pass.specs.Visit.{AreEntered, IsExtended, IsInsnVisit, IsLeastEntry, IsLeastOf, IsTableOf, IsVisit, visited_state};
 ghost use Rattle.bver_pass.specs.Written.{AreWrittenByLoops};
 
@@ -41,6 +40,7 @@ fn widen_head(
     ensures refused { IfErr result (IsValueFault visit.now.program) }
     ensures outside { IfErr result (λ _. IsWithinBound body.now.declared state.old → ⊥) }
     ensures slot { IfErr result (λ refused. refused.slot ≡ visit.now.slot) }
+    ensures code { IfErr result (λ refused. refused.code ≡ LoopEntry) }
     ensures kept { OnErr result (state.new ≡ state.old) }
 {
     match body.widen(lowered, state) {
@@ -68,9 +68,7 @@ fn enter(
         (IsLeastOf (λ above. IsCovered state.new (above visit.now.slot)) table.old table.new) }
     ensures extended { IsExtended visit.now.slot table.old table.new }
     ensures refused { IfErr result (IsValueFault visit.now.program) }
-    ensures outside { IfErr result
-        (λ _. EntersOutside visit.now.program visit.now.slot state.old) }
-    ensures told { IfErr result (TellsKnown visit.now.program visit.now.maps state.new) }
+    ensures fault { IfErr result (IsHeadFault visit.now state.old state.new) }
 {
     order_of_states();
     table.stands_at_targets();
@@ -115,10 +113,9 @@ fn arrive(
         table.old table.new) }
     ensures extended { IsExtended visit.now.slot table.old table.new }
     ensures refused { IfErr result (IsValueFault visit.now.program) }
-    ensures outside { IfErr result
-        (λ _. EntersOutsideIfAny visit.now.program visit.now.slot
-        (visited_state runs state.old table.old visit.now.slot)) }
-    ensures told { IfErr result (TellsKnown visit.now.program visit.now.maps state.new) }
+    ensures fault { IfErr result
+        (IsHeadFaultIfAny visit.now (visited_state runs state.old table.old visit.now.slot)
+        state.new) }
 {
     order_of_states();
     visit.stands_formed();
@@ -157,9 +154,9 @@ fn visit_insn(
     ensures more { IsMore lowered.old lowered.new }
     ensures refused { IfErr result (IsValueFault visit.now.program) }
     ensures fault { IfErr result
-        (λ _. IsVisitFaultIfAny visit.now lowered.old (knowledge_in table.old)
-        (visited_state runs.old state.old table.old visit.now.slot) (Some insn.now)) }
-    ensures told { IfErr result (TellsKnown visit.now.program visit.now.maps state.new) }
+        (IsVisitFaultIfAny visit.now lowered.old (knowledge_in table.old)
+        (visited_state runs.old state.old table.old visit.now.slot) (Some insn.now)
+        state.new) }
 {
     order_of_states();
     visit.stands_formed();
@@ -195,10 +192,9 @@ fn visit_slot(
     ensures more { IsMore lowered.old lowered.new }
     ensures refused { IfErr result (IsValueFault visit.now.program) }
     ensures fault { IfErr result
-        (λ _. IsVisitFaultIfAny visit.now lowered.old (knowledge_in table.old)
+        (IsVisitFaultIfAny visit.now lowered.old (knowledge_in table.old)
         (visited_state runs.old state.old table.old visit.now.slot)
-        (insn_at visit.now.program visit.now.slot)) }
-    ensures told { IfErr result (TellsKnown visit.now.program visit.now.maps state.new) }
+        (insn_at visit.now.program visit.now.slot) state.new) }
 {
     match visit.insn() {
         Some(insn) => visit_insn(visit, table, lowered, state, spare, runs, &insn),
@@ -235,12 +231,10 @@ pub(crate) fn pass(
     ensures more { IsMore lowered.old lowered.new }
     ensures refused { IfErr result (IsValueFault image.now) }
     ensures lowers { OnOk result
-        ((above : ℕ → Option StateValue) → Justifies image.now maps.now above
-        → HasLowered image.now lowered.old above → HasLowered image.now lowered.new above) }
-    ensures refuted { IfErr result
-        (λ _. (above : ℕ → Option StateValue) → Justifies image.now maps.now above
-        → HasLowered image.now lowered.old above → ⊥) }
-    ensures told { IfErr result (TellsKnown image.now maps.now state.new) }
+        (HasToLower image.now lowered.old → HasToLower image.now lowered.new) }
+    ensures told { IfErr result
+        (λ refused. HasToLower image.now lowered.old
+        → TellsKnown image.now maps.now state.new refused) }
 {
     order_of_states();
     apply_grows();

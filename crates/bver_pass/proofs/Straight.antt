@@ -1,5 +1,5 @@
 -- What a straight instruction leads to, and where it is refused.
-use Rattle.std.proofs.Common.{◌≡◌, ℕ, ◌+◌, Bool, List, Option, Result, Ok, Err}
+use Rattle.std.proofs.Common.{◌≡◌, ℕ, ◌+◌, Bool, List, Option, Some, Result, Ok, Err, refl}
 use Rattle.std.specs.Prelude.{IsErr, IfOk, IfErr}
 use Rattle.bpf_insn.specs.declared.insn.Insn.{Insn}
 use Rattle.bpf_insn.specs.declared.insn.Insn.TheVariants.{Alu, Negate, MoveSigned, ByteSwap, Load, Store, Jump, Goto, Wide, LoadMap, LoadAddress, Call, Exit}
@@ -12,9 +12,11 @@ use Rattle.absdom.specs.Effect.{after_insn}
 use Rattle.absdom.specs.State.{StateValue}
 use Rattle.absdom_stack.specs.declared.spill.Spill.{Spill}
 use Rattle.absdom_stack.specs.Spill.{spill_of}
+use Rattle.bver_form.specs.declared.refusal.Refusal.{Refusal}
 use Rattle.bver_form.specs.declared.refusal.Refused.{Refused}
+use Rattle.bver_pass.specs.Faults.{fault_in, fault_of}
 use Rattle.bver_pass.specs.Justified.{IsPermitted, IsResultCovered}
-use Rattle.bver_pass.specs.Leading.{GivesBelow, IsFlowFault, LeadsBelow, leads, refutes, stays}
+use Rattle.bver_pass.specs.Leading.{GivesBelow, IsFlowFault, LeadsBelow, refutes}
 use Rattle.bver_pass.specs.Table.{TableValue}
 use Rattle.bver_pass.specs.Unjustified.{IsRefuted}
 use Rattle.bver_pass.specs.Visit.{IsLeastNext, VisitValue}
@@ -66,7 +68,32 @@ refuted_on spill maps slot a insn goes fails table h = by_insn insn goes fails h
     by_insn (Call callee number) goes fails h = absurd cc
     by_insn Exit goes fails h = absurd cc
 
-pub straight_fault : (r : Result Bool Refused) (v : VisitValue) (lowered : List Bool) (known : ℕ → Option StateValue) (a : StateValue) (insn : Insn) → flow_of insn ≡ GoesOn
-    → IfErr r (λ refused. IsErr (after_insn (spill_of v.program.version) a insn)) → IfErr r (λ refused. IsFlowFault v lowered known a insn)
-straight_fault (Ok runs) v lowered known a insn goes fails = tt
-straight_fault (Err refused) v lowered known a insn goes fails = refutes (refuted_on (spill_of v.program.version) v.maps v.slot a insn goes fails)
+-- it is refused for the cause by which it leaves nothing
+fault_on : (spill : Spill) (maps : Maps) (a : StateValue) (insn : Insn) (code : Refusal) → flow_of insn ≡ GoesOn → fault_in (after_insn spill a insn) ≡ Some code → fault_of spill maps a insn ≡ Some code
+fault_on spill maps a (Alu op width dst src) code goes fails = fails
+fault_on spill maps a (Negate width dst) code goes fails = fails
+fault_on spill maps a (MoveSigned extension dst src) code goes fails = fails
+fault_on spill maps a (ByteSwap swap bits dst) code goes fails = fails
+fault_on spill maps a (Load size dst place) code goes fails = fails
+fault_on spill maps a (Store size place src) code goes fails = fails
+fault_on spill maps a (Jump comparison offset) code goes fails = absurd cc
+fault_on spill maps a (Goto distance) code goes fails = absurd cc
+fault_on spill maps a (Wide dst value) code goes fails = absurd cc
+fault_on spill maps a (LoadMap dst index) code goes fails = absurd cc
+fault_on spill maps a (LoadAddress dst address) code goes fails = absurd cc
+fault_on spill maps a (Call callee number) code goes fails = absurd cc
+fault_on spill maps a Exit code goes fails = absurd cc
+
+pub straight_fault : (r : Result Bool Refused) (v : VisitValue) (lowered : List Bool) (known : ℕ → Option StateValue) (a : StateValue) (insn : Insn) → flow_of insn ≡ GoesOn → IfErr r (λ refused. refused.slot ≡ v.slot)
+    → IfErr r (λ refused. fault_in (after_insn (spill_of v.program.version) a insn) ≡ Some refused.code) → IfErr r (IsFlowFault v lowered known a insn)
+straight_fault (Ok runs) v lowered known a insn goes slot fails = tt
+straight_fault (Err refused) v lowered known a insn goes slot fails =
+    refutes (record {
+      slot = slot;
+      code = fault_on (spill_of v.program.version) v.maps a insn refused.code goes fails;
+      refuted = refuted_on (spill_of v.program.version) v.maps v.slot a insn goes (is_refused (after_insn (spill_of v.program.version) a insn) fails);
+    })
+  where
+    is_refused : (r : Result StateValue Cause) → fault_in r ≡ Some refused.code → IsErr r
+    is_refused (Err cause) fails = refl
+    is_refused (Ok left) fails = absurd cc

@@ -46,6 +46,9 @@ use Rattle.absdom_stack.specs.declared.spill.Spill.{Spill}
 use Rattle.absdom_stack.specs.Spill.{spill_of}
 use Rattle.bver_form.specs.Jumps.{target}
 use Rattle.bver_form.specs.Lowered.{is_lowered}
+use Rattle.bver_form.specs.declared.refusal.Refusal.TheVariants.{LoopEntry}
+use Rattle.bver_form.specs.declared.refusal.Refused.{Refused}
+use Rattle.bver_pass.specs.Faults.{fault_of}
 use Rattle.bver_pass.specs.Heads.{Falls, IsDeclared, IsWidened, IsWithinBound}
 use Rattle.bver_pass.specs.Justified.{IsCovered, IsCoveredIfAny, edges_of_comparison, knowledge_at}
 use Rattle.bver_pass.specs.Table.{TableValue, knowledge_in}
@@ -53,6 +56,10 @@ use Rattle.bver_pass.specs.Unjustified.{IsRefuted}
 use Rattle.bver_pass.specs.Visit.{IsLeastNext, VisitValue, visited_state}
 
 -- ---- where it leads
+
+-- what the instruction at the slot leaves, or the cause for which it is refused
+abbrev pub outcome_at : VisitValue → StateValue → Insn → Result StateValue Cause
+outcome_at v a insn = after_insn (spill_of v.program.version) a insn
 
 -- what an instruction leaves, where it is not refused, is covered where it goes on
 abbrev pub GivesBelow : Result StateValue Cause → (there : Option StateValue) → Type 0
@@ -160,11 +167,18 @@ IsUncoveredIfAny p slot lowered known (Some edge) = IsUncovered p slot lowered k
 
 -- ---- why it is refused
 
+-- no table permits the instruction with what is known at its slot, and the refusal there is for its first test that fails
+pub record IsRefutedFor (v : VisitValue) (a : StateValue) (insn : Insn) (refused : Refused) : Type 0 where
+  pub slot : refused.slot ≡ v.slot
+  pub code : fault_of (spill_of v.program.version) v.maps a insn ≡ Some refused.code
+  pub refuted : IsRefuted (spill_of v.program.version) v.maps v.slot a insn
+
 -- with what is known at its slot an instruction is refused: no table permits it, or its edge back is not covered
 pub data IsFlowFault (v : VisitValue) (lowered : List Bool) (known : ℕ → Option StateValue) (a : StateValue)
-    (insn : Insn) : Type 0 where
-  refutes : IsRefuted (spill_of v.program.version) v.maps v.slot a insn → IsFlowFault v lowered known a insn
-  returns : IsUncoveredIfAny v.program v.slot lowered known (jumping_state a insn) → IsFlowFault v lowered known a insn
+    (insn : Insn) (refused : Refused) : Type 0 where
+  refutes : IsRefutedFor v a insn refused → IsFlowFault v lowered known a insn refused
+  returns : IsUncoveredIfAny v.program v.slot lowered known (jumping_state a insn)
+      → IsFlowFault v lowered known a insn refused
 
 -- a run may come to the head of a declared loop at the slot with a counter outside its bound, or with none
 pub record EntersOutside (p : Program) (slot : ℕ) (a : StateValue) : Type 0 where
@@ -174,10 +188,17 @@ pub record EntersOutside (p : Program) (slot : ℕ) (a : StateValue) : Type 0 wh
   pub head : declared.head ≡ slot
   pub outside : IsWithinBound declared a → ⊥
 
--- something comes there, and may come so
-abbrev pub EntersOutsideIfAny : Program → (slot : ℕ) → Option StateValue → Type 0
-EntersOutsideIfAny p slot None = ⊥
-EntersOutsideIfAny p slot (Some a) = EntersOutside p slot a
+-- what comes to the slot is refused there for that, and told as it came
+pub record IsHeadFault (v : VisitValue) (before told : StateValue) (refused : Refused) : Type 0 where
+  pub slot : refused.slot ≡ v.slot
+  pub code : refused.code ≡ LoopEntry
+  pub outside : EntersOutside v.program v.slot before
+  pub as_it_came : told ≡ before
+
+-- something comes there, and is refused so
+abbrev pub IsHeadFaultIfAny : (v : VisitValue) → Option StateValue → (told : StateValue) → Refused → Type 0
+IsHeadFaultIfAny v None told refused = ⊥
+IsHeadFaultIfAny v (Some before) told refused = IsHeadFault v before told refused
 
 -- ---- a visit
 
@@ -219,16 +240,18 @@ IsLeastVisitIfAny v lowered now old new was runs before after None = now ≡ low
 IsLeastVisitIfAny v lowered now old new was runs before after (Some insn) =
     IsLeastVisit v lowered now old new was runs before after insn
 
--- what comes to the slot is refused there: at the head of a loop, or with the instruction
+-- what comes to the slot is refused there: at the head of a loop, or with the instruction. What is told is what came to
+-- the head, or what was known at the instruction
 pub data IsVisitFault (v : VisitValue) (lowered : List Bool) (known : ℕ → Option StateValue) (before : StateValue)
-    (insn : Insn) : Type 0 where
-  enters : EntersOutside v.program v.slot before → IsVisitFault v lowered known before insn
-  leads : (here : StateValue) → IsWhole here → IsWidenedAt v.program lowered v.slot before here
-      → IsFlowFault v lowered known here insn → IsVisitFault v lowered known before insn
+    (insn : Insn) (told : StateValue) (refused : Refused) : Type 0 where
+  enters : IsHeadFault v before told refused → IsVisitFault v lowered known before insn told refused
+  leads : IsWhole told → IsWidenedAt v.program lowered v.slot before told
+      → IsFlowFault v lowered known told insn refused → IsVisitFault v lowered known before insn told refused
 
 -- there is an instruction, and what comes there is refused
 abbrev pub IsVisitFaultIfAny : (v : VisitValue) (lowered : List Bool) (known : ℕ → Option StateValue)
-    → Option StateValue → Option Insn → Type 0
-IsVisitFaultIfAny v lowered known before None = ⊥
-IsVisitFaultIfAny v lowered known None (Some insn) = ⊥
-IsVisitFaultIfAny v lowered known (Some before) (Some insn) = IsVisitFault v lowered known before insn
+    → Option StateValue → Option Insn → (told : StateValue) → Refused → Type 0
+IsVisitFaultIfAny v lowered known before None told refused = ⊥
+IsVisitFaultIfAny v lowered known None (Some insn) told refused = ⊥
+IsVisitFaultIfAny v lowered known (Some before) (Some insn) told refused =
+    IsVisitFault v lowered known before insn told refused

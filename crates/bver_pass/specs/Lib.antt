@@ -1,10 +1,10 @@
 pub mod Codes
 pub mod Refusals
 pub mod Justified
+pub mod Faults
 pub mod Heads
 pub mod Written
 pub mod Table
 pub mod Unjustified
 pub mod Visit
 pub mod Leading
-pub mod Told

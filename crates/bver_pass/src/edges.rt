@@ -1,10 +1,9 @@
 //! What an instruction does to the table: the edges that it follows, and why it is refused.
 
-ghost use Rattle.std.specs.Prelude.{◌≡◌, ◌+◌, ◌⊎◌, IfErr, IfOk, IsErr, IsSome, IsTrue, MatchResult, OnErr, OnOk, Ok, Some, false};
+ghost use Rattle.std.specs.Prelude.{◌≡◌, ◌≤◌, ◌+◌, ◌⊎◌, IfErr, IfOk, IsErr, IsSome, IsTrue, MatchResult, OnErr, OnOk, Ok, Some, false};
 ghost use Rattle.bpf_insn.specs.Spelling.{slots_of};
 ghost use Rattle.machine.specs.Helpers.{helper_of};
 ghost use Rattle.machine.specs.Step.{insn_at, is_map, knows_helper};
-ghost use Rattle.absdom.specs.Effect.{after_insn};
 ghost use Rattle.absdom_stack.specs.Spill.{spill_of};
 ghost use Rattle.absdom.specs.Edges.{edge_state, edge_states};
 ghost use Rattle.absdom.specs.Kinds.{map_of, number_of};
@@ -12,13 +11,13 @@ ghost use Rattle.absdom.specs.State.{after_call, kind_at};
 ghost use Rattle.bver_form.specs.Form.{IsAllowed};
 ghost use Rattle.bver_form.specs.Jumps.{IsJump};
 ghost use Rattle.bver_pass.specs.Codes.{refusal_of};
+ghost use Rattle.bver_pass.specs.Faults.{TellsFault, argument_fault, asking_fault, calling_fault, fault_in};
 ghost use Rattle.bver_pass.specs.Justified.{HasArgument, IsCovered, IsCoveredIfAny, IsNumber, IsPermitted, IsResultCovered, MayAsk, MayCall, accessed_region, edges_of_comparison, pointed_region};
 ghost use Rattle.bver_form.specs.Lowered.{IsMore, IsSettled};
 ghost use Rattle.bver_pass.specs.Refusals.{IsValueFault, IsValueRefusal};
 ghost use Rattle.bver_pass.specs.Table.{knowledge_beside, knowledge_in, knowledge_next};
-ghost use Rattle.bver_pass.specs.Told.{IsClosingFaultIn, TellsKnown};
 ghost use Rattle.bver_form.specs.Targets.{IsPlain};
-ghost use Rattle.bver_pass.specs.Leading.{AreLoweredBack, BranchesBelow, IsFlowFault, GivesBelow, IsUncovered, IsUncoveredIfAny, LeadsBelow, jumping_state, taken_state};
+ghost use Rattle.bver_pass.specs.Leading.{AreLoweredBack, BranchesBelow, IsFlowFault, GivesBelow, IsUncovered, IsUncoveredIfAny, LeadsBelow, jumping_state, outcome_at, taken_state};
 ghost use Rattle.bver_pass.specs.Visit.{AreFollowed, GoesOnPlain, HasNext, IsExtendedAfter, IsLeastNext, IsLeastOf, IsNext, IsTableOf, LeadsBy, knowledge_at_target};
 
 use crate::table::Table;
@@ -70,7 +69,6 @@ fn jump(
     ensures uncovered { IfErr result
         (λ _. IsUncovered visit.now.program visit.now.slot lowered.old (knowledge_in table.old)
         state.now) }
-    ensures closing { IfErr result (IsClosingFaultIn visit.now.program) }
 {
     order_of_states();
     state.stands_whole();
@@ -124,7 +122,6 @@ fn follow_taken(
         (λ _. IsUncoveredIfAny visit.now.program visit.now.slot lowered.old
         (knowledge_in table.old)
         (edge_state state.now comparison.now.dst comparison.now.src edge.now)) }
-    ensures closing { IfErr result (IsClosingFaultIn visit.now.program) }
 {
     order_of_states();
     match edge {
@@ -222,7 +219,6 @@ fn branch(
         (knowledge_in table.old)
         (edge_state state.old comparison.now.dst comparison.now.src edges.now.taken)) }
     ensures kept { OnErr result (state.new ≡ state.old) }
-    ensures closing { IfErr result (IsClosingFaultIn visit.now.program) }
 {
     order_of_states();
     follow_taken(
@@ -273,16 +269,13 @@ fn compare(
         (taken_state (edges_of_comparison state.old comparison.now))
         lowered.old lowered.new) }
     ensures refused { IfErr result (IsValueFault visit.now.program) }
-    ensures uncovered { IfErr result
-        (λ _. IsErr (edges_of_comparison state.old comparison.now)
+    ensures fault { IfErr result
+        (λ refused. ((refused.slot ≡ visit.now.slot)
+        × (fault_in (edges_of_comparison state.old comparison.now) ≡ Some refused.code))
         ⊎ IsUncoveredIfAny visit.now.program visit.now.slot lowered.old
         (knowledge_in table.old)
         (taken_state (edges_of_comparison state.old comparison.now))) }
     ensures kept { OnErr result (state.new ≡ state.old) }
-    ensures told { IfErr result
-        (λ refused. ((refused.slot ≡ visit.now.slot)
-        × IsErr (edges_of_comparison state.old comparison.now))
-        ⊎ IsClosingFaultIn visit.now.program refused) }
 {
     order_of_states();
     match refine(
@@ -319,13 +312,15 @@ fn straight(
     requires table { IsTableOf visit.now table.old }
     requires next { IsNext visit.now (slots_of insn.now) }
     ensures covered { IfOk result
-        (λ runs. IsResultCovered (after_insn (spill_of visit.now.program.version) state.old insn.now)
+        (λ runs. IsResultCovered (outcome_at visit.now state.old insn.now)
         (knowledge_next table.new runs (visit.now.slot + slots_of insn.now) state.new)) }
     ensures least { IfOk result
-        (λ runs. IsLeastNext (λ above. GivesBelow (after_insn (spill_of visit.now.program.version) state.old insn.now)
+        (λ runs. IsLeastNext (λ above. GivesBelow (outcome_at visit.now state.old insn.now)
         (above (visit.now.slot + slots_of insn.now)))
         table.old table.new runs (visit.now.slot + slots_of insn.now) state.new) }
-    ensures refuted { IfErr result (λ _. IsErr (after_insn (spill_of visit.now.program.version) state.old insn.now)) }
+    ensures fault { IfErr result
+        (λ refused. fault_in (outcome_at visit.now state.old insn.now)
+        ≡ Some refused.code) }
     ensures plain { IfOk result
         (GoesOnPlain visit.now.program (visit.now.slot + slots_of insn.now)) }
     ensures extended { IsExtendedAfter visit.now table.old table.new }
@@ -345,6 +340,7 @@ fn check_map(visit: &Visit, index: i32) -> Result<(), Refused>
     requires begins { IsSome (insn_at visit.now.program visit.now.slot) }
     ensures map { MatchResult result (λ _. IsTrue (is_map visit.now.maps index))
         (λ _. is_map visit.now.maps index ≡ false) }
+    ensures code { IfErr result (λ refused. refused.code ≡ Refusal.MapKey) }
     ensures refused { IfErr result (IsValueFault visit.now.program) }
     ensures slot { IfErr result (λ refused. refused.slot ≡ visit.now.slot) }
 {
@@ -354,21 +350,36 @@ fn check_map(visit: &Visit, index: i32) -> Result<(), Refused>
     Ok(())
 }
 
+/// The number in a register, where an instruction wants one.
+fn number_in(visit: &Visit, state: &State, register: u8) -> Result<Range, Refused>
+    requires begins { IsSome (insn_at visit.now.program visit.now.slot) }
+    requires register { register ≤ 10 }
+    ensures number { MatchResult result (λ n. number_of (kind_at state.now register) ≡ Ok n)
+        (λ _. IsErr (number_of (kind_at state.now register))) }
+    ensures fault { TellsFault result (fault_in (number_of (kind_at state.now register))) }
+    ensures refused { IfErr result (IsValueFault visit.now.program) }
+    ensures slot { IfErr result (λ refused. refused.slot ≡ visit.now.slot) }
+{
+    match Register::new(register) {
+        Some(register) => match state.kind(register).number() {
+            Ok(number) => Ok(number),
+            Err(cause) => Err(visit.refused(refusal_of(cause))),
+        },
+        None => unreachable!(),
+    }
+}
+
 /// Tests that r0 is a number, as EXIT wants.
 fn check_answer(visit: &Visit, state: &State) -> Result<(), Refused>
     requires begins { IsSome (insn_at visit.now.program visit.now.slot) }
     ensures answer { MatchResult result (λ _. IsNumber (kind_at state.now 0))
         (λ _. IsNumber (kind_at state.now 0) → ⊥) }
+    ensures fault { TellsFault result (fault_in (number_of (kind_at state.now 0))) }
     ensures refused { IfErr result (IsValueFault visit.now.program) }
     ensures slot { IfErr result (λ refused. refused.slot ≡ visit.now.slot) }
 {
-    match Register::new(0) {
-        Some(answer) => match state.kind(answer).number() {
-            Ok(_) => Ok(()),
-            Err(cause) => Err(visit.refused(refusal_of(cause))),
-        },
-        None => unreachable!(),
-    }
+    number_in(visit, state, 0)?;
+    Ok(())
 }
 
 /// The map in r1, which a helper asks.
@@ -376,6 +387,7 @@ fn asked_map(visit: &Visit, state: &State) -> Result<u8, Refused>
     requires begins { IsSome (insn_at visit.now.program visit.now.slot) }
     ensures map { MatchResult result (λ map. map_of (kind_at state.now 1) ≡ Ok map)
         (λ _. IsErr (map_of (kind_at state.now 1))) }
+    ensures fault { TellsFault result (fault_in (map_of (kind_at state.now 1))) }
     ensures refused { IfErr result (IsValueFault visit.now.program) }
     ensures slot { IfErr result (λ refused. refused.slot ≡ visit.now.slot) }
 {
@@ -388,41 +400,20 @@ fn asked_map(visit: &Visit, state: &State) -> Result<u8, Refused>
     }
 }
 
-/// The keys that may be in r2, for one of which a helper asks.
-fn asked_keys(visit: &Visit, state: &State) -> Result<Range, Refused>
-    requires begins { IsSome (insn_at visit.now.program visit.now.slot) }
-    ensures keys { MatchResult result (λ keys. number_of (kind_at state.now 2) ≡ Ok keys)
-        (λ _. IsErr (number_of (kind_at state.now 2))) }
-    ensures refused { IfErr result (IsValueFault visit.now.program) }
-    ensures slot { IfErr result (λ refused. refused.slot ≡ visit.now.slot) }
-{
-    match Register::new(2) {
-        Some(register) => match state.kind(register).number() {
-            Ok(keys) => Ok(keys),
-            Err(cause) => Err(visit.refused(refusal_of(cause))),
-        },
-        None => unreachable!(),
-    }
-}
-
 /// Tests that r3 is a number, where the helper takes it as its argument.
 fn check_argument(visit: &Visit, state: &State, helper: Helper) -> Result<(), Refused>
     requires begins { IsSome (insn_at visit.now.program visit.now.slot) }
     ensures argument { MatchResult result (λ _. HasArgument helper (kind_at state.now 3))
         (λ _. HasArgument helper (kind_at state.now 3) → ⊥) }
+    ensures fault { TellsFault result (argument_fault helper (kind_at state.now 3)) }
     ensures refused { IfErr result (IsValueFault visit.now.program) }
     ensures slot { IfErr result (λ refused. refused.slot ≡ visit.now.slot) }
 {
     if !helper.takes_argument() {
         return Ok(());
     }
-    match Register::new(3) {
-        Some(argument) => match state.kind(argument).number() {
-            Ok(_) => Ok(()),
-            Err(cause) => Err(visit.refused(refusal_of(cause))),
-        },
-        None => unreachable!(),
-    }
+    number_in(visit, state, 3)?;
+    Ok(())
 }
 
 /// Tests that a helper may be asked: r1 is a map of its kind, r2 a key of it, and r3 its argument. The kind is tested
@@ -431,11 +422,12 @@ fn check_asked(visit: &Visit, state: &State, helper: Helper) -> Result<(), Refus
     requires begins { IsSome (insn_at visit.now.program visit.now.slot) }
     ensures asked { MatchResult result (λ _. MayAsk visit.now.maps helper state.now)
         (λ _. MayAsk visit.now.maps helper state.now → ⊥) }
+    ensures fault { TellsFault result (asking_fault visit.now.maps helper state.now) }
     ensures refused { IfErr result (IsValueFault visit.now.program) }
     ensures slot { IfErr result (λ refused. refused.slot ≡ visit.now.slot) }
 {
     let map = asked_map(visit, state)?;
-    let keys = asked_keys(visit, state)?;
+    let keys = number_in(visit, state, 2)?;
     check_argument(visit, state, helper)?;
     if !visit.has_keys(map, keys.high()) {
         return Err(visit.refused(Refusal::MapKey));
@@ -452,6 +444,8 @@ fn check_called(visit: &Visit, state: &State, number: i32) -> Result<(), Refused
     requires known { IsTrue (knows_helper visit.now.program.version (helper_of number)) }
     ensures called { MatchResult result (λ _. MayCall visit.now.maps (helper_of number) state.now)
         (λ _. MayCall visit.now.maps (helper_of number) state.now → ⊥) }
+    ensures fault { TellsFault result
+        (calling_fault visit.now.maps (helper_of number) state.now) }
     ensures refused { IfErr result (IsValueFault visit.now.program) }
     ensures slot { IfErr result (λ refused. refused.slot ≡ visit.now.slot) }
 {
@@ -475,6 +469,9 @@ fn call(
     requires next { IsNext visit.now 1 }
     ensures called { OnOk result (MayCall visit.now.maps (helper_of number) state.old) }
     ensures refuted { IfErr result (λ _. MayCall visit.now.maps (helper_of number) state.old → ⊥) }
+    ensures fault { IfErr result
+        (λ refused. calling_fault visit.now.maps (helper_of number) state.old
+        ≡ Some refused.code) }
     ensures left { OnOk result (state.new ≡ after_call state.old) }
     ensures covered { IfOk result
         (λ runs. IsCovered (after_call state.old)
@@ -527,7 +524,7 @@ pub fn accessed_region(state: &State, insn: &Insn) -> Option<Region>
 ///
 /// The first of `Unset` and `KindMismatch`, the destination before the source and r1 before r2 before r3,
 /// `PointerRange`, `HeaderWrite`, `OutOfRegion`, `UnsetStack`, `MapKey` and `MapKind`; or `LoopEntry` at a head that an edge back
-/// to it neither lowers nor finds covered.
+/// to it neither lowers nor finds covered. The state is then as it was.
 pub fn flow(
     visit: &Visit,
     table: &mut Table<'_>,
@@ -558,8 +555,8 @@ pub fn flow(
         (jumping_state state.old insn.now) lowered.old lowered.new) }
     ensures refused { IfErr result (IsValueFault visit.now.program) }
     ensures fault { IfErr result
-        (λ _. IsFlowFault visit.now lowered.old (knowledge_in table.old) state.old insn.now) }
-    ensures told { IfErr result (TellsKnown visit.now.program visit.now.maps state.new) }
+        (IsFlowFault visit.now lowered.old (knowledge_in table.old) state.old insn.now) }
+    ensures kept { OnErr result (state.new ≡ state.old) }
 {
     order_of_states();
     match insn {

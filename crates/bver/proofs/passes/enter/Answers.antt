@@ -3,12 +3,11 @@ use Rattle.bpf.specs.Program.{Program}
 use Rattle.absdom.specs.State.{IsWhole}
 use Rattle.bver_pass.specs.Heads.{AreHeadsAt, IsDeclared, IsWidened, IsWithinBound}
 use Rattle.bver_pass.specs.Justified.{IsHead}
-use Rattle.bver_pass.specs.Leading.{EntersOutside, widens}
+use Rattle.bver_pass.specs.Leading.{EntersOutside, IsHeadFault, widens}
 use Rattle.bver.proofs.Keeping.{known_kept}
 use Rattle.bver.proofs.Widening.{widened_above, widened_head}
 use Rattle.bver.proofs.Visiting.{heads_of}
-use Rattle.bver.proofs.Completing.{refuses_all}
-use Rattle.bver.proofs.Telling.{entered_told}
+use Rattle.bver.proofs.Completing.{told_on}
 use Rattle.bver.proofs.passes.enter.Goals as goal
 
 pub widen-requires-clause-kept : goal.widen-requires-clause-kept
@@ -54,8 +53,8 @@ returns-in_ok-widen_head-in-Some-clause-widened c =
     widens b.declared b.place (subst (λ (p : Program). IsDeclared p b.declared b.place) same declared) at
     (subst (λ (p : Program). IsWidened p b.declared c.args.lowered.now b.place c.args.state.now new) same widened)
 
-pub returns-in_err-widen_head-in-Some-clause-told : goal.returns-in_err-widen_head-in-Some-clause-told
-returns-in_err-widen_head-in-Some-clause-told c =
+pub returns-in_err-widen_head-in-Some-clause-fault : goal.returns-in_err-widen_head-in-Some-clause-fault
+returns-in_err-widen_head-in-Some-clause-fault c =
     let v = c.args.visit.now in
     let b = c.in-Some.body in
     let state = c.args.state.now in
@@ -63,4 +62,5 @@ returns-in_err-widen_head-in-Some-clause-told c =
     let at : b.declared.head ≡ v.slot = search rules in
     let declared : IsDeclared b.program b.declared b.place = search rules in
     let outside : EntersOutside v.program v.slot state = record { declared = b.declared; place = b.place; is = subst (λ (p : Program). IsDeclared p b.declared b.place) same declared; head = at; outside = c.in_err-widen_head-in-Some.ensures.outside } in
-    entered_told c.from_residual.result v state c.widen_head.new.state (search rules) (search rules) (refuses_all c.from_residual.result (EntersOutside v.program v.slot state) outside)
+    told_on c.from_residual.result c.in_err-widen_head-in-Some.field-0.0 (IsHeadFault v state c.widen_head.new.state) (search rules)
+    (record { slot = search rules; code = search rules; outside = outside; as_it_came = search rules })

@@ -1,14 +1,13 @@
-use Rattle.std.proofs.Common.{rules, ◌≡◌, ◌<◌, ℕ, Option, length, ◌∙◌, arith, refl}
+use Rattle.std.proofs.Common.{rules, ◌≡◌, ◌<◌, length, ◌∙◌, arith, refl}
 use Rattle.std.proofs.Math.ListN.{length-set}
 use Rattle.machine.specs.Step.{insn_at}
 use Rattle.bver_form.specs.Lowered.{IsMore, IsSettled}
 use Rattle.bver_pass.specs.Leading.{IsLeastVisitIfAny, IsVisitFaultIfAny}
-use Rattle.absdom.specs.State.{IsWhole, StateValue}
-use Rattle.bver_pass.specs.Heads.{HasLowered}
+use Rattle.absdom.specs.State.{IsWhole}
 use Rattle.bver_pass.specs.Table.{knowledge_in}
-use Rattle.bver_pass.specs.Unjustified.{Justifies}
 use Rattle.bver_pass.specs.Visit.{IsVisit, VisitValue, visited_state}
-use Rattle.bver.proofs.Completing.{Rules, complete_next, complete_none, complete_refuted, refuses_all}
+use Rattle.bver.specs.Told.{HasToLower, TellsKnown}
+use Rattle.bver.proofs.Completing.{Rules, complete_next, complete_none, complete_told, told_on}
 use Rattle.bver.proofs.Passing.{passing_none, passing_plain, passing_slot, visit_at, visit_of, visited_program}
 use Rattle.bver.proofs.Visiting.{judged}
 use Rattle.bver.proofs.passes.pass.Goals as goal
@@ -25,7 +24,7 @@ loop-slot-init c =
       c.requires.table,
       omega arith,
       c.requires.regions,
-      complete_none c.args.image.now c.args.maps.now c.args.lowered.now c.args.table.now c.set_to.new.self c.requires.entered.entered c.requires.least,
+      complete_none c.args.image.now c.args.lowered.now c.args.table.now c.set_to.new.self c.requires.entered.entered c.requires.least,
     )
 
 pub loop-slot-preserved : goal.loop-slot-preserved
@@ -71,23 +70,24 @@ returns-clause-judged c =
     λ settled.
     judged p c.args.maps.now h.known c.loop-slot.regions.items c.slots-slot-end.ensures.program c.requires.formed c.loop-slot.invariant.3 (rw last at h.visited) (rw last at (h.permitted settled))
 
-pub returns-in_err-region-clause-refuted : goal.returns-in_err-region-clause-refuted
-returns-in_err-region-clause-refuted c =
+pub returns-in_err-region-clause-told : goal.returns-in_err-region-clause-told
+returns-in_err-region-clause-told c =
     let p = c.args.image.now in
     let maps = c.args.maps.now in
     let slot = c.loop-slot.slot in
     let old = c.loop-slot.table in
     let was = c.loop-slot.runs in
     let state = c.loop-slot.state in
+    let left = c.visit_slot.new.state in
+    let refused = c.in_err-region.field-0.0 in
     let v : VisitValue = c.new-visit.result in
     let laws : Rules = record { reflexive = c.order_of_states.ensures.reflexive; transitive = c.order_of_states.ensures.transitive; applies = c.apply_grows.ensures; refines = c.refine_grows.ensures; calls = c.after_call_grows.ensures; apply_leaves = c.apply_leaves.ensures.apply; call_leaves = c.apply_leaves.ensures.call; shrinks = c.refine_shrinks.ensures; entered = c.loops_are_counted.ensures.entered } in
-    let fault : IsVisitFaultIfAny v c.loop-slot.lowered (knowledge_in old) (visited_state was state old v.slot) (insn_at v.program v.slot) = c.in_err-region.ensures.fault in
+    let fault : IsVisitFaultIfAny v c.loop-slot.lowered (knowledge_in old) (visited_state was state old v.slot) (insn_at v.program v.slot) left refused = c.in_err-region.ensures.fault in
     let same = visit_of v p maps slot c.new-visit.ensures.program c.new-visit.ensures.maps c.new-visit.ensures.slot in
-    refuses_all c.from_residual.result ((above : ℕ → Option StateValue) → Justifies p maps above → HasLowered p c.args.lowered.now above → ⊥)
-    (λ above justified low.
-    complete_refuted laws v p maps slot c.args.lowered.now c.loop-slot.lowered old was state above same c.requires.formed
+    told_on c.from_residual.result refused (λ refused. HasToLower p c.args.lowered.now → TellsKnown p maps left refused) (search rules)
+    (complete_told laws v p maps slot c.args.lowered.now c.loop-slot.lowered old was state left refused same c.requires.formed
     (passing_plain p maps old was state c.loop-slot.regions.items (IsSettled c.args.lowered.now c.loop-slot.lowered) slot c.slots-slot-end.ensures.program c.loop-slot.invariant.0)
-    c.loop-slot.invariant.0.state_whole c.loop-slot.invariant.0.whole fault c.loop-slot.invariant.4 justified low)
+    c.loop-slot.invariant.0.state_whole c.loop-slot.invariant.0.whole fault c.loop-slot.invariant.4)
 
 pub returns-clause-lowers : goal.returns-clause-lowers
-returns-clause-lowers c = λ above justified low. (c.loop-slot.invariant.4.below above justified low).1
+returns-clause-lowers c = λ low comes stands closed. (c.loop-slot.invariant.4.below comes stands closed (low comes stands closed)).1

@@ -9,4 +9,4 @@ abbrev pub invariant-loop-slot : goal.invariant-loop-slot
 invariant-loop-slot l =
     IsPassing l.image l.maps l.table l.runs l.state l.regions.items (IsSettled l.fn.lowered l.lowered) l.slot
     × (l.table.program ≡ l.image) × IsMore l.fn.lowered l.lowered × (length l.regions.items ≡ length l.image.slots)
-    × IsCompleting l.image l.maps l.fn.lowered l.lowered l.table l.runs l.state l.slot
+    × IsCompleting l.image l.fn.lowered l.lowered l.table l.runs l.state l.slot

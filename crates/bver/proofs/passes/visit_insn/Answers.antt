@@ -72,6 +72,8 @@ returns-in_err-goes_on-clause-fault c =
     let known : visited_state was before mid v.slot ≡ Some here = search rules in
     let widened : IsWidenedIfAny v.program c.args.lowered.now v.slot (visited_state was before old v.slot) (visited_state was before mid v.slot) = search rules in
     let extended : IsExtended v.slot old mid = search rules in
-    let fault : IsFlowFault v c.args.lowered.now (knowledge_in mid) here insn = search rules in
-    let told : c.from_residual-in_err-goes_on.result ≡ Err c.in_err-goes_on.field-0.0 = search rules in
-    rw told (leads_fault v c.args.lowered.now old mid was before here insn known c.stands_whole.ensures widened extended fault)
+    let refused = c.in_err-goes_on.field-0.0 in
+    let fault : IsFlowFault v c.args.lowered.now (knowledge_in mid) here insn refused = search rules in
+    let kept : c.flow.new.state ≡ here = search rules in
+    let told : c.from_residual-in_err-goes_on.result ≡ Err refused = search rules in
+    rw (told, kept) (leads_fault v c.args.lowered.now old mid was before here insn refused known c.stands_whole.ensures widened extended fault)

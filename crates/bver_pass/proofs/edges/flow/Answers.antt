@@ -4,7 +4,7 @@ use Rattle.bpf_insn.specs.Flow.{flow_of}
 use Rattle.absdom_stack.specs.Spill.{spill_of}
 use Rattle.bver_pass.specs.Table.{knowledge_in}
 use Rattle.bver_pass.proofs.Straight.{straight_fault, straight_least}
-use Rattle.bver_pass.proofs.Telling.{compared_told, refuted_told, straight_told}
+use Rattle.bver_pass.proofs.Telling.{compared_fault, refuted_fault}
 use Rattle.bver_pass.proofs.edges.flow.Goals as goal
 
 pub returns-in_ok-check_map-in-LoadMap-clause-least :
@@ -23,31 +23,23 @@ returns-in-Alu-clause-least c =
 pub returns-in-Alu-clause-fault : goal.returns-in-Alu-clause-fault
 returns-in-Alu-clause-fault c =
     let goes : flow_of c.args.insn.now ≡ GoesOn = search rules in
-    let v = c.args.visit.now in
-    straight_fault c.straight-in-Alu.result v c.args.lowered.now (knowledge_in c.args.table.now) c.args.state.now c.args.insn.now goes c.straight-in-Alu.ensures.refuted
-
-pub returns-in-Alu-clause-told : goal.returns-in-Alu-clause-told
-returns-in-Alu-clause-told c =
-    let goes : flow_of c.args.insn.now ≡ GoesOn = search rules in
     let r = c.straight-in-Alu in
-    straight_told r.result c.args.visit.now c.args.state.now r.new.state c.args.insn.now goes c.requires.begins r.ensures.slot r.ensures.kept r.ensures.refuted
+    straight_fault r.result c.args.visit.now c.args.lowered.now (knowledge_in c.args.table.now) c.args.state.now c.args.insn.now goes r.ensures.slot r.ensures.fault
 
-pub returns-in-Jump-clause-told : goal.returns-in-Jump-clause-told
-returns-in-Jump-clause-told c =
+pub returns-in-Jump-clause-fault : goal.returns-in-Jump-clause-fault
+returns-in-Jump-clause-fault c =
     let r = c.compare in
-    compared_told r.result c.args.visit.now c.args.state.now r.new.state c.in-Jump.comparison c.in-Jump.offset (search rules) r.ensures.kept r.ensures.told
+    rw c.in-Jump.is (compared_fault r.result c.args.visit.now c.args.lowered.now (knowledge_in c.args.table.now) c.args.state.now c.in-Jump.comparison c.in-Jump.offset r.ensures.fault)
 
-pub returns-in-Helper-clause-told : goal.returns-in-Helper-clause-told
-returns-in-Helper-clause-told c =
+pub returns-in-Helper-clause-fault : goal.returns-in-Helper-clause-fault
+returns-in-Helper-clause-fault c =
     let r = c.call in
-    refuted_told r.result c.args.visit.now c.args.state.now r.new.state c.args.insn.now c.requires.begins r.ensures.slot r.ensures.kept (search rules)
+    refuted_fault r.result c.args.visit.now c.args.lowered.now (knowledge_in c.args.table.now) c.args.state.now c.args.insn.now r.ensures.slot (search rules) (search rules)
 
-pub returns-in_err-check_map-in-LoadMap-clause-told : goal.returns-in_err-check_map-in-LoadMap-clause-told
-returns-in_err-check_map-in-LoadMap-clause-told c =
-    let a = c.args.state.now in
-    refuted_told c.from_residual.result c.args.visit.now a a c.args.insn.now c.requires.begins (search rules) (search rules) (search rules)
+pub returns-in_err-check_map-in-LoadMap-clause-fault : goal.returns-in_err-check_map-in-LoadMap-clause-fault
+returns-in_err-check_map-in-LoadMap-clause-fault c =
+    refuted_fault c.from_residual.result c.args.visit.now c.args.lowered.now (knowledge_in c.args.table.now) c.args.state.now c.args.insn.now (search rules) (search rules) (search rules)
 
-pub returns-in_err-check_answer-in-Exit-clause-told : goal.returns-in_err-check_answer-in-Exit-clause-told
-returns-in_err-check_answer-in-Exit-clause-told c =
-    let a = c.args.state.now in
-    refuted_told c.from_residual-in_err-check_answer-in-Exit.result c.args.visit.now a a c.args.insn.now c.requires.begins (search rules) (search rules) (search rules)
+pub returns-in_err-check_answer-in-Exit-clause-fault : goal.returns-in_err-check_answer-in-Exit-clause-fault
+returns-in_err-check_answer-in-Exit-clause-fault c =
+    refuted_fault c.from_residual-in_err-check_answer-in-Exit.result c.args.visit.now c.args.lowered.now (knowledge_in c.args.table.now) c.args.state.now c.args.insn.now (search rules) (search rules) (search rules)

@@ -1,7 +1,6 @@
 use Rattle.std.proofs.Common.{rules, ◌≡◌, ◌+◌, ◌≤◌, Some}
 use Rattle.bver_form.specs.Jumps.{first_slot, target}
 use Rattle.bver_pass.proofs.Landing.{least_landing}
-use Rattle.bver_pass.proofs.Telling.{closing_in}
 use Rattle.bver_pass.proofs.Extending.{changed_at}
 use Rattle.bver_pass.proofs.edges.jump.Goals as goal
 
@@ -18,9 +17,3 @@ returns-then-landing-slot-clause-least c =
     let landing = c.in-Some.landing in
     let lands : first_slot v.program (target v.slot c.args.distance) ≡ Some landing = search rules in
     least_landing v.program (target v.slot c.args.distance) landing c.args.table.now c.follow.new.self c.args.state.now lands c.follow.ensures.least c.follow.ensures.others
-
-pub returns-clause-closing : goal.returns-clause-closing
-returns-clause-closing c =
-    let v = c.args.visit.now in
-    let b = c.in-Some-closed.body in
-    closing_in c.close.result b.program v.program b.declared b.place (search rules) (search rules) c.close.ensures.refused
