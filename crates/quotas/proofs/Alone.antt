@@ -1,7 +1,7 @@
 -- A quota of N matches at most N commands of a node of one thread: the matching draw of each is told how many tickets of
 -- the cell were drawn before it, which is below N.
 use Rattle.std.specs.Prelude.{◌==◌, ◌&&◌, IsTrue, if◌then◌else◌}
-use Rattle.std.proofs.Common.{◌≡◌, ◌<◌, ◌≤◌, ◌+◌, ◌^◌, ◌⊎◌, ℕ, Bool, true, false, List, [], ◌∷◌, ◌++◌, length, refl, sym, ap, ap₂, subst, ◌∙◌, arith, inl, inr, length-append}
+use Rattle.std.proofs.Common.{◌≡◌, ◌<◌, ◌≤◌, ◌+◌, ◌^◌, ℕ, Bool, true, false, List, [], ◌∷◌, ◌++◌, length, refl, ap, ap₂, subst, ◌∙◌, arith, inl, inr, length-append}
 use Rattle.std.proofs.lemmas.Bool.{and_from, eq-eqb}
 use Rattle.bank.specs.Records.{JudgedValue}
 use Rattle.bver.specs.Justified.{AcceptedValue}
@@ -12,20 +12,20 @@ use Rattle.machine.specs.declared.kinds.MapKind.{MapKind}
 use Rattle.machine.specs.declared.kinds.MapKind.TheVariants.{Counter, Peak}
 use Rattle.machine.specs.declared.helpers.Helper.TheVariants as helpers
 use Rattle.node_programs.specs.declared.publishes.Publish.{Publish}
-use Rattle.node_programs.specs.Histories.{entry, longer_history}
+use Rattle.node_programs.specs.Histories.{entry}
 use Rattle.node_programs.specs.Published.{sizes_of}
 use Rattle.node_parts.specs.Passes.{PassValue}
-use Rattle.node_parts.specs.Served.{IsAnswered, PartsValue}
+use Rattle.node_parts.specs.Served.{IsAnswered, PartsValue, parts}
 use Rattle.node_parts.specs.Steps.{IsJudgement}
 use Rattle.node_parts.specs.declared.config.NodeConfig.{NodeConfig}
 use Rattle.node_parts.specs.declared.served.Served.{Served}
 use Rattle.node_parts.specs.declared.served.Served.TheVariants.{Stopped, Unread, Done, Window}
-use Rattle.plain_cells.specs.Words.{AreCallsOn, AreCells, CallsKeepCells, IsOfCell, TicketsAreCounted, is_draw, tickets_in, told_by_words, word_at, words_behind, zero_words, ZerosAreCells}
-use Rattle.quotas.specs.Alone.{AreMatches, Deed, IsMatch, IsMatchBy, IsMatchOf, QuotasHoldAlone, Way, calls_by, calls_of, rotates, serves, sets, start, then, tickets_on}
+use Rattle.plain_cells.specs.Words.{AreCallsOn, AreCells, CallsKeepCells, IsOfCell, TicketsAreCounted, is_draw, tickets_in, told_by_words, word_at, words_behind, ZerosAreCells}
+use Rattle.quotas.specs.Alone.{AreMatches, Deed, IsMatch, IsMatchBy, IsMatchOf, QuotasHoldAlone, Way, calls_by, calls_of, further, here, rotates, serves, sets, tickets_on}
 use Rattle.quotas.proofs.Deciding.{ends_in_draw}
 use Rattle.sched.specs.Looking.{header_in}
 use Rattle.single_node.specs.Nodes.{IsFresh, SingleNodeValue}
-use Rattle.single_node.specs.Serving.{AreKeptOrLonger, AsksCells, Serves}
+use Rattle.single_node.specs.Serving.{AreKeptOrLonger, AsksCells}
 use Rattle.spw.specs.Cargo.{Cargo}
 
 -- ---- the last call of a match
@@ -52,15 +52,16 @@ ends_low map key limit {p = p} judgement m =
       below = omega (arith, l.below, e.of_limit, m.small);
     }
 
-ends_by : (map key limit : ℕ) (served : Served) {p : Cargo} {old new : PartsValue} {h after : PassValue} {reply : List ℕ} (answered : IsAnswered served p old new h after reply)
-    → IsMatchBy map key limit served answered → EndsLow (calls_by served answered) map key limit
-ends_by map key limit (Stopped stop) answered m = absurd m
-ends_by map key limit Unread answered m = absurd m
-ends_by map key limit (Done result) answered m = ends_low map key limit answered.judgement m
-ends_by map key limit (Window status) answered m = ends_low map key limit answered.judgement m
+ends_by : (map key limit : ℕ) (served : Served) (p : Cargo) (old new : PartsValue) (h after : PassValue) (reply : List ℕ) (answered : IsAnswered served p old new h after reply)
+    → IsMatchBy map key limit served p old new h after reply answered → EndsLow (calls_by served p old new h after reply answered) map key limit
+ends_by map key limit (Stopped stop) p old new h after reply answered m = absurd m
+ends_by map key limit Unread p old new h after reply answered m = absurd m
+ends_by map key limit (Done result) p old new h after reply answered m = ends_low map key limit answered.judgement m
+ends_by map key limit (Window status) p old new h after reply answered m = ends_low map key limit answered.judgement m
 
 ends_of : (map key limit : ℕ) {before after : SingleNodeValue} (deed : Deed before after) → IsMatchOf map key limit deed → EndsLow (calls_of deed) map key limit
-ends_of map key limit (serves served port packet reply s) m = ends_by map key limit served s.answered m
+ends_of map key limit {before} {after} (serves served port packet reply s) m =
+    ends_by map key limit served packet (parts before.banks before.programs) (parts after.banks after.programs) s.holder s.left reply s.answered m
 ends_of map key limit (rotates number fresh old s) m = absurd m
 ends_of map key limit (sets number address bytes fresh old s) m = absurd m
 
@@ -87,8 +88,8 @@ one_ticket true rest n is = omega (arith, is)
 one_ticket false rest n is = is
 
 drawn_last : (before : List Call) (map key answer : ℕ) → tickets_in (before ++ drawn map key answer ∷ []) map key ≡ tickets_in before map key + 1
-drawn_last [] map key answer = ap (λ (t : Bool). if t then 0 + 1 else 0) (is_own map key)
-drawn_last (b ∷ bs) map key answer = one_ticket (is_draw b.question map key) _ (tickets_in bs map key) (drawn_last bs map key answer)
+drawn_last [] map key answer = ap (λ (t : Bool). if t then tickets_in [] map key + 1 else tickets_in [] map key) (is_own map key)
+drawn_last (b ∷ bs) map key answer = one_ticket (is_draw b.question map key) (tickets_in (bs ++ drawn map key answer ∷ []) map key) (tickets_in bs map key) (drawn_last bs map key answer)
 
 counter_is : (kind : MapKind) → IsTrue (takes_kind helpers.Ticket kind) → kind ≡ Counter
 counter_is Counter takes = refl
@@ -108,12 +109,12 @@ told_last law sizes words behind calls map key limit word cells on stands few en
 
 -- ---- a node on its way
 
-calls_on : (sizes : Maps) (served : Served) {p : Cargo} {old new : PartsValue} {h after : PassValue} {reply : List ℕ} (answered : IsAnswered served p old new h after reply) (words behind : List (List ℕ))
-    → AsksCells sizes served p old new h after reply answered words behind → AreCallsOn sizes words (calls_by served answered) behind
-calls_on sizes (Stopped stop) answered words behind is = is
-calls_on sizes Unread answered words behind is = absurd is
-calls_on sizes (Done result) answered words behind is = is
-calls_on sizes (Window status) answered words behind is = is
+calls_on : (sizes : Maps) (served : Served) (p : Cargo) (old new : PartsValue) (h after : PassValue) (reply : List ℕ) (answered : IsAnswered served p old new h after reply) (words behind : List (List ℕ))
+    → AsksCells sizes served p old new h after reply answered words behind → AreCallsOn sizes words (calls_by served p old new h after reply answered) behind
+calls_on sizes (Stopped stop) p old new h after reply answered words behind is = is
+calls_on sizes Unread p old new h after reply answered words behind is = absurd is
+calls_on sizes (Done result) p old new h after reply answered words behind is = is
+calls_on sizes (Window status) p old new h after reply answered words behind is = is
 
 sizes_stay : (xs more : List Publish) → 0 < length xs → sizes_of (xs ++ more) ≡ sizes_of xs
 sizes_stay [] more some = absurd (omega arith)
@@ -132,12 +133,12 @@ longer before after calls served on is some = elim is.longer [
   | inr more ↦ record {
     on = on;
     sizes = ap sizes_of more.2 ∙ sizes_stay before.programs _ some;
-    some = omega (arith, ap length more.2, length-append before.programs (entry more.0 more.1 ∷ []), some);
+    some = omega (arith, ap (λ (l : List Publish). length l) more.2, length-append before.programs (entry more.0 more.1 ∷ []), some);
   }
 ]
 
 goes_on : {before after : SingleNodeValue} (deed : Deed before after) → 0 < length before.programs → GoesOn before after (calls_of deed)
-goes_on {before} {after} (serves served port packet reply s) some = longer before after _ served (calls_on (sizes_of before.programs) served s.answered before.words after.words s.cells) s.programs some
+goes_on {before} {after} (serves served port packet reply s) some = longer before after _ served (calls_on (sizes_of before.programs) served packet (parts before.banks before.programs) (parts after.banks after.programs) s.holder s.left reply s.answered before.words after.words s.cells) s.programs some
 goes_on {before} {after} (rotates number fresh old s) some = record {
   on = ap (λ (n : SingleNodeValue). n.words) s.rotated;
   sizes = ap (λ (n : SingleNodeValue). sizes_of n.programs) s.rotated;
@@ -149,6 +150,10 @@ goes_on {before} {after} (sets number address bytes fresh old s) some = record {
   some = omega (arith, ap (λ (n : SingleNodeValue). length n.programs) s.set, some);
 }
 
+-- the same with the maps by another name
+on_maps : (sizes : Maps) {before after : SingleNodeValue} (deed : Deed before after) → sizes_of before.programs ≡ sizes → GoesOn before after (calls_of deed) → AreCallsOn sizes before.words (calls_of deed) after.words
+on_maps sizes {before} {after} deed same goes = subst (λ (s : Maps). AreCallsOn s before.words (calls_of deed) after.words) same goes.on
+
 -- what stands behind a way of a fresh node: the word of a counter is how many tickets of it were drawn
 record Stands (sizes : Maps) (map key : ℕ) {first last : SingleNodeValue} (way : Way first last) : Type 0 where
   sizes_are : sizes_of last.programs ≡ sizes
@@ -158,7 +163,7 @@ record Stands (sizes : Maps) (map key : ℕ) {first last : SingleNodeValue} (way
 
 module _ (counted : TicketsAreCounted) (keep : CallsKeepCells) (zeros : ZerosAreCells) (config : NodeConfig) (factory : AcceptedValue) (first : SingleNodeValue) (fresh : IsFresh config factory first) (map key : ℕ) where
   stands : {last : SingleNodeValue} (way : Way first last) → Stands factory.sizes map key way
-  stands start =
+  stands here =
       let words = ap (λ (n : SingleNodeValue). n.words) fresh in
       record {
         sizes_are = ap (λ (n : SingleNodeValue). sizes_of n.programs) fresh;
@@ -166,10 +171,10 @@ module _ (counted : TicketsAreCounted) (keep : CallsKeepCells) (zeros : ZerosAre
         cells = rw words (zeros factory.sizes).0;
         word = λ counter few. ap (λ (w : List (List ℕ)). word_at w map key) words ∙ (zeros factory.sizes).1 map key;
       }
-  stands (then way deed) =
+  stands (further way deed) =
       let was = stands way in
       let goes = goes_on deed was.some in
-      let on = subst (λ (s : Maps). AreCallsOn s _ (calls_of deed) _) was.sizes_are goes.on in
+      let on = on_maps factory.sizes deed was.sizes_are goes in
       record {
         sizes_are = goes.sizes ∙ was.sizes_are;
         some = goes.some;
@@ -180,8 +185,8 @@ module _ (counted : TicketsAreCounted) (keep : CallsKeepCells) (zeros : ZerosAre
       }
 
   holds : (limit : ℕ) {last : SingleNodeValue} (way : Way first last) (count : ℕ) → tickets_on way map key < 2 ^ 64 → AreMatches map key limit way count → (count ≤ tickets_on way map key) × (count ≤ limit)
-  holds limit start count few none = (omega (arith, none), omega (arith, none))
-  holds limit (then way deed) count few matches =
+  holds limit here count few none = (omega (arith, none), omega (arith, none))
+  holds limit (further way deed) count few matches =
       let less : tickets_on way map key < 2 ^ 64 = omega (arith, few) in
       elim matches [
         | inl others ↦ let rest = holds limit way count less others in (omega (arith, rest.0), rest.1)
@@ -189,7 +194,7 @@ module _ (counted : TicketsAreCounted) (keep : CallsKeepCells) (zeros : ZerosAre
             let rest = holds limit way one.0 less one.2 in
             let was = stands way in
             let goes = goes_on deed was.some in
-            let on = subst (λ (s : Maps). AreCallsOn s _ (calls_of deed) _) was.sizes_are goes.on in
+            let on = on_maps factory.sizes deed was.sizes_are goes in
             let low = told_last counted factory.sizes _ _ (calls_of deed) map key limit (tickets_on way map key) was.cells on (λ counter. was.word counter less) few (ends_of map key limit deed one.3) in
             (omega (arith, one.1, rest.0, low.0), omega (arith, one.1, rest.0, low.0, low.1))
       ]

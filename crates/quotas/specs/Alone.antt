@@ -4,7 +4,7 @@ use Rattle.bank.specs.Records.{JournalValue, JudgedValue}
 use Rattle.bver.specs.Justified.{AcceptedValue}
 use Rattle.machine.specs.declared.calls.Call.{Call}
 use Rattle.node_parts.specs.Passes.{PassValue}
-use Rattle.node_parts.specs.Served.{IsAnswered, PartsValue}
+use Rattle.node_parts.specs.Served.{IsAnswered, PartsValue, parts}
 use Rattle.node_parts.specs.Steps.{IsJudgement}
 use Rattle.node_parts.specs.declared.config.NodeConfig.{NodeConfig}
 use Rattle.node_parts.specs.declared.served.Served.{Served}
@@ -31,29 +31,31 @@ pub data Deed : (before after : SingleNodeValue) → Type 0 where
 
 -- the calls that led from one node to another, in order
 pub data Way (first : SingleNodeValue) : SingleNodeValue → Type 0 where
-  start : Way first first
-  then : {between last : SingleNodeValue} → Way first between → Deed between last → Way first last
+  here : Way first first
+  further : {between last : SingleNodeValue} → Way first between → Deed between last → Way first last
 
 -- ---- tickets
 
 -- the helper calls of the run that judged, if a program judged
-abbrev pub calls_by : (served : Served) {p : Cargo} {old new : PartsValue} {h after : PassValue} {reply : List ℕ}
+abbrev pub calls_by : (served : Served) (p : Cargo) (old new : PartsValue) (h after : PassValue) (reply : List ℕ)
     → IsAnswered served p old new h after reply → List Call
-calls_by (Stopped stop) answered = []
-calls_by Unread answered = []
-calls_by (Done result) answered = answered.judgement.calls
-calls_by (Window status) answered = answered.judgement.calls
+calls_by (Stopped stop) p old new h after reply answered = []
+calls_by Unread p old new h after reply answered = []
+calls_by (Done result) p old new h after reply answered = answered.judgement.calls
+calls_by (Window status) p old new h after reply answered = answered.judgement.calls
 
 -- the helper calls of the run of a call, if it has one
 abbrev pub calls_of : {before after : SingleNodeValue} → Deed before after → List Call
-calls_of (serves served port packet reply s) = calls_by served s.answered
+calls_of {before} {after} (serves served port packet reply s) =
+    calls_by served packet (parts before.banks before.programs) (parts after.banks after.programs) s.holder s.left reply
+    s.answered
 calls_of (rotates number fresh old s) = []
 calls_of (sets number address bytes fresh old s) = []
 
 -- how many tickets of the cell were drawn on the way
 abbrev pub tickets_on : {first last : SingleNodeValue} → Way first last → (map key : ℕ) → ℕ
-tickets_on start map key = 0
-tickets_on (then way deed) map key = tickets_on way map key + tickets_in (calls_of deed) map key
+tickets_on here map key = 0
+tickets_on (further way deed) map key = tickets_on way map key + tickets_in (calls_of deed) map key
 
 -- ---- matches
 
@@ -68,23 +70,25 @@ pub record IsMatch (map key limit : ℕ) {h after : PassValue} {p : Cargo} {j : 
   pub match : EndsByMatch rules (header_in p) judgement.calls map key own_limit
 
 -- the same of what became of a packet
-abbrev pub IsMatchBy : (map key limit : ℕ) (served : Served) {p : Cargo} {old new : PartsValue} {h after : PassValue}
-    {reply : List ℕ} → IsAnswered served p old new h after reply → Type 0
-IsMatchBy map key limit (Stopped stop) answered = ⊥
-IsMatchBy map key limit Unread answered = ⊥
-IsMatchBy map key limit (Done result) answered = IsMatch map key limit answered.judgement
-IsMatchBy map key limit (Window status) answered = IsMatch map key limit answered.judgement
+abbrev pub IsMatchBy : (map key limit : ℕ) (served : Served) (p : Cargo) (old new : PartsValue) (h after : PassValue)
+    (reply : List ℕ) → IsAnswered served p old new h after reply → Type 0
+IsMatchBy map key limit (Stopped stop) p old new h after reply answered = ⊥
+IsMatchBy map key limit Unread p old new h after reply answered = ⊥
+IsMatchBy map key limit (Done result) p old new h after reply answered = IsMatch map key limit answered.judgement
+IsMatchBy map key limit (Window status) p old new h after reply answered = IsMatch map key limit answered.judgement
 
 -- a packet was served whose command a rule on the cell with at most that limit matched
 abbrev pub IsMatchOf : (map key limit : ℕ) {before after : SingleNodeValue} → Deed before after → Type 0
-IsMatchOf map key limit (serves served port packet reply s) = IsMatchBy map key limit served s.answered
+IsMatchOf map key limit {before} {after} (serves served port packet reply s) =
+    IsMatchBy map key limit served packet (parts before.banks before.programs) (parts after.banks after.programs) s.holder
+    s.left reply s.answered
 IsMatchOf map key limit (rotates number fresh old s) = ⊥
 IsMatchOf map key limit (sets number address bytes fresh old s) = ⊥
 
 -- on the way some calls, so many, served packets whose commands such rules matched
 abbrev pub AreMatches : (map key limit : ℕ) {first last : SingleNodeValue} → Way first last → (count : ℕ) → Type 0
-AreMatches map key limit start count = count ≡ 0
-AreMatches map key limit (then way deed) count =
+AreMatches map key limit here count = count ≡ 0
+AreMatches map key limit (further way deed) count =
     AreMatches map key limit way count
     ⊎ ((fewer : ℕ) × (count ≡ fewer + 1) × AreMatches map key limit way fewer × IsMatchOf map key limit deed)
 
