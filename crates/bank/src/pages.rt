@@ -106,7 +106,8 @@ impl Pages {
         requires body { body_line command.now ≡ None }
         requires inside { lies_inside first (length self.old) command.now ≡ true }
         requires range { first + length self.old ≤ 2 ^ 32 }
-        ensures { memory_at first self.new ≡ (effect (memory_at first self.old) command.now).memory }
+        ensures { memory_at first self.new
+            ≡ (effect (memory_at first self.old) command.now).memory }
     {
         let k = (command.address() - first) as usize / PAGE;
         let address = first + (k * PAGE) as u32;
@@ -157,7 +158,8 @@ fn zero_pages(alloc: Global, size: usize) -> Result<Vec<Vec<u8>>, AllocError>
 
 /// So many full pages of zeros.
 fn full_pages(alloc: Global, count: usize) -> Result<Vec<Vec<u8>>, AllocError>
-    ensures { IfOk result (λ pages. map vec_items pages.items ≡ replicate count (replicate PAGE 0)) }
+    ensures { IfOk result (λ pages. map vec_items pages.items
+        ≡ replicate count (replicate PAGE 0)) }
 {
     let mut pages = Vec::new(alloc);
     for _ in 0..count {
@@ -175,7 +177,8 @@ fn zero_page(alloc: Global, count: usize) -> Result<Vec<u8>, AllocError>
 
 /// Takes the bytes of others, page by page.
 fn copy_pages(pages: &mut Vec<Vec<u8>>, others: &Vec<Vec<u8>>)
-    requires { map length (map vec_items others.now.items) ≡ map length (map vec_items pages.old.items) }
+    requires { map length (map vec_items others.now.items)
+        ≡ map length (map vec_items pages.old.items) }
     ensures { map vec_items pages.new.items ≡ map vec_items others.now.items }
 {
     let count = others.as_slice().len();
@@ -187,7 +190,8 @@ fn copy_pages(pages: &mut Vec<Vec<u8>>, others: &Vec<Vec<u8>>)
 /// Takes the bytes of page k of others.
 fn copy_page(pages: &mut Vec<Vec<u8>>, others: &Vec<Vec<u8>>, k: usize)
     requires below { k < length pages.old.items }
-    requires alike { map length (map vec_items others.now.items) ≡ map length (map vec_items pages.old.items) }
+    requires alike { map length (map vec_items others.now.items)
+        ≡ map length (map vec_items pages.old.items) }
     ensures { map vec_items pages.new.items
         ≡ slice_set (map vec_items pages.old.items) k (slice_index_or (map vec_items others.now.items) k []) }
 {

@@ -32,7 +32,8 @@ pub trait Counters {
     /// The map and the key have to be inside the sizes, which `MapSizes::contains` tests.
     fn count(&mut self, map: u8, key: u16) -> u64
         requires { IsInside (sizes self.old) map key }
-        ensures asked { asked self.new ≡ asked self.old ++ call (question Helper.Count map key 0) result ∷ [] }
+        ensures asked { asked self.new
+            ≡ asked self.old ++ call (question Helper.Count map key 0) result ∷ [] }
         ensures sizes { sizes self.new ≡ sizes self.old }
         ensures home { home self.new ≡ home self.old };
 
@@ -44,7 +45,8 @@ pub trait Counters {
     fn ticket(&mut self, map: u8, key: u16) -> u64
         requires inside { IsInside (sizes self.old) map key }
         requires kind { kind_of_map (sizes self.old) map ≡ MapKind.Counter }
-        ensures asked { asked self.new ≡ asked self.old ++ call (question Helper.Ticket map key 0) result ∷ [] }
+        ensures asked { asked self.new
+            ≡ asked self.old ++ call (question Helper.Ticket map key 0) result ∷ [] }
         ensures sizes { sizes self.new ≡ sizes self.old }
         ensures home { home self.new ≡ home self.old };
 
@@ -56,7 +58,8 @@ pub trait Counters {
     fn peak(&mut self, map: u8, key: u16, value: u64) -> u64
         requires inside { IsInside (sizes self.old) map key }
         requires kind { kind_of_map (sizes self.old) map ≡ MapKind.Peak }
-        ensures asked { asked self.new ≡ asked self.old ++ call (question Helper.Peak map key value) result ∷ [] }
+        ensures asked { asked self.new
+            ≡ asked self.old ++ call (question Helper.Peak map key value) result ∷ [] }
         ensures sizes { sizes self.new ≡ sizes self.old }
         ensures home { home self.new ≡ home self.old };
 }

@@ -153,7 +153,8 @@ fn foreign(found: &ArgMatches, words: &[PacketWord], last: PacketWord) -> Packet
 
 /// The text of a word that has to be there.
 fn text_in<'a>(found: &ArgMatches<'a>, name: &str, word: PacketWord) -> Result<&'a str, PacketFault>
-    ensures ok { IfOk result (λ text. first_of name.now (rows_of (found_of found.now)) ≡ Some text.now) }
+    ensures ok { IfOk result
+        (λ text. first_of name.now (rows_of (found_of found.now)) ≡ Some text.now) }
     ensures err { IfErr result (LacksWord name.now (rows_of (found_of found.now))) }
 {
     match text_of(found, name) {

@@ -15,7 +15,8 @@ fn fields_with<'a>(header: &'a HeaderWords, request: Request) -> CommandFields<'
     requires code { request.code < 16 }
     requires count { request.count < 2 ^ 24 }
     ensures fields { AreFields result }
-    ensures same { (body : _) → command_with result body ≡ command_with (fields_with header.now request) body }
+    ensures same { (body : _) → command_with result body
+        ≡ command_with (fields_with header.now request) body }
 {
     let reply_address = header.reply_address.as_slice();
     let words = (reply_address.len() / 4) as u8;

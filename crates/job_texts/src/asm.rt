@@ -88,7 +88,8 @@ pub fn assemble_file<'a, F: Files, W: Write>(
     files: &mut F,
     out: &mut W,
 ) -> Result<Status, Halt<'a>>
-    ensures done { IfOk result (IsDoneWith (Assembles F.reads F.writes files.old text.now image.now files.new
+    ensures done { IfOk result (IsDoneWith
+        (Assembles F.reads F.writes files.old text.now image.now files.new
         (W.contents out.old) (W.contents out.new))) }
     ensures stops { IfErr result (StopsBy
         (IsNotAssembled F.reads F.writes files.old text.now image.now files.new)) }

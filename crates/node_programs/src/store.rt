@@ -41,10 +41,12 @@ pub trait ProgramStore<K> {
         requires slot { slot ≤ 3 }
         requires sizes { program.sizes ≡ sizes_of (published self.old) }
         requires begins { IsPrefix (known reader.old) (published self.old) }
-        ensures published { OnOk result (published self.new ≡ longer_history (published self.old) slot program) }
+        ensures published { OnOk result
+            (published self.new ≡ longer_history (published self.old) slot program) }
         ensures generation { IfOk result (λ n. n ≡ length (published self.old)) }
         ensures learnt { OnOk result (known reader.new ≡ published self.new) }
-        ensures same { OnErr result ((published self.new ≡ published self.old) × (known reader.new ≡ known reader.old)) }
+        ensures same { OnErr result
+            ((published self.new ≡ published self.old) × (known reader.new ≡ known reader.old)) }
         ensures refused { IfErr result (IsUnpublished (length (published self.old))) }
         ensures fewer { OnOk result (length (published self.old) < 2 ^ 32) };
 }

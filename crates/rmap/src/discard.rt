@@ -21,7 +21,7 @@ Put 01 behind the target's logical address.";
 const REPLY: &str = "\
 Bits 7 and 6 of the instruction are clear, and so the packet is a reply. The types 10 and 11 are reserved:
 such a command is answered with status 2.
-Set bit 6: a write is 60, a read 40, with the bits for verify, reply and increment added.";
+Set bit 6: a write is 60, with the bits for verify, reply and increment added; a read is 48 or 4C.";
 
 const HEADER_CRC: &str = "\
 The last byte of the header is its CRC, over all bytes of the header before it but the path to the target.
