@@ -1,6 +1,7 @@
 -- Lawful histories: each outcome is the one that looking back from its place gives.
 use Rattle.std.specs.Prelude.{◌≡◌, ◌<◌, ◌≤◌, ◌^◌, ℕ, ◌+◌, ◌%◌, max, true, List, [], slice_get, Option, Some, None}
 use Rattle.spw.specs.Cargo.{Cargo}
+use Rattle.rmap.specs.declared.boot.TheConstants.{LOAD_REGISTER}
 use Rattle.rmap.specs.declared.discard.Discard.{Discard}
 use Rattle.rmap.specs.declared.places.Place.{Place}
 use Rattle.rmap.specs.declared.places.Place.TheVariants as places
@@ -99,7 +100,7 @@ staging_answer n h port c verdict = answer (memory_at 0 (staging n h port).bytes
 
 -- what it is answered on the port's load result
 abbrev pub load_result_answer : Node → History → (port : ℕ) → CommandValue → (verdict : ℕ) → Answer
-load_result_answer n h port c verdict = answer (memory_at 0x10000 (staging n h port).load_result) true c verdict
+load_result_answer n h port c verdict = answer (memory_at LOAD_REGISTER (staging n h port).load_result) true c verdict
 
 -- a command that ended with that answer, and no load
 abbrev pub done : Answer → Outcome
