@@ -46,7 +46,8 @@ fn show_all<'a, T: Talk>(alloc: Global, talk: &mut T) -> Result<(), Halt<'a>>
     ensures stops { IfErr result (BreaksShow T.came T.sent T.unsent T.missed talk.old talk.new) }
 {
     for number in 1..usize::MAX {
-        if !show_next(alloc, talk, number)? {
+        let is_given = show_next(alloc, talk, number)?;
+        if !is_given {
             return Ok(());
         }
     }
