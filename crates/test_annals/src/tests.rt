@@ -61,7 +61,7 @@ fn two_ports(rt: HostRuntime) -> Result<(), Fail> {
 }
 
 /// The command of a packet, judged with yes at that port.
-fn judged(packet: Packet, port: u8, reply: &mut ReplyBuf) -> Option<Judged> {
+fn judge_packet(packet: Packet, port: u8, reply: &mut ReplyBuf) -> Option<Judged> {
     let windows = Windows::new(0xFE, &[(BASE, SIZE), (BASE, SIZE)]);
     match admit(packet, &windows, reply) {
         Ok(admitted) => Some(Judged::of(admitted, port, 0, 0)),
@@ -99,7 +99,7 @@ fn send<J: Family>(
     let mut reply = ReplyBuf::new();
     let (_, packet) = read_line(alloc, lines[0]).ok()?;
     let (_, other) = read_line(alloc, lines[1]).ok()?;
-    let one = judged(packet, desk.port, &mut reply)?;
+    let one = judge_packet(packet, desk.port, &mut reply)?;
     let Desk {
         port,
         front,
@@ -115,7 +115,7 @@ fn send<J: Family>(
         one,
         &mut reply,
     )?;
-    let two = judged(other, *port, &mut reply)?;
+    let two = judge_packet(other, *port, &mut reply)?;
     let second = finish(
         rt,
         &banks.second,
@@ -180,18 +180,18 @@ fn fresh(alloc: Global) -> Option<(Bank, Share, Share)>
 }
 
 /// A desk of that port, which knows nothing yet.
-fn desk<J: Family>(
+fn set_up<J: Family>(
     alloc: Global,
     port: u8,
     front: Front<J>,
     first: Share,
     second: Share,
-) -> Option<Desk<J>> {
-    Some(Desk {
+) -> Result<Desk<J>, Fail> {
+    Ok(Desk {
         port,
         front,
         shares: (first, second),
-        spare: SpareBank::new(alloc).ok()?,
+        spare: SpareBank::new(alloc)?,
     })
 }
 
@@ -210,8 +210,8 @@ fn served_by_two<J: Family + Send + Sync, R: Threads + Wait + Abort + Sync>(
         first: Mutex::new(Kept::new(0, first, &mut opened).ok_or("a chain")?),
         second: Mutex::new(Kept::new(1, second, &mut opened).ok_or("another chain")?),
     };
-    let one = desk(alloc, 0, knows_nothing.again(), a, c).ok_or("a desk")?;
-    let other = desk(alloc, 1, knows_nothing, b, d).ok_or("another desk")?;
+    let one = set_up(alloc, 0, knows_nothing.again(), a, c)?;
+    let other = set_up(alloc, 1, knows_nothing, b, d)?;
     let (one, _other) = work_both(rt, alloc, &banks, one, other).ok_or("an entry is missing")?;
     let Pair { first, second } = banks;
     let mut first = first.into_inner();
