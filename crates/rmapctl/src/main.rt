@@ -3,14 +3,8 @@
 #![tactic(auto)]
 
 use commands::{
-<<<<<<< ours
     Cause, HostLink, HostTalk, Job, LiveWords, NodeWords, Status, ToldFiles, UsageFault, Work,
-    WriteFault, help, live, live_frames, perform, show_talk, told_fault, told_misuse, told_option,
-    words,
-=======
-    Cause, HostTalk, Job, NodeWords, Status, ToldFiles, UsageFault, Work, WriteFault, help, live,
-    perform, show_talk, told_misuse, told_option, words,
->>>>>>> theirs
+    WriteFault, help, live, live_frames, perform, show_talk, told_misuse, told_option, words,
 };
 use std::alloc::Global;
 use std::io::{BufReader, BufWriter, IsTerminal, Write};
