@@ -5,6 +5,9 @@ pub mod Witnesses
 pub mod Admitted
 pub mod RuleShapes
 pub mod Telling
+pub mod Celled
 pub mod Walking
 pub mod LineShapes
 pub mod Deciding
+pub mod Meeting
+pub mod Resting

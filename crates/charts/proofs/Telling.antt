@@ -51,7 +51,7 @@ held_same (rule ∷ rules) p q same =
     kept : (t u : Bool) (a b : List Rule) → t ≡ u → a ≡ b → (if t then rule ∷ a else a) ≡ (if u then rule ∷ b else b)
     kept t u a b e f = rw (e, f) refl
 
-course_same : (n : ℕ) (rules : List Rule) (p q : Point) → All (HoldsAlike p q) rules → course_from n rules p ≡ course_from n rules q
+pub course_same : (n : ℕ) (rules : List Rule) (p q : Point) → All (HoldsAlike p q) rules → course_from n rules p ≡ course_from n rules q
 course_same n [] p q same = refl
 course_same n (rule ∷ rules) p q same =
     kept (holds_at rule p) (holds_at rule q) (course_from (suc n) rules p) (course_from (suc n) rules q) (All-head (HoldsAlike p q) rule rules same) (course_same (suc n) rules p q (All-tail (HoldsAlike p q) rule rules same))
@@ -101,6 +101,11 @@ lie_alike (line ∷ lines) p q same =
     All-cons (LieAlike p q) line lines (All-head (AreTestedAlike p q) (lies_in line.region) (map (λ line. lies_in line.region) lines) same)
     (lie_alike lines p q (All-tail (AreTestedAlike p q) (lies_in line.region) (map (λ line. lies_in line.region) lines) same))
 
+-- a point is told where another is at which the rules hold alike
+pub told_alike : (all : Bool) (old new : List Rule) (p q : Point) → All (HoldsAlike p q) old → All (HoldsAlike p q) new → is_told all old new q ≡ is_told all old new p
+told_alike all old new p q olds news =
+    ap (λ (os : List Rule). all || not (alike_said os (held q new))) (sym (held_same old p q olds)) ∙ ap (λ (ns : List Rule). all || not (alike_said (held p old) ns)) (sym (held_same new p q news))
+
 pub told_settled : (all : Bool) (old new : List Rule) (lines : List Line) → IsSettledBy (tests_with old new lines) (λ p. IsToldRightly (is_told all old new p) old new lines p)
 told_settled all old new lines p q _ _ same right =
     let rules : All (AreTestedAlike p q) (tests_of (old ++ new)) = tests_before (tests_of (old ++ new)) (map (λ line. lies_in line.region) lines) p q same in
@@ -108,8 +113,7 @@ told_settled all old new lines p q _ _ same right =
     let news : All (HoldsAlike p q) new = second_of_both old new p q rules in
     let there : lines_of [] lines p ≡ lines_of [] lines q =
     lines_same [] lines p q (All-nil (LieAlike p q)) (lie_alike lines p q (tests_behind (tests_of (old ++ new)) (map (λ line. lies_in line.region) lines) p q same)) in
-    let told : is_told all old new q ≡ is_told all old new p =
-    ap (λ (os : List Rule). all || not (alike_said os (held q new))) (sym (held_same old p q olds)) ∙ ap (λ (ns : List Rule). all || not (alike_said (held p old) ns)) (sym (held_same new p q news)) in
+    let told : is_told all old new q ≡ is_told all old new p = told_alike all old new p q olds news in
     turned (is_told all old new p) (course_same 1 old p q olds) (course_same 1 new p q news) there (subst (λ (t : Bool). IsToldRightly t old new lines q) told right)
   where
     turned : (t : Bool) → course old p ≡ course old q → course new p ≡ course new q → lines_of [] lines p ≡ lines_of [] lines q → IsToldRightly t old new lines q → IsToldRightly t old new lines p

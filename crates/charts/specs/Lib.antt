@@ -5,3 +5,5 @@ pub mod Witness
 pub mod Judged
 pub mod Lines
 pub mod Deciders
+pub mod Meetings
+pub mod Rests

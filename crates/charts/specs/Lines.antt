@@ -5,6 +5,7 @@ use Rattle.policy_table.specs.declared.rules.Rule.{Rule}
 use Rattle.regions.specs.ByteSets.{are_same_bytes}
 use Rattle.regions.specs.Questions.{HoldsAll}
 use Rattle.regions.specs.Regions.{are_same_kinds, lies_in}
+use Rattle.regions.specs.declared.cutting.Cell.{Cell}
 use Rattle.regions.specs.declared.points.Point.{Point}
 use Rattle.regions.specs.declared.regions.Region.{Region}
 use Rattle.charts.specs.Alike.{alike_said, held}
@@ -80,15 +81,23 @@ IsToldRightly false old new lines p = lines_of [] lines p ≡ []
 abbrev pub is_told : (all : Bool) → (old new : List Rule) → Point → Bool
 is_told all old new p = all || not (alike_said (held p old) (held p new))
 
+-- each point that a command has is told rightly
+abbrev pub IsChart : (all : Bool) → (old new : List Rule) → List Line → Type 0
+IsChart all old new lines = HoldsAll (λ p. IsToldRightly (is_told all old new p) old new lines p)
+
 -- each point that a command has lies in one line alone, with the course of the table there
 abbrev pub IsMap : List Rule → List Line → Type 0
-IsMap rules lines = HoldsAll (λ p. IsToldRightly (is_told true rules [] p) rules [] lines p)
+IsMap rules lines = IsChart true rules [] lines
 
 -- each point that a command has, at which two tables decide differently, lies in one line alone, with the courses of both
 -- there, and each other in none
 abbrev pub IsComparison : (old new : List Rule) → List Line → Type 0
-IsComparison old new lines = HoldsAll (λ p. IsToldRightly (is_told false old new p) old new lines p)
+IsComparison old new lines = IsChart false old new lines
 
 -- the tests by which it is settled whether a point is told rightly
 abbrev pub tests_with : (old new : List Rule) → List Line → List (Point → Bool)
 tests_with old new lines = tests_of (old ++ new) ++ map (λ line. lies_in line.region) lines
+
+-- the line of a cell
+abbrev pub line_of : Cell → Line
+line_of cell = record { region = cell.region; rest = false; point = cell.point }

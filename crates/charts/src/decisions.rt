@@ -29,7 +29,7 @@ pub fn agrees(wanted: Option<u8>, byte: u8) -> bool
 }
 
 /// Whether the conditions of a rule hold at a point.
-pub(crate) fn holds_at(rule: &Rule, point: &Point) -> bool
+pub fn holds_at(rule: &Rule, point: &Point) -> bool
     ensures { result ≡ holds_at rule.now point.now }
 {
     has_kind(rule.kind, point.kind)

@@ -1,8 +1,9 @@
 //! Where two policy tables decide alike.
 //!
 //! [`first_difference`] finds a command that two tables decide differently, or shows that there is none. [`is_map`] says of
-//! lines that they tell what a table decides, each command once, and [`is_comparison`] that they tell where two tables differ.
-//! [`never_matches`] says of a rule that it decides on no command.
+//! lines that they tell what a table decides, each command once, and [`is_comparison`] that they tell where two tables differ;
+//! [`map_cells`] and [`comparison_cells`] give lines that do, one for each cell of a search, and [`point_in`] a point of a line.
+//! [`never_matches`] says of a rule that it decides on no command, [`is_asked`] and [`is_stopped_by`] why.
 #![tactic(auto)]
 
 mod comparisons;
@@ -10,11 +11,17 @@ mod decisions;
 mod laws;
 mod lines;
 mod matches;
+mod meetings;
+mod rests;
 mod shapes;
+mod told;
 mod walks;
 
 pub use comparisons::first_difference;
-pub use decisions::alike;
+pub use decisions::{alike, has_kind, holds_at};
 pub use laws::{courses, differences_have_headers, nodes_decide_alike};
 pub use lines::{Line, is_comparison, is_map};
 pub use matches::never_matches;
+pub use meetings::{is_asked, is_stopped_by};
+pub use rests::point_in;
+pub use told::{comparison_cells, map_cells};

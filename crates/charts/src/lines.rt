@@ -22,7 +22,7 @@ pub struct Line {
 }
 
 /// Whether two regions have the same words but for those of addresses.
-fn have_same_words(one: &Region, other: &Region) -> bool
+pub(crate) fn have_same_words(one: &Region, other: &Region) -> bool
     ensures { result ≡ have_same_words one.now other.now }
 {
     one.kinds.is(other.kinds)
@@ -32,13 +32,14 @@ fn have_same_words(one: &Region, other: &Region) -> bool
 
 /// Whether a line has the point, and is told before another with the same words.
 fn takes(other: &Line, line: &Line, point: &Point) -> bool
-    ensures { result ≡ (have_same_words other.now.region line.now.region && lies_in other.now.region point.now) }
+    ensures { result
+        ≡ (have_same_words other.now.region line.now.region && lies_in other.now.region point.now) }
 {
     have_same_words(&other.region, &line.region) && other.region.has(point)
 }
 
 /// Whether a point lies in none of the regions of the lines with the same words.
-fn is_left(before: &[Line], line: &Line, point: &Point) -> bool
+pub(crate) fn is_left(before: &[Line], line: &Line, point: &Point) -> bool
     ensures { result ≡ is_left before.now line.now point.now }
 {
     for other in before {
@@ -66,7 +67,8 @@ struct NextLine {
 /// The first line, from that of a number on, in which a point lies.
 fn next_line(lines: &[Line], from: usize, point: &Point) -> Option<NextLine>
     requires { from ≤ length lines.now }
-    ensures { MatchOption result (lines_of (take from lines.now) (drop from lines.now) point.now ≡ [])
+    ensures { MatchOption result
+        (lines_of (take from lines.now) (drop from lines.now) point.now ≡ [])
         (IsNextLine lines.now from point.now) }
 {
     for number in from..lines.len() {
@@ -106,7 +108,8 @@ fn is_told_rightly(told: bool, old: &[Rule], new: &[Rule], lines: &[Line], point
 impl Question for Chart<'_> {
     ghost tests = { λ q. tests_with q.old.now q.new.now q.lines.now };
 
-    ghost holds = { λ q p. IsToldRightly (is_told q.all q.old.now q.new.now p) q.old.now q.new.now q.lines.now p };
+    ghost holds = { λ q p.
+        IsToldRightly (is_told q.all q.old.now q.new.now p) q.old.now q.new.now q.lines.now p };
 
     ghost fails = { λ q p. Unit {0} };
 

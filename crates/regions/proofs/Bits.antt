@@ -1,9 +1,10 @@
 -- Sets of bytes, a bit for each.
-use Rattle.std.proofs.Common.{◌≡◌, ◌<◌, ◌≤◌, ◌-◌, ◌%◌, ◌^◌, ◌==◌, ◌&&◌, ℕ, zero, suc, min, Bool, true, false, not, refl, ap, sym, ◌∙◌, arith, bit_and}
+use Rattle.std.proofs.Common.{◌≡◌, ◌<◌, ◌≤◌, ◌-◌, ◌%◌, ◌^◌, ◌==◌, ◌&&◌, ◌||◌, ℕ, zero, suc, max, min, Bool, true, false, not, refl, ap, sym, ◌∙◌, arith, bit_and}
 use Rattle.std.specs.Prelude.{nat_lt, if◌then◌else◌}
 use Rattle.std.specs.Int.{bit_at, bit_not, w128}
+use Rattle.std.specs.Int.Bits.{bit_or}
 use Rattle.std.proofs.lemmas.Bool.Decides.{nat_tests}
-use Rattle.std.proofs.lemmas.Nat.Bits.{bit_at-lt, bit_at-pow_other, bit_at-pow_same, bit_at-zero, bit_at_and, bit_at_not, bit_at_ones}
+use Rattle.std.proofs.lemmas.Nat.Bits.{bit_at-lt, bit_at-pow_other, bit_at-pow_same, bit_at-zero, bit_at_and, bit_at_not, bit_at_ones, bit_at_or}
 use Rattle.regions.specs.ByteSets.{half_of, has_bit}
 
 pub place_fits : (byte : ℕ) → byte % 128 < 128
@@ -42,6 +43,25 @@ both al ah bl bh byte = by_half (nat_lt byte 128)
     by_half : (t : Bool) → has_bit (if t then bit_and al bl else bit_and ah bh) (byte % 128) ≡ (has_bit (if t then al else ah) (byte % 128) && has_bit (if t then bl else bh) (byte % 128))
     by_half true = bit_of_both al bl (byte % 128)
     by_half false = bit_of_both ah bh (byte % 128)
+
+bit_of_either : (a b i : ℕ) → has_bit (bit_or a b) i ≡ (has_bit a i || has_bit b i)
+bit_of_either a b i = ap (λ x. x == 1) (bit_at_or a b i) ∙ greatest (bit_at a i) (bit_at b i) (bit_at-lt a i) (bit_at-lt b i)
+  where
+    greatest : (x y : ℕ) → x < 2 → y < 2 → (max x y == 1) ≡ ((x == 1) || (y == 1))
+    greatest zero zero h g = refl
+    greatest zero (suc zero) h g = refl
+    greatest zero (suc (suc y)) h g = absurd (omega arith)
+    greatest (suc zero) zero h g = refl
+    greatest (suc zero) (suc zero) h g = refl
+    greatest (suc (suc x)) y h g = absurd (omega arith)
+    greatest (suc zero) (suc (suc y)) h g = absurd (omega arith)
+
+pub either : (al ah bl bh byte : ℕ) → has_bit (half_of (bit_or al bl) (bit_or ah bh) byte) (byte % 128) ≡ (has_bit (half_of al ah byte) (byte % 128) || has_bit (half_of bl bh byte) (byte % 128))
+either al ah bl bh byte = by_half (nat_lt byte 128)
+  where
+    by_half : (t : Bool) → has_bit (if t then bit_or al bl else bit_or ah bh) (byte % 128) ≡ (has_bit (if t then al else ah) (byte % 128) || has_bit (if t then bl else bh) (byte % 128))
+    by_half true = bit_of_either al bl (byte % 128)
+    by_half false = bit_of_either ah bh (byte % 128)
 
 pub without : (al ah bl bh byte : ℕ) → bl < 2 ^ 128 → bh < 2 ^ 128
     → has_bit (half_of (bit_and al (bit_not w128 bl)) (bit_and ah (bit_not w128 bh)) byte) (byte % 128) ≡ (has_bit (half_of al ah byte) (byte % 128) && not (has_bit (half_of bl bh byte) (byte % 128)))

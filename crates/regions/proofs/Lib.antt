@@ -2,3 +2,4 @@ pub mod Bits
 pub mod Cuts
 pub mod Lying
 pub mod Searching
+pub mod Filling

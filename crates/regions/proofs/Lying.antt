@@ -1,12 +1,13 @@
 -- The conditions of a region, one by one.
-use Rattle.std.proofs.Common.{◌≡◌, ◌≤◌, ◌<◌, ◌&&◌, ℕ, Bool, true, false, refl, arith}
+use Rattle.std.proofs.Common.{◌≡◌, ◌≤◌, ◌<◌, ◌&&◌, ℕ, suc, Bool, true, false, refl, ap, sym, subst, ◌∙◌, arith}
 use Rattle.std.specs.Prelude.{nat_le, nat_lt}
 use Rattle.std.proofs.lemmas.Bool.Decides.{nat_tests}
 use Rattle.regions.specs.ByteSets.{has_byte}
 use Rattle.regions.specs.Points.{HasCommand, lies_on}
-use Rattle.regions.specs.Regions.{IsBare, is_one_of, lies_in}
+use Rattle.regions.specs.Regions.{IsBare, is_one_of, lies_in, meets, meets_last, side_of}
 use Rattle.regions.specs.declared.points.Point.{Point}
 use Rattle.regions.specs.declared.regions.Region.{Region}
+use Rattle.regions.specs.declared.sides.Side.{Side}
 use Rattle.regions.specs.declared.stretches.Stretch.{Stretch}
 
 pub parts : (s t : Bool) → (s && t) ≡ true → (s ≡ true) × (t ≡ true)
@@ -85,3 +86,15 @@ on_back stretch address le lt = joined (nat_le stretch.start address) (nat_lt ad
 
     below : (a b : ℕ) → a < b → nat_lt a b ≡ true
     below a b t = grind (arith, nat_tests)
+
+-- where a condition is met beside those of a region, and then so many more, these are one more
+pub met_more : (region inside result shape : Region) (p : Point) (n left : ℕ) (side : Side) → left ≡ suc n → side ≡ side_of left → lies_in inside p ≡ (lies_in region p && meets side shape p)
+    → lies_in result p ≡ (lies_in inside p && meets_last n shape p) → lies_in result p ≡ (lies_in region p && meets_last left shape p)
+met_more region inside result shape p n left side one own e f =
+    subst (λ (k : ℕ). lies_in result p ≡ (lies_in region p && meets_last k shape p)) (sym one)
+    (f ∙ ap (λ (t : Bool). t && meets_last n shape p) e ∙ grouped (lies_in region p) (meets side shape p) (meets_last n shape p)
+    ∙ ap (λ (s : Side). lies_in region p && (meets s shape p && meets_last n shape p)) (own ∙ ap side_of one))
+  where
+    grouped : (a b c : Bool) → ((a && b) && c) ≡ (a && (b && c))
+    grouped true b c = refl
+    grouped false b c = refl

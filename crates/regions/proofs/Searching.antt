@@ -1,6 +1,6 @@
 -- A region that is cut by the sides of a shape.
 use Rattle.std.proofs.Common.{◌≡◌, ◌<◌, ◌≤◌, ◌+◌, ◌-◌, ◌⊎◌, inl, inr, ◌&&◌, ℕ, zero, suc, Bool, true, false, not, List, length, get_or, refl, sym, subst, ◌∙◌, arith}
-use Rattle.std.specs.Prelude.{MatchOption, Option, Some, None}
+use Rattle.std.specs.Prelude.{MatchOption, Option, Some, None, is_some}
 use Rattle.std.proofs.lemmas.Bool.{cases_lt}
 use Rattle.regions.specs.Points.{HasCommand}
 use Rattle.regions.specs.Questions.{HoldsOn, IsCutBy, IsCutTo, IsSettledBy, IsShapeAt, IsUnderWay, IsUnmixed}
@@ -145,3 +145,20 @@ rank_zero (suc left) e = absurd (omega arith)
 pub rank_some : (left : ℕ) → 0 < left → rank left ≡ left
 rank_some zero h = absurd (omega arith)
 rank_some (suc left) h = refl
+
+-- where a region and a shape have no point of a command together, the test of the shape has one outcome in the region
+pub apart_cut : (tests : List (Point → Bool)) (number : ℕ) (region shape both : Region) → IsShapeAt tests number shape → ((p : Point) → HasCommand p → lies_in both p ≡ (lies_in region p && lies_in shape p)) → IsBare both → IsCutBy tests number region
+    → IsCutBy tests (number + 1) region
+apart_cut tests number region shape both at is bare cut =
+    one_more tests number region cut (λ d p q in_p in_q. constant (get_or tests number d p) (get_or tests number d q) false (failed d p in_p) (failed d q in_q))
+  where
+    outside : (s t : Bool) → s ≡ true → false ≡ (s && t) → t ≡ false
+    outside true t e f = sym f
+    outside false t e f = absurd (cc)
+
+    failed : (d : Point → Bool) (r : Point) → IsIn region r → get_or tests number d r ≡ false
+    failed d r in_r = sym (at.same d r in_r.0) ∙ outside (lies_in region r) (lies_in shape r) in_r.1 (sym (bare r in_r.0) ∙ is r in_r.0)
+
+pub bare_of : (o : Option Point) (P : Type 0) (Q : Point → Type 0) → is_some o ≡ false → MatchOption o P Q → P
+bare_of None P Q none h = h
+bare_of (Some p) P Q none h = absurd (cc)

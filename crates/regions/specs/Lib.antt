@@ -3,3 +3,4 @@ pub mod ByteSets
 pub mod Regions
 pub mod Spans
 pub mod Questions
+pub mod Cells

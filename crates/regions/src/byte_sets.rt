@@ -1,6 +1,6 @@
 //! Sets of bytes.
 
-ghost use Rattle.std.specs.Prelude.{◌≡◌, ◌<◌, ◌==◌, ◌^◌, ◌&&◌, ℕ, MatchOption, false, not, true};
+ghost use Rattle.std.specs.Prelude.{◌≡◌, ◌<◌, ◌==◌, ◌^◌, ◌&&◌, ◌||◌, ℕ, MatchOption, false, not, true};
 ghost use Rattle.regions.specs.ByteSets.{are_same_bytes, has_bit, has_byte};
 
 /// How many bits a half has.
@@ -23,7 +23,8 @@ fn bit(place: u8) -> u128
 
 /// The place of the lowest bit of a half that is set.
 fn lowest(half: u128) -> Option<u8>
-    ensures { MatchOption result ((i : ℕ) → has_bit half i ≡ false) (λ i. (i < HALF) × (has_bit half i ≡ true)) }
+    ensures { MatchOption result ((i : ℕ) → has_bit half i ≡ false)
+        (λ i. (i < HALF) × (has_bit half i ≡ true)) }
 {
     if half == 0 {
         return None;
@@ -75,11 +76,23 @@ impl ByteSet {
 
     /// Those that are in both sets.
     pub fn both(&self, other: &ByteSet) -> ByteSet
-        ensures { (byte : ℕ) → has_byte result byte ≡ (has_byte self.now byte && has_byte other.now byte) }
+        ensures { (byte : ℕ) → has_byte result byte
+            ≡ (has_byte self.now byte && has_byte other.now byte) }
     {
         ByteSet {
             low: self.low & other.low,
             high: self.high & other.high,
+        }
+    }
+
+    /// Those that are in one of the sets.
+    pub fn with(&self, other: &ByteSet) -> ByteSet
+        ensures { (byte : ℕ) → has_byte result byte
+            ≡ (has_byte self.now byte || has_byte other.now byte) }
+    {
+        ByteSet {
+            low: self.low | other.low,
+            high: self.high | other.high,
         }
     }
 

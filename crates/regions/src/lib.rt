@@ -2,10 +2,12 @@
 //!
 //! A [`Point`] is what of a command a rule looks at. A [`Region`] is a product of sets, one a field, which is [cut](Region::cut)
 //! by a side of another and tells one of its [points](Region::witness), if a command has one. [`search`] cuts all commands by the
-//! regions of which a [`Question`] speaks, until one point answers it for all of a region.
+//! regions of which a [`Question`] speaks, until one point answers it for all of a region; [`cells`] gives all regions that are
+//! left then, and at which the answer is no.
 #![tactic(auto)]
 
 mod byte_sets;
+mod cutting;
 mod points;
 mod questions;
 mod regions;
@@ -14,8 +16,9 @@ mod spans;
 mod stretches;
 
 pub use byte_sets::ByteSet;
+pub use cutting::{Cell, cells};
 pub use points::Point;
-pub use questions::{Question, search};
+pub use questions::{Question, search, search_in};
 pub use regions::{Kinds, Region};
 pub use sides::Side;
 pub use stretches::Stretch;

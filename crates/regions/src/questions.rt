@@ -58,6 +58,9 @@ fn search_from<Q: Question>(
                 Some(point)
             };
         };
+        if region.both(&next).witness().is_none() {
+            return search_from(question, region, number + 1, &next, 0);
+        }
         return search_from(question, region, number, &next, SIDES);
     }
     let (inside, outside) = region.cut(shape, side_of(left));
@@ -68,6 +71,16 @@ fn search_from<Q: Question>(
         return search_from(question, &inside, number + 1, shape, 0);
     }
     search_from(question, &inside, number, shape, left - 1)
+}
+
+/// A point that a command has at which the answer is no, or `None` where it is yes at each of a region.
+pub fn search_in<Q: Question>(question: &Q, region: &Region) -> Option<Point>
+    requires few { length (Q.tests question.now) < 2 ^ 64 }
+    requires settled { IsSettledBy (Q.tests question.now) (Q.holds question.now) }
+    ensures { MatchOption result (HoldsOn (Q.holds question.now) region.now)
+        (IsFound (Q.fails question.now)) }
+{
+    search_from(question, region, 0, region, 0)
 }
 
 /// A point that a command has at which the answer is no, or `None` where it is yes at each.

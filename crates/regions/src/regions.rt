@@ -1,14 +1,14 @@
 //! Regions of points.
 
-ghost use Rattle.std.specs.Prelude.{◌≡◌, ◌&&◌, MatchOption, not, true};
+ghost use Rattle.std.specs.Prelude.{◌≡◌, ◌≤◌, ◌&&◌, MatchOption, not, true};
 ghost use Rattle.rmap.specs.declared.kind.Kind.{Kind};
 ghost use Rattle.regions.specs.Points.{HasCommand};
-ghost use Rattle.regions.specs.Regions.{AreCut, IsBare, IsIn, are_same_kinds, is_one_of, is_same, lies_in, meets};
+ghost use Rattle.regions.specs.Regions.{AreCut, IsBare, IsIn, are_same_kinds, is_one_of, is_same, lies_in, meets, meets_last};
 ghost use Rattle.regions.specs.declared.points.Point.{Point};
 
 use crate::byte_sets::ByteSet;
 use crate::points::Point;
-use crate::sides::Side;
+use crate::sides::{SIDES, Side, side_of};
 use crate::spans::reach_of;
 use crate::stretches::Stretch;
 use rmap::Kind;
@@ -54,7 +54,8 @@ impl Kinds {
 
     /// Those that are in both sets.
     fn both(self, other: Kinds) -> Kinds
-        ensures { (kind : Kind) → is_one_of result kind ≡ (is_one_of self kind && is_one_of other kind) }
+        ensures { (kind : Kind) → is_one_of result kind
+            ≡ (is_one_of self kind && is_one_of other kind) }
     {
         Kinds {
             read: self.read && other.read,
@@ -118,7 +119,8 @@ impl Region {
 
     /// The points that meet the condition of a side of another region.
     fn inside(self, shape: &Region, side: Side) -> Region
-        ensures { (p : Point) → HasCommand p → lies_in result p ≡ (lies_in self p && meets side shape.now p) }
+        ensures { (p : Point) → HasCommand p → lies_in result p
+            ≡ (lies_in self p && meets side shape.now p) }
     {
         let mut left = self;
         match side {
@@ -136,7 +138,8 @@ impl Region {
 
     /// The points that do not.
     fn outside(self, shape: &Region, side: Side) -> Region
-        ensures { (p : Point) → HasCommand p → lies_in result p ≡ (lies_in self p && not (meets side shape.now p)) }
+        ensures { (p : Point) → HasCommand p → lies_in result p
+            ≡ (lies_in self p && not (meets side shape.now p)) }
     {
         let mut left = self;
         match side {
@@ -171,6 +174,26 @@ impl Region {
         ensures { AreCut self.now shape.now side result.0 result.1 }
     {
         (self.inside(shape, side), self.outside(shape, side))
+    }
+
+    /// The points that meet the conditions of so many sides of another region, the last ones.
+    fn met(self, shape: &Region, left: u8) -> Region
+        requires { left ≤ SIDES }
+        ensures { (p : Point) → HasCommand p → lies_in result p
+            ≡ (lies_in self p && meets_last left shape.now p) }
+    {
+        if left == 0 {
+            return self;
+        }
+        self.inside(shape, side_of(left)).met(shape, left - 1)
+    }
+
+    /// The points that lie in both regions.
+    pub fn both(&self, other: &Region) -> Region
+        ensures { (p : Point) → HasCommand p → lies_in result p
+            ≡ (lies_in self.now p && lies_in other.now p) }
+    {
+        self.met(other, SIDES)
     }
 
     /// A point of the region that a command has.

@@ -1,10 +1,19 @@
 use Rattle.std.proofs.Common.{◌≡◌, ◌<◌, ◌+◌, ◌-◌, ◌*◌, ℕ, length, subst, arith}
 use Rattle.regions.specs.Questions.{HoldsOn, IsCutTo, IsFound, IsShapeAt}
-use Rattle.regions.proofs.Searching.{begun, last_inside, none_of, on_both, rank, rank_some, rank_zero, step, weaker_of}
+use Rattle.regions.specs.Regions.{IsBare, IsIn}
+use Rattle.regions.proofs.Searching.{apart_cut, bare_of, begun, last_inside, none_of, on_both, rank, rank_some, rank_zero, step, weaker_of}
 use Rattle.regions.proofs.questions.+search_from.Goals as goal
 
 pub search_from-requires : goal.search_from-requires
 search_from-requires g t c κs within =
+    let tests = g.Q.Question.tests c.args.question.now in
+    let at : IsShapeAt (g.Q.Question.tests c.args.question.now) c.args.number c.in-Some-shape.next = c.in-Some-shape.ensures in
+    let bare : IsBare c.both.result = bare_of c.witness-then-left-eq0.result (IsBare c.both.result) (IsIn c.both.result) c.if-is_none.ensures c.witness-then-left-eq0.ensures in
+    let falls : 10 * (length (g.Q.Question.tests c.args.question.now) - (c.args.number + 1)) + 9 < t = omega (arith, c.decreases, rank_zero c.args.left c.if-left-eq0.true, at.there) in
+    (falls, (within, (c.requires.few, (omega arith, (c.requires.settled, (apart_cut tests c.args.number c.args.region.now c.in-Some-shape.next c.both.result at c.both.ensures bare c.requires.cut, λ some. absurd (omega (arith, some))))))))
+
+pub search_from-requires-then-left-eq0 : goal.search_from-requires-then-left-eq0
+search_from-requires-then-left-eq0 g t c κs within =
     let at : IsShapeAt (g.Q.Question.tests c.args.question.now) c.args.number c.in-Some-shape.next = c.in-Some-shape.ensures in
     let falls : 10 * (length (g.Q.Question.tests c.args.question.now) - c.args.number) + 8 < t = omega (arith, c.decreases, rank_zero c.args.left c.if-left-eq0.true, at.there) in
     (falls, (within, (c.requires.few, (omega arith, (c.requires.settled, (c.requires.cut, begun (g.Q.Question.tests c.args.question.now) c.args.number c.in-Some-shape.next c.args.region.now at))))))
