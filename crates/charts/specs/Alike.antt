@@ -42,10 +42,12 @@ same_steps q v p w behind_q behind_p =
     (q.map == p.map && q.cell == p.cell) && ((q.limit == 0 || (p.limit == 0 || v == w))
     && ((nat_le q.limit p.limit || stops_with behind_p v) && (nat_le p.limit q.limit || stops_with behind_q w)))
 
+-- whether a draw with its verdict is the same step as the first of other rules, and what follows is alike
 abbrev pub after_both : (q : Quota) (v : ℕ) (behind : Option ℕ) → (rest : List Rule → Bool) → Option Quota → (w : ℕ) → List Rule → Bool
 after_both q v behind rest None w others = false
 after_both q v behind rest (Some p) w others = same_steps q v p w behind (stop others) && rest others
 
+-- whether a rule that holds, of this quota and verdict, and what is behind it decide as other rules do
 abbrev pub after_first : Option Quota → (v : ℕ) → (behind : Option ℕ) → (rest : List Rule → Bool) → List Rule → Bool
 after_first None v behind rest others = stops_with (stop others) v
 after_first (Some q) v behind rest [] = false

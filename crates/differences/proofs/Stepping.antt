@@ -1,0 +1,59 @@
+-- The rules that are asked at a point, one after another.
+use Rattle.std.proofs.Common.{◌≡◌, ◌<◌, ◌+◌, ℕ, suc, Bool, true, false, List, [], ◌∷◌, ◌++◌, length, get_or, drop, drop-cons, add-one, Option, Some, None, refl, ap, sym, ◌∙◌}
+use Rattle.std.specs.Prelude.{All, if◌then◌else◌, map}
+use Rattle.std.proofs.lemmas.List.Elements.{All-cons, All-head, All-nil, All-tail}
+use Rattle.rmap.specs.Verdict.{verdict_number}
+use Rattle.machine.specs.declared.calls.Call.{Call}
+use Rattle.policy_table.specs.Meaning.{ruled}
+use Rattle.policy_table.specs.declared.rules.Quota.{Quota}
+use Rattle.policy_table.specs.declared.rules.Rule.{Rule}
+use Rattle.regions.specs.declared.points.Point.{Point}
+use Rattle.charts.specs.Alike.{HasLimit, said}
+use Rattle.charts.specs.Lines.{course_from, goes_on}
+use Rattle.charts.specs.Points.{decision_at, holds_at}
+use Rattle.differences.specs.Gains.{HasStepLimit}
+use Rattle.differences.specs.Steps.{StepsAreNumbered, StepsDecide, rules_of, steps_at, steps_behind, steps_from}
+use Rattle.differences.specs.declared.courses.Step.{Step}
+
+numbers_of : (number : ℕ) (rules : List Rule) (p : Point) → map (λ step. step.number) (steps_from number rules p) ≡ course_from number rules p
+numbers_of number [] p = refl
+numbers_of number (rule ∷ rules) p = kept (holds_at rule p) rule.quota (steps_from (suc number) rules p) (course_from (suc number) rules p) (numbers_of (suc number) rules p)
+  where
+    behind : (quota : Option Quota) (steps : List Step) (course : List ℕ) → map (λ step. step.number) steps ≡ course → map (λ step. step.number) (steps_behind quota steps) ≡ goes_on quota course
+    behind None steps course e = refl
+    behind (Some quota) steps course e = e
+
+    kept : (t : Bool) (quota : Option Quota) (steps : List Step) (course : List ℕ) → map (λ step. step.number) steps ≡ course
+        → map (λ step. step.number) (if t then record { number = number; rule = rule } ∷ steps_behind quota steps else steps) ≡ (if t then number ∷ goes_on quota course else course)
+    kept true quota steps course e = ap (λ (ns : List ℕ). number ∷ ns) (behind quota steps course e)
+    kept false quota steps course e = e
+
+pub steps_are_numbered : StepsAreNumbered
+steps_are_numbered rules p = numbers_of 1 rules p
+
+said_from : (number : ℕ) (rules : List Rule) (p : Point) (told : ℕ → ℕ) → said (rules_of (steps_from number rules p)) told ≡ decision_at rules p told
+said_from number [] p told = refl
+said_from number (rule ∷ rules) p told =
+    kept (holds_at rule p) rule.quota (steps_from (suc number) rules p) (λ t. decision_at rules p t) (λ t. said_from (suc number) rules p t) refl
+  where
+    behind : (quota : Option Quota) (code : ℕ) (steps : List Step) (rest : (ℕ → ℕ) → List Call × ℕ) → ((t : ℕ → ℕ) → said (rules_of steps) t ≡ rest t)
+        → ruled quota code told (said (rules_of (steps_behind quota steps)) (λ k. told (suc k))) ≡ ruled quota code told (rest (λ k. told (suc k)))
+    behind None code steps rest e = refl
+    behind (Some quota) code steps rest e = ap (λ (d : List Call × ℕ). ruled (Some quota) code told d) (e (λ k. told (suc k)))
+
+    kept : (t : Bool) (quota : Option Quota) (steps : List Step) (rest : (ℕ → ℕ) → List Call × ℕ) → ((u : ℕ → ℕ) → said (rules_of steps) u ≡ rest u) → rule.quota ≡ quota
+        → said (rules_of (if t then record { number = number; rule = rule } ∷ steps_behind quota steps else steps)) told
+        ≡ (if t then ruled quota (verdict_number rule.verdict) told (rest (λ k. told (suc k))) else rest told)
+    kept true quota steps rest e q = ap (λ (o : Option Quota). ruled o (verdict_number rule.verdict) told (said (rules_of (steps_behind quota steps)) (λ k. told (suc k)))) q ∙ behind quota (verdict_number rule.verdict) steps rest e
+    kept false quota steps rest e q = e told
+
+pub steps_decide : StepsDecide
+steps_decide rules p told = said_from 1 rules p told
+
+-- the limits of the rules of steps
+pub rule_limits : (steps : List Step) → All HasStepLimit steps → All HasLimit (rules_of steps)
+rule_limits steps limits = All-map steps limits
+  where
+    All-map : (ss : List Step) → All HasStepLimit ss → All HasLimit (rules_of ss)
+    All-map [] h = All-nil HasLimit
+    All-map (s ∷ ss) h = All-cons HasLimit s.rule (rules_of ss) (All-head HasStepLimit s ss h) (All-map ss (All-tail HasStepLimit s ss h))
