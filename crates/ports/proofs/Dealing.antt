@@ -1,11 +1,14 @@
 -- What became of one packet, by how far it came.
 use Rattle.std.proofs.Common.{◌≡◌, ◌⊎◌, ℕ, ◌<◌, Bool, true, false, ◌&&◌, List, [], length, sym, refl, subst, inl, inr, arith}
+use Rattle.std.proofs.lemmas.List.{append-nil}
+use mathlib.Core.List.{IsPrefix}
 use Rattle.spw.specs.Cargo.{Cargo}
 use Rattle.rmap.specs.declared.discard.Discard.{Discard}
 use Rattle.rmap.specs.declared.places.Place.{Place}
 use Rattle.rmap.specs.declared.places.Place.TheVariants.{Bank, Control}
 use Rattle.rmap.specs.declared.status.Status.{Status}
 use Rattle.bank.specs.Records.{JudgedValue, fits, has_room}
+use Rattle.node_programs.specs.declared.publishes.Publish.{Publish}
 use Rattle.node_parts.specs.Passes.{PassValue, IsPass}
 use Rattle.node_parts.specs.declared.stop.Stop.TheVariants as stops
 use Rattle.node_parts.specs.Steps.{IsStopped, IsUnread, IsJudgement}
@@ -59,16 +62,19 @@ banked h between after p j k reply is at end =
     let entered = fits end.before (share_of between j.place) j && has_room end.before j.port in
     judged_so h between after p j reply entered is (inl (record { number = k; place = at; ended = end; entered = refl }))
 
-windowed : (h between after : PassValue) (p : Cargo) (j : JudgedValue) (result : Status) (reply : List ℕ) → IsJudgement h between p j → EndsAtWindow j.place between after [] [] j result reply → HasDealt p h after reply false
+begins_itself : (xs : List Publish) → IsPrefix xs xs
+begins_itself xs = ([], append-nil xs)
+
+windowed : (h between after : PassValue) (p : Cargo) (j : JudgedValue) (result : Status) (reply : List ℕ) → IsJudgement h between p j → EndsAtWindow j.place between after between.programs between.programs j result reply → HasDealt p h after reply false
 unfolding judging_of
 windowed h between after p j result reply is end =
-    judged_so h between after p j reply false is (inr (record { old = []; new = []; result = result; ended = end; entered = refl }))
+    judged_so h between after p j reply false is (inr (record { old = between.programs; new = between.programs; begins = begins_itself between.programs; result = result; ended = end; entered = refl }))
 
 pub staged : (h between after : PassValue) (p : Cargo) (j : JudgedValue) (place : Place) (result : Status) (reply : List ℕ) → IsJudgement h between p j → place ≡ j.place → IsStagingPlace place → IsStagedAt between after j result reply → HasDealt p h after reply false
 staged h between after p j place result reply is same at end =
-    windowed h between after p j result reply is (subst (λ x. EndsAtWindow x between after [] [] j result reply) same (elim at [
-      | inl bytes ↦ subst (λ x. EndsAtWindow x between after [] [] j result reply) (sym bytes) (end, refl)
-      | inr loaded ↦ subst (λ x. EndsAtWindow x between after [] [] j result reply) (sym loaded) (end, refl)
+    windowed h between after p j result reply is (subst (λ x. EndsAtWindow x between after between.programs between.programs j result reply) same (elim at [
+      | inl bytes ↦ subst (λ x. EndsAtWindow x between after between.programs between.programs j result reply) (sym bytes) (end, refl)
+      | inr loaded ↦ subst (λ x. EndsAtWindow x between after between.programs between.programs j result reply) (sym loaded) (end, refl)
     ]))
 
 pub loaded : (h between after : PassValue) (p : Cargo) (j : JudgedValue) (reply : List ℕ) → IsJudgement h between p j → j.place ≡ Control → HasLoadEnd between after j reply → HasDealt p h after reply false
@@ -77,6 +83,7 @@ loaded h between after p j reply is at end =
     judged_so h between after p j reply false is (inr (record {
       old = end.old;
       new = end.new;
+      begins = end.begins;
       result = end.result;
       ended = subst (λ place. EndsAtWindow place between after end.old end.new j end.result reply) (sym at) end.ended;
       entered = refl;

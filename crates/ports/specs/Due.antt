@@ -1,6 +1,7 @@
 -- What became of the packets that a worker took, and the replies that are due then (ECSS-E-ST-50-52C). Banks and the
 -- publisher stand behind locks: of them it is known that some bank, or some list of publishes, was what a command met.
 use Rattle.std.specs.Prelude.{◌≡◌, ◌⊎◌, ℕ, Bool, true, false, ◌&&◌, List, [], ◌∷◌, length, map, filter, Some}
+use mathlib.Core.List.{IsPrefix}
 use Rattle.machine.specs.declared.calls.Call.{Call}
 use Rattle.spw.specs.Cargo.{Cargo}
 use Rattle.rmap.specs.declared.discard.Discard.{Discard}
@@ -99,17 +100,20 @@ pub record IsBanked (judging : Judging) (holder after : PassValue) : Type 0 wher
       ≡ (fits ended.before (share_of holder judging.judged.place) judging.judged
       && has_room ended.before judging.judged.port)
 
--- a judged control write ended, where some list had been published
+-- a judged control write ended, where some list had been published, which began with all that the port knew
 pub record HasLoadEnd (holder after : PassValue) (j : JudgedValue) (reply : List ℕ) : Type 0 where
   pub old : List Publish
   pub new : List Publish
+  pub begins : IsPrefix holder.programs old
   pub result : Status
   pub ended : IsLoadEnd holder after old new j result reply
 
--- a judged command ended in the boot window, where some list had been published
+-- a judged command ended in the boot window, where some list had been published, which began with all that the port
+-- knew
 pub record IsWindowed (judging : Judging) (holder after : PassValue) : Type 0 where
   pub old : List Publish
   pub new : List Publish
+  pub begins : IsPrefix holder.programs old
   pub result : Status
   pub ended : EndsAtWindow judging.judged.place holder after old new judging.judged result judging.reply
   pub entered : judging.entered ≡ false

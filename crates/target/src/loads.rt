@@ -1,6 +1,7 @@
 //! Loads: a program that was staged is verified and published.
 
 ghost use Rattle.std.specs.Prelude.{◌≡◌};
+ghost use mathlib.Core.List.{IsPrefix};
 ghost use Rattle.node_parts.specs.Loaded.{IsLoadEnd};
 
 use crate::pass::Pass;
@@ -13,7 +14,8 @@ use std::sync::Wait;
 /// Loads what the port staged, where the verdict on the control write is yes and its body is right, and leaves
 /// the reply: the program is verified for the publisher's maps and published for the slot that the control data
 /// name, the port's reader learns of it, and the load result tells its generation, or why the load was refused.
-/// Nothing else changes. It may wait for readers. The condition is a control write.
+/// Nothing else changes. What the port knew is a beginning of what was published. It may wait for readers. The condition
+/// is a control write.
 pub fn load<J: ProgramFamily, R: Wait + Drop>(
     alloc: Global,
     pass: &mut Pass<J>,
@@ -22,7 +24,8 @@ pub fn load<J: ProgramFamily, R: Wait + Drop>(
     reply: &mut ReplyBuf,
 ) -> Status
     requires { judged.place ≡ Place.Control }
-    ensures { IsLoadEnd pass.old pass.new publisher.old publisher.new judged result reply.new }
+    ensures ended { IsLoadEnd pass.old pass.new publisher.old publisher.new judged result reply.new }
+    ensures begins { IsPrefix pass.old.programs publisher.old }
 {
     let _sizes = pass.reader.sizes();
     readers_know_a_beginning(&pass.reader, publisher);

@@ -1,6 +1,7 @@
 //! The whole way of a packet.
 
 ghost use Rattle.std.specs.Prelude.{◌≡◌, ◌≢◌, ℕ, List, Some, length, slice_get, slice_set};
+ghost use mathlib.Core.List.{IsPrefix};
 ghost use Rattle.node_parts.specs.Served.{IsServed, IsAnswered, parts};
 ghost use Rattle.node_parts.specs.Passes.{PassValue};
 ghost use Rattle.node_parts.specs.Pairs.{ArePaired, IsPaired};
@@ -11,7 +12,7 @@ use crate::pass::Pass;
 use crate::staged::stage;
 use crate::step::{Step, judge};
 use node_parts::{Banks, Served, Stop, packets_keep_pairs};
-use publish::{ProgramFamily, Publisher};
+use publish::{ProgramFamily, Publisher, readers_know_a_beginning};
 use rmap::{Place, ReplyBuf};
 use spw::Packet;
 use std::alloc::Global;
@@ -48,7 +49,7 @@ fn serve<J: ProgramFamily, R: Wait + Drop>(
 
 /// Serves one packet that came in at the pass's port: judges it ([`judge`]), and applies the verdict to the bank that it
 /// names, or to the port's staging, or loads what is staged there. `reply` holds the reply that is due then, if any. It
-/// takes memory and may wait for readers only where it loads. The condition is a pass with the number of banks; where
+/// takes memory and may wait for readers only where it loads. What the port knew is a beginning of what was published. The condition is a pass with the number of banks; where
 /// banks and pass were made together each command that is judged is applied.
 pub fn serve_packet<J: ProgramFamily, R: Wait + Drop>(
     alloc: Global,
@@ -61,6 +62,7 @@ pub fn serve_packet<J: ProgramFamily, R: Wait + Drop>(
     requires { length pass.old.shares ≡ length banks.old }
     ensures served { IsServed result packet (parts banks.old publisher.old)
         (parts banks.new publisher.new) pass.old pass.new reply.new }
+    ensures begins { IsPrefix pass.old.programs publisher.old }
     ensures banks { length banks.new ≡ length banks.old }
     ensures pass { length pass.new.shares ≡ length pass.old.shares }
 
@@ -75,5 +77,6 @@ pub fn serve_packet<J: ProgramFamily, R: Wait + Drop>(
         → slice_get passes k ≡ Some pass.old → ArePaired banks.new (slice_set passes k pass.new) }
 {
     packets_keep_pairs();
+    readers_know_a_beginning(&pass.reader, publisher);
     serve(alloc, banks, publisher, pass, packet, reply)
 }

@@ -1,4 +1,5 @@
 use Rattle.std.proofs.Common.{List, subst, sym, ◌∙◌}
+use mathlib.Core.List.{IsPrefix}
 use Rattle.node_parts.specs.Loaded.{IsLoadEnd}
 use Rattle.node_parts.specs.Passes.{PassValue, pass_of}
 use Rattle.node_programs.specs.declared.publishes.Publish.{Publish}
@@ -11,8 +12,11 @@ invariant_of-pass g c =
     let is = c.pass.invariant in
     record { port = is.port; sizes = is.sizes ∙ sym (sizes_kept _ _ _ _ _ _ _ c.sizes-sizes.ensures.some end.ended); shares = is.shares }
 
-pub returns : goal.returns
-returns g c =
+pub returns-clause-begins : goal.returns-clause-begins
+returns-clause-begins g c = subst (λ (h : PassValue). IsPrefix h.programs c.args.publisher.now) c.pass.view_is c.readers_know_a_beginning.ensures.begins
+
+pub returns-clause-ended : goal.returns-clause-ended
+returns-clause-ended g c =
     let b = c.pass.inside.context in
     let known = c.pass.inside.reader.programs in
     let shares = c.pass.inside.shares.items in

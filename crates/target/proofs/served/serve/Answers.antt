@@ -23,4 +23,4 @@ finish-requires g c =
 pub returns-in-Control-clause-pass : goal.returns-in-Control-clause-pass
 returns-in-Control-clause-pass g c =
     let run = c.in-Judged.ensures.step.0 in
-    ap length (kept_at_load _ _ _ _ _ _ _ c.load.ensures.ended).1 ∙ ap (λ (x : PassValue). length x.shares) run.asked
+    ap length (kept_at_load _ _ _ _ _ _ _ c.load.ensures.ended.ended).1 ∙ ap (λ (x : PassValue). length x.shares) run.asked
