@@ -1,9 +1,12 @@
 -- What each step of a run changed, and the line that is printed of it.
-use Rattle.std.specs.Prelude.{ℕ, ◌+◌, ◌-◌, ◌==◌, nat_lt, if◌then◌else◌, false, List, [], ◌∷◌, ◌++◌, length, replicate}
+use Rattle.std.specs.Prelude.{ℕ, ◌+◌, ◌-◌, ◌==◌, nat_lt, if◌then◌else◌, Bool, false, List, [], ◌∷◌, ◌++◌, length, replicate}
 use Rattle.std.specs.Prelude.{take, codes, decimal, Option, Some, None}
 use Rattle.std.specs.Fmt.{digits}
 use Rattle.std.specs.Int.{w64, to_le_bytes}
 use Rattle.bpf_insn.specs.Text.{insn_text}
+use Rattle.bpf_parts.specs.declared.operation.Comparison.{Comparison}
+use Rattle.bpf_parts.specs.declared.operation.Condition.{Condition}
+use Rattle.bpf_parts.specs.declared.operation.Width.{Width}
 use Rattle.bpf_insn.specs.declared.insn.Insn.{Insn}
 use Rattle.bpf_insn.specs.declared.insn.Insn.TheVariants.{Alu, Negate, MoveSigned, ByteSwap, Load, Store, Jump, Goto}
 use Rattle.bpf_insn.specs.declared.insn.Insn.TheVariants.{Wide, LoadMap, LoadAddress, Call, Exit}
@@ -12,6 +15,7 @@ use Rattle.bpf_parts.specs.declared.memory.Size.{Size}
 use Rattle.bpf_parts.specs.Text.{register_text, signed_text}
 use Rattle.machine.specs.State.{State}
 use Rattle.machine.specs.Step.{number, operand}
+use Rattle.machine.specs.Words.{holds_words}
 use Rattle.machine.specs.declared.regions.Region.{Region}
 use Rattle.machine.specs.declared.regions.Region.TheVariants.{Front, Tail, Stack}
 use Rattle.machine.specs.declared.regions.TheConstants.{STACK_SIZE}
@@ -50,12 +54,24 @@ stored size None value = changes.Nothing
 stored size (Some place) None = changes.Nothing
 stored size (Some place) (Some n) = changes.Stored place size n
 
--- where a jump at that slot led: it is told where that is not the next slot
-abbrev pub jumped : (slot next : ℕ) → Change
-jumped slot next = if next == slot + 1 then changes.NotTaken else changes.Jumped next
+-- the condition holds of two numbers
+abbrev pub holds_of : Condition → Width → Option ℕ → Option ℕ → Bool
+holds_of condition width None b = false
+holds_of condition width (Some a) None = false
+holds_of condition width (Some a) (Some b) = holds_words condition width a b
 
--- what an instruction at that slot changed, by the state behind its step. A store changes no register, so its operands
--- stand there as before. The last three go on by no step of their own
+-- the condition of a jump holds
+abbrev pub holds : Comparison → State → Bool
+holds comparison t =
+    holds_of comparison.condition comparison.width (number (t.registers comparison.dst)) (number (operand t comparison.src))
+
+-- where a jump at that slot led: the slot is told where that is not the next one, and else whether the condition holds
+abbrev pub jumped : (holds : Bool) → (slot next : ℕ) → Change
+jumped taken slot next =
+    if next == slot + 1 then (if taken then changes.Taken else changes.NotTaken) else changes.Jumped next
+
+-- what an instruction at that slot changed, by the state behind its step. A store and a jump change no register, so their
+-- operands stand there as before. The last three go on by no step of their own
 abbrev pub change_of : Insn → (slot : ℕ) → State → Change
 change_of (Alu op width dst src) slot t = changes.Written dst (t.registers dst)
 change_of (Negate width dst) slot t = changes.Written dst (t.registers dst)
@@ -64,7 +80,7 @@ change_of (ByteSwap swap bits dst) slot t = changes.Written dst (t.registers dst
 change_of (Load size dst place) slot t = changes.Written dst (t.registers dst)
 change_of (Store size place src) slot t =
     stored size (stored_at (t.registers place.base) (size_bytes size) place.offset) (number (operand t src))
-change_of (Jump comparison offset) slot t = jumped slot t.slot
+change_of (Jump comparison offset) slot t = jumped (holds comparison t) slot t.slot
 change_of (Goto distance) slot t = changes.Jumped t.slot
 change_of (Wide dst value) slot t = changes.Written dst (t.registers dst)
 change_of (LoadMap dst index) slot t = changes.Written dst (t.registers dst)
@@ -85,12 +101,13 @@ change_text (changes.Written register value) = register_text register ++ codes "
 change_text (changes.Stored place size n) =
     stack_text place (size_bytes size) ++ codes " = " ++ reply_text (take (size_bytes size) (to_le_bytes w64 n))
 change_text changes.NotTaken = codes "not taken"
+change_text changes.Taken = codes "taken"
 change_text (changes.Jumped slot) = codes "to " ++ decimal slot
 change_text (changes.Told call) =
     codes "map " ++ decimal call.question.map ++ codes " cell " ++ decimal call.question.key ++ codes ": told "
     ++ number_text call.answer
 change_text (changes.Ended verdict steps budget) =
-    codes "verdict " ++ number_text verdict ++ codes " after " ++ decimal steps ++ codes " steps, budget " ++ decimal budget
+    codes "verdict " ++ decimal verdict ++ codes " after " ++ decimal steps ++ codes " steps, budget " ++ decimal budget
 change_text changes.Nothing = []
 
 -- ---- lines

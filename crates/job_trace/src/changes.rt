@@ -4,11 +4,11 @@ ghost use Rattle.std.specs.Prelude.{◌≡◌, OnOk};
 ghost use Rattle.stepper.specs.Machine.{state_of};
 ghost use Rattle.bpf_parts.specs.Sizes.{size_bytes};
 ghost use Rattle.job_parts.specs.Printed.{Prints};
-ghost use Rattle.job_trace.specs.Changes.{change_of, change_text, jumped, number_text, region_text, stack_text, value_text};
+ghost use Rattle.job_trace.specs.Changes.{change_of, change_text, holds, jumped, number_text, region_text, stack_text, value_text};
 
-use bpf_insn::{Insn, MemoryOperand, Operand, Register, Size};
+use bpf_insn::{Comparison, Insn, MemoryOperand, Operand, Register, Size};
 use job_parts::replies::print_bytes;
-use machine::{Call, Region, STACK_SIZE, Value};
+use machine::{Call, Region, STACK_SIZE, Value, holds_words};
 use std::io::{self, Write};
 use stepper::Machine;
 
@@ -19,8 +19,10 @@ pub enum Change {
     Written(Register, Value),
     /// The low bytes of a number stand in the stack, from this place on.
     Stored(usize, Size, u64),
-    /// A jump goes on at the next slot.
+    /// A jump whose condition does not hold goes on at the next slot.
     NotTaken,
+    /// A jump whose condition holds leads to the next slot.
+    Taken,
     /// A jump goes on at this slot.
     Jumped(u32),
     /// A helper was told its answer.
@@ -44,12 +46,29 @@ fn stored(machine: &Machine<'_>, size: Size, place: &MemoryOperand, src: &Operan
     }
 }
 
-/// Where a jump at a slot led, by the slot of the next instruction.
-fn jumped(slot: u32, next: u32) -> Change
-    ensures { result ≡ jumped slot next }
+/// Whether the condition of a jump holds of a register and a source. It changes neither.
+fn holds(machine: &Machine<'_>, comparison: &Comparison) -> bool
+    ensures { result ≡ holds comparison.now (state_of machine.now) }
+{
+    match machine.register(comparison.dst) {
+        Value::Num(a) => match machine.operand(&comparison.src) {
+            Value::Num(b) => holds_words(comparison.condition, comparison.width, a, b),
+            Value::Unset | Value::Ptr { .. } | Value::Map(_) => false,
+        },
+        Value::Unset | Value::Ptr { .. } | Value::Map(_) => false,
+    }
+}
+
+/// Where a jump at a slot led, by whether its condition holds, and the slot of the next instruction.
+fn jumped(holds: bool, slot: u32, next: u32) -> Change
+    ensures { result ≡ jumped holds slot next }
 {
     if u64::from(next) == u64::from(slot) + 1 {
-        Change::NotTaken
+        if holds {
+            Change::Taken
+        } else {
+            Change::NotTaken
+        }
     } else {
         Change::Jumped(next)
     }
@@ -68,7 +87,9 @@ pub fn change_of(insn: &Insn, slot: u32, machine: &Machine<'_>) -> Change
         | Insn::Wide { dst, .. }
         | Insn::LoadMap { dst, .. } => Change::Written(dst, machine.register(dst)),
         Insn::Store { size, place, src } => stored(machine, size, &place, &src),
-        Insn::Jump { .. } => jumped(slot, machine.slot()),
+        Insn::Jump { comparison, .. } => {
+            jumped(holds(machine, &comparison), slot, machine.slot())
+        }
         Insn::Goto { .. } => Change::Jumped(machine.slot()),
         Insn::LoadAddress { .. } | Insn::Call { .. } | Insn::Exit => Change::Nothing,
     }
@@ -145,6 +166,7 @@ pub fn print_change<W: Write>(out: &mut W, change: Change) -> io::Result<()>
         }
         Change::Stored(place, size, number) => print_stored(out, place, size, number),
         Change::NotTaken => write!(out, "not taken"),
+        Change::Taken => write!(out, "taken"),
         Change::Jumped(slot) => write!(out, "to {slot}"),
         Change::Told(call) => {
             let (map, key) = (call.question.map, call.question.key);
@@ -152,9 +174,10 @@ pub fn print_change<W: Write>(out: &mut W, change: Change) -> io::Result<()>
             print_number(out, call.answer)
         }
         Change::Ended(verdict, steps, budget) => {
-            write!(out, "verdict ")?;
-            print_number(out, verdict)?;
-            write!(out, " after {steps} steps, budget {budget}")
+            write!(
+                out,
+                "verdict {verdict} after {steps} steps, budget {budget}"
+            )
         }
         Change::Nothing => Ok(()),
     }
