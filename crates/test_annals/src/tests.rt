@@ -1,6 +1,6 @@
 //! Two ports in threads at two banks of one history.
 
-ghost use Rattle.std.specs.Prelude.{◌≡◌, ◌⊎◌, IfSome};
+ghost use Rattle.std.specs.Prelude.{◌≡◌, ◌⊎◌, IfOk, IfSome};
 ghost use Rattle.annals.specs.Banks.{IsFresh};
 ghost use mathlib.Core.List.{IsPrefix};
 
@@ -169,14 +169,14 @@ fn work_both<J: Family + Send + Sync, R: Threads + Wait + Sync>(
 }
 
 /// A bank of zeros with two shares.
-fn fresh(alloc: Global) -> Option<(Bank, Share, Share)>
-    ensures { IfSome result (λ made. IsFresh made.0) }
+fn fresh(alloc: Global) -> Result<(Bank, Share, Share), Fail>
+    ensures { IfOk result (λ made. IsFresh made.0) }
 {
-    let journal = Journal::new(alloc, 1024).ok()?;
-    let (bank, mut shares) = Bank::new(alloc, BASE, SIZE, journal, 2).ok()?;
-    let second = shares.pop()?;
-    let first = shares.pop()?;
-    Some((bank, first, second))
+    let journal = Journal::new(alloc, 1024)?;
+    let (bank, mut shares) = Bank::new(alloc, BASE, SIZE, journal, 2)?;
+    let second = shares.pop().ok_or("no share")?;
+    let first = shares.pop().ok_or("no share")?;
+    Ok((bank, first, second))
 }
 
 /// A desk of that port, which knows nothing yet.
@@ -204,8 +204,8 @@ fn served_by_two<J: Family + Send + Sync, R: Threads + Wait + Abort + Sync>(
     requires chains { opened.1 ≡ 9 }
 {
     let knows_nothing = opened.front::<J>();
-    let (first, a, b) = fresh(alloc).ok_or("a bank")?;
-    let (second, c, d) = fresh(alloc).ok_or("another bank")?;
+    let (first, a, b) = fresh(alloc)?;
+    let (second, c, d) = fresh(alloc)?;
     let banks = Pair {
         first: Mutex::new(Kept::new(0, first, &mut opened).ok_or("a chain")?),
         second: Mutex::new(Kept::new(1, second, &mut opened).ok_or("another chain")?),
