@@ -58,5 +58,7 @@ lacks_packet found rows BadOption is refuses = subst IsIncomplete (sym is) (reco
   show = λ h. absurd (search rules);
   decide = λ h. absurd (search rules);
   trace = λ h. absurd (search rules);
+  compare = λ h. absurd (search rules);
+  map = λ h. absurd (search rules);
 })
 lacks_packet found rows (Parse text) is refuses = refuses

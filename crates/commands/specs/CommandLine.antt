@@ -5,6 +5,8 @@ use Rattle.clap.specs.Simple.{App, Shape, new_app, on_top, with_subcommand, subc
 use Rattle.clap.specs.Faults.{fault_of}
 use Rattle.clap.specs.declared.error.kind.ErrorKind.{ErrorKind}
 use Rattle.clap.specs.declared.error.kind.ErrorKind.TheVariants.{OutOfMemory}
+use Rattle.job_charts.specs.CompareJob.{compare_app, NamesCompare, SpoilsCompare}
+use Rattle.job_charts.specs.MapJob.{map_app, NamesMap, SpoilsMap}
 use Rattle.job_decide.specs.DecideJob.{decide_app, NamesDecide, SpoilsDecide}
 use Rattle.job_live.specs.Words.{live_app, NamesLive, SpoilsLive}
 use Rattle.job_parts.specs.Lines.{NamesLines, SpoilsLines}
@@ -35,6 +37,8 @@ use Rattle.commands.specs.declared.jobs.Job.TheVariants.{
   Show,
   Decide,
   Trace,
+  Compare,
+  Map,
 }
 use Rattle.commands.specs.declared.work.Work.{Work}
 use Rattle.commands.specs.declared.work.Work.TheVariants.{Once, Live}
@@ -63,13 +67,18 @@ with_packet_jobs app =
     with_subcommand (with_subcommand (with_subcommand (with_subcommand app packet_app.top) show_app.top) decide_app.top)
     trace_app.top
 
+-- a command with the jobs on what tables decide of all commands, behind others
+abbrev pub with_chart_jobs : App → App
+with_chart_jobs app = with_subcommand (with_subcommand app compare_app.top) map_app.top
+
 -- `rmapctl` with its subcommands
 unfoldable pub rmapctl_app : App
 rmapctl_app =
-    with_packet_jobs
+    with_chart_jobs
+    (with_packet_jobs
     (with_subcommand (with_subcommand (with_subcommand
     (with_subcommand (with_subcommand (with_first_jobs (on_top rmapctl_shape (new_app (codes "rmapctl"))))
-    serve_app.top) sim_app.top) live_app.top) explain_app.top) why_app.top)
+    serve_app.top) sim_app.top) live_app.top) explain_app.top) why_app.top))
 
 -- the subcommand that clap finds in the words, with its matches
 abbrev pub subcommand_in : List Text → Option (Text × List Row)
@@ -92,6 +101,8 @@ Names (Some found) (Once (Packet words)) = (found.0 ≡ codes "packet") × Names
 Names (Some found) (Once (Show words)) = (found.0 ≡ codes "show") × NamesShow found.1 words
 Names (Some found) (Once (Decide words)) = (found.0 ≡ codes "decide") × NamesDecide found.1 words
 Names (Some found) (Once (Trace args)) = (found.0 ≡ codes "trace") × NamesLines found.1 args
+Names (Some found) (Once (Compare words)) = (found.0 ≡ codes "compare") × NamesCompare found.1 words
+Names (Some found) (Once (Map words)) = (found.0 ≡ codes "map") × NamesMap found.1 words
 
 -- what the user is told of a refusal by clap of this kind
 abbrev pub TellsRefusal : ErrorKind → UsageFault → Type 0
@@ -116,6 +127,8 @@ pub record IsSpoiled (found : Text × List Row) : Type 0 where
   pub show : found.0 ≡ codes "show" → first_of (codes "lines") found.1 ≡ None
   pub decide : found.0 ≡ codes "decide" → SpoilsDecide found.1
   pub trace : found.0 ≡ codes "trace" → SpoilsLines found.1
+  pub compare : found.0 ≡ codes "compare" → SpoilsCompare found.1
+  pub map : found.0 ≡ codes "map" → SpoilsMap found.1
 
 -- clap found no subcommand, or one without what it needs
 abbrev pub IsIncomplete : Option (Text × List Row) → Type 0

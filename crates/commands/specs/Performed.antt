@@ -4,6 +4,8 @@ use Rattle.std.specs.Io.KnownBytes.{Appends}
 use Rattle.job_texts.specs.Assembled.{Assembles, IsNotAssembled}
 use Rattle.job_texts.specs.Compiled.{CompilesTable, IsNotCompiled}
 use Rattle.job_texts.specs.Disassembled.{Disassembles, IsNotPrinted}
+use Rattle.job_charts.specs.ComparedFile.{ComparesFile, IsNotCompared}
+use Rattle.job_charts.specs.MappedFile.{IsNotMapped, MapsFile}
 use Rattle.job_codes.specs.ExplainJob.{Explains}
 use Rattle.job_codes.specs.Explained.{ExplainsFile}
 use Rattle.job_decide.specs.DecidedFile.{Decides, IsNotDecided}
@@ -37,6 +39,8 @@ use Rattle.commands.specs.declared.jobs.Job.TheVariants.{
   Show,
   Decide,
   Trace,
+  Compare,
+  Map,
 }
 
 module _ {S : Type 0} (reads : Reads S) (writes : Writes S) where
@@ -62,6 +66,8 @@ module _ {S : Type 0} (reads : Reads S) (writes : Writes S) where
       IsDoneWith (ShowsFile reads before (string_bytes words.lines) after old new) status
   IsDone (Decide words) before after old new status = Decides reads words before after old new status
   IsDone (Trace args) before after old new status = IsDoneWith (TracesFile reads args before after old new) status
+  IsDone (Compare words) before after old new status = ComparesFile reads words before after old new status
+  IsDone (Map words) before after old new status = MapsFile reads words before after old new status
 
   -- the fault ended the job; only `judge`, `sim`, `show`, `decide` and `trace` printed before it
   abbrev pub IsEnded : Job → (before after : S) → (old new : Option (List ℕ)) → Fault → Type 0
@@ -85,6 +91,8 @@ module _ {S : Type 0} (reads : Reads S) (writes : Writes S) where
       IsNotShown reads before (string_bytes words.lines) after old new fault
   IsEnded (Decide words) before after old new fault = IsNotDecided reads words before after old new fault
   IsEnded (Trace args) before after old new fault = IsNotTraced reads args before after old new fault
+  IsEnded (Compare words) before after old new fault = IsNotCompared reads words before after fault × (new ≡ old)
+  IsEnded (Map words) before after old new fault = IsNotMapped reads words before after fault × (new ≡ old)
 
   -- a fault ended the job, and its line was printed behind what came before, and nothing behind it
   pub record TellsFault (job : Job) (before after : S) (old new : Option (List ℕ)) : Type 0 where

@@ -4,6 +4,8 @@ ghost use Rattle.std.specs.Prelude.{◌≡◌, IfErr, IfOk};
 ghost use Rattle.commands.specs.Performed.{IsDone, IsEnded, Performs};
 ghost use Rattle.job_parts.specs.Stops.{StopsBy};
 
+use job_charts::compare::{CompareWords, compare_file};
+use job_charts::map::{MapWords, map_file};
 use job_codes::explain::{ExplainWords, explain};
 use job_codes::why::why_file;
 use job_decide::decide::{DecideWords, decide_file};
@@ -59,6 +61,10 @@ pub enum Job {
     Show(ShowWords),
     /// Prints which rule of a policy table decides on each packet, and why no rule before.
     Decide(DecideWords),
+    /// Prints where two policy tables decide differently, or that they are the same.
+    Compare(CompareWords),
+    /// Prints what a policy table decides of all commands, and which of its rules never match.
+    Map(MapWords),
 }
 
 /// Does a job, up to its end or the fault that ends it, which is still to be printed.
@@ -92,6 +98,8 @@ fn attempt<'a, J: ProgramFamily + Send + 'static, R: Threads + Wait + Sync, F: F
         Job::Packet(words) => packet_file(alloc, words, files, out),
         Job::Show(words) => show_file(alloc, words.lines.as_str(), files, out),
         Job::Decide(words) => decide_file(alloc, words, files, out),
+        Job::Compare(words) => compare_file(alloc, words, files, out),
+        Job::Map(words) => map_file(alloc, words, files, out),
     }
 }
 
@@ -118,8 +126,8 @@ fn perform_opened<J: ProgramFamily + Send + 'static, R: Threads + Wait + Sync, F
     }
 }
 
-/// Does a job over any files and any writer, and gives the exit status: `Failed` where an image was refused or a fault was
-/// printed, `Misused` where there are no packets such as `packet` was to make, else `Done`. What the writer holds back is
+/// Does a job over any files and any writer, and gives the exit status: `Failed` where an image was refused, two tables differ
+/// or a fault was printed, `Misused` where there are no packets such as `packet` was to make, else `Done`. What the writer holds back is
 /// not flushed. It may wait: `serve` has a node, whose end does, and starts threads and waits for them.
 ///
 /// `WriteFault` where the writer failed; nothing is written after that.

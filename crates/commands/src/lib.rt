@@ -8,6 +8,8 @@ mod told_files;
 mod usage;
 mod work;
 
+pub use job_charts::compare::CompareWords;
+pub use job_charts::map::MapWords;
 pub use job_codes::explain::ExplainWords;
 pub use job_decide::decide::DecideWords;
 pub use job_frames::holding::live_frames;

@@ -4,12 +4,14 @@ ghost use Rattle.std.specs.Prelude.{◌≡◌, IfOk, IfErr};
 ghost use Rattle.clap.specs.Simple.{app_of, subcommand_rows_of};
 ghost use Rattle.clap.specs.Values.{kind_of};
 ghost use Rattle.clap.specs.Walk.{texts};
-ghost use Rattle.commands.specs.CommandLine.{rmapctl_app, with_first_jobs, with_packet_jobs, Names, NamesWork, NamesNone, LacksWork, TellsRefusal};
+ghost use Rattle.commands.specs.CommandLine.{rmapctl_app, with_chart_jobs, with_first_jobs, with_packet_jobs, Names, NamesWork, NamesNone, LacksWork, TellsRefusal};
 
 use crate::jobs::Job;
 use crate::work::Work;
 use clap::error::ErrorKind;
 use clap::{ArgMatches, Command, Error};
+use job_charts::compare::{compare_command, compare_job};
+use job_charts::map::{map_command, map_job};
 use job_codes::explain::{explain_command, explain_job};
 use job_codes::why::why_command;
 use job_decide::decide::{decide_command, decide_job};
@@ -64,6 +66,15 @@ fn with_packet_jobs<'a>(alloc: Global, rmapctl: Command<'a>) -> Result<Command<'
         .subcommand(trace)
 }
 
+/// The command line with the jobs on what tables decide of all commands, behind others.
+fn with_chart_jobs<'a>(alloc: Global, rmapctl: Command<'a>) -> Result<Command<'a>, AllocError>
+    ensures { IfOk result (λ c. app_of c ≡ with_chart_jobs (app_of rmapctl.entry)) }
+{
+    let compare = compare_command(alloc)?;
+    let map = map_command(alloc)?;
+    rmapctl.subcommand(compare)?.subcommand(map)
+}
+
 /// The whole command line.
 pub(crate) fn command_line<'a>(alloc: Global) -> Result<Command<'a>, AllocError>
     ensures { IfOk result (λ c. app_of c ≡ rmapctl_app) }
@@ -87,7 +98,8 @@ pub(crate) fn command_line<'a>(alloc: Global) -> Result<Command<'a>, AllocError>
         .subcommand(live)?
         .subcommand(explain)?
         .subcommand(why)?;
-    with_packet_jobs(alloc, all)
+    let told = with_packet_jobs(alloc, all)?;
+    with_chart_jobs(alloc, told)
 }
 
 /// What the user is told of words that `clap` refuses.
@@ -148,8 +160,14 @@ fn work_of(alloc: Global, found: &ArgMatches) -> Result<Work, UsageFault>
     if let Some(decide) = found.subcommand_matches("decide") {
         return Ok(Work::Once(Job::Decide(decide_job(alloc, decide)?)));
     }
-    match found.subcommand_matches("trace") {
-        Some(trace) => Ok(Work::Once(Job::Trace(lines_args(alloc, trace)?))),
+    if let Some(trace) = found.subcommand_matches("trace") {
+        return Ok(Work::Once(Job::Trace(lines_args(alloc, trace)?)));
+    }
+    if let Some(compare) = found.subcommand_matches("compare") {
+        return Ok(Work::Once(Job::Compare(compare_job(alloc, compare)?)));
+    }
+    match found.subcommand_matches("map") {
+        Some(map) => Ok(Work::Once(Job::Map(map_job(alloc, map)?))),
         None => Err(UsageFault::BadOption),
     }
 }

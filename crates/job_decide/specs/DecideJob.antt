@@ -3,9 +3,7 @@ use Rattle.std.specs.Prelude.{◌≡◌, ◌⊎◌, ℕ, List, [], ◌∷◌, �
 use Rattle.clap.specs.Walk.{Row, first_of}
 use Rattle.clap.specs.Simple.{App, new_app, with_rule}
 use Rattle.machine.specs.declared.calls.Call.{Call}
-use Rattle.policy_table.specs.TableFaults.{table_fault_text}
 use Rattle.policy_table.specs.declared.matching.Match.{Match}
-use Rattle.policy_table.specs.declared.table_faults.TableFault.{TableFault}
 use Rattle.rmap.specs.Codes.{status_code}
 use Rattle.rmap.specs.Verdict.{verdict_number}
 use Rattle.rmap.specs.Windows.{WindowsValue}
@@ -67,7 +65,3 @@ match_line port found = rule_text port found.rule ++ codes " verdict " ++ decima
 -- the beginning of the line of a packet that a check of its header answers
 abbrev pub status_text : (port : ℕ) → Status → List ℕ
 status_text port status = decimal port ++ codes " answered " ++ decimal (status_code status) ++ codes ": "
-
--- the line with the place of a table's fault
-abbrev pub place_line : TableFault → List ℕ
-place_line fault = codes "    " ++ table_fault_text fault ++ 10 ∷ []

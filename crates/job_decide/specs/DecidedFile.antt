@@ -1,56 +1,26 @@
 -- What the job `decide` reads and prints.
-use Rattle.std.specs.Prelude.{
-  ◌≡◌,
-  ◌⊎◌,
-  ℕ,
-  List,
-  [],
-  Option,
-  Some,
-  None,
-  replicate,
-  string_bytes,
-}
-use Rattle.std.specs.Io.KnownBytes.{Appends}
+use Rattle.std.specs.Prelude.{◌≡◌, ◌⊎◌, ℕ, List, [], Option, Some, replicate, string_bytes}
 use Rattle.std.specs.Str.{IsUtf8}
-use Rattle.policy_table.specs.FirstFault.{compile_fault}
-use Rattle.policy_table.specs.Lines.{IsTable}
-use Rattle.policy_table.specs.TableFaults.{IsTableFault, policy_fault_of}
 use Rattle.policy_table.specs.declared.rules.Rule.{Rule}
 use Rattle.policy_table.specs.declared.table_faults.TableFault.{TableFault}
 use Rattle.spw.specs.Line.{lines_of}
-use Rattle.job_parts.specs.Files.{HoldsNoText, Reads}
-use Rattle.job_parts.specs.Printed.{fault_line}
+use Rattle.job_parts.specs.Files.{Reads}
+use Rattle.job_parts.specs.Reading.{TextUnread}
 use Rattle.job_parts.specs.Turns.{AreTaken, StopsIn}
 use Rattle.job_parts.specs.declared.faults.Fault.{Fault}
-use Rattle.job_parts.specs.declared.faults.Fault.TheVariants.{
-  CannotRead,
-  CannotWrite,
-  NoMemory,
-  BadText,
-  BadTable as IsBadTable,
-  BadImage,
-  Refused,
-  BadLine,
-}
+use Rattle.job_parts.specs.declared.faults.Fault.TheVariants.{NoMemory}
 use Rattle.job_parts.specs.declared.status.Status.{Status}
 use Rattle.job_parts.specs.declared.status.Status.TheVariants.{Done, Failed, Misused}
-use Rattle.job_decide.specs.DecideJob.{place_line}
 use Rattle.job_decide.specs.DecidedLines.{DecidesLine, IsBadLine}
+use Rattle.job_decide.specs.Tables.{HoldsBadTable, HoldsTable, TellsTableFault}
 use Rattle.job_decide.specs.declared.decide.DecideWords.{DecideWords}
 use Rattle.job_decide.specs.declared.decide.Deciding.{Deciding}
-use Rattle.job_decide.specs.declared.decide.Unready.{Unready}
-use Rattle.job_decide.specs.declared.decide.Unready.TheVariants.{Ended, BadTable}
+use Rattle.job_decide.specs.declared.tables.NoTable.{NoTable}
+use Rattle.job_decide.specs.declared.tables.NoTable.TheVariants.{BadTable, Ended}
 
 -- what decides by these rules before the first line: nothing is held of any port, and no ticket was drawn
 abbrev pub at_first : List Rule → (ports : ℕ) → Deciding
 at_first rules ports = record { table = rules; feeds = replicate ports []; counts = replicate 2048 0 }
-
--- the line of a table's fault was printed, and behind it a line with the place
-pub record TellsTableFault (fault : TableFault) (old new : Option (List ℕ)) : Type 0 where
-  pub told : Option (List ℕ)
-  pub line : Appends old told (fault_line (IsBadTable (policy_fault_of fault)))
-  pub place : Appends told new (place_line fault)
 
 module _ {S : Type 0} (reads : Reads S) (words : DecideWords) where
   -- the file of lines was read, and is UTF-8
@@ -62,11 +32,7 @@ module _ {S : Type 0} (reads : Reads S) (words : DecideWords) where
   pub record IsGiven (before : S) (text : List ℕ) (rules : List Rule) (after : S) : Type 0 where
     pub between : S
     pub lines : HoldsLines before text between
-    pub table : List ℕ
-    pub read : reads between (string_bytes words.table) (Some table) after
-    pub utf8 : IsUtf8 table
-    pub is_table : IsTable table rules
-    pub faultless : compile_fault words.sizes rules ≡ None
+    pub table : HoldsTable reads between (string_bytes words.table) words.sizes rules after
 
   -- the same, with what decides by the table before the first line
   pub record IsReady (before : S) (text : List ℕ) (deciding : Deciding) (after : S) : Type 0 where
@@ -78,31 +44,30 @@ module _ {S : Type 0} (reads : Reads S) (words : DecideWords) where
     pub text : List ℕ
     pub between : S
     pub lines : HoldsLines before text between
-    pub table : List ℕ
-    pub read : reads between (string_bytes words.table) (Some table) after
-    pub utf8 : IsUtf8 table
-    pub is_fault : IsTableFault words.sizes (lines_of table) fault
+    pub table : HoldsBadTable reads between (string_bytes words.table) words.sizes fault after
 
-  -- the file of lines, or behind it that of the table, cannot be read or is not UTF-8
-  abbrev pub IsUntold : (before after : S) → (name : List ℕ) → Type 0
-  IsUntold before after name =
-      ((name ≡ string_bytes words.lines) × HoldsNoText reads before name after)
-      ⊎ ((text : List ℕ) × (between : S) × HoldsLines before text between
-      × (name ≡ string_bytes words.table) × HoldsNoText reads between name after)
+  -- the file of the table, behind that of the lines, cannot be read or is not UTF-8
+  pub record TableUnread (before after : S) (fault : Fault) : Type 0 where
+    pub text : List ℕ
+    pub between : S
+    pub lines : HoldsLines before text between
+    pub unread : TextUnread reads between (string_bytes words.table) after fault
+
+  -- memory was refused behind the reads
+  pub record LacksMemory (before after : S) (fault : Fault) : Type 0 where
+    pub text : List ℕ
+    pub rules : List Rule
+    pub given : IsGiven before text rules after
+    pub is_fault : fault ≡ NoMemory
 
   -- a file cannot be read, or memory was refused behind the reads; a table's fault is no such end, but told with its place
   abbrev pub IsUnread : (before after : S) → Fault → Type 0
-  IsUnread before after (CannotRead file) = IsUntold before after file.now
-  IsUnread before after (CannotWrite file) = ⊥
-  IsUnread before after NoMemory = (text : List ℕ) × (rules : List Rule) × IsGiven before text rules after
-  IsUnread before after (BadText fault) = ⊥
-  IsUnread before after (IsBadTable fault) = ⊥
-  IsUnread before after (BadImage fault) = ⊥
-  IsUnread before after (Refused refused) = ⊥
-  IsUnread before after (BadLine number fault) = ⊥
+  IsUnread before after fault =
+      TextUnread reads before (string_bytes words.lines) after fault
+      ⊎ (TableUnread before after fault ⊎ LacksMemory before after fault)
 
   -- why nothing is decided
-  abbrev pub IsUnready : (before after : S) → Unready → Type 0
+  abbrev pub IsUnready : (before after : S) → NoTable → Type 0
   IsUnready before after (Ended fault) = IsUnread before after fault
   IsUnready before after (BadTable fault) = HoldsTableFault before after fault
 

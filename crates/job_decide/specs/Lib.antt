@@ -1,4 +1,5 @@
 pub mod DecideJob
 pub mod Decided
 pub mod DecidedLines
+pub mod Tables
 pub mod DecidedFile

@@ -1,22 +1,20 @@
 //! The job `decide`.
 
-ghost use Rattle.std.specs.Prelude.{◌≡◌, IfErr, IfOk, OnOk, false, string_bytes};
+ghost use Rattle.std.specs.Prelude.{◌≡◌, IfErr, IfOk, false, string_bytes};
 ghost use Rattle.clap.specs.Simple.{app_of};
 ghost use Rattle.clap.specs.declared.builder.command.Command.TheViews.{out-Command as fields_of};
 ghost use Rattle.clap.specs.Walk.{rows_of};
 ghost use Rattle.clap.specs.Matches.{found_of};
 ghost use Rattle.job_parts.specs.Stops.{StopsBy};
 ghost use Rattle.job_decide.specs.DecideJob.{NamesDecide, RefusesDecide, decide_app};
-ghost use Rattle.job_decide.specs.DecidedFile.{Decides, IsNotDecided, IsReady, IsUnready, TellsTableFault};
+ghost use Rattle.job_decide.specs.DecidedFile.{Decides, IsNotDecided, IsReady, IsUnready};
 ghost use Rattle.job_decide.specs.DecidedLines.{DecidesLine, IsBadLine};
-ghost use Rattle.job_decide.specs.declared.decide.Unready.TheVariants.{BadTable, Ended};
-ghost use Rattle.job_parts.specs.declared.faults.Fault.TheVariants.{NoMemory};
 
 use crate::packets::decide_packet;
+use crate::tables::{NoTable, print_table_fault, table_in};
 use clap::{ArgMatches, Command};
 use job_nodes::feeds::Feeds;
 use job_parts::arguments::{file, name_of, option};
-use job_parts::faults::Fault;
 use job_parts::options::{maps_option, ports_of, sizes_of};
 use job_parts::programs::text_in;
 use job_parts::status::Status;
@@ -25,9 +23,9 @@ use job_parts::storage::Files;
 use job_parts::turns::{TakesLines, take_lines};
 use job_parts::usage::UsageFault;
 use machine::MapSizes;
-use policy::{Counts, Table, TableFault};
+use policy::{Counts, Table};
 use std::alloc::{AllocError, Global};
-use std::io::{self, Write};
+use std::io::Write;
 
 /// The words of the job `decide`.
 #[derive(Debug, Drop)]
@@ -102,52 +100,18 @@ impl TakesLines for Deciding {
     }
 }
 
-/// Why nothing is decided.
-#[derive(Debug, Drop)]
-enum Unready<'a> {
-    /// The fault ends the job.
-    Ended(Fault<'a>),
-    /// The table has a fault.
-    BadTable(TableFault),
-}
-
-impl<'a> From<Fault<'a>> for Unready<'a> {
-    ghost from_gives = { λ fault unready. unready ≡ Ended fault };
-
-    fn from(fault: Fault<'a>) -> Self {
-        Unready::Ended(fault)
-    }
-}
-
-impl From<TableFault> for Unready<'_> {
-    ghost from_gives = { λ fault unready. unready ≡ BadTable fault };
-
-    fn from(fault: TableFault) -> Self {
-        Unready::BadTable(fault)
-    }
-}
-
-impl From<AllocError> for Unready<'_> {
-    ghost from_gives = { λ _ unready. unready ≡ Ended NoMemory };
-
-    fn from(_refused: AllocError) -> Self {
-        Unready::Ended(Fault::NoMemory)
-    }
-}
-
 /// The text of the file of lines, and what decides on them by the table, before the first line.
 fn ready<'a, F: Files>(
     alloc: Global,
     words: &'a DecideWords,
     files: &mut F,
-) -> Result<(String, Deciding), Unready<'a>>
+) -> Result<(String, Deciding), NoTable<'a>>
     ensures ready { IfOk result (λ made. IsReady F.reads words.now files.old
         (string_bytes made.0) made.1 files.new) }
     ensures unready { IfErr result (IsUnready F.reads words.now files.old files.new) }
 {
     let text = text_in(alloc, files, words.lines.as_str())?;
-    let rules = text_in(alloc, files, words.table.as_str())?;
-    let table = Table::read_for(alloc, rules.as_str(), &words.sizes)?;
+    let table = table_in(alloc, files, words.table.as_str(), &words.sizes)?;
     let feeds = Feeds::new(alloc, words.ports)?;
     let counts = Counts::new(alloc)?;
     let deciding = Deciding {
@@ -156,15 +120,6 @@ fn ready<'a, F: Files>(
         counts,
     };
     Ok((text, deciding))
-}
-
-/// Prints the fault of a table: its line, and a line with its place.
-fn print_table_fault<W: Write>(out: &mut W, fault: &TableFault) -> io::Result<()>
-    ensures { OnOk result (TellsTableFault fault.now (W.contents out.old) (W.contents out.new)) }
-{
-    let code = fault.fault().code();
-    writeln!(out, "policy fault {code}")?;
-    writeln!(out, "    {fault}")
 }
 
 /// Decides on the packets of a file by the table of another, for a node with these maps and ports. For each packet it
@@ -189,8 +144,8 @@ pub fn decide_file<'a, F: Files, W: Write>(
             take_lines(alloc, &mut deciding, text.as_str(), out)?;
             Ok(Status::Done)
         }
-        Err(Unready::Ended(fault)) => Err(Halt::Ended(fault)),
-        Err(Unready::BadTable(fault)) => {
+        Err(NoTable::Ended(fault)) => Err(Halt::Ended(fault)),
+        Err(NoTable::BadTable(fault)) => {
             print_table_fault(out, &fault)?;
             Ok(Status::Failed)
         }

@@ -2,5 +2,7 @@
 #![tactic(auto)]
 
 pub mod decide;
+pub mod node_windows;
 mod packets;
 mod reasons;
+pub mod tables;

@@ -8,25 +8,17 @@ ghost use Rattle.job_decide.specs.Decided.{IsRefused, TellsCommand, TellsDecisio
 ghost use Rattle.job_decide.specs.DecideJob.{match_line, own_windows, rule_text, ticket_text};
 ghost use Rattle.rmap.specs.Checks.{header_check};
 ghost use Rattle.rmap.specs.Command.{discard_of};
-ghost use Rattle.node_parts.specs.Nodes.{windows_of};
 
+use crate::node_windows::own_windows;
 use crate::reasons::{fault_text, reasons};
 use job_nodes::judge::print_discard;
-use job_nodes::node::node_config;
 use job_parts::stops::LineHalt;
-use machine::{Call, MapSizes};
+use machine::Call;
 use policy::{Counts, Match, Passed, Table};
-use rmap::{Command, Status, Verdict, Windows, header_check};
+use rmap::{Command, Status, Verdict, header_check};
 use spw::Packet;
 use std::alloc::{AllocError, Global};
 use std::io::{self, Write};
-
-/// The address of the node of the jobs, and where its bank lies.
-fn own_windows() -> Windows
-    ensures { result ≡ own_windows }
-{
-    node_config(1, MapSizes::new(&[]).unwrap()).windows()
-}
 
 /// Prints text as it stands.
 fn print_more<W: Write>(out: &mut W, text: &str) -> io::Result<()>

@@ -33,7 +33,10 @@ use Rattle.commands.specs.declared.jobs.Job.TheVariants.{
   Show,
   Decide,
   Trace,
+  Compare,
+  Map,
 }
+use Rattle.test_kit_jobs.proofs.ChartsLeft.{compares_file, maps_file, uncompared, unmapped}
 use Rattle.test_kit_jobs.proofs.DecidesLeft.{decides_file, undecided}
 use Rattle.test_kit_jobs.proofs.PacketsLeft.{made_file, unmade, unshown}
 use Rattle.test_kit_jobs.specs.Folders.{FolderReads, FolderValue, FolderWrites, Sets}
@@ -173,6 +176,8 @@ done_leaves (Packet words) before after old new status done = made_file words be
 done_leaves (Show words) before after old new status done = done.1.read.0
 done_leaves (Decide words) before after old new status done = decides_file words before after old new status done
 done_leaves (Trace args) before after old new status done = given_all args before done.1.text done.1.program after done.1.given
+done_leaves (Compare words) before after old new status done = compares_file words before after old new status done
+done_leaves (Map words) before after old new status done = maps_file words before after old new status done
 
 -- a job that a fault ended
 ended_leaves : (job : Job) (before after : FolderValue) (old new : Option (List ℕ)) (fault : Fault)
@@ -190,6 +195,8 @@ ended_leaves (Packet words) before after old new fault ended = unmade words befo
 ended_leaves (Show words) before after old new fault ended = unshown before _ after old new fault ended
 ended_leaves (Decide words) before after old new fault ended = undecided words before after old new fault ended
 ended_leaves (Trace args) before after old new fault ended = untraced args before after old new fault ended
+ended_leaves (Compare words) before after old new fault ended = uncompared words before after fault ended.0
+ended_leaves (Map words) before after old new fault ended = unmapped words before after fault ended.0
 
 -- what a job that ended with this status leaves
 pub performed_leaves : (job : Job) (before after : FolderValue) (old new : Option (List ℕ)) (status : Status)

@@ -1,3 +1,4 @@
+mod ChartsLeft
 mod Left
 mod NewestSheet
 mod DecidesLeft

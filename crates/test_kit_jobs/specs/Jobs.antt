@@ -17,6 +17,8 @@ use Rattle.commands.specs.declared.jobs.Job.TheVariants.{
   Show,
   Decide,
   Trace,
+  Compare,
+  Map,
 }
 use Rattle.machine.specs.Sizes.{Maps}
 use Rattle.policy.specs.Compiled.{IsCompiled}
@@ -62,3 +64,5 @@ Leaves (Packet words) before after status = after ≡ before
 Leaves (Show words) before after status = after ≡ before
 Leaves (Decide words) before after status = after ≡ before
 Leaves (Trace args) before after status = after ≡ before
+Leaves (Compare words) before after status = after ≡ before
+Leaves (Map words) before after status = after ≡ before

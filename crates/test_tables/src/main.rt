@@ -5,6 +5,7 @@
 //! differs, with what came, and how many rows of each table agree.
 #![tactic(auto)]
 
+mod charts;
 mod corners;
 mod images;
 mod insns;
@@ -64,6 +65,9 @@ fn main(rt: HostRuntime) -> Result<(), Fail> {
     })?;
     compare(&rt, &mut out, "peaks.txt", |alloc, given| {
         peaks::printed(&rt, alloc, given)
+    })?;
+    compare(&rt, &mut out, "charts.txt", |alloc, given| {
+        charts::printed(&rt, alloc, given)
     })?;
     let printed = replies::printed(&rt, rt.alloc())?;
     compare_lines(&rt, &mut out, "replies.txt", &printed)?;

@@ -1,7 +1,7 @@
 use Rattle.std.proofs.Common.{ap, ap₂, codes, true, ◌≡◌, ◌∙◌}
 use Rattle.std.proofs.lemmas.Result.{IfOk-weaker}
 use Rattle.clap.specs.Simple.{App, Shape, app_of, app_of_fields, new_app, on_top, with_subcommand}
-use Rattle.commands.specs.CommandLine.{rmapctl_app, with_first_jobs, with_packet_jobs}
+use Rattle.commands.specs.CommandLine.{rmapctl_app, with_chart_jobs, with_first_jobs, with_packet_jobs}
 use Rattle.commands.proofs.usage.command_line.Goals as goal
 
 abbrev versioned : Shape → Shape
@@ -39,4 +39,5 @@ returns c =
     ∙ ap₂ with_subcommand with_live (ap (λ (a : App). a.top) c.in_ok-explain.ensures.shape) in
     let with_why = c.in_ok-all.ensures.shape c.in_ok-why.ensures.local
     ∙ ap₂ with_subcommand with_explain (ap (λ (a : App). a.top) c.in_ok-why.ensures.shape) in
-    IfOk-weaker c.with_packet_jobs.result _ _ (λ m h. h ∙ ap with_packet_jobs with_why) c.with_packet_jobs.ensures
+    let with_told = c.in_ok-told.ensures ∙ ap with_packet_jobs with_why in
+    IfOk-weaker c.with_chart_jobs.result _ _ (λ m h. h ∙ ap with_chart_jobs with_told) c.with_chart_jobs.ensures

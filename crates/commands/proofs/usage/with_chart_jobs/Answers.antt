@@ -1,0 +1,11 @@
+use Rattle.std.proofs.Common.{ap, ap₂, ◌≡◌, ◌∙◌}
+use Rattle.std.proofs.lemmas.Result.{IfOk-weaker}
+use Rattle.clap.specs.Simple.{App, app_of, with_subcommand}
+use Rattle.commands.proofs.usage.with_chart_jobs.Goals as goal
+
+pub returns : goal.returns
+returns c =
+    let with_compare = c.in_ok-subcommand.ensures.shape c.in_ok-compare.ensures.local
+    ∙ ap (with_subcommand (app_of c.args.rmapctl)) (ap (λ (a : App). a.top) c.in_ok-compare.ensures.shape) in
+    IfOk-weaker c.subcommand-2.result _ _ (λ m h. h.shape c.in_ok-map.ensures.local
+    ∙ ap₂ with_subcommand with_compare (ap (λ (a : App). a.top) c.in_ok-map.ensures.shape)) c.subcommand-2.ensures

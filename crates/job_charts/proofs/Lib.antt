@@ -1,0 +1,4 @@
+mod Limits
+mod PacketBytes
+mod WitnessPoints
+mod Telling

@@ -1,0 +1,128 @@
+-- What the job `compare` reads and prints.
+use Rattle.std.specs.Prelude.{◌≡◌, ◌⊎◌, ℕ, List, [], ◌∷◌, ◌++◌, Option, codes, string_bytes}
+use Rattle.std.specs.Io.KnownBytes.{Appends}
+use Rattle.charts.specs.Points.{IsDifference}
+use Rattle.charts.specs.Same.{AreSame}
+use Rattle.machine.specs.Sizes.{Maps}
+use Rattle.policy_table.specs.TableFaults.{policy_fault_of, table_fault_text}
+use Rattle.policy_table.specs.declared.rules.Rule.{Rule}
+use Rattle.policy_table.specs.declared.table_faults.TableFault.{TableFault}
+use Rattle.regions.specs.declared.points.Point.{Point}
+use Rattle.job_decide.specs.Tables.{HoldsBadTable, HoldsTable}
+use Rattle.job_parts.specs.Files.{Reads}
+use Rattle.job_parts.specs.Printed.{fault_line}
+use Rattle.job_parts.specs.Reading.{TextUnread}
+use Rattle.job_parts.specs.declared.faults.Fault.{Fault}
+use Rattle.job_parts.specs.declared.faults.Fault.TheVariants.{BadTable as IsBadTable, NoMemory}
+use Rattle.job_parts.specs.declared.status.Status.{Status}
+use Rattle.job_parts.specs.declared.status.Status.TheVariants.{Done, Failed, Misused}
+use Rattle.job_charts.specs.Compared.{TellsComparison}
+use Rattle.job_charts.specs.declared.compare.CompareWords.{CompareWords}
+use Rattle.job_charts.specs.declared.compare.NoPair.{NoPair}
+use Rattle.job_charts.specs.declared.compare.NoPair.TheVariants.{BadTable, Ended}
+
+-- the line of a table's fault was printed, and behind it a line with the name of its file and the place
+pub record TellsNamedFault (name : List ℕ) (fault : TableFault) (old new : Option (List ℕ)) : Type 0 where
+  pub told : Option (List ℕ)
+  pub named : Option (List ℕ)
+  pub line : Appends old told (fault_line (IsBadTable (policy_fault_of fault)))
+  pub file : Appends told named (codes "    " ++ name ++ codes " ")
+  pub place : Appends named new (table_fault_text fault ++ 10 ∷ [])
+
+-- two tables differ, and where they do was printed
+pub record TellsDifferent (one other : List Rule) (old new : Option (List ℕ)) : Type 0 where
+  pub point : Point
+  pub differ : IsDifference one other point
+  pub text : List ℕ
+  pub told : TellsComparison one other text
+  pub printed : Appends old new text
+
+-- two tables decide all commands alike, which was printed
+pub record TellsSame (one other : List Rule) (old new : Option (List ℕ)) : Type 0 where
+  pub same : AreSame one other
+  pub line : Appends old new (codes "same" ++ 10 ∷ [])
+
+-- what is printed of two tables, by the exit status
+abbrev pub TellsTables : (one other : List Rule) → (old new : Option (List ℕ)) → Status → Type 0
+TellsTables one other old new Done = TellsSame one other old new
+TellsTables one other old new Failed = TellsDifferent one other old new
+TellsTables one other old new Misused = ⊥
+
+-- why there is no table in the file of this name: it cannot be read, or the table has a fault, and the file's name is told with it
+abbrev pub IsNoNamed : {S : Type 0} → (reads : Reads S) → (name : List ℕ) → Maps → (before after : S) → NoPair → Type 0
+IsNoNamed reads name sizes before after (Ended fault) = TextUnread reads before name after fault
+IsNoNamed reads name sizes before after (BadTable own fault) =
+    (own.now ≡ name) × HoldsBadTable reads before name sizes fault after
+
+module _ {S : Type 0} (reads : Reads S) (words : CompareWords) where
+  -- the file of the old table has a table without a fault for these maps
+  abbrev pub HoldsOld : (before : S) → List Rule → (after : S) → Type 0
+  HoldsOld before rules after = HoldsTable reads before (string_bytes words.old) words.sizes rules after
+
+  -- the files were read in this order, and have such tables
+  pub record AreTables (before : S) (one other : List Rule) (after : S) : Type 0 where
+    pub between : S
+    pub first : HoldsOld before one between
+    pub second : HoldsTable reads between (string_bytes words.new) words.sizes other after
+
+  -- the new table cannot be read, behind the old one
+  pub record NewUnread (before after : S) (fault : Fault) : Type 0 where
+    pub between : S
+    pub rules : List Rule
+    pub first : HoldsOld before rules between
+    pub unread : TextUnread reads between (string_bytes words.new) after fault
+
+  -- the new table has this first fault, behind the old one, which has none
+  pub record NewIsBad (before after : S) (fault : TableFault) : Type 0 where
+    pub between : S
+    pub rules : List Rule
+    pub first : HoldsOld before rules between
+    pub held : HoldsBadTable reads between (string_bytes words.new) words.sizes fault after
+
+  -- a file cannot be read
+  abbrev pub IsUnread : (before after : S) → Fault → Type 0
+  IsUnread before after fault =
+      TextUnread reads before (string_bytes words.old) after fault ⊎ NewUnread before after fault
+
+  -- the table in the file of this name has this first fault
+  abbrev pub IsBad : (before after : S) → (name : List ℕ) → TableFault → Type 0
+  IsBad before after name fault =
+      ((name ≡ string_bytes words.old) × HoldsBadTable reads before (string_bytes words.old) words.sizes fault after)
+      ⊎ ((name ≡ string_bytes words.new) × NewIsBad before after fault)
+
+  -- why there are no two tables
+  abbrev pub IsNoPair : (before after : S) → NoPair → Type 0
+  IsNoPair before after (Ended fault) = IsUnread before after fault
+  IsNoPair before after (BadTable name fault) = IsBad before after name.now fault
+
+  -- two tables were read, and what is to be said of them was printed
+  pub record ComparesTables (before after : S) (old new : Option (List ℕ)) (status : Status) : Type 0 where
+    pub one : List Rule
+    pub other : List Rule
+    pub tables : AreTables before one other after
+    pub told : TellsTables one other old new status
+
+  -- a table has a fault, which was told with the name of its file and its place
+  pub record TellsBad (before after : S) (old new : Option (List ℕ)) (status : Status) : Type 0 where
+    pub name : List ℕ
+    pub fault : TableFault
+    pub bad : IsBad before after name fault
+    pub told : TellsNamedFault name fault old new
+    pub failed : status ≡ Failed
+
+  -- what `compare` reads and prints where no fault ends it, with its exit status: 0 where both tables decide all commands alike,
+  -- 1 where they do not, or one has a fault
+  abbrev pub ComparesFile : (before after : S) → (old new : Option (List ℕ)) → Status → Type 0
+  ComparesFile before after old new status =
+      ComparesTables before after old new status ⊎ TellsBad before after old new status
+
+  -- memory was refused behind the reads
+  pub record LacksMemory (before after : S) (fault : Fault) : Type 0 where
+    pub one : List Rule
+    pub other : List Rule
+    pub tables : AreTables before one other after
+    pub is_fault : fault ≡ NoMemory
+
+  -- a file cannot be read, or memory was refused behind the reads; nothing was printed
+  abbrev pub IsNotCompared : (before after : S) → Fault → Type 0
+  IsNotCompared before after fault = IsUnread before after fault ⊎ LacksMemory before after fault

@@ -1,0 +1,11 @@
+pub mod Words
+pub mod Courses
+pub mod Packets
+pub mod Witnesses
+pub mod Telling
+pub mod Compared
+pub mod Mapped
+pub mod CompareJob
+pub mod ComparedFile
+pub mod MapJob
+pub mod MappedFile

@@ -1,0 +1,28 @@
+-- The words of the job `map`.
+use Rattle.std.specs.Prelude.{◌≡◌, ◌⊎◌, List, Some, None, codes, string_bytes}
+use Rattle.clap.specs.Walk.{Row, first_of}
+use Rattle.clap.specs.Simple.{App, new_app, with_rule}
+use Rattle.job_parts.specs.Arguments.{file_rule, option_rule}
+use Rattle.job_parts.specs.Options.{GivesSizes, IsBadList}
+use Rattle.job_parts.specs.declared.usage.UsageFault.{UsageFault}
+use Rattle.job_parts.specs.declared.usage.UsageFault.TheVariants.{Parse, BadOption, Memory}
+use Rattle.job_charts.specs.declared.map.MapWords.{MapWords}
+
+-- `map TABLE [--maps LIST]`
+abbrev pub map_app : App
+map_app = with_rule (with_rule (new_app (codes "map")) (file_rule (codes "table"))) (option_rule (codes "maps"))
+
+-- the words are those of map with these matches
+abbrev pub NamesMap : List Row → MapWords → Type 0
+NamesMap rows words = (first_of (codes "table") rows ≡ Some (string_bytes words.table))
+    × GivesSizes (first_of (codes "maps") rows) words.sizes
+
+-- matches without the file, or with a list of maps that is none
+abbrev pub SpoilsMap : List Row → Type 0
+SpoilsMap rows = (first_of (codes "table") rows ≡ None) ⊎ IsBadList (first_of (codes "maps") rows)
+
+-- such matches, or memory was refused
+abbrev pub RefusesMap : List Row → UsageFault → Type 0
+RefusesMap rows Memory = Unit {0}
+RefusesMap rows BadOption = SpoilsMap rows
+RefusesMap rows (Parse text) = ⊥

@@ -1,0 +1,51 @@
+-- What the job `map` reads and prints.
+use Rattle.std.specs.Prelude.{◌≡◌, ◌⊎◌, ℕ, List, Option, string_bytes}
+use Rattle.std.specs.Io.KnownBytes.{Appends}
+use Rattle.policy_table.specs.declared.rules.Rule.{Rule}
+use Rattle.policy_table.specs.declared.table_faults.TableFault.{TableFault}
+use Rattle.job_decide.specs.Tables.{HoldsBadTable, HoldsTable, TellsTableFault}
+use Rattle.job_parts.specs.Files.{Reads}
+use Rattle.job_parts.specs.Reading.{TextUnread}
+use Rattle.job_parts.specs.declared.faults.Fault.{Fault}
+use Rattle.job_parts.specs.declared.faults.Fault.TheVariants.{NoMemory}
+use Rattle.job_parts.specs.declared.status.Status.{Status}
+use Rattle.job_parts.specs.declared.status.Status.TheVariants.{Done, Failed, Misused}
+use Rattle.job_charts.specs.Mapped.{TellsMap}
+use Rattle.job_charts.specs.declared.map.MapWords.{MapWords}
+
+module _ {S : Type 0} (reads : Reads S) (words : MapWords) where
+  -- the file has a table without a fault for these maps
+  abbrev pub IsGiven : (before : S) → List Rule → (after : S) → Type 0
+  IsGiven before rules after = HoldsTable reads before (string_bytes words.table) words.sizes rules after
+
+  -- what the table decides was printed
+  pub record MapsTable (before after : S) (old new : Option (List ℕ)) : Type 0 where
+    pub rules : List Rule
+    pub given : IsGiven before rules after
+    pub text : List ℕ
+    pub told : TellsMap rules text
+    pub printed : Appends old new text
+
+  -- the table has a fault, which was told with its place
+  pub record TellsTable (before after : S) (old new : Option (List ℕ)) : Type 0 where
+    pub fault : TableFault
+    pub held : HoldsBadTable reads before (string_bytes words.table) words.sizes fault after
+    pub told : TellsTableFault fault old new
+
+  -- what `map` reads and prints where no fault ends it, by its exit status: 0 where the map was printed, 1 where the table has
+  -- a fault
+  abbrev pub MapsFile : (before after : S) → (old new : Option (List ℕ)) → Status → Type 0
+  MapsFile before after old new Done = MapsTable before after old new
+  MapsFile before after old new Failed = TellsTable before after old new
+  MapsFile before after old new Misused = ⊥
+
+  -- memory was refused behind the read
+  pub record LacksMemory (before after : S) (fault : Fault) : Type 0 where
+    pub rules : List Rule
+    pub given : IsGiven before rules after
+    pub is_fault : fault ≡ NoMemory
+
+  -- the file cannot be read, or memory was refused behind the read; nothing was printed
+  abbrev pub IsNotMapped : (before after : S) → Fault → Type 0
+  IsNotMapped before after fault =
+      TextUnread reads before (string_bytes words.table) after fault ⊎ LacksMemory before after fault

@@ -1,0 +1,72 @@
+-- The packet of a point.
+use Rattle.std.specs.Prelude.{◌≡◌, ◌+◌, ◌-◌, ℕ, Bool, false, List, [], ◌++◌, codes, is_none, replicate, Option, Some, None}
+use Rattle.hex.specs.Hex.{encode_upper}
+use Rattle.machine.specs.Memory.{header}
+use Rattle.rmap.specs.Checks.{header_check}
+use Rattle.rmap.specs.Command.{CommandValue, IsHeader, bytes_of, command_of, discard_of}
+use Rattle.rmap.specs.Reply.{with_crc}
+use Rattle.rmap.specs.declared.discard.Discard.{Discard}
+use Rattle.rmap.specs.declared.kind.Kind.{Kind}
+use Rattle.rmap.specs.declared.kind.Kind.TheVariants.{Read, Rmw, Unused, Write}
+use Rattle.spw.specs.Cargo.{Cargo}
+use Rattle.spw.specs.declared.packets.End.TheVariants.{Eop}
+use Rattle.initiator.specs.Writing.{command_with}
+use Rattle.initiator.specs.declared.write.CommandFields.{CommandFields}
+use Rattle.regions.specs.Points.{HasCommand}
+use Rattle.regions.specs.declared.points.Point.{Point}
+use Rattle.charts.specs.Points.{point_of}
+use Rattle.charts.specs.Witness.{instruction_for, length_for}
+use Rattle.job_decide.specs.DecideJob.{own_windows}
+use Rattle.job_nodes.specs.declared.node.TheConstants.{NODE_ADDRESS}
+
+-- how many bytes of data the command of a point has: as many as lie from its first address to its last
+abbrev pub count_at : Point → ℕ
+count_at p = length_for p.kind (p.last - p.first + 1)
+
+-- the fields of the command of a point, for the node of the jobs
+abbrev pub fields_at : Point → CommandFields
+fields_at p = record {
+  target = NODE_ADDRESS;
+  instruction = record { 0 = instruction_for p.kind };
+  key = p.key;
+  reply_address = record { ref_ptr = (0, 0); now = [] };
+  initiator = p.initiator;
+  transaction = 0;
+  extended = p.extended;
+  address = p.first;
+  length = count_at p;
+}
+
+-- what stands behind the header of a command of a kind with so many bytes of data: zeros and their CRC, where it carries data
+abbrev pub body_for : Kind → (count : ℕ) → List ℕ
+body_for Read count = []
+body_for Write count = with_crc (replicate count 0)
+body_for Rmw count = with_crc (replicate count 0)
+body_for Unused count = []
+
+-- the command of a point
+abbrev pub command_at : Point → CommandValue
+command_at p = command_with (fields_at p) (body_for p.kind (count_at p))
+
+-- its packet
+unfoldable pub packet_at : Point → Cargo
+packet_at p = record { bytes = bytes_of (command_at p); end = Eop }
+
+-- the line of a whole packet at port 0, without its end
+abbrev pub packet_text : Cargo → List ℕ
+packet_text p = codes "0 " ++ encode_upper p.bytes ++ codes " EOP"
+
+-- whether a packet that is no command for that reason, or a command, is brought to the table of the node of the jobs
+abbrev pub is_brought_by : Option Discard → Cargo → Bool
+is_brought_by (Some discard) p = false
+is_brought_by None p = is_none (header_check (command_of p) own_windows)
+
+-- whether the node of the jobs brings a packet to its table: it is a command that no check of its header answers
+abbrev pub is_brought : Cargo → Bool
+is_brought p = is_brought_by (discard_of p.bytes) p
+
+-- the packet of a point that a command has is a command, which has this point
+abbrev pub PacketsHavePoints : Type 0
+PacketsHavePoints =
+    (p : Point) → HasCommand p
+    → IsHeader (command_at p) × (point_of (header (command_at p).front (command_at p).tail) ≡ p)

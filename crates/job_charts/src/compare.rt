@@ -1,0 +1,184 @@
+//! The job `compare`.
+
+ghost use Rattle.std.specs.Prelude.{◌≡◌, IfErr, IfOk, OnOk, false};
+ghost use Rattle.clap.specs.Simple.{app_of};
+ghost use Rattle.clap.specs.declared.builder.command.Command.TheViews.{out-Command as fields_of};
+ghost use Rattle.clap.specs.Walk.{rows_of};
+ghost use Rattle.clap.specs.Matches.{found_of};
+ghost use Rattle.job_parts.specs.Stops.{StopsBy};
+ghost use Rattle.job_charts.specs.CompareJob.{NamesCompare, RefusesCompare, are_one_input, compare_app};
+ghost use Rattle.job_charts.specs.ComparedFile.{AreTables, ComparesFile, IsNoNamed, IsNoPair, IsNotCompared, TellsNamedFault, TellsTables};
+ghost use Rattle.job_decide.specs.Tables.{HoldsTable};
+ghost use Rattle.job_parts.specs.declared.faults.Fault.TheVariants.{NoMemory};
+
+use crate::compared::comparison_text;
+use charts::first_difference;
+use clap::{ArgMatches, Command};
+use job_decide::tables::{NoTable, table_in};
+use job_parts::arguments::{file, name_of};
+use job_parts::faults::Fault;
+use job_parts::options::{maps_option, sizes_of};
+use job_parts::printing::print_text;
+use job_parts::status::Status;
+use job_parts::stops::Halt;
+use job_parts::storage::Files;
+use job_parts::usage::UsageFault;
+use machine::MapSizes;
+use policy_table::{Table, TableFault};
+use std::alloc::{AllocError, Global};
+use std::io::{self, Write};
+
+/// The name of standard input.
+const STANDARD_INPUT: &str = "-";
+
+/// The words of the job `compare`.
+#[derive(Debug, Drop)]
+pub struct CompareWords {
+    /// The name of the file of the old table.
+    pub old: String,
+    /// The name of the file of the new table.
+    pub new: String,
+    /// How many cells each map of the node has, and of which kind it is.
+    pub sizes: MapSizes,
+}
+
+/// `compare OLD NEW [--maps LIST]`.
+pub fn compare_command<'a>(alloc: Global) -> Result<Command<'a>, AllocError>
+    ensures shape { IfOk result (λ c. app_of c ≡ compare_app) }
+    ensures local { IfOk result (λ c. (fields_of c).has_globals ≡ false) }
+{
+    let help = "The file of the old policy table, or - for standard input";
+    let old = file(alloc, "old", "OLD", help);
+    let help = "The file of the new policy table, or - for standard input";
+    let new = file(alloc, "new", "NEW", help);
+    let maps = maps_option(alloc);
+    Command::new(alloc, "compare")
+        .about("Tells where two policy tables decide differently, with a packet for each difference")
+        .arg(old)?
+        .arg(new)?
+        .arg(maps)
+}
+
+/// Whether both tables would be read of standard input, which one read ends.
+fn are_one_input(old: &str, new: &str) -> bool
+    ensures { result ≡ are_one_input old.now new.now }
+{
+    old == STANDARD_INPUT && new == STANDARD_INPUT
+}
+
+/// The words of `compare` with these matches.
+pub fn compare_job(alloc: Global, found: &ArgMatches) -> Result<CompareWords, UsageFault>
+    ensures ok { IfOk result (NamesCompare (rows_of (found_of found.now))) }
+    ensures err { IfErr result (RefusesCompare (rows_of (found_of found.now))) }
+{
+    let old = name_of(alloc, found, "old")?;
+    let new = name_of(alloc, found, "new")?;
+    if are_one_input(old.as_str(), new.as_str()) {
+        return Err(UsageFault::BadOption);
+    }
+    let sizes = sizes_of(alloc, found)?;
+    Ok(CompareWords { old, new, sizes })
+}
+
+/// Why there are no two tables.
+#[derive(Debug, Drop)]
+enum NoPair<'a> {
+    /// The fault ends the job.
+    Ended(Fault<'a>),
+    /// The table in the file of this name has a fault.
+    BadTable(&'a str, TableFault),
+}
+
+/// The table in the file of this name.
+fn named_table<'a, F: Files>(
+    alloc: Global,
+    files: &mut F,
+    name: &'a str,
+    sizes: &MapSizes,
+) -> Result<Table, NoPair<'a>>
+    ensures table { IfOk result (λ table.
+        HoldsTable F.reads files.old name.now sizes.now table files.new) }
+    ensures none { IfErr result
+        (IsNoNamed F.reads name.now sizes.now files.old files.new) }
+{
+    match table_in(alloc, files, name, sizes) {
+        Ok(table) => Ok(table),
+        Err(NoTable::Ended(fault)) => Err(NoPair::Ended(fault)),
+        Err(NoTable::BadTable(fault)) => Err(NoPair::BadTable(name, fault)),
+    }
+}
+
+/// The two tables, read in this order.
+fn tables<'a, F: Files>(
+    alloc: Global,
+    words: &'a CompareWords,
+    files: &mut F,
+) -> Result<(Table, Table), NoPair<'a>>
+    ensures tables { IfOk result (λ made.
+        AreTables F.reads words.now files.old made.0 made.1 files.new) }
+    ensures none { IfErr result (IsNoPair F.reads words.now files.old files.new) }
+{
+    let old = named_table(alloc, files, words.old.as_str(), &words.sizes)?;
+    let new = named_table(alloc, files, words.new.as_str(), &words.sizes)?;
+    Ok((old, new))
+}
+
+/// Prints the fault of a table: its line, and a line with the name of its file and the place.
+fn print_named_fault<W: Write>(out: &mut W, name: &str, fault: &TableFault) -> io::Result<()>
+    ensures { OnOk result
+        (TellsNamedFault name.now fault.now (W.contents out.old) (W.contents out.new)) }
+{
+    let code = fault.fault().code();
+    writeln!(out, "policy fault {code}")?;
+    write!(out, "    {name} ")?;
+    writeln!(out, "{fault}")
+}
+
+/// Prints that two tables are the same, or where they differ.
+#[tactic(auto, using(crate::proofs::Limits::limited))]
+fn print_comparison<'a, W: Write>(
+    alloc: Global,
+    old: &Table,
+    new: &Table,
+    out: &mut W,
+) -> Result<Status, Halt<'a>>
+    ensures done { IfOk result
+        (TellsTables old.now new.now (W.contents out.old) (W.contents out.new)) }
+    ensures stops { IfErr result (StopsBy (λ fault. fault ≡ NoMemory)) }
+    ensures quiet { IfErr result (StopsBy (λ _. W.contents out.new ≡ W.contents out.old)) }
+{
+    let (old, new) = (old.rules(), new.rules());
+    if first_difference(old, new).is_none() {
+        writeln!(out, "same")?;
+        return Ok(Status::Done);
+    }
+    let text = comparison_text(alloc, old, new)?;
+    print_text(out, text.as_str())?;
+    Ok(Status::Failed)
+}
+
+/// Prints `same` where the tables of two files decide all commands alike, and else where they differ. Where a table has a fault
+/// that is printed, with the name of its file and the place, and the job failed.
+///
+/// Faults are found in this order: the file of the old table (`CannotRead`, also where it is not UTF-8), that table, the file
+/// of the new one, and that table.
+pub fn compare_file<'a, F: Files, W: Write>(
+    alloc: Global,
+    words: &'a CompareWords,
+    files: &mut F,
+    out: &mut W,
+) -> Result<Status, Halt<'a>>
+    ensures done { IfOk result (ComparesFile F.reads words.now files.old files.new
+        (W.contents out.old) (W.contents out.new)) }
+    ensures stops { IfErr result (StopsBy (IsNotCompared F.reads words.now files.old files.new)) }
+    ensures quiet { IfErr result (StopsBy (λ _. W.contents out.new ≡ W.contents out.old)) }
+{
+    match tables(alloc, words, files) {
+        Ok((old, new)) => print_comparison(alloc, &old, &new, out),
+        Err(NoPair::Ended(fault)) => Err(Halt::Ended(fault)),
+        Err(NoPair::BadTable(name, fault)) => {
+            print_named_fault(out, name, &fault)?;
+            Ok(Status::Failed)
+        }
+    }
+}

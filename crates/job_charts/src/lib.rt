@@ -1,0 +1,11 @@
+//! The jobs `map` and `compare` of `rmapctl`: what a policy table decides of all commands, and where two decide differently.
+#![tactic(auto)]
+
+pub mod compare;
+mod compared;
+mod courses;
+pub mod map;
+mod mapped;
+mod packets;
+mod witnesses;
+mod words;

@@ -1,0 +1,87 @@
+//! The job `map`.
+
+ghost use Rattle.std.specs.Prelude.{◌≡◌, IfErr, IfOk, false};
+ghost use Rattle.clap.specs.Simple.{app_of};
+ghost use Rattle.clap.specs.declared.builder.command.Command.TheViews.{out-Command as fields_of};
+ghost use Rattle.clap.specs.Walk.{rows_of};
+ghost use Rattle.clap.specs.Matches.{found_of};
+ghost use Rattle.job_parts.specs.Stops.{StopsBy};
+ghost use Rattle.job_charts.specs.MapJob.{NamesMap, RefusesMap, map_app};
+ghost use Rattle.job_charts.specs.MappedFile.{IsNotMapped, MapsFile};
+
+use crate::mapped::map_text;
+use clap::{ArgMatches, Command};
+use job_decide::tables::{NoTable, print_table_fault, table_in};
+use job_parts::arguments::{file, name_of};
+use job_parts::options::{maps_option, sizes_of};
+use job_parts::printing::print_text;
+use job_parts::status::Status;
+use job_parts::stops::Halt;
+use job_parts::storage::Files;
+use job_parts::usage::UsageFault;
+use machine::MapSizes;
+use std::alloc::{AllocError, Global};
+use std::io::Write;
+
+/// The words of the job `map`.
+#[derive(Debug, Drop)]
+pub struct MapWords {
+    /// The name of the file of the table.
+    pub table: String,
+    /// How many cells each map of the node has, and of which kind it is.
+    pub sizes: MapSizes,
+}
+
+/// `map TABLE [--maps LIST]`.
+pub fn map_command<'a>(alloc: Global) -> Result<Command<'a>, AllocError>
+    ensures shape { IfOk result (λ c. app_of c ≡ map_app) }
+    ensures local { IfOk result (λ c. (fields_of c).has_globals ≡ false) }
+{
+    let help = "The file of the policy table, or - for standard input";
+    let table = file(alloc, "table", "TABLE", help);
+    let maps = maps_option(alloc);
+    Command::new(alloc, "map")
+        .about("Tells what a policy table decides, for each command one line")
+        .arg(table)?
+        .arg(maps)
+}
+
+/// The words of `map` with these matches.
+pub fn map_job(alloc: Global, found: &ArgMatches) -> Result<MapWords, UsageFault>
+    ensures ok { IfOk result (NamesMap (rows_of (found_of found.now))) }
+    ensures err { IfErr result (RefusesMap (rows_of (found_of found.now))) }
+{
+    let table = name_of(alloc, found, "table")?;
+    let sizes = sizes_of(alloc, found)?;
+    Ok(MapWords { table, sizes })
+}
+
+/// Prints what the table of a file decides: each command lies in one line alone, with the rules that the table asks there; and
+/// behind these the rules that never match. Where the table has a fault that is printed, with its place, and the job failed.
+///
+/// Faults are found in this order: the file (`CannotRead`, also where it is not UTF-8), and the table.
+#[tactic(auto, using(crate::proofs::Limits::limited))]
+pub fn map_file<'a, F: Files, W: Write>(
+    alloc: Global,
+    words: &'a MapWords,
+    files: &mut F,
+    out: &mut W,
+) -> Result<Status, Halt<'a>>
+    ensures done { IfOk result (MapsFile F.reads words.now files.old files.new
+        (W.contents out.old) (W.contents out.new)) }
+    ensures stops { IfErr result (StopsBy (IsNotMapped F.reads words.now files.old files.new)) }
+    ensures quiet { IfErr result (StopsBy (λ _. W.contents out.new ≡ W.contents out.old)) }
+{
+    match table_in(alloc, files, words.table.as_str(), &words.sizes) {
+        Ok(table) => {
+            let text = map_text(alloc, table.rules())?;
+            print_text(out, text.as_str())?;
+            Ok(Status::Done)
+        }
+        Err(NoTable::Ended(fault)) => Err(Halt::Ended(fault)),
+        Err(NoTable::BadTable(fault)) => {
+            print_table_fault(out, &fault)?;
+            Ok(Status::Failed)
+        }
+    }
+}

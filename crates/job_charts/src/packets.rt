@@ -1,0 +1,135 @@
+//! The packet of a point.
+
+ghost use Rattle.std.specs.Prelude.{◌≡◌, ◌++◌, ◌+◌, ◌-◌, IfOk, OnOk, replicate, string_bytes};
+ghost use Rattle.charts.specs.Witness.{instruction_for, length_for};
+ghost use Rattle.initiator.specs.Writing.{AreFields, command_with};
+ghost use Rattle.regions.specs.Points.{HasCommand};
+ghost use Rattle.rmap.specs.Command.{bytes_of, command_of, discard_of};
+ghost use Rattle.rmap.specs.Checks.{header_check};
+ghost use Rattle.job_charts.specs.Packets.{PacketsHavePoints, body_for, command_at, count_at, fields_at, is_brought, packet_at, packet_text};
+ghost use Rattle.job_decide.specs.DecideJob.{own_windows};
+
+use initiator::{CommandFields, body_with_crc, write_command};
+use job_decide::node_windows::own_windows;
+use job_nodes::node::NODE_ADDRESS;
+use regions::Point;
+use rmap::{Command, Instruction, Kind, header_check};
+use spw::{End, Packet};
+use std::alloc::{AllocError, Global};
+
+/// The instruction of a command of a kind, with a reply and increment.
+fn instruction_for(kind: Kind) -> Instruction
+    ensures { result.0 ≡ instruction_for kind }
+{
+    match kind {
+        Kind::Read => Instruction(0x4C),
+        Kind::Write => Instruction(0x6C),
+        Kind::Rmw => Instruction(0x5C),
+        Kind::Unused => Instruction(0x40),
+    }
+}
+
+/// The length field of a command of a kind with so many addresses.
+fn length_for(kind: Kind, addresses: u32) -> u32
+    ensures { result ≡ length_for kind addresses }
+{
+    match kind {
+        Kind::Rmw if addresses == 1 => 0,
+        _ => addresses,
+    }
+}
+
+/// How many bytes of data the command of a point has.
+fn count_at(point: &Point) -> u32
+    requires { HasCommand point.now }
+    ensures { result ≡ count_at point.now }
+{
+    length_for(point.kind, point.last - point.first + 1)
+}
+
+/// The fields of the command of a point.
+fn fields_at<'a>(point: &Point) -> CommandFields<'a>
+    requires { HasCommand point.now }
+    ensures fields { AreFields result }
+    ensures same { (body : _) → command_with result body ≡ command_with (fields_at point.now) body }
+{
+    CommandFields {
+        target: NODE_ADDRESS,
+        instruction: instruction_for(point.kind),
+        key: point.key,
+        reply_address: &[],
+        initiator: point.initiator,
+        transaction: 0,
+        extended: point.extended,
+        address: point.first,
+        length: count_at(point),
+    }
+}
+
+/// So many bytes of zero.
+fn zeros(alloc: Global, count: usize) -> Result<Vec<u8>, AllocError>
+    ensures { IfOk result (λ bytes. bytes.items ≡ replicate count 0) }
+{
+    vec![in alloc; 0; count]
+}
+
+/// What stands behind the header of a command of a kind with so many bytes of data: zeros, where it carries data.
+fn body_for(alloc: Global, kind: Kind, count: u32) -> Result<Vec<u8>, AllocError>
+    ensures { IfOk result (λ body. body.items ≡ body_for kind count) }
+{
+    match kind {
+        Kind::Write | Kind::Rmw => {
+            let data = zeros(alloc, count as usize)?;
+            body_with_crc(alloc, data.as_slice())
+        }
+        Kind::Read | Kind::Unused => Ok(Vec::new(alloc)),
+    }
+}
+
+/// The bytes of the command of a point.
+fn bytes_at(alloc: Global, point: &Point) -> Result<Vec<u8>, AllocError>
+    requires { HasCommand point.now }
+    ensures { IfOk result (λ bytes. bytes.items ≡ bytes_of (command_at point.now)) }
+{
+    let fields = fields_at(point);
+    let body = body_for(alloc, point.kind, count_at(point))?;
+    write_command(alloc, &fields, body.as_slice())
+}
+
+/// The packet of a point: its command, for the node of the jobs, with zeros as data.
+#[tactic(auto, unfolding(crate::specs::Packets::packet_at))]
+pub fn packet_at(alloc: Global, point: &Point) -> Result<Packet, AllocError>
+    requires { HasCommand point.now }
+    ensures { IfOk result (λ packet. packet ≡ packet_at point.now) }
+{
+    let bytes = bytes_at(alloc, point)?;
+    match Packet::new(bytes, End::Eop) {
+        Ok(packet) => Ok(packet),
+        // Memory alone can be refused to it: a command has at most 4,096 bytes of data.
+        Err(_) => Err(AllocError),
+    }
+}
+
+/// Whether the node of the jobs brings a packet to its table: whether it is a command that no check of its header answers.
+pub fn is_brought(packet: &Packet) -> bool
+    ensures { result ≡ is_brought packet.now }
+{
+    match Command::view(packet) {
+        Ok(command) => header_check(&command, &own_windows()).is_ok(),
+        Err(_) => false,
+    }
+}
+
+/// Adds the line of a whole packet at port 0, without its end.
+pub fn add_packet(text: &mut String, alloc: Global, packet: &Packet) -> Result<(), AllocError>
+    ensures { OnOk result
+        (string_bytes text.new ≡ string_bytes text.old ++ packet_text packet.now) }
+{
+    let digits = hex::encode_upper(alloc, packet.bytes())?;
+    write!(text, "0 {digits} EOP")
+}
+
+/// A law and no work: the packet of a point is a command that has this point.
+pub fn packets_have_points()
+    ensures { PacketsHavePoints }
+{}

@@ -1,0 +1,71 @@
+//! The tables of files.
+
+ghost use Rattle.std.specs.Prelude.{◌≡◌, IfErr, IfOk, OnOk};
+ghost use Rattle.job_decide.specs.Tables.{HoldsTable, IsNoTable, TellsTableFault};
+ghost use Rattle.job_decide.specs.declared.tables.NoTable.TheVariants.{BadTable, Ended};
+ghost use Rattle.job_parts.specs.declared.faults.Fault.TheVariants.{NoMemory};
+
+use job_parts::faults::Fault;
+use job_parts::programs::text_in;
+use job_parts::storage::Files;
+use machine::MapSizes;
+use policy::{Table, TableFault};
+use std::alloc::{AllocError, Global};
+use std::io::{self, Write};
+
+/// Why there is no table.
+#[derive(Debug, Drop)]
+pub enum NoTable<'a> {
+    /// The fault ends the job.
+    Ended(Fault<'a>),
+    /// The table has a fault.
+    BadTable(TableFault),
+}
+
+impl<'a> From<Fault<'a>> for NoTable<'a> {
+    ghost from_gives = { λ fault none. none ≡ Ended fault };
+
+    fn from(fault: Fault<'a>) -> Self {
+        NoTable::Ended(fault)
+    }
+}
+
+impl From<TableFault> for NoTable<'_> {
+    ghost from_gives = { λ fault none. none ≡ BadTable fault };
+
+    fn from(fault: TableFault) -> Self {
+        NoTable::BadTable(fault)
+    }
+}
+
+impl From<AllocError> for NoTable<'_> {
+    ghost from_gives = { λ _ none. none ≡ Ended NoMemory };
+
+    fn from(_refused: AllocError) -> Self {
+        NoTable::Ended(Fault::NoMemory)
+    }
+}
+
+/// The table in the file of this name, which compiles for a node with maps of these sizes.
+pub fn table_in<'a, F: Files>(
+    alloc: Global,
+    files: &mut F,
+    name: &'a str,
+    sizes: &MapSizes,
+) -> Result<Table, NoTable<'a>>
+    ensures table { IfOk result (λ table.
+        HoldsTable F.reads files.old name.now sizes.now table files.new) }
+    ensures none { IfErr result (IsNoTable F.reads files.old name.now sizes.now files.new) }
+{
+    let text = text_in(alloc, files, name)?;
+    Ok(Table::read_for(alloc, text.as_str(), sizes)?)
+}
+
+/// Prints the fault of a table: its line, and a line with its place.
+pub fn print_table_fault<W: Write>(out: &mut W, fault: &TableFault) -> io::Result<()>
+    ensures { OnOk result (TellsTableFault fault.now (W.contents out.old) (W.contents out.new)) }
+{
+    let code = fault.fault().code();
+    writeln!(out, "policy fault {code}")?;
+    writeln!(out, "    {fault}")
+}

@@ -1,0 +1,56 @@
+-- What the jobs `compare` and `map` leave in a folder: their reads changed nothing.
+use Rattle.std.proofs.Common.{◌≡◌, inl, inr, ℕ, List, Option, Some, None, ◌∙◌}
+use Rattle.policy_table.specs.declared.rules.Rule.{Rule}
+use Rattle.policy_table.specs.declared.table_faults.TableFault.{TableFault}
+use Rattle.job_parts.specs.Reading.{TextUnread}
+use Rattle.job_parts.specs.declared.faults.Fault.{Fault}
+use Rattle.job_parts.specs.declared.status.Status.{Status}
+use Rattle.job_parts.specs.declared.status.Status.TheVariants.{Done, Failed, Misused}
+use Rattle.job_charts.specs.ComparedFile.{AreTables, ComparesFile, IsBad, IsNotCompared, IsUnread}
+use Rattle.job_charts.specs.MappedFile.{IsNotMapped, MapsFile}
+use Rattle.job_charts.specs.declared.compare.CompareWords.{CompareWords}
+use Rattle.job_charts.specs.declared.map.MapWords.{MapWords}
+use Rattle.test_kit_jobs.specs.Folders.{FolderReads, FolderValue}
+
+-- a read leaves the folder as it was
+same : (before : FolderValue) (name : List ℕ) (given : Option (List ℕ)) (after : FolderValue) → FolderReads before name given after → after ≡ before
+same before name None after read = read
+same before name (Some bytes) after read = read.0
+
+-- a file that was no text
+no_text : (before : FolderValue) (name : List ℕ) (after : FolderValue) (fault : Fault) → TextUnread FolderReads before name after fault → after ≡ before
+no_text before name after fault is = same before name is.no_text.given after is.no_text.read
+
+pub maps_file : (words : MapWords) (before after : FolderValue) (old new : Option (List ℕ)) (status : Status)
+    → MapsFile FolderReads words before after old new status → after ≡ before
+maps_file words before after old new Done is = is.given.read.0
+maps_file words before after old new Failed is = is.held.read.0
+maps_file words before after old new Misused is = absurd is
+
+pub unmapped : (words : MapWords) (before after : FolderValue) (fault : Fault) → IsNotMapped FolderReads words before after fault → after ≡ before
+unmapped words before after fault (inl is) = no_text before _ after fault is
+unmapped words before after fault (inr is) = is.given.read.0
+
+-- two tables that were read
+paired : (words : CompareWords) (before : FolderValue) (one other : List Rule) (after : FolderValue)
+    → AreTables FolderReads words before one other after → after ≡ before
+paired words before one other after are = are.second.read.0 ∙ are.first.read.0
+
+bad : (words : CompareWords) (before after : FolderValue) (name : List ℕ) (fault : TableFault)
+    → IsBad FolderReads words before after name fault → after ≡ before
+bad words before after name fault (inl is) = is.1.read.0
+bad words before after name fault (inr is) = is.1.held.read.0 ∙ is.1.first.read.0
+
+unread : (words : CompareWords) (before after : FolderValue) (fault : Fault) → IsUnread FolderReads words before after fault → after ≡ before
+unread words before after fault (inl is) = no_text before _ after fault is
+unread words before after fault (inr is) = no_text is.between _ after fault is.unread ∙ is.first.read.0
+
+pub compares_file : (words : CompareWords) (before after : FolderValue) (old new : Option (List ℕ)) (status : Status)
+    → ComparesFile FolderReads words before after old new status → after ≡ before
+compares_file words before after old new status (inl is) = paired words before is.one is.other after is.tables
+compares_file words before after old new status (inr is) = bad words before after is.name is.fault is.bad
+
+pub uncompared : (words : CompareWords) (before after : FolderValue) (fault : Fault) → IsNotCompared FolderReads words before after fault
+    → after ≡ before
+uncompared words before after fault (inl is) = unread words before after fault is
+uncompared words before after fault (inr is) = paired words before is.one is.other after is.tables
