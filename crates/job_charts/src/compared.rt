@@ -154,11 +154,7 @@ fn add_line(
 }
 
 /// Adds what is told of each line.
-fn add_lines(
-    text: &mut String,
-    alloc: Global,
-    comparison: Comparison<'_>,
-) -> Result<(), AllocError>
+fn add_lines(text: &mut String, alloc: Global, comparison: Comparison<'_>) -> Result<(), AllocError>
     requires old_limits { All HasLimit comparison.old.now }
     requires new_limits { All HasLimit comparison.new.now }
     ensures { OnOk result (TellsFirst

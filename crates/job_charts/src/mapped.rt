@@ -17,12 +17,7 @@ use policy_table::Rule;
 use std::alloc::{AllocError, Global};
 
 /// Adds a line: its words, and what the table asks there.
-fn add_line(
-    text: &mut String,
-    alloc: Global,
-    rules: &[Rule],
-    line: &Line,
-) -> Result<(), AllocError>
+fn add_line(text: &mut String, alloc: Global, rules: &[Rule], line: &Line) -> Result<(), AllocError>
     ensures { OnOk result
         (string_bytes text.new ≡ with_line (string_bytes text.old) rules.now line.now) }
 {

@@ -10,6 +10,7 @@ use test_kit_jobs::{folder_of, job_named};
 
 /// The names of the files of tables.
 const OLD: &str = "old";
+
 const NEW: &str = "new";
 
 /// What a row has for no maps.
