@@ -5,7 +5,7 @@
 //! differs, with what came, and how many rows of each table agree.
 #![tactic(auto)]
 
-mod charts;
+mod chart_rows;
 mod corners;
 mod images;
 mod insns;
@@ -67,7 +67,7 @@ fn main(rt: HostRuntime) -> Result<(), Fail> {
         peaks::printed(&rt, alloc, given)
     })?;
     compare(&rt, &mut out, "charts.txt", |alloc, given| {
-        charts::printed(&rt, alloc, given)
+        chart_rows::printed(&rt, alloc, given)
     })?;
     let printed = replies::printed(&rt, rt.alloc())?;
     compare_lines(&rt, &mut out, "replies.txt", &printed)?;
