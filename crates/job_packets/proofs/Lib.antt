@@ -2,3 +2,4 @@ mod AddedArguments
 mod HexDigits
 mod Instructions
 mod NoOrders
+mod SlotLists

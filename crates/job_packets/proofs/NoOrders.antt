@@ -1,11 +1,12 @@
 -- Words that write nothing of which something can be made.
-use Rattle.std.proofs.Common.{◌≡◌, ◌≢◌, ◌∷◌, ℕ, List, Some, Option, inl, inr, sym, subst, get_or, string_bytes, codes, arith, rules}
+use Rattle.std.proofs.Common.{◌≡◌, ◌≢◌, ◌∷◌, ℕ, List, Some, Option, inl, inr, get_or, string_bytes, codes, arith, rules}
 use Rattle.clap.specs.Walk.{Row, first_of}
 use Rattle.job_packets.specs.HexWords.{Has, WritesBytes}
-use Rattle.job_packets.specs.Orders.{Gives, HasKind, HasWrite, NamesOrder, WritesSource}
+use Rattle.job_packets.specs.Orders.{Gives, HasKind, HasLoad, HasWrite, NamesOrder, WritesSource}
 use Rattle.job_packets.specs.PacketJob.{NamesPacket, RefusesPacket}
 use Rattle.job_packets.specs.PacketOptions.{GivesHeader}
 use Rattle.job_packets.specs.Slips.{IsWordFault, usage_fault_of}
+use Rattle.job_packets.specs.Slots.{WritesSlots}
 use Rattle.job_packets.specs.declared.orders.Order.{Order}
 use Rattle.job_packets.specs.declared.orders.Order.TheVariants.{Read, Write, Rmw, Load}
 use Rattle.job_packets.specs.declared.orders.Source.{Source}
@@ -29,6 +30,12 @@ pub write_fault : (rows : List Row) (fault : PacketFault) → IsWordFault (Has (
 write_fault rows fault (inl memory) = inl memory
 write_fault rows fault (inr bad) = inr (bad.0, λ has. bad.1 (has.2, has.3.bytes))
 
+-- without slots there are no loads
+pub load_fault : (rows : List Row) (fault : PacketFault) → IsWordFault (Has (Gives WritesSlots (first_of (codes "slot") rows))) fault
+    → IsWordFault (HasLoad rows) fault
+load_fault rows fault (inl memory) = inl memory
+load_fault rows fault (inr bad) = inr (bad.0, λ has. bad.1 (has.1, has.2.list))
+
 -- a word of another kind
 first_letters : (o : Option (List ℕ)) (a b : List ℕ) → o ≡ Some a → o ≡ Some b → get_or a 0 0 ≡ get_or b 0 0
 first_letters o a b e f = cc
@@ -39,8 +46,23 @@ no_order rows kind none (Read code address count) named =
 no_order rows kind none (Write code address source) named = none (code, address, source, named.1)
 no_order rows kind none (Rmw address bytes) named =
     let same : 119 ≡ 114 = first_letters _ _ _ kind named.0 in absurd (omega (arith, same))
-no_order rows kind none (Load image slot) named =
+no_order rows kind none (Load image slots) named =
     let same : 119 ≡ 108 = first_letters _ _ _ kind named.0 in absurd (omega (arith, same))
+
+no_loads : (rows : List Row) → HasKind rows (codes "load") → ¬ HasLoad rows → (order : Order) → NamesOrder rows order → ⊥
+no_loads rows kind none (Read code address count) named =
+    let same : 108 ≡ 114 = first_letters _ _ _ kind named.0 in absurd (omega (arith, same))
+no_loads rows kind none (Write code address source) named =
+    let same : 108 ≡ 119 = first_letters _ _ _ kind named.0 in absurd (omega (arith, same))
+no_loads rows kind none (Rmw address bytes) named =
+    let same : 108 ≡ 114 = first_letters _ _ _ kind named.0 in absurd (omega (arith, same))
+no_loads rows kind none (Load image slots) named = none (string_bytes image, slots.items, named.1)
+
+-- words of loads that are none order nothing
+pub loads_fault : (rows : List Row) (fault : PacketFault) → HasKind rows (codes "load") → IsWordFault (HasLoad rows) fault
+    → IsWordFault (Has (NamesOrder rows)) fault
+loads_fault rows fault kind (inl memory) = inl memory
+loads_fault rows fault kind (inr bad) = inr (bad.0, λ has. no_loads rows kind bad.1 has.0 has.1)
 
 -- words of a write that is none order nothing
 pub order_fault : (rows : List Row) (fault : PacketFault) → HasKind rows (codes "write") → IsWordFault (HasWrite rows) fault

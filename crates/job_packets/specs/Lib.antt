@@ -8,3 +8,4 @@ pub mod Requests
 pub mod ShowJob
 pub mod Shown
 pub mod Slips
+pub mod Slots

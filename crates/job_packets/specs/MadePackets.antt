@@ -33,7 +33,7 @@ use Rattle.job_parts.specs.declared.faults.Fault.{Fault}
 use Rattle.job_parts.specs.declared.faults.Fault.TheVariants.{NoMemory}
 use Rattle.job_parts.specs.declared.status.Status.{Status}
 use Rattle.job_parts.specs.declared.status.Status.TheVariants.{Done, Failed, Misused}
-use Rattle.job_packets.specs.Loads.{with_load}
+use Rattle.job_packets.specs.Loads.{with_loads}
 use Rattle.job_packets.specs.Requests.{has_reply_address, line_of}
 use Rattle.job_packets.specs.declared.orders.Order.{Order}
 use Rattle.job_packets.specs.declared.orders.Order.TheVariants.{Read, Write, Rmw, Load}
@@ -61,7 +61,7 @@ abbrev pub fits : HeaderWords → Order → (content : List ℕ) → Bool
 fits h (Read code address count) content = nat_lt code 16 && nat_lt count 16777216
 fits h (Write code address source) content = nat_lt code 16 && is_short h (length content)
 fits h (Rmw address bytes) content = is_short h (length content)
-fits h (Load image slot) content = nat_le (length content) STAGING_SIZE
+fits h (Load image slots) content = nat_le (length content) STAGING_SIZE
 
 -- the lines of the packets behind others, with the data or the image that was given
 abbrev pub with_text : (front : List ℕ) → HeaderWords → Order → (content : List ℕ) → List ℕ
@@ -70,7 +70,7 @@ with_text front h (Write code address source) content =
     front ++ line_of h (own_request h code address (length content)) (with_crc content)
 with_text front h (Rmw address bytes) content =
     front ++ line_of h (own_request h RMW_CODE address (length content)) (with_crc content)
-with_text front h (Load image slot) content = with_load front h slot content
+with_text front h (Load image slots) content = with_loads front h h.transaction slots.items content
 
 -- the lines, where there are such packets
 abbrev pub made_text : PacketWords → (content : List ℕ) → Option (List ℕ)
@@ -85,7 +85,7 @@ file_of (Read code address count) = None
 file_of (Write code address (Bytes bytes)) = None
 file_of (Write code address (File name)) = Some (string_bytes name)
 file_of (Rmw address bytes) = None
-file_of (Load image slot) = Some (string_bytes image)
+file_of (Load image slots) = Some (string_bytes image)
 
 -- the data that stand in the words
 abbrev pub own_data : Order → List ℕ
@@ -93,7 +93,7 @@ own_data (Read code address count) = []
 own_data (Write code address (Bytes bytes)) = bytes.items
 own_data (Write code address (File name)) = []
 own_data (Rmw address bytes) = bytes.items
-own_data (Load image slot) = []
+own_data (Load image slots) = []
 
 module _ {S : Type 0} (reads : Reads S) where
   -- the data are those of the file, or where there is none those that stand in the words

@@ -1,4 +1,4 @@
--- What the job `packet` is to make: a read, a write, a read-modify-write, or the packets of a load.
+-- What the job `packet` is to make: a read, a write, a read-modify-write, or the packets of loads.
 use Rattle.std.specs.Prelude.{
   ◌≡◌,
   ◌≤◌,
@@ -22,6 +22,7 @@ use Rattle.clap.specs.Walk.{Row, Text, first_of}
 use Rattle.initiator.specs.CommandCodes.{read_code as code_of_read, write_code as code_of_write}
 use Rattle.job_parts.specs.Options.{IsNumberWithin, WritesSuch}
 use Rattle.job_packets.specs.HexWords.{WritesBytes, WritesHex}
+use Rattle.job_packets.specs.Slots.{WritesSlots}
 use Rattle.job_parts.specs.Arguments.{is_set}
 use Rattle.job_packets.specs.declared.orders.Order.{Order}
 use Rattle.job_packets.specs.declared.orders.Order.TheVariants.{Read, Write, Rmw, Load}
@@ -115,11 +116,11 @@ pub record OrdersRmw (rows : List Row) (address : ℕ) (bytes : List ℕ) : Type
   pub place : GivesPlace rows address
   pub masked : GivesMasked (first_of (codes "data") rows) (first_of (codes "mask") rows) bytes
 
--- `IMAGE --slot N`, the words of a load
-pub record OrdersLoad (rows : List Row) (image : List ℕ) (slot : ℕ) : Type 0 where
+-- `IMAGE --slot LIST`, the words of loads
+pub record OrdersLoad (rows : List Row) (image : List ℕ) (slots : List ℕ) : Type 0 where
   pub alone : is_load_alone rows ≡ true
   pub file : first_of (codes "address") rows ≡ Some image
-  pub number : Gives (WritesSuch (IsNumberWithin 0 3)) (first_of (codes "slot") rows) slot
+  pub list : Gives WritesSlots (first_of (codes "slot") rows) slots
 
 -- there are such words
 abbrev pub HasRead : List Row → Type 0
@@ -132,7 +133,7 @@ abbrev pub HasRmw : List Row → Type 0
 HasRmw rows = (address : ℕ) × (bytes : List ℕ) × OrdersRmw rows address bytes
 
 abbrev pub HasLoad : List Row → Type 0
-HasLoad rows = (image : List ℕ) × (slot : ℕ) × OrdersLoad rows image slot
+HasLoad rows = (image : List ℕ) × (slots : List ℕ) × OrdersLoad rows image slots
 
 -- the word of the kind
 abbrev pub HasKind : List Row → List ℕ → Type 0
@@ -143,4 +144,5 @@ abbrev pub NamesOrder : List Row → Order → Type 0
 NamesOrder rows (Read code address count) = HasKind rows (codes "read") × OrdersRead rows code address count
 NamesOrder rows (Write code address source) = HasKind rows (codes "write") × OrdersWrite rows code address source
 NamesOrder rows (Rmw address bytes) = HasKind rows (codes "rmw") × OrdersRmw rows address bytes.items
-NamesOrder rows (Load image slot) = HasKind rows (codes "load") × OrdersLoad rows (string_bytes image) slot
+NamesOrder rows (Load image slots) =
+    HasKind rows (codes "load") × OrdersLoad rows (string_bytes image) slots.items

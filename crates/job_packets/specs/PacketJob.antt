@@ -16,7 +16,7 @@ with_order_words app =
     with_rule (with_rule (with_rule (with_rule app (file_rule (codes "kind"))) (file_rule (codes "address")))
     (optional_rule (codes "data"))) (optional_rule (codes "mask"))
 
--- a subcommand with the options of what is made: `[--slot N] [--verify] [--no-reply] [--no-increment]`
+-- a subcommand with the options of what is made: `[--slot LIST] [--verify] [--no-reply] [--no-increment]`
 abbrev pub with_order_options : App → App
 with_order_options app =
     with_rule (with_rule (with_rule (with_rule app (option_rule (codes "slot"))) (flag_rule (codes "verify")))

@@ -2,9 +2,10 @@
 #![tactic(auto)]
 
 pub mod hex_words;
-mod load_results;
+pub mod load_results;
 pub mod loads;
 pub mod made_packets;
+pub mod numbers;
 pub mod orders;
 pub mod packet;
 pub mod packet_options;

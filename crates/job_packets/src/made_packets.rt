@@ -6,7 +6,7 @@ ghost use Rattle.job_parts.specs.Stops.{StopsBy};
 ghost use Rattle.job_packets.specs.MadePackets.{IsContent, IsMade, IsNotMade, MakesFile, fits, is_short, made_text, own_request, with_text};
 ghost use Rattle.job_packets.specs.Requests.{has_reply_address, line_of};
 
-use crate::loads::add_load;
+use crate::loads::add_loads;
 use crate::orders::{Order, Source};
 use crate::packet::PacketWords;
 use crate::packet_options::HeaderWords;
@@ -137,7 +137,7 @@ fn add_packets(
             add_data(text, alloc, header, *code, *address, content)
         }
         Order::Rmw { address, .. } => add_data(text, alloc, header, RMW_CODE, *address, content),
-        Order::Load { slot, .. } => add_load(text, alloc, header, *slot, content),
+        Order::Load { slots, .. } => add_loads(text, alloc, header, slots.as_slice(), content),
     }
 }
 

@@ -1,17 +1,18 @@
 //! What the job `packet` is to make.
 
-ghost use Rattle.std.specs.Prelude.{◌≡◌, ℕ, Some, IfErr, IfOk, MatchOption, MatchResult, codes};
+ghost use Rattle.std.specs.Prelude.{◌≡◌, ℕ, Some, IfErr, IfOk, MatchResult, codes};
 ghost use Rattle.clap.specs.Walk.{first_of, rows_of};
 ghost use Rattle.clap.specs.Matches.{found_of};
 ghost use Rattle.job_parts.specs.Options.{IsNumberWithin, WritesSuch};
 ghost use Rattle.job_packets.specs.HexWords.{Has};
 ghost use Rattle.job_packets.specs.Orders.{AreMasked, Gives, GivesMasked, GivesPlace, HasLoad, HasRead, HasRmw, HasWrite, NamesOrder, OrdersLoad, OrdersRead, OrdersRmw, OrdersWrite, WritesSource, is_given, is_load_alone, is_plain, is_read_alone, is_rmw_alone, is_write_alone, read_code, write_code};
+ghost use Rattle.job_packets.specs.Slots.{WritesSlots};
 ghost use Rattle.job_packets.specs.Slips.{IsBadWord, IsSlip, IsWordFault, LacksWord};
 
 use crate::hex_words::{bytes_written, hex_written};
+use crate::numbers::{number_written, slots_written};
 use crate::slips::{PacketFault, PacketWord, Slip};
 use clap::ArgMatches;
-use initiator::LAST_SLOT;
 use job_parts::arguments::{is_set, text_of};
 use std::alloc::Global;
 
@@ -58,12 +59,12 @@ pub enum Order {
         /// The data, and the mask behind them.
         bytes: Vec<u8>,
     },
-    /// The packets of a load.
+    /// The packets of loads.
     Load {
         /// The name of the file of the BPF image.
         image: String,
-        /// The slot of the program, 0 to 3.
-        slot: u8,
+        /// The slots of the program, 0 to 3, in the order of the loads.
+        slots: Vec<u8>,
     },
 }
 
@@ -173,19 +174,6 @@ fn address_of(found: &ArgMatches) -> Result<u32, PacketFault>
         Some(address) => Ok(address),
         None => Err(PacketFault::bad(PacketWord::Address)),
     }
-}
-
-/// The decimal number that a word writes, at most this one.
-fn number_written(word: &str, most: u32) -> Option<u32>
-    ensures { MatchOption result
-        ((n : ℕ) → ¬ WritesSuch (IsNumberWithin 0 most) word.now n)
-        (WritesSuch (IsNumberWithin 0 most) word.now) }
-{
-    if word.starts_with('+') {
-        return None;
-    }
-    let number: u32 = word.parse().ok()?;
-    if number <= most { Some(number) } else { None }
 }
 
 /// The decimal number that a word writes, at most this one.
@@ -318,17 +306,28 @@ fn foreign_to_load(found: &ArgMatches) -> PacketFault
     foreign(found, &others, PacketWord::Extended)
 }
 
-/// A load: the name of the image's file, and the slot.
-fn load_named<'a>(found: &ArgMatches<'a>) -> Result<(&'a str, u8), PacketFault>
-    ensures ok { IfOk result (λ r. OrdersLoad (rows_of (found_of found.now)) r.0.now r.1) }
-    ensures err { IfErr result (IsBadWord (HasLoad (rows_of (found_of found.now)))) }
+/// The slots of loads.
+fn slots_of(alloc: Global, found: &ArgMatches) -> Result<Vec<u8>, PacketFault>
+    ensures ok { IfOk result (λ slots.
+        Gives WritesSlots (first_of (codes "slot") (rows_of (found_of found.now))) slots.items) }
+    ensures err { IfErr result (IsWordFault (Has
+        (Gives WritesSlots (first_of (codes "slot") (rows_of (found_of found.now)))))) }
+{
+    let text = text_in(found, "slot", PacketWord::Slot)?;
+    slots_written(alloc, text)
+}
+
+/// Loads: the name of the image's file, and the slots.
+fn load_named<'a>(alloc: Global, found: &ArgMatches<'a>) -> Result<(&'a str, Vec<u8>), PacketFault>
+    ensures ok { IfOk result (λ r. OrdersLoad (rows_of (found_of found.now)) r.0.now r.1.items) }
+    ensures err { IfErr result (IsWordFault (HasLoad (rows_of (found_of found.now)))) }
 {
     if !is_load_alone(found) {
         return Err(foreign_to_load(found));
     }
     let image = text_in(found, "address", PacketWord::Address)?;
-    let slot = number_in(found, "slot", PacketWord::Slot, u32::from(LAST_SLOT))?;
-    Ok((image, slot as u8))
+    let slots = slots_of(alloc, found)?;
+    Ok((image, slots))
 }
 
 /// What the words order. A slip where they order nothing that can be made: the first word that is wrong.
@@ -358,9 +357,9 @@ pub fn order_of(alloc: Global, found: &ArgMatches) -> Result<Order, PacketFault>
             Ok(Order::Rmw { address, bytes })
         }
         Some("load") => {
-            let (image, slot) = load_named(found)?;
+            let (image, slots) = load_named(alloc, found)?;
             let image = String::from_str(alloc, image)?;
-            Ok(Order::Load { image, slot })
+            Ok(Order::Load { image, slots })
         }
         _ => Err(PacketFault::bad(PacketWord::Kind)),
     }

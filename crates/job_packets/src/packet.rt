@@ -55,7 +55,8 @@ fn order_options<'a>(alloc: Global, command: Command<'a>) -> Result<Command<'a>,
     ensures shape { IfOk result (λ c. app_of c ≡ with_order_options (app_of command.entry)) }
     ensures local { IfOk result (λ c. (fields_of c).has_globals ≡ false) }
 {
-    let slot = option(alloc, "slot", "N", "The slot of a load, 0 to 3");
+    let help = "The slots of a load, 0 to 3 with commas between them, or all for each of the four";
+    let slot = option(alloc, "slot", "LIST", help);
     let verify = flag(alloc, "verify", "Of a write: the data are verified first");
     let no_reply = flag(alloc, "no-reply", "Of a write: no reply is asked for");
     let help = "Of a read or a write: all bytes have the one address";

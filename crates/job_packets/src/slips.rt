@@ -22,7 +22,7 @@ pub enum PacketWord {
     Masked,
     /// The mask of a read-modify-write.
     Mask,
-    /// The slot of a load.
+    /// The slots of a load.
     Slot,
     /// `--verify`.
     Verify,
@@ -100,7 +100,7 @@ impl PacketWord {
                 "pairs of hexadecimal digits, - for none, or @ and the name of a file",
             PacketWord::Masked => "pairs of hexadecimal digits, at most four bytes, or - for none",
             PacketWord::Mask => "pairs of hexadecimal digits, as many as in DATA, or - for none",
-            PacketWord::Slot => "a decimal number from 0 to 3",
+            PacketWord::Slot => "all, or decimal numbers from 0 to 3 with commas between them",
             PacketWord::Verify | PacketWord::NoReply | PacketWord::NoIncrement => "a flag",
             PacketWord::Port => "a decimal number from 0 to 31",
             PacketWord::Target | PacketWord::Key | PacketWord::Initiator | PacketWord::Extended =>
