@@ -1,5 +1,5 @@
 -- One place more that is told.
-use Rattle.std.proofs.Common.{◌≡◌, ◌⊎◌, inl, ◌+◌, ◌++◌, ℕ, suc, List, ap, subst, ◌∙◌, arith}
+use Rattle.std.proofs.Common.{◌≡◌, inl, ◌+◌, ◌++◌, ℕ, suc, List, ap, subst, ◌∙◌, arith}
 use Rattle.std.specs.Prelude.{get_or}
 use Rattle.charts.specs.Deciders.{NeverMatches}
 use Rattle.charts.specs.declared.lines.Line.{Line}

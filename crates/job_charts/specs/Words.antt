@@ -1,5 +1,5 @@
 -- The words of a line.
-use Rattle.std.specs.Prelude.{◌≡◌, ◌<◌, ◌-◌, ◌==◌, ◌&&◌, ℕ, zero, suc, Bool, not, nat_le, if◌then◌else◌, List, [], ◌∷◌, ◌++◌, codes, length, min}
+use Rattle.std.specs.Prelude.{◌-◌, ◌==◌, ◌&&◌, ℕ, zero, suc, Bool, not, nat_le, if◌then◌else◌, List, [], ◌∷◌, ◌++◌, codes, length, min}
 use Rattle.std.specs.List.{flat_map}
 use Rattle.byteorder.specs.Endian.{big_bytes}
 use Rattle.hex.specs.Hex.{encode_upper}
@@ -10,12 +10,13 @@ use Rattle.regions.specs.declared.regions.Region.{Region}
 use Rattle.regions.specs.declared.stretches.Stretch.{Stretch}
 use Rattle.charts.specs.declared.lines.Line.{Line}
 
--- the word for kinds that has reads, and one that has none
+-- the word for kinds with reads
 abbrev pub with_read : (write rmw : Bool) → List ℕ
 with_read write rmw =
     if write then (if rmw then codes "any" else codes "read,write")
     else (if rmw then codes "read,rmw" else codes "read")
 
+-- the word for kinds without
 abbrev pub without_read : (write rmw : Bool) → List ℕ
 without_read write rmw =
     if write then (if rmw then codes "write,rmw" else codes "write")

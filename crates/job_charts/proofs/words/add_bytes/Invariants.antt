@@ -1,6 +1,5 @@
-use Rattle.std.proofs.Common.{◌≡◌, ◌++◌, ◌∷◌, [], string_bytes, take}
+use Rattle.std.proofs.Common.{◌≡◌, ◌++◌, string_bytes, take}
 use Rattle.std.specs.List.{flat_map}
-use Rattle.hex.specs.Hex.{encode_upper}
 use Rattle.job_charts.specs.Words.{comma_byte}
 use Rattle.job_charts.proofs.words.add_bytes.Given as goal
 
