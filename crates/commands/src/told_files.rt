@@ -46,7 +46,8 @@ fn plan_of(job: &Job) -> Plan {
         Job::Judge(_) | Job::Serve(_) | Job::Simulate(_) | Job::Trace(_) => (1, MAX_IMAGE),
         Job::Assemble(_) | Job::Policy(_) | Job::Show(_) => (1, 0),
         Job::Disassemble(_) | Job::Verify(_) => (0, MAX_IMAGE),
-        Job::Decide(_) => (2, 0),
+        Job::Map(_) => (1, 0),
+        Job::Decide(_) | Job::Compare(_) => (2, 0),
         // What is no image may be a text of any length.
         Job::Why(_) | Job::Explain(_) => (0, u64::MAX),
         Job::Packet(words) => match &words.order {
