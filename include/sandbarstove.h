@@ -21,7 +21,7 @@
 #include <stdint.h>
 
 /** The number of this header: it rises with each change of a call, a struct or a number here. */
-#define SANDBAR_VERSION 2
+#define SANDBAR_VERSION 3
 
 /** What compilers that know of it are told of a call: its pointers are not null, and its code is looked at. */
 #ifndef SANDBAR_CALL
@@ -51,7 +51,8 @@ enum sandbar_code {
   SANDBAR_TOO_LONG = 10,  /**< the packet has over ::SANDBAR_MAX_PACKET bytes */
   SANDBAR_NO_ROOM = 11,   /**< the room for a reply or a packet is too small, or bytes lie outside the bank */
   SANDBAR_NO_ENTRY = 12,  /**< the journal has no such entry */
-  SANDBAR_IS_OPEN = 13    /**< the node is open */
+  SANDBAR_IS_OPEN = 13,   /**< the node is open */
+  SANDBAR_NO_CELL = 14    /**< the node has no such map or cell */
 };
 
 enum {
@@ -229,6 +230,14 @@ uint32_t sandbar_peek(sandbar_node *node, uint8_t bank, uint32_t address, uint8_
 SANDBAR_CALL
 uint32_t sandbar_poke(sandbar_node *node, uint8_t bank, uint32_t address, const uint8_t *bytes, size_t length,
                       uint32_t room);
+
+/**
+ * Tells the word of a cell of a map, both counted from 0: how many tickets were drawn from it, modulo 2^64, or, of a peak
+ * map, the greatest number that was shown to it; 0 in a fresh node. A quota has as many tickets left as its limit exceeds
+ * this by. Codes: ::SANDBAR_NO_NODE, ::SANDBAR_NO_CELL.
+ */
+SANDBAR_CALL
+uint32_t sandbar_word(sandbar_node *node, uint8_t map, uint16_t cell, uint64_t *word);
 
 /** The CRC of RMAP, for packets that are made. */
 SANDBAR_CALL

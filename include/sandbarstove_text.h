@@ -24,6 +24,7 @@ static inline const char *sandbar_text(uint32_t code) {
     case SANDBAR_NO_ROOM: return "the room is too small, or bytes lie outside the bank";
     case SANDBAR_NO_ENTRY: return "the journal has no such entry";
     case SANDBAR_IS_OPEN: return "the node is open";
+    case SANDBAR_NO_CELL: return "the node has no such map or cell";
     default: return "no code of this library";
   }
 }

@@ -1,6 +1,6 @@
 /* One number for all that the library does on the same hostile inputs: fuzz ROUNDS SEED PACKETS IMAGES.., files of
  * crates/test_tables/data: packets, and lines that begin with an image. Equal numbers on two processors: the same verdicts,
- * replies, journals and banks. */
+ * replies, journals, banks and cells. */
 #include "packets.h"
 
 #include <ctype.h>
@@ -117,6 +117,11 @@ static void one(uint32_t which) {
     }
     if (any(3) == 0) number(sandbar_rotate(&node, bank, any(40)));
   }
+  for (uint8_t map = 0; map < 4; map += 1)
+    for (uint16_t cell = 0; cell < 9; cell += 1) {
+      uint64_t word = 77;
+      number(sandbar_word(&node, map, cell, &word)), number(word);
+    }
   number(sandbar_close(&node));
   number(sandbar_close(&node));
 }

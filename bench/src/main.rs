@@ -2,6 +2,7 @@
 
 mod images;
 mod node;
+mod once;
 mod packets;
 mod schedule;
 mod speed;
@@ -27,8 +28,11 @@ const EVENTS: u32 = 99_999;
 const LONG_PACKETS: u32 = 8_192;
 
 fn main() {
-    if std::env::args().nth(1).is_some_and(|word| word == "growth") {
-        return growth();
+    let words: Vec<String> = std::env::args().skip(1).collect();
+    match words.iter().map(String::as_str).collect::<Vec<_>>()[..] {
+        ["growth"] => return growth(),
+        ["once", work, count] => return once::once(work, count.parse().expect("a count")),
+        _ => {}
     }
     let block: Vec<u8> = (0..4096u32).map(|k| (k * 31 % 251) as u8).collect();
     for (length, count) in [(16, 1_000_000), (64, 500_000), (256, 200_000), (4096, 20_000)] {

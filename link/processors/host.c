@@ -297,6 +297,16 @@ uint32_t sandbar_poke(sandbar_node *node, uint8_t bank, uint32_t address, const 
   return code;
 }
 
+/* ---- cells */
+
+uint32_t sandbar_word(sandbar_node *node, uint8_t map, uint16_t cell, uint64_t *word) {
+  struct inside *inside = inside_of(node);
+  if (inside == NULL) return SANDBAR_NO_NODE;
+  uint32_t code = Z_sandbarZ_sandbar_word(&inside->it, inside->node, map, cell, inside->small);
+  if (code == SANDBAR_OK) *word = number(&inside->it, inside->small, 8);
+  return code;
+}
+
 /* ---- calls without a node */
 
 /* The CRC bit by bit (ECSS-E-ST-50-52C, 8-bit CRC), and not the module's, which would want an instance. */

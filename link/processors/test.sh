@@ -143,6 +143,7 @@ test_all() {
     archived aarch64 aarch64-linux-gnu
     archived riscv64 riscv64-linux-gnu
     compiled x86_64 "" "" ""
+    compiled "x86_64, no access tested" "" "" "" -DWASM_RT_MEMCHECK_SIGNAL_HANDLER=1
     compiled aarch64 aarch64-linux-gnu- qemu-aarch64 /usr/aarch64-linux-gnu
     compiled riscv64 riscv64-linux-gnu- qemu-riscv64 /usr/riscv64-linux-gnu
     compiled "arm (32 bits)" arm-linux-gnueabihf- qemu-arm /usr/arm-linux-gnueabihf

@@ -8,11 +8,11 @@ use Rattle.bank.specs.Answer.{Answer, answer}
 use Rattle.rmap.specs.Command.{command_of}
 use Rattle.rmap.specs.declared.places.Place.{Place}
 use Rattle.rmap.specs.declared.places.Place.TheVariants.{Bank, Staging, LoadResult, Control}
-use Rattle.bank.specs.Records.{EntryValue, ShareValue, JudgedValue, BankValue, memory_of, answer_of, has_room, after_entry, after_command, after_record, entry_of, number_left}
+use Rattle.bank.specs.Records.{EntryValue, ShareValue, JudgedValue, BankValue, memory_of, answer_of, has_room, after_entry, after_command, after_record, entry_of, number_left, is_place_of}
 use Rattle.annals.specs.declared.deed.Deed.TheVariants.{Does}
 use Rattle.annals.specs.declared.deed.Link.{Link}
 use Rattle.annals.specs.Chains.{chain_of, link}
-use Rattle.annals.specs.Banks.{is_place_of, zeros, after_deed, after_link, memory_after, answer_after}
+use Rattle.annals.specs.Banks.{zeros, after_deed, after_link, memory_after, answer_after}
 use Rattle.annals.proofs.Turns.{own_snoc}
 
 fold_snoc : (m : Memory) (xs : List Link) (x : Link) → fold after_link m (xs ++ x ∷ []) ≡ after_link (fold after_link m xs) x

@@ -1,14 +1,15 @@
 -- The history of a node's banks, and what it says of each.
-use Rattle.std.specs.Prelude.{ℕ, ◌≡◌, ◌<◌, ◌==◌, Bool, List, [], ◌∷◌, fold, length, replicate, true, false, slice_index}
+use Rattle.std.specs.Prelude.{ℕ, ◌≡◌, ◌<◌, ◌&&◌, Bool, List, [], ◌∷◌, None, fold, length, replicate, slice_index, true}
 use Rattle.std.specs.List.{range_with_len}
 use mathlib.Core.List.{IsPrefix}
-use Rattle.rmap.specs.declared.places.Place.{Place}
-use Rattle.rmap.specs.declared.places.Place.TheVariants.{Bank, Staging, LoadResult, Control}
+use Rattle.rmap.specs.declared.places.Place.TheVariants.{Bank}
+use Rattle.rmap.specs.declared.status.Status.TheVariants.{GeneralError}
 use Rattle.rmap.specs.Command.{command_of}
+use Rattle.rmap.specs.Reply.{reply_of}
 use Rattle.bank.specs.declared.bank.Applied.{Applied}
 use Rattle.bank.specs.Effect.{Memory, memory_at, with_bytes}
 use Rattle.bank.specs.Answer.{answer, Answer}
-use Rattle.bank.specs.Records.{EntryValue, ShareValue, JudgedValue, BankValue, after_command, after_entry, answer_of, entry_of, fits, fresh_bank, JournalValue, memory_of, next_share, number_left, numbers_of}
+use Rattle.bank.specs.Records.{EntryValue, ShareValue, JudgedValue, BankValue, after_command, after_entry, answer_of, entry_of, fits, fresh_bank, is_place_of, JournalValue, memory_of, next_share, number_left, numbers_of}
 use Rattle.annals.specs.declared.deed.Deed.{Deed}
 use Rattle.annals.specs.declared.deed.Deed.TheVariants.{Opens, Does, Sets}
 use Rattle.annals.specs.declared.deed.Link.{Link}
@@ -77,6 +78,15 @@ pub record KeptValue : Type 0 where
   pub bank : BankValue
   pub chain : ChainValue
 
+-- the command was not done at the bank: a general error, and all is as it was
+pub record IsRefusedAt (old new : KeptValue) (share after : ShareValue) (judged : JudgedValue) (result : Applied)
+    (reply : List ℕ) : Type 0 where
+  pub status : result.status ≡ GeneralError
+  pub number : result.number ≡ None
+  pub reply_is : reply ≡ reply_of (command_of judged.packet) GeneralError []
+  pub kept : new ≡ old
+  pub share_is : after ≡ share
+
 -- the bank's memory is the replay of the chain
 abbrev pub IsReplayed : BankValue → ChainValue → Type 0
 IsReplayed bank chain = memory_of bank ≡ memory_after chain.number chain.log
@@ -100,9 +110,6 @@ pub record IsKept (bank : BankValue) (chain : ChainValue) : Type 0 where
   pub replayed : IsReplayed bank chain
   pub counted : IsCounted bank chain
 
--- the place is the bank of that number
-abbrev pub is_place_of : ℕ → Place → Bool
-is_place_of number (Bank k) = k == number
-is_place_of number Staging = false
-is_place_of number LoadResult = false
-is_place_of number Control = false
+-- the place of the command is the bank of that number, and the command fits it
+abbrev pub takes : KeptValue → ShareValue → JudgedValue → Bool
+takes kept share judged = is_place_of kept.chain.number judged.place && fits kept.bank share judged

@@ -1,12 +1,9 @@
 //! A bank with its chain, as it lies behind a lock.
 
-ghost use Rattle.std.specs.Prelude.{◌≡◌, ◌<◌, ◌+◌, ℕ, [], IfSome, IfNone, length, true, false, None};
-ghost use Rattle.rmap.specs.Command.{command_of};
-ghost use Rattle.rmap.specs.Reply.{reply_of};
-ghost use Rattle.rmap.specs.declared.status.Status.TheVariants.{GeneralError as Fails};
-ghost use Rattle.bank.specs.Records.{after_command, after_rotation, after_setting, answer_of, covers, fits, memory_of, next_share, number_left};
+ghost use Rattle.std.specs.Prelude.{◌≡◌, ◌<◌, ◌+◌, ℕ, [], IfSome, IfNone, length, true, false};
+ghost use Rattle.bank.specs.Records.{after_command, after_rotation, after_setting, answer_of, covers, fits, is_place_of, memory_of, next_share, number_left};
 ghost use Rattle.annals.specs.declared.deed.Deed.TheVariants.{Sets};
-ghost use Rattle.annals.specs.Banks.{IsAppliedTo, IsDone, IsFresh, is_place_of};
+ghost use Rattle.annals.specs.Banks.{IsAppliedTo, IsDone, IsFresh, IsRefusedAt, takes};
 ghost use Rattle.annals.specs.Chains.{IsLast, chain_of};
 ghost use mathlib.Core.List.{IsPrefix};
 
@@ -106,10 +103,9 @@ impl<J: Family> Kept<J> {
         }
     }
 
-    /// Ends a judged command whose place is this bank: does it where it fits ([`Bank::fits`]), and answers a general error
+    /// Ends a judged command: does it where its place is this bank and it fits ([`Bank::fits`]), and answers a general error
     /// where not, which leaves all as it was. Where it leaves an entry, that is the last of a history which goes on from
-    /// what the port knew, and status and reply are the definition's on the replay of what stood before it. The condition
-    /// is that place ([`Kept::is_at`]).
+    /// what the port knew, and status and reply are the definition's on the replay of what stood before it.
     pub fn finish(
         &mut self,
         front: &mut Front<J>,
@@ -117,17 +113,21 @@ impl<J: Family> Kept<J> {
         judged: Judged,
         reply: &mut ReplyBuf,
     ) -> Applied
-        requires { is_place_of self.old.chain.number judged.place ≡ true }
         ensures done { IfSome result.number
             (λ n. IsDone self.old.chain.number front.old front.new share.old judged result reply.new) }
         ensures none { IfNone result.number (front.new ≡ front.old) }
-        ensures applied { fits self.old.bank share.old judged ≡ true
+        ensures applied { takes self.old share.old judged ≡ true
             → IsAppliedTo self.old.bank self.new.bank share.old share.new judged result reply.new }
-        ensures refused { fits self.old.bank share.old judged ≡ false
-            → (self.new ≡ self.old) × (share.new ≡ share.old) × (result.status ≡ Fails)
-            × (result.number ≡ None) × (reply.new ≡ reply_of (command_of judged.packet) Fails []) }
+        ensures refused { takes self.old share.old judged ≡ false
+            → IsRefusedAt self.old self.new share.old share.new judged result reply.new }
         ensures number { self.new.chain.number ≡ self.old.chain.number }
     {
+        if !self.is_at(judged.place()) {
+            return Applied {
+                status: judged.answer_elsewhere(self.number, reply),
+                number: None,
+            };
+        }
         if !self.bank.fits(share, &judged) {
             return Applied {
                 status: judged.answer_error(&self.bank, share, reply),

@@ -229,7 +229,7 @@ fn measure_ports<R: Threads + Wait + Clock + Print + Sync>(
     let mut nanos = 1u128;
     for _ in 0..if is_timed { SERVES } else { 1 } {
         let factory = yes(alloc, &MapSizes::new(&[])?).context("the program")?;
-        let opened = Opened::new();
+        let opened = target::Opened::new();
         let (writes, took) = serve_writes::<Brand, _>(
             rt,
             alloc,

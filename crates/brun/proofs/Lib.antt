@@ -4,5 +4,6 @@ pub mod Values
 pub mod Following
 pub mod Effects
 pub mod Running
+pub mod Parts
 pub mod Pausing
 pub mod Cells

@@ -5,9 +5,10 @@ ghost use base.Stored.{Gv};
 ghost use Rattle.machine.specs.declared.calls.Call.{Call};
 ghost use Rattle.machine.specs.Runs.{call};
 ghost use Rattle.machine.specs.Step.{question};
+ghost use Rattle.machine.specs.Laws.{IsAnswerable};
 ghost use Rattle.machine.specs.Sizes.{AreSizes, IsInside, Maps, kind_of_map};
 
-use machine::{Helper, MapKind, MapSizes};
+use machine::{Helper, MapKind, MapSizes, Question};
 
 /// The cells that a program asks by its helpers. Each call appends itself, with the answer that it returns, to the
 /// calls so far; nothing else is known of the answers here, since others may ask too.
@@ -62,4 +63,19 @@ pub trait Counters {
             ≡ asked self.old ++ call (question Helper.Peak map key value) result ∷ [] }
         ensures sizes { sizes self.new ≡ sizes self.old }
         ensures home { home self.new ≡ home self.old };
+}
+
+/// Puts a question to the cells, and gives their answer.
+#[inline(always)]
+pub(crate) fn ask<C: Counters>(counters: &mut C, asked: Question) -> u64
+    requires { IsAnswerable (C.sizes counters.old) asked.helper asked.map asked.key asked.argument }
+    ensures asked { C.asked counters.new ≡ C.asked counters.old ++ call asked result ∷ [] }
+    ensures sizes { C.sizes counters.new ≡ C.sizes counters.old }
+    ensures home { C.home counters.new ≡ C.home counters.old }
+{
+    match asked.helper {
+        Helper::Count => counters.count(asked.map, asked.key),
+        Helper::Ticket => counters.ticket(asked.map, asked.key),
+        Helper::Peak => counters.peak(asked.map, asked.key, asked.argument),
+    }
 }

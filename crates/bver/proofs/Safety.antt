@@ -1,6 +1,6 @@
--- A justified program is safe: each step of a path takes one from what is left of the weight, and where it stands one
--- is left.
-use Rattle.std.proofs.Common.{◌≡◌, ◌≢◌, ℕ, ◌+◌, ◌<◌, ◌≤◌, Bool, true, false, List, length, Option, None, Some, refl, sym, ap, subst, ◌∙◌, arith, add-one}
+-- A justified program is safe: each step of a path takes what its instruction costs from what is left of the weight,
+-- and where it stands the cost of one instruction is left.
+use Rattle.std.proofs.Common.{◌≡◌, ◌≢◌, ℕ, ◌+◌, ◌<◌, ◌≤◌, Bool, true, false, List, length, Option, None, Some, refl, sym, ap, subst, ◌∙◌, arith}
 use Rattle.std.specs.Prelude.{◌&&◌, slice_index, slice_index_or, All, IfSome, IsSome}
 use Rattle.std.proofs.lemmas.Bool.{lt-ltb}
 use Rattle.bpf.specs.declared.loops.Loop.{Loop}
@@ -27,8 +27,10 @@ use Rattle.absdom.specs.State.{StateValue, kind_at}
 use Rattle.absdom.specs.Fits.{Fits, FitsKind}
 use Rattle.absdom_stack.specs.declared.spill.Spill.{Spill}
 use Rattle.absdom_stack.specs.Spill.{spill_of}
+use Rattle.bver_form.specs.Costs.{cost_here, weight_by}
 use Rattle.bver_form.specs.Loops.{IsEdge, weight_left}
 use Rattle.bver_pass.specs.Justified.{AsksCell, AsksKind, MayCall, IsHead, IsPermittedAt, IsJustified}
+use Rattle.bver.specs.Costs.{IsSafeFor, IsSafeForCosts, cost_of_path}
 use Rattle.bver.proofs.Standing.{Laws, Stands, Continues, continues, performs_here, permitted_here, stands}
 use Rattle.bver.proofs.Arrivals.{LeadsTo, at_once, by_answer, edge_of}
 use Rattle.bver.proofs.Counters.{AreCounting, IsBegun, IsStepped, IsNumberIn, begun, begun_high, stepped, values_at, values_of}
@@ -53,10 +55,10 @@ begun_at p maps h t at k d below same =
 
 -- ---- counting
 
--- after n steps, what is left is within the weight
-record Counted (p : Program) (n : ℕ) (s : State) : Type 0 where
+-- after a path that cost so much, what is left is within the weight
+record Counted (cost : Insn → ℕ) (p : Program) (spent : ℕ) (s : State) : Type 0 where
   pub counting : AreCounting p s
-  pub within : n + weight_left p (values_of p.loops s) s.slot ≤ weight_of p
+  pub within : spent + weight_left cost p (values_of p.loops s) s.slot ≤ weight_by cost p
 
 -- an instruction begins where a path stands
 begins_here : (spill : Spill) (maps : Maps) (table : ℕ → Option StateValue) (slot : ℕ) (a : StateValue) (o : Option Insn) → IsPermittedAt spill maps table slot (Some a) o → IsSome o
@@ -67,14 +69,14 @@ insn_here : (p : Program) (maps : Maps) (h : IsJustified p maps) (s : State) (at
 insn_here p maps h s at = begins_here (spill_of p.version) maps h.table s.slot at.known (insn_at p s.slot) (permitted_here p maps h s at)
 
 -- a path begins
-counted_first : Laws → (p : Program) (maps : Maps) (h : IsJustified p maps) (port : ℕ) → Stands h.table (entry_state port) → Counted p 0 (entry_state port)
-counted_first laws p maps h port at = record {
+counted_first : Laws → (cost : Insn → ℕ) (p : Program) (maps : Maps) (h : IsJustified p maps) (port : ℕ) → Stands h.table (entry_state port) → Counted cost p 0 (entry_state port)
+counted_first laws cost p maps h port at = record {
   counting = λ k d below inside.
       let l = slice_index_or p.loops k d in
       let limits = (loop_in (length p.slots) 0 p.loops k d h.limits.loops below).1 in
       let here : 0 ≡ l.head = omega (arith, (inside_of l 0 inside).0) in
       begun (length p.slots) l s limits here (begun_at p maps h s at k d below here);
-  within = omega (arith, laws.begins p values h.limits h.formed low);
+  within = omega (arith, laws.begins cost p values h.limits h.formed low);
 }
   where
     s : State
@@ -97,13 +99,13 @@ left_by insn s t o (by_answer question on answer e is) left =
     (subst (λ (w : Outcome). AreLeftBy insn s w) e left answer).registers
 
 -- a step
-counted_next : Laws → (p : Program) (maps : Maps) (h : IsJustified p maps) (header : Header) (n : ℕ) (s t : State) (insn : Insn) → Stands h.table t → insn_at p s.slot ≡ Some insn → LeadsTo (perform header s insn) t → Counted p n s → Counted p (n + 1) t
-counted_next laws p maps h header n s t insn at is e counted = record {
+counted_next : Laws → (cost : Insn → ℕ) (p : Program) (maps : Maps) (h : IsJustified p maps) (header : Header) (spent : ℕ) (s t : State) (insn : Insn) → Stands h.table t → insn_at p s.slot ≡ Some insn → LeadsTo (perform header s insn) t → Counted cost p spent s → Counted cost p (spent + cost_here cost (insn_at p s.slot)) t
+counted_next laws cost p maps h header spent s t insn at is e counted = record {
   counting = λ k d below. (each k d below).1;
   within = omega (
     arith,
     counted.within,
-    laws.takes p s.slot t.slot (values_of p.loops s) (values_of p.loops t) h.limits h.formed edge begins (λ k d below.
+    laws.takes cost p s.slot t.slot (values_of p.loops s) (values_of p.loops t) h.limits h.formed edge begins (λ k d below.
         rw (values_at (length p.slots) 0 p.loops s k d h.limits.loops below, values_at (length p.slots) 0 p.loops t k d h.limits.loops below) (each k d below).0),
   );
 }
@@ -122,22 +124,47 @@ counted_next laws p maps h header n s t insn at is e counted = record {
         (h.formed.loops k d below) (laws.entered p s.slot t.slot h.limits h.formed edge begins k d below) is e
         (left_by insn s t (perform header s insn) e (laws.leaves header insn s) l.register) (counted.counting k d below) (begun_at p maps h t at k d below)
 
-counted_from : Laws → (p : Program) (maps : Maps) (h : IsJustified p maps) (header : Header) (n : ℕ) (s t : State) (o : Option Insn) → Stands h.table t → insn_at p s.slot ≡ o → IsSome o → LeadsTo (perform_at header s o) t → Counted p n s → Counted p (n + 1) t
-counted_from laws p maps h header n s t None at is some e counted = absurd cc
-counted_from laws p maps h header n s t (Some insn) at is some e counted = counted_next laws p maps h header n s t insn at is e counted
+counted_from : Laws → (cost : Insn → ℕ) (p : Program) (maps : Maps) (h : IsJustified p maps) (header : Header) (spent : ℕ) (s t : State) (o : Option Insn) → Stands h.table t → insn_at p s.slot ≡ o → IsSome o → LeadsTo (perform_at header s o) t → Counted cost p spent s → Counted cost p (spent + cost_here cost (insn_at p s.slot)) t
+counted_from laws cost p maps h header spent s t None at is some e counted = absurd cc
+counted_from laws cost p maps h header spent s t (Some insn) at is some e counted = counted_next laws cost p maps h header spent s t insn at is e counted
 
-counts : Laws → (p : Program) (maps : Maps) (h : IsJustified p maps) (header : Header) (port : ℕ) (calls : List Call) (n : ℕ) (s : State) → IsHeader header → port < 32 → Path p header port calls n s → Counted p n s
-counts laws p maps h header port calls n s good low entry = counted_first laws p maps h port (stands laws p maps h header port calls n s good low entry)
-counts laws p maps h header port calls n s good low (moves {n = m} {s = r} path e) =
+counts : Laws → (cost : Insn → ℕ) (p : Program) (maps : Maps) (h : IsJustified p maps) (header : Header) (port : ℕ) (calls : List Call) (n : ℕ) (s : State) → IsHeader header → port < 32 → (path : Path p header port calls n s) → Counted cost p (cost_of_path cost path) s
+counts laws cost p maps h header port calls n s good low entry = counted_first laws cost p maps h port (stands laws p maps h header port calls n s good low entry)
+counts laws cost p maps h header port calls n s good low (moves {n = m} {s = r} path e) =
     let there = stands laws p maps h header port calls m r good low path in
     let here = stands laws p maps h header port calls n s good low (moves path e) in
-    rw (← add-one)
-    (counted_from laws p maps h header m r s (insn_at p r.slot) here refl (insn_here p maps h r there) (at_once (sym (performs_here laws.performs p maps h header r) ∙ e)) (counts laws p maps h header port calls m r good low path))
-counts laws p maps h header port calls n s good low (answered {n = m} {s = r} {question = asked} {on = on} answer path e below) =
+    counted_from laws cost p maps h header (cost_of_path cost path) r s (insn_at p r.slot) here refl (insn_here p maps h r there) (at_once (sym (performs_here laws.performs p maps h header r) ∙ e)) (counts laws cost p maps h header port calls m r good low path)
+counts laws cost p maps h header port calls n s good low (answered {n = m} {s = r} {question = asked} {on = on} answer path e below) =
     let there = stands laws p maps h header port _ m r good low path in
     let here = stands laws p maps h header port calls n s good low (answered answer path e below) in
-    rw (← add-one)
-    (counted_from laws p maps h header m r s (insn_at p r.slot) here refl (insn_here p maps h r there) (by_answer asked on answer (sym (performs_here laws.performs p maps h header r) ∙ e) refl) (counts laws p maps h header port _ m r good low path))
+    counted_from laws cost p maps h header (cost_of_path cost path) r s (insn_at p r.slot) here refl (insn_here p maps h r there) (by_answer asked on answer (sym (performs_here laws.performs p maps h header r) ∙ e) refl) (counts laws cost p maps h header port _ m r good low path)
+
+is_safe_for : Laws → (p : Program) (maps : Maps) → IsJustified p maps → (cost : Insn → ℕ) → IsSafeFor p cost
+is_safe_for laws p maps h cost header port calls n s good low path =
+    let counted = counts laws cost p maps h header port calls n s good low path in
+    omega (arith, counted.within, laws.left cost p s.slot (values_of p.loops s) h.limits h.formed)
+
+pub is_safe_for_costs : Laws → (p : Program) (maps : Maps) → IsJustified p maps → IsSafeForCosts p
+is_safe_for_costs laws p maps h = record { costs = is_safe_for laws p maps h }
+
+-- ---- where each instruction costs one
+
+abbrev one : Insn → ℕ
+one insn = 1
+
+costs_one : (o : Option Insn) → IsSome o → cost_here one o ≡ 1
+costs_one None some = absurd cc
+costs_one (Some insn) some = refl
+
+-- a path costs its steps
+costs_steps : Laws → (p : Program) (maps : Maps) (h : IsJustified p maps) (header : Header) (port : ℕ) (calls : List Call) (n : ℕ) (s : State) → IsHeader header → port < 32 → (path : Path p header port calls n s) → cost_of_path one path ≡ n
+costs_steps laws p maps h header port calls n s good low entry = refl
+costs_steps laws p maps h header port calls n s good low (moves {n = m} {s = r} path e) =
+    let there = stands laws p maps h header port calls m r good low path in
+    omega (arith, costs_steps laws p maps h header port calls m r good low path, costs_one (insn_at p r.slot) (insn_here p maps h r there))
+costs_steps laws p maps h header port calls n s good low (answered {n = m} {s = r} {question = asked} {on = on} answer path e below) =
+    let there = stands laws p maps h header port _ m r good low path in
+    omega (arith, costs_steps laws p maps h header port _ m r good low path, costs_one (insn_at p r.slot) (insn_here p maps h r there))
 
 -- ---- safe
 
@@ -205,8 +232,9 @@ pub is_safe : Laws → (p : Program) (maps : Maps) → IsJustified p maps → Is
 is_safe laws p maps h = record {
   ends = λ header port calls n s good low path.
       let at = stands laws p maps h header port calls n s good low path in
-      let counted = counts laws p maps h header port calls n s good low path in
-      omega (arith, counted.within, laws.one p s.slot (values_of p.loops s) h.limits h.formed (insn_here p maps h s at), h.formed.within_budget);
+      let within : cost_of_path one path + cost_here one (insn_at p s.slot) ≤ weight_by one p = is_safe_for laws p maps h one header port calls n s good low path in
+      let ones : weight_by one p ≡ weight_of p = laws.ones p in
+      omega (arith, within, costs_steps laws p maps h header port calls n s good low path, costs_one (insn_at p s.slot) (insn_here p maps h s at), ones, h.formed.within_budget);
   no_trap = λ header port calls n s good low path.
       let at = stands laws p maps h header port calls n s good low path in
       rw (finds (spill_of p.version) maps h.table s at.known (insn_at p s.slot) at.fits (permitted_here p maps h s at)) (no_trap_of h.table (step p header s) (continues laws p maps h header s good at));

@@ -38,7 +38,7 @@ use Rattle.absdom_stack.specs.Spill.{spill_of}
 use Rattle.bver_form.specs.Form.{IsAllowed, IsFormed}
 use Rattle.bver_form.specs.Support.{IsSupportedCall, IsSupportedFlow}
 use Rattle.bver_form.specs.Jumps.{target}
-use Rattle.bver_form.specs.Laws.{BeginsWithinWeight, EachStepTakesOne, OneIsLeft, LoopsAreEntered}
+use Rattle.bver_form.specs.Laws.{BeginsWithinWeight, EachStepTakesItsCost, ItsCostIsLeft, LoopsAreEntered, WeightIsOfOnes}
 use Rattle.bver_pass.specs.Justified.{AsksCell, MayCall, IsCovered, IsCoveredIfAny, IsResultCovered, AreEdgesCovered, IsNumber, Proceeds, IsPermitted, IsPermittedAt, IsJustified, knowledge_at}
 use Rattle.bver.proofs.Slots.{insn_in}
 
@@ -52,8 +52,9 @@ pub record Laws : Type 0 where
   pub performs : StepPerforms
   pub leaves : InstructionsLeave
   pub begins : BeginsWithinWeight
-  pub takes : EachStepTakesOne
-  pub one : OneIsLeft
+  pub takes : EachStepTakesItsCost
+  pub left : ItsCostIsLeft
+  pub ones : WeightIsOfOnes
   pub entered : LoopsAreEntered
 
 -- where a path stands

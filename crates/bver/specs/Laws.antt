@@ -7,12 +7,17 @@ use Rattle.machine.specs.Runs.{IsSafe}
 use Rattle.absdom.specs.State.{StateValue}
 use Rattle.bver_form.specs.declared.refusal.Refused.{Refused}
 use Rattle.bver_pass.specs.Justified.{IsJustified, IsJudged}
+use Rattle.bver.specs.Costs.{IsSafeForCosts}
 use Rattle.bver.specs.Resolved.{IsResolved}
 use Rattle.bver.specs.Told.{TellsKnown}
 
 -- a justified program is safe: no run of it traps, and each ends within the budget
 abbrev pub JustifiedIsSafe : Type 0
 JustifiedIsSafe = (program : Program) (maps : Maps) → IsJustified program maps → IsSafe program maps
+
+-- and no path of it costs more than its weight, whatever each instruction costs
+abbrev pub JustifiedIsSafeForCosts : Type 0
+JustifiedIsSafeForCosts = (program : Program) (maps : Maps) → IsJustified program maps → IsSafeForCosts program
 
 -- its regions are those of every access that a run makes
 abbrev pub JudgedIsResolved : Type 0

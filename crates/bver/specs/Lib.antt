@@ -4,4 +4,5 @@ pub mod Operations
 pub mod Resolved
 pub mod Unjustified
 pub mod Told
+pub mod Costs
 pub mod Laws

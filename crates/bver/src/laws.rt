@@ -1,6 +1,6 @@
 //! What being justified is worth. Each function does nothing: its contract is the law.
 
-ghost use Rattle.bver.specs.Laws.{JudgedIsResolved, JustifiedIsSafe, ToldIsUnjustified};
+ghost use Rattle.bver.specs.Laws.{JudgedIsResolved, JustifiedIsSafe, JustifiedIsSafeForCosts, ToldIsUnjustified};
 
 use absdom::{
     after_call_fits, after_call_grows, apply_fits, apply_grows, entry_fits, forgets_all,
@@ -9,9 +9,11 @@ use absdom::{
 use bver_form::loops_are_counted;
 use machine::{steps_leave, steps_perform};
 
-/// A law and no work: a justified program is safe, and its regions are those of its accesses.
+/// A law and no work: a justified program is safe, no run of it costs more than its weight, whatever each instruction
+/// costs, and its regions are those of its accesses.
 pub fn justified_programs()
     ensures safe { JustifiedIsSafe }
+    ensures costs { JustifiedIsSafeForCosts }
     ensures resolved { JudgedIsResolved }
 {
     order_of_states();

@@ -1,18 +1,17 @@
--- A run of a program that has its form takes no more steps than the weight: the parts of the law.
-use Rattle.std.proofs.Common.{◌≡◌, ◌≢◌, ◌⊎◌, inl, inr, ℕ, zero, suc, ◌+◌, ◌-◌, ◌<◌, ◌≤◌, List, [], ◌∷◌, Option, Some, None, length, refl, sym, subst, arith}
-use Rattle.std.specs.Prelude.{All, IsSome, slice_index_or}
+-- The instructions of a run of a program that has its form cost no more than the weight: the parts of the law.
+use Rattle.std.proofs.Common.{◌≡◌, ◌≢◌, ◌⊎◌, inl, inr, ℕ, zero, suc, ◌+◌, ◌-◌, ◌<◌, ◌≤◌, List, [], ◌∷◌, length, refl, sym, subst, arith}
+use Rattle.std.specs.Prelude.{All, slice_index_or}
 use Rattle.std.proofs.lemmas.Bool.{cases_lt}
 use Rattle.bpf.specs.declared.loops.Loop.{Loop}
-use Rattle.bpf.specs.Program.{Program, AreLoops, IsProgram, insn_at}
+use Rattle.bpf.specs.Program.{Program, AreLoops, IsProgram}
 use Rattle.bpf.specs.Weight.{times_at}
-use Rattle.bpf_insn.specs.declared.insn.Insn.{Insn}
 use Rattle.bver_form.specs.Form.{IsFormed}
-use Rattle.bver_form.specs.Loops.{IsCounted, IsEdge, IsNestedOrApart, executions_left, weight_left, holds}
-use Rattle.bver_form.specs.Laws.{BeginsWithinWeight, EachStepTakesOne, LoopsAreEntered, OneIsLeft}
+use Rattle.bver_form.specs.Loops.{IsCounted, IsEdge, IsNestedOrApart, executions_left, holds}
+use Rattle.bver_form.specs.Laws.{BeginsWithinWeight, EachStepTakesItsCost, ItsCostIsLeft, LoopsAreEntered, WeightIsOfOnes}
 use Rattle.bver_form.proofs.Fitting.{each_loop, loop_at}
 use Rattle.bver_form.proofs.Left.{AreLaid, by_test, head_all, left_ahead, left_before, left_out, left_within, further_else, rounds, tail_all, times_in, times_out}
 use Rattle.bver_form.proofs.Steps.{goes_back, goes_onward}
-use Rattle.bver_form.proofs.Sums.{sum_here, sum_takes, sum_weighs}
+use Rattle.bver_form.proofs.Sums.{ones, sum_here, sum_takes, sum_weighs}
 use Rattle.bver_form.proofs.Entering.{comes_in, goes_back_to}
 
 -- ---- the loops of a program that has its form lie so
@@ -65,15 +64,14 @@ starts (l ∷ ls) least h v i bounds =
     refl
 
 pub begins_within : BeginsWithinWeight
-begins_within p values limits form bounds =
-    sum_weighs p.loops values 0 0 p.slots (λ j. starts p.loops 0 (lies p limits form) values j bounds)
+begins_within cost p values limits form bounds =
+    sum_weighs cost p.loops values 0 0 p.slots (λ j. starts p.loops 0 (lies p limits form) values j bounds)
 
-one_left : (p : Program) (slot : ℕ) (values : ℕ → ℕ) (o : Option Insn) → insn_at p slot ≡ o → IsSome o → 1 ≤ weight_left p values slot
-one_left p slot values None is some = absurd cc
-one_left p slot values (Some insn) is some = sum_here p.loops values slot 0 slot p.slots insn is (omega arith)
+pub its_cost_is_left : ItsCostIsLeft
+its_cost_is_left cost p slot values limits form = sum_here cost p.loops values slot 0 slot p.slots (omega arith)
 
-pub one_is_left : OneIsLeft
-one_is_left p slot values limits form some = one_left p slot values (insn_at p slot) refl some
+pub weight_is_of_ones : WeightIsOfOnes
+weight_is_of_ones p = ones p.loops 0 p.slots
 
 pub are_entered : LoopsAreEntered
 are_entered p slot next limits form edge begins k d below =
@@ -90,8 +88,8 @@ falls p slot next i e values after limits form edge counted taken =
       | inr backward ↦ goes_back values after i slot next e p.loops 0 (lies p limits form) counted (goes_back_to p slot next form edge backward) taken
     ]
 
-pub each_takes_one : EachStepTakesOne
-each_takes_one p slot next values after limits form edge begins counted =
-    sum_takes p.loops values after slot next 0 slot p.slots edge.insn edge.begins (omega arith)
+pub each_takes_its_cost : EachStepTakesItsCost
+each_takes_its_cost cost p slot next values after limits form edge begins counted =
+    sum_takes cost p.loops values after slot next 0 slot p.slots (omega arith)
     (λ j. let h = falls p slot next j 0 values after limits form edge counted (inl refl) in omega arith)
     (falls p slot next slot 1 values after limits form edge counted (inr (refl, refl)))

@@ -1,10 +1,12 @@
--- What the form of a program is worth: what its first fault tells, and how many instructions a run through its loops
--- may take.
+-- What the form of a program is worth: what its first fault tells, and what the instructions may cost that a run
+-- through its loops takes, by whatever cost of each.
 use Rattle.std.specs.Prelude.{◌≡◌, ◌≤◌, ◌<◌, ℕ, ◌+◌, IsSome, All, length}
 use Rattle.bpf.specs.Program.{Program, IsProgram, insn_at}
 use Rattle.bpf.specs.Weight.{weight_of}
+use Rattle.bpf_insn.specs.declared.insn.Insn.{Insn}
 use Rattle.bver_form.specs.declared.refusal.Refused.{Refused}
 use Rattle.bver_form.specs.Codes.{IsFormCode}
+use Rattle.bver_form.specs.Costs.{cost_here, weight_by}
 use Rattle.bver_form.specs.Form.{IsFormed, IsFormFault}
 use Rattle.bver_form.specs.Loops.{AreCounted, ComesIn, IsEdge, weight_left}
 
@@ -25,21 +27,25 @@ FaultIsKnown =
 -- at slot 0 no more is left than the weight, where a loop that has its head there begins within its bound
 abbrev pub BeginsWithinWeight : Type 0
 BeginsWithinWeight =
-    (p : Program) (values : ℕ → ℕ) → IsProgram p → IsFormed p → All (λ l. l.head ≡ 0 → values 0 ≤ l.bound) p.loops
-    → weight_left p values 0 ≤ weight_of p
+    (cost : Insn → ℕ) (p : Program) (values : ℕ → ℕ) → IsProgram p → IsFormed p
+    → All (λ l. l.head ≡ 0 → values 0 ≤ l.bound) p.loops → weight_left cost p values 0 ≤ weight_by cost p
 
--- each step takes at least one of what is left
-abbrev pub EachStepTakesOne : Type 0
-EachStepTakesOne =
-    (p : Program) (slot next : ℕ) (values after : ℕ → ℕ) → IsProgram p → IsFormed p → IsEdge p slot next
-    → IsSome (insn_at p next) → AreCounted p slot next values after → weight_left p after next
-    + 1 ≤ weight_left p values slot
+-- each step takes at least what its instruction costs of what is left
+abbrev pub EachStepTakesItsCost : Type 0
+EachStepTakesItsCost =
+    (cost : Insn → ℕ) (p : Program) (slot next : ℕ) (values after : ℕ → ℕ) → IsProgram p → IsFormed p
+    → IsEdge p slot next → IsSome (insn_at p next) → AreCounted p slot next values after
+    → weight_left cost p after next + cost_here cost (insn_at p slot) ≤ weight_left cost p values slot
 
--- one is left where a run stands, whatever the counters' values
-abbrev pub OneIsLeft : Type 0
-OneIsLeft =
-    (p : Program) (slot : ℕ) (values : ℕ → ℕ) → IsProgram p → IsFormed p → IsSome (insn_at p slot)
-    → 1 ≤ weight_left p values slot
+-- what the instruction costs is left where a run stands, whatever the counters' values
+abbrev pub ItsCostIsLeft : Type 0
+ItsCostIsLeft =
+    (cost : Insn → ℕ) (p : Program) (slot : ℕ) (values : ℕ → ℕ) → IsProgram p → IsFormed p
+    → cost_here cost (insn_at p slot) ≤ weight_left cost p values slot
+
+-- where each instruction costs one, that is the weight
+abbrev pub WeightIsOfOnes : Type 0
+WeightIsOfOnes = (p : Program) → weight_by (λ _. 1) p ≡ weight_of p
 
 -- into a loop a run comes at its head alone, and to its back from the slot before. An instruction of two slots cannot
 -- step over the head, since the back jump leads there, and so an instruction begins there

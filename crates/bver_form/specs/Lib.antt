@@ -1,7 +1,9 @@
 pub mod Codes
 pub mod Support
 pub mod Jumps
+pub mod Facts
 pub mod Targets
+pub mod Costs
 pub mod Loops
 pub mod Lowered
 pub mod Form

@@ -16,6 +16,7 @@ use Rattle.bpf_parts.specs.declared.operation.AluOp.TheVariants.{Add}
 use Rattle.bpf_parts.specs.declared.operation.Condition.TheVariants.{NotEqual}
 use Rattle.bpf_parts.specs.declared.operation.Operand.TheVariants.{Immediate}
 use Rattle.bpf_parts.specs.declared.operation.Width.TheVariants.{Bits64}
+use Rattle.bver_form.specs.Costs.{cost_here}
 use Rattle.bver_form.specs.Jumps.{jump_distance, target}
 
 -- ---- the statement
@@ -131,20 +132,17 @@ executions_left (l ∷ ls) values i slot =
     else further_passes l (values l.head) slot * times_at ls i + executions_left ls values i slot))
     else executions_left ls values i slot
 
--- the same for an instruction, and nothing for a second slot
-abbrev pub executions_of_part : List Loop → (values : ℕ → ℕ) → (i slot : ℕ) → Option Insn → ℕ
-executions_of_part loops values i slot None = 0
-executions_of_part loops values i slot (Some insn) = executions_left loops values i slot
+-- the sum of what that costs over the slots from one on
+unfoldable pub weight_left_from : (cost : Insn → ℕ) → List Loop → (values : ℕ → ℕ) → (slot i : ℕ)
+    → List (Option Insn) → ℕ
+weight_left_from cost loops values slot i [] = 0
+weight_left_from cost loops values slot i (x ∷ xs) =
+    executions_left loops values i slot * cost_here cost x
+    + weight_left_from cost loops values slot (i + 1) xs
 
--- the sum of that over the slots from one on
-unfoldable pub weight_left_from : List Loop → (values : ℕ → ℕ) → (slot i : ℕ) → List (Option Insn) → ℕ
-weight_left_from loops values slot i [] = 0
-weight_left_from loops values slot i (x ∷ xs) =
-    executions_of_part loops values i slot x + weight_left_from loops values slot (i + 1) xs
-
--- how many instructions a run may still take that stands at the slot with these values of the counters
-abbrev pub weight_left : Program → (values : ℕ → ℕ) → (slot : ℕ) → ℕ
-weight_left p values slot = weight_left_from p.loops values slot 0 p.slots
+-- what the instructions may still cost that a run takes which stands at the slot with these values of the counters
+abbrev pub weight_left : (cost : Insn → ℕ) → Program → (values : ℕ → ℕ) → (slot : ℕ) → ℕ
+weight_left cost p values slot = weight_left_from cost p.loops values slot 0 p.slots
 
 -- what a step from the slot to the next does to the counter of a loop, whose value was and is then: in the loop it is
 -- taken down before the back alone, at the head it is within the bound, and on the way back it is not zero

@@ -1,9 +1,11 @@
 //! The tests of a program's form, in the order in which they refuse.
 
-ghost use Rattle.std.specs.Prelude.{◌≡◌, IfErr, MatchResult, OnOk};
+ghost use Rattle.std.specs.Prelude.{◌≡◌, IfErr, IfOk, MatchResult, OnOk};
+ghost use Rattle.bver_form.specs.Facts.{AreFacts, AreFactsOf};
 ghost use Rattle.bver_form.specs.Form.{AreAllowed, IsAllowed, IsAllowedAt, IsFaultAt, IsFormed, IsFormFault, IsInsnFault, Tells, insn_fault, insn_at};
 
 use crate::ending::{check_budget, check_end};
+use crate::facts::{SLOTS, SlotFacts, no_facts};
 use crate::jumps::check_jump;
 use crate::loops::check_loops;
 use crate::refusal::{Refusal, Refused};
@@ -21,23 +23,29 @@ fn check_insn(image: &Image, slot: u16, insn: &Insn) -> Result<(), Refusal>
     check_jump(image, slot, insn)
 }
 
-/// Tests that the instruction that begins at the slot, if one does, may stand there.
-fn check_slot(image: &Image, slot: u16) -> Result<(), Refusal>
-    ensures { MatchResult result (λ _. IsAllowedAt image.now slot (insn_at image.now slot))
+/// Tests that the instruction that begins at the slot, if one does, may stand there. What it does is told.
+fn check_slot(image: &Image, slot: u16) -> Result<SlotFacts, Refusal>
+    ensures allowed { MatchResult result (λ _. IsAllowedAt image.now slot (insn_at image.now slot))
         (IsFaultAt image.now slot (insn_at image.now slot)) }
+    ensures facts { IfOk result (AreFactsOf (insn_at image.now slot)) }
 {
     match image.insn(slot) {
-        Some(insn) => check_insn(image, slot, &insn),
-        None => Ok(()),
+        Some(insn) => {
+            check_insn(image, slot, &insn)?;
+            Ok(SlotFacts::of(&insn))
+        }
+        None => Ok(SlotFacts::nothing()),
     }
 }
 
 /// Tests that each instruction may stand where it does. The first that may not is refused.
-fn check_slots(image: &Image) -> Result<(), Refused>
-    ensures { MatchResult result (λ _. AreAllowed image.now) (IsInsnFault image.now) }
+fn check_slots(image: &Image, facts: &mut [SlotFacts; SLOTS]) -> Result<(), Refused>
+    ensures allowed { MatchResult result (λ _. AreAllowed image.now) (IsInsnFault image.now) }
+    ensures facts { OnOk result (AreFacts image.now facts.new) }
 {
     for slot in 0..image.slots() {
-        check_slot(image, slot).map_err(|code| Refused { code, slot })?;
+        let told = check_slot(image, slot).map_err(|code| Refused { code, slot })?;
+        facts[usize::from(slot)] = told;
     }
     Ok(())
 }
@@ -56,8 +64,25 @@ pub fn check(image: &Image) -> Result<(), Refused>
     // The refusal is the first in that order.
     ensures first { IfErr result (IsFormFault image.now) }
 {
-    check_slots(image)?;
+    check_with(image, &mut no_facts())
+}
+
+/// Tests the form of a program as [`check`] does, and writes the facts of its slots to an array that may hold any before.
+/// Of a program that is refused, they are any. Time and memory are spent once for each slot: who goes on with a program
+/// reads them, and asks for no instruction again.
+///
+/// # Errors
+///
+/// Those of [`check`].
+pub fn check_with(image: &Image, facts: &mut [SlotFacts; SLOTS]) -> Result<(), Refused>
+    ensures formed { OnOk result (IsFormed image.now) }
+    ensures facts { OnOk result (AreFacts image.now facts.new) }
+
+    // The refusal is the first in that order.
+    ensures first { IfErr result (IsFormFault image.now) }
+{
+    check_slots(image, facts)?;
     check_end(image)?;
-    check_loops(image)?;
+    check_loops(image, facts)?;
     check_budget(image)
 }

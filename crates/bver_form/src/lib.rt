@@ -4,6 +4,7 @@
 #![tactic(auto)]
 
 mod ending;
+mod facts;
 mod form;
 mod jumps;
 mod laws;
@@ -13,7 +14,8 @@ mod refusal;
 mod support;
 mod targets;
 
-pub use form::check;
+pub use facts::{SLOTS, SlotFacts, no_facts};
+pub use form::{check, check_with};
 pub use jumps::landing;
 pub use laws::{first_faults, loops_are_counted};
 pub use lowered::Lowered;

@@ -2,13 +2,14 @@
 
 ghost use Rattle.std.specs.Prelude.{◌≡◌, ◌≢◌, ◌<◌, ◌+◌, ◌↔◌, ℕ, IsTrue, All, MatchResult, Some, IfSome, length, slice_index_or};
 ghost use Rattle.bpf.specs.declared.header.TheConstants.{MAX_SLOTS};
-ghost use Rattle.bpf.specs.Program.{IsLoop, insn_at};
-ghost use Rattle.bpf_insn.specs.Flow.{is_written};
+ghost use Rattle.bpf.specs.Program.{IsLoop, Program, insn_at};
+ghost use Rattle.bver_form.specs.Facts.{AreFacts, AreFactsOf};
 ghost use Rattle.bver_form.specs.Form.{IsLoopFault};
 ghost use Rattle.bver_form.specs.Jumps.{jump_distance, target};
 ghost use Rattle.bver_form.specs.Loops.{EntersAtHead, IsAmongOthers, IsBackJump, IsEnteredAtHead, IsLoopFormed, IsNestedOrApart, IsStep, EntersAtHeadFrom, LeavesCounter, LeavesCounterAt, back_jump, holds, step_down};
 
-use crate::jumps::{jump_distance, target};
+use crate::facts::{SLOTS, SlotFacts};
+use crate::jumps::target;
 use crate::refusal::{Refusal, Refused};
 use bpf::{Image, Loop};
 use bpf_insn::{AluOp, Comparison, Condition, Insn, Operand, Width};
@@ -66,26 +67,25 @@ fn check_step(image: &Image, declared: &Loop) -> bool
 }
 
 /// Whether the instruction at the slot leaves the loop's register, if it has to.
-fn leaves_counter(image: &Image, declared: &Loop, slot: u16) -> bool
+fn leaves_counter(facts: &SlotFacts, declared: &Loop, slot: u16) -> bool
     requires { IsLoop MAX_SLOTS declared.now }
-    ensures { IsTrue result ↔ LeavesCounterAt image.now declared.now slot }
+    ensures { (p : Program) → AreFactsOf (insn_at p slot) facts.now
+        → IsTrue result ↔ LeavesCounterAt p declared.now slot }
 {
     if !holds(declared, slot) || slot == declared.back - 1 {
         return true;
     }
-    match image.insn(slot) {
-        Some(insn) => !insn.writes(declared.register),
-        None => true,
-    }
+    !facts.writes(declared.register)
 }
 
 /// Whether no other slot of the loop writes its register.
-fn check_counter(image: &Image, declared: &Loop) -> bool
+fn check_counter(facts: &[SlotFacts; SLOTS], declared: &Loop) -> bool
     requires { IsLoop MAX_SLOTS declared.now }
-    ensures { IsTrue result ↔ LeavesCounter image.now declared.now }
+    ensures { (p : Program) → AreFacts p facts.now → declared.now.back < length p.slots
+        → IsTrue result ↔ LeavesCounter p declared.now }
 {
-    for slot in 0..image.slots() {
-        if !leaves_counter(image, declared, slot) {
+    for slot in declared.head..declared.back + 1 {
+        if !leaves_counter(&facts[usize::from(slot)], declared, slot) {
             return false;
         }
     }
@@ -103,24 +103,23 @@ fn enters_at_head(declared: &Loop, slot: u16, landing: i64) -> bool
 }
 
 /// The same of the instruction at the slot, where it jumps.
-fn enters_at_head_from(image: &Image, declared: &Loop, slot: u16) -> bool
-    ensures { IsTrue result ↔ EntersAtHeadFrom image.now declared.now slot }
+fn enters_at_head_from(facts: &SlotFacts, declared: &Loop, slot: u16) -> bool
+    ensures { (p : Program) → AreFactsOf (insn_at p slot) facts.now
+        → IsTrue result ↔ EntersAtHeadFrom p declared.now slot }
 {
-    match image.insn(slot) {
-        Some(insn) => match jump_distance(&insn) {
-            Some(distance) => enters_at_head(declared, slot, target(slot, distance)),
-            None => true,
-        },
+    match facts.distance() {
+        Some(distance) => enters_at_head(declared, slot, target(slot, distance)),
         None => true,
     }
 }
 
 /// Whether no jump leads to the loop's back, and none from outside into it but to its head.
-fn check_entry(image: &Image, declared: &Loop) -> bool
+fn check_entry(image: &Image, facts: &[SlotFacts; SLOTS], declared: &Loop) -> bool
+    requires { AreFacts image.now facts.now }
     ensures { IsTrue result ↔ IsEnteredAtHead image.now declared.now }
 {
     for slot in 0..image.slots() {
-        if !enters_at_head_from(image, declared, slot) {
+        if !enters_at_head_from(&facts[usize::from(slot)], declared, slot) {
             return false;
         }
     }
@@ -150,14 +149,16 @@ fn check_others(image: &Image, declared: &Loop) -> bool
 }
 
 /// Whether the declared loop has its form.
-fn is_loop_formed(image: &Image, declared: &Loop) -> bool
-    requires { IsLoop MAX_SLOTS declared.now }
+fn is_loop_formed(image: &Image, facts: &[SlotFacts; SLOTS], declared: &Loop) -> bool
+    requires limits { IsLoop MAX_SLOTS declared.now }
+    requires within { declared.now.back < length image.now.slots }
+    requires facts { AreFacts image.now facts.now }
     ensures { IsTrue result ↔ IsLoopFormed image.now declared.now }
 {
     check_back(image, declared)
         && check_step(image, declared)
-        && check_counter(image, declared)
-        && check_entry(image, declared)
+        && check_counter(facts, declared)
+        && check_entry(image, facts, declared)
         && check_others(image, declared)
 }
 
@@ -172,13 +173,15 @@ fn unformed(declared: &Loop) -> Refused
     }
 }
 
-/// Tests that each declared loop has its form. The first that has not, by rising head, is refused.
-pub(crate) fn check_loops(image: &Image) -> Result<(), Refused>
+/// Tests that each declared loop has its form, by the facts of its slots. The first that has not, by rising head, is
+/// refused.
+pub(crate) fn check_loops(image: &Image, facts: &[SlotFacts; SLOTS]) -> Result<(), Refused>
+    requires { AreFacts image.now facts.now }
     ensures { MatchResult result (λ _. All (IsLoopFormed image.now) image.now.loops)
         (IsLoopFault image.now) }
 {
     for declared in image.loops() {
-        if !is_loop_formed(image, declared) {
+        if !is_loop_formed(image, facts, declared) {
             return Err(unformed(declared));
         }
     }

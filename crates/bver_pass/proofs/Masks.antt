@@ -1,11 +1,9 @@
 -- The registers that instructions write, as bits of a number.
-use Rattle.std.proofs.Common.{◌≡◌, ◌≢◌, ◌⊎◌, ℕ, ◌+◌, ◌*◌, ◌^◌, ◌%◌, ◌<◌, ◌≤◌, Bool, true, false, List, length, inl, inr, eqb, refl, sym, ap, subst, ◌∙◌, arith, set, length-set, get_or-set_same, get_or-set_other}
+use Rattle.std.proofs.Common.{◌≡◌, ◌≢◌, ◌⊎◌, ℕ, ◌+◌, ◌<◌, ◌≤◌, false, List, length, inl, inr, sym, ap, subst, ◌∙◌, arith, set, length-set, get_or-set_same, get_or-set_other}
 use Rattle.std.specs.Prelude.{◌==◌, ◌||◌, ◌↔◌, IsTrue, slice_index_or}
 use Rattle.std.specs.Int.Bits.{bit_or}
 use Rattle.std.proofs.lemmas.Bool.{cases_lt}
-use Rattle.std.proofs.lemmas.Bool.Decides.{nat_tests}
-use Rattle.std.proofs.lemmas.Nat.{one_shl}
-use Rattle.std.proofs.lemmas.Nat.Bits.{bit_at-zero, bit_at-pow_same, bit_at-pow_other}
+use Rattle.std.proofs.lemmas.Nat.Bits.{bit_at-zero}
 use Rattle.bpf_insn.specs.Bits.{bit_of_either}
 use Rattle.bpf.specs.declared.loops.Loop.{Loop}
 use Rattle.bpf.specs.Program.{Program, insn_at}
@@ -13,26 +11,13 @@ use Rattle.bver_pass.specs.declared.written.Written.{Written}
 use Rattle.bver_pass.specs.Heads.{IsDeclared}
 use Rattle.bver_pass.specs.Justified.{IsStoreAt, IsWrittenBy}
 use Rattle.bver_pass.specs.Written.{AreWrittenByLoops, IsWrittenByLoop, has_register}
-use Rattle.bver_pass.proofs.Loops.{inside_of, holds_at, from_eqb}
+use Rattle.bver_pass.proofs.Loops.{inside_of, holds_at}
 
 -- ---- bits
 
 -- no register is among those of 0
 pub has_none : (register : ℕ) → has_register 0 register ≡ false
 has_none register = ap (λ x. x == 1) (bit_at-zero register)
-
--- the bit of a register stands for it alone
-pub has_named : (named register : ℕ) → named ≤ 10 → has_register (1 * 2 ^ named % 2 ^ 16) register ≡ (named == register)
-has_named named register low =
-    ap (λ m. has_register m register) (one_shl named 16 (omega arith)) ∙ by_same (eqb named register) refl
-  where
-    by_same : (t : Bool) → eqb named register ≡ t → has_register (2 ^ named) register ≡ (named == register)
-    by_same true e =
-        let same : named ≡ register = from_eqb named register e in
-        ap (λ r. has_register (2 ^ named) r) (sym same) ∙ ap (λ x. x == 1) (bit_at-pow_same named) ∙ sym e
-    by_same false e =
-        let apart : register ≢ named = grind (arith, nat_tests, e) in
-        ap (λ x. x == 1) (bit_at-pow_other named register apart) ∙ sym e
 
 -- a register is among those of both
 pub has_either : (a b register : ℕ) → has_register (bit_or a b) register ≡ (has_register a register || has_register b register)

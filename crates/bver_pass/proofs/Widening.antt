@@ -112,6 +112,11 @@ declared_at p l place limits inside is = record { inside = inside; is = is; few 
     low_loop : {m : Loop} → IsLoop (length p.slots) m → IsLoop MAX_SLOTS m
     low_loop loop = record { ordered = loop.ordered; within = omega (arith, loop.within, limits.slots.1); low = loop.low; high = loop.high; register = loop.register }
 
+-- a declared loop ends inside the code
+pub declared_within : (p : Program) (l : Loop) (place : ℕ) → IsProgram p → IsDeclared p l place → l.back < length p.slots
+declared_within p l place limits declared =
+    subst (λ (m : Loop). m.back < length p.slots) (declared.is l) (loop_in (length p.slots) 0 p.loops place l limits.loops declared.inside).1.within
+
 -- the loop that is read at a place of the loops is declared there
 pub declared_read : (p : Program) (lent : List Loop) (found : Loop) (place : ℕ) → IsProgram p → place < length p.loops → lent ≡ p.loops → found ≡ slice_index_or lent place found → IsDeclared p found place
 declared_read p lent found place limits inside same read =

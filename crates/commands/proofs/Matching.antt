@@ -54,11 +54,13 @@ lacks_packet found rows BadOption is refuses = subst IsIncomplete (sym is) (reco
   live = λ h. absurd (search rules);
   explain = λ h. absurd (search rules);
   why = λ h. absurd (search rules);
+  weigh = λ h. absurd (search rules);
   packet = λ h. refuses;
   show = λ h. absurd (search rules);
   decide = λ h. absurd (search rules);
   trace = λ h. absurd (search rules);
   compare = λ h. absurd (search rules);
   map = λ h. absurd (search rules);
+  rehearse = λ h. absurd (search rules);
 })
 lacks_packet found rows (Parse text) is refuses = refuses

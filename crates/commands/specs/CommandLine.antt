@@ -9,6 +9,7 @@ use Rattle.job_charts.specs.CompareJob.{compare_app, NamesCompare, SpoilsCompare
 use Rattle.job_charts.specs.MapJob.{map_app, NamesMap, SpoilsMap}
 use Rattle.job_decide.specs.DecideJob.{decide_app, NamesDecide, SpoilsDecide}
 use Rattle.job_live.specs.Words.{live_app, NamesLive, SpoilsLive}
+use Rattle.job_rehearse.specs.RehearseJob.{rehearse_app, NamesRehearse, SpoilsRehearse}
 use Rattle.job_parts.specs.Lines.{NamesLines, SpoilsLines}
 use Rattle.job_texts.specs.AsmJob.{asm_app, NamesAsm}
 use Rattle.job_texts.specs.DisJob.{dis_app, NamesDis}
@@ -23,6 +24,7 @@ use Rattle.job_nodes.specs.JudgeJob.{judge_app}
 use Rattle.job_nodes.specs.SimJob.{sim_app}
 use Rattle.job_ports.specs.ServeJob.{serve_app}
 use Rattle.job_trace.specs.TraceJob.{trace_app}
+use Rattle.job_weigh.specs.WeighJob.{weigh_app, NamesWeigh, SpoilsWeigh}
 use Rattle.commands.specs.declared.jobs.Job.TheVariants.{
   Assemble,
   Disassemble,
@@ -33,12 +35,14 @@ use Rattle.commands.specs.declared.jobs.Job.TheVariants.{
   Simulate,
   Explain,
   Why,
+  Weigh,
   Packet,
   Show,
   Decide,
   Trace,
   Compare,
   Map,
+  Rehearse,
 }
 use Rattle.commands.specs.declared.work.Work.{Work}
 use Rattle.commands.specs.declared.work.Work.TheVariants.{Once, Live}
@@ -67,18 +71,18 @@ with_packet_jobs app =
     with_subcommand (with_subcommand (with_subcommand (with_subcommand app packet_app.top) show_app.top) decide_app.top)
     trace_app.top
 
--- a command with the jobs on what tables decide of all commands, behind others
+-- a command with the jobs before a load, behind others
 abbrev pub with_chart_jobs : App → App
-with_chart_jobs app = with_subcommand (with_subcommand app compare_app.top) map_app.top
+with_chart_jobs app = with_subcommand (with_subcommand (with_subcommand app compare_app.top) map_app.top) rehearse_app.top
 
 -- `rmapctl` with its subcommands
 unfoldable pub rmapctl_app : App
 rmapctl_app =
     with_chart_jobs
     (with_packet_jobs
-    (with_subcommand (with_subcommand (with_subcommand
+    (with_subcommand (with_subcommand (with_subcommand (with_subcommand
     (with_subcommand (with_subcommand (with_first_jobs (on_top rmapctl_shape (new_app (codes "rmapctl"))))
-    serve_app.top) sim_app.top) live_app.top) explain_app.top) why_app.top))
+    serve_app.top) sim_app.top) live_app.top) explain_app.top) why_app.top) weigh_app.top))
 
 -- the subcommand that clap finds in the words, with its matches
 abbrev pub subcommand_in : List Text → Option (Text × List Row)
@@ -97,12 +101,14 @@ Names (Some found) (Once (Simulate args)) = (found.0 ≡ codes "sim") × NamesLi
 Names (Some found) (Live words) = (found.0 ≡ codes "live") × NamesLive found.1 words
 Names (Some found) (Once (Explain words)) = (found.0 ≡ codes "explain") × NamesExplain found.1 words
 Names (Some found) (Once (Why args)) = (found.0 ≡ codes "why") × NamesImage found.1 args
+Names (Some found) (Once (Weigh words)) = (found.0 ≡ codes "weigh") × NamesWeigh found.1 words
 Names (Some found) (Once (Packet words)) = (found.0 ≡ codes "packet") × NamesPacket found.1 words
 Names (Some found) (Once (Show words)) = (found.0 ≡ codes "show") × NamesShow found.1 words
 Names (Some found) (Once (Decide words)) = (found.0 ≡ codes "decide") × NamesDecide found.1 words
 Names (Some found) (Once (Trace args)) = (found.0 ≡ codes "trace") × NamesLines found.1 args
 Names (Some found) (Once (Compare words)) = (found.0 ≡ codes "compare") × NamesCompare found.1 words
 Names (Some found) (Once (Map words)) = (found.0 ≡ codes "map") × NamesMap found.1 words
+Names (Some found) (Once (Rehearse words)) = (found.0 ≡ codes "rehearse") × NamesRehearse found.1 words
 
 -- what the user is told of a refusal by clap of this kind
 abbrev pub TellsRefusal : ErrorKind → UsageFault → Type 0
@@ -123,12 +129,14 @@ pub record IsSpoiled (found : Text × List Row) : Type 0 where
   pub live : found.0 ≡ codes "live" → SpoilsLive found.1
   pub explain : found.0 ≡ codes "explain" → SpoilsExplain found.1
   pub why : found.0 ≡ codes "why" → SpoilsImage found.1
+  pub weigh : found.0 ≡ codes "weigh" → SpoilsWeigh found.1
   pub packet : found.0 ≡ codes "packet" → SpoilsPacket found.1
   pub show : found.0 ≡ codes "show" → first_of (codes "lines") found.1 ≡ None
   pub decide : found.0 ≡ codes "decide" → SpoilsDecide found.1
   pub trace : found.0 ≡ codes "trace" → SpoilsLines found.1
   pub compare : found.0 ≡ codes "compare" → SpoilsCompare found.1
   pub map : found.0 ≡ codes "map" → SpoilsMap found.1
+  pub rehearse : found.0 ≡ codes "rehearse" → SpoilsRehearse found.1
 
 -- clap found no subcommand, or one without what it needs
 abbrev pub IsIncomplete : Option (Text × List Row) → Type 0

@@ -6,6 +6,7 @@ use Rattle.job_texts.specs.Compiled.{CompilesTable, IsNotCompiled}
 use Rattle.job_texts.specs.Disassembled.{Disassembles, IsNotPrinted}
 use Rattle.job_charts.specs.ComparedFile.{ComparesFile, IsNotCompared}
 use Rattle.job_charts.specs.MappedFile.{IsNotMapped, MapsFile}
+use Rattle.job_rehearse.specs.Rehearsed.{IsNotRehearsed, RehearsesFile}
 use Rattle.job_codes.specs.ExplainJob.{Explains}
 use Rattle.job_codes.specs.Explained.{ExplainsFile}
 use Rattle.job_decide.specs.DecidedFile.{Decides, IsNotDecided}
@@ -20,6 +21,7 @@ use Rattle.job_packets.specs.MadePackets.{IsNotMade, MakesFile}
 use Rattle.job_packets.specs.Shown.{IsNotShown, ShowsFile}
 use Rattle.job_texts.specs.Verified.{Verifies}
 use Rattle.job_trace.specs.Traced.{IsNotTraced, TracesFile}
+use Rattle.job_weigh.specs.Weighed.{Weighs}
 use Rattle.job_parts.specs.declared.faults.Fault.{Fault}
 use Rattle.job_parts.specs.declared.faults.Fault.TheVariants.{NoMemory}
 use Rattle.job_parts.specs.declared.status.Status.{Status}
@@ -35,12 +37,14 @@ use Rattle.commands.specs.declared.jobs.Job.TheVariants.{
   Simulate,
   Explain,
   Why,
+  Weigh,
   Packet,
   Show,
   Decide,
   Trace,
   Compare,
   Map,
+  Rehearse,
 }
 
 module _ {S : Type 0} (reads : Reads S) (writes : Writes S) where
@@ -61,6 +65,7 @@ module _ {S : Type 0} (reads : Reads S) (writes : Writes S) where
   IsDone (Simulate args) before after old new status = IsDoneWith (SimulatesFile reads args before after old new) status
   IsDone (Explain words) before after old new status = (after ≡ before) × IsDoneWith (Explains old new) status
   IsDone (Why args) before after old new status = ExplainsFile reads args before after old new status
+  IsDone (Weigh words) before after old new status = IsDoneWith (Weighs reads words before after old new) status
   IsDone (Packet words) before after old new status = MakesFile reads words before after old new status
   IsDone (Show words) before after old new status =
       IsDoneWith (ShowsFile reads before (string_bytes words.lines) after old new) status
@@ -68,8 +73,9 @@ module _ {S : Type 0} (reads : Reads S) (writes : Writes S) where
   IsDone (Trace args) before after old new status = IsDoneWith (TracesFile reads args before after old new) status
   IsDone (Compare words) before after old new status = ComparesFile reads words before after old new status
   IsDone (Map words) before after old new status = MapsFile reads words before after old new status
+  IsDone (Rehearse words) before after old new status = RehearsesFile reads words before after old new status
 
-  -- the fault ended the job; only `judge`, `sim`, `show`, `decide` and `trace` printed before it
+  -- the fault ended the job; only `judge`, `sim`, `show`, `decide`, `trace` and `rehearse` printed before it
   abbrev pub IsEnded : Job → (before after : S) → (old new : Option (List ℕ)) → Fault → Type 0
   IsEnded (Judge args) before after old new fault = IsNotJudged reads args before after old new fault
   IsEnded (Assemble words) before after old new fault =
@@ -86,6 +92,8 @@ module _ {S : Type 0} (reads : Reads S) (writes : Writes S) where
   IsEnded (Explain words) before after old new fault = (fault ≡ NoMemory) × (after ≡ before) × (new ≡ old)
   IsEnded (Why args) before after old new fault =
       IsUnread reads before (string_bytes args.image) after fault × (new ≡ old)
+  IsEnded (Weigh words) before after old new fault =
+      IsNoProgram reads before (string_bytes words.image) words.sizes after fault × (new ≡ old)
   IsEnded (Packet words) before after old new fault = IsNotMade reads words before after fault × (new ≡ old)
   IsEnded (Show words) before after old new fault =
       IsNotShown reads before (string_bytes words.lines) after old new fault
@@ -93,6 +101,7 @@ module _ {S : Type 0} (reads : Reads S) (writes : Writes S) where
   IsEnded (Trace args) before after old new fault = IsNotTraced reads args before after old new fault
   IsEnded (Compare words) before after old new fault = IsNotCompared reads words before after fault × (new ≡ old)
   IsEnded (Map words) before after old new fault = IsNotMapped reads words before after fault × (new ≡ old)
+  IsEnded (Rehearse words) before after old new fault = IsNotRehearsed reads words before after old new fault
 
   -- a fault ended the job, and its line was printed behind what came before, and nothing behind it
   pub record TellsFault (job : Job) (before after : S) (old new : Option (List ℕ)) : Type 0 where

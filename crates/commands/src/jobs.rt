@@ -1,8 +1,9 @@
 //! The jobs of `rmapctl`.
 
-ghost use Rattle.std.specs.Prelude.{◌≡◌, IfErr, IfOk};
+ghost use Rattle.std.specs.Prelude.{IfErr, IfOk};
 ghost use Rattle.commands.specs.Performed.{IsDone, IsEnded, Performs};
 ghost use Rattle.job_parts.specs.Stops.{StopsBy};
+ghost use Rattle.target.specs.Nodes.{AreOpened};
 
 use job_charts::compare::{CompareWords, compare_file};
 use job_charts::map::{MapWords, map_file};
@@ -19,18 +20,20 @@ use job_parts::status::Status;
 use job_parts::stops::{Halt, WriteFault};
 use job_parts::storage::Files;
 use job_ports::serve::serve_file;
+use job_rehearse::rehearse::{RehearseWords, rehearse_file};
 use job_texts::asm::{AsmWords, assemble_file};
 use job_texts::dis::{DisWords, disassemble_file};
 use job_texts::images::ImageArgs;
 use job_texts::policies::{PolicyWords, compile_file};
 use job_texts::verify::verify_file;
 use job_trace::trace::trace_file;
-use publish::{Opened, ProgramFamily};
+use job_weigh::weigh::{WeighWords, weigh_file};
 use std::alloc::Global;
 use std::io::Write;
 use std::marker::Brand;
 use std::sync::Wait;
 use std::thread::Threads;
+use target::{NodeFamily, Opened};
 
 /// A job, as a command line names it.
 #[derive(Debug, Drop)]
@@ -55,6 +58,8 @@ pub enum Job {
     Explain(ExplainWords),
     /// Verifies a BPF image, and prints whether it may judge, the reason why not, and the maps that it needs.
     Why(ImageArgs),
+    /// Verifies a BPF image, and prints what a run of it costs at most.
+    Weigh(WeighWords),
     /// Makes packet lines: of a command, or of a load.
     Packet(PacketWords),
     /// Prints in words what packet lines are.
@@ -65,10 +70,12 @@ pub enum Job {
     Compare(CompareWords),
     /// Prints what a policy table decides of all commands, and which of its rules never match.
     Map(MapWords),
+    /// Prints what becomes of the load of a new policy under an old one, and of the way back.
+    Rehearse(RehearseWords),
 }
 
 /// Does a job, up to its end or the fault that ends it, which is still to be printed.
-fn attempt<'a, J: ProgramFamily + Send + 'static, R: Threads + Wait + Sync, F: Files, W: Write>(
+fn attempt<'a, J: NodeFamily + Send + Sync + 'static, R: Threads + Wait + Sync, F: Files, W: Write>(
     rt: &R,
     alloc: Global,
     opened: Opened,
@@ -76,7 +83,7 @@ fn attempt<'a, J: ProgramFamily + Send + 'static, R: Threads + Wait + Sync, F: F
     files: &mut F,
     out: &mut W,
 ) -> Result<Status, Halt<'a>>
-    requires { opened ≡ J.book }
+    requires { AreOpened J.ProgramFamily.book J.Family.book opened }
     ensures done { IfOk result (IsDone F.reads F.writes job.now files.old files.new
         (W.contents out.old) (W.contents out.new)) }
     ensures stops { IfErr result (StopsBy (IsEnded F.reads F.writes job.now files.old files.new
@@ -95,16 +102,23 @@ fn attempt<'a, J: ProgramFamily + Send + 'static, R: Threads + Wait + Sync, F: F
         Job::Policy(words) => compile_file(alloc, words, files, out),
         Job::Explain(words) => explain(alloc, words, out),
         Job::Why(args) => why_file(alloc, args, files, out),
+        Job::Weigh(words) => weigh_file(alloc, words, files, out),
         Job::Packet(words) => packet_file(alloc, words, files, out),
         Job::Show(words) => show_file(alloc, words.lines.as_str(), files, out),
         Job::Decide(words) => decide_file(alloc, words, files, out),
         Job::Compare(words) => compare_file(alloc, words, files, out),
         Job::Map(words) => map_file(alloc, words, files, out),
+        Job::Rehearse(words) => rehearse_file(alloc, words, files, out),
     }
 }
 
 /// Does a job, where a node that it makes has that history of programs.
-fn perform_opened<J: ProgramFamily + Send + 'static, R: Threads + Wait + Sync, F: Files, W: Write>(
+fn perform_opened<
+    J: NodeFamily + Send + Sync + 'static,
+    R: Threads + Wait + Sync,
+    F: Files,
+    W: Write,
+>(
     rt: &R,
     alloc: Global,
     opened: Opened,
@@ -112,7 +126,7 @@ fn perform_opened<J: ProgramFamily + Send + 'static, R: Threads + Wait + Sync, F
     files: &mut F,
     out: &mut W,
 ) -> Result<Status, WriteFault>
-    requires { opened ≡ J.book }
+    requires { AreOpened J.ProgramFamily.book J.Family.book opened }
     ensures { IfOk result (Performs F.reads F.writes job.now files.old files.new
         (W.contents out.old) (W.contents out.new)) }
 {
@@ -126,8 +140,8 @@ fn perform_opened<J: ProgramFamily + Send + 'static, R: Threads + Wait + Sync, F
     }
 }
 
-/// Does a job over any files and any writer, and gives the exit status: `Failed` where an image was refused, two tables differ
-/// or a fault was printed, `Misused` where there are no packets such as `packet` was to make, else `Done`. What the writer holds back is
+/// Does a job over any files and any writer, and gives the exit status: `Failed` where an image was refused, two tables differ,
+/// a load or its way back is closed or a fault was printed, `Misused` where there are no packets such as `packet` was to make, else `Done`. What the writer holds back is
 /// not flushed. It may wait: `serve` has a node, whose end does, and starts threads and waits for them.
 ///
 /// `WriteFault` where the writer failed; nothing is written after that.

@@ -1,6 +1,7 @@
 //! What `rmapctl` does: its command line, its jobs over any files and any writer, and its talks over any lines or frames that come.
 #![tactic(auto)]
 
+mod hints;
 mod jobs;
 mod shows;
 mod slips;
@@ -8,6 +9,7 @@ mod told_files;
 mod usage;
 mod work;
 
+pub use hints::told_fault;
 pub use job_charts::compare::CompareWords;
 pub use job_charts::map::MapWords;
 pub use job_codes::explain::ExplainWords;
@@ -31,10 +33,12 @@ pub use job_parts::stops::WriteFault;
 pub use job_parts::storage::{Cannot, Files};
 pub use job_parts::usage::UsageFault;
 pub use job_ports::serve::print_report;
+pub use job_rehearse::rehearse::RehearseWords;
 pub use job_texts::asm::AsmWords;
 pub use job_texts::dis::DisWords;
 pub use job_texts::images::ImageArgs;
 pub use job_texts::policies::PolicyWords;
+pub use job_weigh::weigh::WeighWords;
 pub use jobs::{Job, perform};
 pub use shows::show_talk;
 pub use slips::{help, told_misuse, told_option};

@@ -6,10 +6,12 @@ use clap::ArgMatches;
 use clap::error::ErrorKind;
 use job_packets::orders::Order;
 use job_packets::packet::packet_words;
-use job_packets::slips::{PacketFault, Slip};
+use job_packets::slips::{PacketFault, PacketWord, Slip};
 use job_parts::arguments::text_of;
 use job_parts::options::{ports_of, sizes_of};
 use job_parts::usage::UsageFault;
+use job_rehearse::rehearse::slots_of;
+use job_weigh::times::times_of;
 use std::alloc::{AllocError, Global};
 
 /// What `--maps` may be.
@@ -18,6 +20,10 @@ const MAPS: &str =
 
 /// What `--ports` may be.
 const PORTS: &str = "a decimal number from 1 to 32";
+
+/// What `--ns` may be.
+const TIMES: &str =
+    "four decimal numbers of nanoseconds with commas between them, as 15,14,6,2: of a division, a call, a jump and the rest";
 
 /// What CODE may be.
 const CODE: &str = "letters and a number, as V5 or load12; without CODE all are listed";
@@ -56,6 +62,13 @@ fn option_line(alloc: Global, found: &ArgMatches) -> Result<String, AllocError> 
     }
     if let Err(UsageFault::BadOption) = ports_of(found) {
         return line_of(alloc, "--ports", text_of(found, "ports"), PORTS);
+    }
+    if let Err(UsageFault::BadOption) = slots_of(alloc, found) {
+        let wanted = Slip::Bad(PacketWord::Slot).wanted();
+        return line_of(alloc, "--slot", text_of(found, "slot"), wanted);
+    }
+    if let Err(UsageFault::BadOption) = times_of(alloc, found) {
+        return line_of(alloc, "--ns", text_of(found, "ns"), TIMES);
     }
     match text_of(found, "code") {
         Some(code) => line_of(alloc, "CODE", Some(code), CODE),

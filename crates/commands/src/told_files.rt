@@ -38,6 +38,8 @@ struct Plan {
     texts: u8,
     /// How many bytes of a file behind those are enough to tell that it is too long.
     enough: u64,
+    /// Whether the last text is kept, so that more can be told of its fault.
+    keeps: bool,
 }
 
 /// What a job reads.
@@ -45,11 +47,11 @@ fn plan_of(job: &Job) -> Plan {
     let (texts, enough) = match job {
         Job::Judge(_) | Job::Serve(_) | Job::Simulate(_) | Job::Trace(_) => (1, MAX_IMAGE),
         Job::Assemble(_) | Job::Policy(_) | Job::Show(_) => (1, 0),
-        Job::Disassemble(_) | Job::Verify(_) => (0, MAX_IMAGE),
+        Job::Disassemble(_) | Job::Verify(_) | Job::Weigh(_) => (0, MAX_IMAGE),
         Job::Map(_) => (1, 0),
         Job::Decide(_) | Job::Compare(_) => (2, 0),
         // What is no image may be a text of any length.
-        Job::Why(_) | Job::Explain(_) => (0, u64::MAX),
+        Job::Why(_) | Job::Explain(_) | Job::Rehearse(_) => (0, u64::MAX),
         Job::Packet(words) => match &words.order {
             Order::Load { .. } => (0, u64::from(STAGING_SIZE) + 1),
             Order::Write {
@@ -59,13 +61,27 @@ fn plan_of(job: &Job) -> Plan {
             Order::Read { .. } | Order::Write { .. } | Order::Rmw { .. } => (0, 0),
         },
     };
-    Plan { texts, enough }
+    let keeps = matches!(
+        job,
+        Job::Assemble(_)
+            | Job::Policy(_)
+            | Job::Decide(_)
+            | Job::Compare(_)
+            | Job::Map(_)
+            | Job::Rehearse(_)
+    );
+    Plan {
+        texts,
+        enough,
+        keeps,
+    }
 }
 
 /// What the node of a talk reads: the image that judges.
 const NODE_PLAN: Plan = Plan {
     texts: 0,
     enough: MAX_IMAGE,
+    keeps: false,
 };
 
 /// The files of this machine, as a job reads them. The name `-` is standard input, which cannot be written. Of a file that
@@ -75,6 +91,7 @@ pub struct ToldFiles<'a, R> {
     rt: &'a R,
     plan: Plan,
     cause: Option<Cause>,
+    text: Option<String>,
 }
 
 /// The bytes that a reader gives, at most so many.
@@ -104,6 +121,7 @@ impl<'a, R: rt::Files + Input> ToldFiles<'a, R> {
             rt,
             plan,
             cause: None,
+            text: None,
         }
     }
 
@@ -120,6 +138,19 @@ impl<'a, R: rt::Files + Input> ToldFiles<'a, R> {
     /// Why the last file could not be read or written, if it could not.
     pub fn cause(&self) -> Option<&Cause> {
         self.cause.as_ref()
+    }
+
+    /// The last text that was read, where the job is one that has more told of its fault.
+    pub fn text(&self) -> Option<&str> {
+        self.text.as_deref()
+    }
+
+    /// Keeps bytes that were read, if they are a text, and if there is memory.
+    fn keep(&mut self, alloc: Global, bytes: &[u8]) {
+        self.text = match str::from_utf8(bytes) {
+            Ok(text) => String::from_str(alloc, text).ok(),
+            Err(_) => None,
+        };
     }
 
     /// The bytes of the file `name`, at most so many.
@@ -156,7 +187,12 @@ impl<R: rt::Files + Input> Files for ToldFiles<'_, R> {
 
     fn read(&mut self, alloc: Global, name: &str) -> Result<Vec<u8>, Cannot> {
         match self.next(alloc, name) {
-            Ok(bytes) => Ok(bytes),
+            Ok(bytes) => {
+                if self.plan.keeps {
+                    self.keep(alloc, bytes.as_slice());
+                }
+                Ok(bytes)
+            }
             Err(cause) => {
                 self.cause = Some(cause);
                 Err(Cannot)

@@ -23,12 +23,14 @@ use job_packets::show::{show_command, show_job};
 use job_parts::lines::lines_args;
 use job_parts::usage::UsageFault;
 use job_ports::serve::serve_command;
+use job_rehearse::rehearse::{rehearse_command, rehearse_job};
 use job_texts::asm::{asm_command, asm_job};
 use job_texts::dis::{dis_command, dis_job};
 use job_texts::images::image_args;
 use job_texts::policies::{policy_command, policy_job};
 use job_texts::verify::verify_command;
 use job_trace::trace::trace_command;
+use job_weigh::weigh::{weigh_command, weigh_job};
 use std::alloc::{AllocError, Global};
 
 /// What `rmapctl --version` tells.
@@ -66,13 +68,17 @@ fn with_packet_jobs<'a>(alloc: Global, rmapctl: Command<'a>) -> Result<Command<'
         .subcommand(trace)
 }
 
-/// The command line with the jobs on what tables decide of all commands, behind others.
+/// The command line with the jobs before a load: what tables decide of all commands, and its rehearsal, behind others.
 fn with_chart_jobs<'a>(alloc: Global, rmapctl: Command<'a>) -> Result<Command<'a>, AllocError>
     ensures { IfOk result (λ c. app_of c ≡ with_chart_jobs (app_of rmapctl.entry)) }
 {
     let compare = compare_command(alloc)?;
     let map = map_command(alloc)?;
-    rmapctl.subcommand(compare)?.subcommand(map)
+    let rehearse = rehearse_command(alloc)?;
+    rmapctl
+        .subcommand(compare)?
+        .subcommand(map)?
+        .subcommand(rehearse)
 }
 
 /// The whole command line.
@@ -84,6 +90,7 @@ pub(crate) fn command_line<'a>(alloc: Global) -> Result<Command<'a>, AllocError>
     let live = live_command(alloc)?;
     let explain = explain_command(alloc)?;
     let why = why_command(alloc)?;
+    let weigh = weigh_command(alloc)?;
     let rmapctl = Command::new(alloc, "rmapctl").bin_name("rmapctl")?;
     let about = "An RMAP target whose commands are judged by BPF programs";
     let top = rmapctl
@@ -97,7 +104,8 @@ pub(crate) fn command_line<'a>(alloc: Global) -> Result<Command<'a>, AllocError>
         .subcommand(sim)?
         .subcommand(live)?
         .subcommand(explain)?
-        .subcommand(why)?;
+        .subcommand(why)?
+        .subcommand(weigh)?;
     let told = with_packet_jobs(alloc, all)?;
     with_chart_jobs(alloc, told)
 }
@@ -151,6 +159,9 @@ fn work_of(alloc: Global, found: &ArgMatches) -> Result<Work, UsageFault>
     if let Some(why) = found.subcommand_matches("why") {
         return Ok(Work::Once(Job::Why(image_args(alloc, why)?)));
     }
+    if let Some(weigh) = found.subcommand_matches("weigh") {
+        return Ok(Work::Once(Job::Weigh(weigh_job(alloc, weigh)?)));
+    }
     if let Some(packet) = found.subcommand_matches("packet") {
         return Ok(Work::Once(Job::Packet(packet_job(alloc, packet)?)));
     }
@@ -166,8 +177,11 @@ fn work_of(alloc: Global, found: &ArgMatches) -> Result<Work, UsageFault>
     if let Some(compare) = found.subcommand_matches("compare") {
         return Ok(Work::Once(Job::Compare(compare_job(alloc, compare)?)));
     }
-    match found.subcommand_matches("map") {
-        Some(map) => Ok(Work::Once(Job::Map(map_job(alloc, map)?))),
+    if let Some(map) = found.subcommand_matches("map") {
+        return Ok(Work::Once(Job::Map(map_job(alloc, map)?)));
+    }
+    match found.subcommand_matches("rehearse") {
+        Some(rehearse) => Ok(Work::Once(Job::Rehearse(rehearse_job(alloc, rehearse)?))),
         None => Err(UsageFault::BadOption),
     }
 }

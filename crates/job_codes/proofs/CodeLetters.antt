@@ -1,6 +1,6 @@
 -- A text that writes a code of no kind is no code.
 use Rattle.std.proofs.Common.{ℕ, ◌<◌, List, lit<}
-use Rattle.job_codes.specs.Topics.{HasNumber, IsCode, kind_at}
+use Rattle.job_codes.specs.Topics.{HasNumber, IsDecimalCode, kind_at}
 use Rattle.job_codes.specs.declared.topics.CodeKind.{CodeKind}
 use Rattle.job_codes.specs.declared.topics.CodeKind.TheVariants.{Verifier, Text, Image, Insn, Line, Frame, Discard, Status, Load, Policy}
 
@@ -18,5 +18,5 @@ none_of text none Status h = none 7 (lit< tt) h
 none_of text none Load h = none 8 (lit< tt) h
 none_of text none Policy h = none 9 (lit< tt) h
 
-pub no_code : (text : List ℕ) → ((k : ℕ) → k < 10 → ¬ HasNumber (kind_at k) text) → ¬ IsCode text
+pub no_code : (text : List ℕ) → ((k : ℕ) → k < 10 → ¬ HasNumber (kind_at k) text) → ¬ IsDecimalCode text
 no_code text none code = none_of text none code.0 code.1

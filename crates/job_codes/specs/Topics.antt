@@ -4,8 +4,11 @@ use Rattle.std.specs.Prelude.{
   ◌<◌,
   ◌^◌,
   ◌==◌,
+  ◌⊎◌,
   ℕ,
   List,
+  [],
+  ◌∷◌,
   ◌++◌,
   map,
   Bool,
@@ -20,6 +23,7 @@ use Rattle.basm.specs.Codes.{asm_of_code}
 use Rattle.bpf.specs.Fault.{image_fault_of_code}
 use Rattle.bpf_insn.specs.Faults.{bad_insn_of_code}
 use Rattle.bver_form.specs.Codes.{refusal_of_code}
+use Rattle.hex.specs.Hex.{encode_upper}
 use Rattle.frames.specs.Faults.{frame_fault_of_code}
 use Rattle.policy_table.specs.Codes.{policy_fault_of_code}
 use Rattle.rmap.specs.Codes.{discard_of_code, status_of_code}
@@ -95,6 +99,27 @@ Writes kind n text = (has_code kind n ≡ true) × IsWritten (code_text kind n) 
 abbrev pub HasNumber : CodeKind → List ℕ → Type 0
 HasNumber kind text = (n : ℕ) × (n < 2 ^ 8) × Writes kind n text
 
+-- the text is a code with its number in decimal
+abbrev pub IsDecimalCode : List ℕ → Type 0
+IsDecimalCode text = (kind : CodeKind) × HasNumber kind text
+
+-- the text of a load result's code with its first byte in two hexadecimal digits, as replies have it
+abbrev pub byte_text : ℕ → List ℕ
+byte_text byte = codes "load" ++ encode_upper (byte ∷ [])
+
+-- there is such a load result, and the text writes its code so
+abbrev pub WritesByte : ℕ → List ℕ → Type 0
+WritesByte byte text = (has_code Load byte ≡ true) × IsWritten (byte_text byte) text
+
+-- the text writes the code of a load result so
+abbrev pub HasByte : List ℕ → Type 0
+HasByte text = (byte : ℕ) × (byte < 2 ^ 8) × WritesByte byte text
+
 -- the text is a code
 abbrev pub IsCode : List ℕ → Type 0
-IsCode text = (kind : CodeKind) × HasNumber kind text
+IsCode text = IsDecimalCode text ⊎ HasByte text
+
+-- the text is the code of this kind and number: in decimal, or of a load result in hexadecimal digits that are no code in
+-- decimal
+abbrev pub IsCodeOf : CodeKind → ℕ → List ℕ → Type 0
+IsCodeOf kind n text = Writes kind n text ⊎ ((kind ≡ Load) × WritesByte n text × ¬ IsDecimalCode text)

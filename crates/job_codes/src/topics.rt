@@ -2,7 +2,7 @@
 
 ghost use Rattle.std.specs.Prelude.{◌≡◌, ◌↔◌, ◌<◌, ◌^◌, ◌++◌, ℕ, IfOk, IsTrue, MatchOption, Some, decimal, is_some};
 ghost use Rattle.node_parts.specs.Loads.{load_refusal_of_code};
-ghost use Rattle.job_codes.specs.Topics.{HasNumber, IsCode, IsWritten, Writes, code_text, has_code, kind_at, kind_word};
+ghost use Rattle.job_codes.specs.Topics.{HasNumber, HasByte, IsCode, IsCodeOf, IsDecimalCode, IsWritten, Writes, WritesByte, byte_text, code_text, has_code, kind_at, kind_word};
 
 use basm::AsmCode;
 use bpf::ImageFault;
@@ -219,10 +219,10 @@ pub struct Code {
     pub number: u8,
 }
 
-/// The code that a text writes, in upper or lower case. `None` where it is none.
-pub fn read_code(alloc: Global, text: &str) -> Result<Option<Code>, AllocError>
+/// The code that a text writes in decimal, in upper or lower case. `None` where it is none.
+fn decimal_code(alloc: Global, text: &str) -> Result<Option<Code>, AllocError>
     ensures { IfOk result (λ code. MatchOption code
-        (¬ IsCode text.now) (λ c. Writes c.kind c.number text.now)) }
+        (¬ IsDecimalCode text.now) (λ c. Writes c.kind c.number text.now)) }
 {
     for place in 0..KINDS {
         let kind = CodeKind::at(place);
@@ -231,4 +231,55 @@ pub fn read_code(alloc: Global, text: &str) -> Result<Option<Code>, AllocError>
         }
     }
     Ok(None)
+}
+
+/// Whether a text is the code of a load result with this first byte, in upper or lower case, with the byte in hexadecimal
+/// digits.
+fn is_byte_written(alloc: Global, byte: u8, text: &str) -> Result<bool, AllocError>
+    ensures { IfOk result (λ is. IsTrue is ↔ IsWritten (byte_text byte) text.now) }
+{
+    let digits = hex::encode_upper(alloc, &[byte])?;
+    let code = format!(in alloc; "load{digits}")?;
+    Ok(code.as_str().eq_ignore_ascii_case(text))
+}
+
+/// Whether a text is the code of a load result with this first byte, and there is such a code.
+fn is_load_byte(alloc: Global, byte: u8, text: &str) -> Result<bool, AllocError>
+    ensures { IfOk result (λ is. IsTrue is ↔ WritesByte byte text.now) }
+{
+    if CodeKind::Load.topic(byte).is_none() {
+        return Ok(false);
+    }
+    is_byte_written(alloc, byte, text)
+}
+
+/// The first byte of a load result that a text writes in hexadecimal digits, behind `load`.
+fn load_byte(alloc: Global, text: &str) -> Result<Option<u8>, AllocError>
+    ensures { IfOk result (λ byte. MatchOption byte
+        (¬ HasByte text.now) (λ n. WritesByte n text.now)) }
+{
+    for byte in 0..256u16 {
+        if is_load_byte(alloc, byte as u8, text)? {
+            return Ok(Some(byte as u8));
+        }
+    }
+    Ok(None)
+}
+
+/// The code that a text writes, in upper or lower case: in decimal, or of a load result in the hexadecimal digits in which
+/// replies have it, where these are no decimal code. `None` where it is none.
+pub fn read_code(alloc: Global, text: &str) -> Result<Option<Code>, AllocError>
+    ensures { IfOk result (λ code. MatchOption code
+        (¬ IsCode text.now) (λ c. IsCodeOf c.kind c.number text.now)) }
+{
+    if let Some(code) = decimal_code(alloc, text)? {
+        return Ok(Some(code));
+    }
+    match load_byte(alloc, text)? {
+        Some(number) => Ok(Some(Code {
+            kind: CodeKind::Load,
+            number,
+        })),
+        None => Ok(None),
+    }
 }

@@ -1,3 +1,4 @@
+mod CellRows
 mod EntryLines
 mod LinesInTurn
 mod SetLines

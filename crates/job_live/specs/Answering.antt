@@ -23,6 +23,7 @@ use Rattle.std.specs.Prelude.{
   slice_get,
 }
 use Rattle.std.specs.Io.KnownBytes.{Appends}
+use Rattle.node_programs.specs.Published.{sizes_of}
 use Rattle.spw.specs.Line.{IsPort, words_of}
 use Rattle.spw.specs.declared.faults.LineFault.TheVariants.{NoPort, TooLong}
 use Rattle.node_parts.specs.declared.served.Served.{Served}
@@ -35,11 +36,12 @@ use Rattle.job_nodes.specs.JobNode.{HandsOut, JobNodeValue, RefusesLine, SetsByt
 use Rattle.job_nodes.specs.Lines.{IsPrinted}
 use Rattle.single_node.specs.Nodes.{covers_in}
 use Rattle.job_live.specs.Asks.{IsAsked}
+use Rattle.job_live.specs.CellLines.{cells_text}
 use Rattle.job_live.specs.Settings.{IsNoSetting, WritesSetting}
 use Rattle.job_live.specs.Telling.{journal_text}
 use Rattle.job_live.specs.declared.answering.TheConstants.{MAX_LINE}
 use Rattle.job_live.specs.declared.asks.Asks.{Asks}
-use Rattle.job_live.specs.declared.asks.Asks.TheVariants.{Packet, Journal, Set}
+use Rattle.job_live.specs.declared.asks.Asks.TheVariants.{Packet, Journal, Cells, Set}
 use Rattle.job_live.specs.declared.settings.Setting.{Setting}
 
 -- the journal was handed out, and its entries were printed
@@ -47,6 +49,11 @@ pub record TellsJournal (before after : JobNodeValue) (old new : Option (List �
   pub journal : JournalValue
   pub handed_out : HandsOut before after journal
   pub printed : Appends old new (journal_text journal.entries)
+
+-- the word of each cell of the node's maps was printed, and the node stays
+pub record TellsCells (before after : JobNodeValue) (old new : Option (List ℕ)) : Type 0 where
+  pub same : after ≡ before
+  pub printed : Appends old new (cells_text (sizes_of before.programs) before.words)
 
 -- a journal that is full was handed out, and one that is not stays
 abbrev pub MakesRoom : (is_full : Bool) → (before after : JobNodeValue) → (old new : Option (List ℕ)) → Type 0
@@ -121,6 +128,7 @@ IsFaultByPort words fault =
 abbrev pub IsLongFault : List (List ℕ) → Asks → BadLine → Type 0
 IsLongFault words Set fault = fault ≡ Line TooLong
 IsLongFault words Journal fault = IsFaultByPort words fault
+IsLongFault words Cells fault = IsFaultByPort words fault
 IsLongFault words Packet fault = IsFaultByPort words fault
 
 -- a line that is longer than any packet line does nothing
@@ -132,6 +140,7 @@ RefusesLong words asks (Some fault) before after old new = IsLongFault words ask
 abbrev pub DoesAsked : Asks → (line : List ℕ) (fault : Option BadLine) (before after : JobNodeValue) (old new : Option (List ℕ)) → Type 0
 DoesAsked Packet line fault before after old new = MeetsRoom line fault before after old new
 DoesAsked Journal line fault before after old new = (fault ≡ None) × TellsJournal before after old new
+DoesAsked Cells line fault before after old new = (fault ≡ None) × TellsCells before after old new
 DoesAsked Set line fault before after old new = SetsOrRefuses (words_of line) fault before after old new
 
 -- what a line does that may be too long, by what it asks for

@@ -1,12 +1,14 @@
 -- What a line of a talk asks for.
 use Rattle.std.specs.Prelude.{◌≡◌, ◌≢◌, List, ℕ, [], ◌∷◌, codes}
 use Rattle.job_live.specs.declared.asks.Asks.{Asks}
-use Rattle.job_live.specs.declared.asks.Asks.TheVariants.{Packet, Journal, Set}
+use Rattle.job_live.specs.declared.asks.Asks.TheVariants.{Packet, Journal, Cells, Set}
 
--- the word `journal` alone asks for the journal, `set` before others for a write of the instrument, and every other
--- line is a packet line
+-- the word `journal` alone asks for the journal, `cells` alone for the words of all cells, `set` before others for a write
+-- of the instrument, and every other line is a packet line
 abbrev pub IsAsked : List (List ℕ) → Asks → Type 0
 IsAsked words Journal = words ≡ codes "journal" ∷ []
+IsAsked words Cells = words ≡ codes "cells" ∷ []
 IsAsked words Set = (others : List (List ℕ)) × (words ≡ codes "set" ∷ others)
 IsAsked words Packet =
-    (words ≢ codes "journal" ∷ []) × ((others : List (List ℕ)) → words ≢ codes "set" ∷ others)
+    (words ≢ codes "journal" ∷ []) × (words ≢ codes "cells" ∷ [])
+    × ((others : List (List ℕ)) → words ≢ codes "set" ∷ others)

@@ -1,5 +1,6 @@
 pub mod Answering
 pub mod Asks
+pub mod CellLines
 pub mod LiveJob
 pub mod Settings
 pub mod Talking

@@ -7,6 +7,7 @@ ghost use Rattle.job_live.specs.Asks.{IsAsked};
 ghost use Rattle.job_live.specs.declared.asks.Asks.TheVariants.{Set};
 
 use crate::asks::{Asks, asked};
+use crate::cell_lines::print_cells;
 use crate::settings::{Setting, read_setting};
 use crate::telling::print_journal;
 use job_nodes::judge::print_served;
@@ -157,7 +158,7 @@ fn long_fault(words: &[&str], asks: Asks) -> BadLine
 {
     match asks {
         Asks::Set => BadLine::Line(LineFault::TooLong),
-        Asks::Packet | Asks::Journal => fault_by_port(words),
+        Asks::Packet | Asks::Journal | Asks::Cells => fault_by_port(words),
     }
 }
 
@@ -180,6 +181,10 @@ fn do_asked<W: Write>(
         Asks::Packet => take_packet(alloc, node, line, out),
         Asks::Journal => {
             hand_out(alloc, node, out)?;
+            Ok(None)
+        }
+        Asks::Cells => {
+            print_cells(out, node)?;
             Ok(None)
         }
         Asks::Set => take_setting(alloc, node, words.as_slice(), out),

@@ -10,6 +10,8 @@ pub enum Asks {
     Packet,
     /// The journal: `journal`.
     Journal,
+    /// The words of all cells: `cells`.
+    Cells,
     /// A write of the instrument: `set`, and words behind it.
     Set,
 }
@@ -20,6 +22,7 @@ fn asked_by(first: &str, others: &[&str]) -> Asks
 {
     match first {
         "journal" if others.is_empty() => Asks::Journal,
+        "cells" if others.is_empty() => Asks::Cells,
         "set" => Asks::Set,
         _ => Asks::Packet,
     }

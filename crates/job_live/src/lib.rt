@@ -3,6 +3,7 @@
 
 pub mod answering;
 pub mod asks;
+pub mod cell_lines;
 pub mod host;
 pub mod live;
 pub mod settings;

@@ -1,8 +1,11 @@
 //! The node that the jobs run.
 
-ghost use Rattle.std.specs.Prelude.{◌≡◌, ◌<◌, IfErr, IfOk, length, slice_get, true};
+ghost use Rattle.std.specs.Prelude.{◌≡◌, ◌<◌, ◌↔◌, IfErr, IfOk, IsSome, length, slice_get, true};
 ghost use Rattle.job_nodes.specs.JobNode.{HandsOut, IsConfig, IsFresh, RefusesLine, Serves, SetsBytes, TakesLine, is_full, own_journal};
 ghost use Rattle.job_parts.specs.declared.faults.Fault.TheVariants.{NoMemory};
+ghost use Rattle.machine.specs.Sizes.{IsInside};
+ghost use Rattle.node_programs.specs.Published.{sizes_of};
+ghost use Rattle.plain_cells.specs.Words.{word_in};
 ghost use Rattle.single_node.specs.Nodes.{covers_in};
 
 use crate::feeds::Feeds;
@@ -147,6 +150,21 @@ impl JobNode {
         ensures { HandsOut self.old self.new result }
     {
         self.node.rotate(0, fresh)
+    }
+
+    /// How many cells each map of the node has, and of which kind it is.
+    pub fn sizes(&self) -> MapSizes
+        ensures { result ≡ sizes_of self.now.programs }
+    {
+        self.node.sizes()
+    }
+
+    /// The word of a cell, if there is one ([`SingleNode::word`]).
+    pub fn word(&self, map: u8, key: u16) -> Option<u64>
+        ensures value { result ≡ word_in self.now.words map key }
+        ensures inside { IsSome result ↔ IsInside (sizes_of self.now.programs) map key }
+    {
+        self.node.word(map, key)
     }
 
     /// Whether so many bytes from the address on lie in the bank.

@@ -66,11 +66,38 @@ fn add_count(text: &mut String, count: &str, what: &str) -> Result<bool, AllocEr
     Ok(true)
 }
 
+/// Whether all of some words are numbers, and there is one.
+fn are_numbers(words: &[&str]) -> bool {
+    for word in words {
+        if decimal(word).is_none() {
+            return false;
+        }
+    }
+    !words.is_empty()
+}
+
+/// Adds the words of the cells of a map. Tells whether all are numbers, and there is one.
+fn add_cells(text: &mut String, map: &str, words: &[&str]) -> Result<bool, AllocError> {
+    let Some(map) = decimal(map) else {
+        return Ok(false);
+    };
+    if !are_numbers(words) {
+        return Ok(false);
+    }
+    write!(text, "cells of map {map}:")?;
+    for word in words {
+        write!(text, " {word}")?;
+    }
+    Ok(true)
+}
+
 /// Adds what a line of these words is in words, but for its packet, if it is none of a packet alone: what `judge` prints of
 /// a packet without a reply, or what `live` prints. Tells whether it is.
 fn add_told(text: &mut String, words: &[&str]) -> Result<bool, AllocError> {
     match words {
         ["journal", count, "entries"] => add_count(text, count, "entries of the journal:"),
+        ["cells", count, "maps"] => add_count(text, count, "maps of cells:"),
+        ["cells", map, words @ ..] => add_cells(text, map, words),
         ["set", count] => add_count(text, count, "bytes set by the instrument:"),
         ["line", number, "fault", code] => add_bad_line(text, number, code),
         [port, rest @ ..] => add_answer(text, port, rest),
@@ -145,7 +172,8 @@ fn add_line(text: &mut String, alloc: Global, line: &str) -> Result<(), LineFaul
 }
 
 /// A line in words, with its line feed: a packet line, what `judge` prints of a packet without a reply, or what `live`
-/// prints: an entry of the journal, how many there are, how many bytes were set, or that a line was bad. A line that is
+/// prints: an entry of the journal, how many there are, the words of
+/// a map's cells, how many bytes were set, or that a line was bad. A line that is
 /// none of these has the fault of a packet line.
 pub fn shown_line(alloc: Global, line: &str) -> Result<String, LineFault> {
     let words = words_of(alloc, line)?;

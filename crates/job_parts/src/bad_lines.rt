@@ -63,7 +63,7 @@ impl BadLine {
         }
     }
 
-    /// When it comes, and what to do, in lines of at most 113 columns.
+    /// When it comes, and what to do, in lines of at most 114 columns.
     pub fn advice(self) -> &'static str {
         match self {
             BadLine::Line(fault) => fault.advice(),

@@ -5,15 +5,17 @@ use Rattle.std.specs.List.{range_with_len}
 use Rattle.std.proofs.lemmas.List.{length-append, length-map, length-replicate}
 use Rattle.std.proofs.lemmas.List.FromFn.{get_or-map-range_with_len, length-map-range_with_len}
 use base.Stored.{Gv}
+use mathlib.Core.List.{IsPrefix}
 use Rattle.bver.specs.Justified.{AcceptedValue}
 use Rattle.spw.specs.Cargo.{Cargo}
 use Rattle.bank.specs.Records.{first_share}
 use Rattle.node_parts.specs.Nodes.{first_pass}
 use Rattle.node_parts.specs.Passes.{PassValue}
 use Rattle.ports.specs.Queue.{IsServePassOf, put_of, taken_of}
-use Rattle.ports.specs.Serves.{AreServed, HaveServed, IsWorkerOf, total_of}
+use Rattle.ports.specs.Serves.{AreServed, HaveServed, IsWorkerOf, ShareOneHistory, total_of}
 use Rattle.ports.specs.Sinks.{SentReply, SinkValue}
-use Rattle.ports.specs.Worked.{HasServed, IsWorked}
+use Rattle.ports.specs.Due.{standing}
+use Rattle.ports.specs.Worked.{HasServed, IsWorked, standing_of}
 use Rattle.ports.specs.declared.item.Item.{Item}
 use Rattle.ports.specs.declared.item.Item.TheVariants.{Data, Mark}
 use Rattle.ports.specs.declared.port.Port.{Port}
@@ -24,7 +26,7 @@ use Rattle.ports.specs.declared.worker.Worker.{Worker}
 use Rattle.job_nodes.specs.JobNode.{first_passes, own_bank}
 use Rattle.job_ports.specs.Arrivals.{ArriveAll}
 use Rattle.job_ports.specs.Queues.{AreBeginnings, AreFew, AreFilled, AreOfPorts, IsBeginning, ServeEach, new_worker}
-use Rattle.job_ports.specs.ServedFile.{EndsSo, PortEnd, ServePackets, no_replies}
+use Rattle.job_ports.specs.ServedFile.{BeginOneHistory, EndsSo, PortEnd, ServePackets, no_replies}
 
 -- the packet in front of some items
 abbrev packet_first : Cargo → List Item → Cargo
@@ -48,15 +50,15 @@ up_to_mark (packet ∷ all) (other ∷ taken) rest is =
 -- A worker that took a beginning of what was put, up to the end mark, took all of it.
 pub served_all : {J : Type 0} (sent : SinkValue → List SentReply) (failed : SinkValue → ℕ) (old new : Worker J SinkValue) (report : Report) (all : List Cargo) (put : List Item)
     → IsWorked sent failed old new report → taken_of old.serve_pass ≡ [] → put ≡ map Data all ++ Mark ∷ [] → IsBeginning (taken_of new.serve_pass) put
-    → HasServed sent failed old.pass new.pass old.sink new.sink all report
+    → HasServed sent failed (standing_of old) (standing_of new) old.sink new.sink all report
 served_all sent failed old new report all put worked none put_is begins =
     let took = worked.took ∙ ap (λ (l : List Item). l ++ map Data worked.packets ++ Mark ∷ []) none in
     let same = up_to_mark all worked.packets begins.rest (sym put_is ∙ begins.whole ∙ ap (λ (l : List Item). l ++ begins.rest) took) in
-    subst (λ (packets : List Cargo). HasServed sent failed old.pass new.pass old.sink new.sink packets report) (sym same) worked.served
+    subst (λ (packets : List Cargo). HasServed sent failed (standing_of old) (standing_of new) old.sink new.sink packets report) (sym same) worked.served
 
 -- what became of a port, by its worker and the report
 abbrev end_of : {J : Type 0} → Worker J SinkValue → Report → PortEnd
-end_of worker report = record { pass = worker.pass; sink = worker.sink; report = report }
+end_of worker report = record { pass = worker.pass; front = worker.front; sink = worker.sink; report = report }
 
 -- what became of each port
 abbrev ends_of : {J : Type 0} → List (Worker J SinkValue) → List Report → List PortEnd
@@ -150,7 +152,7 @@ module _ {J : Type 0} (program : AcceptedValue) (home : Gv) (ports : ℕ) (by_po
 
     -- what each port's worker did with its packets
     served_at : AreBeginnings puts left → (k : ℕ) (put : PutPass) (serve : ServePass) (worker : Worker J SinkValue) (report : Report) → k < ports
-        → HasServed sent failed (first_pass 254 (own_bank ∷ []) program home k) (slice_index_or left k worker).pass no_replies (slice_index_or left k worker).sink (slice_index_or by_port k []) (slice_index_or served.reports k report)
+        → HasServed sent failed (standing (first_pass 254 (own_bank ∷ []) program home k) []) (standing_of (slice_index_or left k worker)) no_replies (slice_index_or left k worker).sink (slice_index_or by_port k []) (slice_index_or served.reports k report)
     served_at begins k put serve worker report low =
         let new : Worker J SinkValue = new_worker (first_pass 254 (own_bank ∷ []) program home k, slice_index_or serves k serve) in
         let low' : k < length by_port = omega (arith, low, fresh.count) in
@@ -164,6 +166,16 @@ module _ {J : Type 0} (program : AcceptedValue) (home : Gv) (ports : ℕ) (by_po
 some_of : {A : Type 0} (xs : List A) (k : ℕ) → k < length xs → A
 some_of [] k low = absurd (omega (arith, low))
 some_of (x ∷ xs) k low = x
+
+-- What the workers know of the history, what became of their ports knows.
+ends_history : {J : Type 0} (left : List (Worker J SinkValue)) (reports : List Report) → length reports ≡ length left → ShareOneHistory left → BeginOneHistory (ends_of left reports)
+ends_history {J} left reports many history = record {
+  whole = history.whole;
+  begin = λ k end low.
+      let low' : k < length left = omega (arith, low, ends_count left reports many) in
+      let worker : Worker J SinkValue = some_of left k low' in
+      subst (λ (e : PortEnd). IsPrefix e.front history.whole) (sym (end_at left reports k worker end.report end many low')) (history.begin k worker low');
+}
 
 -- What became of each port.
 pub serve_each : {J : Type 0} (program : AcceptedValue) (home : Gv) (ports : ℕ) (by_port : List (List Cargo)) (queues : List Port) (puts : List PutPass) (serves : List ServePass) (workers left : List (Worker J SinkValue))
@@ -183,6 +195,7 @@ serve_each {J} program home ports by_port queues puts serves workers left sinks 
           let put : PutPass = some_of puts k (omega (arith, low, fresh.filled.puts_count, fresh.count)) in
           subst (λ (e : PortEnd). EndsSo program home k (slice_index_or by_port k []) e) (sym (end_at left served.reports k worker end.report end many low'))
           (served_at program home ports by_port queues puts serves workers fresh (λ (s : SinkValue). s.sent) (λ (s : SinkValue). s.failed) left total served begins k put worker.serve_pass worker end.report low);
+      history = ends_history left served.reports many served.history;
       sinks_are = is ∙ sym (ends_sinks left served.reports many);
       report_is = served.sum ∙ ap total_of (sym (ends_reports left served.reports many));
     }
@@ -200,4 +213,5 @@ by_packets program lines ports by_port sinks report all each = record {
   home = each.home;
   count = each.count;
   each = λ k end low. subst (λ (l : List Cargo). EndsSo program each.home k l (slice_index_or each.ends k end)) (all.sorted.each k low) (each.each k end low);
+  history = each.history;
 }

@@ -14,7 +14,7 @@ use Rattle.ports.specs.declared.port.ServePass.{ServePass}
 use Rattle.ports.specs.declared.worker.Report.{Report}
 use Rattle.ports.specs.declared.worker.Worker.{Worker}
 use Rattle.job_nodes.specs.JobNode.{first_passes}
-use Rattle.job_ports.specs.ServedFile.{EndsSo, PortEnd, no_replies, report_of}
+use Rattle.job_ports.specs.ServedFile.{BeginOneHistory, EndsSo, PortEnd, no_replies, report_of}
 
 -- no port has over 1,023 packets
 abbrev pub AreFew : List (List Cargo) → Type 0
@@ -43,9 +43,10 @@ pub record AreFilled (by_port : List (List Cargo)) (ports : List Port) (put_pass
   pub taken : (k : ℕ) (packets : List Cargo) (serve_pass : ServePass) → k < length by_port
       → taken_of (slice_index_or serve_passes k serve_pass) ≡ []
 
--- a worker with what its port has of the node and what takes from the port's queue, whose sink has taken nothing
+-- a worker with what its port has of the node and what takes from the port's queue, which knows nothing yet of the history of
+-- the node's banks, and whose sink has taken nothing
 abbrev pub new_worker : {J : Type 0} → PassValue × ServePass → Worker J SinkValue
-new_worker parts = record { pass = parts.0; serve_pass = parts.1; sink = no_replies }
+new_worker parts = record { pass = parts.0; front = []; serve_pass = parts.1; sink = no_replies }
 
 -- a fresh node of one bank, whose ports hold these packets, what puts into them, and their workers
 pub record IsDesk {J : Type 0} (program : AcceptedValue) (ports : ℕ) (by_port : List (List Cargo)) (banks : ℕ)
@@ -79,8 +80,8 @@ AreBeginnings {J} put_passes workers =
     → IsBeginning (taken_of (slice_index_or workers k worker).serve_pass)
     (put_of (slice_index_or put_passes k put_pass))
 
--- each port served the packets at its place and no others, in order, and those are its replies and what the workers
--- reported
+-- each port served the packets at its place and no others, in order, at banks of one history, and those are its replies and
+-- what the workers reported
 pub record ServeEach (program : AcceptedValue) (ports : ℕ) (by_port : List (List Cargo)) (sinks : List SinkValue)
     (report : Report) : Type 0 where
   pub home : Gv
@@ -88,5 +89,6 @@ pub record ServeEach (program : AcceptedValue) (ports : ℕ) (by_port : List (Li
   pub count : length ends ≡ ports
   pub each : (port : ℕ) (end : PortEnd) → port < ports
       → EndsSo program home port (slice_index_or by_port port []) (slice_index_or ends port end)
+  pub history : BeginOneHistory ends
   pub sinks_are : sinks ≡ map (λ (end : PortEnd). end.sink) ends
   pub report_is : report ≡ report_of ends

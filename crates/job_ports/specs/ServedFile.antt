@@ -2,11 +2,14 @@
 use Rattle.std.specs.Prelude.{◌≡◌, ◌⊎◌, ◌<◌, ℕ, List, [], ◌∷◌, ◌++◌, length, map, slice_index_or, Option}
 use Rattle.std.specs.Io.KnownBytes.{Appends}
 use base.Stored.{Gv}
+use mathlib.Core.List.{IsPrefix}
+use Rattle.annals.specs.declared.deed.Link.{Link}
 use Rattle.bver.specs.Justified.{AcceptedValue}
 use Rattle.spw.specs.Cargo.{Cargo}
 use Rattle.spw.specs.Line.{lines_of}
 use Rattle.node_parts.specs.Nodes.{first_pass}
 use Rattle.node_parts.specs.Passes.{PassValue}
+use Rattle.ports.specs.Due.{standing}
 use Rattle.ports.specs.Serves.{total_of}
 use Rattle.ports.specs.Sinks.{SinkValue, replies_in}
 use Rattle.ports.specs.Worked.{HasServed}
@@ -21,9 +24,11 @@ use Rattle.job_nodes.specs.JobNode.{own_bank}
 use Rattle.job_ports.specs.Arrivals.{AreLines, BreaksAt, packets_at}
 use Rattle.job_ports.specs.ServeJob.{lines_from, report_line}
 
--- what became of a port: what it has of the node then, its replies, and the report of its worker
+-- what became of a port: what it has of the node then, what it knows of the history of the node's banks, its replies, and the
+-- report of its worker
 pub record PortEnd : Type 0 where
   pub pass : PassValue
+  pub front : List Link
   pub sink : SinkValue
   pub report : Report
 
@@ -36,15 +41,22 @@ no_replies = record { sent = []; failed = 0 }
 abbrev pub EndsSo : AcceptedValue → (home : Gv) → (port : ℕ) → List Cargo → PortEnd → Type 0
 EndsSo program home port packets end =
     HasServed (λ (s : SinkValue). s.sent) (λ (s : SinkValue). s.failed)
-    (first_pass 254 (own_bank ∷ []) program home port) end.pass no_replies end.sink packets end.report
+    (standing (first_pass 254 (own_bank ∷ []) program home port) []) (standing end.pass end.front) no_replies end.sink
+    packets end.report
 
--- each of so many ports, in order, served its packets among these
+-- what the ports know of the history of the node's banks begins one list
+pub record BeginOneHistory (ends : List PortEnd) : Type 0 where
+  pub whole : List Link
+  pub begin : (port : ℕ) (end : PortEnd) → port < length ends → IsPrefix (slice_index_or ends port end).front whole
+
+-- each of so many ports, in order, served its packets among these, at banks of one history
 pub record ServePackets (program : AcceptedValue) (ports : ℕ) (packets : List (ℕ × Cargo)) (ends : List PortEnd) : Type
     0 where
   pub home : Gv
   pub count : length ends ≡ ports
   pub each : (port : ℕ) (end : PortEnd) → port < ports
       → EndsSo program home port (packets_at port packets) (slice_index_or ends port end)
+  pub history : BeginOneHistory ends
 
 -- the replies of each port
 abbrev pub replies_of : List PortEnd → List (List (List ℕ))

@@ -4,18 +4,18 @@ ghost use Rattle.std.specs.Prelude.{◌≡◌, ◌≤◌, IfErr, IfOk, length, m
 ghost use Rattle.job_ports.specs.Queues.{AreBeginnings, AreFew, AreFilled, AreOfPorts, IsDesk, IsFilled, ServeEach, new_worker};
 ghost use Rattle.ports.specs.Serves.{AreServed};
 ghost use Rattle.job_parts.specs.declared.faults.Fault.TheVariants.{NoMemory};
+ghost use Rattle.target.specs.Nodes.{AreOpened};
 
 use crate::arrivals::Arrivals;
 use bver::Accepted;
 use job_nodes::node::node_config;
 use job_parts::faults::Fault;
 use ports::{MAX_CAPACITY, NoGate, Port, PutPass, Replies, Report, ServePass, Worker, serve};
-use publish::{Opened, ProgramFamily};
 use spw::Packet;
 use std::alloc::{AllocError, Global};
 use std::sync::Wait;
 use std::thread::Threads;
-use target::{Node, Pass};
+use target::{Node, NodeFamily, Opened, Pass};
 
 /// A port whose queue holds these packets and then the end mark, what puts into it, and what takes from it.
 fn filled<R: Wait>(
@@ -61,8 +61,9 @@ fn fill<R: Wait>(
 }
 
 /// A worker for each port, in order, whose replies are kept in memory.
-fn workers_of<J: ProgramFamily>(
+fn workers_of<J: NodeFamily, R: Wait + Drop>(
     alloc: Global,
+    node: &Node<J, R>,
     passes: Vec<Pass<J>>,
     serve_passes: Vec<ServePass>,
 ) -> Result<Vec<Worker<J, Replies>>, AllocError>
@@ -76,6 +77,7 @@ fn workers_of<J: ProgramFamily>(
             let sink = Replies::new(alloc, pass.port());
             Worker {
                 pass,
+                front: node.front(),
                 serve_pass,
                 sink,
             }
@@ -85,7 +87,7 @@ fn workers_of<J: ProgramFamily>(
 
 /// The sink of each worker. What the workers took is taken back into what puts, so that it is known to be all that was
 /// put.
-fn sinks_of<J: ProgramFamily>(
+fn sinks_of<J: NodeFamily>(
     alloc: Global,
     ports: &[Port],
     mut put_passes: Vec<PutPass>,
@@ -101,6 +103,7 @@ fn sinks_of<J: ProgramFamily>(
         let put_pass = &mut put_passes[place];
         let Worker {
             pass: _,
+            front: _,
             serve_pass,
             sink,
         } = worker;
@@ -112,7 +115,7 @@ fn sinks_of<J: ProgramFamily>(
 
 /// A fresh node whose ports hold packets, what puts into each port, and their workers.
 #[derive(Drop)]
-struct Desks<J: ProgramFamily, R: Wait + Drop> {
+struct Desks<J: NodeFamily, R: Wait + Drop> {
     node: Node<J, R>,
     ports: Vec<Port>,
     put_passes: Vec<PutPass>,
@@ -120,7 +123,7 @@ struct Desks<J: ProgramFamily, R: Wait + Drop> {
 }
 
 /// A fresh node with so many ports, at each of which the program judges, and which hold the packets that came to them.
-fn fresh_desks<'a, 'r, J: ProgramFamily, R: Wait>(
+fn fresh_desks<'a, 'r, J: NodeFamily, R: Wait>(
     rt: &'r R,
     alloc: Global,
     opened: Opened,
@@ -128,7 +131,7 @@ fn fresh_desks<'a, 'r, J: ProgramFamily, R: Wait>(
     program: Accepted,
     arrivals: Arrivals,
 ) -> Result<Desks<J, &'r R>, Fault<'a>>
-    requires room { opened ≡ J.book }
+    requires room { AreOpened J.ProgramFamily.book J.Family.book opened }
     requires few { AreFew arrivals }
     requires count { length arrivals ≡ ports }
     ensures fresh { IfOk result (λ made. IsDesk program ports arrivals made.node made.ports.items
@@ -143,7 +146,7 @@ fn fresh_desks<'a, 'r, J: ProgramFamily, R: Wait>(
         return Err(Fault::NoMemory);
     };
     let (ports, put_passes, serve_passes) = fill(rt, alloc, arrivals)?;
-    let workers = workers_of(alloc, passes, serve_passes)?;
+    let workers = workers_of(alloc, &node, passes, serve_passes)?;
     Ok(Desks {
         node,
         ports,
@@ -154,7 +157,7 @@ fn fresh_desks<'a, 'r, J: ProgramFamily, R: Wait>(
 
 /// Serves the packets that came to the ports of a fresh node, each port in a thread of its own, to the end: the replies
 /// of each port, and the sum of the reports. The program judges.
-pub fn serve_arrivals<'a, J: ProgramFamily + Send + 'static, R: Threads + Wait + Sync>(
+pub fn serve_arrivals<'a, J: NodeFamily + Send + Sync + 'static, R: Threads + Wait + Sync>(
     rt: &R,
     alloc: Global,
     opened: Opened,
@@ -162,7 +165,7 @@ pub fn serve_arrivals<'a, J: ProgramFamily + Send + 'static, R: Threads + Wait +
     program: Accepted,
     arrivals: Arrivals,
 ) -> Result<(Vec<Replies>, Report), Fault<'a>>
-    requires room { opened ≡ J.book }
+    requires room { AreOpened J.ProgramFamily.book J.Family.book opened }
     requires few { AreFew arrivals }
     requires count { length arrivals ≡ ports }
     ensures served { IfOk result (λ made. ServeEach program ports arrivals made.0.items made.1) }

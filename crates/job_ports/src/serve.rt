@@ -10,6 +10,7 @@ ghost use Rattle.job_parts.specs.Statuses.{IsDoneWith};
 ghost use Rattle.job_parts.specs.Stops.{StopsBy};
 ghost use Rattle.job_ports.specs.ServeJob.{lines_from, port_lines, report_line, serve_app};
 ghost use Rattle.job_ports.specs.ServedFile.{IsNotServed, ServesFile, ServesWords};
+ghost use Rattle.target.specs.Nodes.{AreOpened};
 
 use crate::arriving::read_lines;
 use crate::queues::serve_arrivals;
@@ -20,11 +21,11 @@ use job_parts::status::Status;
 use job_parts::stops::Halt;
 use job_parts::storage::Files;
 use ports::{Replies, Report};
-use publish::{Opened, ProgramFamily};
 use std::alloc::{AllocError, Global};
 use std::io::{self, Write};
 use std::sync::Wait;
 use std::thread::Threads;
+use target::{NodeFamily, Opened};
 
 /// `serve LINES [--image FILE] [--maps LIST] [--ports N]`.
 pub fn serve_command<'a>(alloc: Global) -> Result<Command<'a>, AllocError>
@@ -38,14 +39,14 @@ pub fn serve_command<'a>(alloc: Global) -> Result<Command<'a>, AllocError>
 
 /// Serves the packet lines of a file on the node of these arguments, and gives the replies of each port, and the sum of the
 /// workers' reports.
-fn serve_words<'a, J: ProgramFamily + Send + 'static, R: Threads + Wait + Sync, F: Files>(
+fn serve_words<'a, J: NodeFamily + Send + Sync + 'static, R: Threads + Wait + Sync, F: Files>(
     rt: &R,
     alloc: Global,
     opened: Opened,
     args: &'a LinesArgs,
     files: &mut F,
 ) -> Result<(Vec<Replies>, Report), Halt<'a>>
-    requires { opened ≡ J.book }
+    requires { AreOpened J.ProgramFamily.book J.Family.book opened }
     ensures served { IfOk result (λ made. ServesWords F.reads args.now files.old files.new
         made.0.items made.1) }
     ensures few { IfOk result (λ made. length made.0.items < 256) }
@@ -104,7 +105,7 @@ pub fn print_report<W: Write>(out: &mut W, report: Report) -> io::Result<()>
 /// refused. Where there is one, nothing is printed.
 pub fn serve_file<
     'a,
-    J: ProgramFamily + Send + 'static,
+    J: NodeFamily + Send + Sync + 'static,
     R: Threads + Wait + Sync,
     F: Files,
     W: Write,
@@ -116,7 +117,7 @@ pub fn serve_file<
     files: &mut F,
     out: &mut W,
 ) -> Result<Status, Halt<'a>>
-    requires { opened ≡ J.book }
+    requires { AreOpened J.ProgramFamily.book J.Family.book opened }
     ensures done { IfOk result (IsDoneWith (ServesFile F.reads args.now files.old files.new
         (W.contents out.old) (W.contents out.new))) }
     ensures stops { IfErr result (StopsBy (λ fault.

@@ -2,12 +2,13 @@
 use Rattle.std.specs.Prelude.{◌≡◌, ◌⊎◌, ℕ, List, Option, Some, Bool, true, false}
 use Rattle.std.specs.Borrow.{Bor}
 use Rattle.std.specs.Io.KnownBytes.{Appends}
-use Rattle.std.specs.Str.{IsUtf8}
+use Rattle.std.specs.Str.{IsUtf8, bytes_eq}
 use Rattle.bpf.specs.Program.{Program, image_bytes}
 use Rattle.basm.specs.Outcomes.{out_of_memory}
 use Rattle.basm.specs.Relation.{IsText}
 use Rattle.basm.specs.declared.faults.AsmFault.{AsmFault}
 use Rattle.job_texts.specs.AsmJob.{parts_line}
+use Rattle.job_texts.specs.OneFile.{IsOneFile}
 use Rattle.job_parts.specs.Files.{Reads, Writes}
 use Rattle.job_parts.specs.Reading.{TextUnread}
 use Rattle.job_parts.specs.declared.faults.Fault.{Fault}
@@ -44,6 +45,7 @@ module _ {S : Type 0} (reads : Reads S) (writes : Writes S) where
 
   -- the image was written, and its line printed
   pub record Assembles (before : S) (text image : List ℕ) (after : S) (old new : Option (List ℕ)) : Type 0 where
+    pub apart : bytes_eq text image ≡ false
     pub program : Program
     pub assembled : Assembled before text image program true after
     pub line : Appends old new (parts_line program)
@@ -56,9 +58,11 @@ module _ {S : Type 0} (reads : Reads S) (writes : Writes S) where
     pub program : Program
     pub assembled : Assembled before text image program false after
 
-  -- the file gives no text of a program, the image cannot be written, or memory was refused behind the text
+  -- the file gives no text of a program, the image cannot be written, or memory was refused behind the text; or the image
+  -- would be written to the text's file, and nothing was read
   abbrev pub IsNotAssembled : (before : S) (text image : List ℕ) (after : S) → Fault → Type 0
   IsNotAssembled before text image after fault =
       IsNoText reads before text after fault
       ⊎ IsUnwritten before text image after fault
       ⊎ ((fault ≡ NoMemory) × (p : Program) × HoldsText reads before text p after)
+      ⊎ (IsOneFile text image fault × (after ≡ before))

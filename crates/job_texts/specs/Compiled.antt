@@ -2,7 +2,7 @@
 use Rattle.std.specs.Prelude.{◌≡◌, ◌⊎◌, ℕ, List, Option, Some, Bool, true, false}
 use Rattle.std.specs.Borrow.{Bor}
 use Rattle.std.specs.Io.KnownBytes.{Appends}
-use Rattle.std.specs.Str.{IsUtf8}
+use Rattle.std.specs.Str.{IsUtf8, bytes_eq}
 use Rattle.bpf.specs.Program.{Program, image_bytes}
 use Rattle.bver.specs.Justified.{IsJustified}
 use Rattle.machine.specs.Sizes.{Maps}
@@ -14,6 +14,7 @@ use Rattle.policy_table.specs.declared.rules.Rule.{Rule}
 use Rattle.spw.specs.Line.{lines_of}
 use Rattle.job_parts.specs.Files.{Reads, Writes}
 use Rattle.job_parts.specs.Reading.{TextUnread}
+use Rattle.job_texts.specs.OneFile.{IsOneFile}
 use Rattle.job_texts.specs.PolicyJob.{slots_line}
 use Rattle.job_parts.specs.declared.faults.Fault.{Fault}
 use Rattle.job_parts.specs.declared.faults.Fault.TheVariants.{CannotWrite, NoMemory, BadTable}
@@ -71,6 +72,7 @@ module _ {S : Type 0} (reads : Reads S) (writes : Writes S) where
   -- the image was written, and its line printed
   pub record CompilesTable (before : S) (table image : List ℕ) (sizes : Maps) (after : S) (old new : Option (List ℕ)) :
       Type 0 where
+    pub apart : bytes_eq table image ≡ false
     pub program : Program
     pub compiled : Compiled before table image sizes program true after
     pub line : Appends old new (slots_line program)
@@ -83,9 +85,11 @@ module _ {S : Type 0} (reads : Reads S) (writes : Writes S) where
     pub program : Program
     pub compiled : Compiled before table image sizes program false after
 
-  -- the file gives no table that is compiled, the image cannot be written, or memory was refused behind the table
+  -- the file gives no table that is compiled, the image cannot be written, or memory was refused behind the table; or the
+  -- image would be written to the table's file, and nothing was read
   abbrev pub IsNotCompiled : (before : S) (table image : List ℕ) (sizes : Maps) (after : S) → Fault → Type 0
   IsNotCompiled before table image sizes after fault =
       IsNoPolicy reads before table sizes after fault
       ⊎ IsUnwritten before table image sizes after fault
       ⊎ ((fault ≡ NoMemory) × (p : Program) × HoldsPolicy reads before table sizes p after)
+      ⊎ (IsOneFile table image fault × (after ≡ before))

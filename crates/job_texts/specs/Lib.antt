@@ -4,6 +4,7 @@ pub mod Compiled
 pub mod DisJob
 pub mod Disassembled
 pub mod Images
+pub mod OneFile
 pub mod Listed
 pub mod Needed
 pub mod PolicyJob

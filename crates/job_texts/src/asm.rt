@@ -11,6 +11,7 @@ ghost use Rattle.job_parts.specs.Printed.{Prints};
 ghost use Rattle.job_parts.specs.Statuses.{IsDoneWith};
 ghost use Rattle.job_parts.specs.Stops.{StopsBy};
 
+use crate::outputs::other_file;
 use basm::assemble;
 use bpf::Image;
 use clap::{ArgMatches, Command};
@@ -79,8 +80,8 @@ fn print_parts<W: Write>(out: &mut W, image: &Image) -> io::Result<()>
 
 /// Assembles the text of a file, writes the image to another, and prints how large it is.
 ///
-/// Faults are found in this order: the file of the text (`CannotRead`, also where it is not UTF-8),
-/// the text (`BadText`), and the file of the image (`CannotWrite`).
+/// Faults are found in this order: the file of the image, where it is that of the text (`CannotWrite`); the file of the text
+/// (`CannotRead`, also where it is not UTF-8), the text (`BadText`), and the file of the image (`CannotWrite`).
 pub fn assemble_file<'a, F: Files, W: Write>(
     alloc: Global,
     text: &'a str,
@@ -95,6 +96,7 @@ pub fn assemble_file<'a, F: Files, W: Write>(
         (IsNotAssembled F.reads F.writes files.old text.now image.now files.new)) }
     ensures quiet { IfErr result (StopsBy (λ _. W.contents out.new ≡ W.contents out.old)) }
 {
+    other_file(text, image)?;
     let made = assembled(alloc, files, text)?;
     let written = files.write(image, made.write()?.as_slice());
     written.map_err(|_| Fault::CannotWrite(image))?;

@@ -7,5 +7,6 @@ pub mod dis;
 pub mod images;
 mod listed;
 pub mod needed;
+mod outputs;
 pub mod policies;
 pub mod verify;

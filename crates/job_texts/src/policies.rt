@@ -11,6 +11,7 @@ ghost use Rattle.job_parts.specs.Printed.{Prints};
 ghost use Rattle.job_parts.specs.Statuses.{IsDoneWith};
 ghost use Rattle.job_parts.specs.Stops.{StopsBy};
 
+use crate::outputs::other_file;
 use bpf::Image;
 use bver::MapSizes;
 use clap::{ArgMatches, Command};
@@ -104,8 +105,9 @@ fn print_slots<W: Write>(out: &mut W, image: &Image) -> io::Result<()>
 /// Compiles the table of a file for a node with maps of these sizes, writes the image to another file, and
 /// prints how many slots it has.
 ///
-/// Faults are found in this order: the file of the table (`CannotRead`, also where it is not UTF-8), the table
-/// (`BadTable`, also where memory is refused to it or to its image), and the file of the image (`CannotWrite`).
+/// Faults are found in this order: the file of the image, where it is that of the table (`CannotWrite`); the file of the
+/// table (`CannotRead`, also where it is not UTF-8), the table (`BadTable`, also where memory is refused to it or to its
+/// image), and the file of the image (`CannotWrite`).
 pub fn compile_file<'a, F: Files, W: Write>(
     alloc: Global,
     words: &'a PolicyWords,
@@ -120,6 +122,7 @@ pub fn compile_file<'a, F: Files, W: Write>(
     ensures quiet { IfErr result (StopsBy (λ _. W.contents out.new ≡ W.contents out.old)) }
 {
     let image = words.image.as_str();
+    other_file(words.table.as_str(), image)?;
     let made = compiled(alloc, files, words.table.as_str(), words.sizes)?;
     let written = files.write(image, made.write()?.as_slice());
     written.map_err(|_| Fault::CannotWrite(image))?;

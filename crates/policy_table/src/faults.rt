@@ -80,7 +80,7 @@ impl PolicyFault {
         }
     }
 
-    /// What to say of the fault beside its name: when it comes, and what to do, in lines of at most 113 columns.
+    /// What to say of the fault beside its name: when it comes, and what to do, in lines of at most 114 columns.
     pub fn advice(self) -> &'static str {
         match self {
             PolicyFault::TooLong => TOO_LONG,

@@ -13,7 +13,8 @@ use Rattle.rmap.specs.declared.places.Place.{Place}
 use Rattle.rmap.specs.declared.places.Place.TheVariants.{Bank, Staging, LoadResult, Control}
 use Rattle.rmap.specs.declared.status.Status.{Status}
 use Rattle.rmap.specs.Command.{command_of, command_kind}
-use Rattle.bank.specs.Records.{BankValue, ShareValue, JudgedValue, fits, has_room, next_share, first_share}
+use Rattle.bank.specs.Records.{BankValue, ShareValue, JudgedValue, has_room, next_share, first_share}
+use Rattle.annals.specs.Banks.{takes}
 use Rattle.node_programs.specs.declared.publishes.Publish.{Publish}
 use Rattle.node_programs.specs.Published.{judging_program}
 use Rattle.node_parts.specs.Passes.{PassValue, SeatValue}
@@ -22,7 +23,7 @@ use Rattle.node_parts.specs.Steps.{IsJudgement, IsVerdict}
 use Rattle.node_parts.specs.Applied.{share_of, with_share}
 use Rattle.node_parts.specs.Loaded.{EndsAs}
 use Rattle.node_parts.specs.Served.{EndsAtWindow}
-use Rattle.ports.specs.Due.{Judging, Deed, Worked, IsBanked, IsWindowed, IsJudged, IsDealt, judgings}
+use Rattle.ports.specs.Due.{Judging, Deed, Standing, standing, Worked, IsBanked, IsWindowed, IsJudged, IsDealt, judgings}
 use Rattle.ports.specs.Due.Deed.{Dropped, Answered, Judged}
 use Rattle.ports.specs.Laws.{IsByPublished, calls_of, is_bank_of, is_entry_at, entries_at, number_at, SharesCount}
 use Rattle.ports.proofs.Keeping.{end_keeps, prefix_same, prefix_trans}
@@ -64,7 +65,7 @@ run_stays h between p j is = record {
   count = ap (λ (x : PassValue). length x.shares) is.asked;
 }
 
-end_stays : (j : Judging) (between after : PassValue) → IsBanked j between after ⊎ IsWindowed j between after → Stays between after
+end_stays : (j : Judging) (between after : Standing) → IsBanked j between after ⊎ IsWindowed j between after → Stays between.pass after.pass
 end_stays j between after end = let keeps = end_keeps j between after end in record {
   programs = keeps.programs;
   port = keeps.port;
@@ -73,17 +74,20 @@ end_stays j between after end = let keeps = end_keeps j between after end in rec
   count = keeps.count;
 }
 
-dealt_stays : (d : Deed) (p : Cargo) (h after : PassValue) → IsDealt d p h after → Stays h after
-dealt_stays Dropped p h after is = stays_same h after is.same
-dealt_stays (Answered reply) p h after is = stays_same h after is.same
-dealt_stays (Judged j) p h after is =
-    stays_on h is.between after (run_stays h is.between p j.judged is.judgement) (end_stays j is.between after is.ended)
+same_stays : (h after : Standing) → after ≡ h → Stays h.pass after.pass
+same_stays h after same = stays_same h.pass after.pass (ap (λ (x : Standing). x.pass) same)
 
-worked_stays : (h after : PassValue) (ps : List Cargo) (ds : List Deed) → Worked h ps ds after → Stays h after
-worked_stays h after [] [] w = stays_same h after w
+dealt_stays : (d : Deed) (p : Cargo) (h after : Standing) → IsDealt d p h after → Stays h.pass after.pass
+dealt_stays Dropped p h after is = same_stays h after is.same
+dealt_stays (Answered reply) p h after is = same_stays h after is.same
+dealt_stays (Judged j) p h after is =
+    stays_on h.pass is.between after.pass (run_stays h.pass is.between p j.judged is.judgement) (end_stays j (standing is.between h.front) after is.ended)
+
+worked_stays : (h after : Standing) (ps : List Cargo) (ds : List Deed) → Worked h ps ds after → Stays h.pass after.pass
+worked_stays h after [] [] w = same_stays h after w
 worked_stays h after [] (d ∷ ds) w = absurd w
 worked_stays h after (p ∷ ps) [] w = absurd w
-worked_stays h after (p ∷ ps) (d ∷ ds) w = stays_on h w.0 after (dealt_stays d p h w.0 w.1) (worked_stays w.0 after ps ds w.2)
+worked_stays h after (p ∷ ps) (d ∷ ds) w = stays_on h.pass w.0.pass after.pass (dealt_stays d p h w.0 w.1) (worked_stays w.0 after ps ds w.2)
 
 -- ---- programs were published
 
@@ -97,52 +101,52 @@ by_more some more port port' j longer same is = record {
 }
 
 -- a command that was judged is so by a program that the port has seen then
-judged_published : (j : Judging) (p : Cargo) (h after : PassValue) → IsJudged j p h after → IsByPublished after.programs h.port j
+judged_published : (j : Judging) (p : Cargo) (h after : Standing) → IsJudged j p h after → IsByPublished after.pass.programs h.pass.port j
 judged_published j p h after is =
     let run = is.judgement in let for = run.judged_for in
-    let end = end_stays j is.between after is.ended in
+    let end = end_stays j (standing is.between h.front) after is.ended in
     let saw : run.seen ≡ is.between.programs = sym (ap (λ (x : PassValue). x.programs) run.asked) in
     record {
       seen = run.seen;
-      begins = subst (λ l. IsPrefix l after.programs) (sym saw) end.programs;
+      begins = subst (λ l. IsPrefix l after.pass.programs) (sym saw) end.programs;
       shown = subst (λ c. judging_program run.seen (slot_of (command_kind (command_of c)) j.judged.place) ≡ Some (j.program, j.judged.generation)) (sym for.packet)
           (subst (λ a. judging_program run.seen (slot_of (command_kind (command_of p)) j.judged.place) ≡ Some (a, j.judged.generation)) (sym is.program) run.taken.shown);
-      verdict = subst (λ c. IsVerdict j.program h.port j.calls c j.judged.verdict) (sym for.packet)
-          (subst (λ a. IsVerdict a h.port j.calls p j.judged.verdict) (sym is.program) (subst (λ l. IsVerdict run.program h.port l p j.judged.verdict) (sym is.calls) for.verdict));
+      verdict = subst (λ c. IsVerdict j.program h.pass.port j.calls c j.judged.verdict) (sym for.packet)
+          (subst (λ a. IsVerdict a h.pass.port j.calls p j.judged.verdict) (sym is.program) (subst (λ l. IsVerdict run.program h.pass.port l p j.judged.verdict) (sym is.calls) for.verdict));
     }
 
-pub programs_were_published : (h after : PassValue) (ps : List Cargo) (ds : List Deed) → Worked h ps ds after → All (IsByPublished after.programs h.port) (judgings ds)
-programs_were_published h after [] [] w = All-nil (IsByPublished after.programs h.port)
+pub programs_were_published : (h after : Standing) (ps : List Cargo) (ds : List Deed) → Worked h ps ds after → All (IsByPublished after.pass.programs h.pass.port) (judgings ds)
+programs_were_published h after [] [] w = All-nil (IsByPublished after.pass.programs h.pass.port)
 programs_were_published h after [] (d ∷ ds) w = absurd w
 programs_were_published h after (p ∷ ps) [] w = absurd w
 programs_were_published h after (p ∷ ps) (Dropped ∷ ds) w =
-    subst (λ n. All (IsByPublished after.programs n) (judgings ds)) (stays_same h w.0 w.1.same).port (programs_were_published w.0 after ps ds w.2)
+    subst (λ n. All (IsByPublished after.pass.programs n) (judgings ds)) (same_stays h w.0 w.1.same).port (programs_were_published w.0 after ps ds w.2)
 programs_were_published h after (p ∷ ps) (Answered reply ∷ ds) w =
-    subst (λ n. All (IsByPublished after.programs n) (judgings ds)) (stays_same h w.0 w.1.same).port (programs_were_published w.0 after ps ds w.2)
+    subst (λ n. All (IsByPublished after.pass.programs n) (judgings ds)) (same_stays h w.0 w.1.same).port (programs_were_published w.0 after ps ds w.2)
 programs_were_published h after (p ∷ ps) (Judged j ∷ ds) w =
     let later = worked_stays w.0 after ps ds w.2 in
-    let first = by_more w.0.programs after.programs h.port h.port j later.programs refl (judged_published j p h w.0 w.1) in
+    let first = by_more w.0.pass.programs after.pass.programs h.pass.port h.pass.port j later.programs refl (judged_published j p h w.0 w.1) in
     let same = (dealt_stays (Judged j) p h w.0 w.1).port in
-    All-cons (IsByPublished after.programs h.port) j (judgings ds) first
-    (subst (λ n. All (IsByPublished after.programs n) (judgings ds)) same (programs_were_published w.0 after ps ds w.2))
+    All-cons (IsByPublished after.pass.programs h.pass.port) j (judgings ds) first
+    (subst (λ n. All (IsByPublished after.pass.programs n) (judgings ds)) same (programs_were_published w.0 after ps ds w.2))
 
 -- ---- each run asked once
 
-judged_asks : (j : Judging) (p : Cargo) (h after : PassValue) → IsJudged j p h after → after.seat.asked ≡ h.seat.asked ++ j.calls
+judged_asks : (j : Judging) (p : Cargo) (h after : Standing) → IsJudged j p h after → after.pass.seat.asked ≡ h.pass.seat.asked ++ j.calls
 judged_asks j p h after is =
-    let end = end_keeps j is.between after is.ended in
-    ap (λ (s : SeatValue). s.asked) end.seat ∙ ap (λ (x : PassValue). x.seat.asked) is.judgement.asked ∙ ap (λ l. h.seat.asked ++ l) (sym is.calls)
+    let end = end_keeps j (standing is.between h.front) after is.ended in
+    ap (λ (s : SeatValue). s.asked) end.seat ∙ ap (λ (x : PassValue). x.seat.asked) is.judgement.asked ∙ ap (λ l. h.pass.seat.asked ++ l) (sym is.calls)
 
-pub ask_once : (h after : PassValue) (ps : List Cargo) (ds : List Deed) → Worked h ps ds after → after.seat.asked ≡ h.seat.asked ++ calls_of ds
-ask_once h after [] [] w = ap (λ (x : PassValue). x.seat.asked) w ∙ sym (append-nil h.seat.asked)
+pub ask_once : (h after : Standing) (ps : List Cargo) (ds : List Deed) → Worked h ps ds after → after.pass.seat.asked ≡ h.pass.seat.asked ++ calls_of ds
+ask_once h after [] [] w = ap (λ (x : Standing). x.pass.seat.asked) w ∙ sym (append-nil h.pass.seat.asked)
 ask_once h after [] (d ∷ ds) w = absurd w
 ask_once h after (p ∷ ps) [] w = absurd w
 ask_once h after (p ∷ ps) (Dropped ∷ ds) w =
-    ask_once w.0 after ps ds w.2 ∙ ap (λ (x : PassValue). x.seat.asked ++ calls_of ds) w.1.same
+    ask_once w.0 after ps ds w.2 ∙ ap (λ (x : Standing). x.pass.seat.asked ++ calls_of ds) w.1.same
 ask_once h after (p ∷ ps) (Answered reply ∷ ds) w =
-    ask_once w.0 after ps ds w.2 ∙ ap (λ (x : PassValue). x.seat.asked ++ calls_of ds) w.1.same
+    ask_once w.0 after ps ds w.2 ∙ ap (λ (x : Standing). x.pass.seat.asked ++ calls_of ds) w.1.same
 ask_once h after (p ∷ ps) (Judged j ∷ ds) w =
-    ask_once w.0 after ps ds w.2 ∙ ap (λ l. l ++ calls_of ds) (judged_asks j p h w.0 w.1) ∙ append_assoc h.seat.asked j.calls (calls_of ds)
+    ask_once w.0 after ps ds w.2 ∙ ap (λ l. l ++ calls_of ds) (judged_asks j p h w.0 w.1) ∙ append_assoc h.pass.seat.asked j.calls (calls_of ds)
 
 -- ---- shares count entries
 
@@ -195,26 +199,32 @@ no_entry : (k : ℕ) (entered : Bool) (place : Place) → entered ≡ false → 
 no_entry k true place e = absurd cc
 no_entry k false place e = refl
 
-banked_number : (k : ℕ) (j : Judging) (h after : PassValue) → IsBanked j h after → k < length h.shares → number_at after k ≡ number_at h k + one_at k j
-banked_number k j h after is below =
-    let share = share_of h j.judged.place in let before = is.ended.before in
-    let fit = fits before share j.judged in let room = has_room before j.judged.port in
+none_more : (entered : Bool) (n m : ℕ) → entered ≡ false → m ≡ n → m ≡ n + bit entered
+none_more true n m none same = absurd cc
+none_more false n m none same = omega (arith, same)
+
+-- the port's share of the bank counts the entry
+counted_share : (j : Judging) (h after : Standing) (is : IsBanked j h after) → is.ended.finished.share.number ≡ (share_of h.pass j.judged.place).number + bit j.entered
+counted_share j h after is =
+    let share = share_of h.pass j.judged.place in let before = is.ended.before in let end = is.ended.finished in
+    let fit = takes before share j.judged in let room = has_room before.bank j.judged.port in
     elim (cases_Bool fit) [
       | inl true_fit ↦
-          let next = next_share before share j.judged in
-          let end = (is.ended.finished.applied true_fit).shares in
           let left : j.entered ≡ room = both_true fit room j.entered true_fit is.entered in
-          let number : next.number ≡ share.number + bit j.entered = next_number before share j.judged ∙ ap (λ r. share.number + bit r) (sym left) in
-          let at : share.number ≡ number_at h is.number = ap (λ place. (share_of h place).number) is.place in
-          let there : next.number ≡ number_at h is.number + bit j.entered = number ∙ ap (λ m. m + bit j.entered) at in
-          let counted = shared_number k is.number h next j.entered there below in
-          subst (λ x. number_at x k ≡ number_at h k + one_at k j) (sym end)
-          (subst (λ place. number_at (with_share h place next) k ≡ number_at h k + bit (j.entered && is_bank_of k place)) (sym is.place) counted)
+          ap (λ (s : ShareValue). s.number) (end.applied true_fit).share_is ∙ next_number before.bank share j.judged ∙ ap (λ r. share.number + bit r) (sym left)
       | inr misfit ↦
-          let same = ap (λ x. number_at x k) (is.ended.finished.refused misfit).shares in
-          let none = no_entry k j.entered j.judged.place (both_false fit room j.entered misfit is.entered) in
-          omega (arith, same, none)
+          none_more j.entered share.number end.share.number (both_false fit room j.entered misfit is.entered)
+          (ap (λ (s : ShareValue). s.number) (end.refused misfit).share_is)
     ]
+
+banked_number : (k : ℕ) (j : Judging) (h after : Standing) → IsBanked j h after → k < length h.pass.shares → number_at after.pass k ≡ number_at h.pass k + one_at k j
+banked_number k j h after is below =
+    let share = is.ended.finished.share in
+    let at : (share_of h.pass j.judged.place).number ≡ number_at h.pass is.number = ap (λ place. (share_of h.pass place).number) is.place in
+    let there : share.number ≡ number_at h.pass is.number + bit j.entered = counted_share j h after is ∙ ap (λ m. m + bit j.entered) at in
+    let counted = shared_number k is.number h.pass share j.entered there below in
+    subst (λ x. number_at x k ≡ number_at h.pass k + one_at k j) (sym is.ended.finished.shares)
+    (subst (λ place. number_at (with_share h.pass place share) k ≡ number_at h.pass k + bit (j.entered && is_bank_of k place)) (sym is.place) counted)
 
 load_number : (k : ℕ) (line : Option Status) (h after : PassValue) (old new : List Publish) (j : JudgedValue) (result : Status) → EndsAs line h after old new j result → number_at after k ≡ number_at h k
 load_number k (Some status) h after old new j result end = ap (λ x. number_at x k) end.1
@@ -227,18 +237,18 @@ window_number k Staging h after old new j result reply end = ap (λ x. number_at
 window_number k LoadResult h after old new j result reply end = ap (λ x. number_at x k) end.0.rest
 window_number k Control h after old new j result reply end = load_number k _ h after old new j result end.ended
 
-end_number : (k : ℕ) (j : Judging) (h after : PassValue) → IsBanked j h after ⊎ IsWindowed j h after → k < length h.shares → number_at after k ≡ number_at h k + one_at k j
+end_number : (k : ℕ) (j : Judging) (h after : Standing) → IsBanked j h after ⊎ IsWindowed j h after → k < length h.pass.shares → number_at after.pass k ≡ number_at h.pass k + one_at k j
 end_number k j h after (inl banked) below = banked_number k j h after banked below
 end_number k j h after (inr is) below =
-    let same = window_number k j.judged.place h after is.old is.new j.judged is.result j.reply is.ended in
+    let same = window_number k j.judged.place h.pass after.pass is.old is.new j.judged is.result j.reply is.ended in
     let none = no_entry k j.entered j.judged.place is.entered in
     omega (arith, same, none)
 
-judged_number : (k : ℕ) (j : Judging) (p : Cargo) (h after : PassValue) → IsJudged j p h after → k < length h.shares → number_at after k ≡ number_at h k + one_at k j
+judged_number : (k : ℕ) (j : Judging) (p : Cargo) (h after : Standing) → IsJudged j p h after → k < length h.pass.shares → number_at after.pass k ≡ number_at h.pass k + one_at k j
 judged_number k j p h after is below =
-    let same : number_at is.between k ≡ number_at h k = ap (λ x. number_at x k) is.judgement.asked in
-    let count = (run_stays h is.between p j.judged is.judgement).count in
-    let end = end_number k j is.between after is.ended (omega (arith, count, below)) in
+    let same : number_at is.between k ≡ number_at h.pass k = ap (λ x. number_at x k) is.judgement.asked in
+    let count = (run_stays h.pass is.between p j.judged is.judgement).count in
+    let end = end_number k j (standing is.between h.front) after is.ended (omega (arith, count, below)) in
     omega (arith, same, end)
 
 entries_more : (k : ℕ) (j : Judging) (js : List Judging) → length (filter (is_entry_at k) (j ∷ js)) ≡ one_at k j + length (filter (is_entry_at k) js)
@@ -247,16 +257,16 @@ entries_more k j js = elim (is_entry_at k j) as (λ t. length (cond t (j ∷ fil
   | false ↦ omega arith
 ]
 
-numbers_count : (k : ℕ) (h after : PassValue) (ps : List Cargo) (ds : List Deed) → Worked h ps ds after → k < length h.shares → number_at after k ≡ number_at h k + entries_at k ds
-numbers_count k h after [] [] w below = let same = ap (λ x. number_at x k) w in omega (arith, same)
+numbers_count : (k : ℕ) (h after : Standing) (ps : List Cargo) (ds : List Deed) → Worked h ps ds after → k < length h.pass.shares → number_at after.pass k ≡ number_at h.pass k + entries_at k ds
+numbers_count k h after [] [] w below = let same = ap (λ (x : Standing). number_at x.pass k) w in omega (arith, same)
 numbers_count k h after [] (d ∷ ds) w below = absurd w
 numbers_count k h after (p ∷ ps) [] w below = absurd w
 numbers_count k h after (p ∷ ps) (Dropped ∷ ds) w below =
-    subst (λ x. number_at after k ≡ number_at x k + entries_at k ds) w.1.same
-    (numbers_count k w.0 after ps ds w.2 (subst (λ (x : PassValue). k < length x.shares) (sym w.1.same) below))
+    subst (λ (x : Standing). number_at after.pass k ≡ number_at x.pass k + entries_at k ds) w.1.same
+    (numbers_count k w.0 after ps ds w.2 (subst (λ (x : Standing). k < length x.pass.shares) (sym w.1.same) below))
 numbers_count k h after (p ∷ ps) (Answered reply ∷ ds) w below =
-    subst (λ x. number_at after k ≡ number_at x k + entries_at k ds) w.1.same
-    (numbers_count k w.0 after ps ds w.2 (subst (λ (x : PassValue). k < length x.shares) (sym w.1.same) below))
+    subst (λ (x : Standing). number_at after.pass k ≡ number_at x.pass k + entries_at k ds) w.1.same
+    (numbers_count k w.0 after ps ds w.2 (subst (λ (x : Standing). k < length x.pass.shares) (sym w.1.same) below))
 numbers_count k h after (p ∷ ps) (Judged j ∷ ds) w below =
     let count = (dealt_stays (Judged j) p h w.0 w.1).count in
     let rest = numbers_count k w.0 after ps ds w.2 (omega (arith, count, below)) in
@@ -264,7 +274,7 @@ numbers_count k h after (p ∷ ps) (Judged j ∷ ds) w below =
     let more = entries_more k j (judgings ds) in
     omega (arith, rest, first, more)
 
-pub shares_count : (h after : PassValue) (ps : List Cargo) (ds : List Deed) → Worked h ps ds after → SharesCount h after ds
+pub shares_count : (h after : Standing) (ps : List Cargo) (ds : List Deed) → Worked h ps ds after → SharesCount h.pass after.pass ds
 shares_count h after ps ds w = let stays = worked_stays h after ps ds w in record {
   numbers = λ k below. numbers_count k h after ps ds w below;
   count = stays.count;

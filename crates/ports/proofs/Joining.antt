@@ -4,14 +4,13 @@ use Rattle.std.specs.Prelude.{map, filter}
 use mathlib.Core.List.{map-append}
 use Rattle.std.proofs.lemmas.List.Elements.{filter-append}
 use Rattle.spw.specs.Cargo.{Cargo}
-use Rattle.node_parts.specs.Passes.{PassValue}
 use Rattle.ports.specs.declared.worker.Report.{Report}
-use Rattle.ports.specs.Due.{Deed, Worked, due, due_of, discarded, reply_in, is_reply, is_dropped}
+use Rattle.ports.specs.Due.{Deed, Standing, Worked, due, due_of, discarded, reply_in, is_reply, is_dropped}
 use Rattle.ports.specs.Sinks.{SentReply, cut, sent_at}
 use Rattle.ports.specs.Worked.{IsThinned, HasTaken, HasServed, report_sum}
 use Rattle.ports.proofs.Following.{shares_count}
 
-worked_join : (h mid after : PassValue) (ps qs : List Cargo) (ds es : List Deed) → Worked h ps ds mid → Worked mid qs es after → Worked h (ps ++ qs) (ds ++ es) after
+worked_join : (h mid after : Standing) (ps qs : List Cargo) (ds es : List Deed) → Worked h ps ds mid → Worked mid qs es after → Worked h (ps ++ qs) (ds ++ es) after
 worked_join h mid after [] qs [] es w v = subst (λ m. Worked m qs es after) w v
 worked_join h mid after [] qs (d ∷ ds) es w v = absurd w
 worked_join h mid after (p ∷ ps) qs [] es w v = absurd w
@@ -52,19 +51,19 @@ taken_join s t u f g h rs qs lost fewer a b = record {
 }
 
 -- what was served in turn
-pub served_join : {S : Type 0} (sent : S → List SentReply) (failed : S → ℕ) (h mid after : PassValue) (s t u : S) (ps qs : List Cargo) (a b : Report) → HasServed sent failed h mid s t ps a → HasServed sent failed mid after t u qs b → HasServed sent failed h after s u (ps ++ qs) (report_sum a b)
+pub served_join : {S : Type 0} (sent : S → List SentReply) (failed : S → ℕ) (h mid after : Standing) (s t u : S) (ps qs : List Cargo) (a b : Report) → HasServed sent failed h mid s t ps a → HasServed sent failed mid after t u qs b → HasServed sent failed h after s u (ps ++ qs) (report_sum a b)
 served_join sent failed h mid after s t u ps qs a b x y =
     let lost = x.lost_count in let lost' = y.lost_count in let dropped = x.discarded_count in let dropped' = y.discarded_count in
     let all = discarded_join x.deeds y.deeds in
-    let same : mid.port ≡ h.port = (shares_count h mid ps x.deeds x.worked).port in
-    let more : HasTaken (sent t) (sent u) (failed t) (failed u) (sent_at h.port (due y.deeds)) y.lost
+    let same : mid.pass.port ≡ h.pass.port = (shares_count h mid ps x.deeds x.worked).port in
+    let more : HasTaken (sent t) (sent u) (failed t) (failed u) (sent_at h.pass.port (due y.deeds)) y.lost
     = subst (λ n. HasTaken (sent t) (sent u) (failed t) (failed u) (sent_at n (due y.deeds)) y.lost) same y.replies in
     record {
       deeds = x.deeds ++ y.deeds;
       lost = x.lost + y.lost;
       worked = worked_join h mid after ps qs x.deeds y.deeds x.worked y.worked;
-      replies = subst (λ l. HasTaken (sent s) (sent u) (failed s) (failed u) l (x.lost + y.lost)) (sym (sent_join h.port x.deeds y.deeds))
-          (taken_join (sent s) (sent t) (sent u) (failed s) (failed t) (failed u) (sent_at h.port (due x.deeds)) (sent_at h.port (due y.deeds)) x.lost y.lost x.replies more);
+      replies = subst (λ l. HasTaken (sent s) (sent u) (failed s) (failed u) l (x.lost + y.lost)) (sym (sent_join h.pass.port x.deeds y.deeds))
+          (taken_join (sent s) (sent t) (sent u) (failed s) (failed t) (failed u) (sent_at h.pass.port (due x.deeds)) (sent_at h.pass.port (due y.deeds)) x.lost y.lost x.replies more);
       lost_count = omega (arith, lost, lost');
       discarded_count = omega (arith, dropped, dropped', all);
     }

@@ -1,19 +1,18 @@
 -- What a packet leaves of a port.
 use Rattle.std.proofs.Common.{◌≡◌, ◌⊎◌, ℕ, List, [], ◌++◌, length, Option, Some, None, sym, refl, ap, ◌∙◌, subst, append_assoc, inl, inr}
 use Rattle.std.proofs.lemmas.List.{append-nil, length-set}
-use Rattle.std.proofs.lemmas.Bool.{cases_Bool}
 use mathlib.Core.List.{IsPrefix}
 use Rattle.rmap.specs.declared.places.Place.{Place}
 use Rattle.rmap.specs.declared.places.Place.TheVariants.{Bank, Staging, LoadResult, Control}
 use Rattle.rmap.specs.declared.status.Status.{Status}
-use Rattle.bank.specs.declared.bank.Applied.{Applied}
-use Rattle.bank.specs.Records.{BankValue, ShareValue, JudgedValue, fits, next_share}
+use Rattle.bank.specs.Records.{ShareValue, JudgedValue}
 use Rattle.node_programs.specs.declared.publishes.Publish.{Publish}
 use Rattle.node_parts.specs.Passes.{PassValue}
-use Rattle.node_parts.specs.Applied.{share_of, with_share, IsFinished}
+use Rattle.node_parts.specs.Applied.{with_share}
 use Rattle.node_parts.specs.Loaded.{EndsAs, IsLoadEnd}
 use Rattle.node_parts.specs.Served.{EndsAtWindow, IsStagedAt}
-use Rattle.ports.specs.Due.{Judging, IsBanked, IsWindowed}
+use Rattle.annals.specs.declared.deed.Link.{Link}
+use Rattle.ports.specs.Due.{Judging, Standing, HasFinished, IsBanked, IsWindowed}
 
 pub prefix_same : {A : Type 0} (xs ys : List A) → ys ≡ xs → IsPrefix xs ys
 prefix_same xs ys same = ([], append-nil xs ∙ sym same)
@@ -44,11 +43,9 @@ share_keeps h Staging share = keeps_same h h refl
 share_keeps h LoadResult share = keeps_same h h refl
 share_keeps h Control share = keeps_same h h refl
 
-finish_keeps : (before behind : BankValue) (h after : PassValue) (j : JudgedValue) (result : Applied) (reply : List ℕ) → IsFinished before behind h after j result reply → Keeps h after
-finish_keeps before behind h after j result reply end = elim (cases_Bool (fits before (share_of h j.place) j)) [
-  | inl fit ↦ subst (λ x. Keeps h x) (sym (end.applied fit).shares) (share_keeps h j.place (next_share before (share_of h j.place) j))
-  | inr misfit ↦ keeps_same h after (end.refused misfit).shares
-]
+finish_keeps : (known reached : List Link) (h after : PassValue) (j : JudgedValue) (reply : List ℕ) → HasFinished known reached h after j reply → Keeps h after
+finish_keeps known reached h after j reply end =
+    subst (λ x. Keeps h x) (sym end.finished.shares) (share_keeps h j.place end.finished.share)
 
 staged_keeps : (h after : PassValue) (j : JudgedValue) (result : Status) (reply : List ℕ) → IsStagedAt h after j result reply → Keeps h after
 staged_keeps h after j result reply end = record {
@@ -87,6 +84,6 @@ window_keeps LoadResult h after old new j result reply end = staged_keeps h afte
 window_keeps Control h after old new j result reply end = load_keeps _ h after old new j result end.ended
 
 -- how a judged command ends leaves the port as it was, but for its shares, its staging and its programs
-pub end_keeps : (judging : Judging) (between after : PassValue) → IsBanked judging between after ⊎ IsWindowed judging between after → Keeps between after
-end_keeps judging between after (inl banked) = finish_keeps banked.ended.before banked.ended.behind between after judging.judged banked.ended.result judging.reply banked.ended.finished
-end_keeps judging between after (inr windowed) = window_keeps judging.judged.place between after windowed.old windowed.new judging.judged windowed.result judging.reply windowed.ended
+pub end_keeps : (judging : Judging) (between after : Standing) → IsBanked judging between after ⊎ IsWindowed judging between after → Keeps between.pass after.pass
+end_keeps judging between after (inl banked) = finish_keeps between.front after.front between.pass after.pass judging.judged judging.reply banked.ended
+end_keeps judging between after (inr windowed) = window_keeps judging.judged.place between.pass after.pass windowed.old windowed.new judging.judged windowed.result judging.reply windowed.ended

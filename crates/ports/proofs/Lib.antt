@@ -8,3 +8,4 @@ mod Dealing
 mod Reports
 mod Starting
 mod Served
+mod Entries

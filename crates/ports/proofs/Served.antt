@@ -3,6 +3,11 @@ use Rattle.std.proofs.Common.{◌≡◌, ◌+◌, ◌-◌, ◌<◌, ◌≤◌, �
 use Rattle.std.specs.Prelude.{map, length, slice_index_or}
 use Rattle.std.proofs.lemmas.Bool.{cases_lt}
 use Rattle.std.proofs.lemmas.List.{get_or-map, get_or_append_left, get_or-append-add, length-append, length-map}
+use Rattle.std.specs.List.{All}
+use Rattle.std.proofs.lemmas.List.Elements.{All-append, All-cons, All-nil}
+use mathlib.Core.List.{IsPrefix}
+use Rattle.annals.specs.declared.deed.Link.{Link}
+use Rattle.ports.proofs.Keeping.{prefix_trans}
 use Rattle.ports.specs.Queue.{IsServePassOf, IsServePassAfter}
 use Rattle.ports.specs.declared.port.Port.{Port}
 use Rattle.ports.specs.declared.port.ServePass.{ServePass}
@@ -10,7 +15,7 @@ use Rattle.ports.specs.declared.starts.Ended.{Ended}
 use Rattle.ports.specs.declared.worker.Worker.{Worker}
 use Rattle.ports.specs.declared.worker.Report.{Report}
 use Rattle.ports.specs.Sinks.{SentReply}
-use Rattle.ports.specs.Serves.{IsWorkerOf, AreLast, AreServed, HasReturned, HaveComeBack, IsBack, IsOneMissing, IsShort, IsTotalOf, HaveServed}
+use Rattle.ports.specs.Serves.{IsWorkerOf, AreLast, AreServed, HasReturned, HaveComeBack, IsBack, IsOneMissing, IsShort, IsTotalOf, HaveServed, ShareOneHistory}
 
 -- A pass that is the port's is so later.
 same_port : (port : Port) (old new : ServePass) → IsServePassOf port old → IsServePassAfter old new → IsServePassOf port new
@@ -66,8 +71,8 @@ module _ {J S : Type 0} (sent : S → List SentReply) (failed : S → ℕ) (bank
 
     -- Where each has a report, each served its port.
     pub have_served : AreServed banks (length old) ports old → AreBack → length ended ≡ length old → (total : Report) → IsTotalOf (map (λ (e : Ended J S). e.report) ended) total
-        → HaveServed sent failed banks ports old returned total
-    have_served were each long total told =
+        → ShareOneHistory returned → HaveServed sent failed banks ports old returned total
+    have_served were each long total told history =
         let reports = told.reports in
         let many : length reports ≡ length old = sym (length-map reports Some) ∙ ap length (sym told.all) ∙ length-map ended (λ (e : Ended J S). e.report) ∙ long in
         let here : (k : ℕ) (w : Worker J S) (r : Report) → k < length old → HasReturned sent failed (slice_index_or old k w) (slice_index_or returned k w) (slice_index_or reports k r)
@@ -89,6 +94,7 @@ module _ {J S : Type 0} (sent : S → List SentReply) (failed : S → ℕ) (bank
                 (were.each k p w below) (here k w total below);
           };
           sum = told.added;
+          history = history;
         }
 
     -- Where a thread could not be made, fewer workers came back than went in.
@@ -133,6 +139,13 @@ module _ {J S : Type 0} (sent : S → List SentReply) (failed : S → ℕ) (bank
           most = omega (arith, many, whole, most);
           few = omega (arith, many, whole, few);
         }
+
+-- What the workers know of the history begins a list, and so does what one worker more knows where the list is longer.
+pub begin_more : {J S : Type 0} (old new : List Link) (workers : List (Worker J S)) (one : Worker J S) → IsPrefix old new → IsPrefix one.front new → All (λ (w : Worker J S). IsPrefix w.front old) workers → All (λ (w : Worker J S). IsPrefix w.front new) (workers ++ one ∷ [])
+begin_more {J} {S} old new workers one longer here begin =
+    All-append (λ (w : Worker J S). IsPrefix w.front new) workers (one ∷ [])
+    (λ k w below. prefix_trans (slice_index_or workers k w).front old new (begin k w below) longer)
+    (All-cons (λ (w : Worker J S). IsPrefix w.front new) one [] here (All-nil (λ (w : Worker J S). IsPrefix w.front new)))
 
 -- Where no thread was started, all came back as they went in.
 pub all_came_back : {J S : Type 0} (sent : S → List SentReply) (failed : S → ℕ) (old : List (Worker J S)) → HaveComeBack sent failed old old

@@ -1,5 +1,6 @@
 -- What became of the packets that a worker took, and the replies that are due then (ECSS-E-ST-50-52C). Banks and the
--- publisher stand behind locks: of them it is known that some bank, or some list of publishes, was what a command met.
+-- publisher stand behind locks: a command that left an entry stands in the one history of the node's banks; of any other it
+-- is known that some bank, or some list of publishes, was what it met.
 use Rattle.std.specs.Prelude.{◌≡◌, ◌⊎◌, ℕ, Bool, true, false, ◌&&◌, List, [], ◌∷◌, length, map, filter, Some}
 use mathlib.Core.List.{IsPrefix}
 use Rattle.machine.specs.declared.calls.Call.{Call}
@@ -10,14 +11,26 @@ use Rattle.rmap.specs.declared.status.Status.{Status}
 use Rattle.rmap.specs.Command.{discard_of}
 use Rattle.bver.specs.Justified.{AcceptedValue}
 use Rattle.bank.specs.declared.bank.Applied.{Applied}
-use Rattle.bank.specs.Records.{BankValue, JudgedValue, IsBank, fits, has_room}
+use Rattle.bank.specs.Records.{JudgedValue, IsBank, has_room}
 use Rattle.node_programs.specs.declared.publishes.Publish.{Publish}
 use Rattle.node_parts.specs.Passes.{PassValue}
 use Rattle.node_parts.specs.Steps.{IsStopped, IsUnread, IsJudgement}
 use Rattle.node_parts.specs.declared.stop.Stop.TheVariants as stops
-use Rattle.node_parts.specs.Applied.{share_of, IsFinished}
+use Rattle.node_parts.specs.Applied.{share_of}
 use Rattle.node_parts.specs.Loaded.{IsLoadEnd}
 use Rattle.node_parts.specs.Served.{EndsAtWindow}
+use Rattle.annals.specs.declared.deed.Link.{Link}
+use Rattle.annals.specs.Banks.{KeptValue, takes}
+use Rattle.target.specs.Finished.{IsFinishedAt}
+
+-- what a port has of its node, and what it knows of the history of the node's banks
+pub record Standing : Type 0 where
+  pub pass : PassValue
+  pub front : List Link
+
+-- the port that has this and knows that
+abbrev pub standing : PassValue → List Link → Standing
+standing pass front = record { pass = pass; front = front }
 
 -- a command that was judged: the program and the calls of its run, whether it left an entry in a bank's journal, and
 -- the reply that is due
@@ -72,33 +85,36 @@ judgings (Answered reply ∷ deeds) = judgings deeds
 judgings (Judged judging ∷ deeds) = judging ∷ judgings deeds
 
 -- the packet was no command, and the port is as it was
-pub record IsDropped (p : Cargo) (h after : PassValue) : Type 0 where
+pub record IsDropped (p : Cargo) (h after : Standing) : Type 0 where
   pub discard : Discard
   pub discarded : discard_of p.bytes ≡ Some discard
   pub same : after ≡ h
 
 -- a check of the header answered the packet, or none did and the reply is the general error of a packet that no program
 -- judged; the port is as it was
-pub record IsUnjudged (reply : List ℕ) (p : Cargo) (h after : PassValue) : Type 0 where
-  pub answered : ((status : Status) × IsStopped (stops.Answered status) p h.windows reply) ⊎ IsUnread p h.windows reply
+pub record IsUnjudged (reply : List ℕ) (p : Cargo) (h after : Standing) : Type 0 where
+  pub answered : ((status : Status) × IsStopped (stops.Answered status) p h.pass.windows reply)
+      ⊎ IsUnread p h.pass.windows reply
   pub same : after ≡ h
 
--- a judged command ended at some bank
-pub record HasFinished (holder after : PassValue) (j : JudgedValue) (reply : List ℕ) : Type 0 where
-  pub before : BankValue
-  pub behind : BankValue
+-- a judged command ended at some bank with its chain: where it left an entry, that is the last of the history that the port
+-- then knows, and status and reply are the definition's on the replay of what stands before it there
+pub record HasFinished (known reached : List Link) (holder after : PassValue) (j : JudgedValue) (reply : List ℕ)
+    : Type 0 where
+  pub before : KeptValue
+  pub behind : KeptValue
   pub result : Applied
-  pub bank : IsBank before
-  pub finished : IsFinished before behind holder after j result reply
+  pub bank : IsBank before.bank
+  pub finished : IsFinishedAt before behind known reached holder after j result reply
 
 -- the command's place is a bank, and it ended at some bank, where it left an entry if it was applied and there was room
-pub record IsBanked (judging : Judging) (holder after : PassValue) : Type 0 where
+pub record IsBanked (judging : Judging) (h after : Standing) : Type 0 where
   pub number : ℕ
   pub place : judging.judged.place ≡ Bank number
-  pub ended : HasFinished holder after judging.judged judging.reply
+  pub ended : HasFinished h.front after.front h.pass after.pass judging.judged judging.reply
   pub entered : judging.entered
-      ≡ (fits ended.before (share_of holder judging.judged.place) judging.judged
-      && has_room ended.before judging.judged.port)
+      ≡ (takes ended.before (share_of h.pass judging.judged.place) judging.judged
+      && has_room ended.before.bank judging.judged.port)
 
 -- a judged control write ended, where some list had been published, which began with all that the port knew
 pub record HasLoadEnd (holder after : PassValue) (j : JudgedValue) (reply : List ℕ) : Type 0 where
@@ -109,38 +125,39 @@ pub record HasLoadEnd (holder after : PassValue) (j : JudgedValue) (reply : List
   pub ended : IsLoadEnd holder after old new j result reply
 
 -- a judged command ended in the boot window, where some list had been published, which began with all that the port
--- knew
-pub record IsWindowed (judging : Judging) (holder after : PassValue) : Type 0 where
+-- knew; of the history of the banks the port knows what it knew
+pub record IsWindowed (judging : Judging) (h after : Standing) : Type 0 where
   pub old : List Publish
   pub new : List Publish
-  pub begins : IsPrefix holder.programs old
+  pub begins : IsPrefix h.pass.programs old
   pub result : Status
-  pub ended : EndsAtWindow judging.judged.place holder after old new judging.judged result judging.reply
+  pub ended : EndsAtWindow judging.judged.place h.pass after.pass old new judging.judged result judging.reply
   pub entered : judging.entered ≡ false
+  pub front : after.front ≡ h.front
 
 -- the command of the packet was judged in one run, which left the port so, and ended at some bank or in the boot window
-pub record IsJudged (judging : Judging) (p : Cargo) (h after : PassValue) : Type 0 where
+pub record IsJudged (judging : Judging) (p : Cargo) (h after : Standing) : Type 0 where
   pub between : PassValue
-  pub judgement : IsJudgement h between p judging.judged
+  pub judgement : IsJudgement h.pass between p judging.judged
   pub program : judging.program ≡ judgement.program
   pub calls : judging.calls ≡ judgement.calls
-  pub ended : IsBanked judging between after ⊎ IsWindowed judging between after
+  pub ended : IsBanked judging (standing between h.front) after ⊎ IsWindowed judging (standing between h.front) after
 
 -- what became of one packet and of its port: it was dropped, answered without a run, or judged
-abbrev pub IsDealt : Deed → Cargo → (h after : PassValue) → Type 0
+abbrev pub IsDealt : Deed → Cargo → (h after : Standing) → Type 0
 IsDealt Dropped p h after = IsDropped p h after
 IsDealt (Answered reply) p h after = IsUnjudged reply p h after
 IsDealt (Judged judging) p h after = IsJudged judging p h after
 
 -- one after the other, that became of the packets and of the port
-abbrev pub Worked : PassValue → List Cargo → List Deed → PassValue → Type 0
+abbrev pub Worked : Standing → List Cargo → List Deed → Standing → Type 0
 Worked h [] [] after = after ≡ h
 Worked h [] (d ∷ ds) after = ⊥
 Worked h (p ∷ ps) [] after = ⊥
-Worked h (p ∷ ps) (d ∷ ds) after = (between : PassValue) × IsDealt d p h between × Worked between ps ds after
+Worked h (p ∷ ps) (d ∷ ds) after = (between : Standing) × IsDealt d p h between × Worked between ps ds after
 
 -- some such deed became of the packet and of the port, with that reply; the packet was no command or not
-pub record HasDealt (p : Cargo) (h after : PassValue) (reply : List ℕ) (dropped : Bool) : Type 0 where
+pub record HasDealt (p : Cargo) (h after : Standing) (reply : List ℕ) (dropped : Bool) : Type 0 where
   pub deed : Deed
   pub dealt : IsDealt deed p h after
   pub reply_is : reply ≡ reply_in deed

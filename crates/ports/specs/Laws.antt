@@ -1,5 +1,5 @@
 -- Laws of what a worker did.
-use Rattle.std.specs.Prelude.{◌≡◌, ◌<◌, ℕ, ◌+◌, ◌==◌, ◌&&◌, Bool, false, List, ◌++◌, length, filter, Some, All}
+use Rattle.std.specs.Prelude.{◌≡◌, ◌<◌, ℕ, ◌+◌, ◌==◌, ◌&&◌, Bool, false, List, [], ◌∷◌, ◌++◌, length, filter, MatchBool, Some, All}
 use Rattle.std.specs.List.{flat_map}
 use mathlib.Core.List.{IsPrefix}
 use Rattle.machine.specs.declared.calls.Call.{Call}
@@ -13,7 +13,11 @@ use Rattle.node_parts.specs.Slots.{slot_of}
 use Rattle.node_parts.specs.Passes.{PassValue}
 use Rattle.node_parts.specs.Steps.{IsVerdict}
 use Rattle.node_parts.specs.Applied.{share_of}
-use Rattle.ports.specs.Due.{Judging, Deed, Worked, judgings}
+use Rattle.bank.specs.declared.bank.Applied.{Applied}
+use Rattle.bank.specs.Records.{ShareValue}
+use Rattle.annals.specs.declared.deed.Link.{Link}
+use Rattle.annals.specs.Banks.{IsDone}
+use Rattle.ports.specs.Due.{Judging, Deed, Standing, Worked, judgings}
 
 -- the verdict on a command is that of a run, for that port and with its calls, of the program that a beginning of those
 -- publishes has in the command's slot
@@ -27,8 +31,8 @@ pub record IsByPublished (published : List Publish) (port : ℕ) (judging : Judg
 -- each verdict is that of a run of a program that was published: one that the port has seen in the end
 abbrev pub WorkersProgramsWerePublished : Type 0
 WorkersProgramsWerePublished =
-    (h after : PassValue) (packets : List Cargo) (deeds : List Deed) → Worked h packets deeds after
-    → All (IsByPublished after.programs h.port) (judgings deeds)
+    (h after : Standing) (packets : List Cargo) (deeds : List Deed) → Worked h packets deeds after
+    → All (IsByPublished after.pass.programs h.pass.port) (judgings deeds)
 
 -- the calls of the runs, in order
 abbrev pub calls_of : List Deed → List Call
@@ -37,8 +41,8 @@ calls_of deeds = flat_map (λ (judging : Judging). judging.calls) (judgings deed
 -- a port asked the cells what the runs of its judged commands asked, each run once and in order, and nothing else
 abbrev pub WorkersAskOnce : Type 0
 WorkersAskOnce =
-    (h after : PassValue) (packets : List Cargo) (deeds : List Deed) → Worked h packets deeds after
-    → after.seat.asked ≡ h.seat.asked ++ calls_of deeds
+    (h after : Standing) (packets : List Cargo) (deeds : List Deed) → Worked h packets deeds after
+    → after.pass.seat.asked ≡ h.pass.seat.asked ++ calls_of deeds
 
 -- the place is the bank of that number
 abbrev pub is_bank_of : ℕ → Place → Bool
@@ -70,5 +74,29 @@ pub record SharesCount (h after : PassValue) (deeds : List Deed) : Type 0 where
 -- the shares of a port grew by the entries that its commands left
 abbrev pub WorkersSharesCount : Type 0
 WorkersSharesCount =
-    (h after : PassValue) (packets : List Cargo) (deeds : List Deed) → Worked h packets deeds after
-    → SharesCount h after deeds
+    (h after : Standing) (packets : List Cargo) (deeds : List Deed) → Worked h packets deeds after
+    → SharesCount h.pass after.pass deeds
+
+-- the command was done at a bank: it is the last of a history that goes on from what its port knew, and status and reply are
+-- the definition's on the replay of what stands before it there
+pub record HasEntered (known reached : List Link) (judging : Judging) : Type 0 where
+  pub bank : ℕ
+  pub share : ShareValue
+  pub result : Applied
+  pub done : IsDone bank known reached share judging.judged result judging.reply
+
+-- the entries of a port stand in the history in the order of its packets, each behind all that the port knew then; what left
+-- no entry added nothing
+abbrev pub EntriesFollow : (known : List Link) → List Judging → (reached : List Link) → Type 0
+EntriesFollow known [] reached = reached ≡ known
+EntriesFollow known (judging ∷ judgings) reached =
+    MatchBool judging.entered
+    ((between : List Link) × HasEntered known between judging × EntriesFollow between judgings reached)
+    (EntriesFollow known judgings reached)
+
+-- each command of a worker that left an entry stands in the history that its port knows in the end, in order, with the status
+-- and the reply of the definition on what stands before it
+abbrev pub WorkersEntriesFollow : Type 0
+WorkersEntriesFollow =
+    (h after : Standing) (packets : List Cargo) (deeds : List Deed) → Worked h packets deeds after
+    → EntriesFollow h.front (judgings deeds) after.front

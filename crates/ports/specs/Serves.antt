@@ -20,7 +20,9 @@ use Rattle.std.specs.Prelude.{
   vec_len,
   vec_capacity,
 }
-use Rattle.std.specs.List.{sum_by}
+use Rattle.std.specs.List.{All, sum_by}
+use mathlib.Core.List.{IsPrefix}
+use Rattle.annals.specs.declared.deed.Link.{Link}
 use Rattle.ports.specs.Queue.{IsServePassOf, IsServePassAfter}
 use Rattle.ports.specs.Sinks.{SentReply, cut}
 use Rattle.ports.specs.Worked.{report_sum, IsWorked}
@@ -109,7 +111,13 @@ pub record HaveComeBack {J S : Type 0} (sent : S → List SentReply) (failed : S
   pub most : length new ≤ length old
   pub few : length old ≤ length new + 1
 
--- each worker served its port until the end mark and stands at its place again; that report is the sum of theirs
+-- what the workers know of the history of their node's banks begins one list
+pub record ShareOneHistory {J S : Type 0} (workers : List (Worker J S)) : Type 0 where
+  pub whole : List Link
+  pub begin : All (λ (w : Worker J S). IsPrefix w.front whole) workers
+
+-- each worker served its port until the end mark and stands at its place again; that report is the sum of theirs, and what
+-- they know of the history of the node's banks begins one list
 pub record HaveServed {J S : Type 0} (sent : S → List SentReply) (failed : S → ℕ) (banks : ℕ) (ports : List Port)
     (old new : List (Worker J S)) (total : Report) : Type 0 where
   pub reports : List Report
@@ -120,6 +128,7 @@ pub record HaveServed {J S : Type 0} (sent : S → List SentReply) (failed : S �
       (slice_index_or reports k report)
   pub served : AreServed banks (length old) ports new
   pub sum : total ≡ total_of reports
+  pub history : ShareOneHistory new
 
 -- the list is empty and has room for so many
 abbrev pub HasRoomFor : {X Z : Type 0} → ℕ → Vec X Z → Type 0

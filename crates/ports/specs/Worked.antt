@@ -1,11 +1,10 @@
 -- What a worker did until the end mark.
 use Rattle.std.specs.Prelude.{◌≡◌, ◌⊎◌, ℕ, ◌+◌, suc, List, [], ◌∷◌, ◌++◌, map}
 use Rattle.spw.specs.Cargo.{Cargo}
-use Rattle.node_parts.specs.Passes.{PassValue}
 use Rattle.ports.specs.declared.item.Item.TheVariants.{Data, Mark}
 use Rattle.ports.specs.declared.worker.Report.{Report}
 use Rattle.ports.specs.declared.worker.Worker.{Worker}
-use Rattle.ports.specs.Due.{Deed, Worked, due, discarded}
+use Rattle.ports.specs.Due.{Deed, Standing, Worked, due, discarded}
 use Rattle.ports.specs.Queue.{taken_of}
 use Rattle.ports.specs.Sinks.{SentReply, cut, sent_at}
 
@@ -30,18 +29,22 @@ report_sum a b = record { discarded = cut (a.discarded + b.discarded); lost = cu
 
 -- of each packet and of the port became what is due, the sink took the replies that were due, with the port's number,
 -- and the report counts the packets that were no command and the replies that were lost
-pub record HasServed {S : Type 0} (sent : S → List SentReply) (failed : S → ℕ) (h after : PassValue) (sink sink' : S)
+pub record HasServed {S : Type 0} (sent : S → List SentReply) (failed : S → ℕ) (h after : Standing) (sink sink' : S)
     (packets : List Cargo) (report : Report) : Type 0 where
   pub deeds : List Deed
   pub lost : ℕ
   pub worked : Worked h packets deeds after
-  pub replies : HasTaken (sent sink) (sent sink') (failed sink) (failed sink') (sent_at h.port (due deeds)) lost
+  pub replies : HasTaken (sent sink) (sent sink') (failed sink) (failed sink') (sent_at h.pass.port (due deeds)) lost
   pub lost_count : report.lost ≡ cut lost
   pub discarded_count : report.discarded ≡ cut (discarded deeds)
+
+-- what the worker's port has of its node, and knows of its history
+abbrev pub standing_of : {J S : Type 0} → Worker J S → Standing
+standing_of worker = record { pass = worker.pass; front = worker.front }
 
 -- the worker took packets and then the end mark, and served each packet
 pub record IsWorked {J S : Type 0} (sent : S → List SentReply) (failed : S → ℕ)
     (old new : Worker J S) (report : Report) : Type 0 where
   pub packets : List Cargo
   pub took : taken_of new.serve_pass ≡ taken_of old.serve_pass ++ map Data packets ++ Mark ∷ []
-  pub served : HasServed sent failed old.pass new.pass old.sink new.sink packets report
+  pub served : HasServed sent failed (standing_of old) (standing_of new) old.sink new.sink packets report

@@ -1,6 +1,6 @@
 //! Laws of what workers do. Each function does no work: its contract is the law.
 
-ghost use Rattle.ports.specs.Laws.{WorkersProgramsWerePublished, WorkersAskOnce, WorkersSharesCount};
+ghost use Rattle.ports.specs.Laws.{WorkersProgramsWerePublished, WorkersAskOnce, WorkersEntriesFollow, WorkersSharesCount};
 
 /// Each verdict of a worker is that of a run of a program that was published in the slot of its command: one that the
 /// worker's pass has seen in the end.
@@ -17,4 +17,11 @@ pub fn workers_ask_once()
 /// Each share of a worker's pass grew by the entries that the worker's commands left at its bank.
 pub fn workers_shares_count()
     ensures { WorkersSharesCount }
+{}
+
+/// Each command of a worker that left an entry at a bank stands in the one history of the node's banks, as far as its port
+/// knows it in the end: in the order of the port's packets, each with the status and the reply that the definition of the
+/// answer gives on the replay of what stands before it there.
+pub fn workers_entries_follow()
+    ensures { WorkersEntriesFollow }
 {}

@@ -17,7 +17,9 @@ mod works;
 
 pub use gate::{Gate, NoGate};
 pub use item::{Item, Log};
-pub use laws::{workers_ask_once, workers_programs_were_published, workers_shares_count};
+pub use laws::{
+    workers_ask_once, workers_entries_follow, workers_programs_were_published, workers_shares_count,
+};
 pub use port::{Full, MAX_CAPACITY, Port, PutPass, ServePass};
 pub use serves::{ServeFault, serve};
 pub use sink::{Replies, Sink, SinkFault};

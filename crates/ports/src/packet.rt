@@ -2,39 +2,39 @@
 
 ghost use Rattle.std.specs.Prelude.{◌≡◌, ◌<◌, length};
 ghost use Rattle.rmap.specs.declared.places.Place.TheVariants.{Control};
-ghost use Rattle.ports.specs.Due.{HasDealt, HasFinished, HasLoadEnd};
+ghost use Rattle.ports.specs.Due.{HasDealt, HasFinished, HasLoadEnd, standing};
 
 use bank::Judged;
-use publish::ProgramFamily;
 use rmap::{Place, ReplyBuf};
 use spw::Packet;
 use std::alloc::Global;
 use std::sync::{MutexGuard, Wait};
-use target::{BankLock, Node, Pass, Step, finish, judge, load, stage};
+use target::{BankLock, Front, Node, NodeFamily, Pass, Step, finish, judge, load, stage};
 
-/// Ends a judged command at the bank behind the lock. The condition is the lock of the bank that is the command's place,
-/// of which the pass has a share.
-fn finish_locked<R: Wait, J: ProgramFamily>(
+/// Ends a judged command at the bank behind the lock. Where it leaves an entry, that is the last of the history that the port
+/// then knows. The condition is the lock of the bank that is the command's place, of which the pass has a share.
+fn finish_locked<R: Wait, J: NodeFamily>(
     rt: &R,
-    lock: &BankLock,
+    lock: &BankLock<J>,
     pass: &mut Pass<J>,
+    front: &mut Front<J>,
     judged: Judged,
     reply: &mut ReplyBuf,
 )
     requires place { judged.place ≡ Place.Bank lock.now }
     requires pass { lock.now < length pass.old.shares }
-    ensures ended { HasFinished pass.old pass.new judged reply.new }
+    ensures ended { HasFinished front.old front.new pass.old pass.new judged reply.new }
     ensures banks { length pass.new.shares ≡ length pass.old.shares }
 {
     let mut guard = lock.lock(rt);
-    let bank = &mut *guard;
-    let _range = bank.range();
-    finish(pass, bank, judged, reply);
+    let kept = &mut *guard;
+    let _range = kept.range();
+    finish(pass, kept, front, judged, reply);
     MutexGuard::unlock(guard);
 }
 
 /// Ends a judged control write, under the publisher's lock. The condition is that place.
-fn load_locked<R: Wait, J: ProgramFamily, Q: Wait + Drop>(
+fn load_locked<R: Wait, J: NodeFamily, Q: Wait + Drop>(
     rt: &R,
     alloc: Global,
     node: &Node<J, Q>,
@@ -54,19 +54,21 @@ fn load_locked<R: Wait, J: ProgramFamily, Q: Wait + Drop>(
 
 /// Serves one packet of a port: judges it, and ends it at the bank of its place, at the port's staging, or as a load.
 /// `reply` holds the reply that is due then, if any. Whether the packet was no command. The lock of the bank is held
-/// round `finish` alone, the publisher's round `load` alone, and none round `judge`. Of what is behind a lock it is said
-/// that some bank, or some list of publishes, was what the command met. The condition is a pass with a share of each bank
-/// of the node.
-pub(crate) fn serve_packet<R: Wait, J: ProgramFamily, Q: Wait + Drop>(
+/// round `finish` alone, the publisher's round `load` alone, and none round `judge`. A command that leaves an entry at a bank
+/// is the last of the history that the port then knows; of any other it is said that some bank, or some list of publishes,
+/// was what it met. The condition is a pass with a share of each bank of the node.
+pub(crate) fn serve_packet<R: Wait, J: NodeFamily, Q: Wait + Drop>(
     rt: &R,
     alloc: Global,
     node: &Node<J, Q>,
     pass: &mut Pass<J>,
+    front: &mut Front<J>,
     packet: Packet,
     reply: &mut ReplyBuf,
 ) -> bool
     requires { length pass.old.shares ≡ node.now }
-    ensures dealt { HasDealt packet pass.old pass.new reply.new result }
+    ensures dealt { HasDealt packet (standing pass.old front.old) (standing pass.new front.new)
+        reply.new result }
     ensures banks { length pass.new.shares ≡ length pass.old.shares }
 {
     let _banks = pass.banks();
@@ -77,7 +79,7 @@ pub(crate) fn serve_packet<R: Wait, J: ProgramFamily, Q: Wait + Drop>(
         Step::Judged(judged) => judged,
     };
     match judged.place() {
-        Place::Bank(k) => finish_locked(rt, node.bank(k), pass, judged, reply),
+        Place::Bank(k) => finish_locked(rt, node.bank(k), pass, front, judged, reply),
         Place::Staging | Place::LoadResult => {
             stage(pass, judged, reply);
         }

@@ -2,18 +2,17 @@
 
 ghost use Rattle.std.specs.Prelude.{◌≡◌, ◌+◌, ◌≤◌, ◌++◌, ◌⊎◌, true, false, IfNone, IfOk, IfSome, None, Some, OnErr, length, map, vec_len, vec_capacity};
 ghost use Rattle.std.specs.PromisedHandle.{KeepsEach};
-ghost use Rattle.ports.specs.Serves.{AreServed, HasRoomFor, HaveComeBack, HaveServed, IsOneMissing, IsShort, IsSumOf, IsTotalOf};
+ghost use Rattle.ports.specs.Serves.{AreServed, HasRoomFor, HaveComeBack, HaveServed, IsOneMissing, IsShort, IsSumOf, IsTotalOf, ShareOneHistory};
 
 use crate::gate::Gate;
 use crate::port::Port;
 use crate::sink::Sink;
 use crate::starts::{Ended, start_each};
 use crate::worker::{Report, Worker};
-use publish::ProgramFamily;
 use std::alloc::Global;
 use std::sync::{Mutex, Wait};
 use std::thread::{Promise, PromisedHandle, Threads};
-use target::Node;
+use target::{Front, Node, NodeFamily};
 use thiserror::Error;
 
 /// Why ports were not served.
@@ -61,16 +60,19 @@ fn both(total: Option<Report>, report: Option<Report>) -> Option<Report>
     Some(total?.plus(report?))
 }
 
-/// The workers that came back, in order, in a list that has the room, and the sum of their reports where each served.
-fn gather<J: ProgramFamily, S: Sink + Drop>(
+/// The workers that came back, in order, in a list that has the room, and the sum of their reports where each served. What
+/// the workers know of the history begins one list.
+fn gather<J: NodeFamily, S: Sink + Drop>(
     ended: Vec<Ended<J, S>>,
     mut workers: Vec<Worker<J, S>>,
+    mut known: Front<J>,
 ) -> (Vec<Worker<J, S>>, Option<Report>)
     requires { HasRoomFor (vec_len ended) workers }
     ensures workers { result.0.items ≡ map (λ e. e.worker) ended.items }
     ensures total { IfSome result.1 (IsTotalOf (map (λ e. e.report) ended.items)) }
     ensures missing { IfNone result.1 (IsOneMissing (map (λ e. e.report) ended.items)) }
     ensures space { vec_capacity workers ≤ vec_capacity result.0 }
+    ensures history { ShareOneHistory (map (λ e. e.worker) ended.items) }
 {
     let mut total = Some(Report {
         discarded: 0,
@@ -78,6 +80,7 @@ fn gather<J: ProgramFamily, S: Sink + Drop>(
     });
     for one in ended {
         total = both(total, one.report);
+        known.learn(&one.worker.front);
         let Ok(()) = workers.push(one.worker) else {
             unreachable!()
         };
@@ -110,7 +113,8 @@ fn with_rest<T: Drop>(mut workers: Vec<T>, rest: Vec<T>) -> Vec<T>
 /// end mark. No worker takes a packet before all threads were started. It waits for the threads. The conditions are
 /// one worker a port, in order, with the port's serve pass, and passes that have as many banks as the node.
 ///
-/// What comes back are the workers, in order, and the sum of their reports.
+/// What comes back are the workers, in order, and the sum of their reports. Each command that left an entry at a bank stands
+/// in what its worker knows then of the history of the node's banks, and what the workers know begins one list.
 ///
 /// # Errors
 ///
@@ -120,7 +124,7 @@ fn with_rest<T: Drop>(mut workers: Vec<T>, rest: Vec<T>) -> Vec<T>
 /// went in, or there are none. That no packet was taken then is tested.
 pub fn serve<
     R: Threads + Wait + Sync,
-    J: ProgramFamily + Send + 'static,
+    J: NodeFamily + Send + Sync + 'static,
     Q: Wait + Drop + Send,
     S: Sink + Drop + Send + 'static,
     G: Gate + Sync,
@@ -161,7 +165,7 @@ pub fn serve<
         threads,
         rest,
     );
-    let (workers, total) = gather(join_each(rt, started.threads, ended), back);
+    let (workers, total) = gather(join_each(rt, started.threads, ended), back, node.front());
     match of_all(started.all, total) {
         Some(report) => (workers, Ok(report)),
         None => (with_rest(workers, started.rest), Err(ServeFault::Memory)),

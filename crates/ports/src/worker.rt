@@ -5,14 +5,15 @@ ghost use Rattle.ports.specs.Worked.{report_sum};
 
 use crate::port::ServePass;
 use crate::sink::Sink;
-use publish::ProgramFamily;
-use target::Pass;
+use target::{Front, NodeFamily, Pass};
 
-/// What serves a port: what the port has of its node, what takes from its queue, and where its replies go.
+/// What serves a port: what the port has of its node and knows of its history, what takes from its queue, and where its replies go.
 #[derive(Drop)]
-pub struct Worker<J: ProgramFamily, S: Sink + Drop> {
+pub struct Worker<J: NodeFamily, S: Sink + Drop> {
     /// What the port has of its node.
     pub pass: Pass<J>,
+    /// What the port knows of the history of the node's banks: at first that is [`Node::front`](target::Node::front).
+    pub front: Front<J>,
     /// What takes from the port's queue.
     pub serve_pass: ServePass,
     /// Where the port's replies go.

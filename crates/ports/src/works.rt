@@ -2,7 +2,7 @@
 
 ghost use Rattle.std.specs.Prelude.{◌≡◌, ◌∷◌, [], length};
 ghost use Rattle.ports.specs.Queue.{IsServePassOf, IsServePassAfter};
-ghost use Rattle.ports.specs.Due.{due_of};
+ghost use Rattle.ports.specs.Due.{due_of, standing};
 ghost use Rattle.ports.specs.Sinks.{sent_at};
 ghost use Rattle.ports.specs.Worked.{HasServed, HasTaken, IsWorked};
 
@@ -12,12 +12,11 @@ use crate::packet::serve_packet;
 use crate::port::Port;
 use crate::sink::Sink;
 use crate::worker::{Report, Worker};
-use publish::ProgramFamily;
 use rmap::ReplyBuf;
 use spw::Packet;
 use std::alloc::Global;
 use std::sync::Wait;
-use target::{Node, Pass};
+use target::{Front, Node, NodeFamily, Pass};
 
 /// Hands a reply to the sink, where there is one. How many replies were lost: 0 or 1.
 #[tactic(auto, using(crate::proofs::Sending::lost_one))]
@@ -36,22 +35,23 @@ fn send<S: Sink>(sink: &mut S, port: u8, reply: &[u8]) -> u64
 
 /// Serves one packet, and hands the reply that is due to the sink. The report of this packet alone. `reply` is where the
 /// reply is written. The condition is a pass with a share of each bank of the node.
-fn one_more<R: Wait, J: ProgramFamily, Q: Wait + Drop, S: Sink>(
+fn one_more<R: Wait, J: NodeFamily, Q: Wait + Drop, S: Sink>(
     rt: &R,
     alloc: Global,
     node: &Node<J, Q>,
     pass: &mut Pass<J>,
+    front: &mut Front<J>,
     sink: &mut S,
     packet: Packet,
     reply: &mut ReplyBuf,
 ) -> Report
     requires { length pass.old.shares ≡ node.now }
-    ensures served { HasServed S.sent S.failed pass.old pass.new sink.old sink.new
-        (packet ∷ []) result }
+    ensures served { HasServed S.sent S.failed (standing pass.old front.old)
+        (standing pass.new front.new) sink.old sink.new (packet ∷ []) result }
     ensures banks { length pass.new.shares ≡ length pass.old.shares }
 {
     let port = pass.port();
-    let discarded = u64::from(serve_packet(rt, alloc, node, pass, packet, reply));
+    let discarded = u64::from(serve_packet(rt, alloc, node, pass, front, packet, reply));
     let lost = send(sink, port, reply.bytes());
     Report { discarded, lost }
 }
@@ -62,9 +62,11 @@ fn one_more<R: Wait, J: ProgramFamily, Q: Wait + Drop, S: Sink>(
 /// gate or the sink, or while a program runs. The condition is a worker of that port, whose pass has a share of each
 /// bank of the node.
 ///
-/// What it ensures of a command at a bank is said of some memory and journal of it, and of a load of some list of
-/// publishes: a lock hides which. What the gate is told, and that no lock is held meanwhile, is tested.
-pub fn work<R: Wait, J: ProgramFamily, Q: Wait + Drop, S: Sink + Drop, G: Gate>(
+/// A command that left an entry at a bank stands in the one history of the node's banks, behind all that the port knew, and
+/// its status and reply are the definition's on the replay of what stands before it there. Of any other command at a bank,
+/// and of a load, it is said that some bank, or some list of publishes, was what it met: a lock hides which. What the gate
+/// is told, and that no lock is held meanwhile, is tested.
+pub fn work<R: Wait, J: NodeFamily, Q: Wait + Drop, S: Sink + Drop, G: Gate>(
     rt: &R,
     alloc: Global,
     node: &Node<J, Q>,
@@ -91,8 +93,13 @@ pub fn work<R: Wait, J: ProgramFamily, Q: Wait + Drop, S: Sink + Drop, G: Gate>(
         };
         let at = worker.pass.port();
         gate.before(at, number);
-        let Worker { pass, sink, .. } = worker;
-        let one = one_more(rt, alloc, node, pass, sink, packet, &mut reply);
+        let Worker {
+            pass,
+            front,
+            sink,
+            ..
+        } = worker;
+        let one = one_more(rt, alloc, node, pass, front, sink, packet, &mut reply);
         report = report.plus(one);
         gate.after(at, number);
         number = number.wrapping_add(1);

@@ -4,7 +4,8 @@
 
 use commands::{
     Cause, HostLink, HostTalk, Job, LiveWords, NodeWords, Status, ToldFiles, UsageFault, Work,
-    WriteFault, help, live, live_frames, perform, show_talk, told_misuse, told_option, words,
+    WriteFault, help, live, live_frames, perform, show_talk, told_fault, told_misuse, told_option,
+    words,
 };
 use std::alloc::Global;
 use std::io::{BufReader, BufWriter, IsTerminal, Write};
@@ -52,6 +53,7 @@ fn tell_cause<R: Eprint>(rt: &R, cause: &Cause) {
 /// Tells more of a job that ended with this status, behind what it printed.
 fn tell_more<R: Eprint + rt::Files + Input>(
     rt: &R,
+    alloc: Global,
     job: &Job,
     status: Status,
     files: &ToldFiles<'_, R>,
@@ -64,6 +66,10 @@ fn tell_more<R: Eprint + rt::Files + Input>(
         Status::Failed => {
             if let Some(cause) = files.cause() {
                 tell_cause(rt, cause);
+            } else if let Some(text) = files.text() {
+                if let Ok(told) = told_fault(alloc, job, text) {
+                    let _ = rt.eprint(&told);
+                }
             }
         }
     }
@@ -84,7 +90,7 @@ fn do_job<R: rt::Files + Input + Print + Eprint + Threads + Wait + Sync>(
     // What was held back fails again where it failed before, with the reason.
     match (done, out.flush()) {
         (Ok(status), Ok(())) => {
-            tell_more(rt, job, status, &files);
+            tell_more(rt, alloc, job, status, &files);
             status.code()
         }
         (_, flushed) => lose_output(rt, flushed),

@@ -1,5 +1,5 @@
 -- The whole way of a packet at a node of one thread.
-use Rattle.std.specs.Prelude.{◌≡◌, ◌≢◌, ◌⊎◌, ℕ, List, Some, slice_get, slice_set}
+use Rattle.std.specs.Prelude.{◌≡◌, ◌≢◌, ◌⊎◌, ℕ, ◌++◌, List, length, drop, Some, slice_get, slice_set}
 use Rattle.spw.specs.Cargo.{Cargo}
 use Rattle.machine.specs.Sizes.{Maps}
 use Rattle.rmap.specs.Command.{command_kind, command_of}
@@ -87,3 +87,15 @@ pub record ServesTold (told : Told) (port : ℕ) (packet : Cargo) (before after 
   pub serves : Serves told.served port packet before after reply
   pub tells : IsTold told.generation told.verdict told.served packet (parts before.banks before.programs)
       (parts after.banks after.programs) serves.holder serves.left reply serves.answered
+
+-- bytes at the front of a room, and behind them what was there
+abbrev pub put_front : (room bytes : List ℕ) → List ℕ
+put_front room bytes = bytes ++ drop (length bytes) room
+
+-- the same as `ServesTold`, with the reply, of so many bytes, at the front of the room, and the rest of it as before
+pub record ServesInto (told : Told) (size port : ℕ) (packet : Cargo) (before after : SingleNodeValue) (room left : List ℕ)
+    : Type 0 where
+  pub reply : List ℕ
+  pub serves : ServesTold told port packet before after reply
+  pub left_is : left ≡ put_front room reply
+  pub size_is : size ≡ length reply

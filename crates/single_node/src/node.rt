@@ -8,11 +8,13 @@ ghost use Rattle.node_programs.specs.Published.{generation_at, sizes_of};
 ghost use Rattle.node_parts.specs.Nodes.{AreSharesOf, IsNodeFault, first_passes, first_programs, limit_fault};
 ghost use Rattle.plain_cells.specs.Words.{word_in};
 ghost use Rattle.single_node.specs.Nodes.{IsFresh, IsSingleNode, Rotates, SetsMemory, covers_in, staging_in};
-ghost use Rattle.single_node.specs.Serving.{Serves, ServesTold};
+ghost use Rattle.rmap.specs.declared.reply.TheConstants.{MAX_REPLY};
+ghost use Rattle.single_node.specs.Serving.{Serves, ServesInto, ServesTold};
 
 use crate::context::PortContext;
 use crate::port::SinglePort;
 use crate::programs::SlotPrograms;
+use crate::rooms::put_front;
 use crate::served::{Told, serve_at};
 use bank::{Bank, Journal};
 use bver::Accepted;
@@ -27,14 +29,16 @@ use spw::{PORTS, Packet};
 use std::alloc::{AllocError, Global};
 use std::marker::Model;
 
-/// A node of one thread: banks, the cells of its maps, the program of each slot, and what each of its ports has. Contracts
-/// see the banks, the word of each cell, the list of what was published, and each port's pass.
+/// A node of one thread: banks, the cells of its maps, the program of each slot, what each of its ports has, and room for a
+/// reply. Contracts see the banks, the word of each cell, the list of what was published, and each port's pass.
 #[derive(Drop)]
 pub struct SingleNode {
     banks: Banks,
     cells: PlainCells,
     programs: SlotPrograms,
     ports: Vec<SinglePort>,
+    /// The last reply of [`SingleNode::serve_into`]: room that is made once.
+    reply: ReplyBuf,
 }
 
 impl Model for SingleNode {
@@ -102,6 +106,7 @@ impl SingleNode {
             cells,
             programs,
             ports,
+            reply: ReplyBuf::new(),
         })
     }
 
@@ -138,6 +143,37 @@ impl SingleNode {
         let programs = &mut self.programs;
         let port = &mut self.ports[place];
         serve_at(alloc, banks, cells, programs, port, packet, reply)
+    }
+
+    /// Serves one packet as [`SingleNode::serve_told`] does, and puts its reply at the front of the room, where the rest stays.
+    /// The second of the two is how many bytes the reply has. Conditions: a port of the node, and room for any reply
+    /// ([`MAX_REPLY`]).
+    ///
+    /// [`MAX_REPLY`]: rmap::MAX_REPLY
+    pub fn serve_into(
+        &mut self,
+        alloc: Global,
+        port: u8,
+        packet: Packet,
+        room: &mut [u8],
+    ) -> (Told, usize)
+        requires port { port < length self.old.passes }
+        requires room { MAX_REPLY ≤ length room.old }
+        ensures serves { ServesInto result.0 result.1 port packet self.old self.new room.old room.new }
+        ensures few { result.1 ≤ MAX_REPLY }
+        ensures node { IsSingleNode self.new }
+    {
+        packets_keep_pairs();
+        let place = usize::from(port);
+        let banks = &mut self.banks;
+        let cells = &mut self.cells;
+        let programs = &mut self.programs;
+        let port = &mut self.ports[place];
+        let reply = &mut self.reply;
+        let told = serve_at(alloc, banks, cells, programs, port, packet, reply);
+        let bytes = reply.bytes();
+        put_front(room, bytes);
+        (told, bytes.len())
     }
 
     /// How many ports there are: 1 to 32.

@@ -4,7 +4,7 @@ use Rattle.bank.specs.Limits.{is_room}
 use Rattle.bank.specs.Records.{BankValue, EntryValue, JournalValue}
 use Rattle.single_node.specs.Nodes.{SingleNodeValue, Rotates}
 use Rattle.single_node_c.specs.Numbers.{entry_numbers}
-use Rattle.single_node_c.specs.Serving.{put_front}
+use Rattle.single_node.specs.Serving.{put_front}
 use Rattle.single_node_c.specs.declared.codes.TheConstants.{OK, BAD_CONFIG, NO_BANK, NO_ENTRY, NO_ROOM}
 use Rattle.single_node_c.specs.declared.numbers.EntryNumbers.{EntryNumbers}
 use Rattle.single_node_c.specs.declared.numbers.JournalNumbers.{JournalNumbers}

@@ -5,3 +5,4 @@ pub mod Serving
 pub mod Journals
 pub mod Memory
 pub mod Opening
+pub mod Words

@@ -1,9 +1,9 @@
 -- What a call that serves a packet does.
-use Rattle.std.specs.Prelude.{◌≡◌, ℕ, ◌++◌, List, length, drop, nat_le, nat_lt, Option, Some, None, if◌then◌else◌, is_none, slice_get}
+use Rattle.std.specs.Prelude.{◌≡◌, ℕ, List, length, nat_le, nat_lt, Option, Some, None, if◌then◌else◌, is_none, slice_get}
 use Rattle.bank.specs.Records.{BankValue, room_left}
 use Rattle.rmap.specs.declared.reply.TheConstants.{MAX_REPLY}
 use Rattle.single_node.specs.Nodes.{SingleNodeValue}
-use Rattle.single_node.specs.Serving.{ServesTold}
+use Rattle.single_node.specs.Serving.{ServesTold, put_front}
 use Rattle.single_node.specs.declared.served.Told.{Told}
 use Rattle.single_node_c.specs.Numbers.{end_of, served_numbers}
 use Rattle.single_node_c.specs.Parts.{served_parts}
@@ -13,10 +13,6 @@ use Rattle.spw.specs.Cargo.{Cargo}
 use Rattle.spw.specs.declared.packets.TheConstants.{MAX_PACKET}
 use Rattle.node_parts.specs.declared.served.Served.{Served}
 use Rattle.node_parts.specs.declared.served.Served.TheVariants.{Stopped, Unread, Done, Window}
-
--- bytes at the front of a room, and behind them what was there
-abbrev pub put_front : (room bytes : List ℕ) → List ℕ
-put_front room bytes = bytes ++ drop (length bytes) room
 
 -- the first test that fails of a packet of so many bytes with that end, and of the room for its reply
 abbrev pub serve_test : (port size end room : ℕ) → SingleNodeValue → Option ℕ

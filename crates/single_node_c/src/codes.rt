@@ -41,3 +41,6 @@ pub const NO_ENTRY: u32 = 12;
 
 /// The node is open.
 pub const IS_OPEN: u32 = 13;
+
+/// The node has no such map or cell.
+pub const NO_CELL: u32 = 14;

@@ -4,16 +4,15 @@ ghost use Rattle.std.specs.Prelude.{◌≡◌, ◌≢◌, ◌<◌, Err, IfErr, I
 ghost use Rattle.single_node_c.specs.Held.{Becomes, IsCode, code_on, test_on};
 ghost use Rattle.single_node_c.specs.Journals.{RotatesTo, TellsEntry, TellsJournal, bank_code, entry_at, entry_code, room_code, rotate_test};
 ghost use Rattle.single_node_c.specs.Numbers.{entry_numbers};
-ghost use Rattle.single_node_c.specs.Serving.{put_front};
+ghost use Rattle.single_node.specs.Serving.{put_front};
 ghost use Rattle.single_node_c.specs.declared.codes.TheConstants.{OK};
 
 use crate::codes::{BAD_CONFIG, NO_BANK, NO_ENTRY, NO_MEMORY, NO_NODE, NO_ROOM, OK};
 use crate::handle::Handle;
 use crate::held::{put, take};
-use crate::lists::put_front;
 use crate::numbers::{EntryNumbers, JournalNumbers};
 use bank::{BankFault, Entry, Journal};
-use single_node::SingleNode;
+use single_node::{SingleNode, put_front};
 use std::alloc::Global;
 
 /// How the journal of a bank stands.

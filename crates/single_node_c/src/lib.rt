@@ -16,3 +16,4 @@ mod parts;
 mod serving;
 mod unfit;
 mod version;
+mod words;

@@ -1,6 +1,6 @@
-//! Lists of numbers that come from C, as the node has them; and bytes that go to C.
+//! Lists of numbers that come from C, as the node has them.
 
-ghost use Rattle.std.specs.Prelude.{◌≡◌, ◌≤◌, ◌↔◌, ◌++◌, All, IsTrue, drop, length, map, take};
+ghost use Rattle.std.specs.Prelude.{◌≡◌, ◌≤◌, ◌↔◌, All, IsTrue, length, map, take};
 ghost use Rattle.single_node_c.specs.Numbers.{bank_of, kind_of_map, map_of};
 
 use crate::numbers::{BankNumbers, MapNumbers};
@@ -55,12 +55,4 @@ pub fn have_kinds(numbers: &[MapNumbers]) -> bool
     ensures { IsTrue result ↔ All (λ m. m.peak ≤ 1) numbers.now }
 {
     numbers.iter().all(|map| map.peak <= 1)
-}
-
-/// Puts bytes at the front of a room, and leaves what is behind them.
-pub fn put_front(room: &mut [u8], bytes: &[u8])
-    requires { length bytes.now ≤ length room.old }
-    ensures { room.new ≡ bytes.now ++ drop (length bytes.now) room.old }
-{
-    room[..bytes.len()].copy_from_slice(bytes);
 }

@@ -11,11 +11,10 @@ ghost use Rattle.spw.specs.declared.packets.TheConstants.{MAX_PACKET};
 use crate::codes::{BAD_END, NO_MEMORY, NO_NODE, NO_PORT, NO_ROOM, OK, TOO_LONG};
 use crate::handle::Handle;
 use crate::held::{put, take};
-use crate::lists::put_front;
 use crate::numbers::{ServedNumbers, end_of};
 use crate::parts::ServedParts;
 use node_parts::Served;
-use rmap::{MAX_REPLY, ReplyBuf};
+use rmap::MAX_REPLY;
 use single_node::SingleNode;
 use spw::{End, MAX_PACKET, Packet};
 use std::alloc::{AllocError, Global};
@@ -67,12 +66,9 @@ fn serve_packet(
     ensures { ServesPacket port packet node.old node.new room.old room.new result }
 {
     let parts = ServedParts::of(&packet);
-    let mut reply = ReplyBuf::new();
-    let told = node.serve_told(alloc, port, packet, &mut reply);
+    let (told, size) = node.serve_into(alloc, port, packet, room);
     let left = room_behind(node, told.served, parts.extended);
-    let bytes = reply.bytes();
-    put_front(room, bytes);
-    ServedNumbers::of(told, parts, left, bytes.len() as u32)
+    ServedNumbers::of(told, parts, left, size as u32)
 }
 
 /// Serves the bytes of a packet, where the node may: a code.

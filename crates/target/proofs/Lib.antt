@@ -2,3 +2,5 @@ pub mod Askings
 pub mod Keeping
 pub mod Loadings
 pub mod Judgements
+pub mod Fresh
+pub mod Finishing

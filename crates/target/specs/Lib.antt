@@ -1,3 +1,4 @@
 pub mod Passes
 pub mod Steps
 pub mod Nodes
+pub mod Finished

@@ -1,4 +1,4 @@
-//! The second half of a packet's way: its effect.
+//! The second half of a packet's way: its effect at a plain bank.
 
 ghost use Rattle.std.specs.Prelude.{◌≡◌, length, true};
 ghost use Rattle.bank.specs.Records.{fits, is_next};
@@ -35,11 +35,11 @@ fn end<J: ProgramFamily>(
     bank.apply(&mut pass.shares[k], judged, reply)
 }
 
-/// Applies a judged command to the bank of its place, with the port's share of it, and leaves the
+/// Applies a judged command to the plain bank of its place, with the port's share of it, and leaves the
 /// reply. Where [`Bank::fits`] says no, it is a general error, and nothing changes: that does not
 /// happen where bank and pass were made together ([`paired_commands_fit`](node_parts::paired_commands_fit)). The condition
 /// is the place of a bank of which the port has a share ([`Pass::banks`]).
-pub fn finish<J: ProgramFamily>(
+pub(crate) fn finish<J: ProgramFamily>(
     pass: &mut Pass<J>,
     bank: &mut Bank,
     judged: Judged,

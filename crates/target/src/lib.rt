@@ -10,6 +10,8 @@
 #![tactic(auto)]
 
 mod applied;
+mod family;
+mod finished;
 mod loads;
 mod lock;
 mod node;
@@ -19,7 +21,9 @@ mod served;
 mod staged;
 mod step;
 
-pub use applied::finish;
+pub use annals::{Front, Kept, share_one_history};
+pub use family::{NodeFamily, Opened};
+pub use finished::finish;
 pub use loads::load;
 pub use lock::BankLock;
 pub use node::Node;

@@ -2,20 +2,20 @@
 
 ghost use Rattle.std.specs.Prelude.{◌≡◌};
 
-use bank::Bank;
+use annals::{Family, Kept};
 use std::marker::Model;
 use std::ops::Deref;
 use std::sync::Mutex;
 
 /// The lock of a bank, with the bank's number beside it: all that can be told of a lock that another
-/// thread may hold. What is known of the bank behind it is what is known of every bank.
-#[derive(Debug, Drop)]
-pub struct BankLock {
+/// thread may hold. What is known of the bank behind it is what is known of every bank with its chain.
+#[derive(Drop)]
+pub struct BankLock<J: Family> {
     number: u8,
-    bank: Mutex<Bank>,
+    bank: Mutex<Kept<J>>,
 }
 
-impl Model for BankLock {
+impl<J: Family> Model for BankLock<J> {
     ghost use Rattle.std.specs.Prelude.{ℕ};
 
     ghost Value = { ℕ };
@@ -23,9 +23,9 @@ impl Model for BankLock {
     ghost view = { λ l. l.number };
 }
 
-impl BankLock {
+impl<J: Family> BankLock<J> {
     /// The bank of that number, behind a lock that is free.
-    pub(crate) fn new(number: u8, bank: Bank) -> BankLock
+    pub(crate) fn new(number: u8, bank: Kept<J>) -> BankLock<J>
         ensures { result ≡ number }
     {
         BankLock {
@@ -42,10 +42,10 @@ impl BankLock {
     }
 }
 
-impl Deref for BankLock {
-    type Target = Mutex<Bank>;
+impl<J: Family> Deref for BankLock<J> {
+    type Target = Mutex<Kept<J>>;
 
-    fn deref(&self) -> &Mutex<Bank> {
+    fn deref(&self) -> &Mutex<Kept<J>> {
         &self.bank
     }
 }

@@ -2,32 +2,38 @@
 
 ghost use Rattle.std.specs.Prelude.{◌≡◌, ◌<◌, ◌≤◌, ◌-◌, [], length, IfOk, IfErr, None};
 ghost use base.Stored.{Gv};
+ghost use Rattle.std.specs.List.{All};
+ghost use Rattle.annals.specs.Banks.{IsFresh};
 ghost use Rattle.cells.specs.Seats.{cells};
 ghost use Rattle.node_parts.specs.Nodes.{IsNodeFault, first_passes, limit_fault};
-ghost use Rattle.target.specs.Nodes.{AreNumbered};
+ghost use Rattle.target.specs.Nodes.{AreNumbered, AreOpened};
 
+use crate::family::{NodeFamily, Opened};
 use crate::lock::BankLock;
 use crate::parts::banks_and_passes;
 use crate::pass::Pass;
+use annals::{Front, Kept};
 use bver::Accepted;
 use cells::Cells;
 use node_parts::{Banks, NodeConfig, NodeFault};
-use publish::{Opened, ProgramFamily, Publisher};
+use publish::Publisher;
 use rmap::MAX_BANKS;
 use std::alloc::{AllocError, Global};
 use std::marker::Model;
 use std::sync::{Mutex, Wait};
 
-/// A node, as threads share it: its banks and what publishes its programs, each behind its lock. What belongs to
-/// one port is in the port's [`Pass`]. The value of a node is how many banks it has. Its end waits for readers.
+/// A node, as threads share it: its banks, each with its chain of one history, and what publishes its programs, each behind
+/// its lock. What belongs to one port is in the port's [`Pass`], and what it knows of the history is its [`Front`]. The
+/// value of a node is how many banks it has. Its end waits for readers.
 #[derive(Drop)]
-pub struct Node<J: ProgramFamily, R: Wait + Drop> {
-    banks: Vec<BankLock>,
+pub struct Node<J: NodeFamily, R: Wait + Drop> {
+    banks: Vec<BankLock<J>>,
     publisher: Mutex<Publisher<J, R>>,
+    front: Front<J>,
 }
 
-impl<J: ProgramFamily, R: Wait + Drop> Model for Node<J, R> {
-    ghost use Rattle.std.specs.Prelude.{ℕ, length};
+impl<J: NodeFamily, R: Wait + Drop> Model for Node<J, R> {
+    ghost use Rattle.std.specs.Prelude.{◌≡◌, ℕ, [], length};
     ghost use base.Stored.{Gv};
     ghost use Rattle.target.specs.Nodes.{AreNumbered};
 
@@ -35,25 +41,36 @@ impl<J: ProgramFamily, R: Wait + Drop> Model for Node<J, R> {
 
     ghost view = { λ n. length n.banks.items };
 
-    ghost invariant = { λ n. AreNumbered n.banks.items };
+    ghost invariant = { λ n. AreNumbered n.banks.items × (n.front ≡ []) };
 }
 
-/// The banks behind their locks, in order, with their numbers.
-fn locks(alloc: Global, banks: Banks) -> Result<Vec<BankLock>, AllocError>
-    requires { length banks ≤ MAX_BANKS }
+/// The banks behind their locks, in order, with their numbers, each with the chain of its number in the history. It ends
+/// with `AllocError` also where a chain has begun before (no test met that).
+fn locks<J: NodeFamily>(
+    alloc: Global,
+    banks: Banks,
+    history: &mut annals::Opened,
+) -> Result<Vec<BankLock<J>>, AllocError>
+    requires family { history.old.0 ≡ J.Family.book }
+    requires chains { history.old.1 ≡ 9 }
+    requires few { length banks ≤ MAX_BANKS }
+    requires fresh { All IsFresh banks }
     ensures count { IfOk result (λ locks. length locks.items ≡ length banks) }
     ensures numbers { IfOk result (λ locks. AreNumbered locks.items) }
 {
     let mut locks = Vec::with_capacity(alloc, banks.len())?;
     let mut number = 0;
     for bank in banks.into_banks() {
-        locks.push(BankLock::new(number, bank))?;
+        let Some(kept) = Kept::new(number, bank, history) else {
+            return Err(AllocError);
+        };
+        locks.push(BankLock::new(number, kept))?;
         number += 1;
     }
     Ok(locks)
 }
 
-impl<J: ProgramFamily, R: Wait + Drop> Node<J, R> {
+impl<J: NodeFamily, R: Wait + Drop> Node<J, R> {
     /// A node with locks round banks of zero bytes and round what publishes its programs, and a pass for each
     /// port, in order: the parts that [`banks_and_passes`] makes. `Ports` and then `Banks` where a number is
     /// outside its limits; `Memory` where memory was refused: a publisher that was made already ends then, which
@@ -65,7 +82,7 @@ impl<J: ProgramFamily, R: Wait + Drop> Node<J, R> {
         config: &NodeConfig,
         factory: Accepted,
     ) -> Result<(Node<J, R>, Vec<Pass<J>>), NodeFault>
-        requires family { opened ≡ J.book }
+        requires family { AreOpened J.ProgramFamily.book J.Family.book opened }
         requires sizes { factory.sizes ≡ config.now.sizes }
         ensures banks { IfOk result (λ made. made.0 ≡ length config.now.banks.now) }
         ensures passes { IfOk result
@@ -87,7 +104,7 @@ impl<J: ProgramFamily, R: Wait + Drop> Node<J, R> {
         config: &NodeConfig,
         factory: Accepted,
     ) -> Result<(Node<J, R>, Cells, Vec<Pass<J>>), NodeFault>
-        requires family { opened ≡ J.book }
+        requires family { AreOpened J.ProgramFamily.book J.Family.book opened }
         requires sizes { factory.sizes ≡ config.now.sizes }
         ensures banks { IfOk result (λ made. made.0 ≡ length config.now.banks.now) }
         ensures cells { IfOk result
@@ -97,12 +114,19 @@ impl<J: ProgramFamily, R: Wait + Drop> Node<J, R> {
         ensures limits { IfOk result (λ _. limit_fault config.now ≡ None) }
         ensures fault { IfErr result (IsNodeFault (limit_fault config.now)) }
     {
+        let (programs, mut history) = opened.into_parts();
+        let front = history.front();
         let (banks, cells, publisher, passes) = banks_and_passes(
-            alloc, rt, opened, config, factory,
+            alloc, rt, programs, config, factory,
         )?;
-        let banks = locks(alloc, banks)?;
+        let banks = locks(alloc, banks, &mut history)?;
         let publisher = Mutex::new(publisher);
-        Ok((Node { banks, publisher }, cells, passes))
+        let node = Node {
+            banks,
+            publisher,
+            front,
+        };
+        Ok((node, cells, passes))
     }
 
     /// How many banks the node has.
@@ -113,11 +137,18 @@ impl<J: ProgramFamily, R: Wait + Drop> Node<J, R> {
     }
 
     /// The bank of that number, behind its lock. The condition is a number below [`Node::banks`].
-    pub fn bank(&self, k: u8) -> &BankLock
+    pub fn bank(&self, k: u8) -> &BankLock<J>
         requires { k < self.now }
         ensures { result.now ≡ k }
     {
         &self.banks[usize::from(k)]
+    }
+
+    /// What a port knows at first of the history of the node's banks: nothing.
+    pub fn front(&self) -> Front<J>
+        ensures { result ≡ [] }
+    {
+        self.front.again()
     }
 
     /// What publishes the programs of the node, behind its lock.

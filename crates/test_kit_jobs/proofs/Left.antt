@@ -29,15 +29,18 @@ use Rattle.commands.specs.declared.jobs.Job.TheVariants.{
   Simulate,
   Explain,
   Why,
+  Weigh,
   Packet,
   Show,
   Decide,
   Trace,
   Compare,
   Map,
+  Rehearse,
 }
 use Rattle.test_kit_jobs.proofs.ChartsLeft.{compares_file, maps_file, uncompared, unmapped}
 use Rattle.test_kit_jobs.proofs.DecidesLeft.{decides_file, undecided}
+use Rattle.test_kit_jobs.proofs.RehearsesLeft.{rehearses_file, unrehearsed}
 use Rattle.test_kit_jobs.proofs.PacketsLeft.{made_file, unmade, unshown}
 use Rattle.test_kit_jobs.specs.Folders.{FolderReads, FolderValue, FolderWrites, Sets}
 use Rattle.test_kit_jobs.specs.Jobs.{AssemblesIn, CompilesIn, Leaves}
@@ -115,7 +118,8 @@ unassembled : (before : FolderValue) (text image : List ℕ) (after : FolderValu
 unassembled before text image after fault (inl (inl is)) = no_text before text after fault is
 unassembled before text image after fault (inl (inr (bad, is, holds))) = holds.read.0
 unassembled before text image after fault (inr (inl unwritten)) = unwritten.assembled.written ∙ unwritten.assembled.read.read.0
-unassembled before text image after fault (inr (inr (is, p, holds))) = holds.read.0
+unassembled before text image after fault (inr (inr (inl (is, p, holds)))) = holds.read.0
+unassembled before text image after fault (inr (inr (inr one))) = one.1
 
 untabled : (before : FolderValue) (table : List ℕ) (after : FolderValue) (fault : Fault) → IsNoTable FolderReads before table after fault → after ≡ before
 untabled before table after fault (inl is) = no_text before table after fault is
@@ -126,7 +130,8 @@ uncompiled : (before : FolderValue) (table image : List ℕ) (sizes : Maps) (aft
 uncompiled before table image sizes after fault (inl (inl is)) = untabled before table after fault is
 uncompiled before table image sizes after fault (inl (inr (bad, is, holds))) = holds.table.read.0
 uncompiled before table image sizes after fault (inr (inl unwritten)) = unwritten.compiled.written ∙ unwritten.compiled.read.table.read.0
-uncompiled before table image sizes after fault (inr (inr (is, p, holds))) = holds.table.read.0
+uncompiled before table image sizes after fault (inr (inr (inl (is, p, holds)))) = holds.table.read.0
+uncompiled before table image sizes after fault (inr (inr (inr one))) = one.1
 
 -- an image that was written
 assembled : (before : FolderValue) (text image : List ℕ) (after : FolderValue) (old new : Option (List ℕ))
@@ -172,12 +177,14 @@ done_leaves (Serve args) before after old new status done = given_all args befor
 done_leaves (Simulate args) before after old new status done = given_all args before done.1.text done.1.program after done.1.given
 done_leaves (Explain words) before after old new status done = done.0
 done_leaves (Why args) before after old new status done = done.read.0
+done_leaves (Weigh words) before after old new status done = done.1.image.read.0
 done_leaves (Packet words) before after old new status done = made_file words before after old new status done
 done_leaves (Show words) before after old new status done = done.1.read.0
 done_leaves (Decide words) before after old new status done = decides_file words before after old new status done
 done_leaves (Trace args) before after old new status done = given_all args before done.1.text done.1.program after done.1.given
 done_leaves (Compare words) before after old new status done = compares_file words before after old new status done
 done_leaves (Map words) before after old new status done = maps_file words before after old new status done
+done_leaves (Rehearse words) before after old new status done = rehearses_file words before after old new status done
 
 -- a job that a fault ended
 ended_leaves : (job : Job) (before after : FolderValue) (old new : Option (List ℕ)) (fault : Fault)
@@ -191,12 +198,14 @@ ended_leaves (Serve args) before after old new fault ended = unserved args befor
 ended_leaves (Simulate args) before after old new fault ended = unsimulated args before after old new fault ended
 ended_leaves (Explain words) before after old new fault ended = ended.1
 ended_leaves (Why args) before after old new fault ended = ended.0.unread
+ended_leaves (Weigh words) before after old new fault ended = unfit before _ words.sizes after fault ended.0
 ended_leaves (Packet words) before after old new fault ended = unmade words before after fault ended.0
 ended_leaves (Show words) before after old new fault ended = unshown before _ after old new fault ended
 ended_leaves (Decide words) before after old new fault ended = undecided words before after old new fault ended
 ended_leaves (Trace args) before after old new fault ended = untraced args before after old new fault ended
 ended_leaves (Compare words) before after old new fault ended = uncompared words before after fault ended.0
 ended_leaves (Map words) before after old new fault ended = unmapped words before after fault ended.0
+ended_leaves (Rehearse words) before after old new fault ended = unrehearsed words before after old new fault ended
 
 -- what a job that ended with this status leaves
 pub performed_leaves : (job : Job) (before after : FolderValue) (old new : Option (List ℕ)) (status : Status)

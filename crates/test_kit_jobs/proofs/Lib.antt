@@ -3,3 +3,4 @@ mod Left
 mod NewestSheet
 mod DecidesLeft
 mod PacketsLeft
+mod RehearsesLeft

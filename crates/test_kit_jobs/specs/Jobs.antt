@@ -13,12 +13,14 @@ use Rattle.commands.specs.declared.jobs.Job.TheVariants.{
   Simulate,
   Explain,
   Why,
+  Weigh,
   Packet,
   Show,
   Decide,
   Trace,
   Compare,
   Map,
+  Rehearse,
 }
 use Rattle.machine.specs.Sizes.{Maps}
 use Rattle.policy.specs.Compiled.{IsCompiled}
@@ -60,9 +62,11 @@ Leaves (Simulate words) before after status = after ≡ before
 Leaves (Serve words) before after status = after ≡ before
 Leaves (Explain words) before after status = after ≡ before
 Leaves (Why words) before after status = after ≡ before
+Leaves (Weigh words) before after status = after ≡ before
 Leaves (Packet words) before after status = after ≡ before
 Leaves (Show words) before after status = after ≡ before
 Leaves (Decide words) before after status = after ≡ before
 Leaves (Trace args) before after status = after ≡ before
 Leaves (Compare words) before after status = after ≡ before
 Leaves (Map words) before after status = after ≡ before
+Leaves (Rehearse words) before after status = after ≡ before

@@ -6,11 +6,10 @@ ghost use Rattle.ports.specs.Serves.{AreServed, IsWorkerOf};
 ghost use Rattle.test_kit_ports.specs.Desks.{ArePutPasses};
 
 use ports::{MAX_CAPACITY, Port, PutPass, Replies, ServePass, Sink, Worker};
-use publish::ProgramFamily;
 use std::alloc::Global;
 use std::sync::Wait;
 use std::test::Fail;
-use target::{Node, Pass};
+use target::{Node, NodeFamily, Pass};
 use test_kit::packet;
 
 /// A port of that capacity with the packets of those lines and then the end mark, what puts into it, and what takes
@@ -40,7 +39,7 @@ pub fn filled(
 }
 
 /// A worker of that pass and that sink, which serves a port of the node.
-pub fn worker<J: ProgramFamily, R: Wait + Drop, S: Sink + Drop>(
+pub fn worker<J: NodeFamily, R: Wait + Drop, S: Sink + Drop>(
     node: &Node<J, R>,
     port: &Port,
     pass: Pass<J>,
@@ -55,6 +54,7 @@ pub fn worker<J: ProgramFamily, R: Wait + Drop, S: Sink + Drop>(
     }
     Ok(Worker {
         pass,
+        front: node.front(),
         serve_pass,
         sink,
     })
@@ -64,7 +64,7 @@ pub fn worker<J: ProgramFamily, R: Wait + Drop, S: Sink + Drop>(
 pub type Desks<J> = (Vec<Port>, Vec<PutPass>, Vec<Worker<J, Replies>>);
 
 /// A port of that capacity for each pass, with the packets of the lines at the pass's place.
-pub fn filled_desks<J: ProgramFamily, R: Wait + Drop>(
+pub fn filled_desks<J: NodeFamily, R: Wait + Drop>(
     rt: &impl Wait,
     alloc: Global,
     node: &Node<J, R>,

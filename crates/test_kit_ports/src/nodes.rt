@@ -1,14 +1,13 @@
 //! Nodes behind their locks, and programs to judge there.
 
-ghost use Rattle.std.specs.Prelude.{◌≡◌};
+ghost use Rattle.target.specs.Nodes.{AreOpened};
 
 use bver::{Accepted, verify};
 use node_parts::{BankConfig, NodeConfig};
-use publish::{Opened, ProgramFamily};
 use std::alloc::Global;
 use std::sync::Wait;
 use std::test::Fail;
-use target::{Node, Pass};
+use target::{Node, NodeFamily, Opened, Pass};
 use test_kit::{image_of_text, sizes};
 
 /// The program of a text, with that budget, for maps of those sizes.
@@ -18,7 +17,7 @@ pub fn accepted(alloc: Global, text: &str, budget: u32, maps: &str) -> Result<Ac
 }
 
 /// A node of logical address 0xFE with those banks, and the passes of its ports. That program judges at first.
-pub fn shared_node<J: ProgramFamily, R: Wait + Drop>(
+pub fn shared_node<J: NodeFamily, R: Wait + Drop>(
     rt: R,
     alloc: Global,
     opened: Opened,
@@ -26,7 +25,7 @@ pub fn shared_node<J: ProgramFamily, R: Wait + Drop>(
     banks: &[BankConfig],
     factory: Accepted,
 ) -> Result<(Node<J, R>, Vec<Pass<J>>), Fail>
-    requires { opened ≡ J.book }
+    requires { AreOpened J.ProgramFamily.book J.Family.book opened }
 {
     let config = NodeConfig {
         address: 0xFE,

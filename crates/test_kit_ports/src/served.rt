@@ -1,22 +1,21 @@
 //! Ports that were served until their end marks.
 
-ghost use Rattle.std.specs.Prelude.{◌≡◌};
+ghost use Rattle.target.specs.Nodes.{AreOpened};
 
 use crate::filling::{filled, filled_desks, worker};
 use crate::nodes::shared_node;
 use bver::Accepted;
 use node_parts::BankConfig;
 use ports::{Gate, Replies, Report, ServeFault, Sink, Worker, serve, work};
-use publish::{Opened, ProgramFamily};
 use std::alloc::Global;
 use std::sync::Wait;
 use std::test::Fail;
 use std::thread::Threads;
-use target::{BankLock, Node, Pass};
+use target::{BankLock, Node, NodeFamily, Opened, Pass};
 use test_kit::program;
 
 /// The bank of that number, behind its lock.
-fn bank_of<J: ProgramFamily, R: Wait + Drop>(node: &Node<J, R>, k: u8) -> Result<&BankLock, Fail> {
+fn bank_of<J: NodeFamily, R: Wait + Drop>(node: &Node<J, R>, k: u8) -> Result<&BankLock<J>, Fail> {
     if usize::from(k) >= node.banks() {
         return Err("no bank".into());
     }
@@ -25,7 +24,7 @@ fn bank_of<J: ProgramFamily, R: Wait + Drop>(node: &Node<J, R>, k: u8) -> Result
 
 /// What one worker left that served the only port of a node.
 #[derive(Drop)]
-pub struct ServedPort<J: ProgramFamily, R: Wait + Drop, S: Sink + Drop> {
+pub struct ServedPort<J: NodeFamily, R: Wait + Drop, S: Sink + Drop> {
     node: Node<J, R>,
     /// Where the replies went.
     pub sink: S,
@@ -33,16 +32,16 @@ pub struct ServedPort<J: ProgramFamily, R: Wait + Drop, S: Sink + Drop> {
     pub report: Report,
 }
 
-impl<J: ProgramFamily, R: Wait + Drop, S: Sink + Drop> ServedPort<J, R, S> {
+impl<J: NodeFamily, R: Wait + Drop, S: Sink + Drop> ServedPort<J, R, S> {
     /// The bank of that number, behind its lock.
-    pub fn bank(&self, k: u8) -> Result<&BankLock, Fail> {
+    pub fn bank(&self, k: u8) -> Result<&BankLock<J>, Fail> {
         bank_of(&self.node, k)
     }
 }
 
 /// Serves a port of the node by its pass: the queue has room for the packets of those lines and the end mark, which are
 /// in it. Then the worker's pass goes back into the producer's. What is left are the sink and what the worker says.
-pub fn served_at<J: ProgramFamily, Q: Wait + Drop, R: Wait, S: Sink + Drop, G: Gate>(
+pub fn served_at<J: NodeFamily, Q: Wait + Drop, R: Wait, S: Sink + Drop, G: Gate>(
     rt: &R,
     alloc: Global,
     node: &Node<J, Q>,
@@ -65,7 +64,7 @@ pub fn served_at<J: ProgramFamily, Q: Wait + Drop, R: Wait, S: Sink + Drop, G: G
 }
 
 /// The same at the only port of a fresh node, whose program says yes.
-pub fn served_port<'a, J: ProgramFamily, R: Wait, S: Sink + Drop, G: Gate>(
+pub fn served_port<'a, J: NodeFamily, R: Wait, S: Sink + Drop, G: Gate>(
     rt: &'a R,
     alloc: Global,
     opened: Opened,
@@ -74,7 +73,7 @@ pub fn served_port<'a, J: ProgramFamily, R: Wait, S: Sink + Drop, G: Gate>(
     sink: S,
     gate: &G,
 ) -> Result<ServedPort<J, &'a R, S>, Fail>
-    requires { opened ≡ J.book }
+    requires { AreOpened J.ProgramFamily.book J.Family.book opened }
 {
     let factory = program(alloc, 0)?;
     let (node, mut passes) = shared_node::<J, _>(rt, alloc, opened, 1, banks, factory)?;
@@ -85,7 +84,7 @@ pub fn served_port<'a, J: ProgramFamily, R: Wait, S: Sink + Drop, G: Gate>(
 
 /// What the workers left that served the ports of a node side by side.
 #[derive(Drop)]
-pub struct ServedPorts<J: ProgramFamily, R: Wait + Drop> {
+pub struct ServedPorts<J: NodeFamily, R: Wait + Drop> {
     node: Node<J, R>,
     /// The workers that came back, in order.
     pub workers: Vec<Worker<J, Replies>>,
@@ -93,9 +92,9 @@ pub struct ServedPorts<J: ProgramFamily, R: Wait + Drop> {
     pub report: Result<Report, ServeFault>,
 }
 
-impl<J: ProgramFamily, R: Wait + Drop> ServedPorts<J, R> {
+impl<J: NodeFamily, R: Wait + Drop> ServedPorts<J, R> {
     /// The bank of that number, behind its lock.
-    pub fn bank(&self, k: u8) -> Result<&BankLock, Fail> {
+    pub fn bank(&self, k: u8) -> Result<&BankLock<J>, Fail> {
         bank_of(&self.node, k)
     }
 
@@ -110,7 +109,7 @@ impl<J: ProgramFamily, R: Wait + Drop> ServedPorts<J, R> {
 /// program judges at first.
 pub fn served_ports<
     'a,
-    J: ProgramFamily + Send + 'static,
+    J: NodeFamily + Send + Sync + 'static,
     R: Threads + Wait + Sync,
     G: Gate + Sync,
 >(
@@ -124,7 +123,7 @@ pub fn served_ports<
     lines: &[&[&str]],
     gate: &G,
 ) -> Result<ServedPorts<J, &'a R>, Fail>
-    requires { opened ≡ J.book }
+    requires { AreOpened J.ProgramFamily.book J.Family.book opened }
 {
     let (node, mut passes) = shared_node::<J, _>(rt, alloc, opened, ports, banks, factory)?;
     passes.truncate(lines.len());

@@ -250,9 +250,13 @@ value_49 = refl
 
 -- `IfSome o P`, `IfOk r P`, `IfErr r P`: P of what there is, and nothing asked where there is nothing
 
+-- `IfNone o P`: P where there is nothing
+
 -- `OnOk r P`, `OnErr r P`: P where the result is an `Ok`, an `Err`, whatever it holds
 
 -- `MatchOption o P Q`: P where there is nothing, Q of what there is; `MatchResult r P Q`: P of an `Ok`, Q of an `Err`
+
+-- `MatchBool b P Q`: P where b is true, Q where not
 
 -- `⊤` holds always
 

@@ -1,18 +1,18 @@
 //! Four ports, each in a thread of its own, that load programs for writes and write, at one node.
 
-ghost use Rattle.std.specs.Prelude.{◌≡◌};
+ghost use Rattle.target.specs.Nodes.{AreOpened};
 
 use super::remainders::slow_crc;
 use crate::tests::checks::same;
 use bank::Bank;
 use ports::{NoGate, Report};
-use publish::{Opened, ProgramFamily};
 use std::alloc::Global;
 use std::marker::Brand;
 use std::process::Abort;
 use std::sync::Wait;
 use std::test::Fail;
 use std::thread::Threads;
+use target::{NodeFamily, Opened};
 use test_kit::{LOAD, PLAIN_WRITE, STAGE, bank, program};
 use test_kit_ports::served_ports;
 
@@ -123,12 +123,12 @@ fn compare_all(rt: &impl Abort, mut told: Vec<u32>) -> Result<(), Fail> {
 }
 
 /// Serves the four ports, and compares what they replied and what the journal has.
-fn four_load<J: ProgramFamily + Send + 'static, R: Threads + Wait + Abort + Sync>(
+fn four_load<J: NodeFamily + Send + Sync + 'static, R: Threads + Wait + Abort + Sync>(
     rt: &R,
     alloc: Global,
     opened: Opened,
 ) -> Result<(), Fail>
-    requires { opened ≡ J.book }
+    requires { AreOpened J.ProgramFamily.book J.Family.book opened }
 {
     let factory = program(alloc, 0)?;
     let banks = [bank(1024)];

@@ -130,10 +130,10 @@ const UNSET: &[u8] = b"BPFA\x01\x00\x02\x00\x02\x00\x00\x00\x00\x00\x00\x00\
 const WHOLE: &str =
     "refused V5 slot 0\nslot 0: mov r0, r4\n    r1 front+0, r2 tail+0, r3 0 to 31, r10 stack+0\n    On some way";
 
-/// Whether this may be printed where memory is refused: the whole, the fault alone, or a fault of memory.
+/// Whether this may be printed where memory is refused: the whole, the fault and its instruction alone, or a fault of memory.
 fn is_named(text: &str) -> bool {
     text.starts_with(WHOLE)
-        || text == "refused V5 slot 0\n"
+        || text == "refused V5 slot 0\nslot 0: mov r0, r4\n"
         || text.starts_with("refused V17 slot 0\n")
         || text.starts_with("image fault 8 slot 0\n")
         || text == "cannot read unset\n"
@@ -153,7 +153,7 @@ fn told(rt: &(impl Threads + Wait + Sync), alloc: Global) -> Option<(String, u8)
 fn memory_refused_to_why(rt: HostRuntime) -> Result<(), Fail> {
     let alloc = rt.alloc();
     if let Some((text, status)) = told(&rt, alloc) {
-        check(&rt, "a fault", is_named(text.as_str()));
+        check(&rt, &text, is_named(text.as_str()));
         same(&rt, "the status", status, 1);
     }
     let (text, status) = told(&rt, alloc).ok_or("memory is refused again")?;

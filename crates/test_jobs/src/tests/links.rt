@@ -103,7 +103,10 @@ fn a_link_that_fails_at_each_move(rt: HostRuntime) -> Result<(), Fail> {
 
 /// Whether a link to which memory was refused may have told this last.
 fn is_refused(told: &str) -> bool {
-    told == "no memory\n" || told == "cannot read -\n" || told.starts_with("refused V17 ")
+    told == "no memory\n"
+        || told == "cannot read -\n"
+        || told == "image fault 8 slot 0\n"
+        || told.starts_with("refused V17 ")
 }
 
 /// Whether a link may have come to that, where memory may have been refused: to all that is due, or to a beginning of it, and

@@ -1,4 +1,4 @@
-//! The maps that a program needs, where memory is refused.
+//! The maps that a program needs, and what it weighs, where memory is refused.
 
 use crate::tests::checks::{check, same};
 use commands::perform;
@@ -20,6 +20,9 @@ const TEXT: &str = ".budget 4\nldmap r1, 0\nmov r2, 0\ncall 2\nexit\n; maps 1\n"
 
 /// What `why` prints of it on a node with the map.
 const ACCEPTED: &str = "accepted weight 4 budget 4\nmaps 1\n";
+
+/// What `weigh` prints of it on such a node, where the times of instructions are told.
+const WEIGHED: &str = "division 0\ncall 1\njump 0\nrest 3\nweight 4\nat most 20 ns\n";
 
 /// What a job prints of that image, and the exit status; `None` where memory was refused to the words, to the folder or
 /// to the writer.
@@ -66,6 +69,21 @@ fn memory_refused_to_maps_of_why(rt: HostRuntime) -> Result<(), Fail> {
         "memory is refused again",
     )?;
     check(&rt, "the maps", text.as_str() == ACCEPTED);
+    same(&rt, "the status", status, 0);
+    Ok(())
+}
+
+#[test]
+fn memory_refused_to_weigh(rt: HostRuntime) -> Result<(), Fail> {
+    let alloc = rt.alloc();
+    let words = ["weigh", "draws", "--maps", "1", "--ns", "15,14,6,2"];
+    if let Some((text, status)) = told(&rt, alloc, &words) {
+        let text = text.as_str();
+        check(&rt, "a fault", (text == WEIGHED) == (status == 0));
+        check(&rt, "which", text == WEIGHED || is_refused(text));
+    }
+    let (text, status) = told(&rt, alloc, &words).ok_or("memory is refused again")?;
+    check(&rt, "the weights", text.as_str() == WEIGHED);
     same(&rt, "the status", status, 0);
     Ok(())
 }

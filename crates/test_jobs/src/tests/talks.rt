@@ -10,7 +10,7 @@ use std::test::Fail;
 use test_kit_jobs::folder_of;
 
 /// Lines, what is due for each, and one bad line among them.
-const LINES: [(&str, &str); 6] = [
+const LINES: [(&str, &str); 7] = [
     (
         "0 FE016C0067000100A0000010000002411122A3 EOP",
         "0 67012C00FE00017C EOP\n",
@@ -22,6 +22,7 @@ const LINES: [(&str, &str); 6] = [
         "0 67010C00FE000200000002681122A3 EOP\n",
     ),
     ("set 00 A0010000 01", "line 5 fault 6\n"),
+    ("cells", "cells 0 0 0\ncells 1 maps\n"),
     (
         "journal",
         "journal 0 0 0 0 0 FE016C0067000100A0000010000002411122A3 EOP\njournal 0 1 0 0 0 FE014C0067000200A00000100000024F EOP\njournal 2 entries\n",
@@ -30,19 +31,21 @@ const LINES: [(&str, &str); 6] = [
 
 /// A talk that hands a line out only where what is due for the one before it was sent, and that fails at one move.
 #[derive(Drop)]
-struct Script {
+struct Script<'a> {
     alloc: Global,
+    lines: &'a [(&'a str, &'a str)],
     given: usize,
     sent: Vec<String>,
     moves: usize,
     failing: usize,
 }
 
-impl Script {
-    /// A talk that fails at the move of this number, from 0.
-    fn new(alloc: Global, failing: usize) -> Script {
+impl<'a> Script<'a> {
+    /// A talk of these lines that fails at the move of this number, from 0.
+    fn new(alloc: Global, lines: &'a [(&'a str, &'a str)], failing: usize) -> Script<'a> {
         Script {
             alloc,
+            lines,
             given: 0,
             sent: Vec::new(alloc),
             moves: 0,
@@ -61,7 +64,7 @@ impl Script {
     }
 }
 
-impl Talk for Script {
+impl<'a> Talk for Script<'a> {
     ghost came = { λ _ _ _. ⊤ };
 
     ghost sent = { λ _ _ _. ⊤ };
@@ -75,7 +78,7 @@ impl Talk for Script {
         if self.sent.len() != self.given {
             return Err(Cannot);
         }
-        let Some((text, _)) = LINES.get(self.given) else {
+        let Some((text, _)) = self.lines.get(self.given) else {
             return Ok(false);
         };
         line.clear();
@@ -92,20 +95,25 @@ impl Talk for Script {
     }
 }
 
-/// Holds a talk that fails at the move of this number: the talk, and what came of it.
-fn held(alloc: Global, failing: usize) -> Result<(Script, Result<Status, WriteFault>), Fail> {
-    let Work::Live(LiveWords { node, .. }) = words(alloc, &["live"])? else {
-        return Err("no talk".into());
+/// Holds a talk of these lines that fails at the move of this number: the talk, and what came of it; `None` where memory was
+/// refused before.
+fn held<'a>(
+    alloc: Global,
+    lines: &'a [(&'a str, &'a str)],
+    failing: usize,
+) -> Option<(Script<'a>, Result<Status, WriteFault>)> {
+    let Ok(Work::Live(LiveWords { node, .. })) = words(alloc, &["live", "--maps", "2"]) else {
+        return None;
     };
-    let mut folder = folder_of(alloc, &[]).map_err(|_| "no folder")?;
-    let mut talk = Script::new(alloc, failing);
+    let mut folder = folder_of(alloc, &[]).ok()?;
+    let mut talk = Script::new(alloc, lines, failing);
     let done = live(alloc, &node, &mut folder, &mut talk);
-    Ok((talk, done))
+    Some((talk, done))
 }
 
 #[test]
 fn each_answer_before_the_next_line(rt: HostRuntime) -> Result<(), Fail> {
-    let (talk, done) = held(rt.alloc(), usize::MAX)?;
+    let (talk, done) = held(rt.alloc(), &LINES, usize::MAX).ok_or("no talk")?;
     same(&rt, "the status", done, Ok(Status::Failed));
     same(&rt, "answers", talk.sent.len(), LINES.len());
     for (answer, (line, due)) in talk.sent.iter().zip(&LINES) {
@@ -118,7 +126,7 @@ fn each_answer_before_the_next_line(rt: HostRuntime) -> Result<(), Fail> {
 fn a_talk_that_fails_at_each_move(rt: HostRuntime) -> Result<(), Fail> {
     // A line is two moves, and the end of the lines is one.
     for failing in 0..2 * LINES.len() + 1 {
-        let (talk, done) = held(rt.alloc(), failing)?;
+        let (talk, done) = held(rt.alloc(), &LINES, failing).ok_or("no talk")?;
         let what = format!(in rt.alloc(); "move {failing}")?;
         let answered = failing / 2;
         for (answer, (_, due)) in talk.sent.iter().zip(&LINES).take(answered) {
@@ -168,7 +176,7 @@ fn each_answer_is_flushed(rt: HostRuntime) -> Result<(), Fail> {
         written: Vec::new(alloc),
         held: Vec::new(alloc),
     };
-    let Work::Live(LiveWords { node, .. }) = words(alloc, &["live"])? else {
+    let Work::Live(LiveWords { node, .. }) = words(alloc, &["live", "--maps", "2"])? else {
         return Err("no talk".into());
     };
     let mut folder = folder_of(alloc, &[]).map_err(|_| "no folder")?;
@@ -181,6 +189,78 @@ fn each_answer_is_flushed(rt: HostRuntime) -> Result<(), Fail> {
     for (held, (line, answer)) in output.held.iter().zip(&LINES) {
         due = due.saturating_add(answer.len());
         same(&rt, line, *held, due);
+    }
+    Ok(())
+}
+
+/// A write, a bad line, and the journal, each with what is due for it.
+const TALK: [(&str, &str); 3] = [
+    (
+        "0 FE016C0067000100A0000010000002411122A3 EOP",
+        "0 67012C00FE00017C EOP\n",
+    ),
+    ("0 FE01 eop", "line 2 fault 3\n"),
+    (
+        "journal",
+        "journal 0 0 0 0 0 FE016C0067000100A0000010000002411122A3 EOP\njournal 1 entries\n",
+    ),
+];
+
+/// What is due for each of those lines where memory is refused to it, and for the journal where it was refused to the write.
+const REFUSED: [&str; 3] = [
+    "line 1 fault 5\n",
+    "line 2 fault 5\n",
+    "journal 0 entries\n",
+];
+
+/// Whether this may be told last, where memory was refused to the talk.
+fn is_last(text: &str) -> bool {
+    text == "no memory\n"
+        || text == "cannot read -\n"
+        || text == "image fault 8 slot 0\n"
+        || text == "refused V17 slot 0\n"
+}
+
+/// How many of the texts that were sent are answers to the lines in turn.
+fn answered(sent: &[String]) -> usize {
+    let mut count: usize = 0;
+    for (text, ((_, due), refused)) in sent.iter().zip(TALK.iter().zip(&REFUSED)) {
+        let text = text.as_str();
+        if text != *due && text != *refused {
+            return count;
+        }
+        count = count.saturating_add(1);
+    }
+    count
+}
+
+/// Whether a talk of those lines may have come to that, where memory may have been refused: to an answer to each line, or to
+/// the answers to the first ones, and then at most a fault.
+fn is_right(sent: &[String], done: Result<Status, WriteFault>) -> bool {
+    let others = sent.len().saturating_sub(answered(sent));
+    let last = sent.last().map_or("", |last| last.as_str());
+    match (done, others) {
+        (Ok(Status::Failed), 0) => sent.len() == TALK.len(),
+        (Ok(Status::Failed), 1) => is_last(last),
+        (Err(WriteFault), 0) => true,
+        _ => false,
+    }
+}
+
+#[test]
+fn memory_refused_to_a_talk(rt: HostRuntime) -> Result<(), Fail> {
+    if let Some((talk, done)) = held(rt.alloc(), &TALK, usize::MAX) {
+        let last = talk
+            .sent
+            .last()
+            .map_or("nothing was sent", |last| last.as_str());
+        check(&rt, last, is_right(&talk.sent, done));
+    }
+    let (talk, done) = held(rt.alloc(), &TALK, usize::MAX).ok_or("memory is refused again")?;
+    same(&rt, "the status", done, Ok(Status::Failed));
+    same(&rt, "answers", talk.sent.len(), TALK.len());
+    for (answer, (line, due)) in talk.sent.iter().zip(&TALK) {
+        same(&rt, line, answer.as_str(), *due);
     }
     Ok(())
 }

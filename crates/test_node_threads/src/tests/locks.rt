@@ -1,11 +1,10 @@
 //! `target`: a node as threads share it. What a lock hides no clause can say.
 
-ghost use Rattle.std.specs.Prelude.{◌≡◌};
+ghost use Rattle.target.specs.Nodes.{AreOpened};
 
 use crate::tests::checks::same;
 use bank::{Applied, Judged};
 use node_parts::{BankConfig, NodeConfig};
-use publish::{Opened, ProgramFamily};
 use rcrc::crc;
 use rmap::{Place, ReplyBuf, Status};
 use spw::{End, Packet};
@@ -14,7 +13,7 @@ use std::marker::Brand;
 use std::process::Abort;
 use std::sync::Wait;
 use std::test::Fail;
-use target::{BankLock, Node, Pass, Step, finish, judge, load, stage};
+use target::{BankLock, Node, NodeFamily, Opened, Pass, Step, finish, judge, load, stage};
 use test_kit::{
     BASE, LOAD, PLAIN_READ, PLAIN_WRITE, Random, STAGE, SpareBank, bank, packet, program,
 };
@@ -22,7 +21,7 @@ use test_kit::{
 /// A node of two ports and two banks behind their locks, the second of 300 bytes from the address 0x1000 on, the passes
 /// of its ports, a spare bank for commands to no bank of the node, and the reply to the packet that came last.
 #[derive(Drop)]
-struct LockedNode<J: ProgramFamily, R: Wait + Drop> {
+struct LockedNode<J: NodeFamily, R: Wait + Drop> {
     alloc: Global,
     node: Node<J, R>,
     passes: Vec<Pass<J>>,
@@ -31,7 +30,7 @@ struct LockedNode<J: ProgramFamily, R: Wait + Drop> {
 }
 
 /// The command of a packet, judged at the pass's port.
-fn judged_at<J: ProgramFamily>(
+fn judged_at<J: NodeFamily>(
     pass: &mut Pass<J>,
     packet: Packet,
     reply: &mut ReplyBuf,
@@ -44,10 +43,10 @@ fn judged_at<J: ProgramFamily>(
     }
 }
 
-impl<J: ProgramFamily, R: Wait + Drop> LockedNode<J, R> {
+impl<J: NodeFamily, R: Wait + Drop> LockedNode<J, R> {
     /// A fresh one, whose program says yes.
     fn new(rt: R, alloc: Global, opened: Opened) -> Result<LockedNode<J, R>, Fail>
-        requires { opened ≡ J.book }
+        requires { AreOpened J.ProgramFamily.book J.Family.book opened }
     {
         let factory = program(alloc, 0)?;
         let small = BankConfig {
@@ -72,7 +71,7 @@ impl<J: ProgramFamily, R: Wait + Drop> LockedNode<J, R> {
     }
 
     /// The bank of that number, behind its lock.
-    fn bank(&self, k: u8) -> Result<&BankLock, Fail> {
+    fn bank(&self, k: u8) -> Result<&BankLock<J>, Fail> {
         if usize::from(k) >= self.node.banks() {
             return Err("no bank".into());
         }
@@ -92,9 +91,13 @@ impl<J: ProgramFamily, R: Wait + Drop> LockedNode<J, R> {
             Place::Bank(k) if usize::from(k) < self.node.banks() && usize::from(k) < pass.banks() =>
                 {
                     let mut guard = self.node.bank(k).lock(rt);
-                    let bank = &mut *guard;
-                    let fits = bank.fits(pass.share(k), &judged);
-                    Ok((fits, finish(pass, bank, judged, &mut self.reply)))
+                    let kept = &mut *guard;
+                    let fits = kept.fits(pass.share(k), &judged);
+                    let mut front = self.node.front();
+                    Ok((
+                        fits,
+                        finish(pass, kept, &mut front, judged, &mut self.reply),
+                    ))
                 }
             _ => {
                 self.spare.end(judged, &mut self.reply);
@@ -144,12 +147,12 @@ fn fresh_banks_behind_their_locks(rt: HostRuntime) -> Result<(), Fail> {
     fresh_banks::<Brand, _>(&rt, rt.alloc(), Opened::new())
 }
 
-fn fresh_banks<J: ProgramFamily, R: Wait + Abort>(
+fn fresh_banks<J: NodeFamily, R: Wait + Abort>(
     rt: &R,
     alloc: Global,
     opened: Opened,
 ) -> Result<(), Fail>
-    requires { opened ≡ J.book }
+    requires { AreOpened J.ProgramFamily.book J.Family.book opened }
 {
     let shared = LockedNode::<J, _>::new(rt, alloc, opened)?;
     let found = (shared.node.banks(), shared.passes.len());
@@ -176,12 +179,12 @@ fn a_command_of_another_port_sees_the_bank(rt: HostRuntime) -> Result<(), Fail> 
     one_writes_and_one_reads::<Brand, _>(&rt, rt.alloc(), Opened::new())
 }
 
-fn one_writes_and_one_reads<J: ProgramFamily, R: Wait + Abort>(
+fn one_writes_and_one_reads<J: NodeFamily, R: Wait + Abort>(
     rt: &R,
     alloc: Global,
     opened: Opened,
 ) -> Result<(), Fail>
-    requires { opened ≡ J.book }
+    requires { AreOpened J.ProgramFamily.book J.Family.book opened }
 {
     let mut shared = LockedNode::<J, _>::new(rt, alloc, opened)?;
     for (port, line) in [(0, PLAIN_WRITE), (1, PLAIN_READ)] {
@@ -203,12 +206,12 @@ fn a_load_under_the_lock_judges_at_every_port(rt: HostRuntime) -> Result<(), Fai
     load_under_the_lock::<Brand, _>(&rt, rt.alloc(), Opened::new())
 }
 
-fn load_under_the_lock<J: ProgramFamily, R: Wait + Abort>(
+fn load_under_the_lock<J: NodeFamily, R: Wait + Abort>(
     rt: &R,
     alloc: Global,
     opened: Opened,
 ) -> Result<(), Fail>
-    requires { opened ≡ J.book }
+    requires { AreOpened J.ProgramFamily.book J.Family.book opened }
 {
     let mut shared = LockedNode::<J, _>::new(rt, alloc, opened)?;
     for line in [STAGE, LOAD] {
@@ -256,12 +259,12 @@ fn generated_commands_fit(rt: HostRuntime) -> Result<(), Fail> {
     generated_commands::<Brand, _>(&rt, rt.alloc(), Opened::new())
 }
 
-fn generated_commands<J: ProgramFamily, R: Wait + Abort>(
+fn generated_commands<J: NodeFamily, R: Wait + Abort>(
     rt: &R,
     alloc: Global,
     opened: Opened,
 ) -> Result<(), Fail>
-    requires { opened ≡ J.book }
+    requires { AreOpened J.ProgramFamily.book J.Family.book opened }
 {
     let mut shared = LockedNode::<J, _>::new(rt, alloc, opened)?;
     let mut random = Random::new(23);

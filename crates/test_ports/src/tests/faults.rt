@@ -1,19 +1,18 @@
 //! Sinks that fail.
 
-ghost use Rattle.std.specs.Prelude.{◌≡◌};
 ghost use Rattle.ports.specs.Serves.{IsWorkerOf};
+ghost use Rattle.target.specs.Nodes.{AreOpened};
 
 use super::checks::same;
 use bank::Bank;
 use ports::{NoGate, Port, Replies, Report, ServeFault, Sink, SinkFault, Worker, serve};
-use publish::{Opened, ProgramFamily};
 use std::alloc::Global;
 use std::marker::Brand;
 use std::process::Abort;
 use std::sync::Wait;
 use std::test::Fail;
 use std::thread::Threads;
-use target::Node;
+use target::{Node, NodeFamily, Opened};
 use test_kit::{BASE, PLAIN_READ, PLAIN_WRITE, bank, program};
 use test_kit_ports::{filled, served_port, shared_node, text_of, worker};
 
@@ -111,14 +110,14 @@ fn compare_bank(rt: &impl Abort, bank: &Bank) {
 }
 
 /// Serves the packets at a port whose sink fails so: those replies alone are lost, and the commands are done as ever.
-fn serve_failing<J: ProgramFamily, R: Wait + Abort>(
+fn serve_failing<J: NodeFamily, R: Wait + Abort>(
     rt: &R,
     alloc: Global,
     opened: Opened,
     failure: Failure,
     lost: u64,
 ) -> Result<(), Fail>
-    requires { opened ≡ J.book }
+    requires { AreOpened J.ProgramFamily.book J.Family.book opened }
 {
     let (lines, wanted) = packets(alloc, failure)?;
     let sink = Failing::new(alloc, 0, failure);
@@ -155,12 +154,12 @@ fn all_replies_lost(rt: HostRuntime) -> Result<(), Fail> {
 }
 
 /// Serves a write at a port whose sink always fails, in a thread: the worker comes back, and its one reply is lost.
-fn serve_always_failing<J: ProgramFamily + Send + 'static, R: Threads + Wait + Abort + Sync>(
+fn serve_always_failing<J: NodeFamily + Send + Sync + 'static, R: Threads + Wait + Abort + Sync>(
     rt: &R,
     alloc: Global,
     opened: Opened,
 ) -> Result<(), Fail>
-    requires { opened ≡ J.book }
+    requires { AreOpened J.ProgramFamily.book J.Family.book opened }
 {
     let factory = program(alloc, 0)?;
     let (node, mut passes) = shared_node::<J, _>(rt, alloc, opened, 1, &[bank(1024)], factory)?;
@@ -178,7 +177,11 @@ fn serve_always_failing<J: ProgramFamily + Send + 'static, R: Threads + Wait + A
 }
 
 /// `serve` of one port.
-fn serve_one<J: ProgramFamily + Send + 'static, R: Threads + Wait + Sync, Q: Wait + Drop + Send>(
+fn serve_one<
+    J: NodeFamily + Send + Sync + 'static,
+    R: Threads + Wait + Sync,
+    Q: Wait + Drop + Send,
+>(
     rt: &R,
     alloc: Global,
     node: &Node<J, Q>,

@@ -1,18 +1,18 @@
 //! Ports that share counters and programs.
 
-ghost use Rattle.std.specs.Prelude.{◌≡◌};
+ghost use Rattle.target.specs.Nodes.{AreOpened};
 
 use super::checks::{check, same};
 use super::workers::CLEAN;
 use brun::Counters;
 use ports::{NoGate, Replies, Worker};
-use publish::{Opened, ProgramFamily};
 use std::alloc::Global;
 use std::marker::Brand;
 use std::process::Abort;
 use std::sync::Wait;
 use std::test::Fail;
 use std::thread::Threads;
+use target::{NodeFamily, Opened};
 use test_kit::{PLAIN_WRITE, bank, program};
 use test_kit_ports::{accepted, served_ports, text_of, with_status};
 
@@ -21,7 +21,7 @@ const QUOTA: &str =
     "ldmap r1, 0; mov r2, 0; call 2; jlt r0, 5, +2; mov r0, 10; exit; mov r0, 0; exit";
 
 /// How many tickets were drawn from the only cell of a worker's node.
-fn drawn<J: ProgramFamily>(worker: Worker<J, Replies>) -> Option<u64> {
+fn drawn<J: NodeFamily>(worker: Worker<J, Replies>) -> Option<u64> {
     let Worker { pass, .. } = worker;
     let mut seat = pass.into_seat();
     if !seat.sizes().contains(0, 0) {
@@ -32,12 +32,12 @@ fn drawn<J: ProgramFamily>(worker: Worker<J, Replies>) -> Option<u64> {
 
 /// Ten writes at each of two ports under the quota of five: five are done and fifteen denied, each left its entry, and
 /// the counter was drawn from twenty times.
-fn quota<J: ProgramFamily + Send + 'static, R: Threads + Wait + Abort + Sync>(
+fn quota<J: NodeFamily + Send + Sync + 'static, R: Threads + Wait + Abort + Sync>(
     rt: &R,
     alloc: Global,
     opened: Opened,
 ) -> Result<(), Fail>
-    requires { opened ≡ J.book }
+    requires { AreOpened J.ProgramFamily.book J.Family.book opened }
 {
     let factory = accepted(alloc, QUOTA, 8, "1")?;
     let ten = [PLAIN_WRITE; 10];
@@ -90,12 +90,12 @@ fn a_load_beside_a_write(rt: HostRuntime) -> Result<(), Fail> {
     load_beside::<Brand, _>(&rt, rt.alloc(), Opened::new())
 }
 
-fn load_beside<J: ProgramFamily + Send + 'static, R: Threads + Wait + Abort + Sync>(
+fn load_beside<J: NodeFamily + Send + Sync + 'static, R: Threads + Wait + Abort + Sync>(
     rt: &R,
     alloc: Global,
     opened: Opened,
 ) -> Result<(), Fail>
-    requires { opened ≡ J.book }
+    requires { AreOpened J.ProgramFamily.book J.Family.book opened }
 {
     let factory = program(alloc, 0)?;
     let lines: [&[&str]; 2] = [&[STAGE, LOAD, PLAIN_WRITE], &[PLAIN_WRITE]];

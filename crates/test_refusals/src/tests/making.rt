@@ -1,6 +1,7 @@
 //! Memory that is refused to what makes a node and its parts: two ports, two banks, and maps of two cells and of one.
 
 ghost use Rattle.std.specs.Prelude.{◌≡◌};
+ghost use Rattle.target.specs.Nodes.{AreOpened};
 
 use super::checks::{check, same};
 use super::marks::{begin, end, tell};
@@ -18,7 +19,7 @@ use std::marker::Brand;
 use std::process::Abort;
 use std::sync::Wait;
 use std::test::Fail;
-use target::{Node, Pass};
+use target::{Node, NodeFamily, Pass};
 use test_kit::{BASE, PLAIN_READ, bank, counts, sizes};
 use test_kit_ports::{accepted, served_at, text_of};
 
@@ -182,7 +183,7 @@ fn memory_refused_to_staging(rt: HostRuntime) -> Result<(), Fail> {
 }
 
 /// What a port of the node replies to a read of the first bank, as text.
-fn served_read<J: ProgramFamily, R: Wait + Drop>(
+fn served_read<J: NodeFamily, R: Wait + Drop>(
     rt: &impl Wait,
     alloc: Global,
     node: &Node<J, R>,
@@ -194,12 +195,12 @@ fn served_read<J: ProgramFamily, R: Wait + Drop>(
 }
 
 /// Whether a node of two ports and two banks was made; then a port is served a read of the first bank.
-fn node_is_made<J: ProgramFamily, R: Wait + Abort>(
+fn node_is_made<J: NodeFamily, R: Wait + Abort>(
     rt: &R,
     alloc: Global,
-    opened: Opened,
+    opened: target::Opened,
 ) -> Result<bool, Fail>
-    requires { opened ≡ J.book }
+    requires { AreOpened J.ProgramFamily.book J.Family.book opened }
 {
     let factory = accepted(alloc, "mov r0, 0; exit", 2, MAPS)?;
     let small = BankConfig {
@@ -235,9 +236,9 @@ const ZEROS: &str = "67010C00FE0001000000106D0000000000000000000000000000000000\
 
 #[test]
 fn memory_refused_to_node(rt: HostRuntime) -> Result<(), Fail> {
-    if !node_is_made::<Brand, _>(&rt, rt.alloc(), Opened::new())? {
+    if !node_is_made::<Brand, _>(&rt, rt.alloc(), target::Opened::new())? {
         tell(&rt, "Memory")?;
-        let is_made = node_is_made::<Brand, _>(&rt, rt.alloc(), Opened::new())?;
+        let is_made = node_is_made::<Brand, _>(&rt, rt.alloc(), target::Opened::new())?;
         check(&rt, "a node", is_made);
     }
     Ok(())

@@ -2,6 +2,7 @@
 
 ghost use Rattle.std.specs.Prelude.{◌≡◌, IfOk, length};
 ghost use Rattle.ports.specs.Queue.{IsPutPassOf};
+ghost use Rattle.target.specs.Nodes.{AreOpened};
 ghost use Rattle.test_kit_ports.specs.Desks.{ArePutPasses};
 
 use super::checks::same;
@@ -14,7 +15,7 @@ use std::process::Abort;
 use std::sync::Wait;
 use std::test::Fail;
 use std::thread::Threads;
-use target::Node;
+use target::{Node, NodeFamily};
 use test_kit::{PLAIN_READ, PLAIN_WRITE, PlainNode, bank, packet, program};
 use test_kit_ports::{filled_desks, shared_node, text_of};
 
@@ -39,7 +40,7 @@ fn are_full(rt: &impl Wait, ports: &[Port], passes: &mut Vec<PutPass>) -> Result
 }
 
 /// How many entries the journal of the first bank has.
-fn entries<J: ProgramFamily, R: Wait + Drop>(
+fn entries<J: NodeFamily, R: Wait + Drop>(
     rt: &impl Wait,
     node: &Node<J, R>,
 ) -> Result<usize, Fail> {
@@ -50,7 +51,7 @@ fn entries<J: ProgramFamily, R: Wait + Drop>(
 }
 
 /// How many replies the workers' sinks took.
-fn taken<J: ProgramFamily>(workers: &[Worker<J, Replies>]) -> u64 {
+fn taken<J: NodeFamily>(workers: &[Worker<J, Replies>]) -> u64 {
     let mut taken = 0u64;
     for worker in workers {
         taken = taken.wrapping_add(worker.sink.replies().len() as u64);
@@ -67,7 +68,7 @@ const REPLIES: &str = "67012C00FE0000ED\n\
     67010C00FE0001000000106D0123456789ABCDEF101112131415161756\n";
 
 /// Compares what two workers did. A sink that was refused memory lost a reply.
-fn compare<J: ProgramFamily>(
+fn compare<J: NodeFamily>(
     rt: &impl Abort,
     alloc: Global,
     workers: &[Worker<J, Replies>],
@@ -93,12 +94,12 @@ fn compare<J: ProgramFamily>(
 
 /// Serves two ports. Where it is refused no packet was taken and none is gone; where both workers came back they serve
 /// then.
-fn two_served<J: ProgramFamily + Send + 'static, R: Threads + Wait + Abort + Print + Sync>(
+fn two_served<J: NodeFamily + Send + Sync + 'static, R: Threads + Wait + Abort + Print + Sync>(
     rt: &R,
     alloc: Global,
-    opened: Opened,
+    opened: target::Opened,
 ) -> Result<(), Fail>
-    requires { opened ≡ J.book }
+    requires { AreOpened J.ProgramFamily.book J.Family.book opened }
 {
     let factory = program(alloc, 0)?;
     let (node, passes) = shared_node::<J, _>(rt, alloc, opened, 2, &[bank(1024)], factory)?;
@@ -126,7 +127,7 @@ fn two_served<J: ProgramFamily + Send + 'static, R: Threads + Wait + Abort + Pri
 /// Two ports are served, or memory was refused to `serve`, and then they are served as far as their workers came back.
 #[test]
 fn memory_refused_to_serve(rt: HostRuntime) -> Result<(), Fail> {
-    two_served::<Brand, _>(&rt, rt.alloc(), Opened::new())
+    two_served::<Brand, _>(&rt, rt.alloc(), target::Opened::new())
 }
 
 /// A read-modify-write of length 3, and one of a byte, as packet lines.

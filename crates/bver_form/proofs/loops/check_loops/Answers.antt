@@ -1,15 +1,23 @@
 use Rattle.std.proofs.Common.{rules, ◌<◌, length, subst, sym}
 use Rattle.bpf.specs.declared.header.TheConstants.{MAX_SLOTS}
+use Rattle.bpf.specs.declared.loops.Loop.{Loop}
 use Rattle.bpf.specs.Program.{IsLoop}
-use Rattle.bver_form.proofs.Fitting.{formed_next, item_is, small_loop}
+use Rattle.bver_form.proofs.Fitting.{formed_next, item_is, loop_at, small_loop}
 use Rattle.bver_form.proofs.loops.check_loops.Goals as goal
 
-pub is_loop_formed-requires : goal.is_loop_formed-requires
-is_loop_formed-requires c =
+pub is_loop_formed-requires-clause-limits : goal.is_loop_formed-requires-clause-limits
+is_loop_formed-requires-clause-limits c =
     let p = c.args.image.now in
     let k = c.loop-declared.declared-index in
     let is = item_is p c.loops-declared-items.result.now k c.declared-item.result c.loops-declared-items.ensures.value c.declared-item.is in
     subst (IsLoop MAX_SLOTS) (sym is) (small_loop p k c.declared-item.result c.loops-declared-items.ensures.program (search rules))
+
+pub is_loop_formed-requires-clause-within : goal.is_loop_formed-requires-clause-within
+is_loop_formed-requires-clause-within c =
+    let p = c.args.image.now in
+    let k = c.loop-declared.declared-index in
+    let is = item_is p c.loops-declared-items.result.now k c.declared-item.result c.loops-declared-items.ensures.value c.declared-item.is in
+    subst (λ (l : Loop). l.back < length p.slots) (sym is) (loop_at p k c.declared-item.result c.loops-declared-items.ensures.program (search rules)).within
 
 pub loop-declared-preserved : goal.loop-declared-preserved
 loop-declared-preserved c =

@@ -7,5 +7,7 @@ pub returns : goal.returns
 returns c =
     let with_compare = c.in_ok-subcommand.ensures.shape c.in_ok-compare.ensures.local
     ∙ ap (with_subcommand (app_of c.args.rmapctl)) (ap (λ (a : App). a.top) c.in_ok-compare.ensures.shape) in
-    IfOk-weaker c.subcommand-2.result _ _ (λ m h. h.shape c.in_ok-map.ensures.local
-    ∙ ap₂ with_subcommand with_compare (ap (λ (a : App). a.top) c.in_ok-map.ensures.shape)) c.subcommand-2.ensures
+    let with_map = c.in_ok-subcommand-2.ensures.shape c.in_ok-map.ensures.local
+    ∙ ap₂ with_subcommand with_compare (ap (λ (a : App). a.top) c.in_ok-map.ensures.shape) in
+    IfOk-weaker c.subcommand-3.result _ _ (λ m h. h.shape c.in_ok-rehearse.ensures.local
+    ∙ ap₂ with_subcommand with_map (ap (λ (a : App). a.top) c.in_ok-rehearse.ensures.shape)) c.subcommand-3.ensures

@@ -4,8 +4,8 @@ use Rattle.ports.proofs.packet.finish_locked.Goals as goal
 -- What the bank was and is is said, so that the reply is looked for.
 pub returns-clause-ended : goal.returns-clause-ended
 returns-clause-ended g c = record {
-  before = c.deref_mut-bank.result.now;
-  behind = c.finish.new.bank;
+  before = c.deref_mut-kept.result.now;
+  behind = c.finish.new.kept;
   result = c.finish.result;
   bank = search rules;
   finished = search rules;

@@ -1,6 +1,8 @@
 use Rattle.std.specs.Prelude.{◌≡◌, ◌+◌, ◌≤◌, IfNone, IfSome, map, vec_len, vec_capacity}
 use Rattle.std.specs.Vec.Iter.{into_iter_len}
-use Rattle.ports.specs.Serves.{IsOneMissing, IsTotalOf}
+use Rattle.std.specs.List.{All}
+use mathlib.Core.List.{IsPrefix}
+use Rattle.ports.specs.Serves.{IsOneMissing, IsTotalOf, ShareOneHistory}
 use Rattle.ports.proofs.serves.gather.Given as goal
 
 abbrev pub invariant-loop-one : goal.invariant-loop-one
@@ -10,3 +12,5 @@ invariant-loop-one g l =
     × IfNone l.total (IsOneMissing (map (λ e. e.report) l.yielded))
     × (vec_len l.workers + into_iter_len l.one-iterator ≤ vec_capacity l.workers)
     × (vec_capacity l.initial.workers ≤ vec_capacity l.workers)
+    × All (λ w. IsPrefix w.front l.known) (map (λ e. e.worker) l.yielded)
+    × ShareOneHistory (map (λ e. e.worker) l.yielded)

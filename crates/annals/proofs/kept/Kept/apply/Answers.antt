@@ -1,12 +1,12 @@
 use Rattle.std.specs.Prelude.{IfSome, ◌<◌, slice_index}
 use Rattle.std.specs.List.{range_with_len}
 use Rattle.std.proofs.Common.{Option, ◌≡◌, ℕ, true, Some, List, [], ◌∷◌, ◌++◌, length, sym, ◌∙◌, ap, subst}
-use Rattle.bank.specs.Records.{EntryValue, BankValue, memory_of, answer_of, has_room, entry_of, fits, numbers_of}
+use Rattle.bank.specs.Records.{EntryValue, BankValue, memory_of, answer_of, has_room, entry_of, fits, is_place_of, numbers_of}
 use Rattle.bank.specs.Answer.{Answer}
 use Rattle.annals.specs.declared.deed.Deed.TheVariants.{Does}
 use Rattle.annals.specs.declared.deed.Link.{Link}
 use Rattle.annals.specs.Chains.{IsLast, chain_of, link}
-use Rattle.annals.specs.Banks.{KeptValue, is_place_of, memory_after, answer_after, entries_of, IsDone}
+use Rattle.annals.specs.Banks.{KeptValue, memory_after, answer_after, entries_of, IsDone}
 use Rattle.annals.proofs.Counts.{numbers_before, counts_after, still_counted}
 use Rattle.annals.proofs.Replays.{last_is, room_of, number_is, entries_after, same_memory, answers, replayed, at_place}
 use Rattle.annals.proofs.kept.Kept.apply.Goals as goal

@@ -1,0 +1,35 @@
+//! The calls that a run would have made. They exist in proofs alone: they have no bytes, and what is done with them does
+//! nothing.
+
+ghost use Rattle.std.specs.Prelude.{◌≡◌, ◌++◌, ◌∷◌, List, []};
+ghost use base.Fml.{ftrue};
+ghost use Rattle.machine.specs.declared.calls.Call.{Call};
+
+use machine::Call;
+use std::marker::Model;
+
+/// Calls, in order, for proofs.
+#[derive(Drop)]
+pub(crate) struct CallLog {
+    pub ghost calls: { List Call },
+}
+
+impl Model for CallLog {
+    ghost also_owns = { λ _. ftrue };
+}
+
+impl CallLog {
+    /// No calls.
+    pub fn none() -> CallLog
+        ensures { result.calls ≡ [] }
+    {
+        CallLog {}
+    }
+
+    /// One call more.
+    pub fn with(&self, _call: &Call) -> CallLog
+        ensures { result.calls ≡ self.now.calls ++ _call.now ∷ [] }
+    {
+        CallLog {}
+    }
+}

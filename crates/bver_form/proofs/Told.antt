@@ -1,0 +1,82 @@
+-- What is told of slots, and the tests of loops by it.
+use Rattle.std.proofs.Common.{◌≡◌, ◌≢◌, ℕ, ◌+◌, ◌*◌, ◌^◌, ◌%◌, ◌<◌, ◌≤◌, Bool, true, false, Option, Some, None, List, length, inl, inr, eqb, refl, sym, ap, subst, ◌∙◌, arith, below_more, get_or-set_same, get_or-set_other}
+use Rattle.std.specs.Prelude.{◌==◌, ◌||◌, IsTrue, IfSome, slice_index_or, slice_set}
+use Rattle.std.specs.Int.Bits.{bit_or}
+use Rattle.std.proofs.lemmas.Bool.{cases_lt, false≢true}
+use Rattle.std.proofs.lemmas.Bool.Decides.{nat_tests}
+use Rattle.std.proofs.lemmas.Nat.{one_shl}
+use Rattle.std.proofs.lemmas.Nat.Bits.{bit_at-zero, bit_at-pow_same, bit_at-pow_other}
+use Rattle.bpf_insn.specs.Bits.{bit_of_either, is_bit}
+use Rattle.bpf_insn.specs.Flow.{is_written}
+use Rattle.bpf_insn.specs.declared.insn.Insn.{Insn}
+use Rattle.bpf.specs.declared.loops.Loop.{Loop}
+use Rattle.bpf.specs.Program.{Program, insn_at}
+use Rattle.bver_form.specs.declared.facts.SlotFacts.{SlotFacts}
+use Rattle.bver_form.specs.Facts.{AreFactsOf}
+use Rattle.bver_form.specs.Loops.{LeavesCounter, LeavesCounterAt, holds}
+
+-- ---- bits
+
+from_eqb : (m n : ℕ) → eqb m n ≡ true → m ≡ n
+from_eqb m n same = grind (arith, nat_tests, same)
+
+-- no register is among those of 0
+pub has_none : (register : ℕ) → is_bit 0 register ≡ false
+has_none register = ap (λ x. x == 1) (bit_at-zero register)
+
+-- the bit of a register stands for it alone
+pub has_named : (named register : ℕ) → named ≤ 10 → is_bit (1 * 2 ^ named % 2 ^ 16) register ≡ (named == register)
+has_named named register low =
+    ap (λ m. is_bit m register) (one_shl named 16 (omega arith)) ∙ by_same (eqb named register) refl
+  where
+    by_same : (t : Bool) → eqb named register ≡ t → is_bit (2 ^ named) register ≡ (named == register)
+    by_same true e =
+        let same : named ≡ register = from_eqb named register e in
+        ap (λ r. is_bit (2 ^ named) r) (sym same) ∙ ap (λ x. x == 1) (bit_at-pow_same named) ∙ sym e
+    by_same false e =
+        let apart : register ≢ named = grind (arith, nat_tests, e) in
+        ap (λ x. x == 1) (bit_at-pow_other named register apart) ∙ sym e
+
+-- a register is among those of both
+pub has_either : (a b register : ℕ) → is_bit (bit_or a b) register ≡ (is_bit a register || is_bit b register)
+has_either a b register = bit_of_either a b register
+
+-- ---- the facts of slots
+
+-- the facts of the slots before one stand at their places
+abbrev pub AreToldBefore : Program → List SlotFacts → (slot : ℕ) → Type 0
+AreToldBefore p facts slot =
+    (k : ℕ) (any : SlotFacts) → k < slot → AreFactsOf (insn_at p k) (slice_index_or facts k any)
+
+pub told_next : (p : Program) (facts : List SlotFacts) (slot at : ℕ) (told : SlotFacts) → at ≡ slot → slot < length facts → AreToldBefore p facts slot → AreFactsOf (insn_at p slot) told → AreToldBefore p (slice_set facts at told) (slot + 1)
+told_next p facts slot at told same inside before here =
+    subst (λ (i : ℕ). AreToldBefore p (slice_set facts i told) (slot + 1)) (sym same) by_place
+  where
+    by_place : AreToldBefore p (slice_set facts slot told) (slot + 1)
+    by_place k any below =
+        elim (cases_lt k slot) [
+          | inl earlier ↦
+              let apart : k ≢ slot = λ is. omega (arith, earlier, is) in
+              subst (AreFactsOf (insn_at p k)) (sym (get_or-set_other facts slot k told any apart)) (before k any earlier)
+          | inr past ↦
+              let is : k ≡ slot = omega (arith, past, below) in
+              subst (λ (j : ℕ). AreFactsOf (insn_at p j) (slice_index_or (slice_set facts slot told) j any)) (sym is)
+              (subst (AreFactsOf (insn_at p slot)) (sym (get_or-set_same facts slot told any inside)) here)
+        ]
+
+-- ---- a loop's register
+
+-- of slots outside a loop nothing is asked
+leaves_outside : (p : Program) (l : Loop) (slot : ℕ) → holds l slot ≡ false → LeavesCounterAt p l slot
+leaves_outside p l slot outside = by_insn (insn_at p slot)
+  where
+    by_insn : (o : Option Insn) → IfSome o (λ insn. IsTrue (holds l slot) → slot + 1 ≢ l.back → is_written insn l.register ≡ false)
+    by_insn None = tt
+    by_insn (Some insn) = λ inside. absurd (false≢true (sym outside ∙ inside))
+
+-- the slots of a loop before one leave its register
+abbrev pub LeaveBefore : Program → Loop → (slot : ℕ) → Type 0
+LeaveBefore p l slot = (k : ℕ) → k < slot → LeavesCounterAt p l k
+
+pub leave_none : (p : Program) (l : Loop) → LeaveBefore p l l.head
+leave_none p l k below = leaves_outside p l k (grind (arith, nat_tests, below))

@@ -1,0 +1,249 @@
+//! What more is told of a text or a table with a fault, behind the line that tells the fault.
+
+use crate::jobs::Job;
+use basm::{AsmCode, AsmFault, assemble};
+use machine::{MapKind, MapSizes};
+use policy::{RuleWord, Table, TableFault};
+use spw::{lines_of, words_of};
+use std::alloc::{AllocError, Global};
+
+/// How a table is written.
+const TABLE_FORM: &str =
+    "lines end in a line feed alone; words are parted by spaces; there are no comments";
+
+/// How the lines of a program's text end.
+const LINE_FORM: &str = "lines end in a line feed alone";
+
+/// The words of a rule.
+const RULE_WORDS: &str = "KIND KEY INIT EXT LOW HIGH QUOTA VERDICT";
+
+/// The line of that number of a text, from 1; an empty one where there is none.
+fn line_at(text: &str, number: usize) -> &str {
+    let mut place: usize = 0;
+    for line in lines_of(text) {
+        place = place.saturating_add(1);
+        if place == number {
+            return line;
+        }
+    }
+    ""
+}
+
+/// Whether all of a text can be seen: letters, digits and signs, and spaces between them.
+fn is_seen(text: &str) -> bool {
+    for byte in text.as_bytes() {
+        if *byte < b' ' || *byte > b'~' {
+            return false;
+        }
+    }
+    true
+}
+
+/// Whether a line begins as a comment does elsewhere.
+fn is_comment(line: &str) -> bool {
+    let line = line.trim_start();
+    line.starts_with('#') || line.starts_with(';') || line.starts_with('/')
+}
+
+/// The number of the line of a table's fault, where it has one.
+fn line_of(fault: TableFault) -> Option<usize> {
+    match fault {
+        TableFault::TooLong(_) | TableFault::Memory => None,
+        TableFault::BadRange(line)
+        | TableFault::NoCell(line)
+        | TableFault::BadCount { line, .. }
+        | TableFault::BadWord { line, .. } => Some(line),
+    }
+}
+
+/// Adds a word of a rule as it is written, with what cannot be seen spelled.
+fn add_word(
+    text: &mut String,
+    alloc: Global,
+    line: &str,
+    word: RuleWord,
+) -> Result<(), AllocError> {
+    let words = words_of(alloc, line)?;
+    let place = usize::from(word.number()).saturating_sub(1);
+    let Some(written) = words.as_slice().get(place).copied() else {
+        return Ok(());
+    };
+    let spelled = written.escape_debug();
+    write!(text, "    the word is {spelled}")?;
+    if !is_seen(written) {
+        write!(text, ": {TABLE_FORM}")?;
+    }
+    text.push('\n')
+}
+
+/// Adds how many words a line has, and which a rule has.
+fn add_count(text: &mut String, line: &str, number: usize, words: usize) -> Result<(), AllocError> {
+    write!(
+        text,
+        "    line {number} has {words} words, a rule has 8: {RULE_WORDS}\n"
+    )?;
+    if is_seen(line) && !is_comment(line) {
+        return Ok(());
+    }
+    let spelled = line.escape_debug();
+    write!(text, "    the line is {spelled}: {TABLE_FORM}\n")
+}
+
+/// Adds the maps as `--maps` writes them.
+fn add_list(text: &mut String, sizes: &MapSizes) -> Result<(), AllocError> {
+    for map in 0..sizes.maps() {
+        if map > 0 {
+            text.push(',')?;
+        }
+        let cells = sizes.cells(map).unwrap_or(0);
+        write!(text, "{cells}")?;
+        if let Some(MapKind::Peak) = sizes.kind(map) {
+            text.push('p')?;
+        }
+    }
+    Ok(())
+}
+
+/// Adds which cells each map has.
+fn add_cells(text: &mut String, sizes: &MapSizes) -> Result<(), AllocError> {
+    for map in 0..sizes.maps() {
+        let last = sizes.cells(map).unwrap_or(0).saturating_sub(1);
+        text.push_str(if map > 0 { ", " } else { ": " })?;
+        match sizes.kind(map) {
+            Some(MapKind::Peak) => write!(text, "map {map} is a peak map")?,
+            Some(MapKind::Counter) | None => write!(text, "map {map} has cells 0 to {last}")?,
+        }
+    }
+    text.push('\n')
+}
+
+/// Adds the quota of a line, and which cells the maps have.
+fn add_quota(
+    text: &mut String,
+    alloc: Global,
+    line: &str,
+    sizes: &MapSizes,
+) -> Result<(), AllocError> {
+    let words = words_of(alloc, line)?;
+    let place = usize::from(RuleWord::Quota.number()).saturating_sub(1);
+    let Some(written) = words.as_slice().get(place).copied() else {
+        return Ok(());
+    };
+    let spelled = written.escape_debug();
+    if sizes.maps() == 0 {
+        return write!(
+            text,
+            "    QUOTA is {spelled}: without --maps there are no maps\n"
+        );
+    }
+    write!(text, "    QUOTA is {spelled}, of the maps ")?;
+    add_list(text, sizes)?;
+    text.push_str(", as --maps says")?;
+    add_cells(text, sizes)
+}
+
+/// What more is told of the first fault of a table, for a node with maps of these sizes.
+fn told_table(alloc: Global, table: &str, sizes: &MapSizes) -> Result<String, AllocError> {
+    let mut text = String::new(alloc);
+    let Err(fault) = Table::read_for(alloc, table, sizes) else {
+        return Ok(text);
+    };
+    let line = match line_of(fault) {
+        Some(number) => line_at(table, number),
+        None => "",
+    };
+    match fault {
+        TableFault::BadWord { word, .. } => add_word(&mut text, alloc, line, word)?,
+        TableFault::BadCount {
+            line: number,
+            words,
+        } => add_count(&mut text, line, number, words)?,
+        TableFault::NoCell(_) => add_quota(&mut text, alloc, line, sizes)?,
+        TableFault::TooLong(_) | TableFault::BadRange(_) | TableFault::Memory => {}
+    }
+    Ok(text)
+}
+
+/// Whether a line begins with this name, in upper or lower case, and a colon behind it.
+fn looks_like(alloc: Global, line: &str, name: &str) -> Result<bool, AllocError> {
+    let line = line.trim_start().to_ascii_lowercase(alloc)?;
+    let name = name.to_ascii_lowercase(alloc)?;
+    Ok(match line.as_str().strip_prefix(name.as_str()) {
+        Some(rest) => rest.trim_start().starts_with(':'),
+        None => false,
+    })
+}
+
+/// Adds the lines of a program's text that look as if they defined this name, but for one.
+fn add_alike(
+    text: &mut String,
+    alloc: Global,
+    source: &str,
+    name: &str,
+    own: usize,
+) -> Result<(), AllocError> {
+    let mut number: usize = 0;
+    for line in lines_of(source) {
+        number = number.saturating_add(1);
+        if number != own && looks_like(alloc, line, name)? {
+            let spelled = line.escape_debug();
+            write!(text, "    line {number} looks like it: {spelled}\n")?;
+        }
+    }
+    Ok(())
+}
+
+/// The last word of a line: what a jump names.
+fn last_word(line: &str) -> &str {
+    let line = line.trim();
+    let line = line.strip_suffix(':').unwrap_or(line);
+    match line.rsplit_once([' ', ',']) {
+        Some((_, word)) => word,
+        None => line,
+    }
+}
+
+/// What more is told of the fault of a program's text: its line, with what cannot be seen spelled, and of a name that no line
+/// defines the lines that look like it.
+fn told_text(alloc: Global, source: &str) -> Result<String, AllocError> {
+    let mut text = String::new(alloc);
+    let Err(AsmFault { line: number, code }) = assemble(alloc, source) else {
+        return Ok(text);
+    };
+    let own = number as usize;
+    if own == 0 {
+        return Ok(text);
+    }
+    let line = line_at(source, own);
+    let spelled = line.escape_debug();
+    write!(text, "    line {own} is {spelled}")?;
+    if !is_seen(line) {
+        write!(text, ": {LINE_FORM}")?;
+    }
+    text.push('\n')?;
+    if let AsmCode::BadLabel = code {
+        add_alike(&mut text, alloc, source, last_word(line), own)?;
+    }
+    Ok(text)
+}
+
+/// What more is told of a job that failed, of the last text that it read: what the line of its fault holds. It is empty where
+/// that text has no fault.
+///
+/// # Errors
+///
+/// Where memory was refused.
+pub fn told_fault(alloc: Global, job: &Job, text: &str) -> Result<String, AllocError> {
+    match job {
+        Job::Assemble(_) => told_text(alloc, text),
+        Job::Policy(words) => told_table(alloc, text, &words.sizes),
+        Job::Decide(words) => told_table(alloc, text, &words.sizes),
+        Job::Compare(words) => told_table(alloc, text, &words.sizes),
+        Job::Map(words) => told_table(alloc, text, &words.sizes),
+        // An image that happens to be UTF-8 is no table.
+        Job::Rehearse(words) if !text.starts_with("BPFA") => {
+            told_table(alloc, text, &words.sizes)
+        }
+        _ => Ok(String::new(alloc)),
+    }
+}

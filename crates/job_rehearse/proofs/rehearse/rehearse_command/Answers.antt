@@ -1,0 +1,12 @@
+use Rattle.std.proofs.Common.{ap, ap₂, codes, ◌≡◌, ◌∙◌}
+use Rattle.std.proofs.lemmas.Result.{IfOk-weaker}
+use Rattle.clap.specs.Simple.{app_of, app_of_fields, new_app, with_rule}
+use Rattle.job_rehearse.proofs.rehearse.rehearse_command.Goals as goal
+
+pub returns-clause-shape : goal.returns-clause-shape
+returns-clause-shape c =
+    let named : app_of c.about.result ≡ new_app (codes "rehearse") = ap app_of_fields c.about.ensures ∙ c.new.ensures.app in
+    let first = c.in_ok-arg.ensures.shape c.file-old.ensures.local ∙ ap₂ with_rule named c.file-old.ensures.rule in
+    let second = c.in_ok-arg-2.ensures.shape c.file-new.ensures.local ∙ ap₂ with_rule first c.file-new.ensures.rule in
+    let third = c.in_ok-arg-3.ensures.shape c.maps_option-maps.ensures.local ∙ ap₂ with_rule second c.maps_option-maps.ensures.rule in
+    IfOk-weaker c.arg-4.result _ _ (λ m h. h.shape c.option-slot.ensures.local ∙ ap₂ with_rule third c.option-slot.ensures.rule) c.arg-4.ensures

@@ -1,0 +1,188 @@
+-- The policies of files: images, or tables, for a node with maps of some sizes.
+use Rattle.std.specs.Prelude.{◌≡◌, ◌≤◌, ◌<◌, ◌⊎◌, nat_eq, ℕ, Bool, true, false, List, [], ◌∷◌, ◌++◌, Option, Some, None, codes, length, string_bytes}
+use Rattle.std.specs.Borrow.{Bor}
+use Rattle.std.specs.Io.KnownBytes.{Appends}
+use Rattle.std.specs.List.{starts_with}
+use Rattle.std.specs.Str.{IsUtf8}
+use Rattle.bpf.specs.Program.{IsProgram, Program, image_bytes}
+use Rattle.bpf.specs.Reading.{Fails, image_reading, magic}
+use Rattle.bpf.specs.declared.fault.ImageFault.{ImageFault}
+use Rattle.bpf.specs.declared.fault.ImageFault.TheVariants.{Length}
+use Rattle.bver.specs.Refusals.{IsRefusal}
+use Rattle.bver.specs.Unjustified.{TellsUnjustified}
+use Rattle.bver_form.specs.declared.refusal.Refused.{Refused}
+use Rattle.machine.specs.Sizes.{Maps}
+use Rattle.policy.specs.Compiled.{IsCompiled}
+use Rattle.policy_table.specs.FirstFault.{compile_fault}
+use Rattle.policy_table.specs.Lines.{IsTable}
+use Rattle.policy_table.specs.TableFaults.{IsTableFault, policy_fault_of, table_fault_text}
+use Rattle.policy_table.specs.declared.rules.Rule.{Rule}
+use Rattle.policy_table.specs.declared.table_faults.TableFault.{TableFault}
+use Rattle.rmap.specs.declared.boot.TheConstants.{STAGING_SIZE}
+use Rattle.spw.specs.Line.{lines_of}
+use Rattle.job_parts.specs.Files.{Reads}
+use Rattle.job_parts.specs.Printed.{fault_line}
+use Rattle.job_parts.specs.Reading.{IsUnread}
+use Rattle.job_parts.specs.declared.faults.Fault.{Fault}
+use Rattle.job_parts.specs.declared.faults.Fault.TheVariants.{BadImage, BadTable as IsBadTable, CannotRead, NoMemory, Refused as IsRefused}
+use Rattle.job_rehearse.specs.declared.policies.NoPolicy.{NoPolicy}
+use Rattle.job_rehearse.specs.declared.policies.NoPolicy.TheVariants.{BadTable, Ended}
+use Rattle.job_rehearse.specs.declared.policies.Policies.{Policies}
+use Rattle.job_rehearse.specs.declared.rehearse.RehearseWords.{RehearseWords}
+
+-- ---- bytes
+
+-- the bytes begin as those of an image do
+abbrev pub is_image : List ℕ → Bool
+is_image bytes = starts_with nat_eq bytes magic
+
+-- the bytes are UTF-8, and the text of a table without a fault for these maps
+pub record IsTableOf (sizes : Maps) (bytes : List ℕ) (rules : List Rule) : Type 0 where
+  pub utf8 : IsUtf8 bytes
+  pub is_table : IsTable bytes rules
+  pub faultless : compile_fault sizes rules ≡ None
+
+-- the bytes are an image of the program
+pub record IsImageOf (bytes : List ℕ) (p : Program) : Type 0 where
+  pub begins : is_image bytes ≡ true
+  pub limits : IsProgram p
+  pub spelled : bytes ≡ image_bytes p
+
+-- the bytes are a table that compiles to the program for these maps
+pub record IsCompiledOf (sizes : Maps) (bytes : List ℕ) (p : Program) : Type 0 where
+  pub other : is_image bytes ≡ false
+  pub rules : List Rule
+  pub table : IsTableOf sizes bytes rules
+  pub compiled : IsCompiled sizes rules p
+
+-- the bytes are a policy of this program, for a node with these maps: its image, or a table that compiles to it
+abbrev pub IsPolicy : Maps → (bytes : List ℕ) → Program → Type 0
+IsPolicy sizes bytes p = IsImageOf bytes p ⊎ IsCompiledOf sizes bytes p
+
+-- the first fault of bytes that are no image, or memory was refused to it
+abbrev pub IsNoImage : (bytes : List ℕ) → Fault → Type 0
+IsNoImage bytes fault = (bad : ImageFault) × (fault ≡ BadImage bad) × Fails bad (image_reading bytes)
+
+-- the bytes of the file of this name are neither an image nor UTF-8
+pub record IsNoText (name bytes : List ℕ) (fault : Fault) : Type 0 where
+  pub file : Bor (List ℕ)
+  pub named : file.now ≡ name
+  pub is_fault : fault ≡ CannotRead file
+  pub other : is_image bytes ≡ false
+  pub no_text : ¬ IsUtf8 bytes
+
+-- the bytes are UTF-8, and no table without a fault for these maps: this is the first, with its place
+pub record IsBadTableOf (sizes : Maps) (bytes : List ℕ) (fault : TableFault) : Type 0 where
+  pub other : is_image bytes ≡ false
+  pub utf8 : IsUtf8 bytes
+  pub is_fault : IsTableFault sizes (lines_of bytes) fault
+
+-- why the bytes of the file of this name are no policy for these maps
+abbrev pub IsNoPolicy : (name : List ℕ) → Maps → (bytes : List ℕ) → NoPolicy → Type 0
+IsNoPolicy name sizes bytes (Ended fault) =
+    ((is_image bytes ≡ true) × IsNoImage bytes fault) ⊎ IsNoText name bytes fault ⊎ (fault ≡ NoMemory)
+IsNoPolicy name sizes bytes (BadTable own fault) = (own.now ≡ name) × IsBadTableOf sizes bytes fault
+
+-- ---- images
+
+-- the verifier refuses the program for a node with these maps, or memory was refused
+abbrev pub IsNotAccepted : Program → Maps → Fault → Type 0
+IsNotAccepted p sizes fault =
+    (fault ≡ NoMemory)
+    ⊎ ((refused : Refused) × (fault ≡ IsRefused refused) × IsRefusal p refused × TellsUnjustified p sizes refused)
+
+-- the image has more bytes than the staging, or memory was refused to them
+abbrev pub IsTooLong : Program → Fault → Type 0
+IsTooLong p fault = (fault ≡ NoMemory) ⊎ ((fault ≡ BadImage Length) × (STAGING_SIZE < length (image_bytes p)))
+
+-- what a rehearsal needs of two programs: the first may judge, and the bytes of both images, which the staging can hold
+pub record ArePolicies (one other : Program) (sizes : Maps) (made : Policies) : Type 0 where
+  pub program : made.program.program ≡ one
+  pub sizes_are : made.program.sizes ≡ sizes
+  pub old : made.old.items ≡ image_bytes one
+  pub new : made.new.items ≡ image_bytes other
+  pub old_fits : length made.old.items ≤ STAGING_SIZE
+  pub new_fits : length made.new.items ≤ STAGING_SIZE
+
+-- why two programs cannot be rehearsed with
+abbrev pub AreUnready : (one other : Program) → Maps → Fault → Type 0
+AreUnready one other sizes fault = IsNotAccepted one sizes fault ⊎ (IsTooLong one fault ⊎ IsTooLong other fault)
+
+-- ---- files
+
+-- the line of a table's fault was printed, and behind it a line with the name of its file and the place
+pub record TellsNamedFault (name : List ℕ) (fault : TableFault) (old new : Option (List ℕ)) : Type 0 where
+  pub told : Option (List ℕ)
+  pub named : Option (List ℕ)
+  pub line : Appends old told (fault_line (IsBadTable (policy_fault_of fault)))
+  pub file : Appends told named (codes "    " ++ name ++ codes " ")
+  pub place : Appends named new (table_fault_text fault ++ 10 ∷ [])
+
+module _ {S : Type 0} (reads : Reads S) where
+  -- the file was read, and gave a policy of this program for these maps
+  pub record HoldsPolicy (before : S) (name : List ℕ) (sizes : Maps) (p : Program) (after : S) : Type 0 where
+    pub bytes : List ℕ
+    pub read : reads before name (Some bytes) after
+    pub policy : IsPolicy sizes bytes p
+
+  -- the file was read, and gave no policy for these maps
+  pub record HoldsNone (before : S) (name : List ℕ) (sizes : Maps) (after : S) (none : NoPolicy) : Type 0 where
+    pub bytes : List ℕ
+    pub read : reads before name (Some bytes) after
+    pub is_none : IsNoPolicy name sizes bytes none
+
+  -- the file cannot be read
+  abbrev pub CannotBeRead : (before : S) (name : List ℕ) (after : S) → NoPolicy → Type 0
+  CannotBeRead before name after (Ended fault) = IsUnread reads before name after fault
+  CannotBeRead before name after (BadTable own fault) = ⊥
+
+  -- the file cannot be read, or gives no policy for these maps
+  abbrev pub GivesNoPolicy : (before : S) (name : List ℕ) (sizes : Maps) (after : S) → NoPolicy → Type 0
+  GivesNoPolicy before name sizes after none =
+      CannotBeRead before name after none ⊎ HoldsNone before name sizes after none
+
+module _ {S : Type 0} (reads : Reads S) (words : RehearseWords) where
+  -- the file of the old policy gave this program
+  abbrev pub HoldsOld : (before : S) → Program → (after : S) → Type 0
+  HoldsOld before p after = HoldsPolicy reads before (string_bytes words.old) words.sizes p after
+
+  -- the files were read in this order, and gave policies of these programs
+  pub record AreImages (before : S) (one other : Program) (after : S) : Type 0 where
+    pub between : S
+    pub first : HoldsOld before one between
+    pub second : HoldsPolicy reads between (string_bytes words.new) words.sizes other after
+
+  -- the file of the new policy gives none, behind that of the old one, which does
+  pub record NewIsNone (before after : S) (none : NoPolicy) : Type 0 where
+    pub between : S
+    pub one : Program
+    pub first : HoldsOld before one between
+    pub second : GivesNoPolicy reads between (string_bytes words.new) words.sizes after none
+
+  -- a file gives no policy
+  abbrev pub AreNoImages : (before after : S) → NoPolicy → Type 0
+  AreNoImages before after none =
+      GivesNoPolicy reads before (string_bytes words.old) words.sizes after none ⊎ NewIsNone before after none
+
+  -- the files gave what a rehearsal needs
+  pub record HoldsBoth (before after : S) (made : Policies) : Type 0 where
+    pub one : Program
+    pub other : Program
+    pub images : AreImages before one other after
+    pub policies : ArePolicies one other words.sizes made
+
+  -- the files gave policies that cannot be rehearsed with
+  pub record BothUnready (before after : S) (fault : Fault) : Type 0 where
+    pub one : Program
+    pub other : Program
+    pub images : AreImages before one other after
+    pub unready : AreUnready one other words.sizes fault
+
+  -- the same as a reason
+  abbrev pub EndUnready : (before after : S) → NoPolicy → Type 0
+  EndUnready before after (Ended fault) = BothUnready before after fault
+  EndUnready before after (BadTable own fault) = ⊥
+
+  -- why the files do not give what a rehearsal needs
+  abbrev pub HoldsNotBoth : (before after : S) → NoPolicy → Type 0
+  HoldsNotBoth before after none = AreNoImages before after none ⊎ EndUnready before after none

@@ -1,0 +1,67 @@
+-- The words of the job `rehearse`.
+use Rattle.std.specs.Prelude.{◌≡◌, ◌⊎◌, ◌&&◌, ℕ, Bool, false, true, List, Option, Some, None, codes, string_bytes}
+use Rattle.std.specs.Str.{bytes_eq}
+use Rattle.clap.specs.Walk.{Row, first_of}
+use Rattle.clap.specs.Simple.{App, new_app, with_rule}
+use Rattle.job_packets.specs.HexWords.{Has}
+use Rattle.job_packets.specs.Slots.{WritesSlots, every_slot}
+use Rattle.job_parts.specs.Arguments.{file_rule, option_rule}
+use Rattle.job_parts.specs.Options.{GivesSizes, IsBadList}
+use Rattle.job_parts.specs.declared.usage.UsageFault.{UsageFault}
+use Rattle.job_parts.specs.declared.usage.UsageFault.TheVariants.{Parse, BadOption, Memory}
+use Rattle.job_rehearse.specs.declared.rehearse.RehearseWords.{RehearseWords}
+
+-- `rehearse OLD NEW [--maps LIST] [--slot LIST]`
+abbrev pub rehearse_app : App
+rehearse_app =
+    with_rule
+    (with_rule
+    (with_rule (with_rule (new_app (codes "rehearse")) (file_rule (codes "old"))) (file_rule (codes "new")))
+    (option_rule (codes "maps"))) (option_rule (codes "slot"))
+
+-- both names are that of standard input, which one read ends
+abbrev pub are_one_input : (old new : List ℕ) → Bool
+are_one_input old new = bytes_eq old (codes "-") && bytes_eq new (codes "-")
+
+-- the slots are those that the option's value writes; without the option each of the four
+abbrev pub GivesSlots : Option (List ℕ) → (slots : List ℕ) → Type 0
+GivesSlots None slots = slots ≡ every_slot
+GivesSlots (Some word) slots = WritesSlots word slots
+
+-- the option has a value that writes no slots
+abbrev pub AreBadSlots : Option (List ℕ) → Type 0
+AreBadSlots None = ⊥
+AreBadSlots (Some word) = ¬ Has (WritesSlots word)
+
+-- matches with such a value for --slot, or memory was refused
+abbrev pub RefusesSlots : List Row → UsageFault → Type 0
+RefusesSlots rows Memory = Unit {0}
+RefusesSlots rows BadOption = AreBadSlots (first_of (codes "slot") rows)
+RefusesSlots rows (Parse text) = ⊥
+
+-- the words are those of rehearse with these matches
+pub record NamesRehearse (rows : List Row) (words : RehearseWords) : Type 0 where
+  pub old : first_of (codes "old") rows ≡ Some (string_bytes words.old)
+  pub new : first_of (codes "new") rows ≡ Some (string_bytes words.new)
+  pub apart : are_one_input (string_bytes words.old) (string_bytes words.new) ≡ false
+  pub sizes : GivesSizes (first_of (codes "maps") rows) words.sizes
+  pub slots : GivesSlots (first_of (codes "slot") rows) words.slots.items
+
+-- matches that name standard input for both files
+pub record NamesOneInput (rows : List Row) : Type 0 where
+  pub old : List ℕ
+  pub new : List ℕ
+  pub old_name : first_of (codes "old") rows ≡ Some old
+  pub new_name : first_of (codes "new") rows ≡ Some new
+  pub one : are_one_input old new ≡ true
+
+-- matches without one of the files, with one input for both, or with a list of maps or of slots that is none
+abbrev pub SpoilsRehearse : List Row → Type 0
+SpoilsRehearse rows = (first_of (codes "old") rows ≡ None) ⊎ (first_of (codes "new") rows ≡ None) ⊎ NamesOneInput rows
+    ⊎ IsBadList (first_of (codes "maps") rows) ⊎ AreBadSlots (first_of (codes "slot") rows)
+
+-- such matches, or memory was refused
+abbrev pub RefusesRehearse : List Row → UsageFault → Type 0
+RefusesRehearse rows Memory = Unit {0}
+RefusesRehearse rows BadOption = SpoilsRehearse rows
+RefusesRehearse rows (Parse text) = ⊥

@@ -1,0 +1,78 @@
+-- The packets of loads, which a node of one thread takes in turn.
+use Rattle.std.specs.Prelude.{◌≡◌, ◌≤◌, ◌⊎◌, ◌==◌, ◌||◌, not, ℕ, Bool, false, if◌then◌else◌, List, [], length, Option, Some, None}
+use Rattle.std.specs.Io.KnownBytes.{Appends}
+use Rattle.bver.specs.Justified.{AcceptedValue}
+use Rattle.node_parts.specs.declared.config.NodeConfig.{NodeConfig}
+use Rattle.rmap.specs.Command.{CommandValue, address_of, command_of, discard_of, writes}
+use Rattle.rmap.specs.declared.boot.TheConstants.{LOAD_REGISTER}
+use Rattle.rmap.specs.declared.discard.Discard.{Discard}
+use Rattle.single_node.specs.Nodes.{IsFresh}
+use Rattle.single_node.specs.Serving.{ServesTold}
+use Rattle.single_node.specs.declared.served.Told.{Told}
+use Rattle.spw.specs.Cargo.{Cargo}
+use Rattle.spw.specs.Line.{HasFault, IsPacketLine, marker_word}
+use Rattle.spw.specs.declared.faults.LineFault.TheVariants.{Memory}
+use Rattle.job_nodes.specs.JobNode.{IsConfig}
+use Rattle.job_parts.specs.declared.bad_lines.BadLine.{BadLine}
+use Rattle.job_parts.specs.declared.bad_lines.BadLine.TheVariants.{Line, NoEvent, NoPort, NoRoom}
+use Rattle.job_parts.specs.declared.stops.LineEnd.{LineEnd}
+use Rattle.job_parts.specs.declared.stops.LineEnd.TheVariants.{Bad, NoMemory}
+use Rattle.job_rehearse.specs.Words.{step_line}
+use Rattle.job_rehearse.specs.declared.steps.Rehearsing.{Rehearsing}
+use Rattle.job_rehearse.specs.declared.steps.Step.{Step}
+use Rattle.job_rehearse.specs.declared.steps.Step.TheVariants.{Control, Part, Result}
+
+-- what a command of a load is: at the load register the control write and the read of the load result, and else the write
+-- of a part
+abbrev pub step_at : CommandValue → Step
+step_at c = if not (address_of c == LOAD_REGISTER) then Part else (if writes c then Control else Result)
+
+-- the same of its packet
+abbrev pub step_of : Cargo → Option Discard → Step
+step_of p (Some discard) = Part
+step_of p None = step_at (command_of p)
+
+-- the verdict does not let a packet of a load be done; what reads the load result does nothing
+abbrev pub is_refused : Step → (verdict : ℕ) → Bool
+is_refused Part verdict = not (verdict == 0)
+is_refused Control verdict = not (verdict == 0)
+is_refused Result verdict = false
+
+-- a fresh node of one port, at which the program judges all, and which has served nothing
+pub record IsBegun (program : AcceptedValue) (r : Rehearsing) : Type 0 where
+  pub config : NodeConfig
+  pub is_config : IsConfig 1 program.sizes config
+  pub fresh : IsFresh config program r.node
+  pub silent : r.reply ≡ []
+  pub unrefused : r.refused ≡ false
+
+-- the line is a packet line, of a port that is none of so many
+pub record HasOtherPort (line : List ℕ) (ports : ℕ) : Type 0 where
+  pub port : ℕ
+  pub packet : Cargo
+  pub written : IsPacketLine line port packet
+  pub other : ports ≤ port
+
+-- why a line writes no packet for a node with so many ports, or memory was refused to it
+abbrev pub IsNoPacket : List ℕ → (ports : ℕ) → BadLine → Type 0
+IsNoPacket line ports (Line fault) = (fault ≡ Memory) ⊎ HasFault marker_word line fault
+IsNoPacket line ports NoPort = HasOtherPort line ports
+IsNoPacket line ports NoEvent = ⊥
+IsNoPacket line ports NoRoom = ⊥
+
+-- the node served the packet that the line writes, and what that is and how it ended was printed
+pub record TakesStep (line : List ℕ) (before after : Rehearsing) (old new : Option (List ℕ)) : Type 0 where
+  pub port : ℕ
+  pub packet : Cargo
+  pub written : IsPacketLine line port packet
+  pub told : Told
+  pub served : ServesTold told port packet before.node after.node after.reply
+  pub refused : after.refused
+      ≡ (before.refused || is_refused (step_of packet (discard_of packet.bytes)) told.verdict)
+  pub printed : Appends old new (step_line (step_of packet (discard_of packet.bytes)) told.served after.reply)
+
+-- the node did not take the line, with which this is wrong, and nothing was printed
+abbrev pub IsNoStep : List ℕ → (before after : Rehearsing) → (old new : Option (List ℕ)) → LineEnd → Type 0
+IsNoStep line before after old new (Bad fault) =
+    IsNoPacket line (length before.node.passes) fault × (after ≡ before) × (new ≡ old)
+IsNoStep line before after old new NoMemory = ⊥

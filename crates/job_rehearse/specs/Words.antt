@@ -1,0 +1,78 @@
+-- The words for what becomes of a load.
+use Rattle.std.specs.Prelude.{ℕ, ◌==◌, if◌then◌else◌, List, [], ◌∷◌, ◌++◌, Option, Some, None, codes, decimal, drop, length, slice_index}
+use Rattle.byteorder.specs.Endian.{big_number}
+use Rattle.node_parts.specs.declared.served.Served.{Served}
+use Rattle.node_parts.specs.declared.served.Served.TheVariants.{Stopped, Unread, Done, Window}
+use Rattle.node_parts.specs.declared.stop.Stop.TheVariants.{Answered, Discarded}
+use Rattle.rmap.specs.Codes.{status_code}
+use Rattle.rmap.specs.declared.status.Status.{Status}
+use Rattle.rmap.specs.declared.status.Status.TheVariants.{
+  Success,
+  GeneralError,
+  UnusedCode,
+  InvalidKey,
+  InvalidDataCrc,
+  EarlyEndOfPacket,
+  TooMuchData,
+  ErrorEndOfPacket,
+  VerifyBufferOverrun,
+  NotAuthorised,
+  RmwDataLength,
+  InvalidLogicalAddress,
+}
+use Rattle.job_rehearse.specs.declared.steps.Step.{Step}
+use Rattle.job_rehearse.specs.declared.steps.Step.TheVariants.{Control, Part, Result}
+use Rattle.job_rehearse.specs.declared.words.TheConstants.{RESULT_REPLY}
+
+-- what a packet of a load is
+abbrev pub step_words : Step → List ℕ
+step_words Part = codes "write of the image"
+step_words Control = codes "load"
+step_words Result = codes "read of the load result"
+
+-- the words for a status (ECSS-E-ST-50-52C, error and status codes)
+abbrev pub status_words : Status → List ℕ
+status_words Success = codes "success"
+status_words GeneralError = codes "general error"
+status_words UnusedCode = codes "unused packet type or command code"
+status_words InvalidKey = codes "invalid key"
+status_words InvalidDataCrc = codes "invalid data CRC"
+status_words EarlyEndOfPacket = codes "early EOP"
+status_words TooMuchData = codes "too much data"
+status_words ErrorEndOfPacket = codes "EEP"
+status_words VerifyBufferOverrun = codes "verify buffer overrun"
+status_words NotAuthorised = codes "not implemented or not authorised"
+status_words RmwDataLength = codes "RMW data length error"
+status_words InvalidLogicalAddress = codes "invalid target logical address"
+
+-- with which status a packet ended, if it did with one
+abbrev pub status_in : Served → Option Status
+status_in (Stopped (Discarded discard)) = None
+status_in (Stopped (Answered status)) = Some status
+status_in Unread = None
+status_in (Done applied) = Some applied.status
+status_in (Window status) = Some status
+
+-- how a packet ended
+abbrev pub outcome_text : Option Status → List ℕ
+outcome_text None = codes "no reply"
+outcome_text (Some status) = codes "status " ++ decimal (status_code status) ++ codes " " ++ status_words status
+
+-- the load result behind a reply's header of twelve bytes: the generation of what was loaded, or why it was not. Its first
+-- byte is the code of a refusal, the next but one and the one behind it the slot, and the last four the generation
+unfoldable pub result_words : (reply : List ℕ) → List ℕ
+result_words reply =
+    if big_number 4 (drop 16 reply) == 0
+    then (if slice_index reply 12 == 0
+    then codes ", nothing was loaded"
+    else codes ", load fault " ++ decimal (slice_index reply 12) ++ codes " slot " ++ decimal (big_number 2 (drop 14 reply)))
+    else codes ", generation " ++ decimal (big_number 4 (drop 16 reply))
+
+-- the load result that a reply has, if it has one: it has as many bytes as the reply to the read of it
+abbrev pub result_text : (reply : List ℕ) → List ℕ
+result_text reply = if length reply == RESULT_REPLY then result_words reply else []
+
+-- the line of a packet of a load: what it is, and how it ended
+abbrev pub step_line : Step → Served → (reply : List ℕ) → List ℕ
+step_line step served reply =
+    codes "    " ++ step_words step ++ codes ": " ++ outcome_text (status_in served) ++ result_text reply ++ 10 ∷ []

@@ -1,0 +1,204 @@
+//! The policies of files: images, or tables.
+
+ghost use Rattle.std.specs.Prelude.{◌≡◌, ◌≤◌, IfErr, IfOk, OnOk, false, length};
+ghost use Rattle.bpf.specs.Program.{IsProgram, image_bytes};
+ghost use Rattle.rmap.specs.declared.boot.TheConstants.{STAGING_SIZE};
+ghost use Rattle.job_rehearse.specs.Policies.{AreImages, AreNoImages, ArePolicies, AreUnready, GivesNoPolicy, HoldsBoth, HoldsNotBoth, HoldsPolicy, IsNoImage, IsNoPolicy, IsNotAccepted, IsPolicy, IsTableOf, IsTooLong, TellsNamedFault, is_image};
+ghost use Rattle.job_rehearse.specs.declared.policies.NoPolicy.TheVariants.{Ended};
+
+use crate::rehearse::RehearseWords;
+use bpf::{Image, ImageFault};
+use bver::{Accepted, verify};
+use job_parts::faults::Fault;
+use job_parts::programs::bytes_in;
+use job_parts::storage::Files;
+use machine::MapSizes;
+use policy::{Table, TableFault, compile};
+use rmap::STAGING_SIZE;
+use std::alloc::{AllocError, Global};
+use std::io::{self, Write};
+
+/// The bytes with which an image begins.
+const MAGIC: [u8; 4] = *b"BPFA";
+
+/// Why there are no policies.
+#[derive(Debug, Drop)]
+pub enum NoPolicy<'a> {
+    /// The fault ends the job.
+    Ended(Fault<'a>),
+    /// The table in the file of this name has a fault.
+    BadTable(&'a str, TableFault),
+}
+
+impl<'a> From<Fault<'a>> for NoPolicy<'a> {
+    ghost from_gives = { λ fault none. none ≡ Ended fault };
+
+    fn from(fault: Fault<'a>) -> Self {
+        NoPolicy::Ended(fault)
+    }
+}
+
+/// The policies of a rehearsal.
+#[derive(Drop)]
+pub struct Policies {
+    /// The program of the old policy, which may judge on the node.
+    pub program: Accepted,
+    /// The bytes of the image of the old policy, at most as many as the staging has.
+    pub old: Vec<u8>,
+    /// The bytes of the image of the new policy, at most as many as the staging has.
+    pub new: Vec<u8>,
+}
+
+/// Whether bytes begin as those of an image do.
+fn is_image(bytes: &[u8]) -> bool
+    ensures { result ≡ is_image bytes.now }
+{
+    bytes.starts_with(&MAGIC)
+}
+
+/// The image that the bytes are.
+fn image_of<'a>(alloc: Global, bytes: &[u8]) -> Result<Image, Fault<'a>>
+    ensures image { IfOk result (λ image. IsProgram image × (bytes.now ≡ image_bytes image)) }
+    ensures refused { IfErr result (IsNoImage bytes.now) }
+{
+    Ok(Image::read(alloc, bytes)?)
+}
+
+/// The table that the bytes of the file of this name are, without a fault for a node with maps of these sizes.
+fn table_of<'a>(
+    alloc: Global,
+    name: &'a str,
+    bytes: Vec<u8>,
+    sizes: &MapSizes,
+) -> Result<Table, NoPolicy<'a>>
+    requires { is_image bytes.items ≡ false }
+    ensures table { IfOk result (IsTableOf sizes.now bytes.items) }
+    ensures none { IfErr result (IsNoPolicy name.now sizes.now bytes.items) }
+{
+    let Ok(text) = String::from_utf8(bytes) else {
+        return Err(NoPolicy::Ended(Fault::CannotRead(name)));
+    };
+    match Table::read_for(alloc, text.as_str(), sizes) {
+        Ok(table) => Ok(table),
+        Err(fault) => Err(NoPolicy::BadTable(name, fault)),
+    }
+}
+
+/// The image of the table that the bytes of the file of this name are.
+fn compiled<'a>(
+    alloc: Global,
+    name: &'a str,
+    bytes: Vec<u8>,
+    sizes: &MapSizes,
+) -> Result<Image, NoPolicy<'a>>
+    requires { is_image bytes.items ≡ false }
+    ensures policy { IfOk result (IsPolicy sizes.now bytes.items) }
+    ensures none { IfErr result (IsNoPolicy name.now sizes.now bytes.items) }
+{
+    let table = table_of(alloc, name, bytes, sizes)?;
+    match compile(alloc, &table, sizes) {
+        Ok(image) => Ok(image),
+        // Memory alone can be refused to it: the table has no fault for these maps.
+        Err(_) => Err(NoPolicy::Ended(Fault::NoMemory)),
+    }
+}
+
+/// The image of the policy in the file of this name, for a node with maps of these sizes: of an image that it has, or of a
+/// table.
+fn policy_in<'a, F: Files>(
+    alloc: Global,
+    files: &mut F,
+    name: &'a str,
+    sizes: &MapSizes,
+) -> Result<Image, NoPolicy<'a>>
+    ensures policy { IfOk result (λ image.
+        HoldsPolicy F.reads files.old name.now sizes.now image files.new) }
+    ensures none { IfErr result
+        (GivesNoPolicy F.reads files.old name.now sizes.now files.new) }
+{
+    let bytes = bytes_in(alloc, files, name)?;
+    if is_image(bytes.as_slice()) {
+        return Ok(image_of(alloc, bytes.as_slice())?);
+    }
+    compiled(alloc, name, bytes, sizes)
+}
+
+/// The images of the policies in two files, read in this order.
+fn images<'a, F: Files>(
+    alloc: Global,
+    words: &'a RehearseWords,
+    files: &mut F,
+) -> Result<(Image, Image), NoPolicy<'a>>
+    ensures images { IfOk result (λ made.
+        AreImages F.reads words.now files.old made.0 made.1 files.new) }
+    ensures none { IfErr result (AreNoImages F.reads words.now files.old files.new) }
+{
+    let old = policy_in(alloc, files, words.old.as_str(), &words.sizes)?;
+    let new = policy_in(alloc, files, words.new.as_str(), &words.sizes)?;
+    Ok((old, new))
+}
+
+/// The program of an image, which may judge on a node with maps of these sizes.
+fn accepted<'a>(alloc: Global, image: &Image, sizes: &MapSizes) -> Result<Accepted, Fault<'a>>
+    ensures program { IfOk result (λ program. program.program ≡ image.now) }
+    ensures sizes { IfOk result (λ program. program.sizes ≡ sizes.now) }
+    ensures refused { IfErr result (IsNotAccepted image.now sizes.now) }
+{
+    Ok(verify(alloc, image.copy()?, sizes)?)
+}
+
+/// The bytes of an image, at most as many as the staging has.
+fn bytes_of<'a>(image: &Image) -> Result<Vec<u8>, Fault<'a>>
+    ensures bytes { IfOk result (λ bytes. bytes.items ≡ image_bytes image.now) }
+    ensures short { IfOk result (λ bytes. length bytes.items ≤ STAGING_SIZE) }
+    ensures refused { IfErr result (IsTooLong image.now) }
+{
+    let bytes = image.write()?;
+    if bytes.len() > STAGING_SIZE as usize {
+        return Err(Fault::BadImage(ImageFault::Length));
+    }
+    Ok(bytes)
+}
+
+/// What a rehearsal needs of two images.
+fn policies_of<'a>(
+    alloc: Global,
+    old: &Image,
+    new: &Image,
+    sizes: &MapSizes,
+) -> Result<Policies, Fault<'a>>
+    ensures policies { IfOk result (ArePolicies old.now new.now sizes.now) }
+    ensures refused { IfErr result (AreUnready old.now new.now sizes.now) }
+{
+    let program = accepted(alloc, old, sizes)?;
+    let old = bytes_of(old)?;
+    let new = bytes_of(new)?;
+    Ok(Policies { program, old, new })
+}
+
+/// The policies of a rehearsal, of the files that the words name.
+///
+/// Faults are found in this order: the file of the old policy, that policy, the file of the new one, that policy, and
+/// whether the old one may judge on the node.
+pub fn policies_in<'a, F: Files>(
+    alloc: Global,
+    words: &'a RehearseWords,
+    files: &mut F,
+) -> Result<Policies, NoPolicy<'a>>
+    ensures policies { IfOk result (HoldsBoth F.reads words.now files.old files.new) }
+    ensures none { IfErr result (HoldsNotBoth F.reads words.now files.old files.new) }
+{
+    let (old, new) = images(alloc, words, files)?;
+    Ok(policies_of(alloc, &old, &new, &words.sizes)?)
+}
+
+/// Prints the fault of a table: its line, and a line with the name of its file and the place.
+pub fn print_named_fault<W: Write>(out: &mut W, name: &str, fault: &TableFault) -> io::Result<()>
+    ensures { OnOk result
+        (TellsNamedFault name.now fault.now (W.contents out.old) (W.contents out.new)) }
+{
+    let code = fault.fault().code();
+    writeln!(out, "policy fault {code}")?;
+    write!(out, "    {name} ")?;
+    writeln!(out, "{fault}")
+}

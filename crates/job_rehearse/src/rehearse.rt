@@ -1,0 +1,189 @@
+//! The job `rehearse`.
+
+ghost use Rattle.std.specs.Prelude.{◌≡◌, ◌≤◌, IfErr, IfOk, codes, false, length, option_map};
+ghost use Rattle.clap.specs.Simple.{app_of};
+ghost use Rattle.clap.specs.declared.builder.command.Command.TheViews.{out-Command as fields_of};
+ghost use Rattle.clap.specs.Walk.{first_of, rows_of};
+ghost use Rattle.clap.specs.Matches.{found_of};
+ghost use Rattle.job_parts.specs.Stops.{StopsBy};
+ghost use Rattle.rmap.specs.declared.boot.TheConstants.{STAGING_SIZE};
+ghost use Rattle.job_rehearse.specs.RehearseJob.{GivesSlots, NamesRehearse, RefusesRehearse, RefusesSlots, are_one_input, rehearse_app};
+ghost use Rattle.job_rehearse.specs.Rehearsed.{IsNotRehearsed, IsStuck, Rehearses, RehearsesFile, back_line, there_line};
+
+use crate::loads::{Ending, LoadOf, load};
+use crate::policies::{NoPolicy, Policies, policies_in, print_named_fault};
+use crate::steps::Rehearsing;
+use clap::{ArgMatches, Command};
+use job_packets::numbers::{every_slot, slots_written};
+use job_parts::arguments::{file, name_of, option, text_of};
+use job_parts::options::{maps_option, sizes_of};
+use job_parts::status::Status;
+use job_parts::stops::Halt;
+use job_parts::storage::Files;
+use job_parts::usage::UsageFault;
+use machine::MapSizes;
+use std::alloc::{AllocError, Global};
+use std::io::Write;
+
+/// The name of standard input.
+const STANDARD_INPUT: &str = "-";
+
+/// The words of the job `rehearse`.
+#[derive(Debug, Drop)]
+pub struct RehearseWords {
+    /// The name of the file of the old policy.
+    pub old: String,
+    /// The name of the file of the new policy.
+    pub new: String,
+    /// How many cells each map of the node has, and of which kind it is.
+    pub sizes: MapSizes,
+    /// The slots into which a policy is loaded, in this order.
+    pub slots: Vec<u8>,
+}
+
+/// `rehearse OLD NEW [--maps LIST] [--slot LIST]`.
+pub fn rehearse_command<'a>(alloc: Global) -> Result<Command<'a>, AllocError>
+    ensures shape { IfOk result (λ c. app_of c ≡ rehearse_app) }
+    ensures local { IfOk result (λ c. (fields_of c).has_globals ≡ false) }
+{
+    let help = "The file of the old policy, a table or an image, or - for standard input";
+    let old = file(alloc, "old", "OLD", help);
+    let help = "The file of the new policy, a table or an image, or - for standard input";
+    let new = file(alloc, "new", "NEW", help);
+    let maps = maps_option(alloc);
+    let help =
+        "The slots of the loads, 0 to 3 with commas between them; without it each of the four";
+    let slot = option(alloc, "slot", "LIST", help);
+    Command::new(alloc, "rehearse")
+        .about("Loads a new policy at a node under the old one, and then the old one again")
+        .arg(old)?
+        .arg(new)?
+        .arg(maps)?
+        .arg(slot)
+}
+
+/// Whether both policies would be read of standard input, which one read ends.
+fn are_one_input(old: &str, new: &str) -> bool
+    ensures { result ≡ are_one_input old.now new.now }
+{
+    old == STANDARD_INPUT && new == STANDARD_INPUT
+}
+
+/// The slots by `--slot`, and each of the four without the option. `BadOption` where its value writes none.
+pub fn slots_of(alloc: Global, found: &ArgMatches) -> Result<Vec<u8>, UsageFault>
+    ensures ok { IfOk result (λ slots.
+        GivesSlots (first_of (codes "slot") (rows_of (found_of found.now))) slots.items) }
+    ensures err { IfErr result (RefusesSlots (rows_of (found_of found.now))) }
+{
+    let Some(word) = text_of(found, "slot") else {
+        return Ok(every_slot(alloc)?);
+    };
+    match slots_written(alloc, word) {
+        Ok(slots) => Ok(slots),
+        Err(fault) => Err(fault.usage()),
+    }
+}
+
+/// The words of `rehearse` with these matches.
+pub fn rehearse_job(alloc: Global, found: &ArgMatches) -> Result<RehearseWords, UsageFault>
+    ensures ok { IfOk result (NamesRehearse (rows_of (found_of found.now))) }
+    ensures err { IfErr result (RefusesRehearse (rows_of (found_of found.now))) }
+{
+    let old = name_of(alloc, found, "old")?;
+    let new = name_of(alloc, found, "new")?;
+    if are_one_input(old.as_str(), new.as_str()) {
+        return Err(UsageFault::BadOption);
+    }
+    let sizes = sizes_of(alloc, found)?;
+    let slots = slots_of(alloc, found)?;
+    Ok(RehearseWords {
+        old,
+        new,
+        sizes,
+        slots,
+    })
+}
+
+/// What is told where the load of the new policy ended so; nothing, where it is loaded.
+fn there_line(ending: Ending) -> Option<&'static str>
+    ensures { option_map (λ line. line.now) result ≡ there_line ending }
+{
+    match ending {
+        Ending::Loaded => None,
+        Ending::LockedOut => Some("NEW is locked out"),
+        Ending::NotLoaded => Some("NEW is not loaded"),
+    }
+}
+
+/// What is told where the load of the old policy under the new one ended so, and the exit status.
+fn back_line(ending: Ending) -> (&'static str, Status)
+    ensures { (result.0.now, result.1) ≡ back_line ending }
+{
+    match ending {
+        Ending::Loaded => ("NEW lets OLD be loaded", Status::Done),
+        Ending::LockedOut => ("NEW locks loads out", Status::Failed),
+        Ending::NotLoaded => ("OLD is not loaded", Status::Failed),
+    }
+}
+
+/// Loads the new policy at a fresh node on which the old one judges, and then the old one, and prints what becomes of each
+/// packet, and how it ended.
+fn rehearse<'a, W: Write>(
+    alloc: Global,
+    slots: &[u8],
+    policies: Policies,
+    out: &mut W,
+) -> Result<Status, Halt<'a>>
+    requires old { length policies.old.items ≤ STAGING_SIZE }
+    requires new { length policies.new.items ≤ STAGING_SIZE }
+    ensures done { IfOk result
+        (Rehearses slots.now policies (W.contents out.old) (W.contents out.new)) }
+    ensures stops { IfErr result
+        (StopsBy (IsStuck slots.now policies (W.contents out.old) (W.contents out.new))) }
+{
+    let mut rehearsing = Rehearsing::new(alloc, policies.program)?;
+    let new = LoadOf {
+        name: "NEW",
+        slots,
+        image: policies.new.as_slice(),
+    };
+    if let Some(line) = there_line(load(alloc, &mut rehearsing, new, out)?) {
+        writeln!(out, "{line}")?;
+        return Ok(Status::Failed);
+    }
+    let old = LoadOf {
+        name: "OLD",
+        slots,
+        image: policies.old.as_slice(),
+    };
+    let (line, status) = back_line(load(alloc, &mut rehearsing, old, out)?);
+    writeln!(out, "{line}")?;
+    Ok(status)
+}
+
+/// Rehearses the load of the policy of a file at a node on which that of another judges, and the way back: prints what
+/// becomes of each packet of the loads, and whether the way back is open. Where a table has a fault that is printed, with the
+/// name of its file and the place, and the job failed.
+///
+/// Faults are found in this order: the file of the old policy (`CannotRead`, also where it is neither an image nor UTF-8),
+/// that policy, the file of the new one, that policy, and whether the old one may judge.
+pub fn rehearse_file<'a, F: Files, W: Write>(
+    alloc: Global,
+    words: &'a RehearseWords,
+    files: &mut F,
+    out: &mut W,
+) -> Result<Status, Halt<'a>>
+    ensures done { IfOk result (RehearsesFile F.reads words.now files.old files.new
+        (W.contents out.old) (W.contents out.new)) }
+    ensures stops { IfErr result (StopsBy (IsNotRehearsed F.reads words.now files.old files.new
+        (W.contents out.old) (W.contents out.new))) }
+{
+    match policies_in(alloc, words, files) {
+        Ok(policies) => rehearse(alloc, words.slots.as_slice(), policies, out),
+        Err(NoPolicy::Ended(fault)) => Err(Halt::Ended(fault)),
+        Err(NoPolicy::BadTable(name, fault)) => {
+            print_named_fault(out, name, &fault)?;
+            Ok(Status::Failed)
+        }
+    }
+}

@@ -1,0 +1,124 @@
+//! The packets of loads, which a node of one thread takes in turn.
+
+ghost use Rattle.std.specs.Prelude.{◌≡◌, ◌<◌, IfErr, IfOk};
+ghost use Rattle.rmap.specs.Command.{discard_of};
+ghost use Rattle.spw.specs.Line.{IsPacketLine};
+ghost use Rattle.job_parts.specs.declared.faults.Fault.TheVariants.{NoMemory};
+ghost use Rattle.job_rehearse.specs.Steps.{IsBegun, IsNoPacket, IsNoStep, TakesStep, is_refused, step_at, step_of};
+
+use crate::words::print_step;
+use bver::Accepted;
+use job_nodes::node::node_config;
+use job_parts::bad_lines::BadLine;
+use job_parts::faults::Fault;
+use job_parts::stops::LineHalt;
+use job_parts::turns::TakesLines;
+use rmap::{Command, LOAD_REGISTER, ReplyBuf};
+use single_node::SingleNode;
+use spw::{Packet, read_line};
+use std::alloc::Global;
+use std::io::Write;
+
+/// What a packet of a load is.
+#[derive(Clone, Copy, Debug, PartialEq, Eq)]
+pub enum Step {
+    /// The write of a part of the image to the staging.
+    Part,
+    /// The control write, which asks to load what is staged.
+    Control,
+    /// The read of the load result.
+    Result,
+}
+
+/// What a command of a load is, by its address.
+fn step_at(command: &Command) -> Step
+    ensures { result ≡ step_at command.now }
+{
+    if command.address() != LOAD_REGISTER {
+        return Step::Part;
+    }
+    if command.writes() {
+        Step::Control
+    } else {
+        Step::Result
+    }
+}
+
+/// What a packet of a load is.
+fn step_of(packet: &Packet) -> Step
+    ensures { result ≡ step_of packet.now (discard_of packet.now.bytes) }
+{
+    match Command::view(packet) {
+        Ok(command) => step_at(&command),
+        Err(_) => Step::Part,
+    }
+}
+
+/// Whether the program that judged a packet of a load does not let it be done: its verdict is not 0. What reads the load
+/// result does nothing.
+fn is_refused(step: Step, verdict: u64) -> bool
+    ensures { result ≡ is_refused step verdict }
+{
+    match step {
+        Step::Part | Step::Control => verdict != 0,
+        Step::Result => false,
+    }
+}
+
+/// The port and the packet that a line writes, for a node with so many ports.
+fn packet_at(alloc: Global, line: &str, ports: u8) -> Result<(u8, Packet), BadLine>
+    ensures packet { IfOk result (λ came. IsPacketLine line.now came.0 came.1) }
+    ensures port { IfOk result (λ came. came.0 < ports) }
+    ensures none { IfErr result (IsNoPacket line.now ports) }
+{
+    let (port, packet) = read_line(alloc, line)?;
+    if port >= ports {
+        return Err(BadLine::NoPort);
+    }
+    Ok((port, packet))
+}
+
+/// A node of one thread that takes packets of loads, the reply to the last, and whether a program did not let one be done.
+#[derive(Drop)]
+pub struct Rehearsing {
+    /// The node.
+    pub node: SingleNode,
+    /// The reply to the last packet; no bytes where none is due.
+    pub reply: ReplyBuf,
+    /// Whether the verdict on a packet that was to do something was another than 0.
+    pub refused: bool,
+}
+
+impl Rehearsing {
+    /// A fresh node of one port, at which this program judges all.
+    pub fn new<'a>(alloc: Global, program: Accepted) -> Result<Rehearsing, Fault<'a>>
+        ensures begun { IfOk result (IsBegun program) }
+        ensures none { IfErr result (λ fault. fault ≡ NoMemory) }
+    {
+        let config = node_config(1, program.sizes());
+        // Memory alone can be refused to it.
+        let Ok(node) = SingleNode::new(alloc, &config, program) else {
+            return Err(Fault::NoMemory);
+        };
+        Ok(Rehearsing {
+            node,
+            reply: ReplyBuf::new(),
+            refused: false,
+        })
+    }
+}
+
+impl TakesLines for Rehearsing {
+    ghost takes = { TakesStep };
+
+    ghost stops = { IsNoStep };
+
+    /// Serves the packet that a line writes, and prints what it is and how it ended.
+    fn take<W: Write>(&mut self, alloc: Global, line: &str, out: &mut W) -> Result<(), LineHalt> {
+        let (port, packet) = packet_at(alloc, line, self.node.ports())?;
+        let step = step_of(&packet);
+        let told = self.node.serve_told(alloc, port, packet, &mut self.reply);
+        self.refused = self.refused || is_refused(step, told.verdict);
+        Ok(print_step(out, step, told.served, self.reply.bytes())?)
+    }
+}

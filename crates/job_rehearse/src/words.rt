@@ -1,0 +1,107 @@
+//! The words for what becomes of a load.
+
+ghost use Rattle.std.specs.Prelude.{◌≡◌, OnOk, length};
+ghost use Rattle.job_parts.specs.Printed.{Prints};
+ghost use Rattle.job_rehearse.specs.declared.words.TheConstants.{RESULT_REPLY};
+ghost use Rattle.job_rehearse.specs.Words.{outcome_text, result_text, result_words, status_in, status_words, step_line, step_words};
+
+use crate::steps::Step;
+use byteorder::{BigEndian, ByteOrder};
+use node_parts::{Served, Stop};
+use rmap::Status;
+use std::io::{self, Write};
+
+/// How many bytes the reply to a read of the load result has, without a path: its header, the load result and a CRC.
+const RESULT_REPLY: usize = 21;
+
+/// What a packet of a load is.
+fn step_words(step: Step) -> &'static str
+    ensures { result.now ≡ step_words step }
+{
+    match step {
+        Step::Part => "write of the image",
+        Step::Control => "load",
+        Step::Result => "read of the load result",
+    }
+}
+
+/// The words for a status (ECSS-E-ST-50-52C, error and status codes).
+fn status_words(status: Status) -> &'static str
+    ensures { result.now ≡ status_words status }
+{
+    match status {
+        Status::Success => "success",
+        Status::GeneralError => "general error",
+        Status::UnusedCode => "unused packet type or command code",
+        Status::InvalidKey => "invalid key",
+        Status::InvalidDataCrc => "invalid data CRC",
+        Status::EarlyEndOfPacket => "early EOP",
+        Status::TooMuchData => "too much data",
+        Status::ErrorEndOfPacket => "EEP",
+        Status::VerifyBufferOverrun => "verify buffer overrun",
+        Status::NotAuthorised => "not implemented or not authorised",
+        Status::RmwDataLength => "RMW data length error",
+        Status::InvalidLogicalAddress => "invalid target logical address",
+    }
+}
+
+/// With which status a packet ended, if it did with one.
+fn status_in(served: Served) -> Option<Status>
+    ensures { result ≡ status_in served }
+{
+    match served {
+        Served::Stopped(Stop::Discarded(_)) | Served::Unread => None,
+        Served::Stopped(Stop::Answered(status)) | Served::Window(status) => Some(status),
+        Served::Done(applied) => Some(applied.status),
+    }
+}
+
+/// Prints how a packet ended.
+fn print_outcome<W: Write>(out: &mut W, status: Option<Status>) -> io::Result<()>
+    ensures { OnOk result (Prints W.contents out.old out.new (outcome_text status)) }
+{
+    let Some(status) = status else {
+        return write!(out, "no reply");
+    };
+    let (code, words) = (status.code(), status_words(status));
+    write!(out, "status {code} {words}")
+}
+
+/// Prints the load result behind the header of a reply.
+#[tactic(auto, unfolding(crate::specs::Words::result_words))]
+fn print_words<W: Write>(out: &mut W, reply: &[u8]) -> io::Result<()>
+    requires { length reply.now ≡ RESULT_REPLY }
+    ensures { OnOk result (Prints W.contents out.old out.new (result_words reply.now)) }
+{
+    let generation = BigEndian::read_u32(&reply[16..]);
+    if generation != 0 {
+        return write!(out, ", generation {generation}");
+    }
+    let code = reply[12];
+    if code == 0 {
+        return write!(out, ", nothing was loaded");
+    }
+    let slot = BigEndian::read_u16(&reply[14..]);
+    write!(out, ", load fault {code} slot {slot}")
+}
+
+/// Prints the load result that a reply has, if it has one.
+fn print_result<W: Write>(out: &mut W, reply: &[u8]) -> io::Result<()>
+    ensures { OnOk result (Prints W.contents out.old out.new (result_text reply.now)) }
+{
+    if reply.len() == RESULT_REPLY {
+        print_words(out, reply)?;
+    }
+    Ok(())
+}
+
+/// Prints the line of a packet of a load: what it is, and how it ended.
+pub fn print_step<W: Write>(out: &mut W, step: Step, served: Served, reply: &[u8]) -> io::Result<()>
+    ensures { OnOk result (Prints W.contents out.old out.new (step_line step served reply.now)) }
+{
+    let words = step_words(step);
+    write!(out, "    {words}: ")?;
+    print_outcome(out, status_in(served))?;
+    print_result(out, reply)?;
+    writeln!(out)
+}

@@ -1,0 +1,2 @@
+pub mod TimeLists
+pub mod Lines

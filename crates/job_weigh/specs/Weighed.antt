@@ -1,0 +1,50 @@
+-- What the job `weigh` reads and prints.
+use Rattle.std.specs.Prelude.{ℕ, List, [], ◌∷◌, ◌++◌, Option, Some, None, codes, decimal, string_bytes}
+use Rattle.std.specs.Io.KnownBytes.{Appends}
+use Rattle.bpf.specs.Program.{Program}
+use Rattle.bpf.specs.Weight.{saturated_weight, weight_of}
+use Rattle.bver.specs.Costs.{IsSafeForCosts}
+use Rattle.bver.specs.Justified.{IsJustified}
+use Rattle.bver_form.specs.Costs.{weight_by}
+use Rattle.machine.specs.Runs.{IsSafe}
+use Rattle.weights.specs.Classes.{cost_by, costs}
+use Rattle.weights.specs.declared.costs.Costs.{Costs}
+use Rattle.job_parts.specs.Files.{Reads, HoldsImage}
+use Rattle.job_weigh.specs.declared.weigh.WeighWords.{WeighWords}
+
+-- the lines of these weights
+unfoldable pub lines_of : (division call jump rest weight : ℕ) → List ℕ
+lines_of division call jump rest weight =
+    codes "division " ++ (decimal division ++ (codes "\ncall " ++ (decimal call ++ (codes "\njump " ++ (decimal jump
+    ++ (codes "\nrest " ++ (decimal rest ++ (codes "\nweight " ++ (decimal weight ++ 10 ∷ [])))))))))
+
+-- how many instructions of each class a run of the program takes at most, and how many in all: the weight of each class is
+-- that where an instruction of the class costs one, and any other nothing
+abbrev pub class_lines : Program → List ℕ
+class_lines p =
+    lines_of (weight_by (cost_by (costs 1 0 0 0)) p) (weight_by (cost_by (costs 0 1 0 0)) p)
+    (weight_by (cost_by (costs 0 0 1 0)) p) (weight_by (cost_by (costs 0 0 0 1)) p) (saturated_weight (weight_of p))
+
+-- how long a run of the program takes at most, where times are given: the weight where each instruction costs the time of
+-- its class
+abbrev pub longest : Program → Option Costs → Option ℕ
+longest p None = None
+longest p (Some times) = Some (weight_by (cost_by times) p)
+
+-- the line of that
+abbrev pub time_lines : Option ℕ → List ℕ
+time_lines None = []
+time_lines (Some most) = codes "at most " ++ decimal most ++ codes " ns" ++ 10 ∷ []
+
+module _ {S : Type 0} (reads : Reads S) where
+  -- the image in the file is justified on a node with maps of these sizes, and so safe, and no run of it costs more than its
+  -- weight, whatever each instruction costs; and its weights by class were printed, and the time by the times that are given
+  pub record Weighs (words : WeighWords) (before after : S) (old new : Option (List ℕ)) : Type 0 where
+    pub program : Program
+    pub image : HoldsImage reads before (string_bytes words.image) program after
+    pub justified : IsJustified program words.sizes
+    pub safe : IsSafe program words.sizes
+    pub costs : IsSafeForCosts program
+    pub told : Option (List ℕ)
+    pub classes : Appends old told (class_lines program)
+    pub time : Appends told new (time_lines (longest program words.times))

@@ -1,0 +1,5 @@
+//! The job of `rmapctl` that tells what a run of a program costs at most.
+#![tactic(auto)]
+
+pub mod times;
+pub mod weigh;

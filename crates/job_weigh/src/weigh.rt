@@ -1,0 +1,140 @@
+//! The job `weigh`.
+
+ghost use Rattle.std.specs.Prelude.{◌≡◌, IfErr, IfOk, OnOk, false, string_bytes};
+ghost use Rattle.clap.specs.Matches.{found_of};
+ghost use Rattle.clap.specs.Simple.{app_of};
+ghost use Rattle.clap.specs.Walk.{rows_of};
+ghost use Rattle.clap.specs.declared.builder.command.Command.TheViews.{out-Command as fields_of};
+ghost use Rattle.job_parts.specs.Printed.{Prints};
+ghost use Rattle.job_parts.specs.Reading.{IsNoProgram};
+ghost use Rattle.job_parts.specs.Statuses.{IsDoneWith};
+ghost use Rattle.job_parts.specs.Stops.{StopsBy};
+ghost use Rattle.job_weigh.specs.WeighJob.{NamesWeigh, RefusesWeigh, weigh_app};
+ghost use Rattle.job_weigh.specs.Weighed.{Weighs, class_lines, lines_of, longest, time_lines};
+
+use crate::times::times_of;
+use bver::{Accepted, MapSizes, justified_programs};
+use clap::{ArgMatches, Command};
+use job_parts::arguments::{image_command, name_of, option};
+use job_parts::options::{maps_option, sizes_of};
+use job_parts::programs::program_in;
+use job_parts::status::Status;
+use job_parts::stops::Halt;
+use job_parts::storage::Files;
+use job_parts::usage::UsageFault;
+use std::alloc::{AllocError, Global};
+use std::io::{self, Write};
+use weights::{Costs, weigh, weights_of};
+
+/// The words of the job `weigh`.
+#[derive(Debug, Drop)]
+pub struct WeighWords {
+    /// The name of the file of the image.
+    pub image: String,
+    /// How many cells each map has of the node, and of which kind it is, that it may judge on.
+    pub sizes: MapSizes,
+    /// How many nanoseconds an instruction of each class takes, where that is told.
+    pub times: Option<Costs>,
+}
+
+/// `weigh FILE [--maps LIST] [--ns D,C,J,R]`.
+pub fn weigh_command<'a>(alloc: Global) -> Result<Command<'a>, AllocError>
+    ensures shape { IfOk result (λ c. app_of c ≡ weigh_app) }
+    ensures local { IfOk result (λ c. (fields_of c).has_globals ≡ false) }
+{
+    let about = "Tells how many instructions of each class a run of a BPF image takes at most";
+    let maps = maps_option(alloc);
+    let help =
+        "How many nanoseconds a division, a call, a conditional jump and any other instruction take, as 15,14,6,2";
+    let times = option(alloc, "ns", "D,C,J,R", help);
+    image_command(alloc, "weigh", about)?.arg(maps)?.arg(times)
+}
+
+/// The words of `weigh` with these matches.
+pub fn weigh_job(alloc: Global, found: &ArgMatches) -> Result<WeighWords, UsageFault>
+    ensures ok { IfOk result (NamesWeigh (rows_of (found_of found.now))) }
+    ensures err { IfErr result (RefusesWeigh (rows_of (found_of found.now))) }
+{
+    let image = name_of(alloc, found, "image")?;
+    let sizes = sizes_of(alloc, found)?;
+    let times = times_of(alloc, found)?;
+    Ok(WeighWords {
+        image,
+        sizes,
+        times,
+    })
+}
+
+/// Prints the lines of these weights.
+fn print_lines<W: Write>(
+    out: &mut W,
+    division: u64,
+    call: u64,
+    jump: u64,
+    rest: u64,
+    weight: u64,
+) -> io::Result<()>
+    ensures { OnOk result (Prints W.contents out.old out.new
+        (lines_of division call jump rest weight)) }
+{
+    writeln!(
+        out,
+        "division {division}\ncall {call}\njump {jump}\nrest {rest}\nweight {weight}"
+    )
+}
+
+/// Prints how many instructions of each class a run takes at most, a line each, and how many in all.
+fn print_weights<W: Write>(out: &mut W, program: &Accepted) -> io::Result<()>
+    ensures { OnOk result (Prints W.contents out.old out.new (class_lines program.now.program)) }
+{
+    let found = weights_of(program);
+    let all = program.image().weight();
+    print_lines(out, found.division, found.call, found.jump, found.rest, all)?;
+    Ok(())
+}
+
+/// How many nanoseconds a run takes at most, where it is told how many an instruction of each class takes.
+fn longest(program: &Accepted, times: &Option<Costs>) -> Option<u64>
+    ensures { result ≡ longest program.now.program times.now }
+{
+    match times {
+        Some(times) => Some(weigh(program, times)),
+        None => None,
+    }
+}
+
+/// Prints the line of the longest time, where there is one.
+fn print_time<W: Write>(out: &mut W, most: Option<u64>) -> io::Result<()>
+    ensures { OnOk result (Prints W.contents out.old out.new (time_lines most)) }
+{
+    match most {
+        Some(most) => writeln!(out, "at most {most} ns"),
+        None => Ok(()),
+    }
+}
+
+/// Verifies the image of a file for a node with maps of these sizes, and prints what a run of its program costs at most: how
+/// many instructions of each class it takes, and how many in all; and how long it takes, where the times of instructions
+/// are told. Nothing is printed of an image that may not judge.
+///
+/// Faults are found in this order: the file (`CannotRead`), its image (`BadImage`), the program
+/// (`Refused`).
+pub fn weigh_file<'a, F: Files, W: Write>(
+    alloc: Global,
+    words: &'a WeighWords,
+    files: &mut F,
+    out: &mut W,
+) -> Result<Status, Halt<'a>>
+    ensures done { IfOk result (IsDoneWith (Weighs F.reads words.now files.old files.new
+        (W.contents out.old) (W.contents out.new))) }
+    ensures stops { IfErr result (StopsBy (IsNoProgram F.reads files.old
+        (string_bytes words.now.image) words.now.sizes files.new)) }
+    ensures quiet { IfErr result (StopsBy (λ _. W.contents out.new ≡ W.contents out.old)) }
+{
+    justified_programs();
+    let program = program_in(alloc, files, words.image.as_str(), words.sizes)?;
+    print_weights(out, &program)?;
+    let most = longest(&program, &words.times);
+    print_time(out, most)?;
+    Ok(Status::Done)
+}

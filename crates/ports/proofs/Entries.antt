@@ -1,0 +1,77 @@
+-- The entries of a worker's commands in the history of the node's banks.
+use Rattle.std.proofs.Common.{◌≡◌, ◌⊎◌, ℕ, Bool, true, false, ◌&&◌, List, [], ◌∷◌, Option, Some, None, sym, refl, ap, ◌∙◌, subst, inl, inr}
+use Rattle.std.specs.Prelude.{IfSome, IfNone, MatchBool, if◌then◌else◌}
+use Rattle.std.proofs.lemmas.Bool.{cases_Bool}
+use Rattle.spw.specs.Cargo.{Cargo}
+use Rattle.bank.specs.Records.{BankValue, ShareValue, JudgedValue, has_room, number_left}
+use Rattle.node_parts.specs.Applied.{share_of}
+use Rattle.annals.specs.declared.deed.Link.{Link}
+use Rattle.annals.specs.Banks.{IsDone, takes}
+use Rattle.ports.specs.Due.{Judging, Deed, Standing, standing, Worked, IsBanked, IsWindowed, IsJudged, judgings}
+use Rattle.ports.specs.Due.Deed.{Dropped, Answered, Judged}
+use Rattle.ports.specs.Laws.{HasEntered, EntriesFollow}
+
+both_are : (a b : Bool) → (a && b) ≡ true → (a ≡ true) × (b ≡ true)
+both_are true b e = (refl, e)
+both_are false b e = absurd cc
+
+left_some : (b : BankValue) (share : ShareValue) (j : JudgedValue) → has_room b j.port ≡ true → number_left b share j ≡ Some share.number
+left_some b share j room = ap (λ r. if r then Some share.number else None) room
+
+left_none : (b : BankValue) (share : ShareValue) (j : JudgedValue) → has_room b j.port ≡ false → number_left b share j ≡ None
+left_none b share j room = ap (λ r. if r then Some share.number else None) room
+
+not_both : (a b : Bool) → a ≡ true → (a && b) ≡ false → b ≡ false
+not_both true b e no_both = no_both
+not_both false b e no_both = absurd cc
+
+-- a command that left an entry was done
+entered : (j : Judging) (h after : Standing) → IsBanked j h after → j.entered ≡ true → HasEntered h.front after.front j
+entered j h after is left =
+    let share = share_of h.pass j.judged.place in let before = is.ended.before in let end = is.ended.finished in
+    let parts = both_are (takes before share j.judged) (has_room before.bank j.judged.port) (sym is.entered ∙ left) in
+    let number = (end.applied parts.0).number ∙ left_some before.bank share j.judged parts.1 in record {
+      bank = before.chain.number;
+      share = share;
+      result = is.ended.result;
+      done = subst (λ (o : Option ℕ). IfSome o (λ n. IsDone before.chain.number h.front after.front share j.judged is.ended.result j.reply)) number end.done;
+    }
+
+-- one that left none added nothing
+not_entered : (j : Judging) (h after : Standing) → IsBanked j h after → j.entered ≡ false → after.front ≡ h.front
+not_entered j h after is none =
+    let share = share_of h.pass j.judged.place in let before = is.ended.before in let end = is.ended.finished in
+    let room = has_room before.bank j.judged.port in
+    let number : is.ended.result.number ≡ None = elim (cases_Bool (takes before share j.judged)) [
+      | inl took ↦
+          (end.applied took).number ∙ left_none before.bank share j.judged (not_both (takes before share j.judged) room took (sym is.entered ∙ none))
+      | inr misfit ↦ (end.refused misfit).number
+    ] in
+    subst (λ (o : Option ℕ). IfNone o (after.front ≡ h.front)) number end.none
+
+-- what a judged command did to the history that its port knows
+step : (j : Judging) (h after : Standing) → IsBanked j h after ⊎ IsWindowed j h after → MatchBool j.entered (HasEntered h.front after.front j) (after.front ≡ h.front)
+step j h after (inl banked) = elim (cases_Bool j.entered) [
+  | inl left ↦ subst (λ b. MatchBool b (HasEntered h.front after.front j) (after.front ≡ h.front)) (sym left) (entered j h after banked left)
+  | inr none ↦ subst (λ b. MatchBool b (HasEntered h.front after.front j) (after.front ≡ h.front)) (sym none) (not_entered j h after banked none)
+]
+step j h after (inr windowed) =
+    subst (λ b. MatchBool b (HasEntered h.front after.front j) (after.front ≡ h.front)) (sym windowed.entered) windowed.front
+
+-- one judged command before the others
+follows : (entered : Bool) (j : Judging) (js : List Judging) (known between reached : List Link) → MatchBool entered (HasEntered known between j) (between ≡ known)
+    → EntriesFollow between js reached
+    → MatchBool entered ((l : List Link) × HasEntered known l j × EntriesFollow l js reached) (EntriesFollow known js reached)
+follows true j js known between reached here rest = (between, here, rest)
+follows false j js known between reached here rest = subst (λ l. EntriesFollow l js reached) here rest
+
+pub entries_follow : (h after : Standing) (ps : List Cargo) (ds : List Deed) → Worked h ps ds after → EntriesFollow h.front (judgings ds) after.front
+entries_follow h after [] [] w = ap (λ (x : Standing). x.front) w
+entries_follow h after [] (d ∷ ds) w = absurd w
+entries_follow h after (p ∷ ps) [] w = absurd w
+entries_follow h after (p ∷ ps) (Dropped ∷ ds) w =
+    subst (λ (x : Standing). EntriesFollow x.front (judgings ds) after.front) w.1.same (entries_follow w.0 after ps ds w.2)
+entries_follow h after (p ∷ ps) (Answered reply ∷ ds) w =
+    subst (λ (x : Standing). EntriesFollow x.front (judgings ds) after.front) w.1.same (entries_follow w.0 after ps ds w.2)
+entries_follow h after (p ∷ ps) (Judged j ∷ ds) w =
+    follows j.entered j (judgings ds) h.front w.0.front after.front (step j (standing w.1.between h.front) w.0 w.1.ended) (entries_follow w.0 after ps ds w.2)

@@ -1,0 +1,51 @@
+//! The words of the cells of a node.
+
+ghost use Rattle.std.specs.Prelude.{◌≡◌, ◌≢◌, IfSome, Some};
+ghost use Rattle.plain_cells.specs.Words.{word_in};
+ghost use Rattle.single_node_c.specs.Held.{code_on};
+ghost use Rattle.single_node_c.specs.Words.{TellsWord, word_code};
+ghost use Rattle.single_node_c.specs.declared.codes.TheConstants.{OK};
+
+use crate::codes::{NO_CELL, NO_NODE, OK};
+use crate::handle::Handle;
+use crate::held::{put, take};
+use single_node::SingleNode;
+use std::alloc::Global;
+
+/// Tells the word of a cell, where there is that cell: a code.
+fn tell_word(node: &SingleNode, map: u8, cell: u16, word: &mut u64) -> u32
+    ensures code { result ≡ word_code map cell node.now }
+    ensures told { result ≡ OK → TellsWord map cell word.new node.now }
+    ensures word { result ≢ OK → word.new ≡ word.old }
+{
+    match node.word(map, cell) {
+        Some(found) => {
+            *word = found;
+            OK
+        }
+        None => NO_CELL,
+    }
+}
+
+/// Tells the word of a cell: how many tickets were drawn from it, modulo 2^64, or the greatest number that was shown to it.
+/// The node stays as it is.
+#[unsafe(no_mangle)]
+pub extern "C" fn sandbar_word(
+    alloc: Global,
+    handle: &mut Handle,
+    map: u8,
+    cell: u16,
+    word: &mut u64,
+) -> u32
+    ensures code { result ≡ code_on handle.old.kept (word_code map cell) }
+    ensures told { result ≡ OK → IfSome handle.old.kept (TellsWord map cell word.new) }
+    ensures word { result ≢ OK → word.new ≡ word.old }
+    ensures node { handle.new.kept ≡ handle.old.kept }
+{
+    let Some(node) = take(alloc, handle) else {
+        return NO_NODE;
+    };
+    let code = tell_word(&node, map, cell, word);
+    put(alloc, handle, node);
+    code
+}

@@ -1,0 +1,65 @@
+-- How a judged command ends at a bank with its chain, by the port's share at its place.
+use Rattle.std.proofs.Common.{◌≡◌, ◌<◌, ℕ, Bool, true, false, true≢false, ◌&&◌, List, length, set, get_or, refl, sym, ap, ◌∙◌, subst, arith}
+use Rattle.std.specs.Prelude.{IfSome, IfNone}
+use Rattle.std.proofs.lemmas.List.{get_or_read}
+use Rattle.rmap.specs.declared.places.Place.{Place}
+use Rattle.rmap.specs.declared.places.Place.TheVariants.{Bank}
+use Rattle.bank.specs.declared.bank.Applied.{Applied}
+use Rattle.bank.specs.Records.{ShareValue, JudgedValue, first_share, fits, is_place_of}
+use Rattle.node_parts.specs.Passes.{PassValue}
+use Rattle.node_parts.specs.Steps.{IsBankBelow}
+use Rattle.node_parts.specs.Applied.{share_of, with_share, IsFinished}
+use Rattle.annals.specs.declared.deed.Link.{Link}
+use Rattle.annals.specs.Banks.{KeptValue, IsAppliedTo, IsDone, IsRefusedAt, takes}
+use Rattle.target.specs.Finished.{IsFinishedAt}
+
+both_are : (a b : Bool) → (a && b) ≡ true → (a ≡ true) × (b ≡ true)
+both_are true b e = (refl, e)
+both_are false b e = absurd cc
+
+-- a command that a bank takes fits it
+pub taken_fits : (kept : KeptValue) (share : ShareValue) (j : JudgedValue) → takes kept share j ≡ true → fits kept.bank share j ≡ true
+taken_fits kept share j took = (both_are (is_place_of kept.chain.number j.place) (fits kept.bank share j) took).1
+
+same_bank : (k n : ℕ) → Bank k ≡ Bank n → k ≡ n
+same_bank k n e = cc
+
+-- the share that was lent is the port's of the place
+lent : (h : PassValue) (k from : ℕ) (place : Place) (first : ShareValue) → place ≡ Bank k → from ≡ k → IsBankBelow place (length h.shares) → first ≡ get_or h.shares from first → share_of h place ≡ first
+lent h k from place first at same below read =
+    let same_k : k ≡ below.0 = same_bank k below.0 (sym at ∙ below.1) in
+    let low = below.2 in
+    let within : from < length h.shares = omega (arith, same, same_k, low) in
+    ap (share_of h) at ∙ ap (λ i. get_or h.shares i (first_share h.port)) (sym same) ∙ sym (get_or_read h.shares from first within read (first_share h.port))
+
+pub finished_at : (old new : KeptValue) (known reached : List Link) (h : PassValue) (k from : ℕ) (first share : ShareValue) (j : JudgedValue) (result : Applied) (reply : List ℕ) → j.place ≡ Bank k → from ≡ k → IsBankBelow j.place (length h.shares) → first ≡ get_or h.shares from first
+    → (takes old first j ≡ true → IsAppliedTo old.bank new.bank first share j result reply)
+    → (takes old first j ≡ false → IsRefusedAt old new first share j result reply)
+    → IfSome result.number (λ n. IsDone old.chain.number known reached first j result reply)
+    → IfNone result.number (reached ≡ known)
+    → IsFinishedAt old new known reached h (record h { shares = set h.shares from share }) j result reply
+finished_at old new known reached h k from first share j result reply at same below read applied refused done none =
+    let is : share_of h j.place ≡ first = lent h k from j.place first at same below read in record {
+      share = share;
+      shares = ap (λ i. record h { shares = set h.shares i share }) same ∙ sym (ap (λ p. with_share h p share) at);
+      applied = λ took. subst (λ s. IsAppliedTo old.bank new.bank s share j result reply) (sym is) (applied (subst (λ s. takes old s j ≡ true) is took));
+      refused = λ left. subst (λ s. IsRefusedAt old new s share j result reply) (sym is) (refused (subst (λ s. takes old s j ≡ false) is left));
+      done = subst (λ s. IfSome result.number (λ n. IsDone old.chain.number known reached s j result reply)) (sym is) done;
+      none = none;
+    }
+
+-- where the bank takes it, it ends as at a plain bank
+pub ends_plainly : (old new : KeptValue) (known reached : List Link) (h after : PassValue) (j : JudgedValue) (result : Applied) (reply : List ℕ) → IsFinishedAt old new known reached h after j result reply → takes old (share_of h j.place) j ≡ true → IsFinished old.bank new.bank h after j result reply
+ends_plainly old new known reached h after j result reply end took =
+    let a = end.applied took in
+    let fit = taken_fits old (share_of h j.place) j took in record {
+      applied = λ _. record {
+        status = a.status;
+        memory = a.memory;
+        reply = a.reply_is;
+        number = a.number;
+        bank = a.bank;
+        shares = end.shares ∙ ap (λ s. with_share h j.place s) a.share_is;
+      };
+      refused = λ misfit. absurd (true≢false (sym fit ∙ misfit));
+    }

@@ -1,0 +1,44 @@
+//! The second half of a packet's way: its effect at a bank with its chain, as it lies behind a lock.
+
+ghost use Rattle.std.specs.Prelude.{◌≡◌, length, true};
+ghost use Rattle.bank.specs.Records.{is_next};
+ghost use Rattle.node_parts.specs.Steps.{IsBankBelow};
+ghost use Rattle.node_parts.specs.Applied.{share_of};
+ghost use Rattle.annals.specs.Banks.{takes};
+ghost use Rattle.target.specs.Finished.{IsFinishedAt};
+
+use crate::family::NodeFamily;
+use crate::pass::Pass;
+use annals::{Front, Kept};
+use bank::{Applied, Judged};
+use node_parts::shares_agree;
+use rmap::{Place, ReplyBuf};
+
+/// Ends a judged command at a bank with its chain, with the port's share of the bank of its place, and leaves the reply:
+/// [`Kept::finish`]. Where it leaves an entry, that is the last of a history which goes on from what the port knew, and the
+/// port knows it then; status and reply are the definition's on the replay of what stood before it. Where the bank is
+/// another, or [`Bank::fits`](bank::Bank::fits) says no, it is a general error, and nothing changes. The condition is the
+/// place of a bank of which the port has a share ([`Pass::banks`]).
+pub fn finish<J: NodeFamily>(
+    pass: &mut Pass<J>,
+    kept: &mut Kept<J>,
+    front: &mut Front<J>,
+    judged: Judged,
+    reply: &mut ReplyBuf,
+) -> Applied
+    requires { IsBankBelow judged.place (length pass.old.shares) }
+    ensures finished { IsFinishedAt kept.old kept.new front.old front.new pass.old pass.new judged
+        result reply.new }
+    ensures kept { length pass.new.shares ≡ length pass.old.shares }
+    ensures number { kept.new.chain.number ≡ kept.old.chain.number }
+
+    // Where it is applied, share and count agree before, and so they do afterwards.
+    ensures agrees { takes kept.old (share_of pass.old judged.place) judged ≡ true
+        → is_next kept.new.bank (share_of pass.new judged.place) ≡ true }
+{
+    shares_agree();
+    let Place::Bank(k) = judged.place() else {
+        unreachable!()
+    };
+    kept.finish(front, &mut pass.shares[usize::from(k)], judged, reply)
+}
