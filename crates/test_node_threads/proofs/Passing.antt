@@ -1,23 +1,18 @@
 -- A seat stays one of its cells, whatever its port does.
-use Rattle.std.proofs.Common.{◌≡◌, ◌∙◌, ◌++◌, ℕ, Bool, true, false, List, [], ◌∷◌, All, Option, Some, IfSome, option_to_list, refl, ap, subst}
+use Rattle.std.proofs.Common.{◌≡◌, ◌∙◌, ◌++◌, ℕ, List, [], ◌∷◌, All, Option, Some, IfSome, option_to_list, refl, ap, subst}
 use Rattle.std.proofs.lemmas.List.Elements.{All-nil, All-same, All-push, All-pop}
-use Rattle.std.specs.Fork.{GivesJobs}
-use denote.Param.Members.{Shared}
-use base.Stored.{Gv}
 use Rattle.spw.specs.Cargo.{Cargo}
 use Rattle.rmap.specs.declared.places.Place.{Place}
 use Rattle.rmap.specs.declared.places.Place.TheVariants.{Bank, Staging, LoadResult, Control}
-use Rattle.bver.specs.Justified.{AcceptedValue}
 use Rattle.bank.specs.declared.bank.Applied.{Applied}
-use Rattle.bank.specs.Records.{BankValue, ShareValue, JudgedValue, fits}
-use Rattle.cells.specs.Seats.{CellSeatValue, CellsValue, IsSeatOf}
-use Rattle.node_parts.specs.declared.config.BankConfig.{BankConfig}
-use Rattle.node_parts.specs.Nodes.{first_pass}
+use Rattle.bank.specs.Records.{ShareValue, JudgedValue}
+use Rattle.annals.specs.declared.deed.Link.{Link}
+use Rattle.annals.specs.Banks.{KeptValue}
 use Rattle.node_parts.specs.Passes.{PassValue}
-use Rattle.target.specs.Passes.{seat_of}
 use Rattle.node_parts.specs.Steps.{IsJudgement}
-use Rattle.node_parts.specs.Applied.{IsFinished, share_of, with_share}
-use Rattle.test_node_threads.specs.Seats.{maps_of, IsAt}
+use Rattle.node_parts.specs.Applied.{with_share}
+use Rattle.target.specs.Finished.{IsFinishedAt}
+use Rattle.test_node_threads.specs.Seats.{maps_of}
 
 -- a run leaves the seat where it is
 pub seat_of_run : (h between : PassValue) (p : Cargo) (j : JudgedValue) → IsJudgement h between p j → maps_of between.seat ≡ maps_of h.seat
@@ -30,13 +25,9 @@ seat_of_share h Staging share = refl
 seat_of_share h LoadResult share = refl
 seat_of_share h Control share = refl
 
-seat_by : (fit : Bool) (old new : BankValue) (h after : PassValue) (j : JudgedValue) (result : Applied) (bytes : List ℕ) → IsFinished old new h after j result bytes → fits old (share_of h j.place) j ≡ fit → maps_of after.seat ≡ maps_of h.seat
-seat_by true old new h after j result bytes finished fit = ap (λ (x : PassValue). maps_of x.seat) (finished.applied fit).shares ∙ seat_of_share h j.place _
-seat_by false old new h after j result bytes finished fit = ap (λ (x : PassValue). maps_of x.seat) (finished.refused fit).shares
-
 -- a command that ends at a bank leaves it
-pub seat_of_end : (old new : BankValue) (h after : PassValue) (j : JudgedValue) (result : Applied) (bytes : List ℕ) → IsFinished old new h after j result bytes → maps_of after.seat ≡ maps_of h.seat
-seat_of_end old new h after j result bytes finished = seat_by (fits old (share_of h j.place) j) old new h after j result bytes finished refl
+pub seat_of_end : (old new : KeptValue) (known reached : List Link) (h after : PassValue) (j : JudgedValue) (result : Applied) (bytes : List ℕ) → IsFinishedAt old new known reached h after j result bytes → maps_of after.seat ≡ maps_of h.seat
+seat_of_end old new known reached h after j result bytes finished = ap (λ (x : PassValue). maps_of x.seat) finished.shares ∙ seat_of_share h j.place finished.share
 
 -- what all have, the last two have
 pub last_two : {X : Type 0} (P : X → Type 0) (all rest least : List X) (r s : Option X) (x y : X) → all ≡ rest ++ option_to_list r → r ≡ Some x → rest ≡ least ++ option_to_list s → s ≡ Some y → All P all → P x × P y

@@ -90,14 +90,13 @@ impl<J: NodeFamily, R: Wait + Drop> LockedNode<J, R> {
         match judged.place() {
             Place::Bank(k) if usize::from(k) < self.node.banks() && usize::from(k) < pass.banks() =>
                 {
-                    let mut guard = self.node.bank(k).lock(rt);
+                    let node = &self.node;
+                    let mut front = node.front();
+                    let mut guard = node.bank(k).lock(rt);
                     let kept = &mut *guard;
                     let fits = kept.fits(pass.share(k), &judged);
-                    let mut front = self.node.front();
-                    Ok((
-                        fits,
-                        finish(pass, kept, &mut front, judged, &mut self.reply),
-                    ))
+                    let applied = finish(pass, kept, &mut front, judged, &mut self.reply);
+                    Ok((fits, applied))
                 }
             _ => {
                 self.spare.end(judged, &mut self.reply);

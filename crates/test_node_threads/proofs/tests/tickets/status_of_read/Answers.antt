@@ -9,6 +9,6 @@ pub returns : goal.returns
 returns g c =
     let run = seat_of_run _ _ _ _ c.in-Judged.ensures.step.0 in
     elim c.match-place.branch [
-      | in-Bank w ↦ grind (arith, ap (λ (x : PassValue). maps_of x.seat) w.pass-is, seat_of_end _ _ _ _ _ _ _ w.finish.ensures.finished, run)
+      | in-Bank w ↦ grind (arith, ap (λ (x : PassValue). maps_of x.seat) w.pass-is, seat_of_end _ _ _ _ _ _ _ _ _ w.finish.ensures.finished, run)
       | in_default w ↦ grind (arith, ap (λ (x : PassValue). maps_of x.seat) w.pass-is, run)
     ]
