@@ -7,7 +7,7 @@ use clap::error::ErrorKind;
 use job_packets::orders::Order;
 use job_packets::packet::packet_words;
 use job_packets::slips::{PacketFault, PacketWord, Slip};
-use job_parts::arguments::text_of;
+use job_parts::arguments::{is_set, text_of};
 use job_parts::options::{ports_of, sizes_of};
 use job_parts::usage::UsageFault;
 use job_rehearse::rehearse::slots_of;
@@ -20,6 +20,12 @@ const MAPS: &str =
 
 /// What `--ports` may be.
 const PORTS: &str = "a decimal number from 1 to 32";
+
+/// What `--ports` may be beside `--frames`.
+const ONE_PORT: &str = "1 where frames come";
+
+/// What NEW may be where OLD is standard input.
+const ONE_INPUT: &str = "the name of a file where OLD is - too";
 
 /// What `--ns` may be.
 const TIMES: &str =
@@ -55,6 +61,17 @@ fn slip_line(alloc: Global, found: &ArgMatches, slip: Slip) -> Result<String, Al
     line_of(alloc, name, text_of(found, word.id()), wanted)
 }
 
+/// The line of words of which each is one that it may be, but not beside the other: `--frames` and `--ports`, or OLD and NEW.
+fn pair_line(alloc: Global, found: &ArgMatches) -> Result<String, AllocError> {
+    if is_set(found, "frames") {
+        return line_of(alloc, "--ports", text_of(found, "ports"), ONE_PORT);
+    }
+    match text_of(found, "new") {
+        Some(new) => line_of(alloc, "NEW", Some(new), ONE_INPUT),
+        None => Ok(String::new(alloc)),
+    }
+}
+
 /// The line of an option that words of any other job have.
 fn option_line(alloc: Global, found: &ArgMatches) -> Result<String, AllocError> {
     if let Err(UsageFault::BadOption) = sizes_of(alloc, found) {
@@ -72,7 +89,7 @@ fn option_line(alloc: Global, found: &ArgMatches) -> Result<String, AllocError> 
     }
     match text_of(found, "code") {
         Some(code) => line_of(alloc, "CODE", Some(code), CODE),
-        None => Ok(String::new(alloc)),
+        None => pair_line(alloc, found),
     }
 }
 
