@@ -4,9 +4,9 @@
  *
  * The library keeps no state of its own: all that a target has hangs on its ::sandbar_node, and two nodes know nothing
  * of each other. It starts no threads, takes no locks, reads no clock and opens no files; of the C library it calls
- * malloc, realloc and free, for which sandbarstove_heap.h lets a program have others, and memcpy, memmove, memset. One
- * node is for one call at a time: whoever shares a node between tasks puts a lock of his own round each call. No call is
- * for interrupt or signal handlers.
+ * memcpy, memmove and memset, and of the program the heap of sandbarstove_heap.h, which link/heap.c is over malloc,
+ * realloc and free. One node is for one call at a time: whoever shares a node between tasks puts a lock of his own round
+ * each call. No call is for interrupt or signal handlers.
  *
  * Every function but ::sandbar_crc and ::sandbar_version returns a ::sandbar_code, that of the first test that fails, in
  * the order in which the function names them; sandbarstove_text.h has a text for each. At any code but ::SANDBAR_OK
@@ -110,7 +110,7 @@ typedef struct sandbar_map {
   uint16_t peak;  /**< 0: tickets are drawn from its cells; 1: a cell is the greatest number it was shown (at 2) */
 } sandbar_map;
 
-/** Why an image may not judge; the same numbers as `rmapctl verify` prints. 4 bytes. */
+/** Why an image may not judge; the same numbers as `rmapctl verify` prints, of which docs/CODES.md tells. 4 bytes. */
 typedef struct sandbar_why {
   uint16_t code; /**< (at 0) */
   uint16_t slot; /**< (at 2) */
@@ -122,8 +122,8 @@ typedef struct sandbar_why {
  * bytes.
  */
 typedef struct sandbar_served {
-  uint64_t verdict;      /**< of the program, where one judged; 0 is yes (at 0) */
-  uint32_t generation;   /**< of that program: 0 for the first, then 1, 2 .. as they were loaded (at 8) */
+  uint64_t verdict;      /**< of the program that judged, 0 is yes; 0 where none did (at 0) */
+  uint32_t generation;   /**< of that program: 0 for the first, then 1, 2 .. as they were loaded; 0 for none (at 8) */
   uint32_t reply_length; /**< how many bytes of @c reply are to be sent; 0: none (at 12) */
   uint32_t address;      /**< (at 16) */
   uint32_t length;       /**< its data length; of a read-modify-write half are data and half are the mask (at 20) */
@@ -217,7 +217,7 @@ uint32_t sandbar_rotate(sandbar_node *node, uint8_t bank, uint32_t room);
 
 /**
  * Reads bytes of a bank, as the instrument does beside all commands. Codes: ::SANDBAR_NO_NODE, ::SANDBAR_NO_BANK,
- * ::SANDBAR_NO_ROOM where one lies outside the bank.
+ * ::SANDBAR_NO_ROOM where one lies outside the bank, or the address of no bytes neither in it nor right behind it.
  */
 SANDBAR_CALL
 uint32_t sandbar_peek(sandbar_node *node, uint8_t bank, uint32_t address, uint8_t *bytes, size_t length);
@@ -225,7 +225,7 @@ uint32_t sandbar_peek(sandbar_node *node, uint8_t bank, uint32_t address, uint8_
 /**
  * Puts bytes at an address of a bank without a command, as the instrument does. No entry tells of it, so it begins a
  * new journal with that room: read the old entries first. Codes: ::SANDBAR_NO_NODE, ::SANDBAR_NO_BANK,
- * ::SANDBAR_NO_ROOM where one lies outside the bank, ::SANDBAR_BAD_CONFIG, ::SANDBAR_NO_MEMORY.
+ * ::SANDBAR_NO_ROOM as of ::sandbar_peek, ::SANDBAR_BAD_CONFIG, ::SANDBAR_NO_MEMORY.
  */
 SANDBAR_CALL
 uint32_t sandbar_poke(sandbar_node *node, uint8_t bank, uint32_t address, const uint8_t *bytes, size_t length,
