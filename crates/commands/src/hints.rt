@@ -164,6 +164,15 @@ fn told_table(alloc: Global, table: &str, sizes: &MapSizes) -> Result<String, Al
     Ok(text)
 }
 
+/// The same of a job that told the fault's number alone: where it is, too, and first.
+fn told_placed(alloc: Global, table: &str, sizes: &MapSizes) -> Result<String, AllocError> {
+    let Err(fault) = Table::read_for(alloc, table, sizes) else {
+        return Ok(String::new(alloc));
+    };
+    let more = told_table(alloc, table, sizes)?;
+    format!(in alloc; "    {fault}\n{more}")
+}
+
 /// Whether a line begins with this name, in upper or lower case, and a colon behind it.
 fn looks_like(alloc: Global, line: &str, name: &str) -> Result<bool, AllocError> {
     let line = line.trim_start().to_ascii_lowercase(alloc)?;
@@ -227,8 +236,8 @@ fn told_text(alloc: Global, source: &str) -> Result<String, AllocError> {
     Ok(text)
 }
 
-/// What more is told of a job that failed, of the last text that it read: what the line of its fault holds. It is empty where
-/// that text has no fault.
+/// What more is told of a job that failed, of the last text that it read: what the line of its fault holds, and of `policy`
+/// where the fault is. It is empty where that text has no fault.
 ///
 /// # Errors
 ///
@@ -236,7 +245,7 @@ fn told_text(alloc: Global, source: &str) -> Result<String, AllocError> {
 pub fn told_fault(alloc: Global, job: &Job, text: &str) -> Result<String, AllocError> {
     match job {
         Job::Assemble(_) => told_text(alloc, text),
-        Job::Policy(words) => told_table(alloc, text, &words.sizes),
+        Job::Policy(words) => told_placed(alloc, text, &words.sizes),
         Job::Decide(words) => told_table(alloc, text, &words.sizes),
         Job::Compare(words) => told_table(alloc, text, &words.sizes),
         Job::Map(words) => told_table(alloc, text, &words.sizes),
