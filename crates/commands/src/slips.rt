@@ -32,7 +32,7 @@ const TIMES: &str =
     "four decimal numbers of nanoseconds with commas between them, as 15,14,6,2: of a division, a call, a jump and the rest";
 
 /// What CODE may be.
-const CODE: &str = "letters and a number, as V5 or load12; without CODE all are listed";
+const CODE: &str = "one of the codes that explain lists without CODE, as V5 or load12";
 
 /// The line that tells what a word stands for, how it was written, and what is wanted.
 fn line_of(
