@@ -41,7 +41,7 @@ pub use job_texts::policies::PolicyWords;
 pub use job_weigh::weigh::WeighWords;
 pub use jobs::{Job, perform};
 pub use shows::show_talk;
-pub use slips::{help, told_misuse, told_option};
+pub use slips::{help, told_misuse, told_option, told_output};
 pub use told_files::{Cause, ToldFiles};
 pub use usage::words;
 pub use work::Work;

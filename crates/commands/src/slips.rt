@@ -146,3 +146,17 @@ pub fn told_misuse(job: &Job) -> &'static str {
         _ => "",
     }
 }
+
+/// The line behind `cannot write NAME` of a job that reads nothing, since its OUT is the file that it would read.
+pub fn told_output(job: &Job) -> &'static str {
+    let (read, written) = match job {
+        Job::Assemble(words) => (words.text.as_str(), words.image.as_str()),
+        Job::Policy(words) => (words.table.as_str(), words.image.as_str()),
+        _ => return "",
+    };
+    if read == written {
+        "    this is the file that is read\n"
+    } else {
+        ""
+    }
+}

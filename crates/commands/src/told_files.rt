@@ -29,6 +29,8 @@ pub enum Cause {
     NoText,
     /// It is an image, where a text is wanted.
     Image,
+    /// It is standard input, which cannot be written.
+    Input,
 }
 
 /// What a job reads.
@@ -202,6 +204,7 @@ impl<R: rt::Files + Input> Files for ToldFiles<'_, R> {
 
     fn write(&mut self, name: &str, bytes: &[u8]) -> Result<(), Cannot> {
         if name == STANDARD_INPUT {
+            self.cause = Some(Cause::Input);
             return Err(Cannot);
         }
         match fs::write(self.rt, name, bytes) {

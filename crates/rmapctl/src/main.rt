@@ -5,7 +5,7 @@
 use commands::{
     Cause, HostLink, HostTalk, Job, LiveWords, NodeWords, Status, ToldFiles, UsageFault, Work,
     WriteFault, help, live, live_frames, perform, show_talk, told_fault, told_misuse, told_option,
-    words,
+    told_output, words,
 };
 use std::alloc::Global;
 use std::io::{BufReader, BufWriter, IsTerminal, Write};
@@ -47,6 +47,7 @@ fn tell_cause<R: Eprint>(rt: &R, cause: &Cause) {
         Cause::System(refused) => rt.eprintln(refused),
         Cause::NoText => rt.eprintln(&"this is no text: it is not UTF-8"),
         Cause::Image => rt.eprintln(&"this is an image"),
+        Cause::Input => rt.eprintln(&"this is standard input"),
     };
 }
 
@@ -70,6 +71,8 @@ fn tell_more<R: Eprint + rt::Files + Input>(
                 if let Ok(told) = told_fault(alloc, job, text) {
                     let _ = rt.eprint(&told);
                 }
+            } else {
+                let _ = rt.eprint(&told_output(job));
             }
         }
     }
