@@ -1,12 +1,11 @@
 -- What is told of slots, and the tests of loops by it.
 use Rattle.std.proofs.Common.{◌≡◌, ◌≢◌, ℕ, ◌+◌, ◌*◌, ◌^◌, ◌%◌, ◌<◌, ◌≤◌, Bool, true, false, Option, Some, None, List, length, inl, inr, eqb, refl, sym, ap, subst, ◌∙◌, arith, below_more, get_or-set_same, get_or-set_other}
 use Rattle.std.specs.Prelude.{◌==◌, ◌||◌, IsTrue, IfSome, slice_index_or, slice_set}
-use Rattle.std.specs.Int.Bits.{bit_or}
 use Rattle.std.proofs.lemmas.Bool.{cases_lt, false≢true}
 use Rattle.std.proofs.lemmas.Bool.Decides.{nat_tests}
 use Rattle.std.proofs.lemmas.Nat.{one_shl}
 use Rattle.std.proofs.lemmas.Nat.Bits.{bit_at-zero, bit_at-pow_same, bit_at-pow_other}
-use Rattle.bpf_insn.specs.Bits.{bit_of_either, is_bit}
+use Rattle.bpf_insn.specs.Bits.{is_bit}
 use Rattle.bpf_insn.specs.Flow.{is_written}
 use Rattle.bpf_insn.specs.declared.insn.Insn.{Insn}
 use Rattle.bpf.specs.declared.loops.Loop.{Loop}
@@ -25,7 +24,7 @@ pub has_none : (register : ℕ) → is_bit 0 register ≡ false
 has_none register = ap (λ x. x == 1) (bit_at-zero register)
 
 -- the bit of a register stands for it alone
-pub has_named : (named register : ℕ) → named ≤ 10 → is_bit (1 * 2 ^ named % 2 ^ 16) register ≡ (named == register)
+has_named : (named register : ℕ) → named ≤ 10 → is_bit (1 * 2 ^ named % 2 ^ 16) register ≡ (named == register)
 has_named named register low =
     ap (λ m. is_bit m register) (one_shl named 16 (omega arith)) ∙ by_same (eqb named register) refl
   where
@@ -37,9 +36,13 @@ has_named named register low =
         let apart : register ≢ named = grind (arith, nat_tests, e) in
         ap (λ x. x == 1) (bit_at-pow_other named register apart) ∙ sym e
 
--- a register is among those of both
-pub has_either : (a b register : ℕ) → is_bit (bit_or a b) register ≡ (is_bit a register || is_bit b register)
-has_either a b register = bit_of_either a b register
+-- no other register stands beside it
+pub has_only : (named register : ℕ) → named ≤ 10 → is_bit (1 * 2 ^ named % 2 ^ 16) register ≡ (named == register || false)
+has_only named register low = has_named named register low ∙ by_test (named == register)
+  where
+    by_test : (t : Bool) → t ≡ (t || false)
+    by_test true = refl
+    by_test false = refl
 
 -- ---- the facts of slots
 

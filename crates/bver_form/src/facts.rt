@@ -1,15 +1,13 @@
 //! What the tests of loops ask of a slot again and again, told once.
 
-ghost use Rattle.std.specs.Prelude.{◌≡◌, ◌≤◌, ℕ, Option, Some, None, if◌then◌else◌};
+ghost use Rattle.std.specs.Prelude.{◌≡◌, ◌≤◌, ◌||◌, ℕ, Some, None, true, false};
+ghost use Rattle.bpf.specs.Program.{insn_at};
 ghost use Rattle.bpf_insn.specs.Bits.{is_bit};
-ghost use Rattle.bpf_insn.specs.Flow.{is_named, is_written};
-ghost use Rattle.machine.specs.Laws.{is_store};
-ghost use Rattle.bver_form.specs.Facts.{AreFactsOf, told_distance};
-ghost use Rattle.bver_form.specs.Jumps.{jump_distance};
+ghost use Rattle.bpf_insn.specs.Flow.{is_clobbered, is_named};
+ghost use Rattle.bver_form.specs.Facts.{AreFacts, AreFactsOf, told_distance};
 
-use crate::jumps::jump_distance;
-use bpf::MAX_SLOTS;
-use bpf_insn::{Insn, Register};
+use bpf::{Image, MAX_SLOTS};
+use bpf_insn::{Callee, Flow, Insn, Register};
 
 /// The slots of a program, at most.
 pub const SLOTS: usize = MAX_SLOTS as usize;
@@ -26,49 +24,13 @@ pub struct SlotFacts {
     distance: i32,
 }
 
-/// The bit of the register that is named, if one is.
-#[tactic(auto, using(crate::proofs::Told::has_named))]
-fn named_bits(named: Option<Register>) -> u16
-    ensures { (register : ℕ) → register ≤ 10
-        → is_bit result register ≡ is_named named register }
-{
-    match named {
-        Some(register) => 1 << register.number(),
-        None => 0,
-    }
-}
-
-/// The bits of the registers that an instruction writes.
-#[tactic(auto, using(crate::proofs::Told::has_either))]
-fn written_bits(insn: &Insn) -> u16
-    ensures { (register : ℕ) → register ≤ 10
-        → is_bit result register ≡ is_written insn.now register }
-{
-    named_bits(insn.written()) | insn.flow().clobbered()
-}
-
-/// Whether the instruction is a store: it accesses memory, and names no register that it writes.
-fn is_store(insn: &Insn) -> bool
-    ensures { result ≡ is_store insn.now }
-{
-    insn.accessed().is_some() && insn.written().is_none()
-}
-
-/// Whether the instruction jumps, and how far.
-fn jump_of(insn: &Insn) -> (bool, i32)
-    ensures { (if result.0 then Some result.1 else None) ≡ jump_distance insn.now }
-{
-    match jump_distance(insn) {
-        Some(distance) => (true, distance),
-        None => (false, 0),
-    }
-}
-
 impl SlotFacts {
-    /// Those of a slot at which no instruction begins.
+    /// Those of a slot at which no instruction begins, and of an instruction that does none of these.
     #[tactic(auto, using(crate::proofs::Told::has_none))]
-    pub(crate) fn nothing() -> SlotFacts
-        ensures { AreFactsOf None result }
+    fn nothing() -> SlotFacts
+        ensures registers { (register : ℕ) → is_bit result.registers register ≡ false }
+        ensures stores { result.stores ≡ false }
+        ensures jump { told_distance result ≡ None }
     {
         SlotFacts {
             registers: 0,
@@ -78,16 +40,97 @@ impl SlotFacts {
         }
     }
 
+    /// Those of an instruction that writes the register which it names.
+    #[tactic(auto, using(crate::proofs::Told::has_only))]
+    fn writing(named: Register) -> SlotFacts
+        ensures registers { (register : ℕ) → register ≤ 10
+            → is_bit result.registers register
+            ≡ (is_named (Some named) register || is_clobbered Flow.GoesOn register) }
+        ensures stores { result.stores ≡ false }
+        ensures jump { told_distance result ≡ None }
+    {
+        SlotFacts {
+            registers: 1 << named.number(),
+            stores: false,
+            jumps: false,
+            distance: 0,
+        }
+    }
+
+    /// Those of a store.
+    #[tactic(auto, using(crate::proofs::Told::has_none))]
+    fn storing() -> SlotFacts
+        ensures registers { (register : ℕ) → is_bit result.registers register ≡ false }
+        ensures stores { result.stores ≡ true }
+        ensures jump { told_distance result ≡ None }
+    {
+        SlotFacts {
+            registers: 0,
+            stores: true,
+            jumps: false,
+            distance: 0,
+        }
+    }
+
+    /// Those of a jump by so many slots from the next one.
+    #[tactic(auto, using(crate::proofs::Told::has_none))]
+    fn jumping(distance: i32) -> SlotFacts
+        ensures registers { (register : ℕ) → is_bit result.registers register ≡ false }
+        ensures stores { result.stores ≡ false }
+        ensures jump { told_distance result ≡ Some distance }
+    {
+        SlotFacts {
+            registers: 0,
+            stores: false,
+            jumps: true,
+            distance,
+        }
+    }
+
+    /// Those of a call.
+    fn calling(callee: Callee, number: i32) -> SlotFacts
+        ensures registers { (register : ℕ) → register ≤ 10
+            → is_bit result.registers register
+            ≡ is_clobbered (Flow.Calls callee number) register }
+        ensures stores { result.stores ≡ false }
+        ensures jump { told_distance result ≡ None }
+    {
+        SlotFacts {
+            registers: Flow::Calls(callee, number).clobbered(),
+            stores: false,
+            jumps: false,
+            distance: 0,
+        }
+    }
+
     /// Those of a slot at which the instruction begins.
-    pub(crate) fn of(insn: &Insn) -> SlotFacts
+    fn of(insn: &Insn) -> SlotFacts
         ensures { AreFactsOf (Some insn.now) result }
     {
-        let (jumps, distance) = jump_of(insn);
-        SlotFacts {
-            registers: written_bits(insn),
-            stores: is_store(insn),
-            jumps,
-            distance,
+        match *insn {
+            Insn::Alu { dst, .. }
+            | Insn::Negate { dst, .. }
+            | Insn::MoveSigned { dst, .. }
+            | Insn::ByteSwap { dst, .. }
+            | Insn::Load { dst, .. }
+            | Insn::Wide { dst, .. }
+            | Insn::LoadMap { dst, .. }
+            | Insn::LoadAddress { dst, .. } => SlotFacts::writing(dst),
+            Insn::Store { .. } => SlotFacts::storing(),
+            Insn::Jump { offset, .. } => SlotFacts::jumping(i32::from(offset)),
+            Insn::Goto { distance } => SlotFacts::jumping(distance.slots()),
+            Insn::Call { callee, number } => SlotFacts::calling(callee, number),
+            Insn::Exit => SlotFacts::nothing(),
+        }
+    }
+
+    /// Those of a slot.
+    fn at(image: &Image, slot: u16) -> SlotFacts
+        ensures { AreFactsOf (insn_at image.now slot) result }
+    {
+        match image.insn(slot) {
+            Some(insn) => SlotFacts::of(&insn),
+            None => SlotFacts::nothing(),
         }
     }
 
@@ -127,4 +170,13 @@ impl SlotFacts {
 /// Room for the facts of the slots of any program.
 pub fn no_facts() -> [SlotFacts; SLOTS] {
     [SlotFacts::nothing(); SLOTS]
+}
+
+/// Writes the facts of each slot of a program to its place.
+pub(crate) fn tell_slots(image: &Image, facts: &mut [SlotFacts; SLOTS])
+    ensures { AreFacts image.now facts.new }
+{
+    for slot in 0..image.slots() {
+        facts[usize::from(slot)] = SlotFacts::at(image, slot);
+    }
 }

@@ -1,15 +1,16 @@
 //! The tests of a program's form, in the order in which they refuse.
 
-ghost use Rattle.std.specs.Prelude.{◌≡◌, IfErr, IfOk, MatchResult, OnOk};
-ghost use Rattle.bver_form.specs.Facts.{AreFacts, AreFactsOf};
-ghost use Rattle.bver_form.specs.Form.{AreAllowed, IsAllowed, IsAllowedAt, IsFaultAt, IsFormed, IsFormFault, IsInsnFault, Tells, insn_fault, insn_at};
+ghost use Rattle.std.specs.Prelude.{All, IfErr, MatchResult, OnOk};
+ghost use Rattle.bver_form.specs.Facts.{AreFacts};
+ghost use Rattle.bver_form.specs.Form.{AreAllowed, IsAllowed, IsAllowedAt, IsFaultAt, IsFormed, IsFormFault, IsInsnFault, IsLoopFault, Tells, insn_fault, insn_at};
+ghost use Rattle.bver_form.specs.Loops.{IsLoopFormed};
 
 use crate::ending::{check_budget, check_end};
-use crate::facts::{SLOTS, SlotFacts, no_facts};
-use crate::jumps::check_jump;
+use crate::facts::{SLOTS, SlotFacts, no_facts, tell_slots};
+use crate::jumps::check_landing;
 use crate::loops::check_loops;
 use crate::refusal::{Refusal, Refused};
-use crate::support::{check_frame, check_supported};
+use crate::support::{check_call, check_written};
 use bpf::Image;
 use bpf_insn::Insn;
 
@@ -18,36 +19,54 @@ fn check_insn(image: &Image, slot: u16, insn: &Insn) -> Result<(), Refusal>
     ensures allowed { OnOk result (IsAllowed image.now slot insn.now) }
     ensures fault { Tells result (insn_fault image.now slot insn.now) }
 {
-    check_supported(image.version(), insn)?;
-    check_frame(insn)?;
-    check_jump(image, slot, insn)
+    match *insn {
+        Insn::Alu { dst, .. }
+        | Insn::Negate { dst, .. }
+        | Insn::MoveSigned { dst, .. }
+        | Insn::ByteSwap { dst, .. }
+        | Insn::Load { dst, .. }
+        | Insn::Wide { dst, .. }
+        | Insn::LoadMap { dst, .. } => check_written(dst),
+        Insn::Store { .. } | Insn::Exit => Ok(()),
+        Insn::Jump { offset, .. } => check_landing(image, slot, i32::from(offset)),
+        Insn::Goto { distance } => check_landing(image, slot, distance.slots()),
+        Insn::Call { callee, number } => check_call(image.version(), callee, number),
+        Insn::LoadAddress { .. } => Err(Refusal::Unsupported),
+    }
 }
 
-/// Tests that the instruction that begins at the slot, if one does, may stand there. What it does is told.
-fn check_slot(image: &Image, slot: u16) -> Result<SlotFacts, Refusal>
-    ensures allowed { MatchResult result (λ _. IsAllowedAt image.now slot (insn_at image.now slot))
+/// Tests that the instruction that begins at the slot, if one does, may stand there.
+fn check_slot(image: &Image, slot: u16) -> Result<(), Refusal>
+    ensures { MatchResult result (λ _. IsAllowedAt image.now slot (insn_at image.now slot))
         (IsFaultAt image.now slot (insn_at image.now slot)) }
-    ensures facts { IfOk result (AreFactsOf (insn_at image.now slot)) }
 {
     match image.insn(slot) {
-        Some(insn) => {
-            check_insn(image, slot, &insn)?;
-            Ok(SlotFacts::of(&insn))
-        }
-        None => Ok(SlotFacts::nothing()),
+        Some(insn) => check_insn(image, slot, &insn),
+        None => Ok(()),
     }
 }
 
 /// Tests that each instruction may stand where it does. The first that may not is refused.
-fn check_slots(image: &Image, facts: &mut [SlotFacts; SLOTS]) -> Result<(), Refused>
-    ensures allowed { MatchResult result (λ _. AreAllowed image.now) (IsInsnFault image.now) }
-    ensures facts { OnOk result (AreFacts image.now facts.new) }
+fn check_slots(image: &Image) -> Result<(), Refused>
+    ensures { MatchResult result (λ _. AreAllowed image.now) (IsInsnFault image.now) }
 {
     for slot in 0..image.slots() {
-        let told = check_slot(image, slot).map_err(|code| Refused { code, slot })?;
-        facts[usize::from(slot)] = told;
+        check_slot(image, slot).map_err(|code| Refused { code, slot })?;
     }
     Ok(())
+}
+
+/// Tests that each declared loop has its form. The facts of slots are told only where there is a loop.
+fn check_declared(image: &Image) -> Result<(), Refused>
+    ensures { MatchResult result (λ _. All (IsLoopFormed image.now) image.now.loops)
+        (IsLoopFault image.now) }
+{
+    if image.loops().is_empty() {
+        return Ok(());
+    }
+    let mut facts = no_facts();
+    tell_slots(image, &mut facts);
+    check_loops(image, &facts)
 }
 
 /// Tests the form of a program (RFC 9669, sections 4.3 and 5.4, and choices of this project).
@@ -64,12 +83,15 @@ pub fn check(image: &Image) -> Result<(), Refused>
     // The refusal is the first in that order.
     ensures first { IfErr result (IsFormFault image.now) }
 {
-    check_with(image, &mut no_facts())
+    check_slots(image)?;
+    check_end(image)?;
+    check_declared(image)?;
+    check_budget(image)
 }
 
 /// Tests the form of a program as [`check`] does, and writes the facts of its slots to an array that may hold any before.
-/// Of a program that is refused, they are any. Time and memory are spent once for each slot: who goes on with a program
-/// reads them, and asks for no instruction again.
+/// Of a program that is refused, they are any. Who goes on with a program that has loops reads them, and asks for no
+/// instruction again.
 ///
 /// # Errors
 ///
@@ -81,8 +103,9 @@ pub fn check_with(image: &Image, facts: &mut [SlotFacts; SLOTS]) -> Result<(), R
     // The refusal is the first in that order.
     ensures first { IfErr result (IsFormFault image.now) }
 {
-    check_slots(image, facts)?;
+    check_slots(image)?;
     check_end(image)?;
+    tell_slots(image, facts);
     check_loops(image, facts)?;
     check_budget(image)
 }

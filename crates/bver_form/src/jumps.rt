@@ -1,22 +1,11 @@
 //! Where an instruction jumps, and whether it may (RFC 9669, section 4.3).
 
-ghost use Rattle.std.specs.Prelude.{◌≡◌, OnOk, IfSome};
+ghost use Rattle.std.specs.Prelude.{◌≡◌, OnOk, Some};
 ghost use Rattle.bver_form.specs.Form.{Tells, jump_fault};
-ghost use Rattle.bver_form.specs.Jumps.{IsJump, first_slot, is_loop_back, jump_distance, target};
+ghost use Rattle.bver_form.specs.Jumps.{IsJump, first_slot, is_loop_back, target};
 
 use crate::refusal::Refusal;
 use bpf::Image;
-use bpf_insn::{Flow, Insn};
-
-/// How far the instruction jumps, in slots from the next one.
-pub(crate) fn jump_distance(insn: &Insn) -> Option<i32>
-    ensures { result ≡ jump_distance insn.now }
-{
-    match insn.flow() {
-        Flow::Branches(distance) | Flow::Jumps(distance) => Some(distance),
-        Flow::GoesOn | Flow::Calls(_, _) | Flow::Ends | Flow::Unsupported => None,
-    }
-}
 
 /// Where a jump at the slot by so many slots leads, counted from the first slot.
 pub(crate) fn target(slot: u16, distance: i32) -> i64
@@ -54,7 +43,7 @@ fn is_loop_back(image: &Image, slot: u16, head: u16) -> bool
 
 /// Tests that a jump by so many slots leads to where an instruction begins, and not backward, but at the
 /// back of a declared loop to its head.
-fn check_landing(image: &Image, slot: u16, distance: i32) -> Result<(), Refusal>
+pub(crate) fn check_landing(image: &Image, slot: u16, distance: i32) -> Result<(), Refusal>
     ensures jump { OnOk result (IsJump image.now slot distance) }
     ensures fault { Tells result (jump_fault image.now slot (Some distance)) }
 {
@@ -67,17 +56,5 @@ fn check_landing(image: &Image, slot: u16, distance: i32) -> Result<(), Refusal>
             }
         }
         None => Err(Refusal::Target),
-    }
-}
-
-/// Tests where the instruction jumps, if it does.
-pub(crate) fn check_jump(image: &Image, slot: u16, insn: &Insn) -> Result<(), Refusal>
-    ensures jump { OnOk result
-        (IfSome (jump_distance insn.now) (λ distance. IsJump image.now slot distance)) }
-    ensures fault { Tells result (jump_fault image.now slot (jump_distance insn.now)) }
-{
-    match jump_distance(insn) {
-        Some(distance) => check_landing(image, slot, distance),
-        None => Ok(()),
     }
 }
