@@ -11,6 +11,7 @@ use Rattle.absdom.specs.declared.kinds.AbsKind.{AbsKind}
 use Rattle.absdom.specs.declared.kinds.AbsKind.TheVariants.{Unset}
 use Rattle.absdom.specs.State.{StateValue, kind_at, kind_in, with_kind}
 use Rattle.absdom.specs.State.{IsWhole}
+use Rattle.absdom_stack.specs.StackWords.{AreAllWhole}
 use Rattle.bver_form.specs.Jumps.{is_loop_back}
 use Rattle.bver_pass.specs.Heads.{AreWidenedRanges, IsDeclared, IsWidened, IsWidenedKind, retains, forgets}
 use Rattle.bver_pass.proofs.Loops.{loop_in, from_eqb}
@@ -30,21 +31,21 @@ widening_none p l lowered place before now kinds marks ranges = record {
   ranges = ranges;
 }
 
--- a register that is written leaves the ranges
-ranges_stay : (p : Program) (l : Loop) (before now : StateValue) (register : ℕ) (kind : AbsKind) → AreWidenedRanges p l before now → AreWidenedRanges p l before (with_kind now register kind)
-ranges_stay p l before now register kind (forgets stored is) = forgets stored is
-ranges_stay p l before now register kind (retains out is) = retains out is
+-- what changes registers alone leaves the ranges
+ranges_stay : (p : Program) (l : Loop) (before now next : StateValue) → next.ranges ≡ now.ranges → AreWidenedRanges p l before now → AreWidenedRanges p l before next
+ranges_stay p l before now next same (forgets stored is) = forgets stored (subst AreAllWhole (sym same) is)
+ranges_stay p l before now next same (retains out is) = retains out (same ∙ is)
 
-pub widening_next : (p : Program) (l : Loop) (lowered : List Bool) (place : ℕ) (before now : StateValue) (from : ℕ) (kind : AbsKind) → IsWhole now → from ≤ 9 → IsWidening p l lowered place before now from → IsWidenedKind p l lowered place from (kind_at now from) kind → IsWidening p l lowered place before (with_kind now from kind) (from + 1)
-widening_next p l lowered place before now from kind whole_range low widening widened = record {
+pub widening_next : (p : Program) (l : Loop) (lowered : List Bool) (place : ℕ) (before now next : StateValue) (from : ℕ) → ((k : ℕ) → k ≢ from → kind_at next k ≡ kind_at now k) → next.marks ≡ now.marks → next.ranges ≡ now.ranges → IsWidening p l lowered place before now from → IsWidenedKind p l lowered place from (kind_at now from) (kind_at next from) → IsWidening p l lowered place before next (from + 1)
+widening_next p l lowered place before now next from others marks ranges widening widened = record {
   done = λ register below.
       elim (cases_lt register from) [
-        | inl earlier ↦ rw (get_or-set_other now.kinds from register kind Unset (apart register earlier)) (widening.done register earlier)
+        | inl earlier ↦ rw (others register (apart register earlier)) (widening.done register earlier)
         | inr past ↦ same register (omega (arith, past, below))
       ];
-  rest = λ register past. get_or-set_other now.kinds from register kind Unset (beyond register past) ∙ widening.rest register (omega (arith, past));
-  marks = widening.marks;
-  ranges = ranges_stay p l before now from kind widening.ranges;
+  rest = λ register past. others register (beyond register past) ∙ widening.rest register (omega (arith, past));
+  marks = marks ∙ widening.marks;
+  ranges = ranges_stay p l before now next ranges widening.ranges;
 }
   where
     apart : (register : ℕ) → register < from → register ≢ from
@@ -53,13 +54,10 @@ widening_next p l lowered place before now from kind whole_range low widening wi
     beyond : (register : ℕ) → from + 1 ≤ register → register ≢ from
     beyond register above same = omega (arith, above, same)
 
-    here : kind_at (with_kind now from kind) from ≡ kind
-    here = get_or-set_same now.kinds from kind Unset (omega (arith, whole_range.sizes.registers, low))
-
-    same : (register : ℕ) → register ≡ from → IsWidenedKind p l lowered place register (kind_at before register) (kind_at (with_kind now from kind) register)
+    same : (register : ℕ) → register ≡ from → IsWidenedKind p l lowered place register (kind_at before register) (kind_at next register)
     same register is =
-        subst (λ (r : ℕ). IsWidenedKind p l lowered place r (kind_at before r) (kind_at (with_kind now from kind) r)) (sym is)
-        (rw (here, sym (widening.rest from (omega arith))) widened)
+        subst (λ (r : ℕ). IsWidenedKind p l lowered place r (kind_at before r) (kind_at next r)) (sym is)
+        (subst (λ (k : AbsKind). IsWidenedKind p l lowered place from k (kind_at next from)) (widening.rest from (omega arith)) widened)
 
 pub widening_all : (p : Program) (l : Loop) (lowered : List Bool) (place : ℕ) (before now : StateValue) → IsWidening p l lowered place before now 10 → IsWidened p l lowered place before now
 widening_all p l lowered place before now widening = record {

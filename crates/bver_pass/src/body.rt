@@ -1,6 +1,7 @@
 //! A loop that a program declares, with what stands at its head for every pass.
 
-ghost use Rattle.std.specs.Prelude.{◌≡◌, ◌≤◌, ◌<◌, ◌↔◌, IfErr, IsTrue, OnErr, OnOk, MatchResult, length};
+ghost use Rattle.std.specs.Prelude.{◌≡◌, ◌≢◌, ◌≤◌, ◌<◌, ◌↔◌, ℕ, IfErr, IsTrue, OnErr, OnOk, MatchResult, false, length};
+ghost use Rattle.absdom.specs.State.{kind_at};
 ghost use Rattle.bver_pass.specs.Justified.{HasStore, IsCovered, IsWrittenIn};
 ghost use Rattle.bver_form.specs.Lowered.{IsMore, IsSettled};
 ghost use Rattle.bver_pass.specs.Table.{knowledge_in};
@@ -126,6 +127,30 @@ impl<'a> Body<'a> {
         }
     }
 
+    /// Whether the register is widened: it is the counter, or the loop writes it.
+    fn changes(&self, register: Register) -> bool
+        ensures { result ≡ false → (register ≢ self.now.declared.register)
+            × (IsWrittenIn self.now.program self.now.declared register → ⊥) }
+    {
+        register.number() == self.declared.register.number() || self.writes(register)
+    }
+
+    /// Widens a register. One that stays as it is is not written.
+    fn widen_one(&self, lowered: &Lowered, state: &mut State, register: Register)
+        requires { register ≤ 9 }
+        ensures widened { IsWidenedKind self.now.program self.now.declared lowered.now
+            self.now.place register (kind_at state.old register) (kind_at state.new register) }
+        ensures others { (k : ℕ) → k ≢ register → kind_at state.new k ≡ kind_at state.old k }
+        ensures marks { state.new.marks ≡ state.old.marks }
+        ensures ranges { state.new.ranges ≡ state.old.ranges }
+    {
+        if self.changes(register) {
+            state.stands_whole();
+            let kind = self.widened(lowered, register, state.kind(register));
+            state.write(register, kind);
+        }
+    }
+
     /// Widens the ranges of words, and each register.
     fn widen_all(&self, lowered: &Lowered, state: &mut State)
         ensures { IsWidened self.now.program self.now.declared lowered.now self.now.place
@@ -134,11 +159,7 @@ impl<'a> Body<'a> {
         self.widen_ranges(state);
         for number in 0..10 {
             match Register::new(number) {
-                Some(register) => {
-                    let kind = self.widened(lowered, register, state.kind(register));
-                    state.stands_whole();
-                    state.write(register, kind);
-                }
+                Some(register) => self.widen_one(lowered, state, register),
                 None => unreachable!(),
             }
         }
@@ -174,9 +195,9 @@ impl<'a> Body<'a> {
         ensures { IsTrue result ↔ Falls self.now
             (knowledge_in table.now self.now.declared.head) edge.now register }
     {
-        table.is_number(self.declared.head, register)
+        self.writes(register)
             && !is_number(edge.kind(register))
-            && self.writes(register)
+            && table.is_number(self.declared.head, register)
     }
 
     /// Lowers the register if an edge back to the head lowers it.

@@ -86,9 +86,10 @@ impl Written {
         Written::by_loop(facts, &image.loops()[place])
     }
 
-    /// Nothing is written by any loop.
-    fn by_none() -> [Written; MAX_LOOPS]
-        ensures { length result ≡ 8 }
+    /// What the loops of a program write that declares none.
+    pub fn by_none() -> [Written; MAX_LOOPS]
+        ensures size { length result ≡ 8 }
+        ensures none { (p : Program) → length p.loops ≡ 0 → AreWrittenByLoops p result }
     {
         [Written::nothing(); MAX_LOOPS]
     }

@@ -1,5 +1,5 @@
-use Rattle.std.proofs.Common.{rules, ◌≡◌, ◌≤◌}
-use Rattle.absdom.specs.State.{kind_at, with_kind}
+use Rattle.std.proofs.Common.{rules, ◌≡◌, ◌≢◌, ℕ}
+use Rattle.absdom.specs.State.{kind_at}
 use Rattle.bver_pass.specs.Heads.{IsWidenedKind}
 use Rattle.bver_pass.proofs.Widening.{widening_next, widening_none}
 use Rattle.bver_pass.proofs.body.Body.widen_all.Goals as goal
@@ -14,8 +14,7 @@ loop-number-preserved c =
     let b = c.args.self.now in
     let number = c.loop-number.number in
     let now = c.loop-number.state in
-    let kind = c.widened-kind.result in
-    let low : number ≤ 9 = search rules in
-    let widened : IsWidenedKind b.program b.declared c.args.lowered.now b.place number (kind_at now number) kind = search rules in
-    let written : c.write.new.self ≡ with_kind now number kind = search rules in
-    rw written (widening_next b.program b.declared c.args.lowered.now b.place c.args.state.now now number kind c.stands_whole.ensures low c.loop-number.invariant widened)
+    let next = c.widen_one.new.state in
+    let widened : IsWidenedKind b.program b.declared c.args.lowered.now b.place number (kind_at now number) (kind_at next number) = search rules in
+    let others : (k : ℕ) → k ≢ number → kind_at next k ≡ kind_at now k = search rules in
+    widening_next b.program b.declared c.args.lowered.now b.place c.args.state.now now next number others c.widen_one.ensures.marks c.widen_one.ensures.ranges c.loop-number.invariant widened

@@ -4,7 +4,7 @@ use Rattle.bver_pass.proofs.Masks.{written_all, written_next, written_none}
 use Rattle.bver_pass.proofs.written.Written.by_loops.Goals as goal
 
 pub loop-place-init : goal.loop-place-init
-loop-place-init c = written_none c.args.image.now c.by_none-written.result c.by_none-written.ensures
+loop-place-init c = written_none c.args.image.now c.by_none-written.result c.by_none-written.ensures.size
 
 pub loop-place-preserved : goal.loop-place-preserved
 loop-place-preserved c =
