@@ -2,7 +2,7 @@
 -- a run may still take. A loop (head, back, bound, register) counts its register down to zero: slot `back - 1` takes
 -- one from it, and slot `back` goes back to `head` while it is not zero.
 use Rattle.std.specs.Prelude.{◌≡◌, ◌≢◌, ◌≤◌, ◌<◌, ◌⊎◌, ℕ, ◌+◌, ◌-◌, ◌*◌, ℤ, pos, negsuc, Bool, false, ◌&&◌, ◌==◌}
-use Rattle.std.specs.Prelude.{nat_le, nat_lt, if◌then◌else◌, List, [], ◌∷◌, Option, None, Some, IfSome, IsTrue, All}
+use Rattle.std.specs.Prelude.{nat_le, nat_lt, if◌then◌else◌, List, [], ◌∷◌, Option, Some, IfSome, IsTrue, All}
 use Rattle.bpf.specs.declared.loops.Loop.{Loop}
 use Rattle.bpf.specs.Program.{Program, insn_at}
 use Rattle.bpf.specs.Weight.{times_at}

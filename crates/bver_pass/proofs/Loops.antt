@@ -1,5 +1,5 @@
 -- Where a declared loop lies, and which slots it holds.
-use Rattle.std.proofs.Common.{◌≡◌, ℕ, zero, suc, ◌+◌, ◌-◌, ◌<◌, ◌≤◌, true, List, [], ◌∷◌, length, arith, eqb}
+use Rattle.std.proofs.Common.{◌≡◌, ℕ, zero, suc, ◌+◌, ◌<◌, ◌≤◌, true, List, [], ◌∷◌, length, arith, eqb}
 use Rattle.std.specs.Prelude.{IsTrue, slice_index_or}
 use Rattle.std.proofs.lemmas.Bool.Decides.{nat_tests}
 use Rattle.bpf.specs.declared.loops.Loop.{Loop}

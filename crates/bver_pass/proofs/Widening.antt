@@ -1,16 +1,13 @@
 -- What is known at the head of a loop is widened, register by register.
-use Rattle.std.proofs.Common.{◌≡◌, ◌≢◌, ℕ, zero, suc, ◌+◌, ◌<◌, ◌≤◌, Bool, true, false, List, [], ◌∷◌, length, inl, inr, eqb, refl, sym, ap, subst, ◌∙◌, arith, get_or-set_same, get_or-set_other}
+use Rattle.std.proofs.Common.{◌≡◌, ◌≢◌, ℕ, zero, suc, ◌+◌, ◌<◌, ◌≤◌, Bool, true, false, List, [], ◌∷◌, length, inl, inr, eqb, refl, sym, ap, subst, ◌∙◌, arith}
 use Rattle.std.specs.Prelude.{◌==◌, ◌&&◌, slice_index_or}
 use Rattle.std.specs.List.{list_any}
 use Rattle.std.proofs.lemmas.Bool.{cases_lt}
 use Rattle.bpf.specs.declared.header.TheConstants.{MAX_SLOTS}
 use Rattle.bpf.specs.declared.loops.Loop.{Loop}
 use Rattle.bpf.specs.Program.{Program, IsProgram, IsLoop}
-use Rattle.absdom_num.specs.Tables.{whole_range}
 use Rattle.absdom.specs.declared.kinds.AbsKind.{AbsKind}
-use Rattle.absdom.specs.declared.kinds.AbsKind.TheVariants.{Unset}
-use Rattle.absdom.specs.State.{StateValue, kind_at, kind_in, with_kind}
-use Rattle.absdom.specs.State.{IsWhole}
+use Rattle.absdom.specs.State.{StateValue, kind_at, kind_in}
 use Rattle.absdom_stack.specs.StackWords.{AreAllWhole}
 use Rattle.bver_form.specs.Jumps.{is_loop_back}
 use Rattle.bver_pass.specs.Heads.{AreWidenedRanges, IsDeclared, IsWidened, IsWidenedKind, retains, forgets}
