@@ -9,8 +9,10 @@ mod chains;
 mod deed;
 mod kept;
 mod laws;
+mod line;
 
 pub use chains::{Chain, Family, Front, Opened};
 pub use deed::{Deed, Link};
 pub use kept::Kept;
 pub use laws::share_one_history;
+pub use line::Line;
