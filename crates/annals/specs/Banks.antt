@@ -1,6 +1,6 @@
 -- The history of a node's banks, and what it says of each.
-use Rattle.std.specs.Prelude.{ℕ, ◌≡◌, ◌≢◌, ◌<◌, ◌&&◌, Bool, List, [], ◌∷◌, None, fold, length, map, replicate, slice_index, true}
-use Rattle.std.specs.List.{range_with_len}
+use Rattle.std.specs.Prelude.{ℕ, ◌≡◌, ◌≢◌, ◌<◌, ◌==◌, ◌&&◌, Bool, List, [], ◌∷◌, None, fold, length, map, replicate, slice_index, true}
+use Rattle.std.specs.List.{filter, range_with_len}
 use mathlib.Core.List.{IsPrefix}
 use Rattle.rmap.specs.declared.places.Place.TheVariants.{Bank}
 use Rattle.rmap.specs.declared.status.Status.TheVariants.{GeneralError}
@@ -13,7 +13,7 @@ use Rattle.bank.specs.Records.{EntryValue, ShareValue, JudgedValue, BankValue, a
 use Rattle.annals.specs.declared.deed.Deed.{Deed}
 use Rattle.annals.specs.declared.deed.Deed.TheVariants.{Opens, Does, Sets, Asks}
 use Rattle.annals.specs.declared.deed.Link.{Link}
-use Rattle.annals.specs.Chains.{ChainValue, LineValue, IsLast, at_bank, chain_of}
+use Rattle.annals.specs.Chains.{ChainValue, Due, LineValue, IsLast, at_bank, chain_of}
 
 -- so many zero bytes from an address on
 abbrev pub zeros : ℕ × ℕ → Memory
@@ -49,6 +49,10 @@ entries_in (l ∷ ls) = with_entry l.deed (entries_in ls)
 -- all entries that a bank's journal ever had, oldest first, whatever was rotated
 abbrev pub entries_of : ℕ → List Link → List EntryValue
 entries_of bank log = entries_in (chain_of bank log)
+
+-- those of a port
+abbrev pub entries_by : (port bank : ℕ) → List Link → List EntryValue
+entries_by port bank log = filter (λ (e : EntryValue). e.port == port) (entries_of bank log)
 
 -- what a judged command is answered behind a history, where there is room
 abbrev pub answer_after : ℕ → List Link → JudgedValue → Answer
@@ -89,9 +93,13 @@ pub record IsRefusedAt (old new : KeptValue) (share after : ShareValue) (judged 
   pub kept : new ≡ old
   pub share_is : after ≡ share
 
+-- of those, the numbers of the entries at that bank
+abbrev pub numbers_at : ℕ → List Due → List ℕ
+numbers_at bank dues = map (λ (e : EntryValue). e.number) (at_bank bank dues)
+
 -- the entries that a port asked for at a bank have the numbers from 0 up to its share's, each once and in order
 abbrev pub IsCountOf : ShareValue → (bank : ℕ) → LineValue → Type 0
-IsCountOf share bank line = map (λ (e : EntryValue). e.number) (at_bank bank line.asked) ≡ range_with_len 0 share.number
+IsCountOf share bank line = numbers_at bank line.asked ≡ range_with_len 0 share.number
 
 -- the share of that bank goes on with what its port asked for there, and of no other bank was anything asked for
 pub record CountsOn (bank : ℕ) (share after : ShareValue) (old new : LineValue) : Type 0 where

@@ -184,8 +184,10 @@ impl Opened {
         ensures left { self.new.1 + count ≡ self.old.1 }
         ensures family { self.new.0 ≡ self.old.0 }
     {
-        for _ in 0..count {
+        let mut left = count;
+        while left > 0 {
             let _pen = self.pens.take();
+            left -= 1;
         }
     }
 

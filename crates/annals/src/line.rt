@@ -1,8 +1,10 @@
 //! The line of a port: what it asked for, and the right to ask.
 
-ghost use Rattle.std.specs.Prelude.{◌≡◌, ◌<◌, ◌+◌, [], IfSome};
+ghost use Rattle.std.specs.Prelude.{◌≡◌, ◌<◌, ◌+◌, ℕ, [], IfSome};
 ghost use mathlib.Core.List.{IsPrefix};
 ghost use Rattle.annals.specs.declared.deed.Deed.TheVariants.{Does};
+ghost use Rattle.bank.specs.Records.{numbers_of};
+ghost use Rattle.annals.specs.Banks.{entries_of, numbers_at};
 ghost use Rattle.annals.specs.Chains.{IsLastOf, done_for, line_with};
 
 use crate::chains::{Chain, Family, Front, Opened};
@@ -68,9 +70,11 @@ impl<J: Family> Line<J> {
         self.left = front.again();
     }
 
-    /// What anybody has seen of the entries of the port begins what the port asked for.
+    /// What anybody has seen of the entries of the port begins what the port asked for, over all banks and at each of them.
     pub fn knows_all(&mut self, front: &Front<J>)
         ensures begins { IsPrefix (done_for self.old.port front.now) self.old.asked }
+        ensures numbers { (bank : ℕ) → IsPrefix (numbers_of self.old.port (entries_of bank front.now))
+            (numbers_at bank self.old.asked) }
         ensures same { self.new ≡ self.old }
     {
         self.chain.begins_with(front);

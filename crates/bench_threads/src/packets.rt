@@ -10,7 +10,7 @@ use rmap::{ReplyBuf, Status};
 use spw::{End, Packet};
 use std::alloc::Global;
 use std::sync::Wait;
-use target::{Pass, banks_and_passes, serve_packet};
+use target::{PlainPass, banks_and_passes, serve_packet};
 
 /// A read of the load result, which leaves no entry in a journal.
 pub(crate) const READ: [u8; 16] = [
@@ -29,7 +29,7 @@ fn is_read<J: ProgramFamily, R: Wait + Drop>(
     alloc: Global,
     banks: &mut Banks,
     publisher: &mut Publisher<J, R>,
-    pass: &mut Pass<J>,
+    pass: &mut PlainPass<J>,
     reply: &mut ReplyBuf,
 ) -> Result<bool> {
     let packet = Packet::new(Vec::from_slice(alloc, &READ)?, End::Eop)?;
@@ -45,7 +45,7 @@ fn is_read<J: ProgramFamily, R: Wait + Drop>(
 pub struct Port<J: ProgramFamily, R: Wait + Drop> {
     banks: Banks,
     publisher: Publisher<J, R>,
-    pass: Pass<J>,
+    pass: PlainPass<J>,
 }
 
 impl<J: ProgramFamily, R: Wait + Drop> Port<J, R> {

@@ -11,11 +11,11 @@ use Rattle.ports.specs.Due.{Judging, Deed, Standing, standing, Worked, IsBanked,
 use Rattle.ports.specs.Due.Deed.{Dropped, Answered, Judged}
 use Rattle.ports.specs.Laws.{HasEntered, EntriesFollow}
 
-both_are : (a b : Bool) → (a && b) ≡ true → (a ≡ true) × (b ≡ true)
+pub both_are : (a b : Bool) → (a && b) ≡ true → (a ≡ true) × (b ≡ true)
 both_are true b e = (refl, e)
 both_are false b e = absurd cc
 
-left_some : (b : BankValue) (share : ShareValue) (j : JudgedValue) → has_room b j.port ≡ true → number_left b share j ≡ Some share.number
+pub left_some : (b : BankValue) (share : ShareValue) (j : JudgedValue) → has_room b j.port ≡ true → number_left b share j ≡ Some share.number
 left_some b share j room = ap (λ r. if r then Some share.number else None) room
 
 left_none : (b : BankValue) (share : ShareValue) (j : JudgedValue) → has_room b j.port ≡ false → number_left b share j ≡ None

@@ -30,12 +30,12 @@ use Rattle.ports.proofs.Keeping.{end_keeps, prefix_same, prefix_trans}
 
 -- ---- what stays of a port, and that it saw more
 
-record Stays (h after : PassValue) : Type 0 where
-  programs : IsPrefix h.programs after.programs
-  port : after.port ≡ h.port
-  windows : after.windows ≡ h.windows
-  sizes : after.seat.sizes ≡ h.seat.sizes
-  count : length after.shares ≡ length h.shares
+pub record Stays (h after : PassValue) : Type 0 where
+  pub programs : IsPrefix h.programs after.programs
+  pub port : after.port ≡ h.port
+  pub windows : after.windows ≡ h.windows
+  pub sizes : after.seat.sizes ≡ h.seat.sizes
+  pub count : length after.shares ≡ length h.shares
 
 stays_same : (h after : PassValue) → after ≡ h → Stays h after
 stays_same h after same = record {
@@ -77,13 +77,13 @@ end_stays j between after end = let keeps = end_keeps j between after end in rec
 same_stays : (h after : Standing) → after ≡ h → Stays h.pass after.pass
 same_stays h after same = stays_same h.pass after.pass (ap (λ (x : Standing). x.pass) same)
 
-dealt_stays : (d : Deed) (p : Cargo) (h after : Standing) → IsDealt d p h after → Stays h.pass after.pass
+pub dealt_stays : (d : Deed) (p : Cargo) (h after : Standing) → IsDealt d p h after → Stays h.pass after.pass
 dealt_stays Dropped p h after is = same_stays h after is.same
 dealt_stays (Answered reply) p h after is = same_stays h after is.same
 dealt_stays (Judged j) p h after is =
     stays_on h.pass is.between after.pass (run_stays h.pass is.between p j.judged is.judgement) (end_stays j (standing is.between h.front) after is.ended)
 
-worked_stays : (h after : Standing) (ps : List Cargo) (ds : List Deed) → Worked h ps ds after → Stays h.pass after.pass
+pub worked_stays : (h after : Standing) (ps : List Cargo) (ds : List Deed) → Worked h ps ds after → Stays h.pass after.pass
 worked_stays h after [] [] w = same_stays h after w
 worked_stays h after [] (d ∷ ds) w = absurd w
 worked_stays h after (p ∷ ps) [] w = absurd w
@@ -151,11 +151,11 @@ ask_once h after (p ∷ ps) (Judged j ∷ ds) w =
 -- ---- shares count entries
 
 -- what a judged command adds to the port's number at a bank
-abbrev bit : Bool → ℕ
+abbrev pub bit : Bool → ℕ
 bit true = 1
 bit false = 0
 
-abbrev one_at : ℕ → Judging → ℕ
+abbrev pub one_at : ℕ → Judging → ℕ
 one_at k j = bit (is_entry_at k j)
 
 next_number : (b : BankValue) (share : ShareValue) (j : JudgedValue) → (next_share b share j).number ≡ share.number + bit (has_room b j.port)
@@ -244,7 +244,7 @@ end_number k j h after (inr is) below =
     let none = no_entry k j.entered j.judged.place is.entered in
     omega (arith, same, none)
 
-judged_number : (k : ℕ) (j : Judging) (p : Cargo) (h after : Standing) → IsJudged j p h after → k < length h.pass.shares → number_at after.pass k ≡ number_at h.pass k + one_at k j
+pub judged_number : (k : ℕ) (j : Judging) (p : Cargo) (h after : Standing) → IsJudged j p h after → k < length h.pass.shares → number_at after.pass k ≡ number_at h.pass k + one_at k j
 judged_number k j p h after is below =
     let same : number_at is.between k ≡ number_at h.pass k = ap (λ x. number_at x k) is.judgement.asked in
     let count = (run_stays h.pass is.between p j.judged is.judgement).count in

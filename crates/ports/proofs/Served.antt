@@ -5,9 +5,8 @@ use Rattle.std.proofs.lemmas.Bool.{cases_lt}
 use Rattle.std.proofs.lemmas.List.{get_or-map, get_or_append_left, get_or-append-add, length-append, length-map}
 use Rattle.std.specs.List.{All}
 use Rattle.std.proofs.lemmas.List.Elements.{All-append, All-cons, All-nil}
-use mathlib.Core.List.{IsPrefix}
-use Rattle.annals.specs.declared.deed.Link.{Link}
-use Rattle.ports.proofs.Keeping.{prefix_trans}
+use Rattle.ports.proofs.Whole.{entries_are_all}
+use Rattle.ports.specs.Worked.{standing_of}
 use Rattle.ports.specs.Queue.{IsServePassOf, IsServePassAfter}
 use Rattle.ports.specs.declared.port.Port.{Port}
 use Rattle.ports.specs.declared.port.ServePass.{ServePass}
@@ -95,6 +94,10 @@ module _ {J S : Type 0} (sent : S → List SentReply) (failed : S → ℕ) (bank
           };
           sum = told.added;
           history = history;
+          entries = λ k w r below.
+              let it = (here k w r below).worked in
+              let low : k < length returned = subst (λ n. k < n) (sym (length-map ended (λ (e : Ended J S). e.worker) ∙ long)) below in
+              entries_are_all (standing_of (slice_index_or old k w)) (standing_of (slice_index_or returned k w)) it.packets it.served.deeds history.whole it.served.worked (history.begin k w low) (history.counted k w low);
         }
 
     -- Where a thread could not be made, fewer workers came back than went in.
@@ -140,12 +143,9 @@ module _ {J S : Type 0} (sent : S → List SentReply) (failed : S → ℕ) (bank
           few = omega (arith, many, whole, few);
         }
 
--- What the workers know of the history begins a list, and so does what one worker more knows where the list is longer.
-pub begin_more : {J S : Type 0} (old new : List Link) (workers : List (Worker J S)) (one : Worker J S) → IsPrefix old new → IsPrefix one.front new → All (λ (w : Worker J S). IsPrefix w.front old) workers → All (λ (w : Worker J S). IsPrefix w.front new) (workers ++ one ∷ [])
-begin_more {J} {S} old new workers one longer here begin =
-    All-append (λ (w : Worker J S). IsPrefix w.front new) workers (one ∷ [])
-    (λ k w below. prefix_trans (slice_index_or workers k w).front old new (begin k w below) longer)
-    (All-cons (λ (w : Worker J S). IsPrefix w.front new) one [] here (All-nil (λ (w : Worker J S). IsPrefix w.front new)))
+-- One worker more.
+pub all_more : {J S : Type 0} (P : Worker J S → Type 0) (workers : List (Worker J S)) (one : Worker J S) → P one → All P workers → All P (workers ++ one ∷ [])
+all_more P workers one here all = All-append P workers (one ∷ []) all (All-cons P one [] here (All-nil P))
 
 -- Where no thread was started, all came back as they went in.
 pub all_came_back : {J S : Type 0} (sent : S → List SentReply) (failed : S → ℕ) (old : List (Worker J S)) → HaveComeBack sent failed old old

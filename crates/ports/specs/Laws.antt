@@ -1,5 +1,5 @@
 -- Laws of what a worker did.
-use Rattle.std.specs.Prelude.{◌≡◌, ◌<◌, ℕ, ◌+◌, ◌==◌, ◌&&◌, Bool, false, List, [], ◌∷◌, ◌++◌, length, filter, MatchBool, Some, All}
+use Rattle.std.specs.Prelude.{◌≡◌, ◌<◌, ℕ, ◌+◌, ◌==◌, ◌&&◌, Bool, false, List, [], ◌∷◌, ◌++◌, drop, length, filter, MatchBool, Some, All}
 use Rattle.std.specs.List.{flat_map}
 use mathlib.Core.List.{IsPrefix}
 use Rattle.machine.specs.declared.calls.Call.{Call}
@@ -14,9 +14,11 @@ use Rattle.node_parts.specs.Passes.{PassValue}
 use Rattle.node_parts.specs.Steps.{IsVerdict}
 use Rattle.node_parts.specs.Applied.{share_of}
 use Rattle.bank.specs.declared.bank.Applied.{Applied}
-use Rattle.bank.specs.Records.{ShareValue}
+use Rattle.rmap.specs.declared.status.Status.{Status}
+use Rattle.bank.specs.Records.{EntryValue, ShareValue, numbered_entry}
 use Rattle.annals.specs.declared.deed.Link.{Link}
-use Rattle.annals.specs.Banks.{IsDone}
+use Rattle.annals.specs.Banks.{IsDone, entries_by}
+use Rattle.target.specs.Lines.{CountsAllOf}
 use Rattle.ports.specs.Due.{Judging, Deed, Standing, Worked, judgings}
 
 -- the verdict on a command is that of a run, for that port and with its calls, of the program that a beginning of those
@@ -93,6 +95,34 @@ EntriesFollow known (judging ∷ judgings) reached =
     MatchBool judging.entered
     ((between : List Link) × HasEntered known between judging × EntriesFollow between judgings reached)
     (EntriesFollow known judgings reached)
+
+-- the entry is that of the command, which is the one of that number of its port at its bank
+pub record IsEntryOf (number : ℕ) (judging : Judging) (entry : EntryValue) : Type 0 where
+  pub status : Status
+  pub entry_is : entry ≡ numbered_entry number judging.judged status
+
+-- the entries are those of the commands, in order and each once, numbered from that number on
+abbrev pub AreEntriesOf : ℕ → List Judging → List EntryValue → Type 0
+AreEntriesOf number [] [] = Unit {0}
+AreEntriesOf number [] (entry ∷ entries) = ⊥
+AreEntriesOf number (judging ∷ judgings) [] = ⊥
+AreEntriesOf number (judging ∷ judgings) (entry ∷ entries) =
+    IsEntryOf number judging entry × AreEntriesOf (number + 1) judgings entries
+
+-- at each bank, the entries of the port in that history, but for those that its share counted at first, are those of its
+-- commands that left one there, in order and each once
+abbrev pub AreAllEntries : List Link → PassValue → List Deed → Type 0
+AreAllEntries log h deeds =
+    (k : ℕ) → k < length h.shares
+    → AreEntriesOf (number_at h k) (filter (is_entry_at k) (judgings deeds))
+    (drop (number_at h k) (entries_by h.port k log))
+
+-- a history that goes on from what a worker knows in the end, and has no entries of its port but those that its shares count,
+-- has none that no command of the worker left
+abbrev pub WorkersEntriesAreAll : Type 0
+WorkersEntriesAreAll =
+    (h after : Standing) (packets : List Cargo) (deeds : List Deed) (log : List Link) → Worked h packets deeds after
+    → IsPrefix after.front log → CountsAllOf after.pass log → AreAllEntries log h.pass deeds
 
 -- each command of a worker that left an entry stands in the history that its port knows in the end, in order, with the status
 -- and the reply of the definition on what stands before it

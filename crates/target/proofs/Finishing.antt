@@ -13,7 +13,7 @@ use Rattle.annals.specs.declared.deed.Link.{Link}
 use Rattle.annals.specs.Banks.{KeptValue, IsAppliedTo, IsDone, IsRefusedAt, takes}
 use Rattle.target.specs.Finished.{IsFinishedAt}
 
-both_are : (a b : Bool) → (a && b) ≡ true → (a ≡ true) × (b ≡ true)
+pub both_are : (a b : Bool) → (a && b) ≡ true → (a ≡ true) × (b ≡ true)
 both_are true b e = (refl, e)
 both_are false b e = absurd cc
 
@@ -21,7 +21,7 @@ both_are false b e = absurd cc
 pub taken_fits : (kept : KeptValue) (share : ShareValue) (j : JudgedValue) → takes kept share j ≡ true → fits kept.bank share j ≡ true
 taken_fits kept share j took = (both_are (is_place_of kept.chain.number j.place) (fits kept.bank share j) took).1
 
-same_bank : (k n : ℕ) → Bank k ≡ Bank n → k ≡ n
+pub same_bank : (k n : ℕ) → Bank k ≡ Bank n → k ≡ n
 same_bank k n e = cc
 
 -- the share that was lent is the port's of the place

@@ -5,7 +5,7 @@ ghost use Rattle.bank.specs.Records.{fits, is_next};
 ghost use Rattle.node_parts.specs.Steps.{IsBankBelow};
 ghost use Rattle.node_parts.specs.Applied.{IsFinished, share_of};
 
-use crate::pass::Pass;
+use crate::pass::PlainPass;
 use bank::{Applied, Bank, Judged};
 use node_parts::shares_agree;
 use publish::ProgramFamily;
@@ -13,7 +13,7 @@ use rmap::{Place, ReplyBuf};
 
 /// How a judged command ends at the bank of its place.
 fn end<J: ProgramFamily>(
-    pass: &mut Pass<J>,
+    pass: &mut PlainPass<J>,
     bank: &mut Bank,
     judged: Judged,
     reply: &mut ReplyBuf,
@@ -40,7 +40,7 @@ fn end<J: ProgramFamily>(
 /// happen where bank and pass were made together ([`paired_commands_fit`](node_parts::paired_commands_fit)). The condition
 /// is the place of a bank of which the port has a share ([`Pass::banks`]).
 pub(crate) fn finish<J: ProgramFamily>(
-    pass: &mut Pass<J>,
+    pass: &mut PlainPass<J>,
     bank: &mut Bank,
     judged: Judged,
     reply: &mut ReplyBuf,

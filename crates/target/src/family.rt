@@ -27,7 +27,7 @@ impl Model for Opened {
 
     ghost view = { λ o. record { programs = o.programs; banks = o.banks.0 } };
 
-    ghost invariant = { λ o. o.banks.1 ≡ 9 };
+    ghost invariant = { λ o. o.banks.1 ≡ 41 };
 }
 
 impl Opened {
@@ -43,7 +43,7 @@ impl Opened {
     pub(crate) fn into_parts(self) -> (publish::Opened, annals::Opened)
         ensures programs { result.0 ≡ self.programs }
         ensures banks { result.1.0 ≡ self.banks }
-        ensures chains { result.1.1 ≡ 9 }
+        ensures chains { result.1.1 ≡ 41 }
     {
         let Opened { programs, banks } = self;
         (programs, banks)

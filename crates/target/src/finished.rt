@@ -16,7 +16,7 @@ use rmap::{Place, ReplyBuf};
 
 /// Ends a judged command at a bank with its chain, with the port's share of the bank of its place, and leaves the reply:
 /// [`Kept::finish`]. Where it leaves an entry, that is the last of a history which goes on from what the port knew, and the
-/// port knows it then; status and reply are the definition's on the replay of what stood before it. Where the bank is
+/// port knows it then, and its line asked for it before; status and reply are the definition's on the replay of what stood before it. Where the bank is
 /// another, or [`Bank::fits`](bank::Bank::fits) says no, it is a general error, and nothing changes. The condition is the
 /// place of a bank of which the port has a share ([`Pass::banks`]).
 pub fn finish<J: NodeFamily>(
@@ -40,5 +40,5 @@ pub fn finish<J: NodeFamily>(
     let Place::Bank(k) = judged.place() else {
         unreachable!()
     };
-    kept.finish(front, &mut pass.shares[usize::from(k)], judged, reply)
+    kept.finish(front, &mut pass.line, &mut pass.shares[usize::from(k)], judged, reply)
 }

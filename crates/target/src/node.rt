@@ -6,13 +6,14 @@ ghost use Rattle.std.specs.List.{All};
 ghost use Rattle.annals.specs.Banks.{IsFresh};
 ghost use Rattle.cells.specs.Seats.{cells};
 ghost use Rattle.node_parts.specs.Nodes.{IsNodeFault, first_passes, limit_fault};
+ghost use Rattle.target.specs.Lines.{AreNew};
 ghost use Rattle.target.specs.Nodes.{AreNumbered, AreOpened};
 
 use crate::family::{NodeFamily, Opened};
 use crate::lock::BankLock;
 use crate::parts::banks_and_passes;
-use crate::pass::Pass;
-use annals::{Front, Kept};
+use crate::pass::{Pass, PlainPass};
+use annals::{Front, Kept, Line};
 use bver::Accepted;
 use cells::Cells;
 use node_parts::{Banks, NodeConfig, NodeFault};
@@ -44,19 +45,22 @@ impl<J: NodeFamily, R: Wait + Drop> Model for Node<J, R> {
     ghost invariant = { λ n. AreNumbered n.banks.items × (n.front ≡ []) };
 }
 
-/// The banks behind their locks, in order, with their numbers, each with the chain of its number in the history. It ends
-/// with `AllocError` also where a chain has begun before (no test met that).
+/// The banks behind their locks, in order, with their numbers, each with the chain of its number in the history. The chains
+/// that stand before the lines of ports are gone then. It ends with `AllocError` also where a chain has begun before (no test
+/// met that).
 fn locks<J: NodeFamily>(
     alloc: Global,
     banks: Banks,
     history: &mut annals::Opened,
 ) -> Result<Vec<BankLock<J>>, AllocError>
     requires family { history.old.0 ≡ J.Family.book }
-    requires chains { history.old.1 ≡ 9 }
+    requires chains { history.old.1 ≡ 41 }
     requires few { length banks ≤ MAX_BANKS }
     requires fresh { All IsFresh banks }
     ensures count { IfOk result (λ locks. length locks.items ≡ length banks) }
     ensures numbers { IfOk result (λ locks. AreNumbered locks.items) }
+    ensures chains { IfOk result
+        (λ _. (history.new.0 ≡ history.old.0) × (history.new.1 ≡ 32)) }
 {
     let mut locks = Vec::with_capacity(alloc, banks.len())?;
     let mut number = 0;
@@ -67,7 +71,30 @@ fn locks<J: NodeFamily>(
         locks.push(BankLock::new(number, kept))?;
         number += 1;
     }
+    history.skip(9 - number);
     Ok(locks)
+}
+
+/// The passes, each with the line of its port, which is the chain of the history behind the nine of the banks and of what is
+/// published. It ends with `AllocError` also where a chain has begun before (no test met that).
+fn with_lines<J: NodeFamily>(
+    alloc: Global,
+    plain: Vec<PlainPass<J>>,
+    history: &mut annals::Opened,
+) -> Result<Vec<Pass<J>>, AllocError>
+    requires family { history.old.0 ≡ J.Family.book }
+    requires chains { history.old.1 ≡ 32 }
+    requires new { AreNew 0 plain.items }
+    ensures { IfOk result (λ passes. passes.items ≡ plain.items) }
+{
+    let mut passes = Vec::with_capacity(alloc, plain.len())?;
+    for pass in plain {
+        let Some(line) = Line::new(pass.port(), history) else {
+            return Err(AllocError);
+        };
+        passes.push(pass.with_line(line))?;
+    }
+    Ok(passes)
 }
 
 impl<J: NodeFamily, R: Wait + Drop> Node<J, R> {
@@ -116,10 +143,11 @@ impl<J: NodeFamily, R: Wait + Drop> Node<J, R> {
     {
         let (programs, mut history) = opened.into_parts();
         let front = history.front();
-        let (banks, cells, publisher, passes) = banks_and_passes(
+        let (banks, cells, publisher, plain) = banks_and_passes(
             alloc, rt, programs, config, factory,
         )?;
         let banks = locks(alloc, banks, &mut history)?;
+        let passes = with_lines(alloc, plain, &mut history)?;
         let publisher = Mutex::new(publisher);
         let node = Node {
             banks,

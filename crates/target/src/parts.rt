@@ -8,7 +8,7 @@ ghost use Rattle.node_parts.specs.Pairs.{ArePaired};
 ghost use Rattle.node_parts.specs.Nodes.{AreSharesOf, IsNodeFault, fresh_banks, first_passes, first_programs, limit_fault};
 ghost use Rattle.target.specs.Nodes.{AreFirst};
 
-use crate::pass::Pass;
+use crate::pass::{NoLine, PlainPass, PortPass};
 use bver::Accepted;
 use cells::{CellSeat, Cells};
 use node_parts::{Banks, NodeConfig, NodeFault, PortShares, RunContext, made_are_paired};
@@ -26,7 +26,7 @@ fn passes<J: ProgramFamily>(
     by_port: &mut Vec<PortShares>,
     mut seats: Vec<CellSeat>,
     mut readers: Vec<Reader<J>>,
-) -> Result<Vec<Pass<J>>, AllocError>
+) -> Result<Vec<PlainPass<J>>, AllocError>
     requires banks { length config.now.banks.now ≤ MAX_BANKS }
     requires ports { config.now.ports ≤ PORTS }
     requires by_port { AreSharesOf config.now by_port.old.items }
@@ -41,11 +41,12 @@ fn passes<J: ProgramFamily>(
         let (Some(seat), Some(reader)) = (seats.pop(), readers.pop()) else {
             unreachable!()
         };
-        let pass = Pass {
+        let pass = PortPass {
             context: RunContext::new(port, config.windows(), seat),
             reader,
             shares: by_port[usize::from(port)].take(alloc),
             staging: Staging::new(alloc)?,
+            line: NoLine,
         };
         passes.push(pass)?;
     }
@@ -63,7 +64,7 @@ pub fn banks_and_passes<J: ProgramFamily, R: Wait + Drop>(
     opened: Opened,
     config: &NodeConfig,
     factory: Accepted,
-) -> Result<(Banks, Cells, Publisher<J, R>, Vec<Pass<J>>), NodeFault>
+) -> Result<(Banks, Cells, Publisher<J, R>, Vec<PlainPass<J>>), NodeFault>
     requires family { opened ≡ J.book }
     requires sizes { factory.sizes ≡ config.now.sizes }
     ensures banks { IfOk result (λ made. made.0 ≡ fresh_banks config.now) }

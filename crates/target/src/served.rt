@@ -8,7 +8,7 @@ ghost use Rattle.node_parts.specs.Pairs.{ArePaired, IsPaired};
 
 use crate::applied::finish;
 use crate::loads::load;
-use crate::pass::Pass;
+use crate::pass::PlainPass;
 use crate::staged::stage;
 use crate::step::{Step, judge};
 use node_parts::{Banks, Served, Stop, packets_keep_pairs};
@@ -23,7 +23,7 @@ fn serve<J: ProgramFamily, R: Wait + Drop>(
     alloc: Global,
     banks: &mut Banks,
     publisher: &mut Publisher<J, R>,
-    pass: &mut Pass<J>,
+    pass: &mut PlainPass<J>,
     packet: Packet,
     reply: &mut ReplyBuf,
 ) -> Served
@@ -55,7 +55,7 @@ pub fn serve_packet<J: ProgramFamily, R: Wait + Drop>(
     alloc: Global,
     banks: &mut Banks,
     publisher: &mut Publisher<J, R>,
-    pass: &mut Pass<J>,
+    pass: &mut PlainPass<J>,
     packet: Packet,
     reply: &mut ReplyBuf,
 ) -> Served
