@@ -123,14 +123,15 @@ other_done port k bank (Asks x) ds not = refl
 -- what a port left at a bank are its entries in the bank's chain
 pub done_at : (port k : ℕ) (log : List Link) → at_bank k (done_for port log) ≡ by_port port (entries_of k log)
 done_at port k [] = refl
-done_at port k (l ∷ ls) = here (l.chain == k) refl where
-  here : (b : Bool) → (l.chain == k) ≡ b → at_bank k (with_done port l.chain l.deed (done_for port ls)) ≡ by_port port (entries_in (cond b (l ∷ chain_of k ls) (chain_of k ls)))
-  here true is =
+done_at port k (l ∷ ls) = here (l.chain == k) refl (done_at port k ls) where
+  here : (b : Bool) → (l.chain == k) ≡ b → at_bank k (done_for port ls) ≡ by_port port (entries_of k ls)
+      → at_bank k (with_done port l.chain l.deed (done_for port ls)) ≡ by_port port (entries_in (cond b (l ∷ chain_of k ls) (chain_of k ls)))
+  here true is rest =
       let same : l.chain ≡ k = grind (arith, nat_tests, is) in
-      own_done port k l.chain l.deed (done_for port ls) (entries_of k ls) same (done_at port k ls)
-  here false is =
+      own_done port k l.chain l.deed (done_for port ls) (entries_of k ls) same rest
+  here false is rest =
       let not : k ≢ l.chain = λ same. absurd (grind (arith, nat_tests, is, same)) in
-      other_done port k l.chain l.deed (done_for port ls) not ∙ done_at port k ls
+      other_done port k l.chain l.deed (done_for port ls) not ∙ rest
 
 pub done_numbers : (port k : ℕ) (log : List Link) → numbers_at k (done_for port log) ≡ numbers_of port (entries_of k log)
 done_numbers port k log = ap (map (λ (e : EntryValue). e.number)) (done_at port k log)

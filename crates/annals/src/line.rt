@@ -46,6 +46,13 @@ impl<J: Family> Line<J> {
         Some(Line { port, chain, left })
     }
 
+    /// The port.
+    pub fn port(&self) -> u8
+        ensures { result ≡ self.now.port }
+    {
+        self.port
+    }
+
     /// Adds an entry of the port to the chain of the bank of that number, behind all that is known of the chain and all that
     /// somebody has seen, who then has seen it too: the line asks for it, and the chain has it. The conditions are the chain of
     /// that bank, and an entry of the port.

@@ -76,13 +76,14 @@ by_one port k place next e is =
 
 follow_prefix : (known : List Link) (js : List Judging) (reached : List Link) → EntriesFollow known js reached → IsPrefix known reached
 follow_prefix known [] reached is = prefix_same known reached is
-follow_prefix known (j ∷ js) reached is = by j.entered is where
-  by : (b : Bool) → MatchBool b ((between : List Link) × HasEntered known between j × EntriesFollow between js reached) (EntriesFollow known js reached) → IsPrefix known reached
-  by true here =
+follow_prefix known (j ∷ js) reached is = by j.entered is (λ from rest. follow_prefix from js reached rest) where
+  by : (b : Bool) → MatchBool b ((between : List Link) × HasEntered known between j × EntriesFollow between js reached) (EntriesFollow known js reached)
+      → ((from : List Link) → EntriesFollow from js reached → IsPrefix from reached) → IsPrefix known reached
+  by true here later =
       let last = here.1.done.last in
       let begins : IsPrefix last.before here.0 = (_, sym last.log) in
-      prefix_trans known here.0 reached (prefix_trans known last.before here.0 last.seen begins) (follow_prefix here.0 js reached here.2)
-  by false here = follow_prefix known js reached here
+      prefix_trans known here.0 reached (prefix_trans known last.before here.0 last.seen begins) (later here.0 here.2)
+  by false here later = later known here
 
 -- ---- one command
 
@@ -168,6 +169,33 @@ more_entries k n j js before rest all e here count is whole others =
     subst (λ (es : List EntryValue). AreEntriesOf n (filter (is_entry_at k) (j ∷ js)) es) (sym first)
     (subst (λ (b : Bool). AreEntriesOf n (cond b (j ∷ filter (is_entry_at k) js) (filter (is_entry_at k) js)) (e ∷ rest)) (sym here) both)
 
+-- one judged command before the others
+one_before : (k : ℕ) (log : List Link) (j : Judging) (p : Cargo) (h between : Standing) (js : List Judging) → IsJudged j p h between → IsPrefix between.front log → k < length h.pass.shares
+    → AreEntriesOf (number_at between.pass k) (filter (is_entry_at k) js) (drop (number_at between.pass k) (entries_by h.pass.port k log))
+    → AreEntriesOf (number_at h.pass k) (filter (is_entry_at k) (j ∷ js)) (drop (number_at h.pass k) (entries_by h.pass.port k log))
+one_before k log j p h between js is front below rest = by (is_entry_at k j) refl where
+  n : ℕ
+  n = number_at h.pass k
+
+  all : List EntryValue
+  all = entries_by h.pass.port k log
+
+  number : number_at between.pass k ≡ n + one_at k j
+  number = judged_number k j p h between is below
+
+  by : (b : Bool) → is_entry_at k j ≡ b → AreEntriesOf n (filter (is_entry_at k) (j ∷ js)) (drop n all)
+  by true here =
+      let left = judged_left k j p h between is here in
+      let next : number_at between.pass k ≡ n + 1 = number ∙ ap (λ (b : Bool). n + bit b) here in
+      let whole : all ≡ (left.before ++ left.entry ∷ []) ++ entries_by h.pass.port k front.0 =
+      ap (entries_by h.pass.port k) (sym front.1) ∙ (by_append h.pass.port k between.front front.0 ∙ ap (λ (es : List EntryValue). es ++ entries_by h.pass.port k front.0) left.all) in
+      more_entries k n j js left.before (entries_by h.pass.port k front.0) all left.entry here left.count left.is whole
+      (subst (λ (i : ℕ). AreEntriesOf i (filter (is_entry_at k) js) (drop i all)) next rest)
+  by false here =
+      let next : number_at between.pass k ≡ n = number ∙ (ap (λ (b : Bool). n + bit b) here ∙ omega arith) in
+      subst (λ (b : Bool). AreEntriesOf n (cond b (j ∷ filter (is_entry_at k) js) (filter (is_entry_at k) js)) (drop n all)) (sym here)
+      (subst (λ (i : ℕ). AreEntriesOf i (filter (is_entry_at k) js) (drop i all)) next rest)
+
 all_entries : (k : ℕ) (log : List Link) (h after : Standing) (ps : List Cargo) (ds : List Deed) → Worked h ps ds after → IsPrefix after.front log → k < length h.pass.shares
     → IsPrefix (numbers_of h.pass.port (entries_of k log)) (range_with_len 0 (number_at after.pass k))
     → AreEntriesOf (number_at h.pass k) (filter (is_entry_at k) (judgings ds)) (drop (number_at h.pass k) (entries_by h.pass.port k log))
@@ -191,40 +219,13 @@ all_entries k log h after (p ∷ ps) (Answered reply ∷ ds) w begins below coun
     (all_entries k log w.0 after ps ds w.2 begins (subst (λ (x : Standing). k < length x.pass.shares) (sym same) below)
     (subst (λ (x : Standing). IsPrefix (numbers_of x.pass.port (entries_of k log)) (range_with_len 0 (number_at after.pass k))) (sym same) counted))
 all_entries k log h after (p ∷ ps) (Judged j ∷ ds) w begins below counted =
-    by (is_entry_at k j) refl
-  where
-    n : ℕ
-    n = number_at h.pass k
-
-    port : w.0.pass.port ≡ h.pass.port
-    port = (dealt_stays (Judged j) p h w.0 w.1).port
-
-    number : number_at w.0.pass k ≡ n + one_at k j
-    number = judged_number k j p h w.0 w.1 below
-
-    within : k < length w.0.pass.shares
-    within = subst (λ (i : ℕ). k < i) (sym (dealt_stays (Judged j) p h w.0 w.1).count) below
-
-    rest : AreEntriesOf (number_at w.0.pass k) (filter (is_entry_at k) (judgings ds)) (drop (number_at w.0.pass k) (entries_by h.pass.port k log))
-    rest = subst (λ (i : ℕ). AreEntriesOf (number_at w.0.pass k) (filter (is_entry_at k) (judgings ds)) (drop (number_at w.0.pass k) (entries_by i k log))) port
-        (all_entries k log w.0 after ps ds w.2 begins within
-        (subst (λ (i : ℕ). IsPrefix (numbers_of i (entries_of k log)) (range_with_len 0 (number_at after.pass k))) (sym port) counted))
-
-    front : IsPrefix w.0.front log
-    front = prefix_trans w.0.front after.front log (follow_prefix w.0.front (judgings ds) after.front (entries_follow w.0 after ps ds w.2)) begins
-
-    by : (b : Bool) → is_entry_at k j ≡ b → AreEntriesOf n (filter (is_entry_at k) (j ∷ judgings ds)) (drop n (entries_by h.pass.port k log))
-    by true here =
-        let left = judged_left k j p h w.0 w.1 here in
-        let next : number_at w.0.pass k ≡ n + 1 = number ∙ ap (λ (b : Bool). n + bit b) here in
-        let whole : entries_by h.pass.port k log ≡ (left.before ++ left.entry ∷ []) ++ entries_by h.pass.port k front.0 =
-        ap (entries_by h.pass.port k) (sym front.1) ∙ (by_append h.pass.port k w.0.front front.0 ∙ ap (λ (es : List EntryValue). es ++ entries_by h.pass.port k front.0) left.all) in
-        more_entries k n j (judgings ds) left.before (entries_by h.pass.port k front.0) (entries_by h.pass.port k log) left.entry here left.count left.is whole
-        (subst (λ (i : ℕ). AreEntriesOf i (filter (is_entry_at k) (judgings ds)) (drop i (entries_by h.pass.port k log))) next rest)
-    by false here =
-        let next : number_at w.0.pass k ≡ n = number ∙ (ap (λ (b : Bool). n + bit b) here ∙ omega arith) in
-        subst (λ (b : Bool). AreEntriesOf n (cond b (j ∷ filter (is_entry_at k) (judgings ds)) (filter (is_entry_at k) (judgings ds))) (drop n (entries_by h.pass.port k log))) (sym here)
-        (subst (λ (i : ℕ). AreEntriesOf i (filter (is_entry_at k) (judgings ds)) (drop i (entries_by h.pass.port k log))) next rest)
+    let stays = dealt_stays (Judged j) p h w.0 w.1 in
+    let within : k < length w.0.pass.shares = subst (λ (i : ℕ). k < i) (sym stays.count) below in
+    let rest = all_entries k log w.0 after ps ds w.2 begins within
+    (subst (λ (i : ℕ). IsPrefix (numbers_of i (entries_of k log)) (range_with_len 0 (number_at after.pass k))) (sym stays.port) counted) in
+    let front : IsPrefix w.0.front log = prefix_trans w.0.front after.front log (follow_prefix w.0.front (judgings ds) after.front (entries_follow w.0 after ps ds w.2)) begins in
+    one_before k log j p h w.0 (judgings ds) w.1 front below
+    (subst (λ (i : ℕ). AreEntriesOf (number_at w.0.pass k) (filter (is_entry_at k) (judgings ds)) (drop (number_at w.0.pass k) (entries_by i k log))) stays.port rest)
 
 pub entries_are_all : WorkersEntriesAreAll
 entries_are_all = λ h after ps ds log w begins counted k below.

@@ -1,4 +1,4 @@
-use Rattle.std.proofs.Common.{◌≡◌, ◌+◌, ◌++◌, length}
+use Rattle.std.proofs.Common.{◌≡◌, ◌+◌, length}
 use Rattle.std.specs.Vec.Iter.{into_iter_items}
 use Rattle.target.specs.Lines.{AreNew}
 use Rattle.target.proofs.node.with_lines.Given as goal
@@ -6,7 +6,7 @@ use Rattle.target.proofs.node.with_lines.Given as goal
 -- each pass has its line, or is new and to come
 abbrev pub invariant-loop-pass : goal.invariant-loop-pass
 invariant-loop-pass g l = record {
-  all : l.passes.items ++ into_iter_items l.pass-iterator ≡ l.fn.plain.items;
+  same : l.passes.items ≡ l.yielded;
   new : AreNew (length l.passes.items) (into_iter_items l.pass-iterator);
   family : l.history.0 ≡ g.J.Family.book;
   chains : length l.passes.items + l.history.1 ≡ 32;

@@ -1,13 +1,13 @@
 use Rattle.std.specs.Prelude.{IfSome, IfNone, ◌<◌, slice_index}
 use Rattle.std.specs.List.{range_with_len}
-use Rattle.std.proofs.Common.{Option, ◌≡◌, ℕ, true, Some, List, [], ◌∷◌, ◌++◌, length, sym, ◌∙◌, ap, subst}
+use Rattle.std.proofs.Common.{Option, ◌≡◌, ℕ, refl, true, Some, List, [], ◌∷◌, ◌++◌, length, sym, ◌∙◌, ap, subst}
 use Rattle.bank.specs.Records.{EntryValue, BankValue, memory_of, answer_of, has_room, entry_of, fits, is_place_of, numbers_of}
 use Rattle.bank.specs.Answer.{Answer}
 use Rattle.annals.specs.declared.deed.Deed.TheVariants.{Does}
 use Rattle.annals.specs.declared.deed.Link.{Link}
 use Rattle.annals.specs.Chains.{IsLast, chain_of, line_with, link}
 use Rattle.annals.specs.Banks.{CountsOn, KeptValue, memory_after, answer_after, entries_of, IsDone}
-use Rattle.annals.proofs.Counts.{counts_on, fitting, next_share_is, numbers_before, counts_after, still_counted}
+use Rattle.annals.proofs.Counts.{counts_on, counts_same, share_stays, fitting, next_share_is, numbers_before, counts_after, still_counted}
 use Rattle.annals.proofs.Replays.{last_is, room_of, number_is, entries_after, same_memory, answers, replayed, at_place}
 use Rattle.annals.proofs.kept.Kept.apply.Goals as goal
 
@@ -131,3 +131,12 @@ returns-in-Some-clause-counted g c =
     let on : CountsOn k s c.apply-applied.new.share c.args.line.now c.leave.new.self =
     counts_on k s c.apply-applied.new.share c.args.line.now c.leave.new.self entry (applied.share ∙ next_share_is b s j room) (ap (λ (e : EntryValue). e.number) is) asked in
     subst (λ (v : KeptValue). CountsOn v.chain.number s c.apply-applied.new.share c.args.line.now c.leave.new.self) c.self.view_is on
+
+pub returns-clause-counted : goal.returns-clause-counted
+returns-clause-counted g c =
+    let b = c.self.inside.bank in
+    let s = c.args.share.now in
+    let j = c.args.judged in
+    let applied = c.apply-applied.ensures in
+    let still : c.apply-applied.new.share ≡ s = applied.share ∙ share_stays b s j c.apply-applied.result.number applied.number (sym c.is_some.ensures ∙ c.if-is_some.false) in
+    counts_same c.args.self.now.chain.number s c.apply-applied.new.share c.args.line.now c.args.line.now still refl
