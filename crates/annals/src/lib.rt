@@ -2,7 +2,8 @@
 //!
 //! Each bank has a [`Chain`] in it, and a [`Kept`] bank is one with its chain, as it lies behind a lock: whoever has the
 //! lock, and nobody else, can add to the chain, and the bank's memory is the replay of it. What a port knows of the
-//! history is its [`Front`]. The history exists in proofs alone: at run time a chain is one word, and a front is nothing.
+//! history is its [`Front`]. Each port has a [`Line`] in it, and asks there for each entry before a bank has it: so nobody else
+//! can have entries of the port. The history exists in proofs alone: at run time a chain is one word, and a front is nothing.
 #![tactic(auto)]
 
 mod chains;

@@ -49,10 +49,10 @@ line_after port k bank shares share after line line' is below read on done = eli
       let all : set shares k after ≡ shares = ap (λ (s : ShareValue). set shares k s) (same.0 ∙ read_share port k shares share below read) ∙ set-get_or shares k (first_share port) in
       rw (all, same.1) (record { line_is = is.line_is; ports = is.ports; counts = is.counts })
   | inl here ↦ record {
-      line_is = on.line ∙ is.line_is;
-      ports = λ i low. ports i (subst (λ (n : ℕ). i < n) (length-set shares k after) low);
-      counts = λ i low. counts here i (subst (λ (n : ℕ). i < n) (length-set shares k after) low);
-    }
+    line_is = on.line ∙ is.line_is;
+    ports = λ i low. ports i (subst (λ (n : ℕ). i < n) (length-set shares k after) low);
+    counts = λ i low. counts here i (subst (λ (n : ℕ). i < n) (length-set shares k after) low);
+  }
 ]
   where
     first : ShareValue

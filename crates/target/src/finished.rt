@@ -40,5 +40,11 @@ pub fn finish<J: NodeFamily>(
     let Place::Bank(k) = judged.place() else {
         unreachable!()
     };
-    kept.finish(front, &mut pass.line, &mut pass.shares[usize::from(k)], judged, reply)
+    kept.finish(
+        front,
+        &mut pass.line,
+        &mut pass.shares[usize::from(k)],
+        judged,
+        reply,
+    )
 }
