@@ -1,7 +1,6 @@
-use Rattle.std.specs.List.{All}
-use mathlib.Core.List.{IsPrefix}
+use Rattle.ports.proofs.Served.{AreKnownTo}
 use Rattle.ports.proofs.serves.all_known.Given as goal
 
--- what those know that were asked begins what is known
+-- what the first workers know begins what is known
 abbrev pub invariant-loop-one : goal.invariant-loop-one
-invariant-loop-one g l = All (λ e. IsPrefix e.worker.front l.known) l.yielded
+invariant-loop-one g l = AreKnownTo l.one-index l.ended l.known

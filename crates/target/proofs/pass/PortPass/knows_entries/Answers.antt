@@ -12,5 +12,5 @@ returns-clause-entries g c =
     let line = c.self.invariant.1 in
     let is : CountsAllOf (pass_of inside.context inside.reader.programs inside.shares.items inside.staging) c.args.known.now =
     λ k below. subst (λ (numbers : List ℕ). IsPrefix (numbers_of inside.context.port (entries_of k c.args.known.now)) numbers) (line.counts k below)
-    (subst (λ (port : ℕ). IsPrefix (numbers_of port (entries_of k c.args.known.now)) _) line.line_is (c.knows_all.ensures.entries k)) in
+    (subst (λ (port : ℕ). IsPrefix (numbers_of port (entries_of k c.args.known.now)) _) line.line_is (c.knows_all.ensures.numbers k)) in
     subst (λ (h : PassValue). CountsAllOf h c.args.known.now) c.self.view_is is
