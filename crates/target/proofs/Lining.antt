@@ -45,14 +45,14 @@ at_its_bank old new share after j result reply line line' k at refused unasked =
 pub line_after : (port k bank : ℕ) (shares : List ShareValue) (share after : ShareValue) (line line' : LineValue) → IsLineOf port shares line → k < length shares → share ≡ get_or shares k share
     → CountsOn bank share after line line' → (k ≡ bank) ⊎ ((after ≡ share) × (line' ≡ line)) → IsLineOf port (set shares k after) line'
 line_after port k bank shares share after line line' is below read on done = elim done [
-  | inr same ↦
-      let all : set shares k after ≡ shares = ap (λ (s : ShareValue). set shares k s) (same.0 ∙ read_share port k shares share below read) ∙ set-get_or shares k (first_share port) in
-      rw (all, same.1) (record { line_is = is.line_is; ports = is.ports; counts = is.counts })
   | inl here ↦ record {
     line_is = on.line ∙ is.line_is;
     ports = λ i low. ports i (subst (λ (n : ℕ). i < n) (length-set shares k after) low);
     counts = λ i low. counts here i (subst (λ (n : ℕ). i < n) (length-set shares k after) low);
   }
+  | inr same ↦
+      let all : set shares k after ≡ shares = ap (λ (s : ShareValue). set shares k s) (same.0 ∙ read_share port k shares share below read) ∙ set-get_or shares k (first_share port) in
+      rw (all, same.1) (record { line_is = is.line_is; ports = is.ports; counts = is.counts })
 ]
   where
     first : ShareValue
