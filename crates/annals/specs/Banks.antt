@@ -50,7 +50,7 @@ entries_in (l ∷ ls) = with_entry l.deed (entries_in ls)
 abbrev pub entries_of : ℕ → List Link → List EntryValue
 entries_of bank log = entries_in (chain_of bank log)
 
--- those of a port
+-- those of a port's commands, oldest first
 abbrev pub entries_by : (port bank : ℕ) → List Link → List EntryValue
 entries_by port bank log = filter (λ (e : EntryValue). e.port == port) (entries_of bank log)
 

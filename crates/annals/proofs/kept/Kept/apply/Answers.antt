@@ -132,8 +132,8 @@ returns-in-Some-clause-counted g c =
     counts_on k s c.apply-applied.new.share c.args.line.now c.leave.new.self entry (applied.share ∙ next_share_is b s j room) (ap (λ (e : EntryValue). e.number) is) asked in
     subst (λ (v : KeptValue). CountsOn v.chain.number s c.apply-applied.new.share c.args.line.now c.leave.new.self) c.self.view_is on
 
-pub returns-clause-counted : goal.returns-clause-counted
-returns-clause-counted g c =
+pub returns-else-is_some-clause-counted : goal.returns-else-is_some-clause-counted
+returns-else-is_some-clause-counted g c =
     let b = c.self.inside.bank in
     let s = c.args.share.now in
     let j = c.args.judged in
