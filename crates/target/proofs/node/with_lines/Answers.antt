@@ -8,8 +8,8 @@ use Rattle.target.specs.Lines.{AreNew, IsLineOf}
 use Rattle.target.proofs.Lining.{new_line}
 use Rattle.target.proofs.node.with_lines.Goals as goal
 
-pub new-line-requires-clause-number : goal.new-line-requires-clause-number
-new-line-requires-clause-number g c =
+pub new-requires-clause-number : goal.new-requires-clause-number
+new-requires-clause-number g c =
     let new = subst (AreNew (length c.loop-pass.passes.items)) c.in-Some.ensures.steps.0 c.loop-pass.invariant.new in
     let port = c.port.ensures.value in
     let at = new.0 in
@@ -19,7 +19,7 @@ pub with_line-requires : goal.with_line-requires
 with_line-requires g c =
     let pass = c.in-Some.pass in
     let new = subst (AreNew (length c.loop-pass.passes.items)) c.in-Some.ensures.steps.0 c.loop-pass.invariant.new in
-    let is : c.in-Some-Some.line ≡ record { port = c.port.result; asked = [] } = search rules in
+    let is : c.in-Some-new.line ≡ record { port = c.port.result; asked = [] } = search rules in
     let fresh : pass.shares ≡ replicate (length pass.shares) (first_share pass.port) = new.1 ∙ ap (λ (n : ℕ). replicate (length pass.shares) (first_share n)) (sym new.0) in
     subst (λ (l : LineValue). IsLineOf pass.port pass.shares l) (sym (is ∙ ap (λ (n : ℕ). record { port = n; asked = [] }) c.port.ensures.value)) (new_line pass.port pass.shares fresh)
 
