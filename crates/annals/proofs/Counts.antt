@@ -12,7 +12,7 @@ use Rattle.rmap.specs.Command.{command_of}
 use Rattle.rmap.specs.Windows.{lies_inside}
 use Rattle.bank.specs.Records.{BankValue, ShareValue, JudgedValue, EntryValue, numbers_of, entry_of, fits, is_bank_place, is_next, after_command, after_record, answer_of, has_room, JournalValue, fresh_bank}
 use Rattle.annals.specs.declared.deed.Deed.{Deed}
-use Rattle.annals.specs.declared.deed.Deed.TheVariants.{Opens, Does, Sets}
+use Rattle.annals.specs.declared.deed.Deed.TheVariants.{Opens, Does, Sets, Publishes}
 use Rattle.annals.specs.declared.deed.Link.{Link}
 use Rattle.annals.specs.Chains.{ChainValue, chain_of, link}
 use Rattle.annals.specs.Banks.{with_entry, entries_in, entries_of, memory_after, zeros, IsKept}
@@ -61,6 +61,7 @@ with_append : (d : Deed) (xs ys : List EntryValue) → with_entry d (xs ++ ys) �
 with_append (Opens x) xs ys = refl
 with_append (Does e) xs ys = refl
 with_append (Sets x) xs ys = refl
+with_append (Publishes x) xs ys = refl
 
 entries_snoc : (ls : List Link) (k place next : ℕ) (e : EntryValue) → entries_in (ls ++ link k place (Does e) next ∷ []) ≡ entries_in ls ++ e ∷ []
 entries_snoc [] k place next e = refl

@@ -5,6 +5,7 @@ ghost use mathlib.Core.List.{IsPrefix};
 ghost use Rattle.logbook.specs.Pages.{may_write};
 ghost use Rattle.annals.specs.Chains.{word_of, chain_of, IsLast};
 ghost use Rattle.annals.specs.Banks.{memory_after, zeros, entries_of};
+ghost use Rattle.annals.specs.Publishes.{publishes_in};
 
 use crate::deed::{Extent, Link, Tells};
 use logbook::{Gain, Offer, Opening, Pen, Pens, Plain, Play, Rule, Seen, Start, Word};
@@ -177,6 +178,19 @@ impl Opened {
         }
     }
 
+    /// Leaves so many chains out: nobody adds to them.
+    pub fn skip(&mut self, count: u8)
+        requires { count ≤ self.old.1 }
+        ensures left { self.new.1 + count ≡ self.old.1 }
+        ensures family { self.new.0 ≡ self.old.0 }
+    {
+        let mut left = count;
+        while left > 0 {
+            let _pen = self.pens.take();
+            left -= 1;
+        }
+    }
+
     /// The next chain, with its first entry, of a bank of so many zero bytes from an address on. `None` where it has one
     /// already (no test met that). The condition is a chain that is left.
     pub fn chain<J: Family>(&mut self, extent: (u32, u32)) -> Option<Chain<J>>
@@ -187,6 +201,7 @@ impl Opened {
         ensures number { IfSome result (λ c. c.number + self.old.1 ≡ 9) }
         ensures memory { IfSome result (λ c. memory_after c.number c.log ≡ zeros extent) }
         ensures entries { IfSome result (λ c. entries_of c.number c.log ≡ []) }
+        ensures publishes { IfSome result (λ c. publishes_in (chain_of c.number c.log) ≡ []) }
     {
         let mut pen = self.pens.take();
         let head: Word<Link, u64, Chained> = Word::tracked(0, &mut pen);
@@ -223,7 +238,7 @@ impl Opened {
 pub struct Chain<J: Family> {
     word: Word<Link, u64, Chained>,
     pen: Pen,
-    seen: Seen<Link, u64, Chained>,
+    pub(crate) seen: Seen<Link, u64, Chained>,
     of: PhantomData<J>,
 }
 
@@ -289,8 +304,8 @@ impl<J: Family> Chain<J> {
 /// A beginning of the history that was seen. Contracts see it as its entries.
 #[derive(Drop)]
 pub struct Front<J: Family> {
-    seen: Seen<Link, u64, Chained>,
-    of: PhantomData<J>,
+    pub(crate) seen: Seen<Link, u64, Chained>,
+    pub(crate) of: PhantomData<J>,
 }
 
 impl<J: Family> Model for Front<J> {

@@ -1,19 +1,24 @@
-//! What is done at a bank, as the history tells it.
+//! What is done at a node, as the history tells it.
 
 use bank::Entry;
+use bver::Accepted;
+use node_programs::Publish;
 use std::collections::LinkedList;
+use std::sync::Arc;
 
-/// What was done at a bank. No value of it is made.
+/// What was done at a bank, or by what publishes programs. No value of it is made.
 pub enum Deed {
-    /// It began, with so many zero bytes from an address on.
+    /// A bank began, with so many zero bytes from an address on.
     Opens((u32, u32)),
     /// A judged command was done, and left that entry.
     Does(Entry),
     /// An instrument put those bytes at an address.
     Sets((u32, LinkedList<u8>)),
+    /// A program was published for a slot.
+    Publishes(Publish),
 }
 
-/// An entry of the history: a deed at the bank of that number, its place among the deeds there, and the key of the cell
+/// An entry of the history: a deed in the chain of that number, its place among the deeds there, and the key of the cell
 /// whose pen adds the next one. No value of it is made.
 pub struct Link {
     pub chain: u64,
@@ -57,4 +62,12 @@ impl<'a> Tells for Setting<'a> {
     ghost use Rattle.annals.specs.declared.deed.Deed.TheVariants.{Sets};
 
     ghost deed = { λ setting. Sets (setting.address, setting.bytes.now) };
+}
+
+impl Tells for (u8, Arc<Accepted>) {
+    ghost use Rattle.std.specs.Arc.{arc_value};
+    ghost use Rattle.node_programs.specs.Histories.{entry};
+    ghost use Rattle.annals.specs.declared.deed.Deed.TheVariants.{Publishes};
+
+    ghost deed = { λ publish. Publishes (entry publish.0 (arc_value publish.1)) };
 }
