@@ -12,7 +12,7 @@ use crate::worker::{Report, Worker};
 use std::alloc::Global;
 use std::sync::{Mutex, Wait};
 use std::thread::{Promise, PromisedHandle, Threads};
-use target::{Front, Node, NodeFamily};
+use target::{Family, Front, Node};
 use thiserror::Error;
 
 /// Why ports were not served.
@@ -62,7 +62,7 @@ fn both(total: Option<Report>, report: Option<Report>) -> Option<Report>
 
 /// The workers that came back, in order, in a list that has the room, and the sum of their reports where each served. What
 /// the workers know of the history begins one list.
-fn gather<J: NodeFamily, S: Sink + Drop>(
+fn gather<J: Family, S: Sink + Drop>(
     ended: Vec<Ended<J, S>>,
     mut workers: Vec<Worker<J, S>>,
     mut known: Front<J>,
@@ -124,7 +124,7 @@ fn with_rest<T: Drop>(mut workers: Vec<T>, rest: Vec<T>) -> Vec<T>
 /// went in, or there are none. That no packet was taken then is tested.
 pub fn serve<
     R: Threads + Wait + Sync,
-    J: NodeFamily + Send + Sync + 'static,
+    J: Family + Send + Sync + 'static,
     Q: Wait + Drop + Send,
     S: Sink + Drop + Send + 'static,
     G: Gate + Sync,

@@ -1,15 +1,16 @@
 //! The history of a node's programs, and the right to add to it: the chain of the publishes in the node's annals. It exists
 //! in proofs alone: what is kept is its length.
 
-ghost use Rattle.std.specs.Prelude.{◌≡◌, ◌<◌, ◌≤◌, ◌^◌, ◌∷◌, [], length};
+ghost use Rattle.std.specs.Prelude.{◌≡◌, ◌<◌, ◌≤◌, ◌^◌, ◌∷◌, [], IfOk, length};
 ghost use Rattle.std.specs.Arc.{arc_value};
 ghost use mathlib.Core.List.{IsPrefix};
 ghost use Rattle.annals.specs.Publishes.{publishes_chain, publishes_of};
 ghost use Rattle.node_programs.specs.Histories.{entry, longer_history};
 ghost use Rattle.publish.specs.Reached.{reached};
 
-use annals::{Beginning, Chain, Family, publishes_grow};
+use annals::{BANK_CHAINS, Beginning, Chain, Family, publishes_grow};
 use bver::Accepted;
+use std::alloc::AllocError;
 use std::marker::Model;
 use std::sync::Arc;
 
@@ -36,6 +37,24 @@ impl Opened {
         Opened {
             chains: annals::Opened::new(),
         }
+    }
+
+    /// The chain of its publishes, in which nothing was published yet: nobody adds to others.
+    ///
+    /// # Errors
+    ///
+    /// The chain has begun already (no test met that).
+    pub fn into_publishes<J: Family>(self) -> Result<Chain<J>, AllocError>
+        requires { self ≡ J.book }
+        ensures number { IfOk result (λ c. c.number ≡ publishes_chain) }
+        ensures none { IfOk result (λ c. publishes_of c.log ≡ []) }
+    {
+        let mut chains = self.into_chains();
+        chains.skip(BANK_CHAINS);
+        let Some(chain) = chains.publishes() else {
+            return Err(AllocError);
+        };
+        Ok(chain)
     }
 
     /// The history, as its chains are taken.

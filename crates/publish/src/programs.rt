@@ -11,7 +11,7 @@ use crate::publisher::Publisher;
 use crate::reader::Reader;
 use crate::rule::{InFamily, Sight};
 use crate::table::Table;
-use annals::{BANK_CHAINS, Chain, Family};
+use annals::{Chain, Family};
 use bver::{Accepted, MapSizes};
 use left_right::writer::Writer;
 use std::alloc::{AllocError, Global};
@@ -39,11 +39,7 @@ impl Programs {
         ensures readers { IfOk result
             (λ made. made.1.items ≡ replicate readers (known (entry 0 factory ∷ []) None)) }
     {
-        let mut chains = opened.into_chains();
-        chains.skip(BANK_CHAINS);
-        let Some(chain) = chains.publishes() else {
-            return Err(AllocError);
-        };
+        let chain = opened.into_publishes()?;
         Programs::with_chain(alloc, rt, chain, factory, readers)
     }
 

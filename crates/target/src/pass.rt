@@ -8,21 +8,21 @@ use bank::Share;
 use cells::CellSeat;
 use node_parts::RunContext;
 use node_programs::Staging;
-use publish::{ProgramFamily, Reader};
+use publish::{Family, Reader};
 use spw::PORTS;
 use std::marker::Model;
 
 /// What one port has of its node: its context, with its seat at the cells, its reader of the programs that judge, a share
 /// of each bank, and its staging. Only [`banks_and_passes`](crate::banks_and_passes) makes passes.
 #[derive(Drop)]
-pub struct Pass<J: ProgramFamily> {
+pub struct Pass<J: Family> {
     pub(crate) context: RunContext<CellSeat>,
     pub(crate) reader: Reader<J>,
     pub(crate) shares: Vec<Share>,
     pub(crate) staging: Staging,
 }
 
-impl<J: ProgramFamily> Model for Pass<J> {
+impl<J: Family> Model for Pass<J> {
     ghost use Rattle.node_parts.specs.Passes.{PassValue, IsPass, pass_of};
 
     ghost Value = { PassValue };
@@ -32,7 +32,7 @@ impl<J: ProgramFamily> Model for Pass<J> {
     ghost invariant = { λ p. IsPass (pass_of p.context p.reader.programs p.shares.items p.staging) };
 }
 
-impl<J: ProgramFamily> Pass<J> {
+impl<J: Family> Pass<J> {
     /// The port's number.
     pub fn port(&self) -> u8
         ensures value { result ≡ self.now.port }

@@ -4,5 +4,5 @@ use Rattle.annals.specs.Banks.{IsFresh}
 use Rattle.target.proofs.Fresh.{banks_are_fresh}
 use Rattle.target.proofs.node.Node.with_cells.Goals as goal
 
-pub locks-requires-clause-fresh : goal.locks-requires-clause-fresh
-locks-requires-clause-fresh g c = subst (All IsFresh) (sym c.in_ok-banks.ensures.banks) (banks_are_fresh _ _)
+pub locks_and_chain-requires-clause-fresh : goal.locks_and_chain-requires-clause-fresh
+locks_and_chain-requires-clause-fresh g c = subst (All IsFresh) (sym c.in_ok-banks.ensures.banks) (banks_are_fresh _ _)
