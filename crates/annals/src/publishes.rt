@@ -55,6 +55,7 @@ impl<J: Family> Chain<J> {
         ensures begins { IsPrefix (publishes_of seen.now.log) (publishes_of self.old.log) }
         ensures same { self.new ≡ self.old }
     {
-        self.begins_with(&seen.front());
+        let known = seen.front();
+        self.begins_with(&known);
     }
 }

@@ -14,5 +14,6 @@ invariant-loop-bank g l = record {
   numbers : AreNumbered l.locks.items;
   family : l.history.0 ≡ g.J.Family.book;
   chains : l.number + l.history.1 ≡ 9;
+  book : l.history.0 ≡ l.initial.history.0;
   fresh : All IsFresh (into_iter_items l.bank-iterator);
 }

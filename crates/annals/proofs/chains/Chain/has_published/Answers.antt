@@ -9,7 +9,7 @@ use Rattle.annals.proofs.chains.Chain.has_published.Goals as goal
 pub returns-clause-begins : goal.returns-clause-begins
 returns-clause-begins g c =
     let all = c.args.self.now.log in
-    let seen = c.front.result in
+    let seen = c.front-known.result in
     let begins : IsPrefix (chain_of publishes_chain seen) (chain_of publishes_chain all) =
     subst (λ (n : ℕ). IsPrefix (chain_of n seen) (chain_of n all)) c.requires.number c.begins_with.ensures.begins in
-    subst (λ (l : List Link). IsPrefix (publishes_of l) (publishes_of all)) c.front.ensures (publishes_prefix _ _ begins)
+    subst (λ (l : List Link). IsPrefix (publishes_of l) (publishes_of all)) c.front-known.ensures (publishes_prefix _ _ begins)
