@@ -88,7 +88,7 @@ impl<J: Family> Model for History<J> {
 
 impl<J: Family> History<J> {
     /// The history with its first program, for a slot. The condition is a chain of publishes that has none.
-    pub(crate) fn new(chain: Chain<J>, publish: &(u8, Arc<Accepted>)) -> History<J>
+    pub(crate) fn begin(chain: Chain<J>, publish: &(u8, Arc<Accepted>)) -> History<J>
         requires number { chain.number ≡ publishes_chain }
         requires none { publishes_of chain.log ≡ [] }
         ensures { result ≡ entry publish.now.0 (arc_value publish.now.1) ∷ [] }

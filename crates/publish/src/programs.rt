@@ -64,7 +64,7 @@ impl Programs {
     {
         let sizes = factory.sizes();
         let first = (0u8, Arc::new(alloc, factory)?);
-        let history = History::new(chain, &first);
+        let history = History::begin(chain, &first);
         let front = history.front();
         let table = Table::first(first.1, front.again())?;
         let spare = table.copy()?;
