@@ -192,6 +192,7 @@ impl Front {
         ensures told { IsPrefix self.now.programs (publishes_of known.new) }
     {
         publishes_grow();
-        known.learn(&self.beginning.front());
+        let own = self.beginning.front();
+        known.learn(&own);
     }
 }

@@ -5,5 +5,5 @@ use Rattle.publish.proofs.history.Front.tell.Goals as goal
 
 pub returns-clause-told : goal.returns-clause-told
 returns-clause-told g c =
-    let learnt = subst (λ (l : List Link). IsPrefix l c.learn.new.self) c.front.ensures c.learn.ensures.that in
+    let learnt = subst (λ (l : List Link). IsPrefix l c.learn.new.self) c.front-own.ensures c.learn.ensures.that in
     rw (← c.self.view_is) (c.publishes_grow.ensures _ _ learnt)
