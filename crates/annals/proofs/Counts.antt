@@ -13,7 +13,7 @@ use Rattle.rmap.specs.Command.{command_of}
 use Rattle.rmap.specs.Windows.{lies_inside}
 use Rattle.bank.specs.Records.{BankValue, ShareValue, JudgedValue, EntryValue, numbers_of, entry_of, fits, is_bank_place, is_next, after_command, after_record, answer_of, has_room, next_share, number_left, JournalValue, fresh_bank}
 use Rattle.annals.specs.declared.deed.Deed.{Deed}
-use Rattle.annals.specs.declared.deed.Deed.TheVariants.{Opens, Does, Sets, Asks}
+use Rattle.annals.specs.declared.deed.Deed.TheVariants.{Opens, Does, Sets, Asks, Publishes}
 use Rattle.annals.specs.declared.deed.Link.{Link}
 use Rattle.annals.specs.Chains.{ChainValue, LineValue, at_bank, chain_of, line_with, link}
 use Rattle.annals.specs.Banks.{CountsOn, numbers_at, with_entry, entries_in, entries_of, memory_after, zeros, IsKept}
@@ -63,6 +63,7 @@ with_append (Opens x) xs ys = refl
 with_append (Does e) xs ys = refl
 with_append (Sets x) xs ys = refl
 with_append (Asks x) xs ys = refl
+with_append (Publishes x) xs ys = refl
 
 entries_snoc : (ls : List Link) (k place next : ℕ) (e : EntryValue) → entries_in (ls ++ link k place (Does e) next ∷ []) ≡ entries_in ls ++ e ∷ []
 entries_snoc [] k place next e = refl

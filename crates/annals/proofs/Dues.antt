@@ -8,7 +8,7 @@ use Rattle.std.proofs.lemmas.Bool.Decides.{nat_tests}
 use mathlib.Core.List.{IsPrefix}
 use Rattle.bank.specs.Records.{EntryValue, numbers_of}
 use Rattle.annals.specs.declared.deed.Deed.{Deed}
-use Rattle.annals.specs.declared.deed.Deed.TheVariants.{Opens, Does, Sets, Asks}
+use Rattle.annals.specs.declared.deed.Deed.TheVariants.{Opens, Does, Sets, Asks, Publishes}
 use Rattle.annals.specs.declared.deed.Link.{Link}
 use Rattle.annals.specs.Chains.{AreAsked, Due, IsDue, asked_by, asked_in, at_bank, chain_of, done_for, line_of, link, with_asked, with_done}
 use Rattle.annals.specs.Banks.{entries_in, entries_of, numbers_at, with_entry}
@@ -41,6 +41,7 @@ asked_joined (Opens x) xs ys = refl
 asked_joined (Does e) xs ys = refl
 asked_joined (Sets x) xs ys = refl
 asked_joined (Asks x) xs ys = refl
+asked_joined (Publishes x) xs ys = refl
 
 asked_append : (ls ms : List Link) → asked_in (ls ++ ms) ≡ asked_in ls ++ asked_in ms
 asked_append [] ms = refl
@@ -67,6 +68,7 @@ done_joined port bank (Does e) xs ys = here (e.port == port) where
   here false = refl
 done_joined port bank (Sets x) xs ys = refl
 done_joined port bank (Asks x) xs ys = refl
+done_joined port bank (Publishes x) xs ys = refl
 
 pub done_append : (port : ℕ) (ls ms : List Link) → done_for port (ls ++ ms) ≡ done_for port ls ++ done_for port ms
 done_append port [] ms = refl
@@ -110,6 +112,7 @@ own_done port k bank (Does e) ds es is same = here (e.port == port) where
   here false = same
 own_done port k bank (Sets x) ds es is same = same
 own_done port k bank (Asks x) ds es is same = same
+own_done port k bank (Publishes x) ds es is same = same
 
 other_done : (port k bank : ℕ) (d : Deed) (ds : List Due) → k ≢ bank → at_bank k (with_done port bank d ds) ≡ at_bank k ds
 other_done port k bank (Opens x) ds not = refl
@@ -119,6 +122,7 @@ other_done port k bank (Does e) ds not = here (e.port == port) where
   here false = refl
 other_done port k bank (Sets x) ds not = refl
 other_done port k bank (Asks x) ds not = refl
+other_done port k bank (Publishes x) ds not = refl
 
 -- what a port left at a bank are its entries in the bank's chain
 pub done_at : (port k : ℕ) (log : List Link) → at_bank k (done_for port log) ≡ by_port port (entries_of k log)
@@ -218,6 +222,7 @@ still_asked log v chain place next (Opens x) pre same due asked = none_asked log
 still_asked log v chain place next (Does e) pre same due asked = does_asked log v chain place next e pre same due asked
 still_asked log v chain place next (Sets x) pre same due asked = none_asked log (link chain place (Sets x) next) (λ port. refl) asked
 still_asked log v chain place next (Asks x) pre same due asked = none_asked log (link chain place (Asks x) next) (λ port. refl) asked
+still_asked log v chain place next (Publishes x) pre same due asked = none_asked log (link chain place (Publishes x) next) (λ port. refl) asked
 
 -- ---- a line that asks and leaves
 

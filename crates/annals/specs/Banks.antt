@@ -11,7 +11,7 @@ use Rattle.bank.specs.Effect.{Memory, memory_at, with_bytes}
 use Rattle.bank.specs.Answer.{answer, Answer}
 use Rattle.bank.specs.Records.{EntryValue, ShareValue, JudgedValue, BankValue, after_command, after_entry, answer_of, entry_of, fits, fresh_bank, is_place_of, JournalValue, memory_of, next_share, number_left, numbers_of}
 use Rattle.annals.specs.declared.deed.Deed.{Deed}
-use Rattle.annals.specs.declared.deed.Deed.TheVariants.{Opens, Does, Sets, Asks}
+use Rattle.annals.specs.declared.deed.Deed.TheVariants.{Opens, Does, Sets, Asks, Publishes}
 use Rattle.annals.specs.declared.deed.Link.{Link}
 use Rattle.annals.specs.Chains.{ChainValue, Due, LineValue, IsLast, at_bank, chain_of}
 
@@ -25,6 +25,7 @@ after_deed m (Opens extent) = zeros extent
 after_deed m (Does entry) = after_entry m entry
 after_deed m (Sets setting) = with_bytes m setting.0 setting.1
 after_deed m (Asks due) = m
+after_deed m (Publishes publish) = m
 
 -- memory after an entry of the history
 abbrev pub after_link : Memory → Link → Memory
@@ -40,6 +41,7 @@ with_entry (Opens extent) entries = entries
 with_entry (Does entry) entries = entry ∷ entries
 with_entry (Sets setting) entries = entries
 with_entry (Asks due) entries = entries
+with_entry (Publishes publish) entries = entries
 
 -- the entries of journals that those deeds left, in order
 abbrev pub entries_in : List Link → List EntryValue

@@ -7,7 +7,7 @@ use mathlib.Core.List.{IsPrefix}
 use Rattle.logbook.specs.Pages.{Cell, cell, Step, View, Book, Named, Nib, may_make, may_write}
 use Rattle.bank.specs.Records.{EntryValue}
 use Rattle.annals.specs.declared.deed.Deed.{Deed}
-use Rattle.annals.specs.declared.deed.Deed.TheVariants.{Opens, Does, Sets, Asks}
+use Rattle.annals.specs.declared.deed.Deed.TheVariants.{Opens, Does, Sets, Asks, Publishes}
 use Rattle.annals.specs.declared.deed.Link.{Link}
 
 -- that deed, which is the one of that place of its chain, behind which the pen of that cell adds
@@ -32,6 +32,7 @@ with_asked (Opens extent) dues = dues
 with_asked (Does entry) dues = dues
 with_asked (Sets setting) dues = dues
 with_asked (Asks due) dues = due ∷ dues
+with_asked (Publishes publish) dues = dues
 
 -- what is asked for, in order
 abbrev pub asked_in : List Link → List Due
@@ -52,6 +53,7 @@ with_done port bank (Opens extent) dues = dues
 with_done port bank (Does entry) dues = if entry.port == port then (bank, entry) ∷ dues else dues
 with_done port bank (Sets setting) dues = dues
 with_done port bank (Asks due) dues = dues
+with_done port bank (Publishes publish) dues = dues
 
 -- the entries of a port that were left at all banks, in order
 abbrev pub done_for : ℕ → List Link → List Due
@@ -68,6 +70,7 @@ IsDue bank (Opens extent) log = Unit {0}
 IsDue bank (Does entry) log = asked_by entry.port log ≡ done_for entry.port log ++ (bank, entry) ∷ []
 IsDue bank (Sets setting) log = Unit {0}
 IsDue bank (Asks due) log = Unit {0}
+IsDue bank (Publishes publish) log = Unit {0}
 
 -- each port asked for its entries before they were left, in that order, each once
 abbrev pub AreAsked : List Link → Type 0

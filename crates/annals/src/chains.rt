@@ -6,6 +6,7 @@ ghost use Rattle.logbook.specs.Pages.{may_write};
 ghost use Rattle.annals.specs.declared.deed.Link.{Link};
 ghost use Rattle.annals.specs.Chains.{word_of, chain_of, asked_in, IsDue, IsLastOf, IsWhole};
 ghost use Rattle.annals.specs.Banks.{memory_after, zeros, entries_of};
+ghost use Rattle.annals.specs.Publishes.{publishes_in};
 
 use crate::deed::{Extent, Link, Tells};
 use logbook::{Gain, Offer, Opening, Pen, Pens, Plain, Play, Rule, Seen, Start, Word};
@@ -202,6 +203,7 @@ impl Opened {
         ensures memory { IfSome result (λ c. memory_after c.number c.log ≡ zeros extent) }
         ensures entries { IfSome result (λ c. entries_of c.number c.log ≡ []) }
         ensures asked { IfSome result (λ c. asked_in (chain_of c.number c.log) ≡ []) }
+        ensures publishes { IfSome result (λ c. publishes_in (chain_of c.number c.log) ≡ []) }
     {
         let mut pen = self.pens.take();
         let head: Word<Link, u64, Chained> = Word::tracked(0, &mut pen);
@@ -238,7 +240,7 @@ impl Opened {
 pub struct Chain<J: Family> {
     word: Word<Link, u64, Chained>,
     pen: Pen,
-    seen: Seen<Link, u64, Chained>,
+    pub(crate) seen: Seen<Link, u64, Chained>,
     of: PhantomData<J>,
 }
 
@@ -323,8 +325,8 @@ impl<J: Family> Chain<J> {
 /// A beginning of the history that was seen. Contracts see it as its entries.
 #[derive(Drop)]
 pub struct Front<J: Family> {
-    seen: Seen<Link, u64, Chained>,
-    of: PhantomData<J>,
+    pub(crate) seen: Seen<Link, u64, Chained>,
+    pub(crate) of: PhantomData<J>,
 }
 
 impl<J: Family> Model for Front<J> {

@@ -5,7 +5,7 @@ ghost use Rattle.std.specs.Prelude.{◌≡◌};
 use anyhow::{Context, Result};
 use bver::Accepted;
 use node_parts::{BankConfig, Banks, NodeConfig, Served};
-use publish::{Opened, ProgramFamily, Publisher};
+use publish::{Family, Opened, Publisher};
 use rmap::{ReplyBuf, Status};
 use spw::{End, Packet};
 use std::alloc::Global;
@@ -25,7 +25,7 @@ const BANK: BankConfig = BankConfig {
 };
 
 /// Whether the read was judged and answered with success.
-fn is_read<J: ProgramFamily, R: Wait + Drop>(
+fn is_read<J: Family, R: Wait + Drop>(
     alloc: Global,
     banks: &mut Banks,
     publisher: &mut Publisher<J, R>,
@@ -42,13 +42,13 @@ fn is_read<J: ProgramFamily, R: Wait + Drop>(
 
 /// A node of one port, and its port's pass, to which so many reads come in.
 #[derive(Drop)]
-pub struct Port<J: ProgramFamily, R: Wait + Drop> {
+pub struct Port<J: Family, R: Wait + Drop> {
     banks: Banks,
     publisher: Publisher<J, R>,
     pass: PlainPass<J>,
 }
 
-impl<J: ProgramFamily, R: Wait + Drop> Port<J, R> {
+impl<J: Family, R: Wait + Drop> Port<J, R> {
     /// A fresh node at whose port that program judges.
     pub fn new(alloc: Global, rt: R, opened: Opened, program: Accepted) -> Result<Port<J, R>>
         requires { opened ≡ J.book }

@@ -74,7 +74,7 @@ end_stays j between after end = let keeps = end_keeps j between after end in rec
   count = keeps.count;
 }
 
-same_stays : (h after : Standing) → after ≡ h → Stays h.pass after.pass
+pub same_stays : (h after : Standing) → after ≡ h → Stays h.pass after.pass
 same_stays h after same = stays_same h.pass after.pass (ap (λ (x : Standing). x.pass) same)
 
 pub dealt_stays : (d : Deed) (p : Cargo) (h after : Standing) → IsDealt d p h after → Stays h.pass after.pass
@@ -100,20 +100,22 @@ by_more some more port port' j longer same is = record {
   verdict = subst (λ n. IsVerdict j.program n j.calls j.judged.packet j.judged.verdict) same is.verdict;
 }
 
--- a command that was judged is so by a program that the port has seen then
-judged_published : (j : Judging) (p : Cargo) (h after : Standing) → IsJudged j p h after → IsByPublished after.pass.programs h.pass.port j
-judged_published j p h after is =
+-- a command that was judged is so by a program of any publishes that all begin which its port had seen then
+pub judged_by : (j : Judging) (p : Cargo) (h after : Standing) (published : List Publish) (is : IsJudged j p h after) → IsPrefix is.between.programs published → IsByPublished published h.pass.port j
+judged_by j p h after published is begins =
     let run = is.judgement in let for = run.judged_for in
-    let end = end_stays j (standing is.between h.front) after is.ended in
     let saw : run.seen ≡ is.between.programs = sym (ap (λ (x : PassValue). x.programs) run.asked) in
     record {
       seen = run.seen;
-      begins = subst (λ l. IsPrefix l after.pass.programs) (sym saw) end.programs;
+      begins = subst (λ l. IsPrefix l published) (sym saw) begins;
       shown = subst (λ c. judging_program run.seen (slot_of (command_kind (command_of c)) j.judged.place) ≡ Some (j.program, j.judged.generation)) (sym for.packet)
           (subst (λ a. judging_program run.seen (slot_of (command_kind (command_of p)) j.judged.place) ≡ Some (a, j.judged.generation)) (sym is.program) run.taken.shown);
       verdict = subst (λ c. IsVerdict j.program h.pass.port j.calls c j.judged.verdict) (sym for.packet)
           (subst (λ a. IsVerdict a h.pass.port j.calls p j.judged.verdict) (sym is.program) (subst (λ l. IsVerdict run.program h.pass.port l p j.judged.verdict) (sym is.calls) for.verdict));
     }
+
+judged_published : (j : Judging) (p : Cargo) (h after : Standing) → IsJudged j p h after → IsByPublished after.pass.programs h.pass.port j
+judged_published j p h after is = judged_by j p h after after.pass.programs is (end_stays j (standing is.between h.front) after is.ended).programs
 
 pub programs_were_published : (h after : Standing) (ps : List Cargo) (ds : List Deed) → Worked h ps ds after → All (IsByPublished after.pass.programs h.pass.port) (judgings ds)
 programs_were_published h after [] [] w = All-nil (IsByPublished after.pass.programs h.pass.port)

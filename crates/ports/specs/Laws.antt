@@ -18,6 +18,7 @@ use Rattle.rmap.specs.declared.status.Status.{Status}
 use Rattle.bank.specs.Records.{EntryValue, ShareValue, numbered_entry}
 use Rattle.annals.specs.declared.deed.Link.{Link}
 use Rattle.annals.specs.Banks.{IsDone, entries_by}
+use Rattle.annals.specs.Publishes.{publishes_of}
 use Rattle.target.specs.Lines.{CountsAllOf}
 use Rattle.ports.specs.Due.{Judging, Deed, Standing, Worked, judgings}
 
@@ -80,21 +81,23 @@ WorkersSharesCount =
     → SharesCount h.pass after.pass deeds
 
 -- the command was done at a bank: it is the last of a history that goes on from what its port knew, and status and reply are
--- the definition's on the replay of what stands before it there
-pub record HasEntered (known reached : List Link) (judging : Judging) : Type 0 where
+-- the definition's on the replay of what stands before it there; before it stands the publish of the program by which it was
+-- judged
+pub record HasEntered (port : ℕ) (known reached : List Link) (judging : Judging) : Type 0 where
   pub bank : ℕ
   pub share : ShareValue
   pub result : Applied
   pub done : IsDone bank known reached share judging.judged result judging.reply
+  pub by : IsByPublished (publishes_of done.last.before) port judging
 
 -- the entries of a port stand in the history in the order of its packets, each behind all that the port knew then; what left
 -- no entry added nothing
-abbrev pub EntriesFollow : (known : List Link) → List Judging → (reached : List Link) → Type 0
-EntriesFollow known [] reached = reached ≡ known
-EntriesFollow known (judging ∷ judgings) reached =
+abbrev pub EntriesFollow : (port : ℕ) (known : List Link) → List Judging → (reached : List Link) → Type 0
+EntriesFollow port known [] reached = reached ≡ known
+EntriesFollow port known (judging ∷ judgings) reached =
     MatchBool judging.entered
-    ((between : List Link) × HasEntered known between judging × EntriesFollow between judgings reached)
-    (EntriesFollow known judgings reached)
+    ((between : List Link) × HasEntered port known between judging × EntriesFollow port between judgings reached)
+    (EntriesFollow port known judgings reached)
 
 -- the entry is that of the command, which is the one of that number of its port at its bank
 pub record IsEntryOf (number : ℕ) (judging : Judging) (entry : EntryValue) : Type 0 where
@@ -125,8 +128,8 @@ WorkersEntriesAreAll =
     → IsPrefix after.front log → CountsAllOf after.pass log → AreAllEntries log h.pass deeds
 
 -- each command of a worker that left an entry stands in the history that its port knows in the end, in order, with the status
--- and the reply of the definition on what stands before it
+-- and the reply of the definition on what stands before it, behind the publish of the program by which it was judged
 abbrev pub WorkersEntriesFollow : Type 0
 WorkersEntriesFollow =
     (h after : Standing) (packets : List Cargo) (deeds : List Deed) → Worked h packets deeds after
-    → EntriesFollow h.front (judgings deeds) after.front
+    → EntriesFollow h.pass.port h.front (judgings deeds) after.front

@@ -21,7 +21,8 @@ pub fn workers_shares_count()
 
 /// Each command of a worker that left an entry at a bank stands in the one history of the node's banks, as far as its port
 /// knows it in the end: in the order of the port's packets, each with the status and the reply that the definition of the
-/// answer gives on the replay of what stands before it there.
+/// answer gives on the replay of what stands before it there, and behind the publish of the generation by which it was
+/// judged.
 pub fn workers_entries_follow()
     ensures { WorkersEntriesFollow }
 {}

@@ -14,7 +14,7 @@ use crate::worker::{Report, Worker};
 use std::alloc::Global;
 use std::sync::{Mutex, Wait};
 use std::thread::{Promise, PromisedHandle, Threads};
-use target::{Front, Node, NodeFamily};
+use target::{Family, Front, Node};
 use thiserror::Error;
 
 /// Why ports were not served.
@@ -63,7 +63,7 @@ fn both(total: Option<Report>, report: Option<Report>) -> Option<Report>
 }
 
 /// What anybody knew of the history, and all that the workers know of it.
-fn all_known<J: NodeFamily, S: Sink + Drop>(ended: &[Ended<J, S>], mut known: Front<J>) -> Front<J>
+fn all_known<J: Family, S: Sink + Drop>(ended: &[Ended<J, S>], mut known: Front<J>) -> Front<J>
     ensures { All (λ e. IsPrefix e.worker.front result) ended.now }
 {
     for one in ended {
@@ -74,7 +74,7 @@ fn all_known<J: NodeFamily, S: Sink + Drop>(ended: &[Ended<J, S>], mut known: Fr
 
 /// The workers that came back, in order, in a list that has the room, and the sum of their reports where each served. What
 /// the workers know of the history begins one list, which has no entries of their ports but those that their shares count.
-fn gather<J: NodeFamily, S: Sink + Drop>(
+fn gather<J: Family, S: Sink + Drop>(
     ended: Vec<Ended<J, S>>,
     mut workers: Vec<Worker<J, S>>,
     known: Front<J>,
@@ -140,7 +140,7 @@ fn with_rest<T: Drop>(mut workers: Vec<T>, rest: Vec<T>) -> Vec<T>
 /// went in, or there are none. That no packet was taken then is tested.
 pub fn serve<
     R: Threads + Wait + Sync,
-    J: NodeFamily + Send + Sync + 'static,
+    J: Family + Send + Sync + 'static,
     Q: Wait + Drop + Send,
     S: Sink + Drop + Send + 'static,
     G: Gate + Sync,

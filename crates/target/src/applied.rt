@@ -8,11 +8,11 @@ ghost use Rattle.node_parts.specs.Applied.{IsFinished, share_of};
 use crate::pass::PlainPass;
 use bank::{Applied, Bank, Judged};
 use node_parts::shares_agree;
-use publish::ProgramFamily;
+use publish::Family;
 use rmap::{Place, ReplyBuf};
 
 /// How a judged command ends at the bank of its place.
-fn end<J: ProgramFamily>(
+fn end<J: Family>(
     pass: &mut PlainPass<J>,
     bank: &mut Bank,
     judged: Judged,
@@ -39,7 +39,7 @@ fn end<J: ProgramFamily>(
 /// reply. Where [`Bank::fits`] says no, it is a general error, and nothing changes: that does not
 /// happen where bank and pass were made together ([`paired_commands_fit`](node_parts::paired_commands_fit)). The condition
 /// is the place of a bank of which the port has a share ([`Pass::banks`]).
-pub(crate) fn finish<J: ProgramFamily>(
+pub(crate) fn finish<J: Family>(
     pass: &mut PlainPass<J>,
     bank: &mut Bank,
     judged: Judged,

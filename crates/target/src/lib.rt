@@ -10,7 +10,6 @@
 #![tactic(auto)]
 
 mod applied;
-mod family;
 mod finished;
 mod loads;
 mod lock;
@@ -22,7 +21,6 @@ mod staged;
 mod step;
 
 pub use annals::{Front, Kept, Line, share_one_history};
-pub use family::{NodeFamily, Opened};
 pub use finished::finish;
 pub use loads::load;
 pub use lock::BankLock;
@@ -35,6 +33,7 @@ pub use node_parts::{
 };
 pub use parts::banks_and_passes;
 pub use pass::{NoLine, Pass, PlainPass, PortLine, PortPass};
+pub use publish::{Family, Opened};
 pub use served::serve_packet;
 pub use staged::stage;
 pub use step::{Step, judge};

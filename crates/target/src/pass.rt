@@ -5,13 +5,12 @@ ghost use Rattle.node_parts.specs.Passes.{IsPass};
 ghost use Rattle.target.specs.Lines.{CountsAllOf, IsLineOf};
 ghost use Rattle.target.specs.Passes.{seat_of};
 
-use crate::family::NodeFamily;
 use annals::{Family, Front, Line};
 use bank::Share;
 use cells::CellSeat;
 use node_parts::RunContext;
 use node_programs::Staging;
-use publish::{ProgramFamily, Reader};
+use publish::Reader;
 use spw::PORTS;
 use std::marker::Model;
 
@@ -42,7 +41,7 @@ impl<J: Family> PortLine for Line<J> {
 /// of each bank, and its staging. Beside its shares it has its line of the history of the banks ([`Pass`]), or the banks have
 /// none ([`PlainPass`]). Only [`banks_and_passes`](crate::banks_and_passes) and [`Node`](crate::Node) make passes.
 #[derive(Drop)]
-pub struct PortPass<J: ProgramFamily, L: PortLine + Drop> {
+pub struct PortPass<J: Family, L: PortLine + Drop> {
     pub(crate) context: RunContext<CellSeat>,
     pub(crate) reader: Reader<J>,
     pub(crate) shares: Vec<Share>,
@@ -56,7 +55,7 @@ pub type Pass<J> = PortPass<J, Line<J>>;
 /// The pass of a port at plain banks, for one thread.
 pub type PlainPass<J> = PortPass<J, NoLine>;
 
-impl<J: ProgramFamily, L: PortLine + Drop> Model for PortPass<J, L> {
+impl<J: Family, L: PortLine + Drop> Model for PortPass<J, L> {
     ghost use Rattle.node_parts.specs.Passes.{PassValue, IsPass, pass_of};
 
     ghost Value = { PassValue };
@@ -67,7 +66,7 @@ impl<J: ProgramFamily, L: PortLine + Drop> Model for PortPass<J, L> {
         × L.is_of p.context.port p.shares.items p.line };
 }
 
-impl<J: ProgramFamily, L: PortLine + Drop> PortPass<J, L> {
+impl<J: Family, L: PortLine + Drop> PortPass<J, L> {
     /// The port's number.
     pub fn port(&self) -> u8
         ensures value { result ≡ self.now.port }
@@ -115,7 +114,7 @@ impl<J: ProgramFamily, L: PortLine + Drop> PortPass<J, L> {
     }
 }
 
-impl<J: NodeFamily> PortPass<J, NoLine> {
+impl<J: Family> PortPass<J, NoLine> {
     /// The pass with that line, at banks with their chains. The condition is a line of the port, which asked for as many
     /// entries at each bank as the port's share of it counts.
     pub(crate) fn with_line(self, line: Line<J>) -> Pass<J>
@@ -139,7 +138,7 @@ impl<J: NodeFamily> PortPass<J, NoLine> {
     }
 }
 
-impl<J: NodeFamily> PortPass<J, Line<J>> {
+impl<J: Family> PortPass<J, Line<J>> {
     /// What anybody has seen of the history of the node's banks has no entries of the port but those that its shares count:
     /// at each bank they have the numbers from 0 on, each once and in order, below its share's.
     pub fn knows_entries(&mut self, known: &Front<J>)

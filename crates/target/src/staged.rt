@@ -6,13 +6,13 @@ ghost use Rattle.node_parts.specs.Served.{IsStagedAt};
 use crate::pass::{PortLine, PortPass};
 use bank::Judged;
 use node_parts::answer_staged;
-use publish::ProgramFamily;
+use publish::Family;
 use rmap::{ReplyBuf, Status};
 
 /// Answers a judged command to the port's own staging, or to the result of its last load, and leaves the
 /// reply. There is no entry in a journal. The status is that of the reply. The condition is one of these two
 /// places.
-pub fn stage<J: ProgramFamily, L: PortLine + Drop>(
+pub fn stage<J: Family, L: PortLine + Drop>(
     pass: &mut PortPass<J, L>,
     judged: Judged,
     reply: &mut ReplyBuf,

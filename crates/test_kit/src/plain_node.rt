@@ -8,7 +8,7 @@ use bpf::Image;
 use bver::{Accepted, verify};
 use node_parts::{BankConfig, Banks, NodeConfig, NodeFault, Served};
 use node_programs::Staging;
-use publish::{Opened, ProgramFamily, Publisher};
+use publish::{Family, Opened, Publisher};
 use rmap::ReplyBuf;
 use spw::Packet;
 use std::alloc::Global;
@@ -20,7 +20,7 @@ use target::{PlainPass, Step, banks_and_passes, judge, serve_packet};
 /// reply to the packet that came last. Each call that is lent its parts is a method of one call: a test that makes several
 /// of them in a row is dear to prove.
 #[derive(Drop)]
-pub struct PlainNode<J: ProgramFamily, R: Wait + Drop> {
+pub struct PlainNode<J: Family, R: Wait + Drop> {
     alloc: Global,
     banks: Banks,
     publisher: Publisher<J, R>,
@@ -28,7 +28,7 @@ pub struct PlainNode<J: ProgramFamily, R: Wait + Drop> {
     reply: ReplyBuf,
 }
 
-impl<J: ProgramFamily, R: Wait + Drop> PlainNode<J, R> {
+impl<J: Family, R: Wait + Drop> PlainNode<J, R> {
     /// A fresh node with so many ports and those banks. That program judges at first.
     pub fn new(
         alloc: Global,

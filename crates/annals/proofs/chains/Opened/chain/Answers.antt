@@ -4,6 +4,8 @@ use Rattle.annals.specs.declared.deed.Link.{Link}
 use Rattle.annals.specs.Banks.{after_deed, zeros, with_entry}
 use Rattle.annals.specs.Chains.{IsFirst, with_asked}
 use Rattle.annals.proofs.Turns.{begins_moves, added_next, added_some, known_word, first_memory, first_entries, first_asked}
+use Rattle.annals.specs.Publishes.{with_publish}
+use Rattle.annals.proofs.Publishings.{first_publishes}
 use Rattle.annals.proofs.chains.Opened.chain.Goals as goal
 
 pub compare_exchange-found-requires : goal.compare_exchange-found-requires
@@ -87,3 +89,15 @@ returns-clause-asked g c =
     let chain : e.chain ≡ n = ap (λ (l : Link). l.chain) c.plain-offer.ensures.1 in
     let first : IsFirst v w e = subst (λ (f : ℕ). MatchBool (f == 0) (IsFirst v w e) (Unit {0})) found step.7 in
     first_asked n v w e chain first ∙ ap (λ (l : Link). with_asked l.deed []) c.plain-offer.ensures.1
+
+pub returns-clause-publishes : goal.returns-clause-publishes
+returns-clause-publishes g c =
+    let step = c.compare_exchange-found.ensures in
+    let found : c.compare_exchange-found.result ≡ 0 = grind (arith, nat_tests, c.if-found-ne0.false) in
+    let e = c.plain-offer.result.ask in
+    let v = c.again-seen.result.log in
+    let w = c.compare_exchange-found.new.seen.log in
+    let n = c.tracked-head.result.key in
+    let chain : e.chain ≡ n = ap (λ (l : Link). l.chain) c.plain-offer.ensures.1 in
+    let first : IsFirst v w e = subst (λ (f : ℕ). MatchBool (f == 0) (IsFirst v w e) (Unit {0})) found step.7 in
+    first_publishes n v w e chain first ∙ ap (λ (l : Link). with_publish l.deed []) c.plain-offer.ensures.1
